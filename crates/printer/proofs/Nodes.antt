@@ -20,6 +20,7 @@ use Rattle.printer.specs.Fits.{wrapped_by}
 use Rattle.printer.specs.Standings.{Stands, Puts}
 use Rattle.printer.specs.Sites.{CanStand}
 use Rattle.printer.proofs.WrittenTexts.{leads_then, leads_at, nothing_held}
+use Rattle.tree.specs.declared.node_use.NodeUse.{NodeUse}
 use Rattle.printer.specs.declared.part_sites.PartSites.{PartSites}
 use Rattle.printer.specs.Printed.{spelled_so, marks_text, signed_marks, Reads, Printed, Direct, Passed, Gone, Written}
 use Rattle.printer.proofs.Whole.{spelled_parts, printed_direct, printed_wrapped}
@@ -32,7 +33,7 @@ pub record NextRow (a b : View) (v : Bool) : Type 0 where
   pub apart : b.apart ≡ a.apart
 
 module _ (W : ℕ → Bool) where
-  fits_spelled : (n : Tree) (a : Role) (r : ℕ) → fits W n a r ≡ spelled_so W (parts_of n) (ways (inside (nat_eq (has_row a) 1 && W r) a) n) (has_row a + r)
+  pub fits_spelled : (n : Tree) (a : Role) (r : ℕ) → fits W n a r ≡ spelled_so W (parts_of n) (ways (inside (nat_eq (has_row a) 1 && W r) a) n) (has_row a + r)
   unfolding fits parts_fit
   fits_spelled (node k w g s e ps) a r = refl
 
@@ -132,13 +133,13 @@ module _ (W : ℕ → Bool) where
   sign_has_text w s h e = let k : sign_of_text [] ≡ Some s = ap sign_of_text (sym e) ∙ h in cc
 
   -- the sign's text, the sign that is pending, the operand, and nothing pending
-  pub printed_signed : {a b c e g : View} (w : List ℕ) (s : SignOperator) (P : Parts) {xs : List Role} (k : PartSites) {x y : Bool} {d : ℕ} (r : ℕ) → sign_of_text w ≡ Some s → is_none (parts_after 1 P) ≡ true →
+  pub printed_signed : {a b c e g : View} (st : NodeUse) (top : Tree) (w : List ℕ) (s : SignOperator) (P : Parts) {xs : List Role} (k : PartSites) {x y : Bool} {d : ℕ} (r : ℕ) → sign_of_text w ≡ Some s → is_none (parts_after 1 P) ≡ true →
       Writes a b w → (¬ (w ≡ []) → b.apart ≡ None) →
       c.out ≡ b.out → c.apart ≡ Some s → c.flags ≡ b.flags →
-      Reads W r a.flags → (Reads W r c.flags → Gone W c e (here ∷ []) [] P (parts_after 1 P) xs k x y d r) →
+      Reads W r a.flags → (Reads W r c.flags → Gone W st top c e (here ∷ []) [] P (parts_after 1 P) xs k x y d r) →
       g.out ≡ e.out → g.apart ≡ None → g.flags ≡ e.flags →
       Written W a g (signed_marks w s) P xs x d r
-  printed_signed {a} {b} {c} {e} {g} w s P {xs} k {x} {y} {d} r t one p q co ca cw h f go ga gw =
+  printed_signed {a} {b} {c} {e} {g} st top w s P {xs} k {x} {y} {d} r t one p q co ca cw h f go ga gw =
       let gone = f (subst (Reads W r) (sym (cw ∙ p.flags)) h) in
       let z = gone.passed in
       let counted : z.row ≡ r + parts_rows P xs = let n = last_rows (parts_after 1 P) gone.left one in let m = z.counts in omega (arith, n, m) in

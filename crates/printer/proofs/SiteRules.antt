@@ -12,7 +12,6 @@ use Rattle.language.specs.declared.Rank.{Rank}
 use Rattle.language.specs.declared.Rank.TheVariants.{Expression}
 use Rattle.language.specs.declared.Start.{Start}
 use Rattle.language.specs.declared.Start.TheVariants.{Any}
-use Rattle.language.specs.Vocabulary.{is_super}
 use Rattle.language.specs.Pieces as piece
 use Rattle.language.specs.Pieces.{Role, PieceOf}
 use Rattle.language.specs.Grammar.{ways}
@@ -22,25 +21,17 @@ use Rattle.spellings.specs.declared.position.Position.TheVariants as at
 use Rattle.spellings.specs.Outlines.{role_of, whole_at}
 use Rattle.spellings.specs.Entries.{around}
 use Rattle.spellings.specs.Expressions.{Around, expression_outline}
-use Rattle.spellings.specs.Others.{leaf_if, is_chunk, spread_outline, pattern_outline, element_outline, rest_outline}
+use Rattle.spellings.specs.Others.{leaf_if, is_chunk, pattern_outline}
 use Rattle.spellings.specs.Statements.{head_outline}
 use Rattle.spellings.specs.Positions.{outline_at}
 use Rattle.spellings.specs.Spelled.{roles_by, Verdict}
 use Rattle.spellings.proofs.Ways.{position_ways}
 use Rattle.printer.specs.declared.site.Site.TheVariants as site
 use Rattle.printer.specs.declared.site.SiteRule.{SiteRule}
-use Rattle.printer.specs.declared.site.SiteRule.TheVariants.{AtRow, AtLink, AtEcho, AtChunk, AtMethod, AtEntry, AtTarget, AtPlain, Told, Concise}
+use Rattle.printer.specs.declared.site.SiteRule.TheVariants.{AtEcho, AtChunk, AtMethod, AtPlain, Told}
 use Rattle.printer.specs.Sites.{site_of, told_at, seated_at, CanStand}
 
 -- Which positions a seat allows
-
-abbrev pub row_role : Role → Bool
-row_role (piece.expr y i f) = true
-row_role _ = false
-
-abbrev pub link_role : Role → Bool
-link_role (piece.chain_part f) = true
-link_role _ = false
 
 abbrev pub echo_role : Role → Bool
 echo_role piece.shorthand_key = true
@@ -50,59 +41,25 @@ abbrev pub method_role : Role → Bool
 method_role (piece.method x) = true
 method_role _ = false
 
-abbrev pub entry_role : Role → Bool
-entry_role piece.spread = true
-entry_role piece.property = true
-entry_role _ = false
-
-abbrev pub target_role : Role → Bool
-target_role (piece.pattern_property false) = true
-target_role (piece.rest false o) = true
-target_role _ = false
-
 abbrev pub told_role : Role → Bool
 told_role (piece.expr y i f) = true
-told_role piece.base = true
-told_role piece.spread = true
-told_role (piece.pattern false f) = true
-told_role (piece.element false) = true
-told_role (piece.rest false o) = true
+told_role (piece.pattern b f) = true
 told_role (piece.head b) = true
 told_role _ = false
 
 abbrev pub plain_role : Role → Bool
-plain_role piece.name = true
-plain_role piece.word = true
-plain_role piece.key = true
-plain_role piece.directive_string = true
-plain_role piece.tagged_quasi = true
-plain_role (piece.pattern true f) = true
-plain_role (piece.pattern_property true) = true
-plain_role (piece.element true) = true
-plain_role (piece.rest true o) = true
-plain_role piece.body = true
-plain_role (piece.statement r) = true
-plain_role (piece.item r) = true
-plain_role (piece.opening r) = true
-plain_role (piece.block r) = true
-plain_role (piece.declarator i b) = true
-plain_role (piece.switch_case r) = true
-plain_role (piece.handler r) = true
-plain_role piece.class_body = true
-plain_role piece.member = true
-plain_role _ = false
+plain_role piece.shorthand_key = false
+plain_role (piece.template_element a b) = false
+plain_role (piece.method x) = false
+plain_role (piece.head b) = false
+plain_role _ = true
 
 abbrev pub allowed : SiteRule → Role → Bool
-allowed AtRow a = row_role a
-allowed AtLink a = link_role a
 allowed AtEcho a = echo_role a
 allowed AtChunk a = false
 allowed AtMethod a = method_role a
-allowed AtEntry a = entry_role a
-allowed AtTarget a = target_role a
 allowed AtPlain a = plain_role a
 allowed Told a = told_role a
-allowed Concise a = false
 
 -- What can be spelled has an outline
 
@@ -122,38 +79,15 @@ outlined_there p n h e = no_verdict (ways (role_of p) n) (roles_by (role_of p) n
 
 -- What the kind tells
 
-told_expression : (k : Kind) (w : List ℕ) (g : Flags) (a : Around) (l : Bool) → (expression_outline k w g a ≡ None → ⊥) → site.Row ≡ told_at k l
-told_expression kind.Super w g a l h = absurd (h refl)
-told_expression kind.SpreadElement w g a l h = absurd (h refl)
-told_expression kind.Property w g a l h = absurd (h refl)
-told_expression kind.ArrayPattern w g a l h = absurd (h refl)
-told_expression kind.ObjectPattern w g a l h = absurd (h refl)
-told_expression kind.AssignmentPattern w g a l h = absurd (h refl)
-told_expression kind.RestElement w g a l h = absurd (h refl)
+told_expression : (k : Kind) (w : List ℕ) (g : Flags) (a : Around) (l : Bool) → (expression_outline k w g a ≡ None → ⊥) → site.Plain ≡ told_at k l
 told_expression kind.VariableDeclaration w g a l h = absurd (h refl)
 told_expression kind.TemplateElement w g a l h = absurd (h refl)
 told_expression _ w g a l h = refl
 
-told_base : (k : Kind) (l : Bool) → (leaf_if (is_super k) ≡ None → ⊥) → site.Plain ≡ told_at k l
-told_base kind.Super l h = refl
-told_base _ l h = absurd (h refl)
-
-told_spread : (k : Kind) (l : Bool) → (spread_outline k ≡ None → ⊥) → site.Entry ≡ told_at k l
-told_spread kind.SpreadElement l h = refl
-told_spread _ l h = absurd (h refl)
-
-told_pattern : (k : Kind) (l : Bool) → (pattern_outline false k ≡ None → ⊥) → site.Target ≡ told_at k l
-told_pattern kind.ArrayPattern l h = refl
-told_pattern kind.ObjectPattern l h = refl
-told_pattern _ l h = absurd (h refl)
-
-told_element : (k j : Kind) (l : Bool) → (element_outline false k j ≡ None → ⊥) → site.Target ≡ told_at k l
-told_element kind.AssignmentPattern j l h = refl
-told_element _ j l h = absurd (h refl)
-
-told_rest : (o : Bool) (k j : Kind) (l : Bool) → (rest_outline false o k j ≡ None → ⊥) → site.Target ≡ told_at k l
-told_rest o kind.RestElement j l h = refl
-told_rest o _ j l h = absurd (h refl)
+told_pattern : (b : Bool) (k : Kind) (l : Bool) → (pattern_outline b k ≡ None → ⊥) → site.Plain ≡ told_at k l
+told_pattern b kind.ArrayPattern l h = refl
+told_pattern b kind.ObjectPattern l h = refl
+told_pattern b _ l h = absurd (h refl)
 
 told_head : (b : Bool) (k : Kind) (w : List ℕ) (a : Around) (l : Bool) → (head_outline b k w a ≡ None → ⊥) → site.ForDeclaration ≡ told_at k l
 told_head b kind.VariableDeclaration w a l h = refl
@@ -171,29 +105,14 @@ expression_there y i f n false h e = outlined_there (at.Expression y i f) n h e
 
 told_seat : (a : Role) (n : Tree) (l : Bool) → told_role a ≡ true → CanStand n a → site_of a ≡ told_at (kind_of n) l
 told_seat (piece.expr y i f) (node k w g s e ps) l h c = told_expression k w g (around ps) l (expression_there y i f (node k w g s e ps) c.0 c.1)
-told_seat piece.base (node k w g s e ps) l h c = told_base k l (outlined_there at.Super (node k w g s e ps) c.1)
-told_seat piece.spread (node k w g s e ps) l h c = told_spread k l (outlined_there at.Spread (node k w g s e ps) c.1)
-told_seat (piece.pattern false f) (node k w g s e ps) l h c = told_pattern k l (outlined_there (at.Pattern false f) (node k w g s e ps) c.1)
-told_seat (piece.element false) (node k w g s e ps) l h c = told_element k _ l (outlined_there (at.Element false) (node k w g s e ps) c.1)
-told_seat (piece.rest false o) (node k w g s e ps) l h c = told_rest o k _ l (outlined_there (at.Rest false o) (node k w g s e ps) c.1)
+told_seat (piece.pattern b f) (node k w g s e ps) l h c = told_pattern b k l (outlined_there (at.Pattern b f) (node k w g s e ps) c.1)
 told_seat (piece.head b) (node k w g s e ps) l h c = told_head b k w (around ps) l (outlined_there (at.ForDeclaration b) (node k w g s e ps) c.1)
-told_seat (piece.pattern true f) n l h c = absurd (false≢true h)
-told_seat (piece.element true) n l h c = absurd (false≢true h)
-told_seat (piece.rest true o) n l h c = absurd (false≢true h)
 told_seat _ n l h c = absurd (false≢true h)
 
 pub chunk_seat : (n : Tree) (l : Bool) → CanStand n (piece.template_element false l) → site_of (piece.template_element false l) ≡ told_at (kind_of n) l
 chunk_seat (node k w g s e ps) l c = told_chunk k l (outlined_there (at.TemplateElement false l) (node k w g s e ps) c.1)
 
 -- At one site
-
-row_seat : (a : Role) → row_role a ≡ true → site_of a ≡ site.Row
-row_seat (piece.expr y i f) h = refl
-row_seat _ h = absurd (false≢true h)
-
-link_seat : (a : Role) → link_role a ≡ true → site_of a ≡ site.ChainPart
-link_seat (piece.chain_part f) h = refl
-link_seat _ h = absurd (false≢true h)
 
 echo_seat : (a : Role) → echo_role a ≡ true → site_of a ≡ site.ShorthandKey
 echo_seat piece.shorthand_key h = refl
@@ -203,53 +122,17 @@ method_seat : (a : Role) → method_role a ≡ true → site_of a ≡ site.Metho
 method_seat (piece.method x) h = refl
 method_seat _ h = absurd (false≢true h)
 
-entry_seat : (a : Role) → entry_role a ≡ true → site_of a ≡ site.Entry
-entry_seat piece.spread h = refl
-entry_seat piece.property h = refl
-entry_seat _ h = absurd (false≢true h)
-
-target_seat : (a : Role) → target_role a ≡ true → site_of a ≡ site.Target
-target_seat (piece.pattern_property false) h = refl
-target_seat (piece.rest false o) h = refl
-target_seat (piece.pattern_property true) h = absurd (false≢true h)
-target_seat (piece.rest true o) h = absurd (false≢true h)
-target_seat _ h = absurd (false≢true h)
-
 pub plain_seat : (a : Role) → plain_role a ≡ true → site_of a ≡ site.Plain
-plain_seat piece.name h = refl
-plain_seat piece.word h = refl
-plain_seat piece.key h = refl
-plain_seat piece.directive_string h = refl
-plain_seat piece.tagged_quasi h = refl
-plain_seat (piece.pattern true f) h = refl
-plain_seat (piece.pattern_property true) h = refl
-plain_seat (piece.element true) h = refl
-plain_seat (piece.rest true o) h = refl
-plain_seat piece.body h = refl
-plain_seat (piece.statement r) h = refl
-plain_seat (piece.item r) h = refl
-plain_seat (piece.opening r) h = refl
-plain_seat (piece.block r) h = refl
-plain_seat (piece.declarator i b) h = refl
-plain_seat (piece.switch_case r) h = refl
-plain_seat (piece.handler r) h = refl
-plain_seat piece.class_body h = refl
-plain_seat piece.member h = refl
-plain_seat (piece.pattern false f) h = absurd (false≢true h)
-plain_seat (piece.pattern_property false) h = absurd (false≢true h)
-plain_seat (piece.element false) h = absurd (false≢true h)
-plain_seat (piece.rest false o) h = absurd (false≢true h)
-plain_seat _ h = absurd (false≢true h)
+plain_seat piece.shorthand_key h = absurd (false≢true h)
+plain_seat (piece.template_element a b) h = absurd (false≢true h)
+plain_seat (piece.method x) h = absurd (false≢true h)
+plain_seat (piece.head b) h = absurd (false≢true h)
+plain_seat _ h = refl
 
 -- a part that its seat allows is at the seat's site
 pub seat_told : (s : SiteRule) (a : Role) (n : Tree) (l : Bool) → allowed s a ≡ true → CanStand n a → site_of a ≡ seated_at s (kind_of n) l
-seat_told AtRow a n l h c = row_seat a h
-seat_told AtLink a n l h c = link_seat a h
 seat_told AtEcho a n l h c = echo_seat a h
 seat_told AtChunk a n l h c = absurd (false≢true h)
 seat_told AtMethod a n l h c = method_seat a h
-seat_told AtEntry a n l h c = entry_seat a h
-seat_told AtTarget a n l h c = target_seat a h
 seat_told AtPlain a n l h c = plain_seat a h
 seat_told Told a n l h c = told_seat a n l h c
-seat_told Concise a n l h c = absurd (false≢true h)

@@ -27,9 +27,9 @@ use Rattle.spellings.specs.declared.outline.Outline.{Outline}
 use Rattle.spellings.specs.Outlines.{role_of, slot_of, assignment_at, bound_at, default_at, element_at, argument_at, object_part_at, pattern_part_at, listed_at, tail_at, tail_slots, part_of_tail, is_over, skips_gap, may_end, before, going, parts_after, is_before_last, outline_slots}
 use Rattle.spellings.specs.Spelled.{fits_outline, settled_roles, roles_by, Verdict}
 use Rattle.printer.specs.declared.site.SiteRule.{SiteRule}
-use Rattle.printer.specs.declared.site.SiteRule.TheVariants.{AtRow, AtLink, AtEcho, AtChunk, AtMethod, AtEntry, AtTarget, AtPlain, Told, Concise}
+use Rattle.printer.specs.declared.site.SiteRule.TheVariants.{AtEcho, AtChunk, AtMethod, AtPlain, Told}
 use Rattle.printer.specs.declared.part_sites.PartSites.{PartSites}
-use Rattle.printer.specs.Sites.{after_first, Stands}
+use Rattle.printer.specs.Sites.{after_first, Seats}
 use Rattle.printer.proofs.SiteRules.{allowed, seat_told}
 
 pub both : (u v : Bool) → (u && v) ≡ true → (u ≡ true) × (v ≡ true)
@@ -48,40 +48,25 @@ allows s piece.lead_pattern = allowed s (piece.pattern false Any)
 allows s _ = allowed s (expr Expression true Any)
 
 same_expression : (s : SiteRule) (y : Rank) (i : Bool) (f : Start) → allowed s (expr y i f) ≡ allowed s (expr Expression true Any)
-same_expression AtRow y i f = refl
-same_expression AtLink y i f = refl
 same_expression AtEcho y i f = refl
 same_expression AtChunk y i f = refl
 same_expression AtMethod y i f = refl
-same_expression AtEntry y i f = refl
-same_expression AtTarget y i f = refl
 same_expression AtPlain y i f = refl
 same_expression Told y i f = refl
-same_expression Concise y i f = refl
 
 same_spine : (s : SiteRule) (f : Start) → allowed s (piece.chain_part f) ≡ allowed s (piece.chain_part Any)
-same_spine AtRow f = refl
-same_spine AtLink f = refl
 same_spine AtEcho f = refl
 same_spine AtChunk f = refl
 same_spine AtMethod f = refl
-same_spine AtEntry f = refl
-same_spine AtTarget f = refl
 same_spine AtPlain f = refl
 same_spine Told f = refl
-same_spine Concise f = refl
 
 same_pattern : (s : SiteRule) (f : Start) → allowed s (piece.pattern false f) ≡ allowed s (piece.pattern false Any)
-same_pattern AtRow f = refl
-same_pattern AtLink f = refl
 same_pattern AtEcho f = refl
 same_pattern AtChunk f = refl
 same_pattern AtMethod f = refl
-same_pattern AtEntry f = refl
-same_pattern AtTarget f = refl
 same_pattern AtPlain f = refl
 same_pattern Told f = refl
-same_pattern Concise f = refl
 
 pub settled_allowed : (s : SiteRule) (y : Rank) (i : Bool) (f : Start) (x : Slot) → allowed s (settle y i f x) ≡ allows s x
 settled_allowed s y i f (piece.fixed a) = refl
@@ -207,21 +192,21 @@ abbrev allowed_all : PartSites → List Role → Bool
 allowed_all c [] = true
 allowed_all c (a ∷ xs) = allowed c.next a && allowed_all (after_first c) xs
 
-all_stand : (c : PartSites) (ps : Parts) (xs : List Role) → allowed_all c xs ≡ true → Stands c ps xs
+all_stand : (c : PartSites) (ps : Parts) (xs : List Role) → allowed_all c xs ≡ true → Seats c ps xs
 all_stand c none xs h = tt
 all_stand c (gap ps) xs h = all_stand c ps xs h
 all_stand c (part n ps) [] h = tt
 all_stand c (part n ps) (a ∷ xs) h = let e = both (allowed c.next a) (allowed_all (after_first c) xs) h in (λ u. seat_told c.next a n (is_none ps) e.0 u, all_stand (after_first c) ps xs e.1)
 
 abbrev pub eachs : PartSites → ListSlots → Bool
-eachs c t = each c.next t && (each c.second t && (each c.third t && each c.others t))
+eachs c t = each c.next t && each c.others t
 
 abbrev pub front_suits : PartSites → FixedSlots → (PartSites → Bool) → Bool
 front_suits c Zero f = f c
 front_suits c (One a) f = allows c.next (slot_of a) && f (after_first c)
-front_suits c (Two a b) f = allows c.next (slot_of a) && (allows c.second (slot_of b) && f (after_first (after_first c)))
-front_suits c (Three a b d) f = allows c.next (slot_of a) && (allows c.second (slot_of b) && (allows c.third (slot_of d) && f (after_first (after_first (after_first c)))))
-front_suits c (Four a b d e) f = allows c.next (slot_of a) && (allows c.second (slot_of b) && (allows c.third (slot_of d) && (allows c.others (slot_of e) && f (after_first (after_first (after_first (after_first c)))))))
+front_suits c (Two a b) f = allows c.next (slot_of a) && (allows c.others (slot_of b) && f (after_first (after_first c)))
+front_suits c (Three a b d) f = allows c.next (slot_of a) && (allows c.others (slot_of b) && (allows c.others (slot_of d) && f (after_first (after_first (after_first c)))))
+front_suits c (Four a b d e) f = allows c.next (slot_of a) && (allows c.others (slot_of b) && (allows c.others (slot_of d) && (allows c.others (slot_of e) && f (after_first (after_first (after_first (after_first c)))))))
 
 -- the seats of a course allow the positions of an outline
 abbrev pub suits : PartSites → Outline → Bool
@@ -249,20 +234,17 @@ module _ (y : Rank) (i : Bool) (f : Start) where
   skipped c false o h = tt
 
   going_allowed : (c : PartSites) (ps : Parts) (o : Option (own.Slot × ListSlots)) → ((d : PartSites) (t : ListSlots) → eachs d t ≡ true → AllAllowed d (tail_slots t ps)) →
-      Steps c.next o → Steps c.second o → Steps c.third o → Steps c.others o → AllAllowed c (going (λ u. tail_slots u ps) o)
-  going_allowed c ps None r a b d e = tt
-  going_allowed c ps (Some x) r a b d e =
-      before_allowed c (slot_of x.0) (tail_slots x.1 ps) a.0 (r (after_first c) x.1 (both_true _ _ b.1 (both_true _ _ d.1 (both_true _ _ e.1 e.1))))
+      Steps c.next o → Steps c.others o → AllAllowed c (going (λ u. tail_slots u ps) o)
+  going_allowed c ps None r a b = tt
+  going_allowed c ps (Some x) r a b = before_allowed c (slot_of x.0) (tail_slots x.1 ps) a.0 (r (after_first c) x.1 (both_true _ _ b.1 b.1))
 
   tail_allowed : (c : PartSites) (t : ListSlots) (ps : Parts) → eachs c t ≡ true → AllAllowed c (tail_slots t ps)
   tail_allowed c t none h = skipped c (may_end t) (Some []) refl
   tail_allowed c t (gap ps) h = ended c (is_over t) (cond (skips_gap t) (tail_slots t ps) None) (skipped c (skips_gap t) (tail_slots t ps) (tail_allowed c t ps h))
   tail_allowed c t (part n ps) h =
-      let a = both (each c.next t) (each c.second t && (each c.third t && each c.others t)) h in
-      let b = both (each c.second t) (each c.third t && each c.others t) a.1 in
-      let d = both (each c.third t) (each c.others t) b.1 in
+      let a = both (each c.next t) (each c.others t) h in
       ended c (is_over t) (going (λ u. tail_slots u ps) (part_of_tail t n ps))
-      (going_allowed c ps (part_of_tail t n ps) (λ e u k. tail_allowed e u ps k) (tail_steps c.next t _ _ _ _ a.0) (tail_steps c.second t _ _ _ _ b.0) (tail_steps c.third t _ _ _ _ d.0) (tail_steps c.others t _ _ _ _ d.1))
+      (going_allowed c ps (part_of_tail t n ps) (λ e u k. tail_allowed e u ps k) (tail_steps c.next t _ _ _ _ a.0) (tail_steps c.others t _ _ _ _ a.1))
 
   front_allowed : (c : PartSites) (v : FixedSlots) (t : ListSlots) (ps : Parts) → front_suits c v (λ d. eachs d t) ≡ true → AllAllowed c (Rattle.spellings.specs.Outlines.front_before v (tail_slots t ps))
   front_allowed c Zero t ps h = tail_allowed c t ps h
@@ -283,7 +265,7 @@ module _ (y : Rank) (i : Bool) (f : Start) where
 -- these positions, if they are some, stand at a course
 abbrev pub SlotsStand : PartSites → Role → Parts → Option (List Slot) → Type 0
 SlotsStand c a ps None = Unit {0}
-SlotsStand c a ps (Some xs) = Stands c ps (settled_roles a xs)
+SlotsStand c a ps (Some xs) = Seats c ps (settled_roles a xs)
 
 abbrev pub OutlineStands : PartSites → Role → Parts → Option Outline → Type 0
 OutlineStands c a ps None = Unit {0}
@@ -301,16 +283,16 @@ no_way : (xs : List (List (PieceOf Role))) → xs ≡ [] → some_way xs ≡ tru
 no_way xs v h = false≢true (sym (ap some_way v) ∙ h)
 
 -- a node's parts, by its outline at a position
-pub stands_by : (c : PartSites) (a : Role) (n : Tree) (o : Option Outline) → OutlineStands c a (parts_of n) o → Verdict (ways a n) (roles_by a n o) → some_way (ways a n) ≡ true → Stands c (parts_of n) (first_roles (ways a n))
+pub stands_by : (c : PartSites) (a : Role) (n : Tree) (o : Option Outline) → OutlineStands c a (parts_of n) o → Verdict (ways a n) (roles_by a n o) → some_way (ways a n) ≡ true → Seats c (parts_of n) (first_roles (ways a n))
 stands_by c a n None h v k = of (is_lean n) v
   where
-    of : (b : Bool) → Verdict (ways a n) (cond b None None) → Stands c (parts_of n) (first_roles (ways a n))
+    of : (b : Bool) → Verdict (ways a n) (cond b None None) → Seats c (parts_of n) (first_roles (ways a n))
     of true w = absurd (no_way (ways a n) w k)
     of false w = absurd (no_way (ways a n) w k)
 stands_by c a n (Some x) h v k = of (is_lean n) (fits_outline a x) (outline_slots x (parts_of n)) h v
   where
-    of : (b d : Bool) (o : Option (List Slot)) → SlotsStand c a (parts_of n) o → Verdict (ways a n) (cond b (cond d (option_map (settled_roles a) o) None) None) → Stands c (parts_of n) (first_roles (ways a n))
+    of : (b d : Bool) (o : Option (List Slot)) → SlotsStand c a (parts_of n) o → Verdict (ways a n) (cond b (cond d (option_map (settled_roles a) o) None) None) → Seats c (parts_of n) (first_roles (ways a n))
     of false d o e w = absurd (no_way (ways a n) w k)
     of true false o e w = absurd (no_way (ways a n) w k)
     of true true None e w = absurd (no_way (ways a n) w k)
-    of true true (Some xs) e w = subst (Stands c (parts_of n)) (sym w.1) e
+    of true true (Some xs) e w = subst (Seats c (parts_of n)) (sym w.1) e

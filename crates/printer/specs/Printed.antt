@@ -10,6 +10,7 @@ use Rattle.language.specs.LayoutFits.{lines_up, parts_fit}
 use Rattle.printer.specs.Sheets.{View, Leads, flag_at, chunk_text, sign_code}
 use Rattle.printer.specs.declared.fragments.SignOperator.{SignOperator}
 use Rattle.printer.specs.declared.part_sites.PartSites.{PartSites}
+use Rattle.tree.specs.declared.node_use.NodeUse.{NodeUse}
 use Rattle.printer.specs.Sites.{Stands}
 
 -- Marks of a shape, at a node of this text
@@ -92,10 +93,10 @@ pub record Passed (W : ℕ → Bool) (old new : View) (ms ms' : List Mark) (ps p
   pub shows : (next : List ℕ) → Leads old new (marks_text W ms ps xs r d b ++ next) (marks_text W ms' ps' xs' row d b' ++ next)
 
 -- the same, with positions left that stand at a course
-pub record Gone (W : ℕ → Bool) (old new : View) (ms ms' : List Mark) (ps ps' : Parts) (xs : List Role) (c : PartSites) (b b' : Bool) (d r : ℕ) : Type 0 where
+pub record Gone (W : ℕ → Bool) (st : NodeUse) (m : Tree) (old new : View) (ms ms' : List Mark) (ps ps' : Parts) (xs : List Role) (c : PartSites) (b b' : Bool) (d r : ℕ) : Type 0 where
   pub left : List Role
   pub passed : Passed W old new ms ms' ps ps' xs left b b' d r
-  pub stands : Stands c ps' left
+  pub stands : Stands st m c ps' left
 
 -- all marks were written, with their parts and rows
 pub record Written (W : ℕ → Bool) (old new : View) (ms : List Mark) (ps : Parts) (xs : List Role) (b : Bool) (d r : ℕ) : Type 0 where

@@ -1,6 +1,6 @@
 //! The text of a tree.
 
-ghost use Rattle.std.specs.Prelude.{◌≡◌, ℕ, suc, ◌<◌, ◌≤◌, ◌+◌, ◌-◌, Bool, true, nat_le, cond, List, [], ◌∷◌, ◌++◌, length, map, None, Some, IfOk};
+ghost use Rattle.std.specs.Prelude.{◌≡◌, ℕ, suc, ◌<◌, ◌≤◌, ◌+◌, ◌-◌, Bool, true, nat_le, nat_eq, cond, List, [], ◌∷◌, ◌++◌, length, map, None, Some, IfOk};
 ghost use Rattle.std.specs.String.{string_bytes};
 ghost use Rattle.tree.specs.Node.{node_tree};
 ghost use Rattle.tree.specs.Tree.{height, kind_of, text_of, flags_of, parts_of, part_count, none};
@@ -17,7 +17,10 @@ ghost use Rattle.printer.specs.Standings.{Puts, Adds};
 ghost use Rattle.printer.specs.Sheets.{seen, flag_at};
 ghost use Rattle.language.specs.LayoutFits.{fits, parts_fit, lines_up};
 ghost use Rattle.printer.specs.Texts.{IsLaid, IsFixed};
-ghost use Rattle.printer.specs.declared.site.Site.TheVariants.{Row};
+ghost use Rattle.language.specs.RowPositions.{has_row};
+ghost use Rattle.tree.specs.HeldRows.{HoldsRows};
+ghost use Rattle.tree.specs.declared.node_use.NodeUse.{NodeUse};
+ghost use Rattle.row_laws.specs.Agreements.{agrees};
 ghost use Rattle.printer.specs.Sites.{site_of, Stands};
 ghost use Rattle.printer.specs.Printed.{Reads, Printed, Direct, Gone, Written, spelled_so, front_marks, chain_marks, deep, shape_marks, marks_in, signed_marks};
 
@@ -26,7 +29,7 @@ use crate::fragments::{Fragment, Frame, ListLayout, SignOperator, after, before}
 use crate::frame::{frame_of, is_word};
 use crate::output_buffer::{TextBuffer, TextSink};
 use crate::part_sites::{PartSites, part_sites_of};
-use crate::site::{Site, is_row, site_at};
+use crate::site::{Site, site_at};
 use std::alloc::{AllocError, Global};
 use tree::{Kind, Node, Program};
 
@@ -67,7 +70,7 @@ pub fn print_whole<O: TextSink>(program: &Program<'_>, wraps: &[bool], out: &mut
     let mut sheet = Emitter::new(wraps);
     // (no tree is higher than it has nodes, and these are counted)
     let _ = program.node_count();
-    print_node(program.root(), Site::Plain, 0, &mut sheet, out);
+    print_node(program.finished_root(), Site::Plain, 0, &mut sheet, out);
     sheet.finish(out);
 }
 
@@ -76,10 +79,10 @@ pub fn print_whole<O: TextSink>(program: &Program<'_>, wraps: &[bool], out: &mut
 #[inline(always)]
 fn print_node<O: TextSink>(node: Node, site: Site, depth: usize, sheet: &mut Emitter, out: &mut O)
     requires { depth + height (node_tree node) ≤ usize.MAX }
-    ensures laid { (W : ℕ → Bool) → (r : ℕ) → (p : Position) → site_of (role_of p) ≡ site → Reads W r sheet.old.wraps.now → fits W (node_tree node.entry) (role_of p) r ≡ true → Printed W (seen (O.stands out.old sheet.old.room) sheet.old) (seen (O.stands out.new sheet.new.room) sheet.new) (node_tree node.entry) (role_of p) r depth }
+    ensures laid { (W : ℕ → Bool) → (r : ℕ) → (p : Position) → (st : NodeUse) → HoldsRows st node.entry → agrees st (role_of p) (kind_of (node_tree node.entry)) ≡ true → site_of (role_of p) ≡ site → Reads W r sheet.old.wraps.now → fits W (node_tree node.entry) (role_of p) r ≡ true → Printed W (seen (O.stands out.old sheet.old.room) sheet.old) (seen (O.stands out.new sheet.new.room) sheet.new) (node_tree node.entry) (role_of p) r depth }
     ensures adds { Adds (O.stands out.old sheet.old.room) (O.stands out.new sheet.new.room) }
 {
-    if is_row(site) {
+    if node.row().is_some() {
         print_row(node, depth, sheet, out);
         return;
     }
@@ -91,15 +94,15 @@ fn print_node<O: TextSink>(node: Node, site: Site, depth: usize, sheet: &mut Emi
 #[inline(always)]
 fn print_row<O: TextSink>(node: Node, depth: usize, sheet: &mut Emitter, out: &mut O)
     requires { depth + height (node_tree node) ≤ usize.MAX }
-    ensures laid { (W : ℕ → Bool) → (r : ℕ) → (p : Position) → site_of (role_of p) ≡ Row → Reads W r sheet.old.wraps.now → fits W (node_tree node.entry) (role_of p) r ≡ true → Printed W (seen (O.stands out.old sheet.old.room) sheet.old) (seen (O.stands out.new sheet.new.room) sheet.new) (node_tree node.entry) (role_of p) r depth }
+    ensures laid { (W : ℕ → Bool) → (r : ℕ) → (p : Position) → (st : NodeUse) → HoldsRows st node.entry → agrees st (role_of p) (kind_of (node_tree node.entry)) ≡ true → nat_eq (has_row (role_of p)) 1 ≡ true → Reads W r sheet.old.wraps.now → fits W (node_tree node.entry) (role_of p) r ≡ true → Printed W (seen (O.stands out.old sheet.old.room) sheet.old) (seen (O.stands out.new sheet.new.room) sheet.new) (node_tree node.entry) (role_of p) r depth }
     ensures adds { Adds (O.stands out.old sheet.old.room) (O.stands out.new sheet.new.room) }
 {
     if !sheet.next_row() {
-        print_direct(node, Site::Row, depth, sheet, out);
+        print_direct(node, Site::Plain, depth, sheet, out);
         return;
     }
     sheet.push("(", out);
-    print_direct(node, Site::Row, depth, sheet, out);
+    print_direct(node, Site::Plain, depth, sheet, out);
     sheet.push(")", out);
 }
 
@@ -108,7 +111,7 @@ fn print_row<O: TextSink>(node: Node, depth: usize, sheet: &mut Emitter, out: &m
 #[inline(always)]
 fn print_direct<O: TextSink>(node: Node, site: Site, depth: usize, sheet: &mut Emitter, out: &mut O)
     requires { depth + height (node_tree node) ≤ usize.MAX }
-    ensures laid { (W : ℕ → Bool) → (r : ℕ) → (p : Position) → site_of (role_of p) ≡ site → Reads W r sheet.old.wraps.now → spelled_so W (parts_of (node_tree node.entry)) (ways (role_of p) (node_tree node.entry)) r ≡ true → Direct W (seen (O.stands out.old sheet.old.room) sheet.old) (seen (O.stands out.new sheet.new.room) sheet.new) (parts_of (node_tree node.entry)) (ways (role_of p) (node_tree node.entry)) r depth }
+    ensures laid { (W : ℕ → Bool) → (r : ℕ) → (p : Position) → (st : NodeUse) → HoldsRows st node.entry → agrees st (role_of p) (kind_of (node_tree node.entry)) ≡ true → site_of (role_of p) ≡ site → Reads W r sheet.old.wraps.now → spelled_so W (parts_of (node_tree node.entry)) (ways (role_of p) (node_tree node.entry)) r ≡ true → Direct W (seen (O.stands out.old sheet.old.room) sheet.old) (seen (O.stands out.new sheet.new.room) sheet.new) (parts_of (node_tree node.entry)) (ways (role_of p) (node_tree node.entry)) r depth }
     ensures adds { Adds (O.stands out.old sheet.old.room) (O.stands out.new sheet.new.room) }
 {
     if is_word(node, site) {
@@ -123,11 +126,11 @@ fn print_direct<O: TextSink>(node: Node, site: Site, depth: usize, sheet: &mut E
 #[inline(never)]
 fn print_parts<O: TextSink>(node: Node, site: Site, depth: usize, sheet: &mut Emitter, out: &mut O)
     requires { depth + height (node_tree node) ≤ usize.MAX }
-    ensures laid { (W : ℕ → Bool) → (r : ℕ) → (p : Position) → site_of (role_of p) ≡ site → Reads W r sheet.old.wraps.now → spelled_so W (parts_of (node_tree node.entry)) (ways (role_of p) (node_tree node.entry)) r ≡ true → Direct W (seen (O.stands out.old sheet.old.room) sheet.old) (seen (O.stands out.new sheet.new.room) sheet.new) (parts_of (node_tree node.entry)) (ways (role_of p) (node_tree node.entry)) r depth }
+    ensures laid { (W : ℕ → Bool) → (r : ℕ) → (p : Position) → (st : NodeUse) → HoldsRows st node.entry → agrees st (role_of p) (kind_of (node_tree node.entry)) ≡ true → site_of (role_of p) ≡ site → Reads W r sheet.old.wraps.now → spelled_so W (parts_of (node_tree node.entry)) (ways (role_of p) (node_tree node.entry)) r ≡ true → Direct W (seen (O.stands out.old sheet.old.room) sheet.old) (seen (O.stands out.new sheet.new.room) sheet.new) (parts_of (node_tree node.entry)) (ways (role_of p) (node_tree node.entry)) r depth }
     ensures adds { Adds (O.stands out.old sheet.old.room) (O.stands out.new sheet.new.room) }
 {
     let mut walk = PartWalk {
-        course: part_sites_of(node, site),
+        course: part_sites_of(node),
         previous_is_bare: false,
     };
     match sign_of(node) {
@@ -169,7 +172,7 @@ fn print_sign_operator<O: TextSink>(
     out: &mut O,
 )
     requires { depth + height (node_tree node) ≤ usize.MAX }
-    ensures laid { (W : ℕ → Bool) → (xs : List Role) → (r : ℕ) → Reads W r sheet.old.wraps.now → parts_fit W (parts_of (node_tree node.entry)) xs r ≡ true → Stands walk.old.course (parts_of (node_tree node.entry)) xs → sign_of_text (text_of (node_tree node.entry)) ≡ Some sign → is_none (parts_after 1 (parts_of (node_tree node.entry))) ≡ true → Written W (seen (O.stands out.old sheet.old.room) sheet.old) (seen (O.stands out.new sheet.new.room) sheet.new) (signed_marks (text_of (node_tree node.entry)) sign) (parts_of (node_tree node.entry)) xs walk.old.previous_is_bare depth r }
+    ensures laid { (W : ℕ → Bool) → (st : NodeUse) → HoldsRows st node.entry → (xs : List Role) → (r : ℕ) → Reads W r sheet.old.wraps.now → parts_fit W (parts_of (node_tree node.entry)) xs r ≡ true → Stands st (node_tree node.entry) walk.old.course (parts_of (node_tree node.entry)) xs → sign_of_text (text_of (node_tree node.entry)) ≡ Some sign → is_none (parts_after 1 (parts_of (node_tree node.entry))) ≡ true → Written W (seen (O.stands out.old sheet.old.room) sheet.old) (seen (O.stands out.new sheet.new.room) sheet.new) (signed_marks (text_of (node_tree node.entry)) sign) (parts_of (node_tree node.entry)) xs walk.old.previous_is_bare depth r }
     ensures adds { Adds (O.stands out.old sheet.old.room) (O.stands out.new sheet.new.room) }
 {
     sheet.push(node.text(), out);
@@ -189,7 +192,7 @@ fn print_framed<O: TextSink>(
     out: &mut O,
 )
     requires { depth + height (node_tree node) ≤ usize.MAX }
-    ensures laid { (W : ℕ → Bool) → (fs : List (List Bit)) → (os cs : List Bit) → map (λ p. bits_of p.now) frame.now.front.now ≡ map fused fs → bits_of frame.now.opener.now ≡ fused os → bits_of frame.now.closer.now ≡ fused cs → (xs : List Role) → (r : ℕ) → Reads W r sheet.old.wraps.now → parts_fit W (parts_of (node_tree node.entry)) xs r ≡ true → Stands walk.old.course (parts_of (node_tree node.entry)) xs → Written W (seen (O.stands out.old sheet.old.room) sheet.old) (seen (O.stands out.new sheet.new.room) sheet.new) (shape_marks (text_of (node_tree node.entry)) (record { front = fs; opener = os; chain = chain_of frame.now.series; closer = cs }) (parts_of (node_tree node.entry))) (parts_of (node_tree node.entry)) xs walk.old.previous_is_bare depth r }
+    ensures laid { (W : ℕ → Bool) → (st : NodeUse) → HoldsRows st node.entry → (fs : List (List Bit)) → (os cs : List Bit) → map (λ p. bits_of p.now) frame.now.front.now ≡ map fused fs → bits_of frame.now.opener.now ≡ fused os → bits_of frame.now.closer.now ≡ fused cs → (xs : List Role) → (r : ℕ) → Reads W r sheet.old.wraps.now → parts_fit W (parts_of (node_tree node.entry)) xs r ≡ true → Stands st (node_tree node.entry) walk.old.course (parts_of (node_tree node.entry)) xs → Written W (seen (O.stands out.old sheet.old.room) sheet.old) (seen (O.stands out.new sheet.new.room) sheet.new) (shape_marks (text_of (node_tree node.entry)) (record { front = fs; opener = os; chain = chain_of frame.now.series; closer = cs }) (parts_of (node_tree node.entry))) (parts_of (node_tree node.entry)) xs walk.old.previous_is_bare depth r }
     ensures adds { Adds (O.stands out.old sheet.old.room) (O.stands out.new sheet.new.room) }
 {
     print_front(node, frame.front, walk, depth, sheet, out);
@@ -218,7 +221,7 @@ fn print_front<O: TextSink>(
     out: &mut O,
 )
     requires { depth + height (node_tree node) ≤ usize.MAX }
-    ensures laid { (W : ℕ → Bool) → (fs : List (List Bit)) → map (λ p. bits_of p.now) front.now ≡ map fused fs → (ms : List Mark) → (xs : List Role) → (r : ℕ) → Reads W r sheet.old.wraps.now → parts_fit W (parts_of (node_tree node.entry)) xs r ≡ true → Stands walk.old.course (parts_of (node_tree node.entry)) xs → Gone W (seen (O.stands out.old sheet.old.room) sheet.old) (seen (O.stands out.new sheet.new.room) sheet.new) (front_marks (text_of (node_tree node.entry)) fs ms) ms (parts_of (node_tree node.entry)) (parts_after (length front.now) (parts_of (node_tree node.entry))) xs walk.new.course walk.old.previous_is_bare walk.new.previous_is_bare depth r }
+    ensures laid { (W : ℕ → Bool) → (st : NodeUse) → HoldsRows st node.entry → (fs : List (List Bit)) → map (λ p. bits_of p.now) front.now ≡ map fused fs → (ms : List Mark) → (xs : List Role) → (r : ℕ) → Reads W r sheet.old.wraps.now → parts_fit W (parts_of (node_tree node.entry)) xs r ≡ true → Stands st (node_tree node.entry) walk.old.course (parts_of (node_tree node.entry)) xs → Gone W st (node_tree node.entry) (seen (O.stands out.old sheet.old.room) sheet.old) (seen (O.stands out.new sheet.new.room) sheet.new) (front_marks (text_of (node_tree node.entry)) fs ms) ms (parts_of (node_tree node.entry)) (parts_after (length front.now) (parts_of (node_tree node.entry))) xs walk.new.course walk.old.previous_is_bare walk.new.previous_is_bare depth r }
     ensures adds { Adds (O.stands out.old sheet.old.room) (O.stands out.new sheet.new.room) }
 {
     for index in 0..front.len() {
@@ -239,7 +242,7 @@ fn print_list<O: TextSink>(
     out: &mut O,
 )
     requires { depth + height (node_tree node) ≤ usize.MAX + 1 }
-    ensures laid { (W : ℕ → Bool) → (ms : List Mark) → (xs : List Role) → (r : ℕ) → Reads W r sheet.old.wraps.now → parts_fit W (parts_after from (parts_of (node_tree node.entry))) xs r ≡ true → Stands walk.old.course (parts_after from (parts_of (node_tree node.entry))) xs → Gone W (seen (O.stands out.old sheet.old.room) sheet.old) (seen (O.stands out.new sheet.new.room) sheet.new) (chain_marks (text_of (node_tree node.entry)) (chain_of series) (parts_after from (parts_of (node_tree node.entry))) ++ ms) ms (parts_after from (parts_of (node_tree node.entry))) none xs walk.new.course walk.old.previous_is_bare walk.new.previous_is_bare depth r }
+    ensures laid { (W : ℕ → Bool) → (st : NodeUse) → HoldsRows st node.entry → (ms : List Mark) → (xs : List Role) → (r : ℕ) → Reads W r sheet.old.wraps.now → parts_fit W (parts_after from (parts_of (node_tree node.entry))) xs r ≡ true → Stands st (node_tree node.entry) walk.old.course (parts_after from (parts_of (node_tree node.entry))) xs → Gone W st (node_tree node.entry) (seen (O.stands out.old sheet.old.room) sheet.old) (seen (O.stands out.new sheet.new.room) sheet.new) (chain_marks (text_of (node_tree node.entry)) (chain_of series) (parts_after from (parts_of (node_tree node.entry))) ++ ms) ms (parts_after from (parts_of (node_tree node.entry))) none xs walk.new.course walk.old.previous_is_bare walk.new.previous_is_bare depth r }
     ensures adds { Adds (O.stands out.old sheet.old.room) (O.stands out.new sheet.new.room) }
 {
     let count = node.part_count();
@@ -261,7 +264,7 @@ fn print_item<O: TextSink>(
 )
     requires low { depth + height (node_tree node) ≤ usize.MAX + 1 }
     requires index { index < part_count (parts_of (node_tree node)) }
-    ensures laid { (W : ℕ → Bool) → (ms : List Mark) → (xs : List Role) → (r : ℕ) → Reads W r sheet.old.wraps.now → parts_fit W (parts_after index (parts_of (node_tree node.entry))) xs r ≡ true → Stands walk.old.course (parts_after index (parts_of (node_tree node.entry))) xs → Gone W (seen (O.stands out.old sheet.old.room) sheet.old) (seen (O.stands out.new sheet.new.room) sheet.new) (chain_marks (text_of (node_tree node.entry)) (chain_of series) (parts_after index (parts_of (node_tree node.entry))) ++ ms) (chain_marks (text_of (node_tree node.entry)) (chain_of series) (parts_after (suc index) (parts_of (node_tree node.entry))) ++ ms) (parts_after index (parts_of (node_tree node.entry))) (parts_after (suc index) (parts_of (node_tree node.entry))) xs walk.new.course walk.old.previous_is_bare walk.new.previous_is_bare depth r }
+    ensures laid { (W : ℕ → Bool) → (st : NodeUse) → HoldsRows st node.entry → (ms : List Mark) → (xs : List Role) → (r : ℕ) → Reads W r sheet.old.wraps.now → parts_fit W (parts_after index (parts_of (node_tree node.entry))) xs r ≡ true → Stands st (node_tree node.entry) walk.old.course (parts_after index (parts_of (node_tree node.entry))) xs → Gone W st (node_tree node.entry) (seen (O.stands out.old sheet.old.room) sheet.old) (seen (O.stands out.new sheet.new.room) sheet.new) (chain_marks (text_of (node_tree node.entry)) (chain_of series) (parts_after index (parts_of (node_tree node.entry))) ++ ms) (chain_marks (text_of (node_tree node.entry)) (chain_of series) (parts_after (suc index) (parts_of (node_tree node.entry))) ++ ms) (parts_after index (parts_of (node_tree node.entry))) (parts_after (suc index) (parts_of (node_tree node.entry))) xs walk.new.course walk.old.previous_is_bare walk.new.previous_is_bare depth r }
     ensures adds { Adds (O.stands out.old sheet.old.room) (O.stands out.new sheet.new.room) }
 {
     let behind = node.part_count() - index - 1;
@@ -308,10 +311,10 @@ fn print_part<O: TextSink>(
     out: &mut O,
 )
     requires { depth + height (node_tree node) ≤ usize.MAX + 1 }
-    ensures laid { (W : ℕ → Bool) → (ms : List Mark) → (xs : List Role) → (r : ℕ) → Reads W r sheet.old.wraps.now → parts_fit W (parts_after index (parts_of (node_tree node.entry))) xs r ≡ true → Stands walk.old.course (parts_after index (parts_of (node_tree node.entry))) xs → Gone W (seen (O.stands out.old sheet.old.room) sheet.old) (seen (O.stands out.new sheet.new.room) sheet.new) (here ∷ ms) ms (parts_after index (parts_of (node_tree node.entry))) (parts_after (suc index) (parts_of (node_tree node.entry))) xs walk.new.course walk.old.previous_is_bare walk.new.previous_is_bare depth r }
+    ensures laid { (W : ℕ → Bool) → (st : NodeUse) → HoldsRows st node.entry → (ms : List Mark) → (xs : List Role) → (r : ℕ) → Reads W r sheet.old.wraps.now → parts_fit W (parts_after index (parts_of (node_tree node.entry))) xs r ≡ true → Stands st (node_tree node.entry) walk.old.course (parts_after index (parts_of (node_tree node.entry))) xs → Gone W st (node_tree node.entry) (seen (O.stands out.old sheet.old.room) sheet.old) (seen (O.stands out.new sheet.new.room) sheet.new) (here ∷ ms) ms (parts_after index (parts_of (node_tree node.entry))) (parts_after (suc index) (parts_of (node_tree node.entry))) xs walk.new.course walk.old.previous_is_bare walk.new.previous_is_bare depth r }
     ensures adds { Adds (O.stands out.old sheet.old.room) (O.stands out.new sheet.new.room) }
 {
-    let Some(part) = node.part(index) else {
+    let Some(part) = node.finished_part(index) else {
         walk.previous_is_bare = false;
         return;
     };

@@ -13,3 +13,4 @@ pub mod Grown
 pub mod TreesTooLarge
 pub mod Wholes
 pub mod Parents
+pub mod PartRows

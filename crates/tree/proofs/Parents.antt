@@ -33,10 +33,10 @@ parents-append j i (r ∷ rs) us =
     ∙ sym (append_assoc (if_named j i r) (parents j (i + 1) rs) (parents j (i + suc (length rs)) us))
 
 mutual
-  length-runs : (i : ℕ) (t : Tree) → length (runs_of i t) ≡ node_total t
+  pub length-runs : (i : ℕ) (t : Tree) → length (runs_of i t) ≡ node_total t
   length-runs i (node k w g s e ps) = omega (arith, length-append (parts_runs i ps) (numbers_of i ps ∷ []), length-parts_runs i ps)
 
-  length-parts_runs : (i : ℕ) (ps : Parts) → length (parts_runs i ps) ≡ parts_total ps
+  pub length-parts_runs : (i : ℕ) (ps : Parts) → length (parts_runs i ps) ≡ parts_total ps
   length-parts_runs i none = refl
   length-parts_runs i (gap ps) = length-parts_runs i ps
   length-parts_runs i (part t ps) = omega (arith, length-append (runs_of i t) (parts_runs (i + node_total t) ps), length-runs i t, length-parts_runs (i + node_total t) ps)

@@ -18,3 +18,4 @@ pub mod TooLarge
 pub mod AlikeNodes
 pub mod NodeUses
 pub mod Laws
+pub mod HeldRows

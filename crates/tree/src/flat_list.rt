@@ -20,11 +20,15 @@ impl<'t, 's> FlatList<'t, 's> {
     ghost use Rattle.std.specs.Prelude.{◌≡◌, [], length, option_map, map};
     ghost use Rattle.tree.specs.Tree.{part_count, part_at, parts_drop, parts_take, parts_with_gaps};
     ghost use Rattle.tree.specs.Flat.{AreBefore, trees, named};
+    ghost use Rattle.std.specs.Prelude.{IfSome};
     ghost use Rattle.tree.specs.Places.{place_tree, run_parts};
+    ghost use Rattle.tree.specs.HeldRows.{IsNamed};
 
     pub(crate) fn new(tree: &'t FlatTree<'s>, parts: &'t [PartNumber]) -> FlatList<'t, 's>
         requires { AreBefore (length tree.now.nodes) parts.now }
-        ensures { run_parts result ≡ parts_with_gaps (map (named (trees tree.now.parts.items [] tree.now.nodes)) parts.now) }
+        ensures parts { run_parts result ≡ parts_with_gaps (map (named (trees tree.now.parts.items [] tree.now.nodes)) parts.now) }
+        ensures within { result.tree.now ≡ tree.now }
+        ensures run { result.parts.now ≡ parts.now }
     {
         FlatList { tree, parts }
     }
@@ -37,7 +41,8 @@ impl<'t, 's> FlatList<'t, 's> {
 
     /// The part at a place; none for a gap and past the end.
     pub(crate) fn get(self, index: usize) -> Option<FlatRef<'t, 's>>
-        ensures { option_map place_tree result ≡ part_at (run_parts self.entry) index }
+        ensures tree { option_map place_tree result ≡ part_at (run_parts self.entry) index }
+        ensures found { IfSome result (λ q. IsNamed self.entry index q) }
     {
         match self.parts.get(index) {
             Some(part) => {

@@ -22,13 +22,20 @@ impl<'t, 's> FlatRef<'t, 's> {
     ghost use Rattle.tree.specs.Tree.{kind_of, text_of, flags_of, start_of, stop_of, parts_of};
     ghost use Rattle.tree.specs.Flat.{tree_at};
     ghost use Rattle.tree.specs.Growth.{row_at};
+    ghost use Rattle.std.specs.Prelude.{option_map, slice_index_or, IfSome};
+    ghost use Rattle.tree.specs.Tree.{part_at};
+    ghost use Rattle.tree.specs.Flat.{run_of};
     ghost use Rattle.tree.specs.Places.{place_tree, place_row, run_parts};
+    ghost use Rattle.tree.specs.HeldRows.{PlaceHoldsRows, use_below};
+    ghost use Rattle.tree.specs.declared.node_use.NodeUse.{NodeUse};
 
     /// The node with a number.
     pub(crate) fn new(tree: &'t FlatTree<'s>, number: usize) -> FlatRef<'t, 's>
         requires { number < length tree.now.nodes }
         ensures tree { place_tree result ≡ tree_at tree.now.parts.items tree.now.nodes number }
         ensures row { place_row result ≡ row_at tree.now.nodes number }
+        ensures within { result.tree.now ≡ tree.now }
+        ensures node { result.node.now ≡ slice_index_or tree.now.nodes number result.node.now }
     {
         let node = tree.nodes.at(number);
         FlatRef { tree, node }
@@ -76,12 +83,23 @@ impl<'t, 's> FlatRef<'t, 's> {
 
     /// All its parts.
     pub(crate) fn parts(self) -> FlatList<'t, 's>
-        ensures { run_parts result ≡ parts_of (place_tree self.entry) }
+        ensures parts { run_parts result ≡ parts_of (place_tree self.entry) }
+        ensures within { result.tree.now ≡ self.entry.tree.now }
+        ensures run { result.parts.now ≡ run_of self.entry.tree.now.parts.items self.entry.node.now }
     {
         let tree = self.tree;
         let node = self.node;
         let first = node.first as usize;
         let count = node.count as usize;
         FlatList::new(tree, section(&tree.parts, first, count))
+    }
+
+    /// The part at a place, counted from 0 in source order; none for a gap and past the end.
+    pub(crate) fn part(self, index: usize) -> Option<FlatRef<'t, 's>>
+        ensures tree { option_map place_tree result ≡ part_at (parts_of (place_tree self.entry)) index }
+        ensures rows { IfSome result (λ q. (a : NodeUse) → PlaceHoldsRows a self.entry → PlaceHoldsRows (use_below a (place_tree self.entry) index (place_tree q)) q) }
+    {
+        let parts = self.parts();
+        parts.get(index)
     }
 }

@@ -4,10 +4,15 @@
 ghost use Rattle.std.specs.Prelude.{◌≡◌, option_map};
 ghost use Rattle.tree.specs.Tree.{part_at, parts_drop, parts_take, parts_with_gaps};
 ghost use Rattle.tree.specs.Node.{node_tree};
-ghost use Rattle.tree.specs.Places.{run_parts};
+ghost use Rattle.std.specs.Prelude.{IfSome};
+ghost use Rattle.tree.specs.Tree.{parts_of};
+ghost use Rattle.tree.specs.Places.{run_parts, place_tree};
+ghost use Rattle.tree.specs.HeldRows.{PlaceHoldsRows, HoldsRows, use_below};
+ghost use Rattle.tree.specs.declared.node_use.NodeUse.{NodeUse};
 
 use crate::boxed_node::BoxedNode;
 use crate::flat_list::FlatList;
+use crate::flat_ref::FlatRef;
 use crate::node::Node;
 
 /// The part of the parser's at a place; none for a gap and past the end.
@@ -30,6 +35,17 @@ pub(crate) fn flat_at<'t, 's>(run: FlatList<'t, 's>, index: usize) -> Option<Nod
 {
     match run.get(index) {
         Some(place) => Some(Node::at(place)),
+        None => None,
+    }
+}
+
+/// The part of a node of the finished tree at a place.
+pub(crate) fn flat_part<'t, 's>(place: FlatRef<'t, 's>, index: usize) -> Option<Node<'t, 's>>
+    ensures tree { option_map node_tree result ≡ part_at (parts_of (place_tree place.entry)) index }
+    ensures rows { IfSome result (λ part. (a : NodeUse) → PlaceHoldsRows a place.entry → HoldsRows (use_below a (place_tree place.entry) index (node_tree part)) part) }
+{
+    match place.part(index) {
+        Some(part) => Some(Node::at(part)),
         None => None,
     }
 }

@@ -8,4 +8,4 @@ pub returns-in_default : goal.returns-in_default
 returns-in_default c =
     let d = c.in_default in
     let n = node_tree c.args.node in
-    c.definition_course.ensures ∙ sym (course_default (kind_of n) c.args.site (flags_of n) (parts_of n) (λ h. d.not-MemberExpression (c.kind.ensures ∙ h)) (λ h. d.not-CallExpression (c.kind.ensures ∙ h)) (λ h. d.not-BinaryExpression (c.kind.ensures ∙ h)) (λ h. d.not-LogicalExpression (c.kind.ensures ∙ h)) (λ h. d.not-ConditionalExpression (c.kind.ensures ∙ h)) (λ h. d.not-SequenceExpression (c.kind.ensures ∙ h)) (λ h. d.not-UnaryExpression (c.kind.ensures ∙ h)) (λ h. d.not-UpdateExpression (c.kind.ensures ∙ h)) (λ h. d.not-ImportExpression (c.kind.ensures ∙ h)) (λ h. d.not-SpreadElement (c.kind.ensures ∙ h)) (λ h. d.not-ReturnStatement (c.kind.ensures ∙ h)) (λ h. d.not-ThrowStatement (c.kind.ensures ∙ h)) (λ h. d.not-AssignmentExpression (c.kind.ensures ∙ h)) (λ h. d.not-ArrayExpression (c.kind.ensures ∙ h)) (λ h. d.not-ObjectExpression (c.kind.ensures ∙ h)) (λ h. d.not-TemplateLiteral (c.kind.ensures ∙ h)) (λ h. d.not-TaggedTemplateExpression (c.kind.ensures ∙ h)) (λ h. d.not-NewExpression (c.kind.ensures ∙ h)) (λ h. d.not-ChainExpression (c.kind.ensures ∙ h)))
+    c.all.ensures ∙ sym (course_default (kind_of n) (flags_of n).form (parts_of n) (λ h. d.not-TemplateLiteral (c.kind.ensures ∙ h)) (λ h. d.not-Property (c.kind.ensures ∙ h)) (λ h. d.not-MethodDefinition (c.kind.ensures ∙ h)) (λ h. d.not-ForStatement (c.kind.ensures ∙ h)) (λ h. d.not-ForInStatement (c.kind.ensures ∙ h)) (λ h. d.not-ForOfStatement (c.kind.ensures ∙ h)))

@@ -1,13 +1,15 @@
 use Rattle.std.proofs.Common.{◌≡◌, ◌≤◌, suc, ◌+◌, ◌-◌, true, false, not, nat_eq, [], ◌++◌, length, drop, get_or, refl, sym, ap, ap₂, ◌∙◌, subst, arith}
-use Rattle.std.specs.Prelude.{option_map, is_none as is_missing}
+use Rattle.std.specs.Prelude.{option_map, is_some, is_none as is_missing}
 use Rattle.tree.specs.Tree.{parts_of, text_of, kind_of, flags_of, part_count}
 use Rattle.tree.specs.Node.{node_tree}
 use Rattle.language.specs.Grammar.{ways}
 use Rattle.spellings.specs.Outlines.{role_of, whole_at, parts_after}
-use Rattle.language.specs.RowPositions.{first_roles}
+use Rattle.language.specs.RowPositions.{has_row, first_roles}
 use Rattle.printer.specs.Shapes.{shape_on}
-use Rattle.printer.specs.Sites.{seated_at, is_row, is_word}
-use Rattle.printer.proofs.SiteLemmas.{site_row, at_row, site_shape, site_word, seats}
+use Rattle.tree.proofs.PartRows.{has_its_row}
+use Rattle.printer.specs.Sites.{seated_at, is_word}
+use Rattle.tree.specs.HeldRows.{use_below}
+use Rattle.printer.proofs.SiteLemmas.{row_plain, site_shape, site_word, seats, uses, whole_agrees, row_told}
 use Rattle.printer.specs.Bits.{bits_of, chain_of, fused, before_bits, after_bits}
 use Rattle.printer.proofs.FusedTokens.{map_length, map_at, written_bits}
 use Rattle.printer.specs.Printed.{marks_in, front_marks, chain_marks, shape_marks, signed_marks}
@@ -22,16 +24,16 @@ use Rattle.printer.proofs.Whole.{one_part, marks_framed, marks_signed, direct_by
 use Rattle.printer.proofs.printer.+print.Goals as goal
 
 pub print_parts-returns-in-Some-clause-laid : goal.print_parts-returns-in-Some-clause-laid
-print_parts-returns-in-Some-clause-laid g t c = λ W r p e z k.
+print_parts-returns-in-Some-clause-laid g t c = λ W r p st held so e z k.
     let n = node_tree c.args.node in
     let sign = c.in-Some.sign in
     let q = spelled_parts W (parts_of n) (ways (role_of p) n) r k in
     let m = marks_signed W p n sign c.in-Some.ensures q.0 q.1 in
     direct_by W (signed_marks (text_of n) sign) m refl q.1
-    (c.print_sign_operator.ensures.laid W (first_roles (ways (role_of p) n)) r z q.2 (seats p n c.args.site c.part_sites_of.result e c.part_sites_of.ensures q.0) (sign_text n sign c.in-Some.ensures) (one_part (first_way (ways (role_of p) n)) (parts_of n) (text_of n) sign q.1 m))
+    (c.print_sign_operator.ensures.laid W st held (first_roles (ways (role_of p) n)) r z q.2 (seats p n c.part_sites_of.result c.part_sites_of.ensures q.0, uses W p n r st so k) (sign_text n sign c.in-Some.ensures) (one_part (first_way (ways (role_of p) n)) (parts_of n) (text_of n) sign q.1 m))
 
 pub print_parts-returns-in-None-clause-laid : goal.print_parts-returns-in-None-clause-laid
-print_parts-returns-in-None-clause-laid g t c = λ W r p e z k.
+print_parts-returns-in-None-clause-laid g t c = λ W r p st held so e z k.
     let n = node_tree c.args.node in
     let s = shape_on c.args.site (kind_of n) (text_of n) (flags_of n) (parts_of n) in
     let f = c.frame_of.ensures in
@@ -39,56 +41,56 @@ print_parts-returns-in-None-clause-laid g t c = λ W r p e z k.
     direct_by W (shape_marks (text_of n) (record { front = s.front; opener = s.opener; chain = chain_of c.frame_of.result.now.series; closer = s.closer }) (parts_of n))
     (marks_framed W p n r c.in-None.ensures q.0 q.1 ∙ ap (λ x. shape_marks (text_of n) x (parts_of n)) (site_shape p (kind_of n) (text_of n) (flags_of n) (parts_of n) ∙ ap (λ x. shape_on x (kind_of n) (text_of n) (flags_of n) (parts_of n)) e)
     ∙ ap (λ x. shape_marks (text_of n) (record { front = s.front; opener = s.opener; chain = x; closer = s.closer }) (parts_of n)) (sym (ap (λ x. x.chain) f))) refl q.1
-    (c.print_framed.ensures.laid W s.front s.opener s.closer (ap (λ x. x.front) f) (ap (λ x. x.opener) f) (ap (λ x. x.closer) f) (first_roles (ways (role_of p) n)) r z q.2 (seats p n c.args.site c.part_sites_of.result e c.part_sites_of.ensures q.0))
+    (c.print_framed.ensures.laid W st held s.front s.opener s.closer (ap (λ x. x.front) f) (ap (λ x. x.opener) f) (ap (λ x. x.closer) f) (first_roles (ways (role_of p) n)) r z q.2 (seats p n c.part_sites_of.result c.part_sites_of.ensures q.0, uses W p n r st so k))
 
 pub print_direct-returns-then-is_word-clause-laid : goal.print_direct-returns-then-is_word-clause-laid
-print_direct-returns-then-is_word-clause-laid g t c = λ W r p e z k.
+print_direct-returns-then-is_word-clause-laid g t c = λ W r p st held so e z k.
     let n = node_tree c.args.node in
     word_direct W p n r c.args.depth (site_word p (kind_of n) (parts_of n) ∙ ap (λ s. is_word s (kind_of n) (parts_of n)) e ∙ sym c.is_word.ensures ∙ c.if-is_word.true) z k
     (subst (λ w. Writes (seen (g.O.TextSink.stands c.args.out.now c.args.sheet.now.room) c.args.sheet.now) (seen (g.O.TextSink.stands c.push.new.out c.push.new.self.room) c.push.new.self) w) c.text.ensures c.push.ensures.written)
 
 pub print_direct-returns-clause-laid : goal.print_direct-returns-clause-laid
-print_direct-returns-clause-laid g t c = λ W r p e z k. c.print_parts.ensures.laid W r p e z k
+print_direct-returns-clause-laid g t c = λ W r p st held so e z k. c.print_parts.ensures.laid W r p st held so e z k
 
 pub print_direct-returns-then-is_word-clause-adds : goal.print_direct-returns-then-is_word-clause-adds
 print_direct-returns-then-is_word-clause-adds g t c = writes_adds c.push.ensures.written
 
 pub print_framed-returns-clause-laid : goal.print_framed-returns-clause-laid
-print_framed-returns-clause-laid g t c = λ W fs os cs ef eo ec xs r h k st.
+print_framed-returns-clause-laid g t c = λ W st held fs os cs ef eo ec xs r h k so.
     let n = node_tree c.args.node in
     let front = c.args.frame.now.front.now in
     let same : length fs ≡ length front = sym (map_length (λ p. bits_of p.now) fused front fs ef) in
-    framed W (text_of n) (text_of n) refl fs os cs (chain_of c.args.frame.now.series) (parts_of n) xs c.args.walk.now.course c.print_front.new.walk.course c.print_list.new.walk.course
-    (length front) c.inner_depth-inside.result (sym same) c.inner_depth-inside.ensures.inner h k st
-    (λ ms ys q a b s. c.print_front.ensures.laid W fs ef ms ys q a b s) (written_bits _ _ _ c.args.frame.now.opener.now os eo c.push_all.ensures)
-    (λ ms ys q a b s. c.print_list.ensures.laid W ms ys q a b s) (written_bits _ _ _ c.args.frame.now.closer.now cs ec c.push_all-2.ensures)
+    framed W st n (text_of n) (text_of n) refl fs os cs (chain_of c.args.frame.now.series) (parts_of n) xs c.args.walk.now.course c.print_front.new.walk.course c.print_list.new.walk.course
+    (length front) c.inner_depth-inside.result (sym same) c.inner_depth-inside.ensures.inner h k so
+    (λ ms ys q a b s. c.print_front.ensures.laid W st held fs ef ms ys q a b s) (written_bits _ _ _ c.args.frame.now.opener.now os eo c.push_all.ensures)
+    (λ ms ys q a b s. c.print_list.ensures.laid W st held ms ys q a b s) (written_bits _ _ _ c.args.frame.now.closer.now cs ec c.push_all-2.ensures)
 
 pub print_front-loop-index-preserved : goal.print_front-loop-index-preserved
 print_front-loop-index-preserved g t c = record {
-  laid = λ W fs e ms xs r h k st.
+  laid = λ W st held fs e ms xs r h k so.
       let n = node_tree c.args.node in
       let front = c.args.front.now in
       let i = c.loop-index.index in
       let same : length fs ≡ length front = sym (map_length (λ p. bits_of p.now) fused front fs e) in
       let bound = c.loop-index-test.true in
       let ns = front_marks (text_of n) (drop (i + 1) fs) ms in
-      stepped W (parts_of n) i
-      (turn W (get_or fs i []) (text_of n) refl (fronts-next (text_of n) fs i ms (omega (arith, same, bound))) (c.loop-index.invariant.laid W fs e ms xs r h k st)
-      (written_bits _ _ _ _ (get_or fs i []) (map_at (λ p. bits_of p.now) fused front fs i _ [] e bound) c.push_all.ensures) (λ ys q u v s. c.print_part.ensures.laid W ns ys q u v s));
+      stepped W st n (parts_of n) i
+      (turn W st n (get_or fs i []) (text_of n) refl (fronts-next (text_of n) fs i ms (omega (arith, same, bound))) (c.loop-index.invariant.laid W st held fs e ms xs r h k so)
+      (written_bits _ _ _ _ (get_or fs i []) (map_at (λ p. bits_of p.now) fused front fs i _ [] e bound) c.push_all.ensures) (λ ys q u v s. c.print_part.ensures.laid W st held ns ys q u v s));
   adds = adds_then c.loop-index.invariant.adds (adds_then (writes_adds c.push_all.ensures) c.print_part.ensures.adds);
 }
 
 pub print_front-returns-clause-laid : goal.print_front-returns-clause-laid
-print_front-returns-clause-laid g t c = λ W fs e ms xs r h k st.
+print_front-returns-clause-laid g t c = λ W st held fs e ms xs r h k so.
     let n = node_tree c.args.node in
     let front = c.args.front.now in
     let i = c.loop-index.index in
     let same : length fs ≡ length front = sym (map_length (λ p. bits_of p.now) fused front fs e) in
     let past : i ≡ length front = omega (arith, c.loop-index.auto.index-end, c.loop-index-test.false) in
-    fronts_done W (text_of n) fs (parts_of n) i (length front) ms (past ∙ sym same) past (c.loop-index.invariant.laid W fs e ms xs r h k st)
+    fronts_done W st n (text_of n) fs (parts_of n) i (length front) ms (past ∙ sym same) past (c.loop-index.invariant.laid W st held fs e ms xs r h k so)
 
 pub print_item-returns-clause-laid : goal.print_item-returns-clause-laid
-print_item-returns-clause-laid g t c = λ W ms xs r h k st.
+print_item-returns-clause-laid g t c = λ W st held ms xs r h k so.
     let P = parts_of (node_tree c.args.node) in
     let w = text_of (node_tree c.args.node) in
     let s = chain_of c.args.series in
@@ -100,65 +102,71 @@ print_item-returns-clause-laid g t c = λ W ms xs r h k st.
     let behind = after_bits s (is_missing o) (nat_eq ((part_count P - i) - 1) 0) (nat_eq ((part_count P - i) - 1) 1) in
     let here_after : bits_of c.after.result.now ≡ fused behind =
     c.after.ensures ∙ (λ j. fused (after_bits s (missing_part node_tree c.part.result c.is_none-is_gap.result c.is_none-is_gap.ensures j) (nat_eq ((c.part_count.ensures j - i) - 1) 0) (nat_eq ((c.part_count.ensures j - i) - 1) 1))) in
-    trail W behind w refl refl
-    (turn W bits w refl
+    trail W st (node_tree c.args.node) behind w refl refl
+    (turn W st (node_tree c.args.node) bits w refl
     (chain-next w s P i o ms c.part.ensures c.requires.index)
-    (gone_nothing W xs c.args.walk.now.course r h k st) (written_bits _ _ _ c.before-2.result.now bits here_before c.push_all.ensures) (λ ys q u z s. c.print_part.ensures.laid W (marks_in w behind ++ rest) ys q u z s))
+    (gone_nothing W st (node_tree c.args.node) xs c.args.walk.now.course r h k so) (written_bits _ _ _ c.before-2.result.now bits here_before c.push_all.ensures) (λ ys q u z s. c.print_part.ensures.laid W st held (marks_in w behind ++ rest) ys q u z s))
     (written_bits _ _ _ c.after.result.now behind here_after c.push_all-2.ensures)
 
 pub print_list-loop-index-preserved : goal.print_list-loop-index-preserved
 print_list-loop-index-preserved g t c = record {
-  laid = λ W ms xs r h k st.
+  laid = λ W st held ms xs r h k so.
       let P = parts_of (node_tree c.args.node) in
       let w = text_of (node_tree c.args.node) in
       let s = chain_of c.args.series in
-      stepped_chain W w s P c.loop-index.index ms (gone_then W (c.loop-index.invariant.laid W ms xs r h k st) (λ ys q a b u. c.print_item.ensures.laid W ms ys q a b u));
+      stepped_chain W st (node_tree c.args.node) w s P c.loop-index.index ms (gone_then W st (node_tree c.args.node) (c.loop-index.invariant.laid W st held ms xs r h k so) (λ ys q a b u. c.print_item.ensures.laid W st held ms ys q a b u));
   adds = adds_then c.loop-index.invariant.adds c.print_item.ensures.adds;
 }
 
 pub print_list-returns-clause-laid : goal.print_list-returns-clause-laid
-print_list-returns-clause-laid g t c = λ W ms xs r h k st.
+print_list-returns-clause-laid g t c = λ W st held ms xs r h k so.
     let P = parts_of (node_tree c.args.node) in
     let w = text_of (node_tree c.args.node) in
     let s = chain_of c.args.series in
     let past : part_count P ≤ c.loop-index.index = omega (arith, c.part_count-count.ensures, c.loop-index-test.false) in
-    chain_done W w s P c.loop-index.index ms past (c.loop-index.invariant.laid W ms xs r h k st)
+    chain_done W st (node_tree c.args.node) w s P c.loop-index.index ms past (c.loop-index.invariant.laid W st held ms xs r h k so)
 
 pub print_part-returns-in_default-clause-laid : goal.print_part-returns-in_default-clause-laid
-print_part-returns-in_default-clause-laid g t c = λ W ms xs r h k st. part_missing W (parts_of (node_tree c.args.node)) c.args.index r xs c.args.walk.now.course c.in_default.ensures h k st
+print_part-returns-in_default-clause-laid g t c = λ W st held ms xs r h k so. part_missing W st (node_tree c.args.node) (parts_of (node_tree c.args.node)) c.args.index r xs c.args.walk.now.course c.in_default.ensures.tree h k so
 
 pub print_part-returns-clause-laid : goal.print_part-returns-clause-laid
-print_part-returns-clause-laid g t c = λ W ms xs r h k st.
+print_part-returns-clause-laid g t c = λ W st held ms xs r h k so.
     let P = parts_of (node_tree c.args.node) in
-    part_turn W P c.args.index r (node_tree c.in-Some.part) xs c.args.walk.now.course c.after_next-walk.result c.site_at-site.result _ c.in-Some.ensures h (ap not (sym c.is_wrapped.ensures)) k st
+    let n = node_tree c.args.node in
+    part_turn W st n P c.args.index r (node_tree c.in-Some.part) xs c.args.walk.now.course c.after_next-walk.result c.site_at-site.result _ refl c.in-Some.ensures.tree h (ap not (sym c.is_wrapped.ensures)) k so
     (c.site_at-site.ensures ∙ ap₂ (seated_at c.args.walk.now.course.next) c.kind.ensures c.is_last.ensures) c.after_next-walk.ensures
-    (λ p e f. c.print_node.ensures.laid W r p e h f)
+    (λ p a e f. c.print_node.ensures.laid W r p (use_below st n c.args.index (node_tree c.in-Some.part)) (c.in-Some.ensures.rows st held) a e h f)
 
-pub print_node-returns-then-is_row-clause-laid : goal.print_node-returns-then-is_row-clause-laid
-print_node-returns-then-is_row-clause-laid g t c = λ W r p e h k. c.print_row.ensures.laid W r p (e ∙ at_row c.args.site (sym c.is_row.ensures ∙ c.if-is_row.true)) h k
+pub print_node-returns-then-is_some-clause-laid : goal.print_node-returns-then-is_some-clause-laid
+print_node-returns-then-is_some-clause-laid g t c = λ W r p st held so e h k.
+    let there : nat_eq (has_row (role_of p)) 1 ≡ true =
+    sym (row_told W (node_tree c.args.node) (role_of p) r st so k) ∙ sym (has_its_row st c.args.node held) ∙ ap is_some (sym c.row.ensures) ∙ sym c.is_some.ensures ∙ c.if-is_some.true in
+    c.print_row.ensures.laid W r p st held so there h k
 
 pub print_node-returns-clause-laid : goal.print_node-returns-clause-laid
-print_node-returns-clause-laid g t c = λ W r p e h k.
-    printed_rowless W p (node_tree c.args.node) r c.args.depth (site_row (role_of p) ∙ ap is_row e ∙ sym c.is_row.ensures ∙ c.if-is_row.false) h k (λ q u v. c.print_direct.ensures.laid W q p e u v)
+print_node-returns-clause-laid g t c = λ W r p st held so e h k.
+    let missing : nat_eq (has_row (role_of p)) 1 ≡ false =
+    sym (row_told W (node_tree c.args.node) (role_of p) r st so k) ∙ sym (has_its_row st c.args.node held) ∙ ap is_some (sym c.row.ensures) ∙ sym c.is_some.ensures ∙ c.if-is_some.false in
+    printed_rowless W p (node_tree c.args.node) r c.args.depth missing h k (λ q u v. c.print_direct.ensures.laid W q p st held so e u v)
 
 pub print_row-returns-then-not-next_row-clause-laid : goal.print_row-returns-then-not-next_row-clause-laid
-print_row-returns-then-not-next_row-clause-laid g t c = λ W r p e h k.
+print_row-returns-then-not-next_row-clause-laid g t c = λ W r p st held so e h k.
     let x : NextRow (seen (g.O.TextSink.stands c.args.out.now c.args.sheet.now.room) c.args.sheet.now) (seen (g.O.TextSink.stands c.args.out.now c.next_row.new.self.room) c.next_row.new.self) false = record { flag = sym c.if-not-next_row.true ∙ c.next_row.ensures.flag; others = c.next_row.ensures.others; out = ap (λ r. g.O.TextSink.stands c.args.out.now r) c.next_row.ensures.room; apart = c.next_row.ensures.apart } in
-    printed_row W p (node_tree c.args.node) r c.args.depth x h (site_row (role_of p) ∙ ap is_row e) k (λ q u v. c.print_direct.ensures.laid W q p e u v)
+    printed_row W p (node_tree c.args.node) r c.args.depth x h e k (λ q u v. c.print_direct.ensures.laid W q p st held so (row_plain (role_of p) e) u v)
 
 pub print_row-returns-clause-laid : goal.print_row-returns-clause-laid
-print_row-returns-clause-laid g t c = λ W r p e h k.
+print_row-returns-clause-laid g t c = λ W r p st held so e h k.
     let x : NextRow (seen (g.O.TextSink.stands c.args.out.now c.args.sheet.now.room) c.args.sheet.now) (seen (g.O.TextSink.stands c.args.out.now c.next_row.new.self.room) c.next_row.new.self) true = record { flag = sym c.if-not-next_row.false ∙ c.next_row.ensures.flag; others = c.next_row.ensures.others; out = ap (λ r. g.O.TextSink.stands c.args.out.now r) c.next_row.ensures.room; apart = c.next_row.ensures.apart } in
-    printed_inside W p (node_tree c.args.node) r c.args.depth x h (site_row (role_of p) ∙ ap is_row e) k c.push.ensures.written (λ q u v. c.print_direct-2.ensures.laid W q whole_at refl u v) c.push-2.ensures.written
+    printed_inside W p (node_tree c.args.node) r c.args.depth x h e k c.push.ensures.written (λ q u v. c.print_direct-2.ensures.laid W q whole_at st held (whole_agrees st (role_of p) _ e so) refl u v) c.push-2.ensures.written
 
 pub print_sign_operator-returns-clause-laid : goal.print_sign_operator-returns-clause-laid
-print_sign_operator-returns-clause-laid g t c = λ W xs r h k st u v.
+print_sign_operator-returns-clause-laid g t c = λ W st held xs r h k so u v.
     let n = node_tree c.args.node in
-    printed_signed W (text_of n) c.args.sign (parts_of n) c.print_part.new.walk.course r u v
+    printed_signed W st n (text_of n) c.args.sign (parts_of n) c.print_part.new.walk.course r u v
     (subst (λ w. Writes (seen (g.O.TextSink.stands c.args.out.now c.args.sheet.now.room) c.args.sheet.now) (seen (g.O.TextSink.stands c.push.new.out c.push.new.self.room) c.push.new.self) w) c.text.ensures c.push.ensures.written)
     (λ z. c.push.ensures.parted (λ y. z (sym c.text.ensures ∙ y)))
     (ap (λ r. g.O.TextSink.stands c.push.new.out r) c.keep_apart.ensures.room) c.keep_apart.ensures.apart c.keep_apart.ensures.wraps h
-    (λ q. c.print_part.ensures.laid W [] xs r q k st)
+    (λ q. c.print_part.ensures.laid W st held [] xs r q k so)
     (ap (λ r. g.O.TextSink.stands c.print_part.new.out r) c.join.ensures.room) c.join.ensures.apart c.join.ensures.wraps
 
 pub print_row-returns-clause-adds : goal.print_row-returns-clause-adds

@@ -1,6 +1,7 @@
 use Rattle.std.proofs.Common.{refl, ◌≡◌, ◌≤◌, ◌+◌, ◌++◌, true, [], sym, ap, subst, arith, append-nil}
 use Rattle.tree.specs.Tree.{height}
 use Rattle.tree.specs.Node.{node_tree}
+use Rattle.tree.specs.declared.node_use.NodeUse.TheVariants.{NotEvaluated}
 use Rattle.language.specs.Pieces.{script}
 use Rattle.language.specs.Layout.{layout}
 use Rattle.language.specs.LayoutFits.{fits}
@@ -18,17 +19,17 @@ print_node-requires g c =
     let within = height_within c.args.program.now in
     let counted = c.node_count.ensures in
     let few = c.node_count.type_inv in
-    subst (λ n. 0 + height n ≤ 18446744073709551615) (sym c.root.ensures) (omega (arith, within, counted, few))
+    subst (λ n. 0 + height n ≤ 18446744073709551615) (sym c.finished_root.ensures.tree) (omega (arith, within, counted, few))
 
 pub returns-clause-laid : goal.returns-clause-laid
 returns-clause-laid g c =
     let W = wrapped_by c.args.wraps.now in
     let a = seen (g.O.TextSink.stands c.args.out.now c.new-sheet.result.room) c.new-sheet.result in
     let b = seen (g.O.TextSink.stands c.print_node.new.out c.print_node.new.sheet.room) c.print_node.new.sheet in
-    subst (λ n. fits W n script 1 ≡ true → Puts (g.O.TextSink.stands c.args.out.now []) (g.O.TextSink.stands c.finish.new.out []) (layout W n script 1 0)) c.root.ensures
+    subst (λ n. fits W n script 1 ≡ true → Puts (g.O.TextSink.stands c.args.out.now []) (g.O.TextSink.stands c.finish.new.out []) (layout W n script 1 0)) c.finished_root.ensures.tree
     (λ k before sofar h.
-    let t = layout W (node_tree c.root.result) script 1 0 in
-    let p = whole_text {a = a} {b = b} c.args.wraps.now (node_tree c.root.result) c.new-sheet.ensures.apart c.new-sheet.ensures.wraps (λ V r u f. c.print_node.ensures.laid V r Script refl u f) k in
+    let t = layout W (node_tree c.finished_root.result) script 1 0 in
+    let p = whole_text {a = a} {b = b} c.args.wraps.now (node_tree c.finished_root.result) c.new-sheet.ensures.apart c.new-sheet.ensures.wraps (λ V r u f. c.print_node.ensures.laid V r Script NotEvaluated c.finished_root.ensures.rows refl refl u f) k in
     subst (Stands before (g.O.TextSink.stands c.finish.new.out [])) (append-nil (sofar ++ t))
     (c.finish.ensures.done before (sofar ++ t) (p before sofar (subst (λ r. Stands before (g.O.TextSink.stands c.args.out.now r) sofar) (sym c.new-sheet.ensures.room) h))))
 

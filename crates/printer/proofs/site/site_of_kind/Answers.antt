@@ -5,4 +5,4 @@ use Rattle.printer.proofs.site.site_of_kind.Goals as goal
 pub returns-in_default : goal.returns-in_default
 returns-in_default c =
     let d = c.in_default in
-    sym (told_default c.args.kind c.args.is_last (λ h. d.not-Super (h)) (λ h. d.not-SpreadElement (h)) (λ h. d.not-Property (h)) (λ h. d.not-ArrayPattern (h)) (λ h. d.not-ObjectPattern (h)) (λ h. d.not-AssignmentPattern (h)) (λ h. d.not-RestElement (h)) (λ h. d.not-VariableDeclaration (h)) (λ h. d.not-TemplateElement (h)))
+    sym (told_default c.args.kind c.args.is_last (λ h. d.not-VariableDeclaration (h)) (λ h. d.not-TemplateElement (h)))

@@ -11,7 +11,7 @@ new-requires c =
     AreBefore-take n (length os - c.args.count) (drop c.args.count os) (AreBefore-drop n c.args.count os c.args.self.before)
 
 pub returns-then-count-parts : goal.returns-then-count-parts
-returns-then-count-parts c = c.new.ensures ∙ rest_named (trees c.args.self.tree.now.parts.items [] c.args.self.tree.now.nodes) c.args.self.parts.now c.args.count
+returns-then-count-parts c = c.new.ensures.parts ∙ rest_named (trees c.args.self.tree.now.parts.items [] c.args.self.tree.now.nodes) c.args.self.parts.now c.args.count
 
 pub returns : goal.returns
-returns c = c.new-2.ensures ∙ rest_named_past (trees c.args.self.tree.now.parts.items [] c.args.self.tree.now.nodes) c.args.self.parts.now c.args.count c.if-count-parts.false
+returns c = c.new-2.ensures.parts ∙ rest_named_past (trees c.args.self.tree.now.parts.items [] c.args.self.tree.now.nodes) c.args.self.parts.now c.args.count c.if-count-parts.false

@@ -8,7 +8,7 @@ pub new-requires : goal.new-requires
 new-requires c = AreBefore-take (length c.args.self.tree.now.nodes) c.args.count c.args.self.parts.now c.args.self.before
 
 pub returns-then-count-parts : goal.returns-then-count-parts
-returns-then-count-parts c = c.new.ensures ∙ take_named (trees c.args.self.tree.now.parts.items [] c.args.self.tree.now.nodes) c.args.self.parts.now c.args.count
+returns-then-count-parts c = c.new.ensures.parts ∙ take_named (trees c.args.self.tree.now.parts.items [] c.args.self.tree.now.nodes) c.args.self.parts.now c.args.count
 
 pub returns : goal.returns
 returns c = take_named_past (trees c.args.self.tree.now.parts.items [] c.args.self.tree.now.nodes) c.args.self.parts.now c.args.count c.if-count-parts.false

@@ -10,8 +10,8 @@ section-requires c = rw c.deref.ensures.value c.args.self.linked.0
 pub new-requires : goal.new-requires
 new-requires c = rw (c.section.ensures, c.deref.ensures.value) c.args.self.linked.1
 
-pub returns : goal.returns
-returns c =
-    c.new.ensures
+pub returns-clause-parts : goal.returns-clause-parts
+returns-clause-parts c =
+    c.new.ensures.parts
     ∙ ap (λ (os : Pool). parts_with_gaps (map (named (trees c.args.self.tree.now.parts.items [] c.args.self.tree.now.nodes)) os))
     (c.section.ensures ∙ ap (λ (os : Pool). take c.args.self.node.now.count (drop c.args.self.node.now.first os)) c.deref.ensures.value)

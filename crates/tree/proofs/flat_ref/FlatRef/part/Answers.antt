@@ -1,0 +1,5 @@
+use Rattle.tree.proofs.PartRows.{named_holds}
+use Rattle.tree.proofs.flat_ref.FlatRef.part.Goals as goal
+
+pub returns-clause-rows : goal.returns-clause-rows
+returns-clause-rows c = named_holds c.args.self c.parts-parts.result c.args.index c.get.result c.parts-parts.ensures.within c.parts-parts.ensures.run c.parts-parts.ensures.parts c.get.ensures.tree c.get.ensures.found

@@ -1,0 +1,10 @@
+use Rattle.std.proofs.Common.{subst}
+use Rattle.tree.specs.HeldRows.{shown_rows}
+use Rattle.tree.proofs.PartRows.{boxed_rows, flat_rows}
+use Rattle.tree.proofs.node.Node.finished_part.Goals as goal
+
+pub returns-in-Boxed-clause-rows : goal.returns-in-Boxed-clause-rows
+returns-in-Boxed-clause-rows c = boxed_rows c.args.self c.boxed_at.result c.args.index (λ a h. subst (shown_rows a) c.in-Boxed.is h)
+
+pub returns-in-Flat-clause-rows : goal.returns-in-Flat-clause-rows
+returns-in-Flat-clause-rows c = flat_rows c.args.self c.in-Flat.place c.flat_part.result c.args.index c.in-Flat.is c.flat_part.ensures.rows

@@ -1,0 +1,7 @@
+use Rattle.tree.specs.declared.node_use.NodeUse.TheVariants.{NotEvaluated}
+use Rattle.tree.proofs.PartRows.{root_holds}
+use Rattle.tree.proofs.program.Program.finished_root.Goals as goal
+
+pub returns-clause-rows : goal.returns-clause-rows
+returns-clause-rows c =
+    c.at.ensures.rows NotEvaluated (root_holds c.self.inside.tree c.new-last.result c.len.result c.self.invariant c.len.ensures c.new-last.ensures.within c.new-last.ensures.node c.new-last.ensures.tree)

@@ -1,0 +1,48 @@
+-- The rows that a node of a finished tree and those below it hold: the rows of nodes that stand so.
+use Rattle.std.specs.Prelude.{◌≡◌, ℕ, cond, List, ◌++◌, length, slice_index_or, ◌<◌, Some, None}
+use Rattle.std.specs.List.{slice_get}
+use Rattle.tree.specs.declared.flat_ref.FlatRef.{FlatRef}
+use Rattle.tree.specs.declared.flat_list.FlatList.{FlatList}
+use Rattle.tree.specs.declared.flat_node.NodeNumber.{NodeNumber}
+use Rattle.tree.specs.declared.node.Node.{Node}
+use Rattle.tree.specs.declared.node.NodeStorage.{NodeStorage}
+use Rattle.tree.specs.declared.node.NodeStorage.TheVariants as shown
+use Rattle.tree.specs.declared.node_use.NodeUse.{NodeUse}
+use Rattle.tree.specs.Tree.{Tree, kind_of, flags_of, parts_of, part_count}
+use Rattle.tree.specs.Flat.{numbers_of, runs_of, run_of}
+use Rattle.tree.specs.Growth.{node_rows, node_runs}
+use Rattle.tree.specs.NodeUses.{row_list, has_row, use_in}
+use Rattle.tree.specs.Places.{place_tree, place_row}
+
+-- a node is the one that a list of parts names at this place
+pub record IsNamed (l : FlatList) (i : ℕ) (p : FlatRef) : Type 0 where
+  pub number : NodeNumber
+  pub is : slice_get l.parts.now i ≡ Some (Some number)
+  pub low : number.number < length l.tree.now.nodes
+  pub node : p.node.now ≡ slice_index_or l.tree.now.nodes number.number p.node.now
+  pub within : p.tree.now ≡ l.tree.now
+
+-- these stand in a list from a place on
+abbrev pub StandsFrom : {X : Type 0} → List X → ℕ → List X → Type 0
+StandsFrom {X} xs i ys = (before : List X) × (behind : List X) × (xs ≡ before ++ (ys ++ behind)) × (length before ≡ i)
+
+-- a node that stands so holds the row that it has, and each below it the row that it has
+pub record PlaceHoldsRows (a : NodeUse) (p : FlatRef) : Type 0 where
+  pub first : ℕ
+  pub row : ℕ
+  pub rows : StandsFrom (node_rows p.tree.now.nodes) first (row_list a row (place_tree p))
+  pub runs : StandsFrom (node_runs p.tree.now.parts.items p.tree.now.nodes) first (runs_of first (place_tree p))
+  pub own_row : place_row p ≡ cond (has_row a (kind_of (place_tree p))) (Some row) None
+  pub own_run : run_of p.tree.now.parts.items p.node.now ≡ numbers_of first (parts_of (place_tree p))
+
+abbrev pub shown_rows : NodeUse → NodeStorage → Type 0
+shown_rows a (shown.Boxed s) = ⊥
+shown_rows a (shown.Flat p) = PlaceHoldsRows a p
+
+-- a node of a finished tree that stands so holds the row that it has, and each below it the row that it has
+unfoldable pub HoldsRows : NodeUse → Node → Type 0
+HoldsRows a n = shown_rows a n.storage
+
+-- how a part of a node stands that stands so itself
+abbrev pub use_below : NodeUse → Tree → ℕ → Tree → NodeUse
+use_below a n i m = use_in (record { node_use = a; kind = kind_of n; flags = flags_of n }) (part_count (parts_of n)) i m
