@@ -2,10 +2,8 @@
 
 use crate::ranks::rank;
 use language::{Rank, Start};
-use spellings::{
-    Position, Production, SlotCursor, admits, fits, holds_chain, is_leaf, node_production,
-    resolve_slot,
-};
+use spelling_table::{Position, Production, admits, fits, resolve_slot};
+use spellings::{SlotCursor, holds_chain, is_leaf, node_production};
 use std::alloc::AllocError;
 use tree::{Form, Node};
 

@@ -13,7 +13,7 @@ use crate::cells::is_above;
 use crate::check_rows::check_node;
 use cost_table::{CostTable, least};
 use source_text::Reason;
-use spellings::Position;
+use spelling_table::Position;
 use tree::Program;
 
 /// What is wrong with a table: the number of a row, counted from 1, or 0 for the total, and the reason.

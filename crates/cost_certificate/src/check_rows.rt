@@ -6,7 +6,7 @@ ghost use Rattle.tree.specs.Tree.{parts_of, kind_of};
 ghost use Rattle.language.specs.Expressions.{has_optional, first_has_optional};
 ghost use Rattle.language.specs.RowPositions.{rows, parts_rows, first_roles, widest as widest_role};
 ghost use Rattle.language.specs.Grammar.{ways};
-ghost use Rattle.spellings.specs.Outlines.{role_of};
+ghost use Rattle.spelling_table.specs.Outlines.{role_of};
 ghost use Rattle.spellings.specs.Remaining.{left};
 ghost use Rattle.spellings.specs.Spelled.{settled_roles};
 ghost use Rattle.spellings.specs.Wherever.{spelled_by};
@@ -22,10 +22,8 @@ use crate::check::BadTable;
 use crate::types::same_type;
 use cost_table::{CostTable, Costs, NodeCosts, added, fitting, widest};
 use source_text::Reason;
-use spellings::{
-    FirstToken, Outline, Position, Production, SlotCursor, holds_chain, leads_chain,
-    node_production, resolve_slot,
-};
+use spelling_table::{FirstToken, Outline, Position, Production, resolve_slot};
+use spellings::{SlotCursor, holds_chain, leads_chain, node_production};
 use tree::Node;
 
 /// What was found of rows, from one on.

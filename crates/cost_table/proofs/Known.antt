@@ -14,9 +14,9 @@ use Rattle.language.specs.Grammar.{ways, own_rank, own_in, own_start}
 use Rattle.language.specs.RowPositions.{first_roles, widest}
 use Rattle.language.specs.Layout.{some_way}
 use Rattle.language.specs.Cost.{add_cost, lesser, if_any, least, parts_least, cell, cell_position}
-use Rattle.spellings.specs.declared.outline.Outline.{Outline}
-use Rattle.spellings.specs.Outlines.{opens_at}
-use Rattle.spellings.specs.Spelled.{fits_outline}
+use Rattle.spelling_table.specs.declared.outline.Outline.{Outline}
+use Rattle.spelling_table.specs.Outlines.{opens_at}
+use Rattle.spelling_table.specs.Requirements.{fits_outline}
 use Rattle.spellings.specs.Wherever.{with_own}
 use Rattle.spellings.proofs.SlotSteps.{own_again}
 use Rattle.cost_table.specs.declared.costs.Costs as own

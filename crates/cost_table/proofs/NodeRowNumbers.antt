@@ -12,7 +12,8 @@ use Rattle.language.specs.Grammar.{ways}
 use Rattle.language.specs.RowPositions.{first_roles, widest}
 use Rattle.language.specs.Layout.{some_way}
 use Rattle.language.specs.Cost.{add_cost, if_any, least, parts_least, cell}
-use Rattle.spellings.specs.Spelled.{fits_outline, settled_roles, Verdict}
+use Rattle.spelling_table.specs.Requirements.{fits_outline}
+use Rattle.spellings.specs.Spelled.{settled_roles, Verdict}
 use Rattle.spellings.specs.Remaining.{left}
 use Rattle.spellings.specs.Wherever.{NodeSpelling, with_own, spelled_roles, IsSpelledWherever}
 use Rattle.spellings.proofs.SlotSteps.{spelled_here}

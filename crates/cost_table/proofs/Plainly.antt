@@ -12,11 +12,11 @@ use Rattle.language.specs.Cost.{lesser}
 use Rattle.language.specs.Grammar.{own_rank}
 use Rattle.language.specs.Pieces.{Role, Slot, is_tight}
 use Rattle.language.specs.Pieces as role
-use Rattle.spellings.specs.declared.outline.FirstToken.{FirstToken}
-use Rattle.spellings.specs.declared.outline.FirstToken.TheVariants as opens
-use Rattle.spellings.specs.declared.outline.Outline.{Outline}
-use Rattle.spellings.specs.Outlines.{opens_at}
-use Rattle.spellings.specs.Spelled.{fits_outline}
+use Rattle.spelling_table.specs.declared.outline.FirstToken.{FirstToken}
+use Rattle.spelling_table.specs.declared.outline.FirstToken.TheVariants as opens
+use Rattle.spelling_table.specs.declared.outline.Outline.{Outline}
+use Rattle.spelling_table.specs.Outlines.{opens_at}
+use Rattle.spelling_table.specs.Requirements.{fits_outline}
 use Rattle.spellings.specs.Wherever.{with_own}
 use Rattle.cost_table.specs.declared.costs.Costs as own
 use Rattle.cost_table.specs.declared.costs.StartCosts.{StartCosts}

@@ -9,10 +9,11 @@ use Rattle.language.specs.Vocabulary.{takes}
 use Rattle.language.specs.Grammar.{ways, own_rank, own_in, own_start}
 use Rattle.language.specs.Cost.{lesser, parts_least}
 use Rattle.language.specs.Layout.{some_way}
-use Rattle.spellings.specs.declared.outline.FirstToken.{FirstToken}
-use Rattle.spellings.specs.declared.outline.FirstToken.TheVariants.{Other}
-use Rattle.spellings.specs.declared.outline.Outline.{Outline}
-use Rattle.spellings.specs.Spelled.{fits_outline, settled_roles}
+use Rattle.spelling_table.specs.declared.outline.FirstToken.{FirstToken}
+use Rattle.spelling_table.specs.declared.outline.FirstToken.TheVariants.{Other}
+use Rattle.spelling_table.specs.declared.outline.Outline.{Outline}
+use Rattle.spelling_table.specs.Requirements.{fits_outline}
+use Rattle.spellings.specs.Spelled.{settled_roles}
 use Rattle.spellings.specs.Wherever.{NodeSpelling, with_own}
 use Rattle.cost_table.specs.declared.costs.Costs as own
 use Rattle.cost_table.specs.declared.node_costs.NodeCosts.{NodeCosts}

@@ -3,8 +3,8 @@
 ghost use Rattle.std.specs.Prelude.{◌≡◌, true, None, Some, cond};
 ghost use Rattle.language.specs.Pieces.{Role};
 ghost use Rattle.language.specs.RowPositions.{widest as widest_role};
-ghost use Rattle.spellings.specs.Outlines.{role_of, slot_of};
-ghost use Rattle.spellings.specs.Spelled.{fits_outline};
+ghost use Rattle.spelling_table.specs.Outlines.{role_of, slot_of};
+ghost use Rattle.spelling_table.specs.Requirements.{fits_outline};
 ghost use Rattle.spellings.specs.Wherever.{with_own as role_with_own};
 ghost use Rattle.cost_table.specs.Costs.{each_start, started_at, same_everywhere, sums as sums_of};
 ghost use Rattle.cost_table.specs.Weighed.{cost_of, direct_cost, least_of, settled_at, uses as uses_of, fitting as fitting_costs, is_plain_outline, slot_free};
@@ -13,7 +13,7 @@ use crate::costs::{Costs, StartCosts};
 use crate::pair_count::{is_zero, lesser, sum};
 use grammar::accepts_rank;
 use language::{Rank, Start};
-use spellings::{FirstToken, Outline, Position, Slot, fits, resolve_slot};
+use spelling_table::{FirstToken, Outline, Position, Slot, fits, resolve_slot};
 
 /// A node's outline, none where it can't be spelled, and what it costs.
 #[derive(Clone, Copy)]

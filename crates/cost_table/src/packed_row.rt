@@ -2,7 +2,7 @@
 
 ghost use Rattle.std.specs.Prelude.{◌≡◌, true, cond, Some, IfSome};
 ghost use Rattle.cost_table.specs.declared.packed_row.FilledStarts.TheVariants.{Each, Nowhere};
-ghost use Rattle.spellings.specs.Outlines.{role_of};
+ghost use Rattle.spelling_table.specs.Outlines.{role_of};
 ghost use Rattle.cost_table.specs.Costs.{started_at, eight, cost_at as cost_of_costs};
 ghost use Rattle.cost_table.specs.Packed.{filled, free_shape, shaped, index_of, unpacked};
 ghost use Rattle.cost_table.specs.Weighed.{cost_of};
@@ -10,7 +10,7 @@ ghost use Rattle.cost_table.specs.Weighed.{cost_of};
 use crate::costs::{Costs, StartCosts};
 use grammar::{accepts_rank, precedence_of};
 use language::{Rank, Start};
-use spellings::Position;
+use spelling_table::Position;
 use tree::Kind;
 
 /// The starts at which a number stands; at the others there is none.

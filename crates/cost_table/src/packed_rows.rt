@@ -1,7 +1,7 @@
 //! The rows of a table, packed.
 
 ghost use Rattle.std.specs.Prelude.{◌≡◌, ◌+◌, ◌<◌, [], ◌∷◌, ◌++◌, length, reverse, slice_get, slice_index_or, OnOk, OnErr, IfSome};
-ghost use Rattle.spellings.specs.Outlines.{role_of};
+ghost use Rattle.spelling_table.specs.Outlines.{role_of};
 ghost use Rattle.cost_table.specs.Costs.{eight};
 ghost use Rattle.cost_table.specs.Packed.{in_order, shaped};
 ghost use Rattle.cost_table.specs.Rows.{row_with};
@@ -11,7 +11,7 @@ use crate::costs::Costs;
 use crate::node_costs::cost_at;
 use crate::packed_row::{CellShape, PackedRow, Place};
 use segmented_vec::SegmentedVec;
-use spellings::Position;
+use spelling_table::Position;
 use std::alloc::{AllocError, Global};
 use std::marker::Model;
 use std::mem;

@@ -1,7 +1,7 @@
 //! Cost tables.
 
 ghost use Rattle.std.specs.Prelude.{◌≡◌, ◌-◌, ◌≤◌, [], ◌∷◌, ◌++◌, length, reverse, slice_get, slice_index_or, OnOk, OnErr, IfSome};
-ghost use Rattle.spellings.specs.Outlines.{role_of};
+ghost use Rattle.spelling_table.specs.Outlines.{role_of};
 ghost use Rattle.cost_table.specs.Costs.{eight, of_cells};
 ghost use Rattle.cost_table.specs.Packed.{free_shape, shaped};
 ghost use Rattle.cost_table.specs.Rows.{row_with};
@@ -11,7 +11,7 @@ use crate::costs::Costs;
 use crate::packed_row::CellShape;
 use crate::packed_rows::PackedRows;
 use language::Rank;
-use spellings::Position;
+use spelling_table::Position;
 use std::alloc::{AllocError, Global};
 use tree::Kind;
 

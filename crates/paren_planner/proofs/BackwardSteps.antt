@@ -2,7 +2,7 @@
 use Rattle.std.proofs.Common.{◌≡◌, ℕ, ◌+◌, ◌-◌, ◌<◌, true, false, cond, List, [], ◌∷◌, ◌++◌, reverse, length, drop, take, get_or, Option, Some, None, Ok, Err, refl, sym, ap, ◌∙◌, subst, arith, drop-cons}
 use Rattle.std.specs.Prelude.{Result, OnOk, MatchOption, option_to_list, All}
 use Rattle.std.proofs.lemmas.List.Elements.{All-nil, All-cons, All-head, All-tail}
-use Rattle.spellings.specs.Outlines.{role_of, slot_of}
+use Rattle.spelling_table.specs.Outlines.{role_of, slot_of}
 use Rattle.tree.specs.declared.kind.Kind.{Kind}
 use Rattle.language.specs.declared.Rank.{Rank}
 use Rattle.cost_table.specs.declared.costs.Costs as own

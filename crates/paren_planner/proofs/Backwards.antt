@@ -8,8 +8,9 @@ use Rattle.language.specs.Pieces.{Role, expr, chain_part, pattern, script, Slot,
 use Rattle.language.specs.Grammar.{ways}
 use Rattle.language.specs.RowPositions.{first_roles, widest}
 use Rattle.language.specs.Cost.{add_cost, least}
-use Rattle.spellings.specs.declared.outline.Outline.{Outline}
-use Rattle.spellings.specs.Spelled.{fits_outline, settled_roles}
+use Rattle.spelling_table.specs.declared.outline.Outline.{Outline}
+use Rattle.spelling_table.specs.Requirements.{fits_outline}
+use Rattle.spellings.specs.Spelled.{settled_roles}
 use Rattle.spellings.specs.Remaining.{left}
 use Rattle.spellings.specs.Wherever.{NodeSpelling, with_own, IsSpelledWherever}
 use Rattle.cost_table.specs.declared.costs.Costs as own
@@ -21,7 +22,7 @@ use Rattle.paren_planner.specs.declared.steps.Step.TheVariants.{Free, Leaf, Ente
 use Rattle.cost_table.specs.Costs.{capped, capped_sum, each, cost_at, sums, same_everywhere, cells_at, no_pairs, IsHeld}
 use Rattle.cost_table.specs.Weighed.{settled_at, uses, fitting, sums_over, IsWeighed, slot_free, is_plain_outline}
 use Rattle.cost_table.specs.Rows.{row_with, row_of, own_row, table_rows, parts_table}
-use Rattle.spellings.specs.Cursors.{requirements_of}
+use Rattle.spelling_table.specs.Requirements.{requirements_of}
 use Rattle.paren_planner.specs.Steps.{free_row, outline_of, has_row_at, weighed_as, weighed_of, row_of_visit, Sums, joined, taken, taken_from, at_the_end}
 use Rattle.paren_planner.specs.Noted.{IsVisit, are_free, Steps, unspelled, alone, around, costless, hidden, through, is_settled, is_settled_slot, PartsSteps, over, skipped, unplaced, next}
 use Rattle.cost_table.proofs.Plainly.{plain_uses}

@@ -16,9 +16,10 @@ use Rattle.language.specs.RowPositions.{first_roles, widest, rows, parts_rows}
 use Rattle.language.specs.Layout.{some_way}
 use Rattle.language.specs.Cost.{add_cost, lesser, if_any, least, parts_least, cell, cell_position}
 use Rattle.language.specs.Claims.{table_cell, cell_number, cell_at, bound_at, parts_bound, cell_bound, total_bound, row_nodes, parts_row_nodes, contexts}
-use Rattle.spellings.specs.declared.outline.Outline.{Outline}
-use Rattle.spellings.specs.Outlines.{opens_at}
-use Rattle.spellings.specs.Spelled.{fits_outline, settled_roles, Verdict}
+use Rattle.spelling_table.specs.declared.outline.Outline.{Outline}
+use Rattle.spelling_table.specs.Outlines.{opens_at}
+use Rattle.spelling_table.specs.Requirements.{fits_outline}
+use Rattle.spellings.specs.Spelled.{settled_roles, Verdict}
 use Rattle.spellings.proofs.Wherever.{found_roles, AnySpelling, any_spelling}
 use Rattle.spellings.proofs.Slots.{is_plain, is_lawful, is_wide, all_pass, parts_plain, parts_lawful, parts_wide}
 use Rattle.cost_table.specs.declared.table.Row.{Row}

@@ -14,16 +14,17 @@ use Rattle.language.specs.Grammar.{ways}
 use Rattle.language.specs.RowPositions.{first_roles, widest, has_row, rows, parts_rows}
 use Rattle.language.specs.Layout.{some_way, wants_pair, inside, parts_wrapped}
 use Rattle.language.specs.Cost.{if_any, cell, cell_position, parts_least}
-use Rattle.spellings.specs.declared.outline.Outline.{Outline}
-use Rattle.spellings.specs.Outlines.{slot_of}
-use Rattle.spellings.specs.Spelled.{fits_outline, settled_roles, Verdict}
+use Rattle.spelling_table.specs.declared.outline.Outline.{Outline}
+use Rattle.spelling_table.specs.Outlines.{slot_of}
+use Rattle.spelling_table.specs.Requirements.{fits_outline}
+use Rattle.spellings.specs.Spelled.{settled_roles, Verdict}
 use Rattle.spellings.specs.Remaining.{left}
 use Rattle.spellings.specs.Wherever.{NodeSpelling, with_own, IsSpelledWherever, spelled_roles}
 use Rattle.spellings.proofs.SlotSteps.{spelled_here}
 use Rattle.spellings.proofs.Slots.{is_plain, all_pass, parts_plain}
 use Rattle.cost_table.specs.declared.costs.Costs.{Costs}
 use Rattle.cost_table.specs.declared.table.Row.{Row}
-use Rattle.spellings.specs.declared.requirements.Requirements.{Requirements}
+use Rattle.spelling_table.specs.declared.requirements.Requirements.{Requirements}
 use Rattle.paren_planner.specs.declared.steps.NodeStep.{NodeStep}
 use Rattle.paren_planner.specs.declared.steps.Step.{Step}
 use Rattle.paren_planner.specs.declared.steps.Step.TheVariants.{Free, Leaf, Enter, Leave}
@@ -31,7 +32,7 @@ use Rattle.cost_table.specs.Costs.{capped, cells_at, no_pairs, is_free}
 use Rattle.cost_table.specs.Weighed.{settled_at, cost_of, fitting, sums_over, fits_spelled, slot_free, role_free, is_plain_outline}
 use Rattle.cost_table.specs.Rows.{row_of, is_expression, table_rows, parts_table}
 use Rattle.paren_planner.specs.Wrapped.{unwrapped, flags, parts_flags, inner_flags, HasRows}
-use Rattle.spellings.specs.Cursors.{requirements_of}
+use Rattle.spelling_table.specs.Requirements.{requirements_of}
 use Rattle.paren_planner.specs.Steps.{outline_of, stands_at, has_row_at}
 use Rattle.paren_planner.specs.Noted.{IsVisit, are_free, Steps, unspelled, alone, around, costless, hidden, through, is_settled_slot, is_fixed, are_fixed, PartsSteps, over, skipped, unplaced, next}
 use Rattle.paren_planner.specs.Marked.{Round, Marks, meets, wants, around_parts, flag_at, round_at, plain_round, flag_of, round_of, marked, marked_through, at_the_start}

@@ -4,14 +4,14 @@ use Rattle.tree.specs.declared.kind.Kind.{Kind}
 use Rattle.language.specs.Pieces.{Role, Slot}
 use Rattle.language.specs.Pieces as role
 use Rattle.language.specs.RowPositions.{widest}
-use Rattle.spellings.specs.declared.outline.Outline.{Outline}
-use Rattle.spellings.specs.Outlines.{role_of, slot_of}
+use Rattle.spelling_table.specs.declared.outline.Outline.{Outline}
+use Rattle.spelling_table.specs.Outlines.{role_of, slot_of}
 use Rattle.cost_table.specs.Costs.{no_pairs}
 use Rattle.cost_table.specs.Weighed.{is_plain_outline, slot_free, settled_at, uses, fitting}
 use Rattle.cost_table.specs.Packed.{shaped, free_shape}
 use Rattle.cost_table.specs.Rows.{row_with}
 use Rattle.cost_table.proofs.Plainly.{free_costs, plain_uses}
-use Rattle.spellings.specs.declared.requirements.Requirements.{Requirements}
+use Rattle.spelling_table.specs.declared.requirements.Requirements.{Requirements}
 use Rattle.paren_planner.specs.declared.steps.NodeStep.{NodeStep}
 use Rattle.paren_planner.specs.Steps.{outline_of, place_of, has_row_at, weighed_as, used, row_of_visit}
 

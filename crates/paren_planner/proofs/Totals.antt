@@ -15,8 +15,9 @@ use Rattle.language.specs.Grammar.{ways, own_rank, own_in, own_start}
 use Rattle.language.specs.RowPositions.{first_roles, rows}
 use Rattle.language.specs.Layout.{some_way, exceeds, wants_pair, inside, wrapped_rows, parts_wrapped}
 use Rattle.language.specs.Cost.{add_cost, lesser, if_any, least, parts_least, cell, cell_position}
-use Rattle.spellings.specs.declared.outline.Outline.{Outline}
-use Rattle.spellings.specs.Spelled.{fits_outline, settled_roles, Verdict}
+use Rattle.spelling_table.specs.declared.outline.Outline.{Outline}
+use Rattle.spelling_table.specs.Requirements.{fits_outline}
+use Rattle.spellings.specs.Spelled.{settled_roles, Verdict}
 use Rattle.spellings.proofs.Wherever.{found_roles, AnySpelling, any_spelling}
 use Rattle.cost_table.proofs.Known.{fits_cell}
 use Rattle.spellings.proofs.Slots.{is_plain, all_pass, parts_plain}

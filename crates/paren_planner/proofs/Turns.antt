@@ -10,7 +10,8 @@ use Rattle.language.specs.Grammar.{ways}
 use Rattle.language.specs.RowPositions.{first_roles, widest, has_row, rows, parts_rows}
 use Rattle.language.specs.Layout.{some_way, exceeds, wants_pair, inside}
 use Rattle.language.specs.Cost.{add_cost, cell, cell_position}
-use Rattle.spellings.specs.Spelled.{fits_outline, settled_roles, Verdict}
+use Rattle.spelling_table.specs.Requirements.{fits_outline}
+use Rattle.spellings.specs.Spelled.{settled_roles, Verdict}
 use Rattle.spellings.specs.Remaining.{left}
 use Rattle.spellings.specs.Wherever.{NodeSpelling, spelled_roles, IsSpelledWherever}
 use Rattle.spellings.proofs.SlotSteps.{spelled_here}

@@ -6,21 +6,21 @@ use Rattle.language.specs.RowPositions.{widest}
 use Rattle.std.specs.Prelude.{ℕ, ◌<◌, Result, IfOk, Ok, Err, length, set}
 use Rattle.std.proofs.Math.Seq.{set-append_seam}
 use Rattle.std.proofs.lemmas.Bool.{false≢true, and_parts}
-use Rattle.spellings.specs.declared.outline.FixedSlots.{FixedSlots}
-use Rattle.spellings.specs.declared.outline.FixedSlots.TheVariants as front
-use Rattle.spellings.specs.declared.outline.ListSlots.{ListSlots}
-use Rattle.spellings.specs.declared.outline.ListSlots.TheVariants as tail
-use Rattle.spellings.specs.declared.outline.Outline.{Outline}
+use Rattle.spelling_table.specs.declared.outline.FixedSlots.{FixedSlots}
+use Rattle.spelling_table.specs.declared.outline.FixedSlots.TheVariants as front
+use Rattle.spelling_table.specs.declared.outline.ListSlots.{ListSlots}
+use Rattle.spelling_table.specs.declared.outline.ListSlots.TheVariants as tail
+use Rattle.spelling_table.specs.declared.outline.Outline.{Outline}
 use Rattle.tree.specs.declared.kind.Kind.{Kind}
 use Rattle.language.specs.declared.Rank.TheVariants.{Primary}
-use Rattle.spellings.specs.Outlines.{slot_of, leaf}
+use Rattle.spelling_table.specs.Outlines.{slot_of, leaf}
 use Rattle.spellings.specs.Remaining.{left, slots_left, front_left}
 use Rattle.spellings.specs.Wherever.{NodeSpelling, IsSpelledWherever}
 use Rattle.paren_planner.specs.declared.steps.NodeStep.{NodeStep}
 use Rattle.paren_planner.specs.declared.steps.Step.{Step}
 use Rattle.paren_planner.specs.declared.steps.Step.TheVariants.{Free, Leaf, Enter, Leave}
 use Rattle.cost_table.specs.Weighed.{settled_at, slot_free, is_plain_outline}
-use Rattle.spellings.specs.Cursors.{requirements_of}
+use Rattle.spelling_table.specs.Requirements.{requirements_of}
 use Rattle.paren_planner.specs.Steps.{nowhere, has_row_at}
 use Rattle.paren_planner.specs.Noted.{IsVisit, is_settled_slot, is_fixed, are_fixed, fixed_front, fixed_tail, fixed_outline, is_free_step, are_free, Steps, unspelled, alone, around, costless, hidden, through, PartsSteps, over, skipped, unplaced, next, Noted, PartsNoted}
 

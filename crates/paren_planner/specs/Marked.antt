@@ -2,10 +2,10 @@
 use Rattle.std.specs.Prelude.{Bool, true, false, not, cond, ◌&&◌, List, [], ◌∷◌, ◌++◌, length, slice_get, map, reverse, Option, Some, None}
 use Rattle.language.specs.Pieces.{Role, script}
 use Rattle.language.specs.Layout.{exceeds, inside}
-use Rattle.spellings.specs.Outlines.{role_of, slot_of}
-use Rattle.spellings.specs.Spelled.{fits_outline}
+use Rattle.spelling_table.specs.Outlines.{role_of, slot_of}
+use Rattle.spelling_table.specs.Requirements.{fits_outline}
 use Rattle.cost_table.specs.declared.costs.Costs.{Costs}
-use Rattle.spellings.specs.declared.requirements.Requirements.{Requirements}
+use Rattle.spelling_table.specs.declared.requirements.Requirements.{Requirements}
 use Rattle.paren_planner.specs.declared.steps.NodeStep.{NodeStep}
 use Rattle.paren_planner.specs.declared.steps.Step.{Step}
 use Rattle.paren_planner.specs.declared.steps.Step.TheVariants.{Free, Leaf, Enter, Leave}

@@ -3,19 +3,19 @@ use Rattle.std.specs.Prelude.{◌≡◌, Bool, true, false, ◌&&◌, List, [], 
 use Rattle.tree.specs.Tree.{Tree, Parts, none, part, gap, kind_of, parts_of}
 use Rattle.language.specs.Pieces.{Role, expr, chain_part, pattern, Slot, fixed}
 use Rattle.language.specs.RowPositions.{widest}
-use Rattle.spellings.specs.declared.outline.FixedSlots.{FixedSlots}
-use Rattle.spellings.specs.declared.outline.FixedSlots.TheVariants as front
-use Rattle.spellings.specs.declared.outline.ListSlots as tails
-use Rattle.spellings.specs.declared.outline.ListSlots.TheVariants as tail
-use Rattle.spellings.specs.declared.outline.Outline.{Outline}
-use Rattle.spellings.specs.Outlines.{role_of, slot_of}
+use Rattle.spelling_table.specs.declared.outline.FixedSlots.{FixedSlots}
+use Rattle.spelling_table.specs.declared.outline.FixedSlots.TheVariants as front
+use Rattle.spelling_table.specs.declared.outline.ListSlots as tails
+use Rattle.spelling_table.specs.declared.outline.ListSlots.TheVariants as tail
+use Rattle.spelling_table.specs.declared.outline.Outline.{Outline}
+use Rattle.spelling_table.specs.Outlines.{role_of, slot_of}
 use Rattle.spellings.specs.Remaining.{left}
 use Rattle.spellings.specs.Wherever.{NodeSpelling, IsSpelledWherever}
 use Rattle.paren_planner.specs.declared.steps.NodeStep.{NodeStep}
 use Rattle.paren_planner.specs.declared.steps.Step.{Step}
 use Rattle.paren_planner.specs.declared.steps.Step.TheVariants.{Free, Leaf, Enter, Leave}
 use Rattle.cost_table.specs.Weighed.{settled_at, slot_free, is_plain_outline}
-use Rattle.spellings.specs.Cursors.{requirements_of}
+use Rattle.spelling_table.specs.Requirements.{requirements_of}
 use Rattle.paren_planner.specs.Steps.{nowhere, has_row_at}
 
 -- it is a visit to this node, at a slot of a node at a position

@@ -3,15 +3,15 @@ use Rattle.std.specs.Prelude.{Bool, true, false, cond, List, [], ◌∷◌, ◌+
 use Rattle.tree.specs.declared.kind.Kind.{Kind}
 use Rattle.language.specs.Pieces.{Role, Slot, fixed, lead_chain, lead_pattern}
 use Rattle.language.specs.RowPositions.{widest}
-use Rattle.spellings.specs.declared.position.Position.TheVariants as at
-use Rattle.spellings.specs.declared.position.Slot.TheVariants.{Fixed}
-use Rattle.spellings.specs.declared.outline.Outline.{Outline}
+use Rattle.spelling_table.specs.declared.position.Position.TheVariants as at
+use Rattle.spelling_table.specs.declared.position.Slot.TheVariants.{Fixed}
+use Rattle.spelling_table.specs.declared.outline.Outline.{Outline}
 use Rattle.language.specs.declared.Rank.{Rank}
-use Rattle.spellings.specs.declared.outline.FixedSlots.TheVariants.{Zero}
-use Rattle.spellings.specs.declared.outline.ListSlots.TheVariants.{Nothing}
-use Rattle.spellings.specs.Outlines.{role_of, slot_of}
+use Rattle.spelling_table.specs.declared.outline.FixedSlots.TheVariants.{Zero}
+use Rattle.spelling_table.specs.declared.outline.ListSlots.TheVariants.{Nothing}
+use Rattle.spelling_table.specs.Outlines.{role_of, slot_of}
 use Rattle.cost_table.specs.declared.costs.Costs as own
-use Rattle.spellings.specs.declared.requirements.Requirements.{Requirements}
+use Rattle.spelling_table.specs.declared.requirements.Requirements.{Requirements}
 use Rattle.paren_planner.specs.declared.steps.NodeStep.{NodeStep}
 use Rattle.paren_planner.specs.declared.steps.Step.{Step}
 use Rattle.paren_planner.specs.declared.steps.Step.TheVariants.{Free, Leaf, Enter, Leave}

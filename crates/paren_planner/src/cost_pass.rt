@@ -1,7 +1,7 @@
 //! What the nodes of a script cost, from the last step of a walk to the first: parts before the node that they are parts of.
 
 ghost use Rattle.std.specs.Prelude.{◌≡◌, [], ◌∷◌, ◌++◌, cond, OnOk, IfOk, IfSome};
-ghost use Rattle.spellings.specs.Outlines.{slot_of};
+ghost use Rattle.spelling_table.specs.Outlines.{slot_of};
 ghost use Rattle.cost_table.specs.Packed.{free_shape, shaped};
 ghost use Rattle.paren_planner.specs.Pending.{here_of, shown_sums, AreHeld};
 ghost use Rattle.cost_table.specs.Rows.{row_with};

@@ -1,14 +1,14 @@
 //! The sums over the parts of open nodes. Most are nothing, and those take no room.
 
 ghost use Rattle.std.specs.Prelude.{◌≡◌, [], ◌∷◌, true, reverse, OnOk};
-ghost use Rattle.spellings.specs.Outlines.{role_of, slot_of};
+ghost use Rattle.spelling_table.specs.Outlines.{role_of, slot_of};
 ghost use Rattle.cost_table.specs.Costs.{sums as sums_of, no_pairs, IsHeld};
 ghost use Rattle.paren_planner.specs.Pending.{here_of, outer_of};
 ghost use Rattle.paren_planner.specs.Steps.{innermost, others};
 ghost use Rattle.cost_table.specs.Weighed.{uses as uses_of};
 
 use cost_table::{Costs, NodeCosts, is_free, uses};
-use spellings::{Position, Slot};
+use spelling_table::{Position, Slot};
 use std::alloc::{AllocError, Global};
 
 /// The sums over the parts of the innermost open node that were seen, and of those round it.

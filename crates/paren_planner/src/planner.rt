@@ -15,7 +15,7 @@ use crate::steps::Steps;
 use crate::wrap_pass::wrap_pass;
 use crate::wrap_plan::Plan;
 use cost_table::CostTable;
-use spellings::{Position, Slot};
+use spelling_table::{Position, Slot};
 use std::alloc::{AllocError, Global};
 use tree::Program;
 

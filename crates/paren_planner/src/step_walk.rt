@@ -6,11 +6,11 @@ ghost use Rattle.tree.specs.Tree.{kind_of, parts_of};
 ghost use Rattle.language.specs.Expressions.{has_optional, first_has_optional};
 ghost use Rattle.language.specs.RowPositions.{widest};
 ghost use Rattle.language.specs.Pieces.{Role};
-ghost use Rattle.spellings.specs.Outlines.{role_of, slot_of};
+ghost use Rattle.spelling_table.specs.Outlines.{role_of, slot_of};
 ghost use Rattle.spellings.specs.Remaining.{left};
 ghost use Rattle.spellings.specs.Wherever.{spelled_by};
 ghost use Rattle.paren_planner.specs.declared.steps.Step.TheVariants.{Leaf};
-ghost use Rattle.spellings.specs.Productions.{outline_of};
+ghost use Rattle.spelling_table.specs.Productions.{outline_of};
 ghost use Rattle.paren_planner.specs.Noted.{Noted, PartsNoted, is_settled_slot, fixed_outline};
 ghost use Rattle.language.specs.declared.Rank.TheVariants.{Primary};
 ghost use Rattle.paren_planner.specs.Steps.{nowhere};
@@ -20,9 +20,8 @@ use crate::steps::{NodeStep, Step, Steps, has_row};
 use cost_table::{WHOLE, widest};
 use grammar::accepts_rank;
 use language::{Rank, Start};
-use spellings::{
-    Position, Production, Slot, SlotCursor, holds_chain, is_leaf, leads_chain, node_production,
-};
+use spelling_table::{Position, Production, Slot};
+use spellings::{SlotCursor, holds_chain, is_leaf, leads_chain, node_production};
 use std::alloc::AllocError;
 use tree::{Kind, Node};
 

@@ -1,7 +1,7 @@
 //! The steps of a walk over a script: its nodes in source order, a node before its parts, and what the planner has to know of each.
 
 ghost use Rattle.std.specs.Prelude.{◌≡◌, true};
-ghost use Rattle.spellings.specs.Outlines.{role_of, slot_of};
+ghost use Rattle.spelling_table.specs.Outlines.{role_of, slot_of};
 ghost use Rattle.paren_planner.specs.Steps.{outline_of, place_of, has_row_at};
 ghost use Rattle.cost_table.specs.Weighed.{is_plain_outline, role_free, slot_free};
 
@@ -9,7 +9,7 @@ use cost_table::{is_plain, widest};
 use grammar::accepts_rank;
 use language::Rank;
 use segmented_vec::SegmentedVec;
-use spellings::{Outline, Position, Requirements, Slot, resolve_slot};
+use spelling_table::{Outline, Position, Requirements, Slot, resolve_slot};
 use tree::Kind;
 
 /// An outline that requires the same, of no parts.

@@ -20,17 +20,17 @@ use Rattle.language.specs.Expressions.{first_has_optional}
 use Rattle.grammar.specs.declared.operators.Operation.{Operation}
 use Rattle.grammar.specs.declared.operators.Operation.TheVariants.{Binds, Powers}
 use Rattle.grammar.specs.Operations.{operation_at}
-use Rattle.spellings.specs.declared.position.Position.{Position}
-use Rattle.spellings.specs.declared.position.Position.TheVariants as at
-use Rattle.spellings.specs.declared.position.PartAt.{PartAt}
-use Rattle.spellings.specs.declared.position.PartAt.TheVariants.{Past, Gap, Part}
-use Rattle.spellings.specs.declared.position.Slot.TheVariants.{Fixed, Lead, Callee, LeadSpine, LeadPattern}
-use Rattle.spellings.specs.declared.position.Slot.TheVariants as slot
-use Rattle.spellings.specs.declared.outline.FixedSlots.TheVariants.{Zero, One, Two}
-use Rattle.spellings.specs.declared.outline.ListSlots.{ListSlots}
-use Rattle.spellings.specs.declared.outline.ListSlots.TheVariants as tail
-use Rattle.spellings.specs.declared.outline.Outline.{Outline}
-use Rattle.spellings.specs.Outlines.{role_of, slot_of, whole_at, bound_at, default_at, element_at, listed_at, tail_slots, going, before, leaf, fronted, lined}
+use Rattle.spelling_table.specs.declared.position.Position.{Position}
+use Rattle.spelling_table.specs.declared.position.Position.TheVariants as at
+use Rattle.spellings.specs.declared.parts.PartAt.{PartAt}
+use Rattle.spellings.specs.declared.parts.PartAt.TheVariants.{Past, Gap, Part}
+use Rattle.spelling_table.specs.declared.position.Slot.TheVariants.{Fixed, Lead, Callee, LeadSpine, LeadPattern}
+use Rattle.spelling_table.specs.declared.position.Slot.TheVariants as slot
+use Rattle.spelling_table.specs.declared.outline.FixedSlots.TheVariants.{Zero, One, Two}
+use Rattle.spelling_table.specs.declared.outline.ListSlots.{ListSlots}
+use Rattle.spelling_table.specs.declared.outline.ListSlots.TheVariants as tail
+use Rattle.spelling_table.specs.declared.outline.Outline.{Outline}
+use Rattle.spelling_table.specs.Outlines.{role_of, slot_of, whole_at, bound_at, default_at, element_at, listed_at, tail_slots, going, before, leaf, fronted, lined}
 use Rattle.spellings.specs.Entries.{entry_at, text_at, around}
 use Rattle.spellings.specs.Expressions.{kind_at, is_past, assigned, function_outline, class_outline, expression_outline, binary_outline, logical_outline}
 use Rattle.spellings.specs.Others.{leaf_if, is_chunk, is_key_class, name_outline, key_outline, quoted_outline, quasi_outline, form_outline, keyed_at, echo_outline, pattern_form_outline, defaulted, one_at, linked_by, getter_outline, setter_outline, set_at, plain_method_outline, method_of, fits_form}

@@ -6,7 +6,7 @@ use Rattle.tree.specs.Tree.{Parts, none, part, gap, part_count}
 use Rattle.tokens.specs.declared.token.TokenClass.TheVariants.{NumericLiteral}
 use Rattle.language.specs.Pieces.{is_none}
 use Rattle.language.specs.Vocabulary.{is_open_number}
-use Rattle.spellings.specs.Outlines.{parts_after}
+use Rattle.spelling_table.specs.Outlines.{parts_after}
 
 filled_none : (i : ℕ) → false ≡ not (is_none (parts_after i none))
 filled_none zero = refl

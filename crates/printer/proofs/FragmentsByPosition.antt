@@ -5,8 +5,8 @@ use Rattle.tree.specs.declared.kind.Kind.TheVariants as kind
 use Rattle.tree.specs.declared.kind.Flags.{Flags}
 use Rattle.tree.specs.Tree.{Parts}
 use Rattle.language.specs.Pieces.{is_none}
-use Rattle.spellings.specs.declared.position.Position.{Position}
-use Rattle.spellings.specs.declared.position.Position.TheVariants as at
+use Rattle.spelling_table.specs.declared.position.Position.{Position}
+use Rattle.spelling_table.specs.declared.position.Position.TheVariants as at
 use Rattle.printer.specs.Bits.{chunk, Shape, fronted}
 use Rattle.printer.specs.Shapes.{expression_shape, method_shape, head_shape}
 

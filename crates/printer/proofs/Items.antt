@@ -4,7 +4,7 @@ use Rattle.std.specs.Prelude.{Option, Some, None, option_map, is_some, is_none a
 use Rattle.std.proofs.lemmas.Bool.Decides.{nat_tests}
 use Rattle.tree.specs.Tree.{Tree, Parts, none, part, gap, part_at, part_count, kind_of, parts_of}
 use Rattle.language.specs.Pieces.{Role, is_none}
-use Rattle.spellings.specs.Outlines.{role_of, parts_after, is_before_last}
+use Rattle.spelling_table.specs.Outlines.{role_of, parts_after, is_before_last}
 use Rattle.spellings.proofs.PartsAfter.{some-suc, gap-suc, behind-past, last-behind, before-behind}
 use Rattle.printer.specs.Bits.{Mark, here, Bit, Chain, before_bits, after_bits}
 use Rattle.printer.specs.Sheets.{View, Writes, flag_at}
@@ -18,7 +18,7 @@ use Rattle.tree.specs.declared.node_use.NodeUse.{NodeUse}
 use Rattle.row_laws.specs.Agreements.{agrees}
 use Rattle.printer.specs.Sites.{site_of, seated_at, after_first, CanStand, Seats, UsesAgree, Stands}
 use Rattle.printer.specs.Printed.{marks_in, front_marks, chain_marks, deep, shape_marks, Reads, Passed, Gone, Written, Printed}
-use Rattle.spellings.specs.declared.position.Position.{Position}
+use Rattle.spelling_table.specs.declared.position.Position.{Position}
 use Rattle.spellings.proofs.Wherever.{position_of, role-position}
 use Rattle.printer.proofs.NodeFragments.{passed_nothing, passed_bits, passed_then, passed_deep, passed_all, passed_some, passed_missing, raised, no_position_left}
 use Rattle.printer.proofs.Nodes.{can_stand}

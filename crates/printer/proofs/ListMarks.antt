@@ -108,9 +108,9 @@ module _ (w : List ℕ) where
   listed-marks f h (gap ps) qs r = absurd (false≢true r)
   listed-marks f h (part n ps) qs r =
       one_append (f n ∷ separator (kind_of n) (is_none ps)) (listed f ps) qs _ (
-      one_element (f n) (h n) (kind_of n) (is_none ps) (Rattle.spellings.specs.Outlines.is_before_last ps) (listed f ps ++ qs) (chain_marks w commas ps ++ marks_of qs) (λ v. listed-marks f h ps qs v)
+      one_element (f n) (h n) (kind_of n) (is_none ps) (Rattle.spelling_table.specs.Outlines.is_before_last ps) (listed f ps ++ qs) (chain_marks w commas ps ++ marks_of qs) (λ v. listed-marks f h ps qs v)
       (run_append (f n ∷ separator (kind_of n) (is_none ps)) (listed f ps) qs r)
-      ∙ marks_append here (marks_in w (Rattle.printer.specs.Bits.after_bits commas false (is_none ps) (Rattle.spellings.specs.Outlines.is_before_last ps))) (chain_marks w commas ps) (marks_of qs))
+      ∙ marks_append here (marks_in w (Rattle.printer.specs.Bits.after_bits commas false (is_none ps) (Rattle.spelling_table.specs.Outlines.is_before_last ps))) (chain_marks w commas ps) (marks_of qs))
 
   one_hole : (v b : Bool) (us qs : List Piece) (ms : List Mark) → (Runs (us ++ qs) → marks_of (us ++ qs) ≡ ms ++ marks_of qs) → Runs (((absent ∷ sign "," ∷ cond v [] (sp ∷ [])) ++ us) ++ qs) →
       marks_of (((absent ∷ sign "," ∷ cond v [] (sp ∷ [])) ++ us) ++ qs) ≡ (here ∷ (marks_in w (Rattle.printer.specs.Bits.after_bits commas true v b) ++ ms)) ++ marks_of qs
@@ -119,12 +119,12 @@ module _ (w : List ℕ) where
 
   pub elements-marks : (f : Tree → Piece) → ((n : Tree) → Standing (f n)) → (ps : Parts) (qs : List Piece) → Runs (elements f ps ++ qs) → marks_of (elements f ps ++ qs) ≡ chain_marks w commas ps ++ marks_of qs
   elements-marks f h none qs r = refl
-  elements-marks f h (gap ps) qs r = one_hole (is_none ps) (Rattle.spellings.specs.Outlines.is_before_last ps) (elements f ps) qs (chain_marks w commas ps) (λ v. elements-marks f h ps qs v) r
+  elements-marks f h (gap ps) qs r = one_hole (is_none ps) (Rattle.spelling_table.specs.Outlines.is_before_last ps) (elements f ps) qs (chain_marks w commas ps) (λ v. elements-marks f h ps qs v) r
   elements-marks f h (part n ps) qs r =
       one_append (f n ∷ separator (kind_of n) (is_none ps)) (elements f ps) qs _ (
-      one_element (f n) (h n) (kind_of n) (is_none ps) (Rattle.spellings.specs.Outlines.is_before_last ps) (elements f ps ++ qs) (chain_marks w commas ps ++ marks_of qs) (λ v. elements-marks f h ps qs v)
+      one_element (f n) (h n) (kind_of n) (is_none ps) (Rattle.spelling_table.specs.Outlines.is_before_last ps) (elements f ps ++ qs) (chain_marks w commas ps ++ marks_of qs) (λ v. elements-marks f h ps qs v)
       (run_append (f n ∷ separator (kind_of n) (is_none ps)) (elements f ps) qs r)
-      ∙ marks_append here (marks_in w (Rattle.printer.specs.Bits.after_bits commas false (is_none ps) (Rattle.spellings.specs.Outlines.is_before_last ps))) (chain_marks w commas ps) (marks_of qs))
+      ∙ marks_append here (marks_in w (Rattle.printer.specs.Bits.after_bits commas false (is_none ps) (Rattle.spelling_table.specs.Outlines.is_before_last ps))) (chain_marks w commas ps) (marks_of qs))
 
   -- parameters, and what stands behind them
   pub parameters-marks : (xs : List Bit) (after : List Piece) → marks_of after ≡ marks_in w xs ++ here ∷ [] → (ps : Parts) → Runs (parameters after ps) → marks_of (parameters after ps) ≡ chain_marks w (parameter_chain xs) ps

@@ -5,7 +5,7 @@ use Rattle.tree.specs.Tree.{Tree, Parts, none, part, gap, part_at}
 use Rattle.language.specs.Pieces.{Role}
 use Rattle.language.specs.RowPositions.{rows, parts_rows}
 use Rattle.language.specs.Layout.{layout}
-use Rattle.spellings.specs.Outlines.{parts_after}
+use Rattle.spelling_table.specs.Outlines.{parts_after}
 use Rattle.spellings.proofs.PartsAfter.{some-suc}
 use Rattle.printer.specs.Bits.{Mark, here, shallower, Bit, token, own_text, newline, feeding, loosely, chunk, Chain, nothing, joined, commas, lines, feeds, parameters}
 use Rattle.printer.specs.Shapes.{inner}

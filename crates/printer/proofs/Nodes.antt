@@ -8,9 +8,9 @@ use Rattle.language.specs.Pieces.{Role, expr, script, is_none}
 use Rattle.language.specs.Grammar.{ways}
 use Rattle.language.specs.RowPositions.{has_row, rows, parts_rows}
 use Rattle.language.specs.Layout.{inside, layout}
-use Rattle.spellings.specs.declared.position.Position.{Position}
-use Rattle.spellings.specs.declared.position.Position.TheVariants as at
-use Rattle.spellings.specs.Outlines.{role_of, parts_after}
+use Rattle.spelling_table.specs.declared.position.Position.{Position}
+use Rattle.spelling_table.specs.declared.position.Position.TheVariants as at
+use Rattle.spelling_table.specs.Outlines.{role_of, parts_after}
 use Rattle.printer.specs.declared.fragments.SignOperator.{SignOperator}
 use Rattle.printer.specs.Bits.{here}
 use Rattle.printer.specs.Shapes.{sign_of_text}

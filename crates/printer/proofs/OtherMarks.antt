@@ -16,7 +16,7 @@ use Rattle.language.specs.Expressions.{chain_parts, member_link, call_link, argu
 use Rattle.language.specs.Statements.{statements, items, openings, braced, lines as table_lines, prologue, member_lines, members, class_members, heads, declarator_ways, cases, handlers, declaration, declarators, is_declaration, for_left, whole, end_of}
 use Rattle.language.specs.Edges.{last_edge, ends_in_if}
 use Rattle.language.specs.Grammar.{can_run}
-use Rattle.spellings.specs.Outlines.{parts_after}
+use Rattle.spelling_table.specs.Outlines.{parts_after}
 use Rattle.printer.specs.Bits.{Mark, text, here, deeper, marks_of, nothing, lines, fronted}
 use Rattle.printer.specs.Shapes.{expression_shape, method_shape, head_shape}
 use Rattle.printer.specs.Printed.{marks_in, front_marks, chain_marks, shape_marks}

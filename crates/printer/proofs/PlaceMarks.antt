@@ -18,9 +18,9 @@ use Rattle.language.specs.Pieces.{Role, Piece, Slot, Spelling, at, only, only_at
 use Rattle.language.specs.Expressions.{chain_parts, member_link, call_link, arguments, in_brackets, first_has_optional, properties, pattern_properties, keyed, object_pattern_part, shorthand_pattern, assignment, methods}
 use Rattle.language.specs.Statements.{prologue, members, class_members, heads, declarator_ways, cases, handlers, declaration, declarators}
 use Rattle.language.specs.Grammar.{spellings, can_run, keys, names, words, shorthand_keys, bases, directive_strings, tagged_quasis, template_parts, patterns, elements_with_default, rests}
-use Rattle.spellings.specs.declared.position.Position.{Position}
-use Rattle.spellings.specs.declared.position.Position.TheVariants as at_place
-use Rattle.spellings.specs.Outlines.{role_of, parts_after}
+use Rattle.spelling_table.specs.declared.position.Position.{Position}
+use Rattle.spelling_table.specs.declared.position.Position.TheVariants as at_place
+use Rattle.spelling_table.specs.Outlines.{role_of, parts_after}
 use Rattle.printer.specs.Bits.{Mark, text, line, here, deeper, shallower, marks_of, Bit, Chain, nothing, commas, lines, Shape, fronted}
 use Rattle.printer.specs.Shapes.{expression_shape, method_shape, head_shape, sign_at, property_shape, class_member_shape, case_shape, catch_shape, declarator_shape, member_shape, call_shape}
 use Rattle.printer.proofs.FragmentsByPosition.{shape_by}

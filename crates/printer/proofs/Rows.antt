@@ -13,12 +13,13 @@ use Rattle.language.specs.Pieces.{Role, expr, chain_part, pattern, Slot, PieceOf
 use Rattle.language.specs.Grammar.{ways, own_rank, own_in, own_start}
 use Rattle.language.specs.RowPositions.{has_row, widest, rows, parts_rows, first_roles}
 use Rattle.language.specs.Layout.{some_way}
-use Rattle.spellings.specs.declared.position.Position.{Position}
-use Rattle.spellings.specs.declared.position.Position.TheVariants as at
-use Rattle.spellings.specs.declared.outline.Outline.{Outline}
-use Rattle.spellings.specs.Outlines.{role_of, opens_at, outline_slots}
+use Rattle.spelling_table.specs.declared.position.Position.{Position}
+use Rattle.spelling_table.specs.declared.position.Position.TheVariants as at
+use Rattle.spelling_table.specs.declared.outline.Outline.{Outline}
+use Rattle.spelling_table.specs.Outlines.{role_of, opens_at, outline_slots}
 use Rattle.spellings.specs.Positions.{outline_at}
-use Rattle.spellings.specs.Spelled.{fits_outline, settled_roles, outlined_roles, roles_by, Verdict}
+use Rattle.spelling_table.specs.Requirements.{fits_outline}
+use Rattle.spellings.specs.Spelled.{settled_roles, outlined_roles, roles_by, Verdict}
 use Rattle.spellings.proofs.Ways.{position_ways}
 
 pub rows-widest : (n : Tree) (a : Role) → rows n a ≡ rows n (widest a)

@@ -11,9 +11,9 @@ use Rattle.language.specs.Pieces.{Role, is_none}
 use Rattle.language.specs.Grammar.{ways}
 use Rattle.language.specs.RowPositions.{has_row, first_roles}
 use Rattle.language.specs.Layout.{some_way}
-use Rattle.spellings.specs.declared.position.Position.{Position}
-use Rattle.spellings.specs.declared.position.Position.TheVariants as at
-use Rattle.spellings.specs.Outlines.{role_of, whole_at}
+use Rattle.spelling_table.specs.declared.position.Position.{Position}
+use Rattle.spelling_table.specs.declared.position.Position.TheVariants as at
+use Rattle.spelling_table.specs.Outlines.{role_of, whole_at}
 use Rattle.printer.specs.declared.site.Site.{Site}
 use Rattle.printer.specs.declared.site.Site.TheVariants as site
 use Rattle.printer.specs.declared.part_sites.PartSites.{PartSites}

@@ -16,9 +16,9 @@ use Rattle.language.specs.Pieces as piece
 use Rattle.language.specs.Pieces.{Role, PieceOf}
 use Rattle.language.specs.Grammar.{ways}
 use Rattle.language.specs.Layout.{some_way}
-use Rattle.spellings.specs.declared.position.Position.{Position}
-use Rattle.spellings.specs.declared.position.Position.TheVariants as at
-use Rattle.spellings.specs.Outlines.{role_of, whole_at}
+use Rattle.spelling_table.specs.declared.position.Position.{Position}
+use Rattle.spelling_table.specs.declared.position.Position.TheVariants as at
+use Rattle.spelling_table.specs.Outlines.{role_of, whole_at}
 use Rattle.spellings.specs.Entries.{around}
 use Rattle.spellings.specs.Expressions.{Around, expression_outline}
 use Rattle.spellings.specs.Others.{leaf_if, is_chunk, pattern_outline}

@@ -16,16 +16,17 @@ use Rattle.language.specs.Pieces.{Role, Slot, PieceOf, expr, is_none, settle}
 use Rattle.language.specs.Grammar.{ways, own_rank, own_in, own_start}
 use Rattle.language.specs.RowPositions.{first_roles}
 use Rattle.language.specs.Layout.{some_way}
-use Rattle.spellings.specs.declared.position.Position.{Position}
-use Rattle.spellings.specs.declared.position.Position.TheVariants as at
-use Rattle.spellings.specs.declared.position.Slot as own
-use Rattle.spellings.specs.declared.outline.FixedSlots.{FixedSlots}
-use Rattle.spellings.specs.declared.outline.FixedSlots.TheVariants.{Zero, One, Two, Three, Four}
-use Rattle.spellings.specs.declared.outline.ListSlots.{ListSlots}
-use Rattle.spellings.specs.declared.outline.ListSlots.TheVariants as tail
-use Rattle.spellings.specs.declared.outline.Outline.{Outline}
-use Rattle.spellings.specs.Outlines.{role_of, slot_of, assignment_at, bound_at, default_at, element_at, argument_at, object_part_at, pattern_part_at, listed_at, tail_at, tail_slots, part_of_tail, is_over, skips_gap, may_end, before, going, parts_after, is_before_last, outline_slots}
-use Rattle.spellings.specs.Spelled.{fits_outline, settled_roles, roles_by, Verdict}
+use Rattle.spelling_table.specs.declared.position.Position.{Position}
+use Rattle.spelling_table.specs.declared.position.Position.TheVariants as at
+use Rattle.spelling_table.specs.declared.position.Slot as own
+use Rattle.spelling_table.specs.declared.outline.FixedSlots.{FixedSlots}
+use Rattle.spelling_table.specs.declared.outline.FixedSlots.TheVariants.{Zero, One, Two, Three, Four}
+use Rattle.spelling_table.specs.declared.outline.ListSlots.{ListSlots}
+use Rattle.spelling_table.specs.declared.outline.ListSlots.TheVariants as tail
+use Rattle.spelling_table.specs.declared.outline.Outline.{Outline}
+use Rattle.spelling_table.specs.Outlines.{role_of, slot_of, assignment_at, bound_at, default_at, element_at, argument_at, object_part_at, pattern_part_at, listed_at, tail_at, tail_slots, part_of_tail, is_over, skips_gap, may_end, before, going, parts_after, is_before_last, outline_slots}
+use Rattle.spelling_table.specs.Requirements.{fits_outline}
+use Rattle.spellings.specs.Spelled.{settled_roles, roles_by, Verdict}
 use Rattle.printer.specs.declared.site.SiteRule.{SiteRule}
 use Rattle.printer.specs.declared.site.SiteRule.TheVariants.{AtEcho, AtChunk, AtMethod, AtPlain, Told}
 use Rattle.printer.specs.declared.part_sites.PartSites.{PartSites}
@@ -169,7 +170,7 @@ parameter_steps : (s : SiteRule) (x : own.Slot) (k : Kind) (u bl : Bool) → eac
 parameter_steps s x k true bl h = ((both (allows s (slot_of x)) (element_allowed s true) h).0, refl)
 parameter_steps s x k false bl h = listed_steps s (element_at true k) k bl (tail.Parameters x) h (element_seated s true k (both (allows s (slot_of x)) (element_allowed s true) h).1)
 
-item_steps : (s : SiteRule) (r b d : Bool) → each s (tail.Prologue r b) ≡ true → Steps s (Some (Rattle.spellings.specs.Outlines.item_at r b d))
+item_steps : (s : SiteRule) (r b d : Bool) → each s (tail.Prologue r b) ≡ true → Steps s (Some (Rattle.spelling_table.specs.Outlines.item_at r b d))
 item_steps s r true d h = ((both (allowed s (piece.opening r)) (allowed s (piece.item r)) h).0, h)
 item_steps s r false d h = ((both (allowed s (piece.opening r)) (allowed s (piece.item r)) h).1, h)
 
@@ -246,7 +247,7 @@ module _ (y : Rank) (i : Bool) (f : Start) where
       ended c (is_over t) (going (λ u. tail_slots u ps) (part_of_tail t n ps))
       (going_allowed c ps (part_of_tail t n ps) (λ e u k. tail_allowed e u ps k) (tail_steps c.next t _ _ _ _ a.0) (tail_steps c.others t _ _ _ _ a.1))
 
-  front_allowed : (c : PartSites) (v : FixedSlots) (t : ListSlots) (ps : Parts) → front_suits c v (λ d. eachs d t) ≡ true → AllAllowed c (Rattle.spellings.specs.Outlines.front_before v (tail_slots t ps))
+  front_allowed : (c : PartSites) (v : FixedSlots) (t : ListSlots) (ps : Parts) → front_suits c v (λ d. eachs d t) ≡ true → AllAllowed c (Rattle.spelling_table.specs.Outlines.front_before v (tail_slots t ps))
   front_allowed c Zero t ps h = tail_allowed c t ps h
   front_allowed c (One a) t ps h = let p = both _ _ h in before_allowed c (slot_of a) _ p.0 (tail_allowed (after_first c) t ps p.1)
   front_allowed c (Two a b) t ps h =

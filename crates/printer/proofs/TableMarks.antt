@@ -18,7 +18,7 @@ use Rattle.language.specs.Expressions.{expressions, arguments, selector, after_n
 use Rattle.language.specs.Grammar.{can_run}
 use Rattle.language.proofs.table.LooserPositions.{same}
 use Rattle.language.proofs.table.TidyTable.{new-fits, arrow-fits}
-use Rattle.spellings.specs.Outlines.{parts_after}
+use Rattle.spelling_table.specs.Outlines.{parts_after}
 use Rattle.printer.specs.Bits.{Mark, text, here, loose, apart, marks_of, Bit, own_text, Chain, nothing, commas, joined, Shape, fronted}
 use Rattle.printer.specs.Shapes.{expression_shape, sign_of_text, sign_at, spelled, gapped, close_space, between, infix_bits, is_single, after_open_number}
 use Rattle.printer.specs.declared.fragments.SignOperator.TheVariants.{Plus, Minus}

@@ -21,9 +21,9 @@ use Rattle.language.specs.Statements.{statements, items, openings}
 use Rattle.language.specs.Grammar.{ways, spellings}
 use Rattle.language.specs.RowPositions.{has_row, rows, roles, parts_rows, first_roles}
 use Rattle.language.specs.Layout.{some_way, first_way, layout, parts_layout}
-use Rattle.spellings.specs.declared.position.Position.{Position}
-use Rattle.spellings.specs.declared.position.Position.TheVariants as at
-use Rattle.spellings.specs.Outlines.{role_of, parts_after, is_before_last}
+use Rattle.spelling_table.specs.declared.position.Position.{Position}
+use Rattle.spelling_table.specs.declared.position.Position.TheVariants as at
+use Rattle.spelling_table.specs.Outlines.{role_of, parts_after, is_before_last}
 use Rattle.spellings.proofs.Bare.{none-bare, others-bare}
 use Rattle.printer.specs.declared.fragments.SignOperator.{SignOperator}
 use Rattle.printer.specs.declared.fragments.SignOperator.TheVariants.{Plus, Minus}

@@ -9,9 +9,9 @@ use Rattle.tree.specs.Tree.{Tree, node, Parts, none, part, gap, kind_of, text_of
 use Rattle.language.specs.Pieces.{Role, is_none}
 use Rattle.language.specs.Grammar.{ways}
 use Rattle.language.specs.LayoutFits.{parts_fit}
-use Rattle.spellings.specs.declared.position.Position.{Position}
-use Rattle.spellings.specs.declared.position.Position.TheVariants as at
-use Rattle.spellings.specs.Outlines.{role_of}
+use Rattle.spelling_table.specs.declared.position.Position.{Position}
+use Rattle.spelling_table.specs.declared.position.Position.TheVariants as at
+use Rattle.spelling_table.specs.Outlines.{role_of}
 use Rattle.printer.specs.Bits.{text, own_text, fronted}
 use Rattle.printer.specs.Shapes.{expression_shape, sign_at}
 use Rattle.printer.proofs.FragmentsByPosition.{shape_by, is_plain_at, is_word_at}

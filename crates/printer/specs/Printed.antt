@@ -4,7 +4,7 @@ use Rattle.tree.specs.Tree.{Tree, Parts, none, part, gap}
 use Rattle.language.specs.Pieces.{Role, PieceOf, is_none}
 use Rattle.language.specs.RowPositions.{rows, parts_rows, first_roles}
 use Rattle.language.specs.Layout.{some_way, indent, first_way, next_role, layout, parts_layout}
-use Rattle.spellings.specs.Outlines.{parts_after, is_before_last}
+use Rattle.spelling_table.specs.Outlines.{parts_after, is_before_last}
 use Rattle.printer.specs.Bits.{Mark, text, line, feed, deeper, shallower, loose, here, apart, Bit, token, own_text, newline, feeding, loosely, chunk, Chain, lines, Shape, before_bits, after_bits}
 use Rattle.language.specs.LayoutFits.{lines_up, parts_fit}
 use Rattle.printer.specs.Sheets.{View, Leads, flag_at, chunk_text, sign_code}

@@ -3,7 +3,7 @@
 ghost use Rattle.std.specs.Prelude.{◌≡◌, not};
 ghost use Rattle.tree.specs.Node.{node_tree};
 ghost use Rattle.tree.specs.Tree.{parts_of};
-ghost use Rattle.spellings.specs.Outlines.{parts_after};
+ghost use Rattle.spelling_table.specs.Outlines.{parts_after};
 ghost use Rattle.language.specs.Pieces.{is_none};
 ghost use Rattle.printer.specs.Shapes.{has_part as has_part_at};
 

@@ -7,10 +7,10 @@ use Rattle.language.specs.Pieces.{is_none}
 use Rattle.language.specs.Edges.{trails, ends_in_if, last_ends_in_if}
 use Rattle.language.specs.Statements.{defaults}
 use Rattle.language.specs.Expressions.{has_optional, first_has_optional, is_chain_part}
-use Rattle.spellings.specs.declared.position.Slot.{Slot}
-use Rattle.spellings.specs.declared.outline.ListSlots.{ListSlots}
-use Rattle.spellings.specs.declared.outline.Outline.{Outline}
-use Rattle.spellings.specs.Outlines.{tail_slots, tail_at, part_of_tail, is_before_last, going, is_over, skips_gap, parts_after, front_before, outline_slots}
+use Rattle.spelling_table.specs.declared.position.Slot.{Slot}
+use Rattle.spelling_table.specs.declared.outline.ListSlots.{ListSlots}
+use Rattle.spelling_table.specs.declared.outline.Outline.{Outline}
+use Rattle.spelling_table.specs.Outlines.{tail_slots, tail_at, part_of_tail, is_before_last, going, is_over, skips_gap, parts_after, front_before, outline_slots}
 use Rattle.spellings.specs.Entries.{entry_at, text_at, dangles_at, around}
 
 pub none-bare : (ps : Parts) → is_none (bare_parts ps) ≡ is_none ps
@@ -33,7 +33,7 @@ part_of_tail-bare t (node k w g s e us) ps = ap₂ (λ a b. tail_at t k g.direct
 
 going-alike : (f g : ListSlots → Option (List Rattle.language.specs.Pieces.Slot)) (u : Option (Slot × ListSlots)) → ((t : ListSlots) → f t ≡ g t) → going f u ≡ going g u
 going-alike f g None h = refl
-going-alike f g (Some x) h = ap (Rattle.spellings.specs.Outlines.before (Rattle.spellings.specs.Outlines.slot_of x.0)) (h x.1)
+going-alike f g (Some x) h = ap (Rattle.spelling_table.specs.Outlines.before (Rattle.spelling_table.specs.Outlines.slot_of x.0)) (h x.1)
 
 pub tail_slots-bare : (t : ListSlots) (ps : Parts) → tail_slots t (bare_parts ps) ≡ tail_slots t ps
 tail_slots-bare t none = refl

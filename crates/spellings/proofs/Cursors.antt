@@ -2,16 +2,17 @@
 use Rattle.std.proofs.Common.{◌≡◌, ℕ, zero, suc, ◌<◌, List, ◌∷◌, Option, Some, None, refl, sym, ap, ◌∙◌, arith}
 use Rattle.tree.specs.Tree.{Tree, Parts, none, part, gap, part_at, part_count}
 use Rattle.language.specs.Pieces as piece
-use Rattle.spellings.specs.declared.slot_cursor.SlotIndex.{SlotIndex}
-use Rattle.spellings.specs.declared.slot_cursor.SlotIndex.TheVariants.{First, Second, Third, Fourth, AfterAll}
+use Rattle.spelling_table.specs.declared.first_slots.SlotIndex.{SlotIndex}
+use Rattle.spelling_table.specs.declared.first_slots.SlotIndex.TheVariants.{First, Second, Third, Fourth, AfterAll}
 use Rattle.spellings.specs.declared.slot_cursor.SlotCursor.{SlotCursor}
-use Rattle.spellings.specs.declared.position.Slot.{Slot}
-use Rattle.spellings.specs.declared.outline.FixedSlots.{FixedSlots}
-use Rattle.spellings.specs.declared.outline.FixedSlots.TheVariants.{Zero, One, Two, Three, Four}
-use Rattle.spellings.specs.Outlines.{slot_of, parts_after}
-use Rattle.spellings.specs.Productions.{outline_of}
+use Rattle.spelling_table.specs.declared.position.Slot.{Slot}
+use Rattle.spelling_table.specs.declared.outline.FixedSlots.{FixedSlots}
+use Rattle.spelling_table.specs.declared.outline.FixedSlots.TheVariants.{Zero, One, Two, Three, Four}
+use Rattle.spelling_table.specs.Outlines.{slot_of, parts_after}
+use Rattle.spelling_table.specs.Productions.{outline_of}
 use Rattle.spellings.specs.Remaining.{front_left, slots_left}
-use Rattle.spellings.specs.Cursors.{first_of, others_of, front_from, slot_at, next_of, left_by, TakesSlot}
+use Rattle.spelling_table.specs.FirstSlots.{first_of, others_of, front_from, slot_at, next_of}
+use Rattle.spellings.specs.Cursors.{left_by, TakesSlot}
 
 -- The first slots
 

@@ -18,11 +18,11 @@ use Rattle.language.specs.Expressions.{expressions, arguments, selector, after_n
 use Rattle.language.specs.Grammar.{starts}
 use Rattle.language.proofs.table.LooserPositions.{same}
 use Rattle.language.proofs.table.TidyTable.{new-fits, arrow-fits}
-use Rattle.spellings.specs.declared.position.Position.TheVariants as position
-use Rattle.spellings.specs.declared.position.Slot.TheVariants as own
-use Rattle.spellings.specs.declared.outline.FixedSlots.TheVariants.{Zero, One, Two, Three}
-use Rattle.spellings.specs.declared.outline.ListSlots.TheVariants as tails
-use Rattle.spellings.specs.Outlines.{slot_of, before, tail_slots, opens_at, assignment_at, whole_at, leaf, fronted, lined}
+use Rattle.spelling_table.specs.declared.position.Position.TheVariants as position
+use Rattle.spelling_table.specs.declared.position.Slot.TheVariants as own
+use Rattle.spelling_table.specs.declared.outline.FixedSlots.TheVariants.{Zero, One, Two, Three}
+use Rattle.spelling_table.specs.declared.outline.ListSlots.TheVariants as tails
+use Rattle.spelling_table.specs.Outlines.{slot_of, before, tail_slots, opens_at, assignment_at, whole_at, leaf, fronted, lined}
 use Rattle.spellings.specs.Entries.{entry_at, text_at, around}
 use Rattle.grammar.specs.Operations.{operation, operation_at}
 use Rattle.spellings.specs.Expressions.{kind_at, is_past, expression_outline, selected, joined_outline, binary_outline, logical_outline, function_outline, class_outline, arrow_outline}
@@ -96,14 +96,14 @@ module _ (ps : Parts) where
   pub bracket_starts : (f : Start) (qs : List Piece) → starts f (sign "[" ∷ qs) ≡ true
   bracket_starts f qs = sign_starts f (codes "[") qs refl
 
-  member : (g : Flags) → (x : Slot) (y : Rattle.spellings.specs.declared.position.Slot.Slot) → x ≡ slot_of y → (qs : List Piece) → named qs ≡ named (selector g) → Outlined ps (at Member (sub x ∷ qs) ∷ []) (Some (fronted Member (Two y (selected g))))
+  member : (g : Flags) → (x : Slot) (y : Rattle.spelling_table.specs.declared.position.Slot.Slot) → x ≡ slot_of y → (qs : List Piece) → named qs ≡ named (selector g) → Outlined ps (at Member (sub x ∷ qs) ∷ []) (Some (fronted Member (Two y (selected g))))
   member g x y e qs h = fronts Member (Two y (selected g)) (sub x ∷ qs) (ap₂ (λ u v. before u v) e (h ∙ of g.computed)) (λ f. sub_starts f x qs)
     where
       of : (b : Bool) → named (cond b in_brackets (sign "." ∷ put piece.word ∷ [])) ≡ before (slot_of (own.Fixed (cond b whole_at position.IdentifierName))) (Some [])
       of true = refl
       of false = refl
 
-  call : (x : Slot) (y : Rattle.spellings.specs.declared.position.Slot.Slot) → x ≡ slot_of y → Outlined ps (at Call (sub x ∷ arguments (others ps)) ∷ []) (Some (lined Call (One y) (tails.Arguments false) 1))
+  call : (x : Slot) (y : Rattle.spelling_table.specs.declared.position.Slot.Slot) → x ≡ slot_of y → Outlined ps (at Call (sub x ∷ arguments (others ps)) ∷ []) (Some (lined Call (One y) (tails.Arguments false) 1))
   call x y e = lists Call (One y) (tails.Arguments false) 1 (sub x ∷ arguments (others ps)) (ap₂ (λ u v. before u v) e (arguments_names (others ps))) (λ f. sub_starts f x (arguments (others ps)))
 
   members : (g : Flags) → Outlined ps (expressions kind.MemberExpression [] g ps) (expression_outline kind.MemberExpression [] g (around ps))
@@ -170,7 +170,7 @@ module _ (ps : Parts) where
   join : (w : List ℕ) (z q : Rank) → Outlined ps (joined w z q ∷ []) (Some (joined_outline w z q))
   join w z q = one_way (record { rank = refl; needs_in = refl; opens = free; names = ap (λ x. before (left z) (before (tail q Any) x)) (sym (nothing_slots ps)) })
     where
-      free : (f : Start) → starts f (sub (left z) ∷ infix_pieces w ++ sub (tail q Any) ∷ []) ≡ opens_at f Rattle.spellings.specs.declared.outline.FirstToken.TheVariants.Other
+      free : (f : Start) → starts f (sub (left z) ∷ infix_pieces w ++ sub (tail q Any) ∷ []) ≡ opens_at f Rattle.spelling_table.specs.declared.outline.FirstToken.TheVariants.Other
       free Any = refl
       free NoBrace = refl
       free Statement = refl
@@ -186,7 +186,7 @@ module _ (ps : Parts) where
   logicals w (op_binary false z q) = no_way
   logicals w _ = no_way
 
-  assigns : (x : Slot) (y : Rattle.spellings.specs.declared.position.Slot.Slot) (w : List ℕ) → x ≡ slot_of y →
+  assigns : (x : Slot) (y : Rattle.spelling_table.specs.declared.position.Slot.Slot) (w : List ℕ) → x ≡ slot_of y →
       Outlined ps (at Assignment (sub x ∷ infix_pieces w ++ sub (tail Assignment Any) ∷ []) ∷ []) (Some (fronted Assignment (Two y (own.Tail Assignment Any))))
   assigns x y w e = fronts Assignment (Two y (own.Tail Assignment Any)) _ (ap (λ u. before u (Some (tail Assignment Any ∷ []))) e) (λ f. sub_starts f x _)
 
@@ -221,17 +221,17 @@ module _ (ps : Parts) where
 
 -- functions and classes
 
-function_opens : (f : Start) (qs : List Piece) → starts f (term "function" ∷ qs) ≡ opens_at f Rattle.spellings.specs.declared.outline.FirstToken.TheVariants.FunctionOrClass
+function_opens : (f : Start) (qs : List Piece) → starts f (term "function" ∷ qs) ≡ opens_at f Rattle.spelling_table.specs.declared.outline.FirstToken.TheVariants.FunctionOrClass
 function_opens Any qs = refl
 function_opens NoBrace qs = refl
 function_opens Statement qs = refl
 
-class_opens : (f : Start) (qs : List Piece) → starts f (term "class" ∷ qs) ≡ opens_at f Rattle.spellings.specs.declared.outline.FirstToken.TheVariants.FunctionOrClass
+class_opens : (f : Start) (qs : List Piece) → starts f (term "class" ∷ qs) ≡ opens_at f Rattle.spelling_table.specs.declared.outline.FirstToken.TheVariants.FunctionOrClass
 class_opens Any qs = refl
 class_opens NoBrace qs = refl
 class_opens Statement qs = refl
 
-pub brace_opens : (f : Start) (qs : List Piece) → starts f (sign "{" ∷ qs) ≡ opens_at f Rattle.spellings.specs.declared.outline.FirstToken.TheVariants.Brace
+pub brace_opens : (f : Start) (qs : List Piece) → starts f (sign "{" ∷ qs) ≡ opens_at f Rattle.spelling_table.specs.declared.outline.FirstToken.TheVariants.Brace
 brace_opens Any qs = refl
 brace_opens NoBrace qs = refl
 brace_opens Statement qs = refl
@@ -253,7 +253,7 @@ classes (part n none) = never_runs refl
 classes (part n (gap ps)) = one_way (record { rank = refl; needs_in = refl; opens = λ f. class_opens f _; names = refl })
 classes (part n (part m ps)) = one_way (record { rank = refl; needs_in = refl; opens = λ f. class_opens f _; names = refl })
 
-arrow_body : Flags → Rattle.spellings.specs.declared.position.Slot.Slot
+arrow_body : Flags → Rattle.spelling_table.specs.declared.position.Slot.Slot
 arrow_body g = cond g.expression (own.Tail Assignment NoBrace) (own.Fixed position.Body)
 
 open_starts : (f : Start) (qs : List Piece) → starts f (open_parameters ∷ qs) ≡ true
@@ -265,7 +265,7 @@ with_parameters : (g : Flags) (ps : Parts) → Outlined ps (at Assignment (open_
 with_parameters g ps = lists Assignment Zero (tails.Parameters (cond g.expression (own.Tail Assignment NoBrace) (own.Fixed position.Body))) 0 _
     (parameters-named (cond g.expression (own.Tail Assignment NoBrace) (own.Fixed position.Body)) (close_parameters ∷ arrow_end g) (arrow_named g) ps) (λ f. open_starts f _)
 
-free_opens : (f : Start) → true ≡ opens_at f Rattle.spellings.specs.declared.outline.FirstToken.TheVariants.Other
+free_opens : (f : Start) → true ≡ opens_at f Rattle.spelling_table.specs.declared.outline.FirstToken.TheVariants.Other
 free_opens Any = refl
 free_opens NoBrace = refl
 free_opens Statement = refl

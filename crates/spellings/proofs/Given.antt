@@ -4,13 +4,14 @@ use Rattle.std.specs.Prelude.{option_map}
 use Rattle.tree.specs.Tree.{Tree, node, Parts, kind_of, text_of, flags_of, parts_of}
 use Rattle.tree.specs.Uses.{is_lean}
 use Rattle.language.specs.Pieces as piece
-use Rattle.spellings.specs.declared.position.Slot as own
-use Rattle.spellings.specs.declared.outline.FixedSlots.{FixedSlots}
-use Rattle.spellings.specs.declared.outline.FixedSlots.TheVariants.{Zero, One, Two, Three, Four}
-use Rattle.spellings.specs.declared.outline.ListSlots.{ListSlots}
-use Rattle.spellings.specs.declared.outline.Outline.{Outline}
-use Rattle.spellings.specs.Outlines.{slot_of, front_before, tail_slots, parts_after, outline_slots}
-use Rattle.spellings.specs.Spelled.{lean_label, fits_outline, settled_roles, outlined_roles, roles_by}
+use Rattle.spelling_table.specs.declared.position.Slot as own
+use Rattle.spelling_table.specs.declared.outline.FixedSlots.{FixedSlots}
+use Rattle.spelling_table.specs.declared.outline.FixedSlots.TheVariants.{Zero, One, Two, Three, Four}
+use Rattle.spelling_table.specs.declared.outline.ListSlots.{ListSlots}
+use Rattle.spelling_table.specs.declared.outline.Outline.{Outline}
+use Rattle.spelling_table.specs.Outlines.{slot_of, front_before, tail_slots, parts_after, outline_slots}
+use Rattle.spellings.specs.Spelled.{lean_label, settled_roles, outlined_roles, roles_by}
+use Rattle.spelling_table.specs.Requirements.{fits_outline}
 use Rattle.spellings.specs.Remaining.{slots_left, front_left, goes_over, left_of}
 use Rattle.spellings.proofs.PartsAfter.{slots_known}
 

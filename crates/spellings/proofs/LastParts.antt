@@ -6,7 +6,7 @@ use Rattle.tree.specs.Tree.{Tree, node, Parts, none, part, gap, kind_of, parts_o
 use Rattle.language.specs.FirstPart.{others}
 use Rattle.language.specs.Edges.{trails, ends_in_if, last_ends_in_if}
 use Rattle.language.specs.Statements.{defaults}
-use Rattle.spellings.specs.Outlines.{parts_after}
+use Rattle.spelling_table.specs.Outlines.{parts_after}
 use Rattle.spellings.specs.Entries.{dangles_at, entry_at, is_gap}
 use Rattle.spellings.proofs.PartsAfter.{some-suc, gap-suc, behind-past}
 

@@ -10,11 +10,11 @@ use Rattle.tree.specs.Tree.{Tree, node, kind_of, text_of, flags_of, parts_of}
 use Rattle.tree.specs.Uses.{has_text, is_empty, used_flags, is_lean}
 use Rattle.language.specs.Vocabulary.{is_reserved}
 use Rattle.language.specs.declared.Rank.TheVariants.{Primary}
-use Rattle.spellings.specs.declared.position.Position.{Position}
-use Rattle.spellings.specs.declared.position.Position.TheVariants as at
-use Rattle.spellings.specs.declared.outline.Outline.{Outline}
-use Rattle.spellings.specs.declared.production.Production.TheVariants.{Leaf}
-use Rattle.spellings.specs.Outlines.{role_of, leaf}
+use Rattle.spelling_table.specs.declared.position.Position.{Position}
+use Rattle.spelling_table.specs.declared.position.Position.TheVariants as at
+use Rattle.spelling_table.specs.declared.outline.Outline.{Outline}
+use Rattle.spelling_table.specs.declared.production.Production.TheVariants.{Leaf}
+use Rattle.spelling_table.specs.Outlines.{role_of, leaf}
 use Rattle.spellings.specs.Positions.{outline_at}
 use Rattle.spellings.specs.Spelled.{has_no_flags}
 use Rattle.spellings.specs.Leaves.{leaf_at}
@@ -55,4 +55,4 @@ lean_leaf : (p : Position) (n : Tree) → leaf_at p (kind_of n) (text_of n) ≡ 
 lean_leaf p (node k w g s e ps) h f = (λ i. (named_text p k w h i || is_empty w) && plain_within g (used_flags k g) f i)
 
 pub spelled_leaf : (m : Node) (p : Position) → leaf_at p (kind_of (node_tree m)) (text_of (node_tree m)) ≡ true → has_no_flags (flags_of (node_tree m)) ≡ true → IsSpelledWherever (role_of p) (node_tree m) (Some (spelled_by m p Leaf))
-spelled_leaf m p h f = spelled_wherever p (node_tree m) (spelled_by m p Leaf) (leaf_outline p (node_tree m) h) (lean_leaf p (node_tree m) h f) (sym (over_runs Rattle.spellings.specs.declared.outline.ListSlots.TheVariants.Nothing (parts_of (node_tree m)) refl)) refl
+spelled_leaf m p h f = spelled_wherever p (node_tree m) (spelled_by m p Leaf) (leaf_outline p (node_tree m) h) (lean_leaf p (node_tree m) h f) (sym (over_runs Rattle.spelling_table.specs.declared.outline.ListSlots.TheVariants.Nothing (parts_of (node_tree m)) refl)) refl

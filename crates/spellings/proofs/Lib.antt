@@ -1,7 +1,6 @@
 pub mod PartsAtIndices
 pub mod ChainParts
 pub mod Tables
-pub mod PositionRequirements
 pub mod SlotPositions
 pub mod Points
 pub mod Lists

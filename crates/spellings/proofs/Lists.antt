@@ -11,13 +11,13 @@ use Rattle.language.specs.Pieces as piece
 use Rattle.language.specs.Pieces.{Piece, Slot, sub, never, may, absent, lay, fixed, put, put_at, sign, sp, nothing, is_none, separator, listed, elements, argument, pattern_element, parameters, bound, with_default}
 use Rattle.language.specs.Expressions.{template_elements, object_part, object_pattern_part, sequence}
 use Rattle.language.specs.Statements.{lines, prologue, declarators, member_lines, is_directive}
-use Rattle.spellings.specs.declared.position.Position.{Position}
-use Rattle.spellings.specs.declared.position.Slot as own
-use Rattle.spellings.specs.declared.position.Slot.TheVariants as at
-use Rattle.spellings.specs.declared.position.Position.TheVariants as position
-use Rattle.spellings.specs.declared.outline.ListSlots.{ListSlots}
-use Rattle.spellings.specs.declared.outline.ListSlots.TheVariants as tail
-use Rattle.spellings.specs.Outlines.{role_of, slot_of, listed_at, tail_slots, going, before, argument_at, object_part_at, element_at, pattern_part_at, bound_at, default_at}
+use Rattle.spelling_table.specs.declared.position.Position.{Position}
+use Rattle.spelling_table.specs.declared.position.Slot as own
+use Rattle.spelling_table.specs.declared.position.Slot.TheVariants as at
+use Rattle.spelling_table.specs.declared.position.Position.TheVariants as position
+use Rattle.spelling_table.specs.declared.outline.ListSlots.{ListSlots}
+use Rattle.spelling_table.specs.declared.outline.ListSlots.TheVariants as tail
+use Rattle.spelling_table.specs.Outlines.{role_of, slot_of, listed_at, tail_slots, going, before, argument_at, object_part_at, element_at, pattern_part_at, bound_at, default_at}
 use Rattle.spellings.proofs.SlotPositions.{named, joined, named-append}
 
 -- the piece of a position that may be none

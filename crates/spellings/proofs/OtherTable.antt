@@ -16,13 +16,13 @@ use Rattle.language.specs.Pieces.{Piece, Slot, Spelling, only, put, put_at, sub,
 use Rattle.language.specs.Expressions.{chain_parts, member_link, call_link, arguments, selector, in_brackets, first_has_optional, properties, pattern_properties, keyed, object_pattern_part, shorthand_pattern, assignment, methods}
 use Rattle.language.specs.Statements.{braced, member_lines, members, class_members}
 use Rattle.language.specs.Grammar.{keys, names, words, shorthand_keys, bases, directive_strings, tagged_quasis, template_parts, patterns, elements_with_default, rests}
-use Rattle.spellings.specs.declared.position.Position.{Position}
-use Rattle.spellings.specs.declared.position.Position.TheVariants as position
-use Rattle.spellings.specs.declared.position.Slot.TheVariants as own
-use Rattle.spellings.specs.declared.outline.FixedSlots.TheVariants.{Zero, One, Two}
-use Rattle.spellings.specs.declared.outline.ListSlots.TheVariants as tails
-use Rattle.spellings.specs.declared.outline.Outline.{Outline}
-use Rattle.spellings.specs.Outlines.{role_of, slot_of, before, front_before, tail_slots, outline_slots, assignment_at, whole_at, bound_at, default_at, fronted, lined}
+use Rattle.spelling_table.specs.declared.position.Position.{Position}
+use Rattle.spelling_table.specs.declared.position.Position.TheVariants as position
+use Rattle.spelling_table.specs.declared.position.Slot.TheVariants as own
+use Rattle.spelling_table.specs.declared.outline.FixedSlots.TheVariants.{Zero, One, Two}
+use Rattle.spelling_table.specs.declared.outline.ListSlots.TheVariants as tails
+use Rattle.spelling_table.specs.declared.outline.Outline.{Outline}
+use Rattle.spelling_table.specs.Outlines.{role_of, slot_of, before, front_before, tail_slots, outline_slots, assignment_at, whole_at, bound_at, default_at, fronted, lined}
 use Rattle.spellings.specs.Entries.{entry_at, around}
 use Rattle.spellings.specs.Expressions.{kind_at, selected}
 use Rattle.spellings.specs.Others.{leaf_if, is_key_class, names_constructor, method_of, name_outline, set_at, form_method_outline, is_chunk, key_outline, quoted_outline, quasi_outline, keyed_outline, echo_outline, form_outline, keyed_at, shorthand_outline, pattern_form_outline, pattern_outline, defaulted, element_outline, one_at, rest_outline, spine_outline, member_outline}
@@ -38,7 +38,7 @@ pub data Placed (ps : Parts) : List Spelling → Option Outline → Type 0 where
   placed : {s : Spelling} {x : Outline} → named s.pieces ≡ outline_slots x ps → Placed ps (s ∷ []) (Some x)
 
 module _ {ps : Parts} where
-  pub places : (f : Rattle.spellings.specs.declared.outline.FixedSlots.FixedSlots) (qs : List Piece) → named qs ≡ front_before f (Some []) → Placed ps (only qs) (Some (fronted Primary f))
+  pub places : (f : Rattle.spelling_table.specs.declared.outline.FixedSlots.FixedSlots) (qs : List Piece) → named qs ≡ front_before f (Some []) → Placed ps (only qs) (Some (fronted Primary f))
   places f qs e = placed (e ∙ sym (ap (front_before f) (nothing_slots ps)))
 
   leaf_of : (b : Bool) (qs : List Piece) → named qs ≡ Some [] → Placed ps (cond b (only qs) []) (leaf_if b)
@@ -201,8 +201,8 @@ called-named g ps = of g.optional ∙ arguments_names (others ps)
     of false = refl
 
 -- a further part below, or the base
-linked_placed : {ps : Parts} (b o : Bool) (qs : List Piece) (f : Rattle.spellings.specs.declared.position.Slot.Slot → Outline) →
-    ((x : Slot) (y : Rattle.spellings.specs.declared.position.Slot.Slot) → x ≡ slot_of y → named (sub x ∷ qs) ≡ outline_slots (f y) ps) →
+linked_placed : {ps : Parts} (b o : Bool) (qs : List Piece) (f : Rattle.spelling_table.specs.declared.position.Slot.Slot → Outline) →
+    ((x : Slot) (y : Rattle.spelling_table.specs.declared.position.Slot.Slot) → x ≡ slot_of y → named (sub x ∷ qs) ≡ outline_slots (f y) ps) →
     Placed ps (cond b (only (sub lead_chain ∷ qs)) (cond o (only (sub (lead Call) ∷ qs)) [])) (cond b (Some (f own.LeadSpine)) (cond o (Some (f (own.Lead Call))) None))
 linked_placed true o qs f h = placed (h lead_chain own.LeadSpine refl)
 linked_placed false true qs f h = placed (h (lead Call) (own.Lead Call) refl)

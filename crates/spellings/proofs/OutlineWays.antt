@@ -10,11 +10,11 @@ use Rattle.language.specs.Vocabulary.{is, among}
 use Rattle.language.specs.Pieces.{Role, Slot, Piece, tok, sub, Spelling, at}
 use Rattle.language.specs.Grammar.{starts}
 use Rattle.language.proofs.lower_bound.Domination.{fits}
-use Rattle.spellings.specs.declared.outline.FixedSlots.{FixedSlots}
-use Rattle.spellings.specs.declared.outline.ListSlots.{ListSlots}
-use Rattle.spellings.specs.declared.outline.ListSlots.TheVariants as tail
-use Rattle.spellings.specs.declared.outline.Outline.{Outline}
-use Rattle.spellings.specs.Outlines.{opens_at, outline_slots, front_before, tail_slots, parts_after, lined, fronted}
+use Rattle.spelling_table.specs.declared.outline.FixedSlots.{FixedSlots}
+use Rattle.spelling_table.specs.declared.outline.ListSlots.{ListSlots}
+use Rattle.spelling_table.specs.declared.outline.ListSlots.TheVariants as tail
+use Rattle.spelling_table.specs.declared.outline.Outline.{Outline}
+use Rattle.spelling_table.specs.Outlines.{opens_at, outline_slots, front_before, tail_slots, parts_after, lined, fronted}
 use Rattle.spellings.proofs.SlotPositions.{named}
 
 -- a spelling is as the outline says
@@ -62,7 +62,7 @@ module _ {ps : Parts} where
   pub lists : (z : Rank) (f : FixedSlots) (t : ListSlots) (n : ℕ) (qs : List Piece) → named qs ≡ front_before f (tail_slots t (parts_after n ps)) → ((g : Start) → starts g qs ≡ true) → Outlined ps (at z qs ∷ []) (Some (lined z f t n))
   lists z f t n qs e h = one_way (record { rank = refl; needs_in = refl; opens = λ g. h g ∙ free g; names = e })
     where
-      free : (g : Start) → true ≡ opens_at g Rattle.spellings.specs.declared.outline.FirstToken.TheVariants.Other
+      free : (g : Start) → true ≡ opens_at g Rattle.spelling_table.specs.declared.outline.FirstToken.TheVariants.Other
       free Any = refl
       free NoBrace = refl
       free Statement = refl

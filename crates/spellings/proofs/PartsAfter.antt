@@ -7,11 +7,11 @@ use Rattle.tree.specs.Tree.{Tree, Parts, none, part, gap, kind_of, flags_of, par
 use Rattle.std.specs.Prelude.{not, ◌||◌}
 use Rattle.language.specs.Vocabulary.{is_rest}
 use Rattle.language.specs.Pieces.{is_none, Slot}
-use Rattle.spellings.specs.declared.position.Slot as own
-use Rattle.spellings.specs.declared.outline.ListSlots.{ListSlots}
-use Rattle.spellings.specs.declared.outline.ListSlots.TheVariants as tail
-use Rattle.spellings.specs.Outlines.{parts_after, is_before_last, tail_slots, going, before, slot_of, is_over, skips_gap, may_end, part_of_tail, argument_at, tail_at, takes_all, is_arguments}
-use Rattle.spellings.specs.declared.position.Slot.TheVariants as own-V
+use Rattle.spelling_table.specs.declared.position.Slot as own
+use Rattle.spelling_table.specs.declared.outline.ListSlots.{ListSlots}
+use Rattle.spelling_table.specs.declared.outline.ListSlots.TheVariants as tail
+use Rattle.spelling_table.specs.Outlines.{parts_after, is_before_last, tail_slots, going, before, slot_of, is_over, skips_gap, may_end, part_of_tail, argument_at, tail_at, takes_all, is_arguments}
+use Rattle.spelling_table.specs.declared.position.Slot.TheVariants as own-V
 use Rattle.spellings.specs.Remaining.{goes_over, slots_left, left_of, are_whole, are_plain}
 
 behind-none : (i : ℕ) → parts_after i none ≡ none
@@ -197,10 +197,6 @@ steady_left t ps i u x h o e = part_left t ps i u h o ∙ ap (left_of (λ v. slo
 
 pub steady_part : (t : ListSlots) (k : Kind) (u : Tree) (qs : Parts) (x : own.Slot) → k ≡ kind_of u → ((d l b : Bool) → tail_at t k d l b ≡ Some (x, t)) → part_of_tail t u qs ≡ Some (x, t)
 steady_part t k u qs x e h = ap (λ j. tail_at t j (flags_of u).directive (is_none qs) (is_before_last qs)) (sym e) ∙ h (flags_of u).directive (is_none qs) (is_before_last qs)
-
-pub steady_argument : (h : Bool) (k : Kind) (d l b : Bool) → is_rest k ≡ false → tail_at (tail.Arguments h) k d l b ≡ Some (own-V.Fixed (argument_at k), tail.Arguments h)
-steady_argument h k d true b e = refl
-steady_argument h k d false b e = ap (λ r. cond (not r) (Some (own-V.Fixed (argument_at k), tail.Arguments h)) None) e
 
 pub whole-some : (ps : Parts) (i : ℕ) (u : Tree) → Some u ≡ part_at ps i → are_whole (parts_after (i + 1) ps) ≡ are_whole (parts_after i ps)
 whole-some ps i u h = rw (add-one i) (sym (ap are_whole (some-suc ps i u h)))

@@ -1,7 +1,7 @@
 -- What stands at a place, from the part there.
 use Rattle.std.proofs.Common.{◌≡◌, ℕ, zero, suc, ◌+◌, ◌<◌, ◌≤◌, Option, Some, None, refl, arith, ap}
 use Rattle.tree.specs.Tree.{Tree, Parts, none, part, gap, kind_of, text_of, part_count, part_at}
-use Rattle.spellings.specs.declared.position.PartAt.TheVariants.{Past, Gap, Part}
+use Rattle.spellings.specs.declared.parts.PartAt.TheVariants.{Past, Gap, Part}
 use Rattle.spellings.specs.Entries.{entry_at, text_at}
 
 pub entry_some : (ps : Parts) (i : ℕ) (u : Tree) → Some u ≡ part_at ps i → Part (kind_of u) ≡ entry_at ps i

@@ -6,18 +6,20 @@ use Rattle.tree.specs.declared.kind.Kind.{Kind}
 use Rattle.language.specs.Statements.{is_declaration}
 use Rattle.language.specs.declared.Rank.TheVariants.{Expression, Primary}
 use Rattle.language.specs.declared.Start.TheVariants.{Any}
-use Rattle.spellings.specs.declared.position.PartAt.{PartAt}
-use Rattle.spellings.specs.declared.position.PartAt.TheVariants.{Past, Gap, Part}
-use Rattle.spellings.specs.declared.position.Position.TheVariants as at
-use Rattle.spellings.specs.declared.position.Slot.TheVariants.{Fixed}
-use Rattle.spellings.specs.declared.production.ForInit.TheVariants.{Declaration, Value}
-use Rattle.spellings.specs.declared.production.Production.TheVariants.{For}
-use Rattle.spellings.specs.declared.production.Production.{Production}
-use Rattle.spellings.specs.declared.production.Production.TheVariants as by
-use Rattle.spellings.specs.Outlines.{whole_at, fronted, is_over}
+use Rattle.spellings.specs.declared.parts.PartAt.{PartAt}
+use Rattle.spellings.specs.declared.parts.PartAt.TheVariants.{Past, Gap, Part}
+use Rattle.spelling_table.specs.declared.position.Position.TheVariants as at
+use Rattle.spelling_table.specs.declared.position.Slot.TheVariants.{Fixed}
+use Rattle.spelling_table.specs.declared.production.ForInit.TheVariants.{Declaration, Value}
+use Rattle.spelling_table.specs.declared.production.Production.TheVariants.{For}
+use Rattle.spelling_table.specs.declared.production.Production.{Production}
+use Rattle.spelling_table.specs.declared.production.Production.TheVariants as by
+use Rattle.spelling_table.specs.Outlines.{whole_at, fronted, is_over}
 use Rattle.spellings.specs.Expressions.{is_past}
-use Rattle.spellings.specs.Statements.{is_part, body_at, given_before, part_before, placed_before, for_outline}
-use Rattle.spellings.specs.Productions.{init_of, for_slots, for_after_first, outline_of, has_list}
+use Rattle.spellings.specs.Statements.{is_part, given_before, part_before, placed_before, for_outline}
+use Rattle.spelling_table.specs.Productions.{body_at}
+use Rattle.spellings.specs.Statements.{init_of}
+use Rattle.spelling_table.specs.Productions.{for_slots, for_after_first, outline_of, has_list}
 
 pub for_past : (r : Bool) (a b c : PartAt) → (is_past a || (is_past b || is_past c)) ≡ true → None ≡ for_outline r a b c
 for_past r Past b c h = refl

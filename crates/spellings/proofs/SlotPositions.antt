@@ -6,7 +6,7 @@ use Rattle.language.specs.declared.Start.{Start}
 use Rattle.language.specs.Pieces.{Slot, PieceOf, Piece, tok, may, many, ahead, unbroken, ending, open_parameters, close_parameters, sub, absent, never, lay, settle, settle_piece}
 use Rattle.language.specs.Grammar.{can_run}
 use Rattle.language.specs.RowPositions.{roles}
-use Rattle.spellings.specs.Outlines.{before}
+use Rattle.spelling_table.specs.Outlines.{before}
 
 abbrev pub named : List Piece → Option (List Slot)
 named [] = Some []

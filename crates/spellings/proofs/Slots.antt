@@ -21,28 +21,29 @@ use Rattle.language.specs.Statements.{is_declaration}
 use Rattle.language.specs.Grammar.{ways, own_rank, own_in, own_start}
 use Rattle.language.specs.RowPositions.{first_roles}
 use Rattle.language.proofs.table.OperatorFacts.{Binding, binding}
-use Rattle.spellings.specs.declared.position.PartAt.{PartAt}
-use Rattle.spellings.specs.declared.position.PartAt.TheVariants.{Past, Gap, Part}
-use Rattle.spellings.specs.declared.position.Position.{Position}
-use Rattle.spellings.specs.declared.position.Position.TheVariants as at
-use Rattle.spellings.specs.declared.position.Slot as slots
-use Rattle.spellings.specs.declared.position.Slot.TheVariants as slot
-use Rattle.spellings.specs.declared.outline.FixedSlots.{FixedSlots}
-use Rattle.spellings.specs.declared.outline.FixedSlots.TheVariants.{Zero, One, Two, Three, Four}
-use Rattle.spellings.specs.declared.outline.ListSlots as tails
-use Rattle.spellings.specs.declared.outline.ListSlots.TheVariants as tail_of
-use Rattle.spellings.specs.declared.outline.Outline.{Outline}
+use Rattle.spellings.specs.declared.parts.PartAt.{PartAt}
+use Rattle.spellings.specs.declared.parts.PartAt.TheVariants.{Past, Gap, Part}
+use Rattle.spelling_table.specs.declared.position.Position.{Position}
+use Rattle.spelling_table.specs.declared.position.Position.TheVariants as at
+use Rattle.spelling_table.specs.declared.position.Slot as slots
+use Rattle.spelling_table.specs.declared.position.Slot.TheVariants as slot
+use Rattle.spelling_table.specs.declared.outline.FixedSlots.{FixedSlots}
+use Rattle.spelling_table.specs.declared.outline.FixedSlots.TheVariants.{Zero, One, Two, Three, Four}
+use Rattle.spelling_table.specs.declared.outline.ListSlots as tails
+use Rattle.spelling_table.specs.declared.outline.ListSlots.TheVariants as tail_of
+use Rattle.spelling_table.specs.declared.outline.Outline.{Outline}
 use Rattle.grammar.specs.declared.operators.Operation.{Operation}
 use Rattle.grammar.specs.declared.operators.Operation.TheVariants.{Binds, Powers}
 use Rattle.grammar.specs.Operations.{operation, operation_at}
-use Rattle.spellings.specs.Outlines.{assignment_at, whole_at, slot_of, bound_at, default_at, element_at, argument_at, object_part_at, pattern_part_at, listed_at, tail_at, tail_slots, before, going, part_of_tail, is_before_last, front_before, parts_after, outline_slots, is_over, skips_gap, may_end}
+use Rattle.spelling_table.specs.Outlines.{assignment_at, whole_at, slot_of, bound_at, default_at, element_at, argument_at, object_part_at, pattern_part_at, listed_at, tail_at, tail_slots, before, going, part_of_tail, is_before_last, front_before, parts_after, outline_slots, is_over, skips_gap, may_end}
 use Rattle.spellings.specs.Entries.{around}
 use Rattle.spellings.specs.Expressions as expressions
 use Rattle.spellings.specs.Expressions.{Around, kind_at}
 use Rattle.spellings.specs.Others as others
 use Rattle.spellings.specs.Statements as statements
 use Rattle.spellings.specs.Positions.{outline_by, outline_at}
-use Rattle.spellings.specs.Spelled.{fits_outline, outlined_roles, roles_by, Verdict}
+use Rattle.spelling_table.specs.Requirements.{fits_outline}
+use Rattle.spellings.specs.Spelled.{outlined_roles, roles_by, Verdict}
 use Rattle.spellings.proofs.Ways.{position_ways}
 use Rattle.spellings.proofs.Wherever.{position_of, role-position}
 

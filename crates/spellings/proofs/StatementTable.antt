@@ -16,17 +16,18 @@ use Rattle.language.specs.Pieces as piece
 use Rattle.language.specs.Pieces.{Piece, Slot, Spelling, only, only_at, put, put_at, sub, tok, lay, fixed, sign, term, sp, is_none, bound, absent, unbroken, ending, nothing}
 use Rattle.language.specs.Expressions.{given}
 use Rattle.language.specs.Statements.{statements, items, openings, heads, declarator_ways, cases, handlers, braced, lines, prologue, declaration, declarators, end_of, for_left, after_word, whole, is_one, is_declaration, is_string_literal, first_is_string, defaults}
-use Rattle.spellings.specs.declared.position.Position.{Position}
-use Rattle.spellings.specs.declared.position.Position.TheVariants as position
-use Rattle.spellings.specs.declared.position.Slot as slot
-use Rattle.spellings.specs.declared.position.Slot.TheVariants as own
-use Rattle.spellings.specs.declared.outline.FixedSlots.TheVariants.{Zero, One, Two, Three, Four}
-use Rattle.spellings.specs.declared.outline.ListSlots.TheVariants as tails
-use Rattle.spellings.specs.declared.outline.Outline.{Outline}
-use Rattle.spellings.specs.Outlines.{role_of, slot_of, before, tail_slots, assignment_at, whole_at, bound_at}
+use Rattle.spelling_table.specs.declared.position.Position.{Position}
+use Rattle.spelling_table.specs.declared.position.Position.TheVariants as position
+use Rattle.spelling_table.specs.declared.position.Slot as slot
+use Rattle.spelling_table.specs.declared.position.Slot.TheVariants as own
+use Rattle.spelling_table.specs.declared.outline.FixedSlots.TheVariants.{Zero, One, Two, Three, Four}
+use Rattle.spelling_table.specs.declared.outline.ListSlots.TheVariants as tails
+use Rattle.spelling_table.specs.declared.outline.Outline.{Outline}
+use Rattle.spelling_table.specs.Outlines.{role_of, slot_of, before, tail_slots, assignment_at, whole_at, bound_at}
 use Rattle.spellings.specs.Entries.{entry_at, text_at, around}
 use Rattle.spellings.specs.Expressions.{kind_at}
-use Rattle.spellings.specs.Statements.{statement_outline, item_outline, opening_outline, opened_outline, head_outline, declarator_outline, case_outline, handler_outline, items_outline, prologue_outline, declarators_outline, declaration_outline, initialised, bare_name, caught, left_at, each_outline, body_at, evaluated, is_declaring, is_one_part, init_at, of_front, given_before, one, two}
+use Rattle.spellings.specs.Statements.{statement_outline, item_outline, opening_outline, opened_outline, head_outline, declarator_outline, case_outline, handler_outline, items_outline, prologue_outline, declarators_outline, declaration_outline, initialised, bare_name, caught, left_at, each_outline, evaluated, is_declaring, is_one_part, init_at, of_front, given_before, one, two}
+use Rattle.spelling_table.specs.Productions.{body_at}
 use Rattle.spellings.proofs.SlotPositions.{named, named-closed}
 use Rattle.spellings.proofs.Lists.{piece_at, lines-named, prologue-named, declarators-named, bound_piece}
 use Rattle.spellings.proofs.OutlineWays.{Outlined, never_runs, one_way}

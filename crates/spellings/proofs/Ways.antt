@@ -9,21 +9,22 @@ use Rattle.language.specs.declared.Start.{Start}
 use Rattle.language.specs.Pieces.{Role, expr, pattern, Slot, Spelling}
 use Rattle.language.specs.Grammar.{ways, ways_bare, spellings, fits_position, can_run, own_rank, own_in, own_start}
 use Rattle.language.proofs.lower_bound.Domination.{settled, fits, ways_of}
-use Rattle.spellings.specs.declared.outline.Outline.{Outline}
-use Rattle.spellings.specs.Outlines.{role_of, assignment_at, outline_slots}
+use Rattle.spelling_table.specs.declared.outline.Outline.{Outline}
+use Rattle.spelling_table.specs.Outlines.{role_of, assignment_at, outline_slots}
 use Rattle.spellings.specs.Entries.{around}
 use Rattle.spellings.specs.Expressions.{expression_outline}
 use Rattle.spellings.specs.Others.{pattern_outline, pattern_form_outline}
 use Rattle.spellings.specs.Positions.{outline_by, outline_at}
-use Rattle.spellings.specs.declared.position.Position.{Position}
-use Rattle.spellings.specs.declared.position.Position.TheVariants as at
-use Rattle.spellings.specs.declared.position.Slot.TheVariants as own
-use Rattle.spellings.specs.declared.outline.FixedSlots.TheVariants.{One}
+use Rattle.spelling_table.specs.declared.position.Position.{Position}
+use Rattle.spelling_table.specs.declared.position.Position.TheVariants as at
+use Rattle.spelling_table.specs.declared.position.Slot.TheVariants as own
+use Rattle.spelling_table.specs.declared.outline.FixedSlots.TheVariants.{One}
 use Rattle.tree.specs.declared.kind.Kind.{Kind}
 use Rattle.tree.specs.declared.kind.Kind.TheVariants as kind
 use Rattle.tree.specs.declared.kind.Flags.{Flags}
 use Rattle.language.specs.FirstPart.{lead, others}
-use Rattle.spellings.specs.Spelled.{fits_outline, settled_roles, outlined_roles, roles_by, Verdict}
+use Rattle.spelling_table.specs.Requirements.{fits_outline}
+use Rattle.spellings.specs.Spelled.{settled_roles, outlined_roles, roles_by, Verdict}
 use Rattle.spellings.proofs.SlotPositions.{named, is_some, runs-named, roles-named}
 use Rattle.spellings.proofs.OutlineWays.{Describes, Outlined, no_way, never_runs, one_way, two_ways}
 use Rattle.spellings.proofs.Bare.{around-bare, outline_slots-bare}

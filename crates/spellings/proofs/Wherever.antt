@@ -11,16 +11,18 @@ use Rattle.language.specs.Pieces.{Role, Slot}
 use Rattle.language.specs.Pieces as role
 use Rattle.language.specs.Grammar.{ways}
 use Rattle.language.specs.Expressions.{first_has_optional}
-use Rattle.spellings.specs.declared.position.Position.{Position}
-use Rattle.spellings.specs.declared.position.Position.TheVariants as at
-use Rattle.spellings.specs.declared.outline.Outline.{Outline}
-use Rattle.spellings.specs.Outlines.{role_of, tail_slots, parts_after, outline_slots}
+use Rattle.spelling_table.specs.declared.position.Position.{Position}
+use Rattle.spelling_table.specs.declared.position.Position.TheVariants as at
+use Rattle.spelling_table.specs.declared.outline.Outline.{Outline}
+use Rattle.spelling_table.specs.Outlines.{role_of, tail_slots, parts_after, outline_slots}
 use Rattle.spellings.specs.Expressions.{chain_outline}
-use Rattle.spellings.specs.Others.{member_link, call_link}
-use Rattle.spellings.specs.declared.position.Slot.TheVariants.{Lead, LeadSpine}
+use Rattle.spellings.specs.Others.{member_link}
+use Rattle.spelling_table.specs.Productions.{call_link}
+use Rattle.spelling_table.specs.declared.position.Slot.TheVariants.{Lead, LeadSpine}
 use Rattle.language.specs.declared.Rank.TheVariants.{Call}
 use Rattle.spellings.specs.Positions.{outline_at}
-use Rattle.spellings.specs.Spelled.{fits_outline, settled_roles, outlined_roles, roles_by, Verdict}
+use Rattle.spelling_table.specs.Requirements.{fits_outline}
+use Rattle.spellings.specs.Spelled.{settled_roles, outlined_roles, roles_by, Verdict}
 use Rattle.spellings.specs.Remaining.{left, slots_left, front_left, goes_over}
 use Rattle.spellings.specs.Wherever.{NodeSpelling, with_own, spelled_roles, IsSpelledWherever, spine_first, chain_above}
 use Rattle.spellings.proofs.Given.{not_lean, no_fit, no_run, all_given}

@@ -5,8 +5,8 @@ use Rattle.language.specs.FirstPart.{others}
 use Rattle.language.specs.Edges.{ends_in_if}
 use Rattle.language.specs.Expressions.{first_has_optional}
 use Rattle.language.specs.Statements.{defaults}
-use Rattle.spellings.specs.declared.position.PartAt.{PartAt}
-use Rattle.spellings.specs.declared.position.PartAt.TheVariants.{Past, Gap, Part}
+use Rattle.spellings.specs.declared.parts.PartAt.{PartAt}
+use Rattle.spellings.specs.declared.parts.PartAt.TheVariants.{Past, Gap, Part}
 use Rattle.spellings.specs.Expressions.{Around}
 
 abbrev pub entry_at : Parts → ℕ → PartAt

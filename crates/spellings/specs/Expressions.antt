@@ -2,28 +2,27 @@
 -- and whether its first part is part of a chain with a `?.` in it.
 use Rattle.std.specs.Prelude.{ℕ, Bool, true, false, not, cond, ◌&&◌, List, [], ◌∷◌, Option, Some, None}
 use Rattle.language.specs.declared.Rank.{Rank}
-use Rattle.language.specs.declared.Rank.TheVariants.{Expression, Assignment, Conditional, ShortCircuit, Exponentiation, Unary, Update, LeftHandSide, Call, Member, Primary}
+use Rattle.language.specs.declared.Rank.TheVariants.{Expression, Assignment, Unary, Update, LeftHandSide, Call, Member, Primary}
 use Rattle.language.specs.declared.Start.TheVariants.{Any, NoBrace}
 use Rattle.tree.specs.declared.kind.Kind.{Kind}
 use Rattle.tree.specs.declared.kind.Kind.TheVariants as kind
 use Rattle.tree.specs.declared.kind.Flags.{Flags}
 use Rattle.language.specs.Vocabulary.{is, among, is_assignment, is_update_operator, is_prefix, is_reserved, literal_class, is_name, is_target, is_pattern, is_super}
-use Rattle.spellings.specs.declared.position.PartAt.{PartAt}
-use Rattle.spellings.specs.declared.position.PartAt.TheVariants.{Past, Gap, Part}
-use Rattle.spellings.specs.declared.position.Position.TheVariants as at
-use Rattle.spellings.specs.declared.position.Slot.{Slot}
-use Rattle.spellings.specs.declared.position.Slot.TheVariants.{Fixed, Left, Lead, Callee, LeadSpine, LeadPattern}
-use Rattle.spellings.specs.declared.position.Slot.TheVariants as slot
-use Rattle.spellings.specs.declared.outline.FirstToken.TheVariants.{Brace, FunctionOrClass}
-use Rattle.spellings.specs.declared.outline.FixedSlots.{FixedSlots}
-use Rattle.spellings.specs.declared.outline.FixedSlots.TheVariants.{Zero, One, Two, Three}
-use Rattle.spellings.specs.declared.outline.ListSlots.{ListSlots}
-use Rattle.spellings.specs.declared.outline.ListSlots.TheVariants as tail
-use Rattle.spellings.specs.declared.outline.Outline.{Outline}
+use Rattle.spellings.specs.declared.parts.PartAt.{PartAt}
+use Rattle.spellings.specs.declared.parts.PartAt.TheVariants.{Past, Gap, Part}
+use Rattle.spelling_table.specs.declared.position.Position.TheVariants as at
+use Rattle.spelling_table.specs.declared.position.Slot.{Slot}
+use Rattle.spelling_table.specs.declared.position.Slot.TheVariants.{Fixed, Left, Lead, Callee, LeadSpine, LeadPattern}
+use Rattle.spelling_table.specs.declared.position.Slot.TheVariants as slot
+use Rattle.spelling_table.specs.declared.outline.FixedSlots.{FixedSlots}
+use Rattle.spelling_table.specs.declared.outline.FixedSlots.TheVariants.{Zero, One, Two, Three}
+use Rattle.spelling_table.specs.declared.outline.ListSlots.TheVariants as tail
+use Rattle.spelling_table.specs.declared.outline.Outline.{Outline}
 use Rattle.grammar.specs.declared.operators.Operation.{Operation}
 use Rattle.grammar.specs.declared.operators.Operation.TheVariants.{Binds, Powers}
 use Rattle.grammar.specs.Operations.{operation_at}
-use Rattle.spellings.specs.Outlines.{assignment_at, whole_at, leaf, fronted, lined}
+use Rattle.spelling_table.specs.Productions.{opens_with_word, opens_with_brace, heritage_at, list_outline, new_outline, conditional_outline, power_outline}
+use Rattle.spelling_table.specs.Outlines.{assignment_at, whole_at, leaf, fronted, lined}
 
 -- what stands where among the parts; the texts of the first two; whether the first is part of a chain with a `?.`; whether the
 -- second ends in an `if` without `else`; whether behind the first more than one is a case without test
@@ -48,12 +47,6 @@ abbrev pub is_past : PartAt → Bool
 is_past Past = true
 is_past _ = false
 
-abbrev pub opens_with_word : Outline → Outline
-opens_with_word x = record x { opens = FunctionOrClass }
-
-abbrev pub opens_with_brace : Outline → Outline
-opens_with_brace x = record x { opens = Brace }
-
 abbrev pub identifier_outline : List ℕ → Option Outline
 identifier_outline w = cond (is_reserved w) None (Some (leaf Primary))
 
@@ -64,9 +57,6 @@ abbrev pub function_outline : PartAt → Option Outline
 function_outline Past = None
 function_outline Gap = Some (opens_with_word (lined Primary Zero (tail.Parameters (Fixed at.Body)) 1))
 function_outline (Part k) = Some (opens_with_word (lined Primary (One (Fixed at.Name)) (tail.Parameters (Fixed at.Body)) 1))
-
-abbrev pub heritage_at : Slot
-heritage_at = Fixed (at.Expression LeftHandSide true Any)
 
 abbrev pub class_front : PartAt → PartAt → Option FixedSlots
 class_front Past b = None
@@ -87,26 +77,14 @@ class_outline a b = class_of_front (class_front a b)
 abbrev pub arrow_outline : Flags → Outline
 arrow_outline g = lined Assignment Zero (tail.Parameters (cond g.expression (slot.Tail Assignment NoBrace) (Fixed at.Body))) 0
 
-abbrev pub list_outline : ListSlots → Outline
-list_outline t = lined Primary Zero t 0
-
-abbrev pub new_outline : Outline
-new_outline = lined Member (One (Fixed (at.Expression Member true Any))) (tail.Arguments false) 1
-
 abbrev pub meta_outline : List ℕ → List ℕ → Option Outline
 meta_outline v w = cond (is v "new" && is w "target") (Some (fronted Member (Two (Fixed at.IdentifierName) (Fixed at.IdentifierName)))) None
 
 abbrev pub chain_outline : Bool → Option Outline
 chain_outline b = cond b (Some (fronted LeftHandSide (One LeadSpine))) None
 
-abbrev pub conditional_outline : Outline
-conditional_outline = fronted Conditional (Three (Left ShortCircuit) (Fixed assignment_at) (slot.Tail Assignment Any))
-
 abbrev pub sequence_outline : PartAt → Option Outline
 sequence_outline e = cond (is_past e) None (Some (lined Expression (One (Left Assignment)) (tail.Each (slot.Tail Assignment Any)) 1))
-
-abbrev pub power_outline : Outline
-power_outline = fronted Exponentiation (Two (Lead Update) (Fixed (at.Expression Exponentiation true Any)))
 
 abbrev pub selected : Flags → Slot
 selected g = Fixed (cond g.computed whole_at at.IdentifierName)

@@ -4,8 +4,8 @@ use Rattle.tree.specs.declared.kind.Kind.{Kind}
 use Rattle.tree.specs.declared.kind.Kind.TheVariants as kind
 use Rattle.language.specs.Vocabulary.{is_reserved, literal_class}
 use Rattle.grammar.specs.Ranks.{is_spelled_literal}
-use Rattle.spellings.specs.declared.position.Position.{Position}
-use Rattle.spellings.specs.declared.position.Position.TheVariants as at
+use Rattle.spelling_table.specs.declared.position.Position.{Position}
+use Rattle.spelling_table.specs.declared.position.Position.TheVariants as at
 use Rattle.spellings.specs.Others.{is_key_class}
 
 -- an identifier of this name may stand there

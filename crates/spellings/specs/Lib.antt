@@ -1,9 +1,7 @@
 pub mod Entries
 pub mod Expressions
-pub mod Outlines
 pub mod Others
 pub mod Statements
-pub mod Productions
 pub mod Positions
 pub mod Spelled
 pub mod Remaining

@@ -12,17 +12,18 @@ use Rattle.tree.specs.declared.kind.Flags.{Flags}
 use Rattle.language.specs.Vocabulary.{is, is_reserved, is_string, literal_class, is_rest, is_pattern, is_identifier}
 use Rattle.language.specs.Statements.{is_string_literal}
 use Rattle.language.specs.Strings.{literal_units}
-use Rattle.spellings.specs.declared.position.PartAt.{PartAt}
-use Rattle.spellings.specs.declared.position.PartAt.TheVariants.{Past, Gap, Part}
-use Rattle.spellings.specs.declared.position.Position.{Position}
-use Rattle.spellings.specs.declared.position.Position.TheVariants as at
-use Rattle.spellings.specs.declared.position.Slot.{Slot}
-use Rattle.spellings.specs.declared.position.Slot.TheVariants.{Fixed, Lead, LeadSpine}
-use Rattle.spellings.specs.declared.outline.FixedSlots.TheVariants.{Zero, One, Two}
-use Rattle.spellings.specs.declared.outline.ListSlots.TheVariants as tail
-use Rattle.spellings.specs.declared.outline.Outline.{Outline}
-use Rattle.spellings.specs.Outlines.{assignment_at, bound_at, default_at, leaf, fronted, lined}
-use Rattle.spellings.specs.Expressions.{Around, kind_at, selected, opens_with_brace}
+use Rattle.spellings.specs.declared.parts.PartAt.{PartAt}
+use Rattle.spellings.specs.declared.parts.PartAt.TheVariants.{Past, Gap, Part}
+use Rattle.spelling_table.specs.declared.position.Position.{Position}
+use Rattle.spelling_table.specs.declared.position.Position.TheVariants as at
+use Rattle.spelling_table.specs.declared.position.Slot.{Slot}
+use Rattle.spelling_table.specs.declared.position.Slot.TheVariants.{Fixed, Lead, LeadSpine}
+use Rattle.spelling_table.specs.declared.outline.FixedSlots.TheVariants.{Zero, One, Two}
+use Rattle.spelling_table.specs.declared.outline.ListSlots.TheVariants as tail
+use Rattle.spelling_table.specs.declared.outline.Outline.{Outline}
+use Rattle.spelling_table.specs.Outlines.{assignment_at, bound_at, default_at, leaf, fronted, lined}
+use Rattle.spellings.specs.Expressions.{Around, kind_at, selected}
+use Rattle.spelling_table.specs.Productions.{opens_with_brace, key_slot, call_link}
 
 abbrev pub leaf_if : Bool → Option Outline
 leaf_if b = cond b (Some (leaf Primary)) None
@@ -56,10 +57,6 @@ quasi_outline _ = None
 abbrev pub spread_outline : Kind → Option Outline
 spread_outline kind.SpreadElement = Some (fronted Primary (One (Fixed assignment_at)))
 spread_outline _ = None
-
--- a property's key
-abbrev pub key_slot : Bool → Slot
-key_slot b = Fixed (cond b assignment_at at.PropertyName)
 
 abbrev pub keyed_outline : Bool → Position → Option Outline
 keyed_outline b a = Some (fronted Primary (Two (key_slot b) (Fixed a)))
@@ -124,9 +121,6 @@ linked_by b o x y = cond b (Some x) (cond o (Some y) None)
 
 abbrev pub member_link : Slot → Flags → Outline
 member_link x g = fronted Primary (Two x (selected g))
-
-abbrev pub call_link : Slot → Outline
-call_link x = lined Primary (One x) (tail.Arguments false) 1
 
 abbrev pub spine_outline : Kind → Flags → Bool → Option Outline
 spine_outline kind.MemberExpression g b = linked_by b g.optional (member_link LeadSpine g) (member_link (Lead Call) g)

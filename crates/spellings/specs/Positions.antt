@@ -4,9 +4,9 @@ use Rattle.tree.specs.Tree.{Tree, kind_of, text_of, flags_of, parts_of}
 use Rattle.tree.specs.declared.kind.Kind.{Kind}
 use Rattle.tree.specs.declared.kind.Flags.{Flags}
 use Rattle.language.specs.Vocabulary.{is_identifier, is_super}
-use Rattle.spellings.specs.declared.position.Position.{Position}
-use Rattle.spellings.specs.declared.position.Position.TheVariants as at
-use Rattle.spellings.specs.declared.outline.Outline.{Outline}
+use Rattle.spelling_table.specs.declared.position.Position.{Position}
+use Rattle.spelling_table.specs.declared.position.Position.TheVariants as at
+use Rattle.spelling_table.specs.declared.outline.Outline.{Outline}
 use Rattle.spellings.specs.Entries.{around}
 use Rattle.spellings.specs.Expressions.{Around, kind_at, expression_outline}
 use Rattle.spellings.specs.Others.{leaf_if, is_chunk, name_outline, key_outline, quoted_outline, quasi_outline, spread_outline, property_outline, pattern_outline, pattern_property_outline, element_outline, rest_outline, spine_outline, class_body_outline, method_outline, member_outline}

@@ -3,11 +3,11 @@ use Rattle.std.specs.Prelude.{Bool, true, false, cond, List, [], ◌∷◌, Opti
 use Rattle.tree.specs.Tree.{Parts, none, part, gap, kind_of}
 use Rattle.language.specs.Vocabulary.{is_rest}
 use Rattle.language.specs.Pieces as piece
-use Rattle.spellings.specs.declared.position.Slot.{Slot}
-use Rattle.spellings.specs.declared.outline.FixedSlots.{FixedSlots}
-use Rattle.spellings.specs.declared.outline.FixedSlots.TheVariants.{Zero, One, Two, Three, Four}
-use Rattle.spellings.specs.declared.outline.ListSlots.{ListSlots}
-use Rattle.spellings.specs.Outlines.{slot_of, is_over, skips_gap, part_of_tail}
+use Rattle.spelling_table.specs.declared.position.Slot.{Slot}
+use Rattle.spelling_table.specs.declared.outline.FixedSlots.{FixedSlots}
+use Rattle.spelling_table.specs.declared.outline.FixedSlots.TheVariants.{Zero, One, Two, Three, Four}
+use Rattle.spelling_table.specs.declared.outline.ListSlots.{ListSlots}
+use Rattle.spelling_table.specs.Outlines.{slot_of, is_over, skips_gap, part_of_tail}
 
 abbrev pub left_of : (ListSlots → List piece.Slot) → Option (Slot × ListSlots) → List piece.Slot
 left_of f None = []

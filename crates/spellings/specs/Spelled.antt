@@ -3,17 +3,14 @@ use Rattle.std.specs.Prelude.{◌≡◌, ℕ, ◌||◌, Bool, true, not, cond, �
 use Rattle.tree.specs.Tree.{Tree, Parts, parts_of}
 use Rattle.tree.specs.declared.kind.Kind.{Kind}
 use Rattle.tree.specs.declared.kind.Flags.{Flags}
-use Rattle.tree.specs.Uses.{implies, is_lean, has_text, is_empty, within, used_flags, is_init}
-use Rattle.language.specs.declared.Rank.{Rank}
-use Rattle.language.specs.declared.Rank.TheVariants.{Member, Call}
-use Rattle.language.specs.Vocabulary.{takes}
-use Rattle.language.specs.Pieces.{Role, expr, pattern, Slot, PieceOf, settle, is_tight}
+use Rattle.tree.specs.Uses.{is_lean, has_text, is_empty, within, used_flags, is_init}
+use Rattle.language.specs.Pieces.{Role, Slot, PieceOf, settle}
 use Rattle.language.specs.Grammar.{own_rank, own_in, own_start}
 use Rattle.language.specs.RowPositions.{first_roles}
 use Rattle.language.specs.Layout.{some_way}
-use Rattle.spellings.specs.declared.outline.FirstToken.{FirstToken}
-use Rattle.spellings.specs.declared.outline.Outline.{Outline}
-use Rattle.spellings.specs.Outlines.{opens_at, outline_slots, leaf}
+use Rattle.spelling_table.specs.declared.outline.Outline.{Outline}
+use Rattle.spelling_table.specs.Outlines.{outline_slots}
+use Rattle.spelling_table.specs.Requirements.{fits_outline}
 
 -- a node of this kind, text and flags has none but those that its kind uses
 abbrev pub lean_label : Kind → List ℕ → Flags → Bool
@@ -22,19 +19,6 @@ lean_label k w g = (has_text k || is_empty w) && within g (used_flags k g)
 -- no flag is set
 abbrev pub has_no_flags : Flags → Bool
 has_no_flags g = not g.computed && (not g.optional && (not g.is_static && (not g.prefix && (not g.directive && (not g.expression && is_init g.form)))))
-
--- an outline at this symbol that needs In or not and opens so
-abbrev pub asking : Rank → Bool → FirstToken → Outline
-asking z i o = record (leaf z) { needs_in = i; opens = o }
-
--- the symbol of an object's position
-abbrev pub callee_at : Rank → Rank
-callee_at y = cond (is_tight y) Member Call
-
-abbrev pub fits_outline : Role → Outline → Bool
-fits_outline (expr y i f) x = takes y x.rank && (implies x.needs_in i && opens_at f x.opens)
-fits_outline (pattern b f) x = opens_at f x.opens
-fits_outline _ x = true
 
 abbrev pub settled_roles : Role → List Slot → List Role
 settled_roles a xs = map (settle (own_rank a) (own_in a) (own_start a)) xs

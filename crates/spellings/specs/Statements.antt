@@ -7,17 +7,20 @@ use Rattle.tree.specs.declared.kind.Kind.TheVariants as kind
 use Rattle.tree.specs.declared.kind.Flags.{Flags}
 use Rattle.language.specs.Vocabulary.{is, among, is_pattern}
 use Rattle.language.specs.Statements.{is_declaration, is_string_literal}
-use Rattle.spellings.specs.declared.position.PartAt.{PartAt}
-use Rattle.spellings.specs.declared.position.PartAt.TheVariants.{Past, Gap, Part}
-use Rattle.spellings.specs.declared.position.Position.{Position}
-use Rattle.spellings.specs.declared.position.Position.TheVariants as at
-use Rattle.spellings.specs.declared.position.Slot.{Slot}
-use Rattle.spellings.specs.declared.position.Slot.TheVariants.{Fixed}
-use Rattle.spellings.specs.declared.outline.FixedSlots.{FixedSlots}
-use Rattle.spellings.specs.declared.outline.FixedSlots.TheVariants.{Zero, One, Two, Three, Four}
-use Rattle.spellings.specs.declared.outline.ListSlots.TheVariants as tail
-use Rattle.spellings.specs.declared.outline.Outline.{Outline}
-use Rattle.spellings.specs.Outlines.{assignment_at, whole_at, bound_at, leaf, fronted, lined}
+use Rattle.spellings.specs.declared.parts.PartAt.{PartAt}
+use Rattle.spellings.specs.declared.parts.PartAt.TheVariants.{Past, Gap, Part}
+use Rattle.spelling_table.specs.declared.position.Position.{Position}
+use Rattle.spelling_table.specs.declared.position.Position.TheVariants as at
+use Rattle.spelling_table.specs.declared.position.Slot.{Slot}
+use Rattle.spelling_table.specs.declared.position.Slot.TheVariants.{Fixed}
+use Rattle.spelling_table.specs.declared.outline.FixedSlots.{FixedSlots}
+use Rattle.spelling_table.specs.declared.outline.FixedSlots.TheVariants.{Zero, One, Two, Three, Four}
+use Rattle.spelling_table.specs.declared.outline.ListSlots.TheVariants as tail
+use Rattle.spelling_table.specs.declared.outline.Outline.{Outline}
+use Rattle.spelling_table.specs.declared.production.ForInit.{ForInit}
+use Rattle.spelling_table.specs.declared.production.ForInit.TheVariants.{Nothing, Declaration, Value}
+use Rattle.spelling_table.specs.Productions.{body_at}
+use Rattle.spelling_table.specs.Outlines.{assignment_at, whole_at, bound_at, leaf, fronted, lined}
 use Rattle.spellings.specs.Expressions.{Around, kind_at, is_past, function_outline, class_outline}
 
 abbrev pub is_part : PartAt → Bool
@@ -45,9 +48,6 @@ given_before (Part k) a f = part_before a f
 abbrev pub of_front : Option FixedSlots → Option Outline
 of_front None = None
 of_front (Some f) = Some (fronted Primary f)
-
-abbrev pub body_at : Bool → Slot
-body_at r = Fixed (at.Statement r)
 
 abbrev pub one : Slot → Option Outline
 one a = Some (fronted Primary (One a))
@@ -224,3 +224,8 @@ caught_outline r (Part k) = caught r (bound_at true k)
 abbrev pub handler_outline : Bool → Kind → Around → Option Outline
 handler_outline r kind.CatchClause a = caught_outline r a.first
 handler_outline r _ a = None
+
+-- what stands first in the head, by what stands at its place
+abbrev pub init_of : PartAt → ForInit
+init_of (Part k) = cond (is_declaration k) Declaration Value
+init_of _ = Nothing

@@ -9,16 +9,17 @@ use Rattle.language.specs.declared.Rank.{Rank}
 use Rattle.language.specs.declared.Start.{Start}
 use Rattle.language.specs.Pieces.{Role, expr, chain_part, pattern}
 use Rattle.language.specs.Grammar.{ways}
-use Rattle.spellings.specs.declared.position.Position.{Position}
-use Rattle.spellings.specs.declared.position.Position.TheVariants as at
-use Rattle.spellings.specs.declared.position.Slot.TheVariants.{LeadSpine}
-use Rattle.spellings.specs.declared.outline.FixedSlots.{FixedSlots}
-use Rattle.spellings.specs.declared.outline.FixedSlots.TheVariants.{One, Two}
-use Rattle.spellings.specs.declared.production.Production.{Production}
-use Rattle.spellings.specs.declared.outline.Outline.{Outline}
-use Rattle.spellings.specs.Outlines.{parts_after}
-use Rattle.spellings.specs.Productions.{outline_of}
-use Rattle.spellings.specs.Spelled.{fits_outline, settled_roles, Verdict}
+use Rattle.spelling_table.specs.declared.position.Position.{Position}
+use Rattle.spelling_table.specs.declared.position.Position.TheVariants as at
+use Rattle.spelling_table.specs.declared.position.Slot.TheVariants.{LeadSpine}
+use Rattle.spelling_table.specs.declared.outline.FixedSlots.{FixedSlots}
+use Rattle.spelling_table.specs.declared.outline.FixedSlots.TheVariants.{One, Two}
+use Rattle.spelling_table.specs.declared.production.Production.{Production}
+use Rattle.spelling_table.specs.declared.outline.Outline.{Outline}
+use Rattle.spelling_table.specs.Outlines.{parts_after}
+use Rattle.spelling_table.specs.Productions.{outline_of}
+use Rattle.spelling_table.specs.Requirements.{fits_outline}
+use Rattle.spellings.specs.Spelled.{settled_roles, Verdict}
 use Rattle.spellings.specs.Remaining.{PartSlots, left}
 
 -- the position with this symbol, In and start, as far as it has them

@@ -4,13 +4,14 @@ ghost use Rattle.std.specs.Prelude.{◌≡◌, true, option_map};
 ghost use Rattle.tree.specs.Node.{node_tree};
 ghost use Rattle.tree.specs.Tree.{kind_of, flags_of, parts_of};
 ghost use Rattle.language.specs.Expressions.{has_optional as is_chained_tree, first_has_optional};
-ghost use Rattle.spellings.specs.Others.{linked_by as outline_linked, member_link as outline_of_member_link, call_link as outline_of_call_link, spine_outline as outline_of_spine};
-ghost use Rattle.spellings.specs.Productions.{outline_of};
-ghost use Rattle.spellings.specs.declared.position.Slot.TheVariants.{Lead, LeadSpine};
+ghost use Rattle.spellings.specs.Others.{linked_by as outline_linked, member_link as outline_of_member_link, spine_outline as outline_of_spine};
+ghost use Rattle.spelling_table.specs.Productions.{call_link as outline_of_call_link};
+ghost use Rattle.spelling_table.specs.Productions.{outline_of};
+ghost use Rattle.spelling_table.specs.declared.position.Slot.TheVariants.{Lead, LeadSpine};
 ghost use Rattle.language.specs.declared.Rank.TheVariants.{Call};
 
-use crate::production::Production;
 use grammar::has_optional;
+use spelling_table::Production;
 use tree::{Flags, Kind, Node};
 
 /// Whether a `?.` stands in the first part of a part of a chain, or below; `in_chain`: one is known to stand in the node or below it.

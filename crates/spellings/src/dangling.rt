@@ -8,7 +8,7 @@ ghost use Rattle.language.specs.Edges.{trails as trails_kind, ends_in_if as ends
 ghost use Rattle.language.specs.Statements.{defaults};
 ghost use Rattle.spellings.specs.Entries.{dangles_at, is_gap as is_gap_entry, entry_at};
 
-use crate::position::{PartAt, part_at};
+use crate::parts::{PartAt, part_at};
 use tree::{Kind, Node};
 
 /// Whether the statement at a place among a node's parts ends in an `if` without `else`.

@@ -6,15 +6,14 @@ ghost use Rattle.tree.specs.Tree.{kind_of, text_of, flags_of, parts_of};
 ghost use Rattle.language.specs.Statements.{is_string_literal as is_string_of_kind};
 ghost use Rattle.spellings.specs.Entries.{around};
 ghost use Rattle.spellings.specs.Statements.{named_only as outline_named_only, is_declaring as is_word_of_declaration, item_outline as outline_of_item, opened_outline as outline_opened, opening_outline as outline_of_opening, block_outline as outline_of_block, body_outline as outline_of_body, script_outline as outline_of_script, is_one_part as is_one_of, head_outline as outline_of_head, initialised as outline_initialised, bare_name as outline_of_bare_name, declared_outline as outline_of_declared, declarator_outline as outline_of_declarator, tested_outline as outline_tested, case_outline as outline_of_case, caught as outline_caught, caught_outline as outline_of_caught, handler_outline as outline_of_handler};
-ghost use Rattle.spellings.specs.Productions.{outline_of};
+ghost use Rattle.spelling_table.specs.Productions.{outline_of};
 
 use crate::expressions::{class_production, function_production, kind_at};
-use crate::list_slots::bound;
-use crate::position::{PartAt, Position, part_at, part_text};
-use crate::production::Production;
+use crate::parts::{PartAt, part_at, part_text};
 use crate::statements::{EVALUATED, declaration_production, is_part, statement_production};
 use crate::words::is_string_literal;
 use language::{Rank, Start};
+use spelling_table::{Position, Production, bound};
 use tree::{Kind, Node};
 
 /// A statement, or a declaration that is none; the flag allows `return`.

@@ -6,15 +6,15 @@ ghost use Rattle.tree.specs.Tree.{kind_of, text_of, flags_of, parts_of};
 ghost use Rattle.grammar.specs.Operations.{operation_at};
 ghost use Rattle.spellings.specs.Entries.{around};
 ghost use Rattle.spellings.specs.Expressions.{expression_outline as outline_of_expression, definition_outline as outline_of_definition, reference_outline as outline_of_reference, operation_outline as outline_of_operation, identifier_outline as outline_of_identifier, literal_outline as outline_of_literal, function_outline as outline_of_function, class_outline as outline_of_class, member_outline as outline_of_member, call_outline as outline_of_call, update_outline as outline_of_update, unary_outline as outline_of_unary, binary_outline as outline_of_binary, logical_outline as outline_of_logical, assignment_outline as outline_of_assignment, kind_at as kind_of_entry, meta_outline as outline_of_meta, chain_outline as outline_of_chain, sequence_outline as outline_of_sequence, joined_outline as outline_joined, arrow_outline as outline_of_arrow};
-ghost use Rattle.spellings.specs.Productions.{outline_of};
+ghost use Rattle.spelling_table.specs.Productions.{outline_of};
 
-use crate::position::{PartAt, part_at, part_text};
-use crate::production::Production;
+use crate::parts::{PartAt, part_at, part_text};
 use grammar::{
     Operation, has_optional, is_assignment, is_literal, is_prefix_operator, is_reserved,
     is_update_operator, operation_of,
 };
 use language::Rank;
+use spelling_table::Production;
 use tree::{Flags, Kind, Node};
 
 /// The production of an expression; none where the table has no way to spell it.

@@ -2,12 +2,11 @@
 
 ghost use Rattle.std.specs.Prelude.{◌≡◌, option_map};
 ghost use Rattle.spellings.specs.Others.{leaf_if as leaf_when, is_chunk as is_chunk_kind, is_key_class as is_class_of_key, name_outline as outline_of_name, key_outline as outline_of_key, quoted_outline as outline_of_quoted, quasi_outline as outline_of_quasi};
-ghost use Rattle.spellings.specs.Productions.{outline_of};
+ghost use Rattle.spelling_table.specs.Productions.{outline_of};
 ghost use Rattle.spellings.specs.Leaves.{names_at, literal_at as is_literal_at, leaf_at};
 
-use crate::position::Position;
-use crate::production::Production;
 use grammar::{is_literal, is_reserved, literal_class};
+use spelling_table::{Position, Production};
 use tokens::TokenClass;
 use tree::Kind;
 

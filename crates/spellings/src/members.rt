@@ -5,14 +5,13 @@ ghost use Rattle.tree.specs.Node.{node_tree};
 ghost use Rattle.tree.specs.Tree.{kind_of, text_of, flags_of, parts_of};
 ghost use Rattle.spellings.specs.Entries.{around};
 ghost use Rattle.spellings.specs.Others.{class_body_outline as outline_of_class_body, getter_outline as outline_of_getter, set_at as outline_set_at, setter_outline as outline_of_setter, plain_method_outline as outline_of_plain_method, form_method_outline as outline_of_form_method, method_outline as outline_of_method, is_constructor as makes_constructor, method_of as outline_of_function_at, fits_form as form_fits, member_form_outline as outline_of_member_form, member_outline as outline_of_member};
-ghost use Rattle.spellings.specs.Productions.{outline_of};
+ghost use Rattle.spelling_table.specs.Productions.{outline_of};
 
 use crate::expressions::kind_at;
-use crate::list_slots::with_default;
-use crate::position::{PartAt, Position, part_at, part_text};
-use crate::production::Production;
+use crate::parts::{PartAt, part_at, part_text};
 use crate::properties::keyed_production;
 use crate::words::names_constructor;
+use spelling_table::{Position, Production, with_default};
 use tree::{Flags, Form, Kind, Node};
 
 pub(crate) fn class_body_production(kind: Kind) -> Option<Production>

@@ -8,7 +8,7 @@ ghost use Rattle.spellings.specs.Positions.{outline_at as outline_at_position};
 ghost use Rattle.spellings.specs.Entries.{entry_at};
 ghost use Rattle.spellings.specs.Expressions.{kind_at as kind_of_entry};
 ghost use Rattle.spellings.specs.Others.{pattern_property_outline as outline_of_pattern_property, element_outline as outline_of_element, rest_outline as outline_of_rest};
-ghost use Rattle.spellings.specs.Productions.{outline_of};
+ghost use Rattle.spelling_table.specs.Productions.{outline_of};
 
 use crate::chain::chain_part_production;
 use crate::declarations::{
@@ -22,13 +22,13 @@ use crate::leaves::{
     quasi_production,
 };
 use crate::members::{class_body_production, member_production, method_production};
-use crate::position::{Position, part_at};
-use crate::production::Production;
+use crate::parts::part_at;
 use crate::properties::{
     element_production, pattern_production, pattern_property_production, property_production,
     rest_production, spread_production,
 };
 use crate::statements::statement_production;
+use spelling_table::{Position, Production};
 use tree::Node;
 
 /// The production of a node at a position; none where the table has no way to spell it there. `in_chain`: the node is known to be part

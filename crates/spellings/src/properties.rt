@@ -2,11 +2,9 @@
 
 ghost use Rattle.std.specs.Prelude.{◌≡◌, option_map};
 ghost use Rattle.spellings.specs.Others.{spread_outline as outline_of_spread, keyed_outline as outline_keyed, echo_outline as outline_of_echo, form_outline as outline_of_form, property_outline as outline_of_property, keyed_at as outline_keyed_at, shorthand_outline as outline_of_shorthand, pattern_form_outline as outline_of_pattern_form, pattern_property_outline as outline_of_pattern_property, pattern_outline as outline_of_pattern, defaulted as outline_defaulted, element_outline as outline_of_element, one_at as outline_one_at, rest_outline as outline_of_rest};
-ghost use Rattle.spellings.specs.Productions.{outline_of};
+ghost use Rattle.spelling_table.specs.Productions.{outline_of};
 
-use crate::list_slots::{bound, with_default};
-use crate::position::{ASSIGNMENT, Position};
-use crate::production::Production;
+use spelling_table::{ASSIGNMENT, Position, Production, bound, with_default};
 use tree::{Flags, Form, Kind};
 
 pub(crate) fn spread_production(kind: Kind) -> Option<Production>

@@ -4,20 +4,17 @@ ghost use Rattle.std.specs.Prelude.{◌≡◌, ◌&&◌, nat_eq, true, Some, opt
 ghost use Rattle.tree.specs.Node.{node_tree};
 ghost use Rattle.tree.specs.Tree.{kind_of, parts_of, part_count};
 ghost use Rattle.language.specs.Expressions.{has_optional as is_chained_tree, first_has_optional};
-ghost use Rattle.spellings.specs.Outlines.{role_of, tail_slots, parts_after};
+ghost use Rattle.spelling_table.specs.Outlines.{role_of, tail_slots, parts_after};
 ghost use Rattle.spellings.specs.Remaining.{goes_over as list_goes_over};
-ghost use Rattle.spellings.specs.Productions.{outline_of};
-ghost use Rattle.spellings.specs.declared.production.Production.TheVariants;
+ghost use Rattle.spelling_table.specs.Productions.{outline_of};
+ghost use Rattle.spelling_table.specs.declared.production.Production.TheVariants;
 ghost use Rattle.spellings.specs.Wherever.{IsSpelledWherever, spelled_by, chain_above, spine_first};
 
+use crate::lean::{is_lean_node, is_plain};
 use crate::leaves::is_leaf_text;
 use crate::nodes::production_at;
-use crate::outline::FixedSlots;
-use crate::position::{Position, Slot};
-use crate::production::Production;
-use crate::slot_cursor::list_of;
-use crate::spelling::{is_lean_node, is_plain};
 use crate::walk::list_fits;
+use spelling_table::{FixedSlots, Position, Production, Slot, list_of};
 use tree::{Kind, Node};
 
 /// The production by which a node is spelled at a position, whatever symbol, In and start it has there; none where it can't be, at no

@@ -7,16 +7,16 @@ ghost use Rattle.language.specs.Statements.{is_declaration as declares};
 ghost use Rattle.spellings.specs.Entries.{around};
 ghost use Rattle.spellings.specs.Statements.{declaration_outline as outline_of_declaration, expression_statement_outline as outline_of_expression_statement, if_outline as outline_of_if, for_outline as outline_of_for, left_at as position_of_left, each_outline as outline_of_each, word_outline as outline_of_word, return_outline as outline_of_return, switch_outline as outline_of_switch, try_outline as outline_of_try, loop_outline as outline_of_loop, branch_outline as outline_of_branch, statement_outline as outline_of_statement, is_part as is_part_entry};
 ghost use Rattle.spellings.specs.Expressions.{is_past as is_past_entry};
-ghost use Rattle.spellings.specs.Outlines.{assignment_at, whole_at};
-ghost use Rattle.spellings.specs.Productions.{outline_of, init_of as init_at_entry};
-ghost use Rattle.spellings.specs.declared.production.ForInit.TheVariants;
+ghost use Rattle.spelling_table.specs.Outlines.{assignment_at, whole_at};
+ghost use Rattle.spelling_table.specs.Productions.{outline_of};
+ghost use Rattle.spellings.specs.Statements.{init_of as init_at_entry};
+ghost use Rattle.spelling_table.specs.declared.production.ForInit.TheVariants;
 
 use crate::dangling::{dangles, has_two_defaults};
 use crate::expressions::kind_at;
-use crate::list_slots::bound;
-use crate::position::{PartAt, Position, WHOLE, part_at};
-use crate::production::{ForInit, Production, TryClauses};
+use crate::parts::{PartAt, part_at};
 use language::{Rank, Start};
+use spelling_table::{ForInit, Position, Production, TryClauses, WHOLE, bound};
 use tree::{Flags, Kind, Node};
 
 /// A statement; the flag allows `return`.

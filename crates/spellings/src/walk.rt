@@ -3,12 +3,12 @@
 ghost use Rattle.std.specs.Prelude.{◌≡◌};
 ghost use Rattle.tree.specs.Node.{node_tree, list_parts};
 ghost use Rattle.tree.specs.Tree.{Parts, part_count};
-ghost use Rattle.spellings.specs.Outlines.{part_of_tail, parts_after, tail_slots};
+ghost use Rattle.spelling_table.specs.Outlines.{part_of_tail, parts_after, tail_slots};
 ghost use Rattle.spellings.specs.Remaining.{goes_over, are_whole, are_plain};
 
-use crate::list_slots::{Next, is_of_arguments, is_over, may_end, next_slot, skips_gap, takes_all};
-use crate::outline::ListSlots;
-use crate::position::Slot;
+use spelling_table::{
+    ListSlots, Next, Slot, is_of_arguments, is_over, may_end, next_slot, skips_gap, takes_all,
+};
 use tree::{Node, NodeList};
 
 /// The position of a part that so many stand behind, and how they go on behind it.

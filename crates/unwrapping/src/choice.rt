@@ -10,10 +10,8 @@ ghost use Rattle.unwrapping.specs.Ties.{costs_more};
 use crate::changes::{Addition, Changes, Closing};
 use cost_table::{CostTable, WHOLE, widest};
 use language::{Rank, Start};
-use spellings::{
-    Position, Production, SlotCursor, admits, holds_chain, leads_chain, node_production,
-    resolve_slot,
-};
+use spelling_table::{Position, Production, admits, resolve_slot};
+use spellings::{SlotCursor, holds_chain, leads_chain, node_production};
 use std::alloc::{AllocError, Global};
 use tree::{Kind, Node, Pair, Program};
 

@@ -5,10 +5,10 @@ use Rattle.tree.proofs.PartWalk.{part_smaller, parts_drop-some, parts_drop-gap, 
 use Rattle.language.specs.Grammar.{ways}
 use Rattle.language.specs.Expressions.{first_has_optional}
 use Rattle.language.specs.RowPositions.{first_roles, widest, rows, parts_rows}
-use Rattle.spellings.specs.Outlines.{role_of, slot_of}
+use Rattle.spelling_table.specs.Outlines.{role_of, slot_of}
 use Rattle.spellings.specs.Remaining.{left}
 use Rattle.spellings.specs.Cursors.{left_by}
-use Rattle.spellings.specs.Productions.{outline_of}
+use Rattle.spelling_table.specs.Productions.{outline_of}
 use Rattle.spellings.specs.Spelled.{settled_roles}
 use Rattle.spellings.specs.Wherever.{with_own, spelled_by, chain_above}
 use Rattle.cost_table.specs.Costs.{sums, same_everywhere}

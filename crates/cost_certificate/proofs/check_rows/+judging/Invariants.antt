@@ -3,7 +3,7 @@ use Rattle.tree.specs.Tree.{node_total, parts_of}
 use Rattle.tree.specs.Node.{node_tree, list_parts}
 use Rattle.tree.proofs.PartWalk.{parts_drop}
 use Rattle.language.specs.RowPositions.{parts_rows}
-use Rattle.spellings.specs.Outlines.{role_of}
+use Rattle.spelling_table.specs.Outlines.{role_of}
 use Rattle.spellings.specs.Remaining.{left}
 use Rattle.spellings.specs.Cursors.{left_by}
 use Rattle.spellings.specs.Spelled.{settled_roles}

@@ -1,5 +1,5 @@
 use Rattle.std.proofs.Common.{sym, ap, ◌∙◌}
-use Rattle.spellings.specs.Outlines.{role_of}
+use Rattle.spelling_table.specs.Outlines.{role_of}
 use Rattle.cost_table.specs.Costs.{sums}
 use Rattle.cost_table.proofs.node_costs.added.Goals as goal
 

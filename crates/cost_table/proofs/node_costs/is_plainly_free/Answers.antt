@@ -1,5 +1,5 @@
 use Rattle.std.proofs.Common.{sym, ◌∙◌}
-use Rattle.spellings.specs.Outlines.{slot_of}
+use Rattle.spelling_table.specs.Outlines.{slot_of}
 use Rattle.cost_table.proofs.Plainly.{free_uses}
 use Rattle.cost_table.proofs.node_costs.is_plainly_free.Goals as goal
 

@@ -1,6 +1,6 @@
 use Rattle.std.proofs.Common.{◌∙◌, sym, ap, true, false}
-use Rattle.spellings.specs.Outlines.{role_of}
-use Rattle.spellings.specs.Spelled.{fits_outline}
+use Rattle.spelling_table.specs.Outlines.{role_of}
+use Rattle.spelling_table.specs.Requirements.{fits_outline}
 use Rattle.cost_table.proofs.Plainly.{plain_fitting}
 use Rattle.cost_table.proofs.node_costs.plainly_fitting.Goals as goal
 

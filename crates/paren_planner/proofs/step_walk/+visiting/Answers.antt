@@ -3,9 +3,9 @@ use Rattle.tree.specs.Node.{node_tree, list_parts}
 use Rattle.tree.specs.Tree.{parts_of, part_at, part_count, node_total}
 use Rattle.tree.proofs.PartWalk.{part_smaller, parts_drop-some, parts_drop-gap, parts_drop-past}
 use Rattle.language.specs.Expressions.{first_has_optional}
-use Rattle.spellings.specs.declared.production.Production.TheVariants as by
-use Rattle.spellings.specs.Outlines.{role_of, slot_of, parts_after}
-use Rattle.spellings.specs.Productions.{outline_of}
+use Rattle.spelling_table.specs.declared.production.Production.TheVariants as by
+use Rattle.spelling_table.specs.Outlines.{role_of, slot_of, parts_after}
+use Rattle.spelling_table.specs.Productions.{outline_of}
 use Rattle.spellings.specs.Remaining.{left}
 use Rattle.spellings.specs.Wherever.{spelled_by, chain_above}
 use Rattle.spellings.specs.Cursors.{left_by}

@@ -2,7 +2,7 @@ use Rattle.std.proofs.Common.{◌+◌, ◌*◌}
 use Rattle.tree.specs.Tree.{node_total}
 use Rattle.tree.specs.Node.{node_tree, list_parts}
 use Rattle.tree.proofs.PartWalk.{parts_drop}
-use Rattle.spellings.specs.Outlines.{role_of}
+use Rattle.spelling_table.specs.Outlines.{role_of}
 use Rattle.spellings.specs.Remaining.{left}
 use Rattle.spellings.specs.Wherever.{spelled_by}
 use Rattle.spellings.specs.Cursors.{left_by}

@@ -3,7 +3,7 @@ use Rattle.std.specs.Prelude.{option_map, is_some, is_none as is_missing}
 use Rattle.tree.specs.Tree.{parts_of, text_of, kind_of, flags_of, part_count}
 use Rattle.tree.specs.Node.{node_tree}
 use Rattle.language.specs.Grammar.{ways}
-use Rattle.spellings.specs.Outlines.{role_of, whole_at, parts_after}
+use Rattle.spelling_table.specs.Outlines.{role_of, whole_at, parts_after}
 use Rattle.language.specs.RowPositions.{has_row, first_roles}
 use Rattle.printer.specs.Shapes.{shape_on}
 use Rattle.tree.proofs.PartRows.{has_its_row}

@@ -1,7 +1,7 @@
 use Rattle.std.proofs.Common.{true, ◌≡◌, ℕ, ◌+◌, ◌*◌, ◌++◌, Bool, List, drop, map}
 use Rattle.tree.specs.Tree.{parts_of, text_of, node_total}
 use Rattle.tree.specs.Node.{node_tree}
-use Rattle.spellings.specs.Outlines.{parts_after}
+use Rattle.spelling_table.specs.Outlines.{parts_after}
 use Rattle.language.specs.Pieces.{Role}
 use Rattle.tree.specs.HeldRows.{HoldsRows}
 use Rattle.tree.specs.declared.node_use.NodeUse.{NodeUse}

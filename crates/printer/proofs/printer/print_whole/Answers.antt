@@ -6,7 +6,7 @@ use Rattle.language.specs.Pieces.{script}
 use Rattle.language.specs.Layout.{layout}
 use Rattle.language.specs.LayoutFits.{fits}
 use Rattle.printer.specs.Fits.{wrapped_by}
-use Rattle.spellings.specs.declared.position.Position.TheVariants.{Script}
+use Rattle.spelling_table.specs.declared.position.Position.TheVariants.{Script}
 use Rattle.printer.specs.Sheets.{seen}
 use Rattle.printer.specs.Standings.{Puts, Stands, Adds}
 use Rattle.printer.proofs.Heights.{height_within}

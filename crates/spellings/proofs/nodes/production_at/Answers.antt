@@ -2,7 +2,7 @@ use Rattle.std.proofs.Common.{◌≡◌, ◌∙◌, sym, ap}
 use Rattle.tree.specs.Node.{node_tree}
 use Rattle.tree.specs.Tree.{Tree}
 use Rattle.language.specs.Vocabulary.{is_super}
-use Rattle.spellings.specs.declared.position.Position.{Position}
+use Rattle.spelling_table.specs.declared.position.Position.{Position}
 use Rattle.spellings.specs.Others.{leaf_if, is_chunk, name_outline, key_outline, quoted_outline, quasi_outline, spread_outline, property_outline, pattern_outline, class_body_outline}
 use Rattle.spellings.specs.Statements.{block_outline, body_outline, script_outline}
 use Rattle.spellings.specs.Positions.{outline_at}

@@ -1,5 +1,5 @@
 use Rattle.std.proofs.Common.{sym, ◌∙◌}
-use Rattle.spellings.specs.Productions.{outline_of}
+use Rattle.spelling_table.specs.Productions.{outline_of}
 use Rattle.spellings.proofs.PartsAfter.{over_runs}
 use Rattle.spellings.proofs.Productions.{without_list}
 use Rattle.spellings.proofs.spelled_node.goes_over.Goals as goal

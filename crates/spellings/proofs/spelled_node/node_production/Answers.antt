@@ -1,7 +1,7 @@
 use Rattle.std.proofs.Common.{sym, ◌∙◌, refl}
 use Rattle.tree.specs.Node.{node_tree}
 use Rattle.spellings.specs.Wherever.{spelled_by}
-use Rattle.spellings.specs.Productions.{outline_of}
+use Rattle.spelling_table.specs.Productions.{outline_of}
 use Rattle.spellings.proofs.Wherever.{nowhere_without_outline, nowhere_unless_lean, nowhere_unless_over, spelled_wherever, chain_known}
 use Rattle.spellings.proofs.spelled_node.node_production.Goals as goal
 

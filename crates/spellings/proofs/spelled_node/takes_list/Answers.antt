@@ -1,5 +1,5 @@
 use Rattle.std.proofs.Common.{◌∙◌}
-use Rattle.spellings.specs.Outlines.{tail_slots, parts_after}
+use Rattle.spelling_table.specs.Outlines.{tail_slots, parts_after}
 use Rattle.spellings.specs.Remaining.{goes_over}
 use Rattle.spellings.proofs.spelled_node.takes_list.Goals as goal
 

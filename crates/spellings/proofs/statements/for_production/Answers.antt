@@ -1,7 +1,7 @@
 use Rattle.std.proofs.Common.{sym, ◌∙◌}
 use Rattle.std.specs.Prelude.{Some}
-use Rattle.spellings.specs.declared.production.Production.TheVariants.{For}
-use Rattle.spellings.specs.Productions.{outline_of}
+use Rattle.spelling_table.specs.declared.production.Production.TheVariants.{For}
+use Rattle.spelling_table.specs.Productions.{outline_of}
 use Rattle.spellings.proofs.Productions.{for_past, for_given}
 use Rattle.spellings.proofs.statements.for_production.Goals as goal
 

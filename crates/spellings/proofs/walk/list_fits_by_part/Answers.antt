@@ -1,7 +1,7 @@
 use Rattle.std.proofs.Common.{◌∙◌, ◌<◌, suc, sym, arith}
 use Rattle.tree.specs.Node.{node_tree, list_parts}
 use Rattle.tree.specs.Tree.{part_count}
-use Rattle.spellings.specs.Outlines.{parts_after}
+use Rattle.spelling_table.specs.Outlines.{parts_after}
 use Rattle.spellings.proofs.PartsAfter.{over_runs, end_runs, gap_stops, gap_passes, part_stops, part_passes, left-behind}
 use Rattle.spellings.proofs.walk.list_fits_by_part.Goals as goal
 

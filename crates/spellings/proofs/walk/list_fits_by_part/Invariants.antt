@@ -1,6 +1,6 @@
 use Rattle.std.proofs.Common.{◌≡◌}
 use Rattle.tree.specs.Node.{list_parts}
-use Rattle.spellings.specs.Outlines.{tail_slots, parts_after}
+use Rattle.spelling_table.specs.Outlines.{tail_slots, parts_after}
 use Rattle.spellings.specs.Remaining.{goes_over}
 use Rattle.spellings.proofs.walk.list_fits_by_part.Given as goal
 

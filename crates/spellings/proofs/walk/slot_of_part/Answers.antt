@@ -1,5 +1,5 @@
 use Rattle.std.proofs.Common.{◌∙◌, ap, nat_eq, sym}
-use Rattle.spellings.specs.Outlines.{tail_at}
+use Rattle.spelling_table.specs.Outlines.{tail_at}
 use Rattle.spellings.proofs.PartsAfter.{none-count, before-count}
 use Rattle.spellings.proofs.walk.slot_of_part.Goals as goal
 

@@ -3,7 +3,7 @@ use Rattle.tree.specs.Node.{node_tree}
 use Rattle.tree.specs.Tree.{parts_of, part_at, node_total}
 use Rattle.tree.proofs.PartWalk.{part_smaller}
 use Rattle.language.specs.Expressions.{first_has_optional}
-use Rattle.spellings.specs.Productions.{outline_of}
+use Rattle.spelling_table.specs.Productions.{outline_of}
 use Rattle.spellings.specs.Wherever.{chain_above}
 use Rattle.cost_table.proofs.NodeRowNumbers.{chained_at}
 use Rattle.unwrapping.proofs.choice.+choosing.Goals as goal

@@ -1,7 +1,7 @@
 use Rattle.std.proofs.Common.{◌≡◌, ◌∙◌, ◌<◌, false, sym, ap, arith}
 use Rattle.tree.specs.Node.{list_parts}
 use Rattle.tree.specs.Tree.{part_count}
-use Rattle.spellings.specs.Outlines.{parts_after, is_over}
+use Rattle.spelling_table.specs.Outlines.{parts_after, is_over}
 use Rattle.spellings.specs.Remaining.{slots_left}
 use Rattle.spellings.proofs.PartsAfter.{over_left, end_left, gap_left, gap_skipped}
 use Rattle.spellings.proofs.slot_cursor.SlotCursor.take_after.Goals as goal

@@ -1,6 +1,6 @@
 use Rattle.std.proofs.Common.{◌≡◌}
 use Rattle.tree.specs.Node.{list_parts}
-use Rattle.spellings.specs.Outlines.{parts_after}
+use Rattle.spelling_table.specs.Outlines.{parts_after}
 use Rattle.spellings.specs.Remaining.{slots_left}
 use Rattle.spellings.proofs.slot_cursor.SlotCursor.take_after.Given as goal
 

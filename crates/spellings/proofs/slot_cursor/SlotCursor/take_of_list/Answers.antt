@@ -1,6 +1,6 @@
 use Rattle.std.proofs.Common.{◌∙◌, ◌<◌, ◌∷◌, suc, sym, ap, arith, add-one}
 use Rattle.tree.specs.Node.{node_tree, list_parts}
-use Rattle.spellings.specs.Outlines.{slot_of, parts_after}
+use Rattle.spelling_table.specs.Outlines.{slot_of, parts_after}
 use Rattle.spellings.specs.Remaining.{slots_left}
 use Rattle.spellings.proofs.PartsAfter.{over_left, part_left, left-behind, steady_left, steady_part}
 use Rattle.spellings.proofs.Given.{refused, stepped}

@@ -1,0 +1,2 @@
+pub mod PositionRequirements
+pub mod Arguments

@@ -1,0 +1,4 @@
+pub mod Outlines
+pub mod Productions
+pub mod Requirements
+pub mod FirstSlots

@@ -1,0 +1,20 @@
+#![tactic(auto)]
+
+//! Each production of the table: what it requires of its node's position, and the slots of the node's parts.
+
+mod first_slots;
+mod list_slots;
+mod outline;
+mod position;
+mod production;
+mod requirements;
+
+pub use first_slots::{SlotIndex, first_slot, list_of};
+pub use list_slots::{
+    Next, bound, is_of_arguments, is_over, may_end, next_slot, skips_gap, steady_slot, takes_all,
+    with_default,
+};
+pub use outline::{FirstToken, FixedSlots, ListSlots, Outline};
+pub use position::{ASSIGNMENT, Position, Slot, WHOLE, resolve_slot};
+pub use production::{ForInit, Production, TryClauses};
+pub use requirements::{Requirements, admits, fits};

@@ -1,0 +1,778 @@
+//! How a node is spelled, in a few bytes: its outline, and so the positions of its parts, is read off it.
+
+ghost use Rattle.std.specs.Prelude.{◌≡◌, true, false, cond};
+ghost use Rattle.language.specs.declared.Rank.TheVariants.{LeftHandSide, Call, Primary, Assignment};
+ghost use Rattle.language.specs.declared.Start.TheVariants.{Any};
+ghost use Rattle.spelling_table.specs.declared.position.Position.TheVariants;
+ghost use Rattle.spelling_table.specs.declared.position.Slot.TheVariants.{Fixed, Lead, Callee, LeadPattern};
+ghost use Rattle.spelling_table.specs.declared.outline.FixedSlots.TheVariants.{One, Two};
+ghost use Rattle.spelling_table.specs.declared.outline.ListSlots.TheVariants.{Arguments};
+ghost use Rattle.spelling_table.specs.declared.production.Production.TheVariants as by;
+ghost use Rattle.spelling_table.specs.Outlines.{fronted, lined};
+ghost use Rattle.spelling_table.specs.Productions.{body_at, list_outline, key_slot as slot_of_key, outline_of, has_list as lists_parts, link_of, selected_if, for_slots as slots_of_for, for_rest as rest_of_for, for_after_first as behind_of_for, try_slots as slots_of_try};
+
+use crate::outline::{FirstToken, FixedSlots, ListSlots, Outline};
+use crate::position::{ASSIGNMENT, Position, Slot, WHOLE};
+use language::{Rank, Start};
+
+/// What stands first in the head of a `for`.
+#[derive(Clone, Copy)]
+pub enum ForInit {
+    Nothing,
+    Declaration,
+    Value,
+}
+
+/// What stands behind the block of a `try`.
+#[derive(Clone, Copy)]
+pub enum TryClauses {
+    Handler,
+    Finalizer,
+    Both,
+}
+
+/// How a node is spelled at a position: which way of the table, as far as the positions of its parts go.
+#[derive(Clone, Copy)]
+pub enum Production {
+    /// Without parts at positions.
+    Leaf,
+    Array,
+    Object,
+    Template,
+    Function {
+        is_named: bool,
+    },
+    Class {
+        is_named: bool,
+        extends: bool,
+    },
+    Arrow {
+        is_expression: bool,
+    },
+    Tagged,
+    Member {
+        of_super: bool,
+        is_computed: bool,
+    },
+    Call {
+        of_super: bool,
+    },
+    New,
+    Meta,
+    Import,
+    Chain,
+    Update {
+        is_prefix: bool,
+    },
+    Unary,
+    /// Two operands that an operator binds.
+    Infix {
+        own: Rank,
+        right: Rank,
+        needs_in: bool,
+    },
+    Exponentiation,
+    Conditional,
+    Assignment {
+        to_pattern: bool,
+    },
+    Sequence,
+    /// A member as a part of a chain; whether the chain goes on below it.
+    MemberLink {
+        goes_on: bool,
+        is_computed: bool,
+    },
+    CallLink {
+        goes_on: bool,
+    },
+    /// A key, and what stands behind it at a position.
+    Keyed {
+        is_computed: bool,
+        value: Position,
+    },
+    /// A shorthand key, and its value at a position.
+    ShorthandProperty(Position),
+    ArrayPattern {
+        binds: bool,
+    },
+    ObjectPattern {
+        binds: bool,
+    },
+    /// What has a default, at a position.
+    WithDefault(Position),
+    /// One part, at a position.
+    Single(Position),
+    ClassBody,
+    /// The function of a setter, whose parameter is at a position.
+    Setter(Position),
+    /// The function of another method.
+    Method,
+    Items {
+        returns: bool,
+    },
+    Prologue {
+        returns: bool,
+    },
+    /// Declarators at a position.
+    Declarators(Position),
+    /// A declarator with an initialiser, whose name is at a position.
+    Initialised {
+        name: Position,
+        has_in: bool,
+    },
+    If {
+        has_else: bool,
+        returns: bool,
+    },
+    Labeled {
+        returns: bool,
+    },
+    DoWhile {
+        returns: bool,
+    },
+    While {
+        returns: bool,
+    },
+    For {
+        init: ForInit,
+        has_test: bool,
+        has_update: bool,
+        returns: bool,
+    },
+    /// A for-in or for-of, whose left side is at a position.
+    ForInOf {
+        left: Position,
+        is_of: bool,
+        returns: bool,
+    },
+    Switch {
+        returns: bool,
+    },
+    Case {
+        has_test: bool,
+        returns: bool,
+    },
+    Try {
+        guards: TryClauses,
+        returns: bool,
+    },
+    /// What catches, whose parameter is at a position.
+    Catch {
+        parameter: Position,
+        returns: bool,
+    },
+}
+
+impl Production {
+    /// Its outline. Each is made in a function of its own, since a function sets what it holds to zero whichever branch it takes.
+    pub fn outline(self) -> Outline
+        ensures { result ≡ outline_of self }
+    {
+        match self {
+            Production::Leaf => Outline::leaf(Rank::Primary),
+            Production::Array => array(),
+            Production::Object => object(),
+            Production::Template => template(),
+            Production::Function { is_named } => function(is_named),
+            Production::Class { is_named, extends } => class(is_named, extends),
+            Production::Arrow { is_expression } => arrow(is_expression),
+            Production::Tagged => tagged(),
+            Production::Member {
+                of_super,
+                is_computed,
+            } => member(of_super, is_computed),
+            Production::Call { of_super } => call(of_super),
+            Production::New => new(),
+            Production::Meta => meta(),
+            Production::Import => import(),
+            Production::Chain => chain(),
+            Production::Update { is_prefix } => update(is_prefix),
+            Production::Unary => unary(),
+            Production::Infix {
+                own,
+                right,
+                needs_in,
+            } => infix(own, right, needs_in),
+            Production::Exponentiation => power(),
+            Production::Conditional => conditional(),
+            Production::Assignment { to_pattern } => assignment(to_pattern),
+            Production::Sequence => sequence(),
+            Production::MemberLink {
+                goes_on,
+                is_computed,
+            } => member_link(goes_on, is_computed),
+            Production::CallLink { goes_on } => call_link(goes_on),
+            Production::Keyed { is_computed, value } => keyed(is_computed, value),
+            Production::ShorthandProperty(value) => echo(value),
+            Production::ArrayPattern { binds } => array_pattern(binds),
+            Production::ObjectPattern { binds } => object_pattern(binds),
+            Production::WithDefault(target) => defaulted(target),
+            Production::Single(part) => single(part),
+            Production::ClassBody => class_body(),
+            Production::Setter(parameter) => setter(parameter),
+            Production::Method => method(),
+            Production::Items { returns } => items(returns),
+            Production::Prologue { returns } => prologue(returns),
+            Production::Declarators(position) => declarators(position),
+            Production::Initialised { name, has_in } => initialised(name, has_in),
+            Production::If { has_else, returns } => if_statement(has_else, returns),
+            Production::Labeled { returns } => labeled(returns),
+            Production::DoWhile { returns } => do_while(returns),
+            Production::While { returns } => while_loop(returns),
+            Production::For {
+                init,
+                has_test,
+                has_update,
+                returns,
+            } => for_loop(init, has_test, has_update, returns),
+            Production::ForInOf {
+                left,
+                is_of,
+                returns,
+            } => for_in_of(left, is_of, returns),
+            Production::Switch { returns } => switch(returns),
+            Production::Case { has_test, returns } => case(has_test, returns),
+            Production::Try { guards, returns } => try_statement(guards, returns),
+            Production::Catch { parameter, returns } => catch(parameter, returns),
+        }
+    }
+}
+
+impl Production {
+    /// Whether a list of parts stands behind the first ones.
+    pub fn has_list(self) -> bool
+        ensures { result ≡ lists_parts self }
+    {
+        matches!(
+            self,
+            Production::Array
+                | Production::Object
+                | Production::Template
+                | Production::Function { .. }
+                | Production::Arrow { .. }
+                | Production::Call { .. }
+                | Production::New
+                | Production::Sequence
+                | Production::CallLink { .. }
+                | Production::ArrayPattern { .. }
+                | Production::ObjectPattern { .. }
+                | Production::ClassBody
+                | Production::Method
+                | Production::Items { .. }
+                | Production::Prologue { .. }
+                | Production::Declarators(_)
+                | Production::Switch { .. }
+                | Production::Case { .. }
+        )
+    }
+}
+
+fn two(first: Slot, second: Slot) -> Outline
+    ensures { result ≡ fronted Primary (Two first second) }
+{
+    Outline::of_front(Rank::Primary, FixedSlots::Two(first, second))
+}
+
+/// A list of all parts.
+fn list(tail: ListSlots) -> Outline
+    ensures { result ≡ list_outline tail }
+{
+    Outline::of_list(Rank::Primary, FixedSlots::Zero, tail, 0)
+}
+
+fn array() -> Outline
+    ensures { result ≡ outline_of by.Array }
+{
+    list(ListSlots::Arguments { holes: true })
+}
+
+fn object() -> Outline
+    ensures { result ≡ outline_of by.Object }
+{
+    list(ListSlots::ObjectParts).opening(FirstToken::Brace)
+}
+
+fn template() -> Outline
+    ensures { result ≡ outline_of by.Template }
+{
+    list(ListSlots::Chunks { is_first: true })
+}
+
+fn tagged() -> Outline
+    ensures { result ≡ outline_of by.Tagged }
+{
+    let front = FixedSlots::Two(Slot::Callee, Slot::Fixed(Position::TaggedQuasi));
+    Outline::of_front(Rank::Member, front)
+}
+
+fn member(of_super: bool, is_computed: bool) -> Outline
+    ensures { result ≡ outline_of (by.Member of_super is_computed) }
+{
+    let front = FixedSlots::Two(object_of(of_super), selected(is_computed));
+    Outline::of_front(Rank::Member, front)
+}
+
+fn call(of_super: bool) -> Outline
+    ensures { result ≡ outline_of (by.Call of_super) }
+{
+    with_arguments(Rank::Call, callee(of_super))
+}
+
+fn new() -> Outline
+    ensures { result ≡ outline_of by.New }
+{
+    with_arguments(Rank::Member, Slot::Fixed(at(Rank::Member)))
+}
+
+fn meta() -> Outline
+    ensures { result ≡ outline_of by.Meta }
+{
+    let word = Slot::Fixed(Position::IdentifierName);
+    Outline::of_front(Rank::Member, FixedSlots::Two(word, word))
+}
+
+fn import() -> Outline
+    ensures { result ≡ outline_of by.Import }
+{
+    Outline::of_front(Rank::Call, FixedSlots::One(Slot::Fixed(ASSIGNMENT)))
+}
+
+fn chain() -> Outline
+    ensures { result ≡ outline_of by.Chain }
+{
+    Outline::of_front(Rank::LeftHandSide, FixedSlots::One(Slot::LeadSpine))
+}
+
+fn update(is_prefix: bool) -> Outline
+    ensures { result ≡ outline_of (by.Update is_prefix) }
+{
+    Outline::of_front(Rank::Update, FixedSlots::One(update_operand(is_prefix)))
+}
+
+fn unary() -> Outline
+    ensures { result ≡ outline_of by.Unary }
+{
+    Outline::of_front(Rank::Unary, FixedSlots::One(Slot::Fixed(at(Rank::Unary))))
+}
+
+fn assignment(to_pattern: bool) -> Outline
+    ensures { result ≡ outline_of (by.Assignment to_pattern) }
+{
+    let right = Slot::Tail(Rank::Assignment, Start::Any);
+    Outline::of_front(
+        Rank::Assignment,
+        FixedSlots::Two(assigned(to_pattern), right),
+    )
+}
+
+fn sequence() -> Outline
+    ensures { result ≡ outline_of by.Sequence }
+{
+    let front = FixedSlots::One(Slot::Left(Rank::Assignment));
+    let tail = ListSlots::Each(Slot::Tail(Rank::Assignment, Start::Any));
+    Outline::of_list(Rank::Expression, front, tail, 1)
+}
+
+fn member_link(goes_on: bool, is_computed: bool) -> Outline
+    ensures { result ≡ outline_of (by.MemberLink goes_on is_computed) }
+{
+    two(below(goes_on), selected(is_computed))
+}
+
+fn call_link(goes_on: bool) -> Outline
+    ensures { result ≡ outline_of (by.CallLink goes_on) }
+{
+    with_arguments(Rank::Primary, below(goes_on))
+}
+
+fn keyed(is_computed: bool, value: Position) -> Outline
+    ensures { result ≡ outline_of (by.Keyed is_computed value) }
+{
+    two(key(is_computed), Slot::Fixed(value))
+}
+
+fn echo(value: Position) -> Outline
+    ensures { result ≡ outline_of (by.ShorthandProperty value) }
+{
+    two(Slot::Fixed(Position::ShorthandKey), Slot::Fixed(value))
+}
+
+fn array_pattern(binds: bool) -> Outline
+    ensures { result ≡ outline_of (by.ArrayPattern binds) }
+{
+    list(ListSlots::PatternElements { binds })
+}
+
+fn object_pattern(binds: bool) -> Outline
+    ensures { result ≡ outline_of (by.ObjectPattern binds) }
+{
+    list(ListSlots::PatternProperties { binds }).opening(FirstToken::Brace)
+}
+
+fn defaulted(target: Position) -> Outline
+    ensures { result ≡ outline_of (by.WithDefault target) }
+{
+    two(Slot::Fixed(target), Slot::Fixed(ASSIGNMENT))
+}
+
+fn single(part: Position) -> Outline
+    ensures { result ≡ outline_of (by.Single part) }
+{
+    Outline::of_front(Rank::Primary, FixedSlots::One(Slot::Fixed(part)))
+}
+
+fn class_body() -> Outline
+    ensures { result ≡ outline_of by.ClassBody }
+{
+    list(ListSlots::Each(Slot::Fixed(Position::Member)))
+}
+
+fn setter(parameter: Position) -> Outline
+    ensures { result ≡ outline_of (by.Setter parameter) }
+{
+    two(Slot::Fixed(parameter), Slot::Fixed(Position::Body))
+}
+
+fn method() -> Outline
+    ensures { result ≡ outline_of by.Method }
+{
+    let tail = ListSlots::Parameters(Slot::Fixed(Position::Body));
+    Outline::of_list(Rank::Primary, FixedSlots::Zero, tail, 1)
+}
+
+fn items(returns: bool) -> Outline
+    ensures { result ≡ outline_of (by.Items returns) }
+{
+    list(ListSlots::Each(Slot::Fixed(Position::StatementListItem { returns })))
+}
+
+fn prologue(returns: bool) -> Outline
+    ensures { result ≡ outline_of (by.Prologue returns) }
+{
+    list(ListSlots::Prologue {
+        returns,
+        is_open: true,
+    })
+}
+
+fn declarators(position: Position) -> Outline
+    ensures { result ≡ outline_of (by.Declarators position) }
+{
+    list(ListSlots::Some(Slot::Fixed(position)))
+}
+
+fn labeled(returns: bool) -> Outline
+    ensures { result ≡ outline_of (by.Labeled returns) }
+{
+    two(Slot::Fixed(Position::Name), body(returns))
+}
+
+fn do_while(returns: bool) -> Outline
+    ensures { result ≡ outline_of (by.DoWhile returns) }
+{
+    two(body(returns), Slot::Fixed(WHOLE))
+}
+
+fn while_loop(returns: bool) -> Outline
+    ensures { result ≡ outline_of (by.While returns) }
+{
+    two(Slot::Fixed(WHOLE), body(returns))
+}
+
+fn for_loop(init: ForInit, has_test: bool, has_update: bool, returns: bool) -> Outline
+    ensures { result ≡ outline_of (by.For init has_test has_update returns) }
+{
+    let front = for_slots(init, has_test, has_update, body(returns));
+    Outline::of_front(Rank::Primary, front)
+}
+
+fn switch(returns: bool) -> Outline
+    ensures { result ≡ outline_of (by.Switch returns) }
+{
+    let tail = ListSlots::Each(Slot::Fixed(Position::SwitchCase { returns }));
+    Outline::of_list(Rank::Primary, FixedSlots::One(Slot::Fixed(WHOLE)), tail, 1)
+}
+
+fn try_statement(guards: TryClauses, returns: bool) -> Outline
+    ensures { result ≡ outline_of (by.Try guards returns) }
+{
+    Outline::of_front(Rank::Primary, try_slots(guards, returns))
+}
+
+fn catch(parameter: Position, returns: bool) -> Outline
+    ensures { result ≡ outline_of (by.Catch parameter returns) }
+{
+    two(
+        Slot::Fixed(parameter),
+        Slot::Fixed(Position::Block { returns }),
+    )
+}
+
+/// An expression's part at a symbol, with In.
+pub(crate) fn at(rank: Rank) -> Position
+    ensures { result ≡ TheVariants.Expression rank true Any }
+{
+    Position::Expression {
+        rank,
+        has_in: true,
+        start: Start::Any,
+    }
+}
+
+fn function(is_named: bool) -> Outline
+    ensures { result ≡ outline_of (by.Function is_named) }
+{
+    let front = if is_named {
+        FixedSlots::One(Slot::Fixed(Position::Name))
+    } else {
+        FixedSlots::Zero
+    };
+    let tail = ListSlots::Parameters(Slot::Fixed(Position::Body));
+    Outline::of_list(Rank::Primary, front, tail, 1).opening(FirstToken::FunctionOrClass)
+}
+
+fn class(is_named: bool, extends: bool) -> Outline
+    ensures { result ≡ outline_of (by.Class is_named extends) }
+{
+    let (name, body) = (
+        Slot::Fixed(Position::Name),
+        Slot::Fixed(Position::ClassBody),
+    );
+    let base = Slot::Fixed(at(Rank::LeftHandSide));
+    let front = match (is_named, extends) {
+        (false, false) => FixedSlots::One(body),
+        (false, true) => FixedSlots::Two(base, body),
+        (true, false) => FixedSlots::Two(name, body),
+        (true, true) => FixedSlots::Three(name, base, body),
+    };
+    Outline::of_front(Rank::Primary, front).opening(FirstToken::FunctionOrClass)
+}
+
+fn arrow(is_expression: bool) -> Outline
+    ensures { result ≡ outline_of (by.Arrow is_expression) }
+{
+    let body = if is_expression {
+        Slot::Tail(Rank::Assignment, Start::NoBrace)
+    } else {
+        Slot::Fixed(Position::Body)
+    };
+    Outline::of_list(
+        Rank::Assignment,
+        FixedSlots::Zero,
+        ListSlots::Parameters(body),
+        0,
+    )
+}
+
+/// What has arguments.
+fn with_arguments(rank: Rank, callee: Slot) -> Outline
+    ensures { result ≡ lined rank (One callee) (Arguments false) 1 }
+{
+    let tail = ListSlots::Arguments { holes: false };
+    Outline::of_list(rank, FixedSlots::One(callee), tail, 1)
+}
+
+/// The object of a member.
+pub(crate) fn object_of(of_super: bool) -> Slot
+    ensures { result ≡ cond of_super (Fixed TheVariants.Super) Callee }
+{
+    if of_super {
+        return Slot::Fixed(Position::Super);
+    }
+    Slot::Callee
+}
+
+/// What is called.
+pub(crate) fn callee(of_super: bool) -> Slot
+    ensures { result ≡ cond of_super (Fixed TheVariants.Super) (Lead Call) }
+{
+    if of_super {
+        return Slot::Fixed(Position::Super);
+    }
+    Slot::Lead(Rank::Call)
+}
+
+/// The property of a member.
+pub(crate) fn selected(is_computed: bool) -> Slot
+    ensures { result ≡ selected_if is_computed }
+{
+    if is_computed {
+        return Slot::Fixed(WHOLE);
+    }
+    Slot::Fixed(Position::IdentifierName)
+}
+
+/// What stands below a part of a chain.
+fn below(goes_on: bool) -> Slot
+    ensures { result ≡ link_of goes_on }
+{
+    if goes_on {
+        return Slot::LeadSpine;
+    }
+    Slot::Lead(Rank::Call)
+}
+
+/// The operand of `++` or `--`.
+pub(crate) fn update_operand(is_prefix: bool) -> Slot
+    ensures { result ≡ cond is_prefix (Fixed (TheVariants.Expression LeftHandSide true Any)) (Lead LeftHandSide) }
+{
+    if is_prefix {
+        return Slot::Fixed(at(Rank::LeftHandSide));
+    }
+    Slot::Lead(Rank::LeftHandSide)
+}
+
+/// The left side of an assignment.
+pub(crate) fn assigned(to_pattern: bool) -> Slot
+    ensures { result ≡ cond to_pattern LeadPattern (Lead LeftHandSide) }
+{
+    if to_pattern {
+        return Slot::LeadPattern;
+    }
+    Slot::Lead(Rank::LeftHandSide)
+}
+
+fn infix(own: Rank, right: Rank, needs_in: bool) -> Outline
+    ensures { result ≡ outline_of (by.Infix own right needs_in) }
+{
+    let front = FixedSlots::Two(Slot::Left(own), Slot::Tail(right, Start::Any));
+    Outline {
+        needs_in,
+        ..Outline::of_front(own, front)
+    }
+}
+
+fn power() -> Outline
+    ensures { result ≡ outline_of by.Exponentiation }
+{
+    let right = Slot::Fixed(at(Rank::Exponentiation));
+    let front = FixedSlots::Two(Slot::Lead(Rank::Update), right);
+    Outline::of_front(Rank::Exponentiation, front)
+}
+
+fn conditional() -> Outline
+    ensures { result ≡ outline_of by.Conditional }
+{
+    let front = FixedSlots::Three(
+        Slot::Left(Rank::ShortCircuit),
+        Slot::Fixed(ASSIGNMENT),
+        Slot::Tail(Rank::Assignment, Start::Any),
+    );
+    Outline::of_front(Rank::Conditional, front)
+}
+
+/// A property's key.
+pub(crate) fn key(is_computed: bool) -> Slot
+    ensures { result ≡ slot_of_key is_computed }
+{
+    if is_computed {
+        return Slot::Fixed(ASSIGNMENT);
+    }
+    Slot::Fixed(Position::PropertyName)
+}
+
+/// The position of a statement's body.
+pub(crate) fn body(returns: bool) -> Slot
+    ensures { result ≡ body_at returns }
+{
+    Slot::Fixed(Position::Statement { returns })
+}
+
+fn initialised(name: Position, has_in: bool) -> Outline
+    ensures { result ≡ outline_of (by.Initialised name has_in) }
+{
+    two(Slot::Fixed(name), initialiser(has_in))
+}
+
+/// What initialises.
+pub(crate) fn initialiser(has_in: bool) -> Slot
+    ensures { result ≡ Fixed (TheVariants.Expression Assignment has_in Any) }
+{
+    Slot::Fixed(Position::Expression {
+        rank: Rank::Assignment,
+        has_in,
+        start: Start::Any,
+    })
+}
+
+fn if_statement(has_else: bool, returns: bool) -> Outline
+    ensures { result ≡ outline_of (by.If has_else returns) }
+{
+    let (test, branch) = (Slot::Fixed(WHOLE), body(returns));
+    if has_else {
+        return Outline::of_front(Rank::Primary, FixedSlots::Three(test, branch, branch));
+    }
+    two(test, branch)
+}
+
+/// The head of a `for` and its body.
+fn for_slots(init: ForInit, has_test: bool, has_update: bool, body: Slot) -> FixedSlots
+    ensures { result ≡ slots_of_for init has_test has_update body }
+{
+    let first = match init {
+        ForInit::Nothing => return for_rest(has_test, has_update, body),
+        ForInit::Declaration => Position::ForDeclaration { initialised: true },
+        ForInit::Value => Position::Expression {
+            rank: Rank::Expression,
+            has_in: false,
+            start: Start::Any,
+        },
+    };
+    for_after_first(Slot::Fixed(first), has_test, has_update, body)
+}
+
+fn for_rest(has_test: bool, has_update: bool, body: Slot) -> FixedSlots
+    ensures { result ≡ rest_of_for has_test has_update body }
+{
+    let whole = Slot::Fixed(WHOLE);
+    match (has_test, has_update) {
+        (false, false) => FixedSlots::One(body),
+        (true, false) | (false, true) => FixedSlots::Two(whole, body),
+        (true, true) => FixedSlots::Three(whole, whole, body),
+    }
+}
+
+fn for_after_first(first: Slot, has_test: bool, has_update: bool, body: Slot) -> FixedSlots
+    ensures { result ≡ behind_of_for first has_test has_update body }
+{
+    let whole = Slot::Fixed(WHOLE);
+    match (has_test, has_update) {
+        (false, false) => FixedSlots::Two(first, body),
+        (true, false) | (false, true) => FixedSlots::Three(first, whole, body),
+        (true, true) => FixedSlots::Four(first, whole, whole, body),
+    }
+}
+
+fn for_in_of(left: Position, is_of: bool, returns: bool) -> Outline
+    ensures { result ≡ outline_of (by.ForInOf left is_of returns) }
+{
+    let right = if is_of { ASSIGNMENT } else { WHOLE };
+    let front = FixedSlots::Three(Slot::Fixed(left), Slot::Fixed(right), body(returns));
+    Outline::of_front(Rank::Primary, front)
+}
+
+fn case(has_test: bool, returns: bool) -> Outline
+    ensures { result ≡ outline_of (by.Case has_test returns) }
+{
+    let front = if has_test {
+        FixedSlots::One(Slot::Fixed(WHOLE))
+    } else {
+        FixedSlots::Zero
+    };
+    let tail = ListSlots::Each(Slot::Fixed(Position::StatementListItem { returns }));
+    Outline::of_list(Rank::Primary, front, tail, 1)
+}
+
+fn try_slots(guards: TryClauses, returns: bool) -> FixedSlots
+    ensures { result ≡ slots_of_try guards returns }
+{
+    let (block, handler) = (
+        Slot::Fixed(Position::Block { returns }),
+        Slot::Fixed(Position::CatchClause { returns }),
+    );
+    match guards {
+        TryClauses::Handler => FixedSlots::Two(block, handler),
+        TryClauses::Finalizer => FixedSlots::Two(block, block),
+        TryClauses::Both => FixedSlots::Three(block, handler, block),
+    }
+}
