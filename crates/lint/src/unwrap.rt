@@ -12,7 +12,7 @@ use parser::{Parsed, parse};
 use source_text::{Fault, Source};
 use std::alloc::{AllocError, Global};
 use tree::{Program, same_tree};
-use unwrapping::{TreeReading, keeps, tree_reading, unwrapped};
+use unwrapping::{PlannedScript, TreeReading, keeps, tree_reading, unwrapped};
 
 /// What a script's unwrapped text is compared with.
 #[derive(Clone, Copy)]
@@ -73,15 +73,14 @@ fn rewritten(
     parsed: &Parsed<'_>,
     plan: &Plan,
 ) -> Result<Vec<u8>, AllocError> {
-    let pairs = parsed.grouping_pairs();
-    unwrapped(
-        alloc,
+    let script = PlannedScript {
         source,
         reading,
-        parsed.program(),
-        pairs,
-        plan.table(),
-    )
+        program: parsed.program(),
+        pairs: parsed.grouping_pairs(),
+        table: plan.table(),
+    };
+    unwrapped(alloc, script)
 }
 
 /// The text that bytes are, if they are a script within the limits with the same tree and so many pairs, which keeps the tokens and the

@@ -24,5 +24,5 @@ pub use choice::changes_of;
 pub use keeping::keeps;
 pub use note::{Note, Reading, notes};
 pub use reading::{ByteSpan, TokenRow, TreeReading, tree_reading};
-pub use text::unwrapped;
+pub use text::{PlannedScript, unwrapped};
 pub use writer::rewritten;

@@ -8,21 +8,25 @@ use source_text::Source;
 use std::alloc::{AllocError, Global};
 use tree::{Pair, Program};
 
+/// A script with the cost table of its plan.
+#[derive(Clone, Copy)]
+pub struct PlannedScript<'o, 's> {
+    pub source: &'o Source<'s>,
+    /// What was read of its text.
+    pub reading: &'o TreeReading,
+    pub program: &'o Program<'s>,
+    /// Its grouping pairs, in order of their `(`.
+    pub pairs: &'o [Pair],
+    pub table: &'o CostTable,
+}
+
 /// The text of a script as it is, with pairs just round the nodes that want them: each where the text has it, if that costs no more.
-/// Comments stay, and so do blanks and lines where no parenthesis goes. `reading` is what was read of the text, `pairs` are its grouping
-/// pairs, in order of their `(`, and `table` is the cost table of the script's plan.
+/// Comments stay, and so do blanks and lines where no parenthesis goes.
 ///
 /// # Errors
 ///
 /// `AllocError` where memory is refused, and nothing else.
-pub fn unwrapped(
-    alloc: Global,
-    source: &Source<'_>,
-    reading: &TreeReading,
-    program: &Program<'_>,
-    pairs: &[Pair],
-    table: &CostTable,
-) -> Result<Vec<u8>, AllocError> {
-    let changes = changes_of(alloc, program, pairs, table)?;
-    rewritten(alloc, source, reading, &changes)
+pub fn unwrapped(alloc: Global, script: PlannedScript<'_, '_>) -> Result<Vec<u8>, AllocError> {
+    let changes = changes_of(alloc, script.program, script.pairs, script.table)?;
+    rewritten(alloc, script.source, script.reading, &changes)
 }
