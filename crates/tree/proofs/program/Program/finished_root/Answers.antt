@@ -4,4 +4,4 @@ use Rattle.tree.proofs.program.Program.finished_root.Goals as goal
 
 pub returns-clause-rows : goal.returns-clause-rows
 returns-clause-rows c =
-    c.at.ensures.rows NotEvaluated (root_holds c.self.inside.tree c.new-last.result c.len.result c.self.invariant c.len.ensures c.new-last.ensures.within c.new-last.ensures.node c.new-last.ensures.tree)
+    c.at.ensures.rows NotEvaluated (root_holds c.self.inside.tree c.new-last.result c.len.result c.self.invariant c.len.ensures.value c.new-last.ensures.within c.new-last.ensures.node c.new-last.ensures.tree)
