@@ -1,6 +1,6 @@
 -- How a node stands beside the position that the grammar gives it.
 use Rattle.std.specs.Prelude.{◌≡◌, ℕ, ◌+◌, Bool, true, false, ◌&&◌, ◌||◌, List, [], ◌∷◌}
-use Rattle.tree.specs.Tree.{Tree, Parts, none, part, gap, kind_of}
+use Rattle.tree.specs.Tree.{Parts, none, part, gap, kind_of}
 use Rattle.tree.specs.declared.kind.Kind.{Kind}
 use Rattle.tree.specs.declared.node_use.NodeUse.{NodeUse}
 use Rattle.tree.specs.declared.node_use.NodeUse.TheVariants.{Evaluated, ChainPart, Assigned, Bound, NotEvaluated}
