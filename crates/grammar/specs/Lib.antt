@@ -1,3 +1,5 @@
 pub mod Chains
+pub mod Infix
 pub mod Operations
+pub mod OperatorRows
 pub mod Ranks

@@ -1,7 +1,17 @@
 //! Texts, byte by byte.
 
-ghost use Rattle.std.specs.Prelude.{◌≡◌};
+ghost use Rattle.std.specs.Prelude.{◌≡◌, slice_index_or};
 ghost use Rattle.std.specs.Str.{bytes_eq};
+
+/// The first byte of a text; 0 where it has none.
+pub fn first_byte(text: &str) -> u8
+    ensures { result ≡ slice_index_or text.now 0 0 }
+{
+    match text.as_bytes().first() {
+        Some(first) => *first,
+        None => 0,
+    }
+}
 
 // Whether a text is the other. Where the other is known to the compiler this becomes a few tests of bytes, which takes less than the call that `==` is.
 #[inline(always)]

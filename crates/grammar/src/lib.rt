@@ -4,13 +4,16 @@
 
 mod byte_text;
 mod chain;
+mod infix;
 mod literals;
 mod operators;
 mod precedence;
 mod ranks;
 mod words;
 
+pub use byte_text::first_byte;
 pub use chain::has_optional;
+pub use infix::{BinaryOperator, InfixOperator, infix_of_punctuator, infix_of_word};
 pub use literals::{is_literal, literal_class};
 pub use operators::{
     Operation, is_assignment, is_prefix_operator, is_update_operator, operation_of,

@@ -1,13 +1,14 @@
 //! Operators, by their text.
 
-ghost use Rattle.std.specs.Prelude.{◌≡◌, true, false, length, [], ◌∷◌};
+ghost use Rattle.std.specs.Prelude.{◌≡◌};
 ghost use Rattle.language.specs.Vocabulary.{is_prefix, is_update_operator as is_step_text, is_assignment as is_assignment_text, operator_of};
 ghost use Rattle.language.specs.Grammar.{production_rank};
 ghost use Rattle.grammar.specs.Ranks.{binary_symbol, logical_symbol};
-ghost use Rattle.grammar.specs.Operations.{operation_at, rank_of_binary, rank_of_logical};
-ghost use Rattle.grammar.specs.declared.operators.Operation.TheVariants;
+ghost use Rattle.grammar.specs.Operations.{operation_at, operation_by, operation_by_sign, rank_of_binary, rank_of_logical};
 
+use crate::infix::{BinaryOperator, InfixOperator, infix_of};
 use language::Rank;
+use tree::Kind;
 
 /// Whether the text is `++` or `--`.
 pub fn is_update_operator(operator: &str) -> bool
@@ -20,24 +21,10 @@ pub fn is_update_operator(operator: &str) -> bool
 pub fn is_assignment(operator: &str) -> bool
     ensures { result ≡ is_assignment_text operator.now }
 {
-    matches!(
-        operator,
-        "=" | "+="
-            | "-="
-            | "*="
-            | "/="
-            | "%="
-            | "**="
-            | "<<="
-            | ">>="
-            | ">>>="
-            | "&="
-            | "|="
-            | "^="
-            | "&&="
-            | "||="
-            | "??="
-    )
+    match infix_of(operator) {
+        Some(found) => found.is_assignment(),
+        None => false,
+    }
 }
 
 /// Whether the text is that of an operator before its operand.
@@ -63,91 +50,42 @@ pub enum Operation {
     Other,
 }
 
-/// What an operator makes: looked for among the operators of its length, and those of one byte by that byte.
+/// What an operator between two operands makes.
 pub fn operation_of(operator: &str) -> Operation
     ensures { result ≡ operation_at operator.now }
 {
-    match operator.len() {
-        1 => operation_of_one(operator.as_bytes()[0]),
-        2 => operation_of_two(operator),
-        3 => operation_of_three(operator),
-        10 => operation_of_ten(operator),
-        _ => Operation::Other,
+    match infix_of(operator) {
+        Some(found) => operation_by(found),
+        None => Operation::Other,
     }
 }
 
-#[tactic(auto, unfolding(crate::specs::Operations::operation_at))]
-fn operation_of_one(operator: u8) -> Operation
-    ensures { result ≡ operation_at (operator ∷ []) }
+fn operation_by(operator: InfixOperator) -> Operation
+    ensures { result ≡ operation_by operator }
 {
     match operator {
-        b'|' => binary(Rank::BitwiseOr, Rank::BitwiseXor),
-        b'^' => binary(Rank::BitwiseXor, Rank::BitwiseAnd),
-        b'&' => binary(Rank::BitwiseAnd, Rank::Equality),
-        b'<' | b'>' => binary(Rank::Relational, Rank::Shift),
-        b'+' | b'-' => binary(Rank::Additive, Rank::Multiplicative),
-        b'*' | b'/' | b'%' => binary(Rank::Multiplicative, Rank::Exponentiation),
+        InfixOperator::Binary(sign) => operation_by_sign(sign),
         _ => Operation::Other,
     }
 }
 
-#[tactic(auto, unfolding(crate::specs::Operations::operation_at))]
-fn operation_of_two(operator: &str) -> Operation
-    requires { length operator.now ≡ 2 }
-    ensures { result ≡ operation_at operator.now }
+// Only `**` has a side at the symbol of an update.
+fn operation_by_sign(sign: BinaryOperator) -> Operation
+    ensures { result ≡ operation_by_sign sign }
 {
-    match operator {
-        "==" | "!=" => binary(Rank::Equality, Rank::Relational),
-        "<=" | ">=" | "in" => binary(Rank::Relational, Rank::Shift),
-        "<<" | ">>" => binary(Rank::Shift, Rank::Additive),
-        "**" => Operation::Powers,
-        "??" => logical(Rank::Coalesce, Rank::BitwiseOr),
-        "||" => logical(Rank::LogicalOr, Rank::LogicalAnd),
-        "&&" => logical(Rank::LogicalAnd, Rank::BitwiseOr),
-        _ => Operation::Other,
-    }
-}
-
-#[tactic(auto, unfolding(crate::specs::Operations::operation_at))]
-fn operation_of_three(operator: &str) -> Operation
-    requires { length operator.now ≡ 3 }
-    ensures { result ≡ operation_at operator.now }
-{
-    match operator {
-        "===" | "!==" => binary(Rank::Equality, Rank::Relational),
-        ">>>" => binary(Rank::Shift, Rank::Additive),
-        _ => Operation::Other,
-    }
-}
-
-#[tactic(auto, unfolding(crate::specs::Operations::operation_at))]
-fn operation_of_ten(operator: &str) -> Operation
-    requires { length operator.now ≡ 10 }
-    ensures { result ≡ operation_at operator.now }
-{
-    match operator {
-        "instanceof" => binary(Rank::Relational, Rank::Shift),
-        _ => Operation::Other,
-    }
-}
-
-fn binary(own: Rank, right: Rank) -> Operation
-    ensures { result ≡ TheVariants.Binds false own right }
-{
-    Operation::Binds {
-        is_logical: false,
+    let BinaryOperator {
+        kind,
         own,
+        left,
         right,
-    }
-}
-
-fn logical(own: Rank, right: Rank) -> Operation
-    ensures { result ≡ TheVariants.Binds true own right }
-{
-    Operation::Binds {
-        is_logical: true,
-        own,
-        right,
+    } = sign;
+    match left {
+        Rank::Update => Operation::Powers,
+        _ => Operation::Binds {
+            is_logical: matches!(kind, Kind::LogicalExpression),
+            own,
+            right,
+        },
     }
 }
 

@@ -41,7 +41,9 @@ pub fn precedence_of(rank: Rank) -> u8
 pub fn accepts_rank(position: Rank, symbol: Rank) -> bool
     ensures { result ≡ takes position symbol }
 {
-    let y = precedence_of(position);
-    let z = precedence_of(symbol);
-    y <= z && !(y == 4 && (z == 5 || z == 6)) && !(y == 19 && z == 20)
+    match (position, symbol) {
+        (Rank::Coalesce, Rank::LogicalOr | Rank::LogicalAnd) => false,
+        (Rank::New, Rank::Call) => false,
+        _ => precedence_of(position) <= precedence_of(symbol),
+    }
 }

@@ -10,8 +10,8 @@ use Rattle.language.specs.StatementStart.{StatementStart, statement_start_among,
 use Rattle.language.specs.Token.{table_text, as_read}
 use Rattle.parser_tables.specs.StatementStarts.{coded_statement_start}
 use Rattle.parser_tables.specs.declared.statements.StatementStart.TheVariants as code
-use Rattle.parser_tables.specs.OperatorRows.{only_texts, begins_with}
-use Rattle.parser_tables.proofs.Firsts.{among_only, OneByte, NoByte, begins, begins_else, begins_other}
+use Rattle.grammar.specs.OperatorRows.{only_texts, begins_with}
+use Rattle.grammar.proofs.Firsts.{among_only, OneByte, NoByte, begins, begins_else, begins_other}
 
 pub begun_by : (item returns : Bool) (t : LexicalToken) (c : TokenClass) → t.class ≡ c → coded_statement_start (statement_start_by item returns c (table_text c t.text)) ≡ coded_statement_start (statement_start item returns (as_read t))
 begun_by item returns t c e = ap (λ d. coded_statement_start (statement_start_by item returns d (table_text d t.text))) (sym e)

@@ -1,78 +1,30 @@
--- What a token makes of the expression before it, by its class and the length of its text; and where it goes on.
-use Rattle.std.proofs.Common.{◌≡◌, ℕ, Bool, true, false, cond, List, [], ◌∷◌, length, refl, sym, ap, ◌∙◌, arith}
-use Rattle.std.specs.Prelude.{IsTrue, not, ◌&&◌, ◌||◌, Option, Some, None, nat_eq, slice_index_or, filter, codes}
-use Rattle.std.proofs.lemmas.Bool.{false≢true, and_right, and_from}
-use Rattle.std.proofs.lemmas.Bool.Decides.{nat_tests}
+-- What a token makes of the expression before it, by its class; and where it goes on.
+use Rattle.std.proofs.Common.{◌≡◌, ℕ, Bool, true, false, cond, List, length, refl, sym, ap, ◌∙◌}
+use Rattle.std.specs.Prelude.{IsTrue, not, ◌&&◌, ◌||◌, Option, Some, None, nat_eq, slice_index_or, codes}
+use Rattle.std.proofs.lemmas.Bool.{and_right}
 use Rattle.std.proofs.lemmas.Slice.Eq.{bytes_eq-Decides}
-use Prim.Native.String.{String}
 use Rattle.tokens.specs.declared.token.TokenClass.{TokenClass}
 use Rattle.tokens.specs.declared.token.TokenClass.TheVariants.{IdentifierName, Punctuator, NumericLiteral, StringLiteral, Template, RegularExpressionLiteral, End}
 use Rattle.tokens.specs.declared.token.Goal.TheVariants.{Div}
 use Rattle.tokens.specs.Tokens.{LexicalToken}
 use Rattle.language.specs.declared.Rank.{Rank}
 use Rattle.language.specs.declared.Edge.{Edge}
-use Rattle.language.specs.Vocabulary.{is, among, takes, is_word_operator, Operator, op_binary, op_power, op_assign, op_update, op_comma, op_question, op_dot, op_call, op_index, op_optional, op_arrow, op_template, op_none, operators, operator_among, operator_of}
+use Rattle.language.specs.Vocabulary.{is, takes, Operator, op_binary, op_power, op_assign, op_update, op_comma, op_question, op_dot, op_call, op_index, op_optional, op_arrow, op_template, op_none}
 use Rattle.language.specs.Token.{Token, table_text, as_read, same_class, is_token}
 use Rattle.language.specs.Continuations.{of_class, operation, rank_made_by, holds, stops_at}
-use Rattle.language.proofs.table.Begins.{among_by}
 use Rattle.token_cursor.specs.CursorState.{IsAhead, NoneAhead}
 use Rattle.parser_tables.specs.declared.expression_context.ExpressionContext.{ExpressionContext}
-use Rattle.parser_tables.specs.declared.operators.InfixOperator.{InfixOperator as Coded}
-use Rattle.parser_tables.specs.Operators.{coded_operator, meant, is_short, is_long, short_operators, long_operators, word_operators, stops_by, StopsHere}
-use Rattle.parser_tables.specs.OperatorRows.{only_texts}
-use Rattle.parser_tables.specs.Tests.{links}
-use Rattle.parser_tables.proofs.Firsts.{among_only, among_none}
+use Rattle.grammar.specs.declared.infix.InfixOperator.{InfixOperator as Coded}
+use Rattle.grammar.specs.Infix.{coded_operator, meant, links}
+use Rattle.parser_tables.specs.Operators.{stops_by, StopsHere}
 use Rattle.token_cursor.proofs.TokensAhead.{none_ahead, of_ahead}
 
-pub operator_only : (p : List ℕ → Bool) (w : List ℕ) (rows : List (List String × Operator)) → p w ≡ true → operator_among w rows ≡ operator_among w (only_texts p rows)
-operator_only p w [] h = refl
-operator_only p w (row ∷ rows) h = ap (λ b. cond b row.1 (operator_among w rows)) (among_only p w row.0 h) ∙ ap (cond (among w (filter (λ s. p (codes s)) row.0)) row.1) (operator_only p w rows h)
-
-operator_none : (p : List ℕ → Bool) (w : List ℕ) (rows : List (List String × Operator)) → p w ≡ false → operator_among w (only_texts p rows) ≡ op_none
-operator_none p w [] h = refl
-operator_none p w (row ∷ rows) h = ap (λ b. cond b row.1 (operator_among w (only_texts p rows))) (among_none p w row.0 h) ∙ operator_none p w rows h
-
-name_made : (w : List ℕ) → of_class IdentifierName w ≡ operator_among w word_operators
-name_made w = of (is_word_operator w) refl
-  where
-    of : (b : Bool) → is_word_operator w ≡ b → of_class IdentifierName w ≡ operator_among w word_operators
-    of true e = ap (λ b. cond b (operator_of w) op_none) e ∙ operator_only is_word_operator w operators e
-    of false e = ap (λ b. cond b (operator_of w) op_none) e ∙ sym (operator_none is_word_operator w operators e)
-
-equal_is : (n : ℕ) → n ≡ 1 → nat_eq n 1 ≡ true
-equal_is n h = grind (arith, nat_tests)
-
-other_isnt : (n : ℕ) → (n ≡ 1 → ⊥) → nat_eq n 1 ≡ false
-other_isnt n h = grind (arith, nat_tests)
-
-short_made : (w : List ℕ) → length w ≡ 1 → of_class Punctuator w ≡ operator_among w short_operators
-short_made w one = of (is_word_operator w) refl
-  where
-    long : is_word_operator w ≡ true → is_short w ≡ false
-    long e = among_by (λ v. is_short v ≡ false) w ("delete" ∷ "void" ∷ "typeof" ∷ "in" ∷ "instanceof" ∷ []) e (refl, (refl, (refl, (refl, (refl, tt)))))
-
-    of : (b : Bool) → is_word_operator w ≡ b → of_class Punctuator w ≡ operator_among w short_operators
-    of true e = absurd (false≢true (sym (long e) ∙ equal_is (length w) one))
-    of false e = ap (λ b. cond b op_none (operator_of w)) e ∙ operator_only is_short w operators (equal_is (length w) one)
-
-long_made : (w : List ℕ) → (length w ≡ 1 → ⊥) → of_class Punctuator w ≡ operator_among w long_operators
-long_made w more = of (is_word_operator w) refl
-  where
-    of : (b : Bool) → is_word_operator w ≡ b → of_class Punctuator w ≡ operator_among w long_operators
-    of true e = ap (λ b. cond b op_none (operator_of w)) e ∙ sym (operator_none is_long w operators (and_right (not (nat_eq (length w) 1)) (not (is_word_operator w)) (ap not e)))
-    of false e =
-        ap (λ b. cond b op_none (operator_of w)) e
-        ∙ operator_only is_long w operators (and_from (not (nat_eq (length w) 1)) (not (is_word_operator w)) (ap not (other_isnt (length w) more)) (ap not e))
-
 -- what a token makes, by its class
-pub short_operation : (t : LexicalToken) → t.class ≡ Punctuator → length t.text ≡ 1 → coded_operator (operator_among t.text short_operators) t.text ≡ coded_operator (operation (as_read t)) t.text
-short_operation t c one = ap (λ x. coded_operator x t.text) (sym (ap (λ d. of_class d (table_text d t.text)) c ∙ short_made t.text one))
+pub sign_operation : (t : LexicalToken) → t.class ≡ Punctuator → coded_operator (of_class Punctuator t.text) t.text ≡ coded_operator (operation (as_read t)) t.text
+sign_operation t c = ap (λ x. coded_operator x t.text) (sym (ap (λ d. of_class d (table_text d t.text)) c))
 
-pub long_operation : (t : LexicalToken) → t.class ≡ Punctuator → (length t.text ≡ 1 → ⊥) → coded_operator (operator_among t.text long_operators) t.text ≡ coded_operator (operation (as_read t)) t.text
-long_operation t c more = ap (λ x. coded_operator x t.text) (sym (ap (λ d. of_class d (table_text d t.text)) c ∙ long_made t.text more))
-
-pub name_operation : (t : LexicalToken) → t.class ≡ IdentifierName → coded_operator (operator_among t.text word_operators) t.text ≡ coded_operator (operation (as_read t)) t.text
-name_operation t c = ap (λ x. coded_operator x t.text) (sym (ap (λ d. of_class d (table_text d t.text)) c ∙ name_made t.text))
+pub name_operation : (t : LexicalToken) → t.class ≡ IdentifierName → coded_operator (of_class IdentifierName t.text) t.text ≡ coded_operator (operation (as_read t)) t.text
+name_operation t c = ap (λ x. coded_operator x t.text) (sym (ap (λ d. of_class d (table_text d t.text)) c))
 
 pub template_operation : (t : LexicalToken) (b : Bool) → t.class ≡ Template → nat_eq (slice_index_or (as_read t).text 0 0) 96 ≡ b → coded_operator (cond b op_template op_none) t.text ≡ coded_operator (operation (as_read t)) t.text
 template_operation t b c h = ap (λ x. coded_operator x t.text) (sym (ap (λ d. of_class d (as_read t).text) c ∙ ap (λ x. cond x op_template op_none) h))

@@ -1,7 +1,5 @@
 pub mod Begun
-pub mod Firsts
 pub mod GroupSizes
-pub mod NoOperators
 pub mod StartsByClass
 pub mod InfixOperators
 pub mod Refusals

@@ -7,7 +7,6 @@ pub mod Operators
 pub mod Outcomes
 pub mod Operands
 pub mod StatementSymbols
-pub mod OperatorRows
 pub mod StatementNodes
 pub mod Tests
 pub mod Tokens

@@ -2,22 +2,15 @@
 use Rattle.std.specs.Prelude.{nat_eq, slice_index_or, Bool, true, false, ◌&&◌, ◌||◌, [], ◌∷◌, codes}
 use Rattle.tokens.specs.declared.token.TokenClass.{TokenClass}
 use Rattle.tokens.specs.declared.token.TokenClass.TheVariants.{IdentifierName, NumericLiteral, StringLiteral, Template}
-use Rattle.language.specs.Vocabulary.{Operator, op_dot, op_call, op_index, op_optional, op_template, among}
+use Rattle.language.specs.Vocabulary.{among}
 use Rattle.language.specs.Token.{Token, same_class, is_mark}
 use Rattle.language.specs.Edges.{is_end}
 use Rattle.language.specs.Continuations.{operation}
+use Rattle.grammar.specs.Infix.{links}
 use Rattle.parser_tables.specs.declared.statements.StatementListEnd.{StatementListEnd}
 use Rattle.parser_tables.specs.declared.statements.StatementListEnd.TheVariants as until
 
--- what goes on with a part of a chain (ECMA-262 12.3.9), or would, if it were no template
-abbrev pub links : Operator → Bool
-links op_dot = true
-links op_call = true
-links op_index = true
-links op_optional = true
-links op_template = true
-links _ = false
-
+-- it goes on with a part of a chain, or would, if it were no template
 abbrev pub is_link : Token → Bool
 is_link t = links (operation t)
 

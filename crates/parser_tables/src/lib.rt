@@ -20,7 +20,7 @@ pub use expression_starts::{
 };
 pub use functions_and_classes::FunctionOrClass;
 pub use operand::Operand;
-pub use operators::{BinaryOperator, InfixOperator, cannot_continue, infix_operator_of};
+pub use operators::{cannot_continue, infix_operator_of};
 pub use properties::{
     begins_key, is_constructor, is_key_class, method_form, property_flags, property_item,
 };

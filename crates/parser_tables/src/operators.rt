@@ -1,125 +1,19 @@
 //! What a token makes of the expression before it, and whether it goes on with it (ECMA-262 12.3 to 12.16).
 #![tactic(auto, using(crate::proofs::Refusals::refusals))]
 
-ghost use Rattle.std.specs.Prelude.{◌≡◌, ◌≢◌, ◌&&◌, ◌||◌, not, true, false, codes, [], ◌∷◌, IfSome};
+ghost use Rattle.std.specs.Prelude.{◌≡◌, ◌≢◌, ◌&&◌, ◌||◌, not, codes, IfSome};
 ghost use Rattle.tokens.specs.Scanned.{token_of};
 ghost use Rattle.language.specs.Token.{as_read, is_token};
-ghost use Rattle.language.specs.Vocabulary.{takes, op_binary, op_power, operator_among};
-ghost use Rattle.language.specs.Continuations.{operation, rank_made_by, holds};
-ghost use Rattle.parser_tables.specs.Tests.{links};
-ghost use Rattle.parser_tables.specs.OperatorRows.{begins_with, only_texts};
-ghost use Rattle.parser_tables.specs.Operators.{coded_operator, meant, short_operators, long_operators, word_operators};
+ghost use Rattle.language.specs.Vocabulary.{takes};
+ghost use Rattle.language.specs.Continuations.{operation, holds};
+ghost use Rattle.grammar.specs.Infix.{coded_operator};
 
 use crate::expression_context::ExpressionContext;
-use crate::token_tests::{first_byte, is_template_head};
-use grammar::{accepts_rank, precedence_of};
+use crate::token_tests::is_template_head;
+use grammar::{InfixOperator, accepts_rank, infix_of_punctuator, infix_of_word, precedence_of};
 use language::{Edge, Rank};
 use token_cursor::is_name_token;
 use tokens::{Token, TokenClass};
-use tree::Kind;
-
-/// An operator between two expressions: the kind of its node, and the symbols of that and of its two sides.
-#[derive(Clone, Copy)]
-pub struct BinaryOperator {
-    pub kind: Kind,
-    pub own: Rank,
-    pub left: Rank,
-    pub right: Rank,
-}
-
-/// What a token makes of the expression that it goes on with.
-#[derive(Clone, Copy)]
-pub enum InfixOperator {
-    /// A binary or logical operator.
-    Binary(BinaryOperator),
-    /// `=`, or another operator of an assignment.
-    Assign { is_plain: bool },
-    /// `++` or `--`.
-    PostUpdate,
-    /// The `,` of a sequence.
-    Comma,
-    /// The `?` of a conditional.
-    Question,
-    /// `.`
-    Dot,
-    /// `(`
-    OpenParen,
-    /// `[`
-    OpenBracket,
-    /// `?.`
-    QuestionDot,
-    /// `=>`
-    FatArrow,
-    /// The first part of a template.
-    TemplateHead,
-}
-
-impl InfixOperator {
-    /// The symbol of the node that it makes; behind a line break (`after_break`) `++`, `--` and `=>` make none.
-    pub fn rank(self, after_break: bool) -> Option<Rank>
-        ensures { result ≡ rank_made_by (meant self) after_break }
-    {
-        match self {
-            InfixOperator::Binary(sign) => Some(sign.own),
-            InfixOperator::PostUpdate if after_break => None,
-            InfixOperator::FatArrow if after_break => None,
-            InfixOperator::PostUpdate => Some(Rank::Update),
-            InfixOperator::Assign { .. } | InfixOperator::FatArrow => Some(Rank::Assignment),
-            InfixOperator::Comma => Some(Rank::Expression),
-            InfixOperator::Question => Some(Rank::Conditional),
-            InfixOperator::OpenParen => Some(Rank::Call),
-            InfixOperator::QuestionDot => Some(Rank::LeftHandSide),
-            InfixOperator::Dot | InfixOperator::OpenBracket | InfixOperator::TemplateHead => Some(
-                Rank::Member,
-            ),
-        }
-    }
-
-    /// Whether it goes on with a part of a chain (12.3.9), or would, if it were no template.
-    pub fn continues_chain(self) -> bool
-        ensures { result ≡ links (meant self) }
-    {
-        match self {
-            InfixOperator::Dot | InfixOperator::OpenParen | InfixOperator::OpenBracket => true,
-            InfixOperator::QuestionDot | InfixOperator::TemplateHead => true,
-            _ => false,
-        }
-    }
-}
-
-fn binary(own: Rank, right: Rank) -> Option<InfixOperator>
-    ensures { result ≡ coded_operator (op_binary false own right) [] }
-{
-    Some(InfixOperator::Binary(BinaryOperator {
-        kind: Kind::BinaryExpression,
-        own,
-        left: own,
-        right,
-    }))
-}
-
-fn logical(own: Rank, right: Rank) -> Option<InfixOperator>
-    ensures { result ≡ coded_operator (op_binary true own right) [] }
-{
-    Some(InfixOperator::Binary(BinaryOperator {
-        kind: Kind::LogicalExpression,
-        own,
-        left: own,
-        right,
-    }))
-}
-
-// `**`: its left side is no unary node (12.6).
-fn power() -> Option<InfixOperator>
-    ensures { result ≡ coded_operator op_power [] }
-{
-    Some(InfixOperator::Binary(BinaryOperator {
-        kind: Kind::BinaryExpression,
-        own: Rank::Exponentiation,
-        left: Rank::Update,
-        right: Rank::Exponentiation,
-    }))
-}
 
 /// The operator that a token is behind an expression.
 pub fn infix_operator_of(token: &Token<'_>) -> Option<InfixOperator>
@@ -127,11 +21,8 @@ pub fn infix_operator_of(token: &Token<'_>) -> Option<InfixOperator>
     ensures coded { result ≡ coded_operator (operation (as_read (token_of token.now))) token.now.text.now }
 {
     match token.class {
-        TokenClass::Punctuator => match token.text.len() {
-            1 => infix_operator_of_one(first_byte(token.text)),
-            _ => infix_operator_of_more(token.text),
-        },
-        TokenClass::IdentifierName => infix_operator_of_word(token.text),
+        TokenClass::Punctuator => infix_of_punctuator(token.text),
+        TokenClass::IdentifierName => infix_of_word(token.text),
         TokenClass::Template => match is_template_head(token) {
             true => Some(InfixOperator::TemplateHead),
             false => None,
@@ -140,117 +31,16 @@ pub fn infix_operator_of(token: &Token<'_>) -> Option<InfixOperator>
     }
 }
 
-fn infix_operator_of_one(mark: u8) -> Option<InfixOperator>
-    ensures { result ≡ coded_operator (operator_among (mark ∷ []) short_operators) (mark ∷ []) }
-{
-    match mark {
-        b'|' => binary(Rank::BitwiseOr, Rank::BitwiseXor),
-        b'^' => binary(Rank::BitwiseXor, Rank::BitwiseAnd),
-        b'&' => binary(Rank::BitwiseAnd, Rank::Equality),
-        b'<' | b'>' => binary(Rank::Relational, Rank::Shift),
-        b'+' | b'-' => binary(Rank::Additive, Rank::Multiplicative),
-        b'*' | b'/' | b'%' => binary(Rank::Multiplicative, Rank::Exponentiation),
-        b'=' => Some(InfixOperator::Assign { is_plain: true }),
-        b',' => Some(InfixOperator::Comma),
-        b'?' => Some(InfixOperator::Question),
-        b'.' => Some(InfixOperator::Dot),
-        b'(' => Some(InfixOperator::OpenParen),
-        b'[' => Some(InfixOperator::OpenBracket),
-        _ => None,
-    }
-}
-
-// By the first byte.
-fn infix_operator_of_more(text: &str) -> Option<InfixOperator>
-    ensures { result ≡ coded_operator (operator_among text.now long_operators) text.now }
-{
-    match first_byte(text) {
-        b'!' | b'=' => equality_of(text),
-        b'<' | b'>' => comparison_of(text),
-        b'&' | b'?' | b'|' => logical_of(text),
-        b'+' | b'-' => sum_of(text),
-        b'%' | b'*' | b'/' | b'^' => product_of(text),
-        _ => None,
-    }
-}
-
-// Of a text that begins with `!` or `=`.
-fn equality_of(text: &str) -> Option<InfixOperator>
-    ensures { result ≡ coded_operator (operator_among text.now (only_texts (begins_with (codes "!=")) long_operators)) text.now }
-{
-    match text.as_bytes() {
-        b"==" | b"!=" | b"===" | b"!==" => binary(Rank::Equality, Rank::Relational),
-        b"=>" => Some(InfixOperator::FatArrow),
-        _ => None,
-    }
-}
-
-// Of a text that begins with `<` or `>`.
-fn comparison_of(text: &str) -> Option<InfixOperator>
-    ensures { result ≡ coded_operator (operator_among text.now (only_texts (begins_with (codes "<>")) long_operators)) text.now }
-{
-    match text.as_bytes() {
-        b"<=" | b">=" => binary(Rank::Relational, Rank::Shift),
-        b"<<" | b">>" | b">>>" => binary(Rank::Shift, Rank::Additive),
-        b"<<=" | b">>=" | b">>>=" => Some(InfixOperator::Assign { is_plain: false }),
-        _ => None,
-    }
-}
-
-// Of a text that begins with `&`, `?` or `|`.
-fn logical_of(text: &str) -> Option<InfixOperator>
-    ensures { result ≡ coded_operator (operator_among text.now (only_texts (begins_with (codes "&?|")) long_operators)) text.now }
-{
-    match text.as_bytes() {
-        b"&&" => logical(Rank::LogicalAnd, Rank::BitwiseOr),
-        b"||" => logical(Rank::LogicalOr, Rank::LogicalAnd),
-        b"??" => logical(Rank::Coalesce, Rank::BitwiseOr),
-        b"?." => Some(InfixOperator::QuestionDot),
-        b"&=" | b"|=" => Some(InfixOperator::Assign { is_plain: false }),
-        b"&&=" | b"||=" | b"??=" => Some(InfixOperator::Assign { is_plain: false }),
-        _ => None,
-    }
-}
-
-// Of a text that begins with `+` or `-`.
-fn sum_of(text: &str) -> Option<InfixOperator>
-    ensures { result ≡ coded_operator (operator_among text.now (only_texts (begins_with (codes "+-")) long_operators)) text.now }
-{
-    match text.as_bytes() {
-        b"++" | b"--" => Some(InfixOperator::PostUpdate),
-        b"+=" | b"-=" => Some(InfixOperator::Assign { is_plain: false }),
-        _ => None,
-    }
-}
-
-// Of a text that begins with `%`, `*`, `/` or `^`.
-fn product_of(text: &str) -> Option<InfixOperator>
-    ensures { result ≡ coded_operator (operator_among text.now (only_texts (begins_with (codes "%*/^")) long_operators)) text.now }
-{
-    match text.as_bytes() {
-        b"**" => power(),
-        b"*=" | b"/=" | b"%=" | b"**=" | b"^=" => Some(InfixOperator::Assign { is_plain: false }),
-        _ => None,
-    }
-}
-
-fn infix_operator_of_word(text: &str) -> Option<InfixOperator>
-    ensures { result ≡ coded_operator (operator_among text.now word_operators) text.now }
-{
-    match text {
-        "in" | "instanceof" => binary(Rank::Relational, Rank::Shift),
-        _ => None,
-    }
-}
-
 /// Whether what ends with this right edge can be the left part of a node at the symbol.
 pub fn edge_allows(edge: Edge, symbol: Rank) -> bool
     ensures { result ≡ holds edge symbol }
 {
-    let tightness = precedence_of(symbol);
     match edge {
-        Edge::Arrow => tightness == 0,
-        Edge::Postfix => tightness <= 15 && tightness != 1,
+        Edge::Arrow => matches!(symbol, Rank::Expression),
+        Edge::Postfix => match symbol {
+            Rank::Assignment => false,
+            _ => precedence_of(symbol) <= precedence_of(Rank::Exponentiation),
+        },
         Edge::Other => true,
         Edge::Closed => false,
     }

@@ -4,7 +4,7 @@
 ghost use Rattle.std.specs.Prelude.{◌≡◌, ◌≢◌, true, ◌<◌, Bool, false, codes};
 ghost use Rattle.language.specs.Token.{as_read};
 ghost use Rattle.language.specs.StatementStart.{statement_start, statement_start_by, statement_start_among, statement_words};
-ghost use Rattle.parser_tables.specs.OperatorRows.{begins_with, only_texts};
+ghost use Rattle.grammar.specs.OperatorRows.{begins_with, only_texts};
 ghost use Rattle.parser_tables.specs.Tests.{ends};
 ghost use Rattle.parser_tables.specs.StatementStarts.{coded_statement_start};
 ghost use Rattle.tokens.specs.Scanned.{token_of};
@@ -12,7 +12,7 @@ ghost use Rattle.parser_tables.specs.Moves.{IfKind};
 ghost use Rattle.parser_tables.specs.StatementNodes.{statement_node_kind, item_context, inner_context};
 
 use crate::functions_and_classes::FunctionOrClass;
-use crate::token_tests::first_byte;
+use grammar::first_byte;
 use token_cursor::{is_name_token, is_punctuator};
 use tokens::{Token, TokenClass};
 use tree::Kind;

@@ -18,16 +18,6 @@ pub fn span_of(token: &Token<'_>) -> Span
     }
 }
 
-/// The first byte of a text; 0 where it has none.
-pub(crate) fn first_byte(text: &str) -> u8
-    ensures { result ≡ slice_index_or text.now 0 0 }
-{
-    match text.as_bytes().first() {
-        Some(first) => *first,
-        None => 0,
-    }
-}
-
 /// Whether the token begins with a grave accent: then it is the first part of a template, where it is one of a template.
 pub fn is_template_head(token: &Token<'_>) -> bool
     ensures { result ≡ nat_eq (slice_index_or (as_read (token_of token.now)).text 0 0) 96 }

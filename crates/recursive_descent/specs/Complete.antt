@@ -29,7 +29,7 @@ use Rattle.covers.specs.Lists.{is_ended}
 use Rattle.parser_tables.specs.declared.functions_and_classes.FunctionOrClass.{FunctionOrClass}
 use Rattle.recursive_descent.specs.declared.subscripts.Subscript.{Subscript}
 use Rattle.parser_tables.specs.declared.expression_starts.ExpressionStart.{ExpressionStart}
-use Rattle.parser_tables.specs.declared.operators.InfixOperator.{InfixOperator}
+use Rattle.grammar.specs.declared.infix.InfixOperator.{InfixOperator}
 use Rattle.parser_tables.specs.declared.operand.Operand.{Operand}
 use Rattle.parser_tables.specs.declared.symbol_lists.PartialStatement.{PartialStatement}
 use Rattle.parser_tables.specs.declared.expression_context.ExpressionContext.{ExpressionContext}

@@ -29,8 +29,8 @@ use Rattle.language.proofs.climbing.Callees.{Uncalled}
 use Rattle.covers.specs.Shapes.{is_target, is_pattern as is_listed}
 use Rattle.recursive_descent.specs.declared.subscripts.Subscript.{Subscript}
 use Rattle.recursive_descent.specs.declared.subscripts.Subscript.TheVariants as link
-use Rattle.parser_tables.specs.declared.operators.InfixOperator.{InfixOperator}
-use Rattle.parser_tables.specs.declared.operators.InfixOperator.TheVariants as code
+use Rattle.grammar.specs.declared.infix.InfixOperator.{InfixOperator}
+use Rattle.grammar.specs.declared.infix.InfixOperator.TheVariants as code
 use Rattle.parser_tables.specs.declared.operand.Operand.{Operand}
 use Rattle.parser_tables.specs.declared.expression_context.ExpressionContext.{ExpressionContext}
 use Rattle.recursive_descent.specs.Soundness.{grouping, fits_as, read_as, RunsIn, anywhere}

@@ -12,8 +12,8 @@ use Rattle.covers.specs.declared.shape.CoverShape.{CoverShape}
 use Rattle.covers.specs.Patterns.{pattern_tree}
 use Rattle.covers.specs.Shapes.{defaulted, is_pattern, is_target, value}
 use Rattle.parser_tables.specs.declared.operand.Operand.{Operand}
-use Rattle.parser_tables.specs.declared.operators.InfixOperator.{InfixOperator}
-use Rattle.parser_tables.specs.declared.operators.InfixOperator.TheVariants.{Binary, Assign, Question}
+use Rattle.grammar.specs.declared.infix.InfixOperator.{InfixOperator}
+use Rattle.grammar.specs.declared.infix.InfixOperator.TheVariants.{Binary, Assign, Question}
 use Rattle.recursive_descent.specs.declared.expressions.LeftOperand.{LeftOperand}
 use Rattle.parser_tables.specs.Operands.{plain_part}
 

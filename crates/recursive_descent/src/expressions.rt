@@ -17,16 +17,17 @@ ghost use Rattle.recursive_descent.specs.Soundness.{Adds, ReadAt, ReadsOn, GoesO
 ghost use Rattle.language.specs.Continuations.{operation, rank_made_by};
 ghost use Rattle.language.specs.Token.{as_read};
 ghost use Rattle.language.specs.Vocabulary.{is, takes};
-ghost use Rattle.parser_tables.specs.Operators.{coded_operator, meant, stops_by};
+ghost use Rattle.grammar.specs.Infix.{coded_operator, meant};
+ghost use Rattle.parser_tables.specs.Operators.{stops_by};
 ghost use Rattle.token_cursor.specs.Refusals.{IsRefusal};
 ghost use Rattle.recursive_descent.specs.LeftOperands.{left_of, left_rank, takes_left, operator_text_of, is_prefix_update, takes_operand, prefixed_node, prefixed_part};
 
 use crate::next_operator::NextOperator;
 use crate::parser::Parser;
 use covers::{Cover, CoverShape, ListBuilder, ListItem, ListKind};
-use grammar::accepts_rank;
+use grammar::{InfixOperator, accepts_rank};
 use language::{Edge, Rank};
-use parser_tables::{ExpressionContext, InfixOperator, Operand};
+use parser_tables::{ExpressionContext, Operand};
 use productions::{MeasuredNode, MeasuredParts, finish_node, finish_plain};
 use source_text::Fault;
 use tokens::{Goal, TokenClass};

@@ -6,11 +6,13 @@ ghost use Rattle.token_cursor.specs.CursorState.{IsAhead};
 ghost use Rattle.tokens.specs.Scanned.{token_of};
 ghost use Rattle.language.specs.Token.{as_read};
 ghost use Rattle.language.specs.Continuations.{operation};
-ghost use Rattle.parser_tables.specs.Operators.{coded_operator, stops_by, StopsHere};
+ghost use Rattle.grammar.specs.Infix.{coded_operator};
+ghost use Rattle.parser_tables.specs.Operators.{stops_by, StopsHere};
 
 use crate::parser::Parser;
+use grammar::InfixOperator;
 use language::Edge;
-use parser_tables::{ExpressionContext, InfixOperator, cannot_continue, infix_operator_of};
+use parser_tables::{ExpressionContext, cannot_continue, infix_operator_of};
 use tokens::{Goal, Token, TokenClass};
 
 /// An operator that stands ahead.

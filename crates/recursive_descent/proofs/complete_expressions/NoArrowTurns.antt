@@ -25,10 +25,11 @@ use Rattle.language.proofs.climbing.NoContinuation.{goes_where_not}
 use Rattle.language.proofs.climbing.OperatorLoop.{led_on}
 use Rattle.parser_tables.specs.declared.operand.Operand.{Operand}
 use Rattle.parser_tables.specs.declared.expression_context.ExpressionContext.{ExpressionContext}
-use Rattle.parser_tables.specs.declared.operators.InfixOperator.{InfixOperator as Coded}
-use Rattle.parser_tables.specs.declared.operators.InfixOperator.TheVariants as code
+use Rattle.grammar.specs.declared.infix.InfixOperator.{InfixOperator as Coded}
+use Rattle.grammar.specs.declared.infix.InfixOperator.TheVariants as code
 use Rattle.recursive_descent.specs.Soundness.{ReadAt}
-use Rattle.parser_tables.specs.Operators.{coded_operator, stops_by}
+use Rattle.grammar.specs.Infix.{coded_operator}
+use Rattle.parser_tables.specs.Operators.{stops_by}
 use Rattle.recursive_descent.specs.Stages.{StageAs}
 use Rattle.token_cursor.proofs.TokensAhead.{ahead_read}
 use Rattle.recursive_descent.proofs.complete_expressions.SpineTurns.{goes_there}

@@ -28,14 +28,14 @@ use Rattle.language.proofs.texts.TextOffsets.{text_determined}
 use Rattle.language.proofs.climbing.Turns.{right_position}
 use Rattle.language.proofs.climbing.BinaryTurns.{two_binds}
 use Rattle.recursive_descent.specs.declared.expressions.LeftOperand.{LeftOperand}
-use Rattle.parser_tables.specs.declared.operators.BinaryOperator.{BinaryOperator}
-use Rattle.parser_tables.specs.declared.operators.InfixOperator.{InfixOperator as Coded}
-use Rattle.parser_tables.specs.declared.operators.InfixOperator.TheVariants as code
+use Rattle.grammar.specs.declared.infix.BinaryOperator.{BinaryOperator}
+use Rattle.grammar.specs.declared.infix.InfixOperator.{InfixOperator as Coded}
+use Rattle.grammar.specs.declared.infix.InfixOperator.TheVariants as code
 use Rattle.parser_tables.specs.declared.operand.Operand.{Operand}
 use Rattle.parser_tables.specs.declared.expression_context.ExpressionContext.{ExpressionContext}
 use Rattle.recursive_descent.specs.Complete.{ExpressionComplete, BinaryRestComplete}
 use Rattle.recursive_descent.specs.Completeness.{Room, EndsWith, StopsIn, GivenAs, an_expression, SidesGiven, one_side, two_sides}
-use Rattle.parser_tables.specs.Operators.{coded_operator}
+use Rattle.grammar.specs.Infix.{coded_operator}
 use Rattle.token_cursor.specs.Seen.{ReadsHere, Misses}
 use Rattle.recursive_descent.specs.LeftOperands.{left_of, operator_text_of}
 use Rattle.recursive_descent.proofs.reading.FreeRanks.{no_conditional, no_new}

@@ -25,14 +25,15 @@ use Rattle.covers.specs.declared.list.ListKind.TheVariants as listed
 use Rattle.covers.specs.declared.list.ListBuilder.{ListBuilder as ListOf}
 use Rattle.parser_tables.specs.declared.operand.Operand.{Operand}
 use Rattle.parser_tables.specs.declared.expression_context.ExpressionContext.{ExpressionContext}
-use Rattle.parser_tables.specs.declared.operators.InfixOperator.{InfixOperator as Coded}
-use Rattle.parser_tables.specs.declared.operators.InfixOperator.TheVariants as code
+use Rattle.grammar.specs.declared.infix.InfixOperator.{InfixOperator as Coded}
+use Rattle.grammar.specs.declared.infix.InfixOperator.TheVariants as code
 use Rattle.recursive_descent.specs.Complete.{ListComplete}
 use Rattle.recursive_descent.specs.Soundness.{ReadAt}
 use Rattle.recursive_descent.specs.Completeness.{Room, EndsWith}
 use Rattle.recursive_descent.specs.CompletenessOfLists.{ListGiven}
 use Rattle.parser_tables.specs.Items.{item_from, list_from, with_item}
-use Rattle.parser_tables.specs.Operators.{coded_operator, stops_by}
+use Rattle.grammar.specs.Infix.{coded_operator}
+use Rattle.parser_tables.specs.Operators.{stops_by}
 use Rattle.parser_tables.specs.Outcomes.{RefusedUnless}
 use Rattle.parser_tables.specs.Operands.{plain_part}
 use Rattle.recursive_descent.specs.Stages.{StageAs, Staged, InfixComplete}

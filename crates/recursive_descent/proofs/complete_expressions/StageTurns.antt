@@ -27,13 +27,14 @@ use Rattle.language.proofs.climbing.SpineContinuations.{makes}
 use Rattle.language.proofs.climbing.Conditionals.{read_there}
 use Rattle.parser_tables.specs.declared.operand.Operand.{Operand}
 use Rattle.parser_tables.specs.declared.expression_context.ExpressionContext.{ExpressionContext}
-use Rattle.parser_tables.specs.declared.operators.InfixOperator.{InfixOperator as Coded}
-use Rattle.parser_tables.specs.declared.operators.InfixOperator.TheVariants as code
-use Rattle.parser_tables.specs.declared.operators.BinaryOperator.{BinaryOperator}
+use Rattle.grammar.specs.declared.infix.InfixOperator.{InfixOperator as Coded}
+use Rattle.grammar.specs.declared.infix.InfixOperator.TheVariants as code
+use Rattle.grammar.specs.declared.infix.BinaryOperator.{BinaryOperator}
 use Rattle.recursive_descent.specs.Soundness.{Begins, grouping}
 use Rattle.recursive_descent.specs.Completeness.{Agrees, Room, EndsWith}
 use Rattle.recursive_descent.specs.Complete.{BinaryRestComplete, SubscriptComplete}
-use Rattle.parser_tables.specs.Operators.{coded_operator, meant, stops_by}
+use Rattle.grammar.specs.Infix.{coded_operator, meant}
+use Rattle.parser_tables.specs.Operators.{stops_by}
 use Rattle.recursive_descent.specs.Subscripts.{link_kind, link_flags, link_rank, is_calling}
 use Rattle.parser_tables.specs.Operands.{plain_part}
 use Rattle.recursive_descent.specs.LeftOperands.{left_of, operator_text_of}

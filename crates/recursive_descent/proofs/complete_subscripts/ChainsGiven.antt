@@ -33,7 +33,8 @@ use Rattle.recursive_descent.specs.Completeness.{Room, EndsWith, subscript_after
 use Rattle.recursive_descent.specs.Subscripts.{link_kind, link_flags, link_rank, is_calling}
 use Rattle.parser_tables.specs.Operands.{plain_part}
 use Rattle.token_cursor.specs.Seen.{ReadsHere, SeesBy, MissesBy}
-use Rattle.parser_tables.specs.Tests.{is_link, is_template, links}
+use Rattle.grammar.specs.Infix.{links}
+use Rattle.parser_tables.specs.Tests.{is_link, is_template}
 use Rattle.recursive_descent.proofs.complete_expressions.Agreement.{agrees_err, agrees_on, refuses_high, room_part, ends_same, ends_both, ends_before}
 use Rattle.recursive_descent.proofs.complete_subscripts.ArgumentsGiven.{arguments_given}
 use Rattle.recursive_descent.proofs.complete_subscripts.SubscriptsGiven.{Further, name_there, index_there, arguments_there, template_there, Front, by_dot, by_mark, by_none, link_given}

@@ -46,18 +46,19 @@ use Rattle.language.proofs.climbing.BinaryTurns.{same_node, retold, regrown}
 use Rattle.language.proofs.table.ViewIsComplete.{way_of, made}
 use Rattle.recursive_descent.specs.declared.subscripts.Subscript.{Subscript as Link}
 use Rattle.recursive_descent.specs.declared.subscripts.Subscript.TheVariants as link
-use Rattle.parser_tables.specs.declared.operators.InfixOperator.{InfixOperator as Coded}
-use Rattle.parser_tables.specs.declared.operators.InfixOperator.TheVariants as code
+use Rattle.grammar.specs.declared.infix.InfixOperator.{InfixOperator as Coded}
+use Rattle.grammar.specs.declared.infix.InfixOperator.TheVariants as code
 use Rattle.parser_tables.specs.declared.operand.Operand.{Operand}
 use Rattle.parser_tables.specs.declared.expression_context.ExpressionContext.{ExpressionContext}
 use Rattle.recursive_descent.specs.Complete.{ChainComplete}
 use Rattle.recursive_descent.specs.Soundness.{Begins, RunsIn, anywhere}
 use Rattle.recursive_descent.specs.Completeness.{Room, EndsWith, StopsIn, subscript_after, LinksGiven, no_link, one_link, ChainGiven}
 use Rattle.recursive_descent.specs.Subscripts.{link_kind, link_flags}
-use Rattle.parser_tables.specs.Operators.{coded_operator, stops_by}
+use Rattle.grammar.specs.Infix.{coded_operator}
+use Rattle.parser_tables.specs.Operators.{stops_by}
 use Rattle.parser_tables.specs.Operands.{plain_part}
 use Rattle.recursive_descent.specs.Stages.{SpineAs, Serves, StageAs, Staged, InfixComplete}
-use Rattle.parser_tables.specs.Tests.{links}
+use Rattle.grammar.specs.Infix.{links}
 use Rattle.recursive_descent.proofs.complete_subscripts.SubscriptsOnSpine.{same_arguments, plain_next}
 use Rattle.token_cursor.proofs.TokensAhead.{ahead_read}
 use Rattle.recursive_descent.proofs.complete_expressions.SpineTurns.{goes_there}

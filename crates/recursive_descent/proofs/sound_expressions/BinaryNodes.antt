@@ -44,11 +44,11 @@ use Rattle.language.proofs.texts.TextOffsets.{text_determined}
 use Rattle.parser_tables.specs.declared.operand.Operand.{Operand}
 use Rattle.parser_tables.specs.declared.expression_context.ExpressionContext.{ExpressionContext}
 use Rattle.recursive_descent.specs.declared.expressions.LeftOperand.{LeftOperand}
-use Rattle.parser_tables.specs.declared.operators.BinaryOperator.{BinaryOperator}
-use Rattle.parser_tables.specs.declared.operators.InfixOperator.{InfixOperator as Coded}
-use Rattle.parser_tables.specs.declared.operators.InfixOperator.TheVariants as code
+use Rattle.grammar.specs.declared.infix.BinaryOperator.{BinaryOperator}
+use Rattle.grammar.specs.declared.infix.InfixOperator.{InfixOperator as Coded}
+use Rattle.grammar.specs.declared.infix.InfixOperator.TheVariants as code
 use Rattle.recursive_descent.specs.Soundness.{Begins, SpelledAs, assigned_at, fits_as, minds_in, takes_new, PartAt, ReadAt, GoesOn, Adds}
-use Rattle.parser_tables.specs.Operators.{coded_operator, meant}
+use Rattle.grammar.specs.Infix.{coded_operator, meant}
 use Rattle.parser_tables.specs.Operands.{part_from}
 use Rattle.token_cursor.specs.Seen.{ReadsHere}
 use Rattle.recursive_descent.specs.LeftOperands.{left_of, takes_left, operator_text_of}

@@ -42,16 +42,17 @@ use Rattle.language.proofs.table.OperatorTokens.{op_reads, reads_call, reads_cha
 use Rattle.language.proofs.texts.TextOffsets.{text_determined}
 use Rattle.parser_tables.specs.declared.operand.Operand.{Operand}
 use Rattle.parser_tables.specs.declared.expression_context.ExpressionContext.{ExpressionContext}
-use Rattle.parser_tables.specs.declared.operators.BinaryOperator.{BinaryOperator}
-use Rattle.parser_tables.specs.declared.operators.InfixOperator.{InfixOperator as Coded}
-use Rattle.parser_tables.specs.declared.operators.InfixOperator.TheVariants as code
+use Rattle.grammar.specs.declared.infix.BinaryOperator.{BinaryOperator}
+use Rattle.grammar.specs.declared.infix.InfixOperator.{InfixOperator as Coded}
+use Rattle.grammar.specs.declared.infix.InfixOperator.TheVariants as code
 use Rattle.recursive_descent.specs.declared.subscripts.Subscript.TheVariants as link
 use Rattle.recursive_descent.specs.Follows.{LinkedAt}
 use Rattle.recursive_descent.specs.Subscripts.{link_by}
 use Rattle.recursive_descent.specs.Soundness.{RunsIn, Begins, minds_in, PartAt, ReadsOn, GoesOn, Links, Adds}
 use Rattle.recursive_descent.specs.SoundnessOfLists.{several, two_or_more, stood_in, item_pieces, is_whole, whole_of, asks_edge, SoFarAt, ListAt, ClosedBy}
 use Rattle.parser_tables.specs.Items.{list_from, with_item, item_from}
-use Rattle.parser_tables.specs.Operators.{coded_operator, meant, stops_by}
+use Rattle.grammar.specs.Infix.{coded_operator, meant}
+use Rattle.parser_tables.specs.Operators.{stops_by}
 use Rattle.parser_tables.specs.Operands.{plain_part}
 use Rattle.token_cursor.specs.Seen.{ReadsHere, Sees, Misses}
 use Rattle.parser_tables.specs.StatementNodes.{is_closed}

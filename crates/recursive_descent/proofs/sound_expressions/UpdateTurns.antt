@@ -28,11 +28,12 @@ use Rattle.covers.specs.Patterns.{pattern_tree}
 use Rattle.covers.specs.Shapes.{is_target}
 use Rattle.parser_tables.specs.declared.operand.Operand.{Operand}
 use Rattle.parser_tables.specs.declared.expression_context.ExpressionContext.{ExpressionContext}
-use Rattle.parser_tables.specs.declared.operators.InfixOperator.{InfixOperator as Coded}
-use Rattle.parser_tables.specs.declared.operators.InfixOperator.TheVariants as code
+use Rattle.grammar.specs.declared.infix.InfixOperator.{InfixOperator as Coded}
+use Rattle.grammar.specs.declared.infix.InfixOperator.TheVariants as code
 use Rattle.recursive_descent.specs.Soundness.{ReadAt}
 use Rattle.recursive_descent.specs.Completeness.{Room}
-use Rattle.parser_tables.specs.Operators.{coded_operator, stops_by}
+use Rattle.grammar.specs.Infix.{coded_operator}
+use Rattle.parser_tables.specs.Operators.{stops_by}
 use Rattle.parser_tables.specs.Operands.{plain_part}
 use Rattle.parser_tables.specs.Outcomes.{BecomesHere}
 use Rattle.recursive_descent.specs.Stages.{StageAs, Staged, InfixComplete}

@@ -1,5 +1,5 @@
 use Rattle.std.proofs.Common.{rules}
-use Rattle.parser_tables.proofs.operators.InfixOperator.rank.Goals as goal
+use Rattle.grammar.proofs.infix.InfixOperator.rank.Goals as goal
 
 pub returns-in-FatArrow : goal.returns-in-FatArrow
 returns-in-FatArrow c = search rules

@@ -1,5 +1,5 @@
 use Rattle.std.proofs.Common.{rules}
-use Rattle.parser_tables.proofs.operators.power.Goals as goal
+use Rattle.grammar.proofs.infix.power.Goals as goal
 
 pub returns : goal.returns
 returns c = search rules

@@ -1,7 +1,7 @@
 use Rattle.std.proofs.Common.{◌∙◌, arith}
 use Rattle.std.specs.Prelude.{codes}
-use Rattle.parser_tables.proofs.NoOperators.{by_first, by_no_first}
-use Rattle.parser_tables.proofs.operators.infix_operator_of_more.Goals as goal
+use Rattle.grammar.proofs.InfixRows.{by_first, by_no_first}
+use Rattle.grammar.proofs.infix.infix_of_more.Goals as goal
 
 pub returns-in-33 : goal.returns-in-33
 returns-in-33 c = c.equality_of.ensures ∙ by_first (codes "!=") c.args.text.now c.first_byte.result c.first_byte.ensures c.in-33.is

@@ -6,7 +6,7 @@ use Rattle.std.proofs.lemmas.Bool.Decides.{nat_tests}
 use Rattle.std.proofs.lemmas.Slice.Eq.{bytes_eq-Decides}
 use Prim.Native.String.{String}
 use Rattle.language.specs.Vocabulary.{is, among}
-use Rattle.parser_tables.specs.OperatorRows.{begins_with}
+use Rattle.grammar.specs.OperatorRows.{begins_with}
 
 -- a text is looked for among those alone that pass a test, where it passes
 pub among_only : (p : List ℕ → Bool) (w : List ℕ) (ss : List String) → p w ≡ true → among w ss ≡ among w (filter (λ s. p (codes s)) ss)
@@ -71,3 +71,16 @@ none_begins w b (c ∷ cs) e h =
 
 pub begins_other : (w : List ℕ) (b : ℕ) (cs : List ℕ) → b ≡ slice_index_or w 0 0 → NoByte b cs → begins_else cs w ≡ true
 begins_other w b cs e h = ap not (none_begins w b cs e h)
+
+-- the text is none of these
+abbrev pub NoneOf : List ℕ → List String → Type 0
+NoneOf w [] = Unit {0}
+NoneOf w (s ∷ ss) = (w ≡ codes s → ⊥) × NoneOf w ss
+
+pub none_among : (w : List ℕ) (ss : List String) → NoneOf w ss → among w ss ≡ false
+none_among w [] h = refl
+none_among w (s ∷ ss) h = of (is w s) refl (none_among w ss h.1)
+  where
+    of : (b : Bool) → is w s ≡ b → among w ss ≡ false → (b || among w ss) ≡ false
+    of true e f = absurd (h.0 ((bytes_eq-Decides w (codes s)).0 e))
+    of false e f = f
