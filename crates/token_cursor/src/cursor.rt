@@ -103,6 +103,14 @@ impl<'t, 's> Cursor<'t, 's> {
         self.last.end
     }
 
+    /// The last token; before the first, an empty one at 0.
+    #[inline(always)]
+    pub(crate) fn last_token(&self) -> Token<'s>
+        ensures { self.now.last ≡ as_read (token_of result) }
+    {
+        self.last
+    }
+
     /// The token that the goal reads ahead, the end of the text too; none where it reads none.
     #[inline(always)]
     pub fn peek(&self, goal: Goal) -> Option<Token<'s>>

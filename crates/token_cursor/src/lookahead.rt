@@ -137,15 +137,10 @@ impl<'t, 's> Cursor<'t, 's> {
         ensures missed { IfErr result (λ _. Misses self.old.text TokenClass.Punctuator mark.now self.old.last × (self.new.last ≡ self.old.last)) }
         ensures here { IfErr result (IsSyntaxHere self.new) }
     {
-        let Some(token) = self.peek(Goal::Div) else {
-            return Err(self.syntax_error());
-        };
-        if !is_punctuator(&token, mark) {
+        if !self.accept_punctuator(mark) {
             return Err(self.syntax_error());
         }
-        let start = token.start;
-        self.advance(token);
-        Ok(start)
+        Ok(self.last_token().start)
     }
 
     /// Goes past this name.
@@ -162,14 +157,10 @@ impl<'t, 's> Cursor<'t, 's> {
         ensures missed { IfErr result (λ _. Misses self.old.text TokenClass.IdentifierName word.now self.old.last × (self.new.last ≡ self.old.last)) }
         ensures here { IfErr result (IsSyntaxHere self.new) }
     {
-        let Some(token) = self.peek(Goal::Div) else {
-            return Err(self.syntax_error());
-        };
-        if !is_name_token(&token, word) {
+        if !self.accept_word(word) {
             return Err(self.syntax_error());
         }
-        self.advance(token);
-        Ok(token)
+        Ok(self.last_token())
     }
 
     /// Goes past an IdentifierName (ECMA-262 11.6).
