@@ -90,7 +90,7 @@ fn as_pattern_node<'s>(node: MeasuredNode<'s>) -> MeasuredNode<'s>
     ensures { result ≡ pattern_tree node.entry }
 {
     let height = node.height();
-    let mut syntax = node.into_syntax();
+    let mut syntax = node.into_node();
     make_pattern(&mut syntax);
     MeasuredNode::of_height(syntax, height)
 }

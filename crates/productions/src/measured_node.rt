@@ -77,7 +77,7 @@ impl<'s> MeasuredNode<'s> {
     }
 
     /// The node without its height.
-    pub fn into_syntax(self) -> BoxedNode<'s>
+    pub fn into_node(self) -> BoxedNode<'s>
         ensures { result ≡ self.entry }
     {
         self.syntax

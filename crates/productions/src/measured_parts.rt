@@ -52,7 +52,7 @@ impl<'s> MeasuredParts<'s> {
         ensures refused { IfErr result (λ fault. fault ≡ Fault.OutOfMemory) }
     {
         let levels = only.height();
-        let parts = Parts::one(alloc, only.into_syntax())?;
+        let parts = Parts::one(alloc, only.into_node())?;
         Ok(MeasuredParts { parts, levels })
     }
 
@@ -66,7 +66,7 @@ impl<'s> MeasuredParts<'s> {
     {
         let levels = sole.height();
         let mut items = Vec::with_capacity(alloc, 1)?;
-        items.push(Some(sole.into_syntax()))?;
+        items.push(Some(sole.into_node()))?;
         let parts = Parts::from_items(items);
         Ok(MeasuredParts { parts, levels })
     }
@@ -85,7 +85,7 @@ impl<'s> MeasuredParts<'s> {
     {
         let height = first.height();
         let mut items = Vec::with_capacity(alloc, further.saturating_add(1))?;
-        items.push(Some(first.into_syntax()))?;
+        items.push(Some(first.into_node()))?;
         let parts = Parts::from_items(items);
         Ok(MeasuredParts {
             parts,
@@ -106,7 +106,7 @@ impl<'s> MeasuredParts<'s> {
         ensures refused { IfErr result (λ fault. fault ≡ Fault.OutOfMemory) }
     {
         let levels = first.height().max(second.height());
-        let parts = Parts::two(alloc, first.into_syntax(), second.into_syntax())?;
+        let parts = Parts::two(alloc, first.into_node(), second.into_node())?;
         Ok(MeasuredParts { parts, levels })
     }
 
@@ -120,7 +120,7 @@ impl<'s> MeasuredParts<'s> {
         ensures kept { IfErr result (λ fault. (fault ≡ Fault.OutOfMemory) × (self.new ≡ self.old)) }
     {
         let levels = part.height();
-        self.parts.push(part.into_syntax())?;
+        self.parts.push(part.into_node())?;
         self.levels = self.levels.max(levels);
         Ok(())
     }
