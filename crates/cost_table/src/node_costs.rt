@@ -38,13 +38,6 @@ pub(crate) fn with_own(position: Position, rank: Rank, has_in: bool, start: Star
     }
 }
 
-/// Expression with In, where an expression in a pair stands: the widest position of an expression.
-pub const WHOLE: Position = Position::Expression {
-    rank: Rank::Expression,
-    has_in: true,
-    start: Start::Any,
-};
-
 /// The position with all that a spelling may depend on left open.
 pub fn widest(position: Position) -> Position
     ensures { role_of result ≡ widest_role (role_of position) }

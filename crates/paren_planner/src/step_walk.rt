@@ -11,16 +11,16 @@ ghost use Rattle.spellings.specs.Remaining.{left};
 ghost use Rattle.spellings.specs.Wherever.{spelled_by};
 ghost use Rattle.paren_planner.specs.declared.steps.Step.TheVariants.{Leaf};
 ghost use Rattle.spelling_table.specs.Productions.{outline_of};
-ghost use Rattle.paren_planner.specs.Noted.{Noted, PartsNoted, is_settled_slot, fixed_outline};
+ghost use Rattle.paren_planner.specs.Noted.{IsVisit, Noted, PartsNoted, is_settled_slot, fixed_outline};
 ghost use Rattle.language.specs.declared.Rank.TheVariants.{Primary};
 ghost use Rattle.paren_planner.specs.Steps.{nowhere};
 ghost use Rattle.cost_table.specs.Weighed.{settled_at, slot_free};
 
 use crate::steps::{NodeStep, Step, Steps, has_row};
-use cost_table::{WHOLE, widest};
+use cost_table::widest;
 use grammar::accepts_rank;
 use language::{Rank, Start};
-use spelling_table::{Position, Production, Slot};
+use spelling_table::{Position, Production, Requirements, Slot, WHOLE};
 use spellings::{SlotCursor, holds_chain, is_leaf, leads_chain, node_production};
 use std::alloc::AllocError;
 use tree::{Kind, Node};
@@ -85,26 +85,15 @@ fn visit_at(
     ensures { IfOk result (λ free. Noted (role_of above.now) (slot_of slot.now) (node_tree node.entry) free steps.old steps.new) }
 {
     let own = widest_of(slot);
-    let kind = node.kind();
     let Some(production) = node_production(node, own, in_chain) else {
-        steps.push(Step::Leaf(NodeStep {
-            kind,
-            above: *above,
-            slot: *slot,
-            requirements: None,
-        }))?;
+        steps.push(Step::Leaf(node_step(node, above, slot, None)))?;
         return Ok(false);
     };
     if is_settled(slot) && has_fixed_slots(&production) {
         return visit_parts(node, &own, &production, steps);
     }
     let requirements = production.requirements();
-    let visit = NodeStep {
-        kind,
-        above: *above,
-        slot: *slot,
-        requirements: Some(requirements),
-    };
+    let visit = node_step(node, above, slot, Some(requirements));
     if node.part_count() == 0 {
         steps.push(Step::Leaf(visit))?;
         return Ok(false);
@@ -113,7 +102,7 @@ fn visit_at(
     steps.push(Step::Enter(visit))?;
     let are_free = visit_parts(node, &own, &production, steps)?;
     if are_free && visit.is_free(requirements) {
-        steps.set(index, Step::Free(kind, requirements.rank));
+        steps.set(index, Step::Free(visit.kind, requirements.rank));
         return Ok(true);
     }
     steps.push(Step::Leave)?;
@@ -229,6 +218,25 @@ fn widest_of(slot: &Slot) -> Position
             }
         }
         Slot::Left(_) | Slot::Lead(_) | Slot::Tail(_, _) | Slot::Callee => WHOLE,
+    }
+}
+
+/// The step of a node at a slot of the node above.
+#[inline(always)]
+fn node_step(
+    node: Node,
+    above: &Position,
+    slot: &Slot,
+    requirements: Option<Requirements>,
+) -> NodeStep
+    ensures visit { IsVisit (role_of above.now) (slot_of slot.now) (node_tree node.entry) result }
+    ensures requirements { result.requirements ≡ requirements }
+{
+    NodeStep {
+        kind: node.kind(),
+        above: *above,
+        slot: *slot,
+        requirements,
     }
 }
 

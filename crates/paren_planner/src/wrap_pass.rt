@@ -7,8 +7,8 @@ ghost use Rattle.paren_planner.specs.Steps.{has_row_at, stands_at};
 ghost use Rattle.paren_planner.specs.Marked.{round, shown_marks, marked, marked_through, at_the_start, flag_at, flag_of, round_at, round_of, plain_round, meets as meets_at};
 
 use crate::steps::{NodeStep, Step, Steps, bare_outline};
-use cost_table::{CostTable, WHOLE, exceeds, is_zero, sum};
-use spelling_table::{Position, Requirements, fits, resolve_slot};
+use cost_table::{CostTable, exceeds, is_zero, sum};
+use spelling_table::{Position, Requirements, WHOLE, fits, resolve_slot};
 use std::alloc::{AllocError, Global};
 
 /// Where the steps stand: the position of the innermost open node, as it is with its pair or without, and whether a node in it may be

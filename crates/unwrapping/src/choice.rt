@@ -8,9 +8,9 @@ ghost use Rattle.spellings.specs.Wherever.{spelled_by};
 ghost use Rattle.unwrapping.specs.Ties.{costs_more};
 
 use crate::changes::{Addition, Changes, Closing};
-use cost_table::{CostTable, WHOLE, widest};
+use cost_table::{CostTable, widest};
 use language::{Rank, Start};
-use spelling_table::{Position, Production, admits, resolve_slot};
+use spelling_table::{Position, Production, WHOLE, admits, resolve_slot};
 use spellings::{SlotCursor, holds_chain, leads_chain, node_production};
 use std::alloc::{AllocError, Global};
 use tree::{Kind, Node, Pair, Program};

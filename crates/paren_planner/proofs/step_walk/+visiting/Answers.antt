@@ -11,6 +11,7 @@ use Rattle.spellings.specs.Wherever.{spelled_by, chain_above}
 use Rattle.spellings.specs.Cursors.{left_by}
 use Rattle.paren_planner.specs.Noted.{PartsNoted}
 use Rattle.paren_planner.specs.Steps as planned
+use Rattle.paren_planner.specs.Steps.{has_row_at}
 use Rattle.paren_planner.specs.declared.steps.Step.TheVariants.{Free}
 use Rattle.cost_table.specs.Weighed.{is_plain_outline, slot_free}
 use Rattle.std.specs.Prelude.{set}
@@ -66,34 +67,37 @@ visit_atom-returns t c =
 
 pub visit_at-returns-in_default : goal.visit_at-returns-in_default
 visit_at-returns-in_default t c =
-    noted_unspelled (role_of c.args.above.now) (role_of c.widest_of-own.result) (slot_of c.args.slot.now) (node_tree c.args.node) (record { kind = c.kind-kind.result; above = c.args.above.now; slot = c.args.slot.now; requirements = None }) c.args.steps.now c.push.new.self
-    (record { kind = c.kind-kind.ensures; above = refl; slot = refl }) refl (c.widest_of-own.ensures (role_of c.args.above.now)) c.in_default.ensures.ways c.in_ok-push.ensures.items
+    noted_unspelled (role_of c.args.above.now) (role_of c.widest_of-own.result) (slot_of c.args.slot.now) (node_tree c.args.node) c.node_step.result c.args.steps.now c.push.new.self
+    c.node_step.ensures.visit c.node_step.ensures.requirements (c.widest_of-own.ensures (role_of c.args.above.now)) c.in_default.ensures.ways c.in_ok-push.ensures.items
 
 pub visit_at-returns-then-part_count-eq0 : goal.visit_at-returns-then-part_count-eq0
 visit_at-returns-then-part_count-eq0 t c =
-    noted_alone (role_of c.args.above.now) (role_of c.widest_of-own.result) (slot_of c.args.slot.now) (node_tree c.args.node) (record { kind = c.kind-kind.result; above = c.args.above.now; slot = c.args.slot.now; requirements = Some c.requirements-requirements.result }) (spelled_by c.args.node c.widest_of-own.result c.in-Some.production) c.args.steps.now c.push-then-part_count-eq0.new.self
-    (record { kind = c.kind-kind.ensures; above = refl; slot = refl }) (ap (λ l. Some l) c.requirements-requirements.ensures) (c.widest_of-own.ensures (role_of c.args.above.now)) c.in-Some.ensures.ways (sym c.part_count.ensures ∙ c.if-part_count-eq0.true) c.in_ok-push-2.ensures.items
+    noted_alone (role_of c.args.above.now) (role_of c.widest_of-own.result) (slot_of c.args.slot.now) (node_tree c.args.node) c.node_step-visit.result (spelled_by c.args.node c.widest_of-own.result c.in-Some.production) c.args.steps.now c.push-then-part_count-eq0.new.self
+    c.node_step-visit.ensures.visit (c.node_step-visit.ensures.requirements ∙ ap (λ l. Some l) c.requirements-requirements.ensures) (c.widest_of-own.ensures (role_of c.args.above.now)) c.in-Some.ensures.ways (sym c.part_count.ensures ∙ c.if-part_count-eq0.true) c.in_ok-push-2.ensures.items
 
 pub visit_at-returns : goal.visit_at-returns
 visit_at-returns t c =
-    noted_around (role_of c.args.above.now) (role_of c.widest_of-own.result) (slot_of c.args.slot.now) (node_tree c.args.node) (record { kind = c.kind-kind.result; above = c.args.above.now; slot = c.args.slot.now; requirements = Some c.requirements-requirements.result }) (spelled_by c.args.node c.widest_of-own.result c.in-Some.production) _ c.args.steps.now c.push-2.new.self c.visit_parts-2.new.steps c.push-3.new.self
-    (record { kind = c.kind-kind.ensures; above = refl; slot = refl }) (ap (λ l. Some l) c.requirements-requirements.ensures) (c.widest_of-own.ensures (role_of c.args.above.now)) c.in-Some.ensures.ways c.in_ok-push-3.ensures.items c.in_ok-are_free.ensures c.in_ok-push-4.ensures.items
+    noted_around (role_of c.args.above.now) (role_of c.widest_of-own.result) (slot_of c.args.slot.now) (node_tree c.args.node) c.node_step-visit.result (spelled_by c.args.node c.widest_of-own.result c.in-Some.production) _ c.args.steps.now c.push-2.new.self c.visit_parts-2.new.steps c.push-3.new.self
+    c.node_step-visit.ensures.visit (c.node_step-visit.ensures.requirements ∙ ap (λ l. Some l) c.requirements-requirements.ensures) (c.widest_of-own.ensures (role_of c.args.above.now)) c.in-Some.ensures.ways c.in_ok-push-3.ensures.items c.in_ok-are_free.ensures c.in_ok-push-4.ensures.items
 
 pub visit_at-set-requires : goal.visit_at-set-requires
-visit_at-set-requires t c =
-    place_within (role_of c.widest_of-own.result) _ _ _ (record { kind = c.kind-kind.result; above = c.args.above.now; slot = c.args.slot.now; requirements = Some c.requirements-requirements.result }) c.len-index.result c.args.steps.now c.push-2.new.self c.visit_parts-2.new.steps
-    c.len-index.ensures.value c.in_ok-push-3.ensures.items c.in_ok-are_free.ensures
+visit_at-set-requires t c = (
+  search rules,
+  place_within (role_of c.widest_of-own.result) _ _ _ c.node_step-visit.result c.len-index.result c.args.steps.now c.push-2.new.self c.visit_parts-2.new.steps
+      c.len-index.ensures.value c.in_ok-push-3.ensures.items c.in_ok-are_free.ensures,
+)
 
 pub visit_at-returns-then-is_free : goal.visit_at-returns-then-is_free
 visit_at-returns-then-is_free t c =
     let s = slot_of c.args.slot.now in
     let l = c.requirements-requirements.ensures in
-    noted_free (role_of c.args.above.now) (role_of c.widest_of-own.result) s (node_tree c.args.node) (record { kind = c.kind-kind.result; above = c.args.above.now; slot = c.args.slot.now; requirements = Some c.requirements-requirements.result }) (spelled_by c.args.node c.widest_of-own.result c.in-Some.production)
-    c.kind-kind.result _ c.len-index.result c.args.steps.now c.push-2.new.self c.visit_parts-2.new.steps c.set.new.self
-    c.kind-kind.ensures (c.widest_of-own.ensures (role_of c.args.above.now)) c.in-Some.ensures.ways
-    (ap (λ u. is_plain_outline (planned.outline_of u)) (sym l) ∙ c.is_free.ensures.plain c.if-is_free.true) (c.is_free.ensures.row c.if-is_free.true) (ap (λ u. slot_free s u.rank) (sym l) ∙ c.is_free.ensures.slot c.if-is_free.true)
+    let v = c.node_step-visit.ensures.visit in
+    noted_free (role_of c.args.above.now) (role_of c.widest_of-own.result) s (node_tree c.args.node) c.node_step-visit.result (spelled_by c.args.node c.widest_of-own.result c.in-Some.production)
+    c.node_step-visit.result.kind _ c.len-index.result c.args.steps.now c.push-2.new.self c.visit_parts-2.new.steps c.set.new.self
+    v.kind (c.widest_of-own.ensures (role_of c.args.above.now)) c.in-Some.ensures.ways
+    (ap (λ u. is_plain_outline (planned.outline_of u)) (sym l) ∙ c.is_free.ensures.plain c.if-is_free.true) (ap has_row_at (sym v.slot) ∙ c.is_free.ensures.row c.if-is_free.true) (ap (λ u. slot_free s u.rank) (sym l) ∙ ap (λ u. slot_free u c.requirements-requirements.result.rank) (sym v.slot) ∙ c.is_free.ensures.slot c.if-is_free.true)
     c.if-are_free.true c.len-index.ensures.value c.in_ok-push-3.ensures.items c.in_ok-are_free.ensures
-    (c.set.ensures ∙ ap (λ u. set c.visit_parts-2.new.steps c.len-index.result (Free c.kind-kind.result u.rank)) l)
+    (c.set.ensures ∙ ap (λ u. set c.visit_parts-2.new.steps c.len-index.result (Free c.node_step-visit.result.kind u.rank)) l)
 
 pub visit_atom-returns-then-not-has_row : goal.visit_atom-returns-then-not-has_row
 visit_atom-returns-then-not-has_row t c =
