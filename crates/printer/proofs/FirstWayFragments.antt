@@ -8,17 +8,17 @@ use Rattle.language.specs.Pieces.{Role, Spelling, is_none}
 use Rattle.language.specs.Grammar.{ways, ways_bare, spellings, fits_position, can_run, own_rank, own_in, own_start}
 use Rattle.language.specs.Layout.{some_way, first_way}
 use Rattle.language.proofs.lower_bound.Domination.{settled, fits, ways_of}
-use Rattle.printer.specs.Bits.{Mark, here, marks_of}
+use Rattle.printer.specs.Bits.{Mark, here, marks_of, piece_marks}
 use Rattle.printer.proofs.ListMarks.{marks-settled}
 
 -- so many parts as marks for them
 abbrev pub counts_up : List Mark → Parts → Bool
 counts_up [] ps = is_none ps
-counts_up (here ∷ ms) ps = counts_up ms (others ps)
+counts_up (here x ∷ ms) ps = counts_up ms (others ps)
 counts_up (_ ∷ ms) ps = counts_up ms ps
 
 abbrev pub Means : Parts → List Mark → Spelling → Type 0
-Means ps M s = can_run s.pieces ≡ true → counts_up (marks_of s.pieces) ps ≡ true → marks_of s.pieces ≡ M
+Means ps M s = can_run s.pieces ≡ true → counts_up (piece_marks s.pieces) ps ≡ true → piece_marks s.pieces ≡ M
 
 -- the first way that fits has these marks; a second one fits only where the first does
 pub data Shaped (ps : Parts) (M : List Mark) : List Spelling → Type 0 where
@@ -38,7 +38,7 @@ abbrev Answer : Parts → List Mark → Role → List Spelling → Type 0
 Answer ps M a xs = some_way (map (settled a) xs) ≡ true → counts_up (marks_of (first_way (map (settled a) xs))) ps ≡ true → marks_of (first_way (map (settled a) xs)) ≡ M
 
 meant_at : (ps : Parts) (M : List Mark) (a : Role) (s : Spelling) → can_run s.pieces ≡ true → Means ps M s → counts_up (marks_of (settled a s)) ps ≡ true → marks_of (settled a s) ≡ M
-meant_at ps M a s r h c = let e : marks_of (settled a s) ≡ marks_of s.pieces = marks-settled (own_rank a) (own_in a) (own_start a) s.pieces in e ∙ h r (sym (ap (λ ms. counts_up ms ps) e) ∙ c)
+meant_at ps M a s r h c = let e : marks_of (settled a s) ≡ piece_marks s.pieces = marks-settled (own_rank a) (own_in a) (own_start a) s.pieces in e ∙ h r (sym (ap (λ ms. counts_up ms ps) e) ∙ c)
 
 meant : (ps : Parts) (M : List Mark) (a : Role) (s : Spelling) (v : Bool) → fits a s ≡ v → Means ps M s → Answer ps M a (cond v (s ∷ []) [])
 meant ps M a s false e h k c = absurd (cc)

@@ -1,6 +1,4 @@
 pub mod Arrows
-pub mod CourseDefaults
-pub mod CourseTable
 pub mod Defaults
 pub mod Ends
 pub mod FusedTokens
@@ -10,13 +8,11 @@ pub mod Layouts
 pub mod ListMarks
 pub mod Nodes
 pub mod OtherMarks
-pub mod SitesByOutline
 pub mod NodeFragments
 pub mod PlaceMarks
 pub mod FragmentsByPosition
 pub mod PlannedLayout
 pub mod Rows
-pub mod SiteRules
 pub mod FirstWayFragments
 pub mod SiteLemmas
 pub mod Standings

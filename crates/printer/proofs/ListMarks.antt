@@ -1,25 +1,42 @@
 -- The marks of the table's lists.
-use Rattle.std.proofs.Common.{◌≡◌, ℕ, Bool, true, false, cond, List, [], ◌∷◌, ◌++◌, refl, sym, ap, ◌∙◌, append_assoc}
+use Rattle.std.proofs.Common.{◌≡◌, ℕ, Bool, true, false, cond, List, [], ◌∷◌, ◌++◌, suc, nat_eq, refl, sym, ap, ap₂, ◌∙◌, append_assoc, arith}
 use Rattle.std.specs.Prelude.{Option, Some, None, ◌&&◌, map, codes}
 use Rattle.std.proofs.lemmas.Bool.{false≢true}
+use Rattle.std.proofs.lemmas.Bool.Decides.{nat_tests}
 use Rattle.tree.specs.declared.kind.Kind.{Kind}
 use Rattle.tree.specs.declared.kind.Kind.TheVariants as kind
 use Rattle.tree.specs.Tree.{Tree, node, Parts, none, part, gap, kind_of}
 use Rattle.language.specs.declared.Rank.{Rank}
+use Rattle.language.specs.declared.Rank.TheVariants.{Assignment, LeftHandSide}
 use Rattle.language.specs.declared.Start.{Start}
-use Rattle.language.specs.Vocabulary.{is_rest}
+use Rattle.language.specs.declared.Start.TheVariants.{Any}
+use Rattle.language.specs.Vocabulary.{is_rest, is_spread, is_pattern, is_identifier, is_target}
 use Rattle.language.specs.Pieces as piece
-use Rattle.language.specs.Pieces.{Role, Slot, PieceOf, Piece, tok, may, many, ahead, unbroken, ending, open_parameters, close_parameters, sub, absent, never, lay, settle_piece, put, put_at, sign, sp, is_none, separator, listed, elements, argument, pattern_element, parameters, bound, with_default}
+use Rattle.language.specs.Pieces.{Role, Slot, PieceOf, Piece, tok, may, many, ahead, unbroken, ending, open_parameters, close_parameters, sub, absent, never, lay, settle, settle_piece, put, put_at, sign, sp, is_none, separator, listed, elements, argument, pattern_element, parameters, bound, with_default}
 use Rattle.language.specs.Expressions.{template_elements, object_part, object_pattern_part, sequence}
 use Rattle.language.specs.Statements.{lines as table_lines, prologue, declarators, member_lines, is_directive}
 use Rattle.language.specs.Grammar.{can_run}
-use Rattle.printer.specs.Bits.{Mark, text, line, feed, here, marks_of, Bit, Chain, nothing, joined, commas, lines, feeds, parameters as parameter_chain}
+use Rattle.printer.specs.Bits.{Mark, text, line, feed, here, marks_of, piece_marks, Bit, Chain, nothing, joined, commas, lines, feeds, parameters as parameter_chain}
+use Rattle.printer.specs.declared.site.Site.{Site}
+use Rattle.printer.specs.declared.site.Site.TheVariants.{Plain}
+use Rattle.printer.specs.declared.part_sites.PartSites.TheVariants.{AllPlain, TemplateParts}
+use Rattle.printer.specs.Sites.{site_of, slot_site, chunk_site, is_even}
 use Rattle.printer.specs.Printed.{marks_in, chain_marks}
 
-pub marks-settled : (z : Rank) (i : Bool) (f : Start) (qs : List Piece) → marks_of (map (settle_piece z i f) qs) ≡ marks_of qs
+-- what is asked of a position is asked wherever the node stands
+settled_site : (z : Rank) (i : Bool) (f : Start) (s : Slot) → site_of (settle z i f s) ≡ slot_site s
+settled_site z i f (piece.fixed a) = refl
+settled_site z i f (piece.left y) = refl
+settled_site z i f (piece.lead y) = refl
+settled_site z i f (piece.tail y g) = refl
+settled_site z i f piece.callee = refl
+settled_site z i f piece.lead_chain = refl
+settled_site z i f piece.lead_pattern = refl
+
+pub marks-settled : (z : Rank) (i : Bool) (f : Start) (qs : List Piece) → marks_of (map (settle_piece z i f) qs) ≡ piece_marks qs
 marks-settled z i f [] = refl
-marks-settled z i f (sub s ∷ qs) = ap (λ ms. here ∷ ms) (marks-settled z i f qs)
-marks-settled z i f (absent ∷ qs) = ap (λ ms. here ∷ ms) (marks-settled z i f qs)
+marks-settled z i f (sub s ∷ qs) = ap₂ (λ x ms. here x ∷ ms) (settled_site z i f s) (marks-settled z i f qs)
+marks-settled z i f (absent ∷ qs) = ap (λ ms. here Plain ∷ ms) (marks-settled z i f qs)
 marks-settled z i f (never ∷ qs) = marks-settled z i f qs
 marks-settled z i f (tok c w ∷ qs) = ap (λ ms. text w ∷ ms) (marks-settled z i f qs)
 marks-settled z i f (may w ∷ qs) = marks-settled z i f qs
@@ -37,41 +54,69 @@ marks-settled z i f (lay piece.shallower ∷ qs) = ap (λ ms. Rattle.printer.spe
 marks-settled z i f (lay (piece.apart c) ∷ qs) = ap (λ ms. Rattle.printer.specs.Bits.apart c ∷ ms) (marks-settled z i f qs)
 marks-settled z i f (lay piece.loose ∷ qs) = ap (λ ms. Rattle.printer.specs.Bits.loose ∷ ms) (marks-settled z i f qs)
 
--- a part, or what is never spelled
-pub data Standing : Piece → Type 0 where
-  stands : {s : Slot} → Standing (sub s)
-  refused : Standing never
+-- a part of which this is asked, or what is never spelled
+pub data Standing (x : Site) : Piece → Type 0 where
+  stands : {s : Slot} → slot_site s ≡ x → Standing x (sub s)
+  refused : Standing x never
 
-pub put_standing : (o : Option Role) → Standing (put_at o)
-put_standing None = refused
-put_standing (Some a) = stands
+-- at a position of which this is asked, if it is some
+abbrev pub Asks : Site → Option Role → Type 0
+Asks x None = Unit {0}
+Asks x (Some a) = site_of a ≡ x
 
-pub argument_standing : (n : Tree) → Standing (argument n)
-argument_standing n = stands
+pub put_standing : (x : Site) (o : Option Role) → Asks x o → Standing x (put_at o)
+put_standing x None h = refused
+put_standing x (Some a) h = stands h
 
-pub object_standing : (n : Tree) → Standing (object_part n)
-object_standing (node kind.SpreadElement w g s e ps) = stands
-object_standing (node kind.Property w g s e ps) = stands
+pub bound_plain : (b : Bool) (k : Kind) → Asks Plain (bound b k)
+bound_plain true k = of (is_pattern k) (is_identifier k)
+  where
+    of : (u v : Bool) → Asks Plain (cond u (Some (piece.pattern true Any)) (cond v (Some piece.name) None))
+    of true v = refl
+    of false true = refl
+    of false false = tt
+bound_plain false k = of (is_pattern k) (is_target k)
+  where
+    of : (u v : Bool) → Asks Plain (cond u (Some (piece.pattern false Any)) (cond v (Some (piece.expr LeftHandSide true Any)) None))
+    of true v = refl
+    of false true = refl
+    of false false = tt
+
+pub default_plain : (b : Bool) (k : Kind) → Asks Plain (with_default b k)
+default_plain b kind.AssignmentPattern = refl
+default_plain b k = bound_plain b k
+
+pub argument_standing : (n : Tree) → Standing Plain (argument n)
+argument_standing n = stands (of (is_spread (kind_of n)))
+  where
+    of : (b : Bool) → site_of (cond b piece.spread (piece.expr Assignment true Any)) ≡ Plain
+    of true = refl
+    of false = refl
+
+pub object_standing : (n : Tree) → Standing Plain (object_part n)
+object_standing (node kind.SpreadElement w g s e ps) = stands refl
+object_standing (node kind.Property w g s e ps) = stands refl
 object_standing (node _ w g s e ps) = refused
 
-pub object_pattern_standing : (b : Bool) (n : Tree) → Standing (object_pattern_part b n)
-object_pattern_standing b (node kind.RestElement w g s e ps) = stands
-object_pattern_standing b (node kind.Property w g s e ps) = stands
+pub object_pattern_standing : (b : Bool) (n : Tree) → Standing Plain (object_pattern_part b n)
+object_pattern_standing b (node kind.RestElement w g s e ps) = stands refl
+object_pattern_standing b (node kind.Property w g s e ps) = stands refl
 object_pattern_standing b (node _ w g s e ps) = refused
 
-pub element_standing : (b : Bool) (n : Tree) → Standing (pattern_element b n)
-element_standing b n = put_standing _
-
-pub bound_standing : (b : Bool) (k : Kind) → Standing (put_at (bound b k))
-bound_standing b k = put_standing (bound b k)
+pub element_standing : (b : Bool) (n : Tree) → Standing Plain (pattern_element b n)
+element_standing b n = put_standing Plain (cond (is_rest (kind_of n)) (Some (piece.rest b false)) (with_default b (kind_of n))) (of (is_rest (kind_of n)) (with_default b (kind_of n)) (default_plain b (kind_of n)))
+  where
+    of : (u : Bool) (o : Option Role) → Asks Plain o → Asks Plain (cond u (Some (piece.rest b false)) o)
+    of true o h = refl
+    of false o h = h
 
 module _ (w : List ℕ) where
   abbrev Runs : List Piece → Type 0
   Runs qs = can_run qs ≡ true
 
   -- an element and its separator, before others
-  one_element : (p : Piece) → Standing p → (k : Kind) (l b : Bool) (qs : List Piece) (ms : List Mark) → (Runs qs → marks_of qs ≡ ms) → Runs ((p ∷ separator k l) ++ qs) →
-      marks_of ((p ∷ separator k l) ++ qs) ≡ here ∷ (marks_in w (Rattle.printer.specs.Bits.after_bits commas false l b) ++ ms)
+  one_element : (p : Piece) → Standing Plain p → (k : Kind) (l b : Bool) (qs : List Piece) (ms : List Mark) → (Runs qs → piece_marks qs ≡ ms) → Runs ((p ∷ separator k l) ++ qs) →
+      piece_marks ((p ∷ separator k l) ++ qs) ≡ here Plain ∷ (marks_in w (Rattle.printer.specs.Bits.after_bits commas false l b) ++ ms)
   one_element (tok _ _) x k l b qs ms h r = elim x [ ]
   one_element (may _) x k l b qs ms h r = elim x [ ]
   one_element (many _) x k l b qs ms h r = elim x [ ]
@@ -83,19 +128,19 @@ module _ (w : List ℕ) where
   one_element absent x k l b qs ms h r = elim x [ ]
   one_element (lay _) x k l b qs ms h r = elim x [ ]
   one_element never refused k l b qs ms h r = absurd (false≢true r)
-  one_element (sub s) stands k true b qs ms h r = of (is_rest k) r
+  one_element (sub s) (stands e) k true b qs ms h r = of (is_rest k) r
     where
-      of : (v : Bool) → can_run (cond v [] (may (codes ",") ∷ []) ++ qs) ≡ true → here ∷ marks_of (cond v [] (may (codes ",") ∷ []) ++ qs) ≡ here ∷ ms
-      of true u = ap (λ t. here ∷ t) (h u)
-      of false u = ap (λ t. here ∷ t) (h u)
-  one_element (sub s) stands k false b qs ms h r = of (is_rest k) r
+      of : (v : Bool) → can_run (cond v [] (may (codes ",") ∷ []) ++ qs) ≡ true → here (slot_site s) ∷ piece_marks (cond v [] (may (codes ",") ∷ []) ++ qs) ≡ here Plain ∷ ms
+      of true u = ap₂ (λ x t. here x ∷ t) e (h u)
+      of false u = ap₂ (λ x t. here x ∷ t) e (h u)
+  one_element (sub s) (stands e) k false b qs ms h r = of (is_rest k) r
     where
-      of : (v : Bool) → can_run (cond v (never ∷ []) (sign "," ∷ sp ∷ []) ++ qs) ≡ true → here ∷ marks_of (cond v (never ∷ []) (sign "," ∷ sp ∷ []) ++ qs) ≡ here ∷ text (codes ",") ∷ text (codes " ") ∷ ms
+      of : (v : Bool) → can_run (cond v (never ∷ []) (sign "," ∷ sp ∷ []) ++ qs) ≡ true → here (slot_site s) ∷ piece_marks (cond v (never ∷ []) (sign "," ∷ sp ∷ []) ++ qs) ≡ here Plain ∷ text (codes ",") ∷ text (codes " ") ∷ ms
       of true u = absurd (false≢true u)
-      of false u = ap (λ t. here ∷ text (codes ",") ∷ text (codes " ") ∷ t) (h u)
+      of false u = ap₂ (λ x t. here x ∷ text (codes ",") ∷ text (codes " ") ∷ t) e (h u)
 
-  one_append : (xs ys zs : List Piece) (ms : List Mark) → marks_of (xs ++ (ys ++ zs)) ≡ ms → marks_of ((xs ++ ys) ++ zs) ≡ ms
-  one_append xs ys zs ms h = ap marks_of (append_assoc xs ys zs) ∙ h
+  one_append : (xs ys zs : List Piece) (ms : List Mark) → piece_marks (xs ++ (ys ++ zs)) ≡ ms → piece_marks ((xs ++ ys) ++ zs) ≡ ms
+  one_append xs ys zs ms h = ap piece_marks (append_assoc xs ys zs) ∙ h
 
   run_append : (xs ys zs : List Piece) → Runs ((xs ++ ys) ++ zs) → Runs (xs ++ (ys ++ zs))
   run_append xs ys zs h = sym (ap can_run (append_assoc xs ys zs)) ∙ h
@@ -103,79 +148,98 @@ module _ (w : List ℕ) where
   marks_append : (x : Mark) (xs ys : List Mark) (zs : List Mark) → x ∷ (xs ++ (ys ++ zs)) ≡ x ∷ ((xs ++ ys) ++ zs)
   marks_append x xs ys zs = ap (λ t. x ∷ t) (sym (append_assoc xs ys zs))
 
-  pub listed-marks : (f : Tree → Piece) → ((n : Tree) → Standing (f n)) → (ps : Parts) (qs : List Piece) → Runs (listed f ps ++ qs) → marks_of (listed f ps ++ qs) ≡ chain_marks w commas ps ++ marks_of qs
-  listed-marks f h none qs r = refl
-  listed-marks f h (gap ps) qs r = absurd (false≢true r)
-  listed-marks f h (part n ps) qs r =
+  pub listed-marks : (f : Tree → Piece) → ((n : Tree) → Standing Plain (f n)) → (i : ℕ) (ps : Parts) (qs : List Piece) → Runs (listed f ps ++ qs) → piece_marks (listed f ps ++ qs) ≡ chain_marks w AllPlain commas i ps ++ piece_marks qs
+  listed-marks f h i none qs r = refl
+  listed-marks f h i (gap ps) qs r = absurd (false≢true r)
+  listed-marks f h i (part n ps) qs r =
       one_append (f n ∷ separator (kind_of n) (is_none ps)) (listed f ps) qs _ (
-      one_element (f n) (h n) (kind_of n) (is_none ps) (Rattle.spelling_table.specs.Outlines.is_before_last ps) (listed f ps ++ qs) (chain_marks w commas ps ++ marks_of qs) (λ v. listed-marks f h ps qs v)
+      one_element (f n) (h n) (kind_of n) (is_none ps) (Rattle.spelling_table.specs.Outlines.is_before_last ps) (listed f ps ++ qs) (chain_marks w AllPlain commas (suc i) ps ++ piece_marks qs) (λ v. listed-marks f h (suc i) ps qs v)
       (run_append (f n ∷ separator (kind_of n) (is_none ps)) (listed f ps) qs r)
-      ∙ marks_append here (marks_in w (Rattle.printer.specs.Bits.after_bits commas false (is_none ps) (Rattle.spelling_table.specs.Outlines.is_before_last ps))) (chain_marks w commas ps) (marks_of qs))
+      ∙ marks_append (here Plain) (marks_in w (Rattle.printer.specs.Bits.after_bits commas false (is_none ps) (Rattle.spelling_table.specs.Outlines.is_before_last ps))) (chain_marks w AllPlain commas (suc i) ps) (piece_marks qs))
 
-  one_hole : (v b : Bool) (us qs : List Piece) (ms : List Mark) → (Runs (us ++ qs) → marks_of (us ++ qs) ≡ ms ++ marks_of qs) → Runs (((absent ∷ sign "," ∷ cond v [] (sp ∷ [])) ++ us) ++ qs) →
-      marks_of (((absent ∷ sign "," ∷ cond v [] (sp ∷ [])) ++ us) ++ qs) ≡ (here ∷ (marks_in w (Rattle.printer.specs.Bits.after_bits commas true v b) ++ ms)) ++ marks_of qs
-  one_hole true b us qs ms h r = ap (λ t. here ∷ text (codes ",") ∷ t) (h r)
-  one_hole false b us qs ms h r = ap (λ t. here ∷ text (codes ",") ∷ text (codes " ") ∷ t) (h r)
+  one_hole : (v b : Bool) (us qs : List Piece) (ms : List Mark) → (Runs (us ++ qs) → piece_marks (us ++ qs) ≡ ms ++ piece_marks qs) → Runs (((absent ∷ sign "," ∷ cond v [] (sp ∷ [])) ++ us) ++ qs) →
+      piece_marks (((absent ∷ sign "," ∷ cond v [] (sp ∷ [])) ++ us) ++ qs) ≡ (here Plain ∷ (marks_in w (Rattle.printer.specs.Bits.after_bits commas true v b) ++ ms)) ++ piece_marks qs
+  one_hole true b us qs ms h r = ap (λ t. here Plain ∷ text (codes ",") ∷ t) (h r)
+  one_hole false b us qs ms h r = ap (λ t. here Plain ∷ text (codes ",") ∷ text (codes " ") ∷ t) (h r)
 
-  pub elements-marks : (f : Tree → Piece) → ((n : Tree) → Standing (f n)) → (ps : Parts) (qs : List Piece) → Runs (elements f ps ++ qs) → marks_of (elements f ps ++ qs) ≡ chain_marks w commas ps ++ marks_of qs
-  elements-marks f h none qs r = refl
-  elements-marks f h (gap ps) qs r = one_hole (is_none ps) (Rattle.spelling_table.specs.Outlines.is_before_last ps) (elements f ps) qs (chain_marks w commas ps) (λ v. elements-marks f h ps qs v) r
-  elements-marks f h (part n ps) qs r =
+  pub elements-marks : (f : Tree → Piece) → ((n : Tree) → Standing Plain (f n)) → (i : ℕ) (ps : Parts) (qs : List Piece) → Runs (elements f ps ++ qs) → piece_marks (elements f ps ++ qs) ≡ chain_marks w AllPlain commas i ps ++ piece_marks qs
+  elements-marks f h i none qs r = refl
+  elements-marks f h i (gap ps) qs r = one_hole (is_none ps) (Rattle.spelling_table.specs.Outlines.is_before_last ps) (elements f ps) qs (chain_marks w AllPlain commas (suc i) ps) (λ v. elements-marks f h (suc i) ps qs v) r
+  elements-marks f h i (part n ps) qs r =
       one_append (f n ∷ separator (kind_of n) (is_none ps)) (elements f ps) qs _ (
-      one_element (f n) (h n) (kind_of n) (is_none ps) (Rattle.spelling_table.specs.Outlines.is_before_last ps) (elements f ps ++ qs) (chain_marks w commas ps ++ marks_of qs) (λ v. elements-marks f h ps qs v)
+      one_element (f n) (h n) (kind_of n) (is_none ps) (Rattle.spelling_table.specs.Outlines.is_before_last ps) (elements f ps ++ qs) (chain_marks w AllPlain commas (suc i) ps ++ piece_marks qs) (λ v. elements-marks f h (suc i) ps qs v)
       (run_append (f n ∷ separator (kind_of n) (is_none ps)) (elements f ps) qs r)
-      ∙ marks_append here (marks_in w (Rattle.printer.specs.Bits.after_bits commas false (is_none ps) (Rattle.spelling_table.specs.Outlines.is_before_last ps))) (chain_marks w commas ps) (marks_of qs))
+      ∙ marks_append (here Plain) (marks_in w (Rattle.printer.specs.Bits.after_bits commas false (is_none ps) (Rattle.spelling_table.specs.Outlines.is_before_last ps))) (chain_marks w AllPlain commas (suc i) ps) (piece_marks qs))
 
   -- parameters, and what stands behind them
-  pub parameters-marks : (xs : List Bit) (after : List Piece) → marks_of after ≡ marks_in w xs ++ here ∷ [] → (ps : Parts) → Runs (parameters after ps) → marks_of (parameters after ps) ≡ chain_marks w (parameter_chain xs) ps
-  parameters-marks xs after e none r = absurd (false≢true r)
-  parameters-marks xs after e (gap ps) r = absurd (false≢true r)
-  parameters-marks xs after e (part n none) r = e
-  parameters-marks xs after e (part n (gap ps)) r = absurd (false≢true r)
-  parameters-marks xs after e (part n (part m ps)) r =
-      one_element (pattern_element true n) (element_standing true n) (kind_of n) (is_none ps) false (parameters after (part m ps)) (chain_marks w (parameter_chain xs) (part m ps)) (λ v. parameters-marks xs after e (part m ps) v) r
+  pub parameters-marks : (xs : List Bit) (after : List Piece) → piece_marks after ≡ marks_in w xs ++ here Plain ∷ [] → (i : ℕ) (ps : Parts) → Runs (parameters after ps) → piece_marks (parameters after ps) ≡ chain_marks w AllPlain (parameter_chain xs) i ps
+  parameters-marks xs after e i none r = absurd (false≢true r)
+  parameters-marks xs after e i (gap ps) r = absurd (false≢true r)
+  parameters-marks xs after e i (part n none) r = e
+  parameters-marks xs after e i (part n (gap ps)) r = absurd (false≢true r)
+  parameters-marks xs after e i (part n (part m ps)) r =
+      one_element (pattern_element true n) (element_standing true n) (kind_of n) (is_none ps) false (parameters after (part m ps)) (chain_marks w AllPlain (parameter_chain xs) (suc i) (part m ps)) (λ v. parameters-marks xs after e (suc i) (part m ps) v) r
       ∙ of (is_none ps)
     where
-      of : (v : Bool) → here ∷ (marks_in w (Rattle.printer.specs.Bits.after_bits commas false v false) ++ chain_marks w (parameter_chain xs) (part m ps))
-          ≡ here ∷ (marks_in w (Rattle.printer.specs.Bits.after_bits (parameter_chain xs) false false v) ++ chain_marks w (parameter_chain xs) (part m ps))
+      of : (v : Bool) → here Plain ∷ (marks_in w (Rattle.printer.specs.Bits.after_bits commas false v false) ++ chain_marks w AllPlain (parameter_chain xs) (suc i) (part m ps))
+          ≡ here Plain ∷ (marks_in w (Rattle.printer.specs.Bits.after_bits (parameter_chain xs) false false v) ++ chain_marks w AllPlain (parameter_chain xs) (suc i) (part m ps))
       of true = refl
       of false = refl
 
-  pub declarators-marks : (a : Role) (ps : Parts) (qs : List Piece) → Runs (declarators a ps ++ qs) → marks_of (declarators a ps ++ qs) ≡ chain_marks w commas ps ++ marks_of qs
-  declarators-marks a none qs r = absurd (false≢true r)
-  declarators-marks a (gap ps) qs r = absurd (false≢true r)
-  declarators-marks a (part n none) qs r = refl
-  declarators-marks a (part n (gap ps)) qs r = absurd (false≢true r)
-  declarators-marks a (part n (part m ps)) qs r = ap (λ t. here ∷ text (codes ",") ∷ text (codes " ") ∷ t) (declarators-marks a (part m ps) qs r)
+  pub declarators-marks : (a : Role) → site_of a ≡ Plain → (i : ℕ) (ps : Parts) (qs : List Piece) → Runs (declarators a ps ++ qs) → piece_marks (declarators a ps ++ qs) ≡ chain_marks w AllPlain commas i ps ++ piece_marks qs
+  declarators-marks a e i none qs r = absurd (false≢true r)
+  declarators-marks a e i (gap ps) qs r = absurd (false≢true r)
+  declarators-marks a e i (part n none) qs r = ap (λ x. here x ∷ piece_marks qs) e
+  declarators-marks a e i (part n (gap ps)) qs r = absurd (false≢true r)
+  declarators-marks a e i (part n (part m ps)) qs r = ap₂ (λ x t. here x ∷ text (codes ",") ∷ text (codes " ") ∷ t) e (declarators-marks a e (suc i) (part m ps) qs r)
 
-  pub sequence-marks : (ps : Parts) (n : Tree) → Runs (sequence ps) → here ∷ marks_of (sequence ps) ≡ chain_marks w commas (part n ps)
-  sequence-marks none n r = refl
-  sequence-marks (gap ps) n r = absurd (false≢true r)
-  sequence-marks (part m ps) n r = ap (λ t. here ∷ text (codes ",") ∷ text (codes " ") ∷ t) (sequence-marks ps m r)
+  pub sequence-marks : (i : ℕ) (ps : Parts) (n : Tree) → Runs (sequence ps) → here Plain ∷ piece_marks (sequence ps) ≡ chain_marks w AllPlain commas i (part n ps)
+  sequence-marks i none n r = refl
+  sequence-marks i (gap ps) n r = absurd (false≢true r)
+  sequence-marks i (part m ps) n r = ap (λ t. here Plain ∷ text (codes ",") ∷ text (codes " ") ∷ t) (sequence-marks (suc i) ps m r)
 
-  pub chunks-marks : (b : Bool) (ps : Parts) → Runs (template_elements b ps) → marks_of (template_elements b ps) ≡ chain_marks w joined ps
-  chunks-marks b none r = absurd (false≢true r)
-  chunks-marks b (gap ps) r = absurd (false≢true r)
-  chunks-marks b (part q none) r = refl
-  chunks-marks b (part q (gap ps)) r = absurd (false≢true r)
-  chunks-marks b (part q (part e ps)) r = ap (λ t. here ∷ here ∷ t) (chunks-marks false ps r)
+  -- what is asked of an element at an even place, and of an expression behind it
+  element_at : (b : Bool) (i : ℕ) (l : Bool) → is_even i ≡ true → nat_eq i 0 ≡ b → chunk_site b l ≡ cond (is_even i) (chunk_site (nat_eq i 0) l) Plain
+  element_at b i l e f = ap (λ c. chunk_site c l) (sym f) ∙ sym (ap (λ c. cond c (chunk_site (nat_eq i 0) l) Plain) e)
 
-  pub lines-marks : (a : Role) (ps : Parts) (qs : List Piece) → Runs (table_lines a ps ++ qs) → marks_of (table_lines a ps ++ qs) ≡ chain_marks w lines ps ++ marks_of qs
-  lines-marks a none qs r = refl
-  lines-marks a (gap ps) qs r = absurd (false≢true r)
-  lines-marks a (part n ps) qs r = ap (λ t. line ∷ here ∷ t) (lines-marks a ps qs r)
+  odd_next : (i : ℕ) → is_even i ≡ true → is_even (suc i) ≡ false
+  odd_next i e = grind (arith, nat_tests)
 
-  pub members-marks : (ps : Parts) (qs : List Piece) → Runs (member_lines ps ++ qs) → marks_of (member_lines ps ++ qs) ≡ chain_marks w lines ps ++ marks_of qs
-  members-marks none qs r = refl
-  members-marks (gap ps) qs r = absurd (false≢true r)
-  members-marks (part n ps) qs r = ap (λ t. line ∷ here ∷ t) (members-marks ps qs r)
+  even_next : (i : ℕ) → is_even i ≡ true → is_even (suc (suc i)) ≡ true
+  even_next i e = grind (arith, nat_tests)
 
-  pub body-marks : (r b : Bool) (ps : Parts) (qs : List Piece) → Runs (prologue r b (lay piece.line ∷ []) [] ps ++ qs) → marks_of (prologue r b (lay piece.line ∷ []) [] ps ++ qs) ≡ chain_marks w lines ps ++ marks_of qs
-  body-marks r b none qs u = refl
-  body-marks r b (gap ps) qs u = absurd (false≢true u)
-  body-marks r b (part n ps) qs u = ap (λ t. line ∷ here ∷ t) (body-marks r (b && is_directive n) ps qs u)
+  not_first : (i : ℕ) → nat_eq (suc (suc i)) 0 ≡ false
+  not_first i = grind (arith, nat_tests)
 
-  pub items-marks : (r b : Bool) (ps : Parts) (qs : List Piece) → Runs (prologue r b [] (lay piece.feed ∷ []) ps ++ qs) → marks_of (prologue r b [] (lay piece.feed ∷ []) ps ++ qs) ≡ chain_marks w feeds ps ++ marks_of qs
-  items-marks r b none qs u = refl
-  items-marks r b (gap ps) qs u = absurd (false≢true u)
-  items-marks r b (part n ps) qs u = ap (λ t. here ∷ feed ∷ t) (items-marks r (b && is_directive n) ps qs u)
+  pub chunks-marks : (b : Bool) (i : ℕ) (ps : Parts) → is_even i ≡ true → nat_eq i 0 ≡ b → Runs (template_elements b ps) → piece_marks (template_elements b ps) ≡ chain_marks w TemplateParts joined i ps
+  chunks-marks b i none e f r = absurd (false≢true r)
+  chunks-marks b i (gap ps) e f r = absurd (false≢true r)
+  chunks-marks b i (part q none) e f r = ap (λ x. here x ∷ []) (element_at b i true e f)
+  chunks-marks b i (part q (gap ps)) e f r = absurd (false≢true r)
+  chunks-marks b i (part q (part m ps)) e f r =
+      ap₂ (λ x t. here x ∷ t) (element_at b i false e f)
+      (ap₂ (λ x t. here x ∷ t) (sym (ap (λ c. cond c (chunk_site (nat_eq (suc i) 0) (is_none ps)) Plain) (odd_next i e))) (chunks-marks false (suc (suc i)) ps (even_next i e) (not_first i) r))
+
+  pub lines-marks : (a : Role) → site_of a ≡ Plain → (i : ℕ) (ps : Parts) (qs : List Piece) → Runs (table_lines a ps ++ qs) → piece_marks (table_lines a ps ++ qs) ≡ chain_marks w AllPlain lines i ps ++ piece_marks qs
+  lines-marks a e i none qs r = refl
+  lines-marks a e i (gap ps) qs r = absurd (false≢true r)
+  lines-marks a e i (part n ps) qs r = ap₂ (λ x t. line ∷ here x ∷ t) e (lines-marks a e (suc i) ps qs r)
+
+  pub members-marks : (i : ℕ) (ps : Parts) (qs : List Piece) → Runs (member_lines ps ++ qs) → piece_marks (member_lines ps ++ qs) ≡ chain_marks w AllPlain lines i ps ++ piece_marks qs
+  members-marks i none qs r = refl
+  members-marks i (gap ps) qs r = absurd (false≢true r)
+  members-marks i (part n ps) qs r = ap (λ t. line ∷ here Plain ∷ t) (members-marks (suc i) ps qs r)
+
+  item_plain : (r b : Bool) → site_of (cond b (piece.opening r) (piece.item r)) ≡ Plain
+  item_plain r true = refl
+  item_plain r false = refl
+
+  pub body-marks : (r b : Bool) (i : ℕ) (ps : Parts) (qs : List Piece) → Runs (prologue r b (lay piece.line ∷ []) [] ps ++ qs) → piece_marks (prologue r b (lay piece.line ∷ []) [] ps ++ qs) ≡ chain_marks w AllPlain lines i ps ++ piece_marks qs
+  body-marks r b i none qs u = refl
+  body-marks r b i (gap ps) qs u = absurd (false≢true u)
+  body-marks r b i (part n ps) qs u = ap₂ (λ x t. line ∷ here x ∷ t) (item_plain r b) (body-marks r (b && is_directive n) (suc i) ps qs u)
+
+  pub items-marks : (r b : Bool) (i : ℕ) (ps : Parts) (qs : List Piece) → Runs (prologue r b [] (lay piece.feed ∷ []) ps ++ qs) → piece_marks (prologue r b [] (lay piece.feed ∷ []) ps ++ qs) ≡ chain_marks w AllPlain feeds i ps ++ piece_marks qs
+  items-marks r b i none qs u = refl
+  items-marks r b i (gap ps) qs u = absurd (false≢true u)
+  items-marks r b i (part n ps) qs u = ap₂ (λ x t. here x ∷ feed ∷ t) (item_plain r b) (items-marks r (b && is_directive n) (suc i) ps qs u)

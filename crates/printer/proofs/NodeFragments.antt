@@ -7,6 +7,7 @@ use Rattle.language.specs.RowPositions.{rows, parts_rows}
 use Rattle.language.specs.Layout.{layout}
 use Rattle.spelling_table.specs.Outlines.{parts_after}
 use Rattle.spellings.proofs.PartsAfter.{some-suc}
+use Rattle.printer.specs.declared.site.Site.{Site}
 use Rattle.printer.specs.Bits.{Mark, here, shallower, Bit, token, own_text, newline, feeding, loosely, chunk, Chain, nothing, joined, commas, lines, feeds, parameters}
 use Rattle.printer.specs.Shapes.{inner}
 use Rattle.printer.specs.Sheets.{View, Writes, flag_at}
@@ -104,10 +105,10 @@ module _ (W : ℕ → Bool) where
   both true v h = (refl, h)
   both false v h = absurd (cc)
 
-  pub passed_gap : {a : View} {ms : List Mark} {xs : List Role} {x : Bool} {d : ℕ} (r : ℕ) (ps : Parts) → Reads W r a.flags → parts_fit W (gap ps) xs r ≡ true → Passed W a a (here ∷ ms) ms (gap ps) ps xs xs x false d r
+  pub passed_gap : {s : Site} {a : View} {ms : List Mark} {xs : List Role} {x : Bool} {d : ℕ} (r : ℕ) (ps : Parts) → Reads W r a.flags → parts_fit W (gap ps) xs r ≡ true → Passed W a a (here s ∷ ms) ms (gap ps) ps xs xs x false d r
   passed_gap {xs = xs} r ps h k = record { row = r; reads = h; counts = ap (λ n. r + n) (sym (gap_rows ps xs)); fit = sym (gap_fit ps xs r) ∙ k; shows = λ next. leads_same }
 
-  pub passed_end : {a : View} {ms : List Mark} {xs : List Role} {x : Bool} {d : ℕ} (r : ℕ) → Reads W r a.flags → Passed W a a (here ∷ ms) ms none none xs xs x false d r
+  pub passed_end : {s : Site} {a : View} {ms : List Mark} {xs : List Role} {x : Bool} {d : ℕ} (r : ℕ) → Reads W r a.flags → Passed W a a (here s ∷ ms) ms none none xs xs x false d r
   passed_end {xs = xs} r h = record { row = r; reads = h; counts = refl; fit = none_fit xs r; shows = λ next. leads_same }
 
   -- what stands at a place, where no part does
@@ -119,16 +120,16 @@ module _ (W : ℕ → Bool) where
   missing (gap ps) Prim.Native.Nat.zero h q e f = f ps
   missing (gap ps) (suc i) h q e f = missing ps i h q e f
 
-  pub passed_missing : {a : View} {ms : List Mark} {xs : List Role} {x : Bool} {d : ℕ} (ps : Parts) (i r : ℕ) → None ≡ part_at ps i → Reads W r a.flags → parts_fit W (parts_after i ps) xs r ≡ true →
-      Passed W a a (here ∷ ms) ms (parts_after i ps) (parts_after (suc i) ps) xs xs x false d r
-  passed_missing {a} {ms} {xs} {x} {d} ps i r h k = missing ps i h (λ us vs. parts_fit W us xs r ≡ true → Passed W a a (here ∷ ms) ms us vs xs xs x false d r) (λ e. passed_end r k) (λ us e. passed_gap r us k e)
+  pub passed_missing : {s : Site} {a : View} {ms : List Mark} {xs : List Role} {x : Bool} {d : ℕ} (ps : Parts) (i r : ℕ) → None ≡ part_at ps i → Reads W r a.flags → parts_fit W (parts_after i ps) xs r ≡ true →
+      Passed W a a (here s ∷ ms) ms (parts_after i ps) (parts_after (suc i) ps) xs xs x false d r
+  passed_missing {s} {a} {ms} {xs} {x} {d} ps i r h k = missing ps i h (λ us vs. parts_fit W us xs r ≡ true → Passed W a a (here s ∷ ms) ms us vs xs xs x false d r) (λ e. passed_end r k) (λ us e. passed_gap r us k e)
 
-  pub passed_part : {a b : View} {ms : List Mark} {x : Bool} {d : ℕ} (r : ℕ) (n : Tree) (ps : Parts) (y : Role) (xs : List Role) (alone : Bool) → not (W r) ≡ alone → parts_fit W (part n ps) (y ∷ xs) r ≡ true →
-      (fits W n y r ≡ true → Printed W a b n y r d) → Passed W a b (here ∷ ms) ms (part n ps) ps (y ∷ xs) xs x alone d r
-  passed_part {a} {b} {ms} {x} {d} r n ps y xs alone e k p =
+  pub passed_part : {s : Site} {a b : View} {ms : List Mark} {x : Bool} {d : ℕ} (r : ℕ) (n : Tree) (ps : Parts) (y : Role) (xs : List Role) (alone : Bool) → not (W r) ≡ alone → parts_fit W (part n ps) (y ∷ xs) r ≡ true →
+      (fits W n y r ≡ true → Printed W a b n y r d) → Passed W a b (here s ∷ ms) ms (part n ps) ps (y ∷ xs) xs x alone d r
+  passed_part {s} {a} {b} {ms} {x} {d} r n ps y xs alone e k p =
       let u = both (fits W n y r) (parts_fit W ps xs (r + rows n y)) (sym (part_fit n ps y xs r) ∙ k) in
       let q = p u.0 in
-      subst (λ v. Passed W a b (here ∷ ms) ms (part n ps) ps (y ∷ xs) xs x v d r) e (record {
+      subst (λ v. Passed W a b (here s ∷ ms) ms (part n ps) ps (y ∷ xs) xs x v d r) e (record {
         row = r + rows n y;
         reads = q.reads;
         counts = add_assoc r (rows n y) (parts_rows ps xs) ∙ ap (λ m. r + m) (sym (part_rows n ps y xs));
@@ -136,11 +137,11 @@ module _ (W : ℕ → Bool) where
         shows = λ next. leads_at (sym (append_assoc (layout W n y r d) (marks_text W ms ps xs (r + rows n y) d (not (W r))) next)) (q.shows (marks_text W ms ps xs (r + rows n y) d (not (W r)) ++ next));
       })
 
-  pub passed_some : {a b : View} {ms : List Mark} {x : Bool} {d : ℕ} (ps : Parts) (i r : ℕ) (n : Tree) (y : Role) (xs : List Role) (alone : Bool) → Some n ≡ part_at ps i → Reads W r a.flags → not (flag_at a.flags 0) ≡ alone →
-      parts_fit W (parts_after i ps) (y ∷ xs) r ≡ true → (fits W n y r ≡ true → Printed W a b n y r d) → Passed W a b (here ∷ ms) ms (parts_after i ps) (parts_after (suc i) ps) (y ∷ xs) xs x alone d r
-  passed_some {a} {b} {ms} {x} {d} ps i r n y xs alone h g e k p =
+  pub passed_some : {s : Site} {a b : View} {ms : List Mark} {x : Bool} {d : ℕ} (ps : Parts) (i r : ℕ) (n : Tree) (y : Role) (xs : List Role) (alone : Bool) → Some n ≡ part_at ps i → Reads W r a.flags → not (flag_at a.flags 0) ≡ alone →
+      parts_fit W (parts_after i ps) (y ∷ xs) r ≡ true → (fits W n y r ≡ true → Printed W a b n y r d) → Passed W a b (here s ∷ ms) ms (parts_after i ps) (parts_after (suc i) ps) (y ∷ xs) xs x alone d r
+  passed_some {s} {a} {b} {ms} {x} {d} ps i r n y xs alone h g e k p =
       let step = some-suc ps i n h in
-      subst (λ us. Passed W a b (here ∷ ms) ms us (parts_after (suc i) ps) (y ∷ xs) xs x alone d r) (sym step)
+      subst (λ us. Passed W a b (here s ∷ ms) ms us (parts_after (suc i) ps) (y ∷ xs) xs x alone d r) (sym step)
       (passed_part r n (parts_after (suc i) ps) y xs alone (ap not (ap W (sym (add-zero r)) ∙ g 0) ∙ e) (ap (λ us. parts_fit W us (y ∷ xs) r) (sym step) ∙ k) p)
 
   pub no_position_left : (ps : Parts) (i r : ℕ) (n : Tree) → Some n ≡ part_at ps i → parts_fit W (parts_after i ps) [] r ≡ true → ⊥

@@ -18,10 +18,9 @@ use Rattle.printer.specs.Sheets.{View, Leads, Shows, Writes, held, sign_code, fl
 use Rattle.language.specs.LayoutFits.{fits, parts_fit}
 use Rattle.printer.specs.Fits.{wrapped_by}
 use Rattle.printer.specs.Standings.{Stands, Puts}
-use Rattle.printer.specs.Sites.{CanStand}
 use Rattle.printer.proofs.WrittenTexts.{leads_then, leads_at, nothing_held}
 use Rattle.tree.specs.declared.node_use.NodeUse.{NodeUse}
-use Rattle.printer.specs.declared.part_sites.PartSites.{PartSites}
+use Rattle.printer.specs.declared.site.Site.TheVariants.{Plain}
 use Rattle.printer.specs.Printed.{spelled_so, marks_text, signed_marks, Reads, Printed, Direct, Passed, Gone, Written}
 use Rattle.printer.proofs.Whole.{spelled_parts, printed_direct, printed_wrapped}
 
@@ -39,10 +38,6 @@ module _ (W : ℕ → Bool) where
 
   spelled_at : (n : Tree) (a : Role) (r : ℕ) (v : Bool) → (nat_eq (has_row a) 1 && W r) ≡ v → fits W n a r ≡ true → spelled_so W (parts_of n) (ways (inside v a) n) (has_row a + r) ≡ true
   spelled_at n a r v e h = subst (λ u. spelled_so W (parts_of n) (ways (inside u a) n) (has_row a + r) ≡ true) e (sym (fits_spelled n a r) ∙ h)
-
-  -- a node that fits stands there, in parentheses or without
-  pub can_stand : (n : Tree) (a : Role) (r : ℕ) → fits W n a r ≡ true → CanStand n a
-  can_stand n a r h = (W r, (spelled_parts W (parts_of n) (ways (inside (nat_eq (has_row a) 1 && W r) a) n) (has_row a + r) (spelled_at n a r (nat_eq (has_row a) 1 && W r) refl h)).0)
 
   -- what a call without parentheses promises
   abbrev Directly : View → View → Tree → Role → ℕ → Type 0
@@ -133,13 +128,13 @@ module _ (W : ℕ → Bool) where
   sign_has_text w s h e = let k : sign_of_text [] ≡ Some s = ap sign_of_text (sym e) ∙ h in cc
 
   -- the sign's text, the sign that is pending, the operand, and nothing pending
-  pub printed_signed : {a b c e g : View} (st : NodeUse) (top : Tree) (w : List ℕ) (s : SignOperator) (P : Parts) {xs : List Role} (k : PartSites) {x y : Bool} {d : ℕ} (r : ℕ) → sign_of_text w ≡ Some s → is_none (parts_after 1 P) ≡ true →
+  pub printed_signed : {a b c e g : View} (st : NodeUse) (top : Tree) (w : List ℕ) (s : SignOperator) (P : Parts) {xs : List Role} {x y : Bool} {d : ℕ} (r : ℕ) → sign_of_text w ≡ Some s → is_none (parts_after 1 P) ≡ true →
       Writes a b w → (¬ (w ≡ []) → b.apart ≡ None) →
       c.out ≡ b.out → c.apart ≡ Some s → c.flags ≡ b.flags →
-      Reads W r a.flags → (Reads W r c.flags → Gone W st top c e (here ∷ []) [] P (parts_after 1 P) xs k x y d r) →
+      Reads W r a.flags → (Reads W r c.flags → Gone W st top c e (here Plain ∷ []) [] P (parts_after 1 P) xs x y d r) →
       g.out ≡ e.out → g.apart ≡ None → g.flags ≡ e.flags →
       Written W a g (signed_marks w s) P xs x d r
-  printed_signed {a} {b} {c} {e} {g} st top w s P {xs} k {x} {y} {d} r t one p q co ca cw h f go ga gw =
+  printed_signed {a} {b} {c} {e} {g} st top w s P {xs} {x} {y} {d} r t one p q co ca cw h f go ga gw =
       let gone = f (subst (Reads W r) (sym (cw ∙ p.flags)) h) in
       let z = gone.passed in
       let counted : z.row ≡ r + parts_rows P xs = let n = last_rows (parts_after 1 P) gone.left one in let m = z.counts in omega (arith, n, m) in
@@ -149,13 +144,13 @@ module _ (W : ℕ → Bool) where
       }
     where
       T : List ℕ
-      T = marks_text W (here ∷ []) P xs r d x
+      T = marks_text W (here Plain ∷ []) P xs r d x
 
       A : List ℕ
       A = apart_text s T
 
       -- the whole text behind the operand alone
-      operand : {ys : List Role} (z : Passed W c e (here ∷ []) [] P (parts_after 1 P) xs ys x y d r) (next : List ℕ) → Leads b g (A ++ next) next
+      operand : {ys : List Role} (z : Passed W c e (here Plain ∷ []) [] P (parts_after 1 P) xs ys x y d r) (next : List ℕ) → Leads b g (A ++ next) next
       operand z next = record {
         leads = λ before whole h.
             let u = h.0 in
@@ -169,7 +164,7 @@ module _ (W : ℕ → Bool) where
             );
       }
 
-      shown_then : {ys : List Role} (z : Passed W c e (here ∷ []) [] P (parts_after 1 P) xs ys x y d r) (next : List ℕ) → Leads a g ((w ++ apart_text s T) ++ next) next
+      shown_then : {ys : List Role} (z : Passed W c e (here Plain ∷ []) [] P (parts_after 1 P) xs ys x y d r) (next : List ℕ) → Leads a g ((w ++ apart_text s T) ++ next) next
       shown_then z next = leads_at (sym (append_assoc w A next)) (leads_then (p.follows (A ++ next)) (operand z next))
 
 -- The whole text

@@ -1,5 +1,5 @@
 -- The shapes of nodes at each position are those of the table.
-use Rattle.std.proofs.Common.{◌≡◌, ℕ, Bool, true, false, not, cond, List, [], ◌∷◌, ◌++◌, refl, sym, ap, ◌∙◌, append-nil}
+use Rattle.std.proofs.Common.{◌≡◌, ℕ, Bool, true, false, not, cond, List, [], ◌∷◌, ◌++◌, refl, sym, ap, ap₂, ◌∙◌, append-nil}
 use Rattle.std.specs.Prelude.{Option, Some, None, ◌&&◌, codes, length}
 use Rattle.std.proofs.lemmas.Bool.{false≢true}
 use Rattle.tree.specs.declared.kind.Kind.{Kind}
@@ -21,18 +21,20 @@ use Rattle.language.specs.Grammar.{spellings, can_run, keys, names, words, short
 use Rattle.spelling_table.specs.declared.position.Position.{Position}
 use Rattle.spelling_table.specs.declared.position.Position.TheVariants as at_place
 use Rattle.spelling_table.specs.Outlines.{role_of, parts_after}
-use Rattle.printer.specs.Bits.{Mark, text, line, here, deeper, shallower, marks_of, Bit, Chain, nothing, commas, lines, Shape, fronted}
+use Rattle.printer.specs.declared.site.Site.TheVariants.{Plain}
+use Rattle.printer.specs.Sites.{slot_site}
+use Rattle.printer.specs.Bits.{Mark, text, line, here, deeper, shallower, piece_marks, Bit, Chain, nothing, commas, lines, Shape, fronted}
 use Rattle.printer.specs.Shapes.{expression_shape, method_shape, head_shape, sign_at, property_shape, class_member_shape, case_shape, catch_shape, declarator_shape, member_shape, call_shape}
 use Rattle.printer.proofs.FragmentsByPosition.{shape_by}
 use Rattle.printer.specs.Printed.{marks_in, front_marks, shape_marks}
-use Rattle.printer.proofs.ListMarks.{elements-marks, listed-marks, lines-marks, items-marks, declarators-marks, object_pattern_standing, element_standing}
+use Rattle.printer.proofs.ListMarks.{Asks, bound_plain, default_plain, elements-marks, listed-marks, lines-marks, items-marks, declarators-marks, object_pattern_standing, element_standing}
 use Rattle.printer.proofs.FirstWayFragments.{Means, counts_up, Shaped, nowhere, one, shaped_if}
 use Rattle.printer.proofs.TableMarks.{fixed_shape, arguments-marks, parameters_of, template_means, expressions_shaped}
 use Rattle.printer.proofs.OtherMarks.{Of, plain_one, block_means, body_means, class_body_means, statements_shaped, items_shaped, openings_shaped}
 
 module _ (w : List ℕ) where
   -- a shape with no parts but its first ones
-  shape_one : (s : Shape) (ps : Parts) (qs : List Piece) → s.chain ≡ nothing → s.opener ≡ [] → marks_of qs ≡ front_marks w s.front (marks_in w s.closer) → (counts_up (marks_of qs) ps ≡ true → is_none (parts_after (length s.front) ps) ≡ true) →
+  shape_one : (s : Shape) (ps : Parts) (qs : List Piece) → s.chain ≡ nothing → s.opener ≡ [] → piece_marks qs ≡ front_marks w s.sites 0 s.front ps (marks_in w s.closer) → (counts_up (piece_marks qs) ps ≡ true → is_none (parts_after (length s.front) ps) ≡ true) →
       Shaped ps (shape_marks w s ps) (only qs)
   shape_one s ps qs e f h c = one (λ r u. fixed_shape w s ps qs e f h (c u))
 
@@ -72,8 +74,8 @@ module _ (w : List ℕ) where
   -- Properties
 
   keyed_shaped : (ps : Parts) (b : Bool) (before after : List Piece) (s : Bool → Shape) → ((u : Bool) → (s u).chain ≡ nothing) → ((u : Bool) → (s u).opener ≡ []) →
-      marks_of (before ++ sign "[" ∷ assignment ∷ sign "]" ∷ after) ≡ front_marks w (s true).front (marks_in w (s true).closer) → marks_of (before ++ put piece.key ∷ after) ≡ front_marks w (s false).front (marks_in w (s false).closer) →
-      (counts_up (marks_of (before ++ sign "[" ∷ assignment ∷ sign "]" ∷ after)) ps ≡ true → is_none (parts_after (length (s true).front) ps) ≡ true) → (counts_up (marks_of (before ++ put piece.key ∷ after)) ps ≡ true → is_none (parts_after (length (s false).front) ps) ≡ true) →
+      piece_marks (before ++ sign "[" ∷ assignment ∷ sign "]" ∷ after) ≡ front_marks w (s true).sites 0 (s true).front ps (marks_in w (s true).closer) → piece_marks (before ++ put piece.key ∷ after) ≡ front_marks w (s false).sites 0 (s false).front ps (marks_in w (s false).closer) →
+      (counts_up (piece_marks (before ++ sign "[" ∷ assignment ∷ sign "]" ∷ after)) ps ≡ true → is_none (parts_after (length (s true).front) ps) ≡ true) → (counts_up (piece_marks (before ++ put piece.key ∷ after)) ps ≡ true → is_none (parts_after (length (s false).front) ps) ≡ true) →
       Shaped ps (shape_marks w (s b) ps) (keyed before b after)
   keyed_shaped ps true before after s e f h k c d = shape_one (s true) ps _ (e true) (f true) h c
   keyed_shaped ps false before after s e f h k c d = shape_one (s false) ps _ (e false) (f false) k d
@@ -88,10 +90,11 @@ module _ (w : List ℕ) where
   properties_shaped b form.Constructor ps = nowhere
 
   -- a key, and a value at a position that may be none
-  valued : (ps : Parts) (b : Bool) (o : Option Role) → Shaped ps (shape_marks w (property_shape form.Init b) ps) (keyed [] b (sign ":" ∷ sp ∷ put_at o ∷ []))
-  valued ps b (Some a) = keyed_shaped ps b [] (sign ":" ∷ sp ∷ put a ∷ []) (property_shape form.Init) (λ u. refl) (λ u. refl) refl refl (λ c. c) (λ c. c)
-  valued ps true None = one (λ r c. absurd (false≢true r))
-  valued ps false None = one (λ r c. absurd (false≢true r))
+  valued : (ps : Parts) (b : Bool) (o : Option Role) → Asks Plain o → Shaped ps (shape_marks w (property_shape form.Init b) ps) (keyed [] b (sign ":" ∷ sp ∷ put_at o ∷ []))
+  valued ps b (Some a) e = keyed_shaped ps b [] (sign ":" ∷ sp ∷ put a ∷ []) (property_shape form.Init) (λ u. refl) (λ u. refl)
+      (ap (λ x. text (codes "[") ∷ here Plain ∷ text (codes "]") ∷ text (codes ":") ∷ text (codes " ") ∷ here x ∷ []) e) (ap (λ x. here Plain ∷ text (codes ":") ∷ text (codes " ") ∷ here x ∷ []) e) (λ c. c) (λ c. c)
+  valued ps true None e = one (λ r c. absurd (false≢true r))
+  valued ps false None e = one (λ r c. absurd (false≢true r))
 
   shorthands : (ps : Parts) (k : Kind) → Shaped ps (shape_marks w (property_shape form.Shorthand false) ps) (shorthand_pattern k)
   shorthands ps kind.Identifier = shape_one (property_shape form.Shorthand false) ps _ refl refl refl (λ c. c)
@@ -99,7 +102,7 @@ module _ (w : List ℕ) where
   shorthands ps _ = nowhere
 
   pattern_properties_shaped : (b c : Bool) (x : Form) (k : Kind) (ps : Parts) → Shaped ps (shape_marks w (property_shape x c) ps) (pattern_properties b c x k)
-  pattern_properties_shaped b c form.Init k ps = valued ps c (with_default b k)
+  pattern_properties_shaped b c form.Init k ps = valued ps c (with_default b k) (default_plain b k)
   pattern_properties_shaped b true form.Shorthand k ps = nowhere
   pattern_properties_shaped b false form.Shorthand k ps = shorthands ps k
   pattern_properties_shaped b c form.Get k ps = nowhere
@@ -134,34 +137,34 @@ module _ (w : List ℕ) where
   -- Patterns
 
   patterns_shaped : (b : Bool) (k : Kind) (g : Flags) (ps : Parts) → Shaped ps (Of w k g ps) (patterns b k ps)
-  patterns_shaped b kind.ArrayPattern g ps = one (λ r c. ap (λ t. text (codes "[") ∷ t) (elements-marks w (pattern_element b) (element_standing b) ps (sign "]" ∷ []) r))
-  patterns_shaped b kind.ObjectPattern g ps = one (λ r c. ap (λ t. text (codes "{") ∷ t) (listed-marks w (object_pattern_part b) (object_pattern_standing b) ps (sign "}" ∷ []) r))
+  patterns_shaped b kind.ArrayPattern g ps = one (λ r c. ap (λ t. text (codes "[") ∷ t) (elements-marks w (pattern_element b) (element_standing b) 0 ps (sign "]" ∷ []) r))
+  patterns_shaped b kind.ObjectPattern g ps = one (λ r c. ap (λ t. text (codes "{") ∷ t) (listed-marks w (object_pattern_part b) (object_pattern_standing b) 0 ps (sign "}" ∷ []) r))
   patterns_shaped b _ g ps = nowhere
 
-  defaulted : (g : Flags) (ps : Parts) (o : Option Role) → Shaped ps (Of w kind.AssignmentPattern g ps) (only_at o (sp ∷ sign "=" ∷ sp ∷ assignment ∷ []))
-  defaulted g ps None = nowhere
-  defaulted g ps (Some a) = plain_one w kind.AssignmentPattern g ps _ refl refl refl (λ c. c)
+  defaulted : (g : Flags) (ps : Parts) (o : Option Role) → Asks Plain o → Shaped ps (Of w kind.AssignmentPattern g ps) (only_at o (sp ∷ sign "=" ∷ sp ∷ assignment ∷ []))
+  defaulted g ps None e = nowhere
+  defaulted g ps (Some a) e = plain_one w kind.AssignmentPattern g ps _ refl refl (ap (λ x. here x ∷ text (codes " ") ∷ text (codes "=") ∷ text (codes " ") ∷ here Plain ∷ []) e) (λ c. c)
 
   elements_shaped : (b : Bool) (k : Kind) (g : Flags) (ps : Parts) → Shaped ps (Of w k g ps) (elements_with_default b k ps)
-  elements_shaped b kind.AssignmentPattern g ps = defaulted g ps (bound b (lead ps))
+  elements_shaped b kind.AssignmentPattern g ps = defaulted g ps (bound b (lead ps)) (bound_plain b (lead ps))
   elements_shaped b _ g ps = nowhere
 
-  rested : (g : Flags) (ps : Parts) (o : Option Role) → Shaped ps (Of w kind.RestElement g ps) (only (sign "..." ∷ put_at o ∷ []))
-  rested g ps None = one (λ r c. absurd (false≢true r))
-  rested g ps (Some a) = plain_one w kind.RestElement g ps _ refl refl refl (λ c. c)
+  rested : (g : Flags) (ps : Parts) (o : Option Role) → Asks Plain o → Shaped ps (Of w kind.RestElement g ps) (only (sign "..." ∷ put_at o ∷ []))
+  rested g ps None e = one (λ r c. absurd (false≢true r))
+  rested g ps (Some a) e = plain_one w kind.RestElement g ps _ refl refl (ap (λ x. text (codes "...") ∷ here x ∷ []) e) (λ c. c)
 
   rests_shaped : (b o : Bool) (k : Kind) (g : Flags) (ps : Parts) → Shaped ps (Of w k g ps) (rests b o k ps)
-  rests_shaped b o kind.RestElement g ps = shaped_if _ (λ e. nowhere) (λ e. rested g ps (bound b (lead ps)))
+  rests_shaped b o kind.RestElement g ps = shaped_if _ (λ e. nowhere) (λ e. rested g ps (bound b (lead ps)) (bound_plain b (lead ps)))
   rests_shaped b o _ g ps = nowhere
 
   -- Methods
 
-  setter_shaped : (n m : Tree) (o : Option Role) → Shaped (gap (part n (part m none))) (shape_marks w method_shape (gap (part n (part m none)))) (only (absent ∷ sign "(" ∷ put_at o ∷ sign ")" ∷ sp ∷ put piece.body ∷ []))
-  setter_shaped n m None = one (λ r c. absurd (false≢true r))
-  setter_shaped n m (Some a) = one (λ r c. refl)
+  setter_shaped : (n m : Tree) (o : Option Role) → Asks Plain o → Shaped (gap (part n (part m none))) (shape_marks w method_shape (gap (part n (part m none)))) (only (absent ∷ sign "(" ∷ put_at o ∷ sign ")" ∷ sp ∷ put piece.body ∷ []))
+  setter_shaped n m None e = one (λ r c. absurd (false≢true r))
+  setter_shaped n m (Some a) e = one (λ r c. ap (λ x. here Plain ∷ text (codes "(") ∷ here x ∷ text (codes ")") ∷ text (codes " ") ∷ here Plain ∷ []) e)
 
   plain_method : (ps : Parts) → Shaped (gap ps) (shape_marks w method_shape (gap ps)) (only (absent ∷ sign "(" ∷ parameters (sign ")" ∷ sp ∷ put piece.body ∷ []) ps))
-  plain_method ps = one (λ r c. ap (λ t. here ∷ text (codes "(") ∷ t) (parameters_of w ps r))
+  plain_method ps = one (λ r c. ap (λ t. here Plain ∷ text (codes "(") ∷ t) (parameters_of w 1 ps r))
 
   methods_shaped : (x : Form) (ps : Parts) → Shaped ps (shape_marks w method_shape ps) (methods x ps)
   methods_shaped form.Get (gap (part b none)) = one (λ r c. refl)
@@ -171,7 +174,7 @@ module _ (w : List ℕ) where
   methods_shaped form.Get (gap (gap ps)) = nowhere
   methods_shaped form.Get none = nowhere
   methods_shaped form.Get (part n ps) = nowhere
-  methods_shaped form.Set (gap (part n (part m none))) = shaped_if (is_rest (kind_of n)) (λ e. nowhere) (λ e. setter_shaped n m (with_default true (kind_of n)))
+  methods_shaped form.Set (gap (part n (part m none))) = shaped_if (is_rest (kind_of n)) (λ e. nowhere) (λ e. setter_shaped n m (with_default true (kind_of n)) (default_plain true (kind_of n)))
   methods_shaped form.Set (gap (part n (part m (part u ps)))) = nowhere
   methods_shaped form.Set (gap (part n (part m (gap ps)))) = nowhere
   methods_shaped form.Set (gap (part n none)) = nowhere
@@ -195,15 +198,15 @@ module _ (w : List ℕ) where
 
   -- Chains
 
-  spine_member : (s : Slot) (g : Flags) (ps : Parts) (b : Bool) → Rattle.printer.specs.Shapes.after_open_number ps ≡ b → (g.optional ≡ true → Unit {0}) → (not g.optional && b) ≡ false → Means ps (Of w kind.MemberExpression g ps) (at Primary (sub s ∷ member_link g))
-  spine_member s g ps b e u x r c = of g.optional g.computed b x c ∙ ap (λ v. shape_marks w (member_shape g.optional g.computed v) ps) (sym e)
+  spine_member : (s : Slot) (g : Flags) (ps : Parts) (b : Bool) → slot_site s ≡ Plain → Rattle.printer.specs.Shapes.after_open_number ps ≡ b → (g.optional ≡ true → Unit {0}) → (not g.optional && b) ≡ false → Means ps (Of w kind.MemberExpression g ps) (at Primary (sub s ∷ member_link g))
+  spine_member s g ps b a e u x r c = ap (λ y. here y ∷ piece_marks (member_link g)) a ∙ of g.optional g.computed b x c ∙ ap (λ v. shape_marks w (member_shape g.optional g.computed v) ps) (sym e)
     where
-      of : (o k v : Bool) → (not o && v) ≡ false → counts_up (marks_of (sub s ∷ cond o (sign "?." ∷ cond k in_brackets (put piece.word ∷ [])) (cond k in_brackets (sign "." ∷ put piece.word ∷ [])))) ps ≡ true →
-          marks_of (sub s ∷ cond o (sign "?." ∷ cond k in_brackets (put piece.word ∷ [])) (cond k in_brackets (sign "." ∷ put piece.word ∷ []))) ≡ shape_marks w (member_shape o k v) ps
-      of true true v h d = fixed_shape w (member_shape true true v) ps (sub s ∷ sign "?." ∷ in_brackets) refl refl refl d
-      of true false v h d = fixed_shape w (member_shape true false v) ps (sub s ∷ sign "?." ∷ put piece.word ∷ []) refl refl refl d
-      of false true v h d = fixed_shape w (member_shape false true v) ps (sub s ∷ in_brackets) refl refl refl d
-      of false false false h d = fixed_shape w (member_shape false false false) ps (sub s ∷ sign "." ∷ put piece.word ∷ []) refl refl refl d
+      of : (o k v : Bool) → (not o && v) ≡ false → counts_up (piece_marks (sub piece.callee ∷ cond o (sign "?." ∷ cond k in_brackets (put piece.word ∷ [])) (cond k in_brackets (sign "." ∷ put piece.word ∷ [])))) ps ≡ true →
+          piece_marks (sub piece.callee ∷ cond o (sign "?." ∷ cond k in_brackets (put piece.word ∷ [])) (cond k in_brackets (sign "." ∷ put piece.word ∷ []))) ≡ shape_marks w (member_shape o k v) ps
+      of true true v h d = fixed_shape w (member_shape true true v) ps (sub piece.callee ∷ sign "?." ∷ in_brackets) refl refl refl d
+      of true false v h d = fixed_shape w (member_shape true false v) ps (sub piece.callee ∷ sign "?." ∷ put piece.word ∷ []) refl refl refl d
+      of false true v h d = fixed_shape w (member_shape false true v) ps (sub piece.callee ∷ in_brackets) refl refl refl d
+      of false false false h d = fixed_shape w (member_shape false false false) ps (sub piece.callee ∷ sign "." ∷ put piece.word ∷ []) refl refl refl d
       of false false true h d = absurd (cc)
 
   chained_closed : (ps : Parts) → first_has_optional ps ≡ true → Rattle.printer.specs.Shapes.after_open_number ps ≡ false
@@ -220,41 +223,41 @@ module _ (w : List ℕ) where
   optional_false true b h = refl
   optional_false false b h = absurd (cc)
 
-  spine_call : (s : Slot) (g : Flags) (ps : Parts) → Means ps (Of w kind.CallExpression g ps) (at Primary (sub s ∷ call_link g ps))
-  spine_call s g ps r c = of g.optional r
+  spine_call : (s : Slot) (g : Flags) (ps : Parts) → slot_site s ≡ Plain → Means ps (Of w kind.CallExpression g ps) (at Primary (sub s ∷ call_link g ps))
+  spine_call s g ps e r c = of g.optional r
     where
-      of : (o : Bool) → can_run (cond o (sign "?." ∷ []) [] ++ arguments (others ps)) ≡ true → marks_of (sub s ∷ cond o (sign "?." ∷ []) [] ++ arguments (others ps)) ≡ shape_marks w (call_shape o) ps
-      of true u = ap (λ t. here ∷ text (codes "?.") ∷ t) (arguments-marks w (others ps) u)
-      of false u = ap (λ t. here ∷ t) (arguments-marks w (others ps) u)
+      of : (o : Bool) → can_run (cond o (sign "?." ∷ []) [] ++ arguments (others ps)) ≡ true → piece_marks (sub s ∷ cond o (sign "?." ∷ []) [] ++ arguments (others ps)) ≡ shape_marks w (call_shape o) ps
+      of true u = ap₂ (λ x t. here x ∷ text (codes "?.") ∷ t) e (arguments-marks w 1 (others ps) u)
+      of false u = ap₂ (λ x t. here x ∷ t) e (arguments-marks w 1 (others ps) u)
 
   spines_shaped : (k : Kind) (g : Flags) (ps : Parts) → Shaped ps (Of w k g ps) (chain_parts k g ps)
   spines_shaped kind.MemberExpression g ps = shaped_if (first_has_optional ps)
-      (λ e. one (spine_member piece.lead_chain g ps false (chained_closed ps e) (λ u. tt) (never_false g.optional)))
-      (λ e. shaped_if g.optional (λ u. one (spine_member (piece.lead Rattle.language.specs.declared.Rank.TheVariants.Call) g ps (Rattle.printer.specs.Shapes.after_open_number ps) refl (λ v. tt) (optional_false g.optional _ u))) (λ u. nowhere))
-  spines_shaped kind.CallExpression g ps = shaped_if (first_has_optional ps) (λ e. one (spine_call piece.lead_chain g ps))
-      (λ e. shaped_if g.optional (λ u. one (spine_call (piece.lead Rattle.language.specs.declared.Rank.TheVariants.Call) g ps)) (λ u. nowhere))
+      (λ e. one (spine_member piece.lead_chain g ps false refl (chained_closed ps e) (λ u. tt) (never_false g.optional)))
+      (λ e. shaped_if g.optional (λ u. one (spine_member (piece.lead Rattle.language.specs.declared.Rank.TheVariants.Call) g ps (Rattle.printer.specs.Shapes.after_open_number ps) refl refl (λ v. tt) (optional_false g.optional _ u))) (λ u. nowhere))
+  spines_shaped kind.CallExpression g ps = shaped_if (first_has_optional ps) (λ e. one (spine_call piece.lead_chain g ps refl))
+      (λ e. shaped_if g.optional (λ u. one (spine_call (piece.lead Rattle.language.specs.declared.Rank.TheVariants.Call) g ps refl)) (λ u. nowhere))
   spines_shaped _ g ps = nowhere
 
   -- Declarations, cases and handlers
 
-  head_means : (a : Role) (ps : Parts) → Means ps (shape_marks w head_shape ps) (at Primary (declaration w a ps))
-  head_means a ps r c = ap (λ t. text w ∷ text (codes " ") ∷ t) (sym (ap marks_of (append-nil (declarators a ps))) ∙ declarators-marks w a ps [] (ap can_run (append-nil (declarators a ps)) ∙ r))
+  head_means : (b : Bool) (ps : Parts) → Means ps (shape_marks w head_shape ps) (at Primary (declaration w (piece.declarator false b) ps))
+  head_means b ps r c = ap (λ t. text w ∷ text (codes " ") ∷ t) (sym (ap piece_marks (append-nil (declarators (piece.declarator false b) ps))) ∙ declarators-marks w (piece.declarator false b) refl 0 ps [] (ap can_run (append-nil (declarators (piece.declarator false b) ps)) ∙ r))
 
   heads_shaped : (b : Bool) (k : Kind) (ps : Parts) → Shaped ps (shape_marks w head_shape ps) (heads b k w ps)
-  heads_shaped b kind.VariableDeclaration ps = shaped_if _ (λ e. one (head_means (piece.declarator false b) ps)) (λ e. nowhere)
+  heads_shaped b kind.VariableDeclaration ps = shaped_if _ (λ e. one (head_means b ps)) (λ e. nowhere)
   heads_shaped b _ ps = nowhere
 
-  initialised : (ps : Parts) (a : Role) (o : Option Role) → Shaped ps (shape_marks w (declarator_shape true) ps) (only_at o (sp ∷ sign "=" ∷ sp ∷ put a ∷ []))
-  initialised ps a None = nowhere
-  initialised ps a (Some q) = shape_one (declarator_shape true) ps _ refl refl refl (λ c. c)
+  initialised : (ps : Parts) (i : Bool) (o : Option Role) → Asks Plain o → Shaped ps (shape_marks w (declarator_shape true) ps) (only_at o (sp ∷ sign "=" ∷ sp ∷ put (piece.expr Assignment i Any) ∷ []))
+  initialised ps i None e = nowhere
+  initialised ps i (Some q) e = shape_one (declarator_shape true) ps _ refl refl (ap (λ x. here x ∷ text (codes " ") ∷ text (codes "=") ∷ text (codes " ") ∷ here Plain ∷ []) e) (λ c. c)
 
-  bare_declarator : (ps : Parts) (o : Option Role) → Shaped ps (shape_marks w (declarator_shape false) ps) (only_at o (absent ∷ []))
-  bare_declarator ps None = nowhere
-  bare_declarator ps (Some q) = shape_one (declarator_shape false) ps _ refl refl refl (λ c. c)
+  bare_declarator : (ps : Parts) (o : Option Role) → Asks Plain o → Shaped ps (shape_marks w (declarator_shape false) ps) (only_at o (absent ∷ []))
+  bare_declarator ps None e = nowhere
+  bare_declarator ps (Some q) e = shape_one (declarator_shape false) ps _ refl refl (ap (λ x. here x ∷ here Plain ∷ []) e) (λ c. c)
 
   declarators_of : (i b : Bool) (g : Flags) (ps : Parts) → Shaped ps (Of w kind.VariableDeclarator g ps) (declarator_ways i b kind.VariableDeclarator ps)
-  declarators_of i b g (part n (part e none)) = shaped_if b (λ u. initialised (part n (part e none)) (piece.expr Assignment i Any) (bound true (kind_of n))) (λ u. nowhere)
-  declarators_of i b g (part n (gap none)) = shaped_if (b && is_pattern (kind_of n)) (λ u. nowhere) (λ u. bare_declarator (part n (gap none)) (bound true (kind_of n)))
+  declarators_of i b g (part n (part e none)) = shaped_if b (λ u. initialised (part n (part e none)) i (bound true (kind_of n)) (bound_plain true (kind_of n))) (λ u. nowhere)
+  declarators_of i b g (part n (gap none)) = shaped_if (b && is_pattern (kind_of n)) (λ u. nowhere) (λ u. bare_declarator (part n (gap none)) (bound true (kind_of n)) (bound_plain true (kind_of n)))
   declarators_of i b g none = nowhere
   declarators_of i b g (gap ps) = nowhere
   declarators_of i b g (part n none) = nowhere
@@ -269,22 +272,22 @@ module _ (w : List ℕ) where
 
   cases_shaped : (r : Bool) (k : Kind) (g : Flags) (ps : Parts) → Shaped ps (Of w k g ps) (cases r k ps)
   cases_shaped r kind.SwitchCase g none = nowhere
-  cases_shaped r kind.SwitchCase g (part t ps) = one (λ u c. ap (λ v. text (codes "case") ∷ text (codes " ") ∷ here ∷ text (codes ":") ∷ deeper ∷ v) (lines-marks w (piece.item r) ps (lay piece.shallower ∷ []) u))
-  cases_shaped r kind.SwitchCase g (gap ps) = one (λ u c. ap (λ v. here ∷ text (codes "default") ∷ text (codes ":") ∷ deeper ∷ v) (lines-marks w (piece.item r) ps (lay piece.shallower ∷ []) u))
+  cases_shaped r kind.SwitchCase g (part t ps) = one (λ u c. ap (λ v. text (codes "case") ∷ text (codes " ") ∷ here Plain ∷ text (codes ":") ∷ deeper ∷ v) (lines-marks w (piece.item r) refl 1 ps (lay piece.shallower ∷ []) u))
+  cases_shaped r kind.SwitchCase g (gap ps) = one (λ u c. ap (λ v. here Plain ∷ text (codes "default") ∷ text (codes ":") ∷ deeper ∷ v) (lines-marks w (piece.item r) refl 1 ps (lay piece.shallower ∷ []) u))
   cases_shaped r _ g ps = nowhere
 
-  caught : (p : Tree) (ps : Parts) (r : Bool) (o : Option Role) → Shaped (part p ps) (shape_marks w (catch_shape true) (part p ps)) (only (term "catch" ∷ sp ∷ sign "(" ∷ put_at o ∷ sign ")" ∷ sp ∷ put (piece.block r) ∷ []))
-  caught p ps r None = one (λ u c. absurd (false≢true u))
-  caught p ps r (Some a) = shape_one (catch_shape true) (part p ps) _ refl refl refl (λ c. c)
+  caught : (p : Tree) (ps : Parts) (r : Bool) (o : Option Role) → Asks Plain o → Shaped (part p ps) (shape_marks w (catch_shape true) (part p ps)) (only (term "catch" ∷ sp ∷ sign "(" ∷ put_at o ∷ sign ")" ∷ sp ∷ put (piece.block r) ∷ []))
+  caught p ps r None e = one (λ u c. absurd (false≢true u))
+  caught p ps r (Some a) e = shape_one (catch_shape true) (part p ps) _ refl refl (ap (λ x. text (codes "catch") ∷ text (codes " ") ∷ text (codes "(") ∷ here x ∷ text (codes ")") ∷ text (codes " ") ∷ here Plain ∷ []) e) (λ c. c)
 
   handlers_shaped : (r : Bool) (k : Kind) (g : Flags) (ps : Parts) → Shaped ps (Of w k g ps) (handlers r k ps)
   handlers_shaped r kind.CatchClause g none = nowhere
-  handlers_shaped r kind.CatchClause g (part p ps) = caught p ps r (bound true (kind_of p))
+  handlers_shaped r kind.CatchClause g (part p ps) = caught p ps r (bound true (kind_of p)) (bound_plain true (kind_of p))
   handlers_shaped r kind.CatchClause g (gap ps) = shape_one (catch_shape false) (gap ps) _ refl refl refl (λ c. c)
   handlers_shaped r _ g ps = nowhere
 
   script_means : (g : Flags) (ps : Parts) → Means ps (Of w kind.Program g ps) (at Primary (prologue false true [] (lay piece.feed ∷ []) ps ++ tok class.End [] ∷ []))
-  script_means g ps r c = items-marks w false true ps (tok class.End [] ∷ []) r
+  script_means g ps r c = items-marks w false true 0 ps (tok class.End [] ∷ []) r
 
   -- The table
 
@@ -316,7 +319,7 @@ module _ (w : List ℕ) where
   places_shaped (at_place.Statement r) k g ps n = statements_shaped w r k g ps
   places_shaped (at_place.StatementListItem r) k g ps n = items_shaped w r k g ps
   places_shaped (at_place.PrologueItem r) k g ps n = openings_shaped w r k g ps
-  places_shaped (at_place.Block r) kind.BlockStatement g ps n = one (block_means w g (piece.item r) ps)
+  places_shaped (at_place.Block r) kind.BlockStatement g ps n = one (block_means w g (piece.item r) refl ps)
   places_shaped (at_place.Block r) _ g ps n = nowhere
   places_shaped (at_place.ForDeclaration b) k g ps n = heads_shaped b k ps
   places_shaped (at_place.Declarator i b) k g ps n = declarators_shaped i b k g ps

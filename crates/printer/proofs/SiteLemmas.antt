@@ -9,14 +9,12 @@ use Rattle.tree.specs.Tree.{Tree, Parts, kind_of, flags_of, parts_of}
 use Rattle.language.specs.Pieces as piece
 use Rattle.language.specs.Pieces.{Role, is_none}
 use Rattle.language.specs.Grammar.{ways}
-use Rattle.language.specs.RowPositions.{has_row, first_roles}
+use Rattle.language.specs.RowPositions.{has_row, roles, first_roles}
 use Rattle.language.specs.Layout.{some_way}
 use Rattle.spelling_table.specs.declared.position.Position.{Position}
 use Rattle.spelling_table.specs.declared.position.Position.TheVariants as at
 use Rattle.spelling_table.specs.Outlines.{role_of, whole_at}
-use Rattle.printer.specs.declared.site.Site.{Site}
 use Rattle.printer.specs.declared.site.Site.TheVariants as site
-use Rattle.printer.specs.declared.part_sites.PartSites.{PartSites}
 use Rattle.printer.specs.Shapes.{shape_on}
 use Rattle.printer.proofs.FragmentsByPosition.{shape_by, is_plain_at, is_word_at}
 use Rattle.std.proofs.Common.{◌+◌, ◌-◌, suc, Bool, [], ◌∷◌, arith}
@@ -29,13 +27,13 @@ use Rattle.row_laws.specs.Lined.{leads}
 use Rattle.row_laws.specs.Agreements.{agrees, PartsAgree}
 use Rattle.row_laws.proofs.Table.{is_row as is_row_role}
 use Rattle.row_laws.proofs.Walk.{node_suits}
-use Rattle.language.specs.Pieces.{PieceOf}
+use Rattle.language.specs.Pieces.{PieceOf, tok, may, many, ahead, unbroken, ending, open_parameters, close_parameters, sub, absent, never, lay}
 use Rattle.language.specs.Layout.{inside, first_way}
 use Rattle.language.specs.LayoutFits.{fits, parts_fit, lines_up}
-use Rattle.printer.specs.Printed.{spelled_so}
+use Rattle.printer.specs.Printed.{spelled_so, Sited, Stands}
 use Rattle.printer.proofs.Nodes.{fits_spelled}
-use Rattle.printer.specs.Sites.{site_of, is_plain, is_word, course_at, Seats, UsesAgree}
-use Rattle.printer.proofs.CourseTable.{course_stands}
+use Rattle.printer.specs.Bits.{Mark, marks_of}
+use Rattle.printer.specs.Sites.{site_of, is_plain, is_word, head_site, UsesAgree}
 
 pub row_plain : (a : Role) → nat_eq (has_row a) 1 ≡ true → site_of a ≡ site.Plain
 row_plain (piece.expr y i f) h = refl
@@ -91,15 +89,51 @@ uses_left st top i (part n ps) (a ∷ xs) e h =
     let at : i ≡ part_count (parts_of top) - suc (part_count ps) = omega (arith, e) in
     (subst (λ j. agrees (use_below st top j n) a (kind_of n) ≡ true) at h.0, uses_left st top (i + 1) ps xs (omega (arith, e)) h.1)
 
-pub uses : (W : ℕ → Bool) (p : Position) (n : Tree) (r : ℕ) (st : NodeUse) → agrees st (role_of p) (kind_of n) ≡ true → spelled_so W (parts_of n) (ways (role_of p) n) r ≡ true → UsesAgree st n (parts_of n) (first_roles (ways (role_of p) n))
+uses : (W : ℕ → Bool) (p : Position) (n : Tree) (r : ℕ) (st : NodeUse) → agrees st (role_of p) (kind_of n) ≡ true → spelled_so W (parts_of n) (ways (role_of p) n) r ≡ true → UsesAgree st n (parts_of n) (first_roles (ways (role_of p) n))
 uses W p (node k w g s e ps) r st h f =
     uses_left st (node k w g s e ps) 0 ps (first_roles (ways (role_of p) (node k w g s e ps))) (omega arith) (node_suits st (role_of p) k w g s e ps h (lined_up W ps (ways (role_of p) (node k w g s e ps)) r f)).1
 
--- the parts of a node
-pub seats : (p : Position) (n : Tree) (c : PartSites) → c ≡ course_at (kind_of n) (flags_of n).form (parts_of n) → some_way (ways (role_of p) n) ≡ true → Seats c (parts_of n) (first_roles (ways (role_of p) n))
-seats p n c f h = subst (λ d. Seats d (parts_of n) (first_roles (ways (role_of p) n))) (sym f) (course_stands p n h)
+-- parts that a spelling names are at its sites
+sited : (qs : List (PieceOf Role)) (ps : Parts) → lines_up qs ps ≡ true → Sited (marks_of qs) ps (roles qs)
+sited [] ps h = tt
+sited (sub a ∷ qs) none h = absurd (false≢true h)
+sited (sub a ∷ qs) (gap ps) h = absurd (false≢true h)
+sited (sub a ∷ qs) (part n ps) h = (refl, sited qs ps h)
+sited (absent ∷ qs) none h = absurd (false≢true h)
+sited (absent ∷ qs) (gap ps) h = sited qs ps h
+sited (absent ∷ qs) (part n ps) h = absurd (false≢true h)
+sited (tok c w ∷ qs) ps h = sited qs ps h
+sited (may w ∷ qs) ps h = sited qs ps h
+sited (many w ∷ qs) ps h = sited qs ps h
+sited (ahead w ∷ qs) ps h = sited qs ps h
+sited (unbroken ∷ qs) ps h = sited qs ps h
+sited (ending e ∷ qs) ps h = sited qs ps h
+sited (open_parameters ∷ qs) ps h = sited qs ps h
+sited (close_parameters ∷ qs) ps h = sited qs ps h
+sited (never ∷ qs) ps h = sited qs ps h
+sited (lay piece.space ∷ qs) ps h = sited qs ps h
+sited (lay piece.line ∷ qs) ps h = sited qs ps h
+sited (lay piece.feed ∷ qs) ps h = sited qs ps h
+sited (lay piece.deeper ∷ qs) ps h = sited qs ps h
+sited (lay piece.shallower ∷ qs) ps h = sited qs ps h
+sited (lay (piece.apart c) ∷ qs) ps h = sited qs ps h
+sited (lay piece.loose ∷ qs) ps h = sited qs ps h
+
+sited_first : (qss : List (List (PieceOf Role))) (ps : Parts) → lines_up (first_way qss) ps ≡ true → Sited (marks_of (first_way qss)) ps (first_roles qss)
+sited_first [] ps h = tt
+sited_first (qs ∷ qss) ps h = sited qs ps h
+
+-- the parts of a node, at the marks that its first way has
+pub parts_stand : (W : ℕ → Bool) (p : Position) (n : Tree) (r : ℕ) (st : NodeUse) (ms : List Mark) → agrees st (role_of p) (kind_of n) ≡ true → spelled_so W (parts_of n) (ways (role_of p) n) r ≡ true → lines_up (first_way (ways (role_of p) n)) (parts_of n) ≡ true → marks_of (first_way (ways (role_of p) n)) ≡ ms →
+    Stands st n ms (parts_of n) (first_roles (ways (role_of p) n))
+parts_stand W p n r st ms h f l e = (subst (λ M. Sited M (parts_of n) (first_roles (ways (role_of p) n))) e (sited_first (ways (role_of p) n) (parts_of n) l), uses W p n r st h f)
 
 -- an expression in a pair stands as it does without
 pub whole_agrees : (st : NodeUse) (a : Role) (k : Kind) → nat_eq (has_row a) 1 ≡ true → agrees st a k ≡ true → agrees st (role_of whole_at) k ≡ true
 whole_agrees st (piece.expr y i f) k e h = h
 whole_agrees st _ k e h = absurd (false≢true e)
+
+-- what begins a `for` and is no declaration
+pub head_default : (k : Kind) → ¬ (k ≡ kind.VariableDeclaration) → head_site k ≡ site.Plain
+head_default kind.VariableDeclaration h = absurd (h refl)
+head_default k h = refl

@@ -19,7 +19,11 @@ use Rattle.language.specs.Grammar.{can_run}
 use Rattle.language.proofs.table.LooserPositions.{same}
 use Rattle.language.proofs.table.TidyTable.{new-fits, arrow-fits}
 use Rattle.spelling_table.specs.Outlines.{parts_after}
-use Rattle.printer.specs.Bits.{Mark, text, here, loose, apart, marks_of, Bit, own_text, Chain, nothing, commas, joined, Shape, fronted}
+use Rattle.printer.specs.declared.site.Site.TheVariants.{Plain}
+use Rattle.printer.specs.declared.part_sites.PartSites.{PartSites}
+use Rattle.printer.specs.declared.part_sites.PartSites.TheVariants.{AllPlain}
+use Rattle.printer.specs.Sites.{slot_site}
+use Rattle.printer.specs.Bits.{Mark, text, here, loose, apart, piece_marks, Bit, own_text, Chain, nothing, commas, joined, Shape, fronted}
 use Rattle.printer.specs.Shapes.{expression_shape, sign_of_text, sign_at, spelled, gapped, close_space, between, infix_bits, is_single, after_open_number}
 use Rattle.printer.specs.declared.fragments.SignOperator.TheVariants.{Plus, Minus}
 use Rattle.printer.specs.Printed.{marks_in, front_marks, chain_marks, deep, shape_marks}
@@ -31,46 +35,46 @@ pub closed : (ms ns : List Mark) → ms ≡ ns → ms ≡ ns ++ []
 closed ms ns e = e ∙ sym (append-nil ns)
 
 module _ (w : List ℕ) where
-  pub arguments-marks : (ps : Parts) → can_run (arguments ps) ≡ true → marks_of (arguments ps) ≡ text (codes "(") ∷ (chain_marks w commas ps ++ text (codes ")") ∷ [])
-  arguments-marks ps r = ap (λ t. text (codes "(") ∷ t) (listed-marks w argument argument_standing ps (sign ")" ∷ []) r)
+  pub arguments-marks : (i : ℕ) (ps : Parts) → can_run (arguments ps) ≡ true → piece_marks (arguments ps) ≡ text (codes "(") ∷ (chain_marks w AllPlain commas i ps ++ text (codes ")") ∷ [])
+  arguments-marks i ps r = ap (λ t. text (codes "(") ∷ t) (listed-marks w argument argument_standing i ps (sign ")" ∷ []) r)
 
-  pub parameters_of : (ps : Parts) → can_run (parameters (sign ")" ∷ sp ∷ put piece.body ∷ []) ps) ≡ true → marks_of (parameters (sign ")" ∷ sp ∷ put piece.body ∷ []) ps) ≡ chain_marks w (Rattle.printer.specs.Bits.parameters close_space) ps ++ []
-  parameters_of ps r = closed _ _ (parameters-marks w close_space (sign ")" ∷ sp ∷ put piece.body ∷ []) refl ps r)
+  pub parameters_of : (i : ℕ) (ps : Parts) → can_run (parameters (sign ")" ∷ sp ∷ put piece.body ∷ []) ps) ≡ true → piece_marks (parameters (sign ")" ∷ sp ∷ put piece.body ∷ []) ps) ≡ chain_marks w AllPlain (Rattle.printer.specs.Bits.parameters close_space) i ps ++ []
+  parameters_of i ps r = closed _ _ (parameters-marks w close_space (sign ")" ∷ sp ∷ put piece.body ∷ []) refl i ps r)
 
-  ended : (ps : Parts) → is_none ps ≡ true → chain_marks w nothing ps ≡ []
-  ended none h = refl
-  ended (part n ps) h = absurd (false≢true h)
-  ended (gap ps) h = absurd (false≢true h)
+  ended : (p : PartSites) (i : ℕ) (ps : Parts) → is_none ps ≡ true → chain_marks w p nothing i ps ≡ []
+  ended p i none h = refl
+  ended p i (part n ps) h = absurd (false≢true h)
+  ended p i (gap ps) h = absurd (false≢true h)
 
   -- a node with no parts but its first ones
-  pub fixed_shape : (s : Shape) (ps : Parts) (qs : List Piece) → s.chain ≡ nothing → s.opener ≡ [] → marks_of qs ≡ front_marks w s.front (marks_in w s.closer) → is_none (parts_after (length s.front) ps) ≡ true →
-      marks_of qs ≡ shape_marks w s ps
+  pub fixed_shape : (s : Shape) (ps : Parts) (qs : List Piece) → s.chain ≡ nothing → s.opener ≡ [] → piece_marks qs ≡ front_marks w s.sites 0 s.front ps (marks_in w s.closer) → is_none (parts_after (length s.front) ps) ≡ true →
+      piece_marks qs ≡ shape_marks w s ps
   fixed_shape s ps qs e f h c =
-      h ∙ ap (λ t. front_marks w s.front (t ++ marks_in w s.closer)) (sym (ended (parts_after (length s.front) ps) c))
-      ∙ sym (ap₂ (λ o t. front_marks w s.front (marks_in w o ++ deep t (chain_marks w t (parts_after (length s.front) ps)) (marks_in w s.closer))) f e)
+      h ∙ ap (λ t. front_marks w s.sites 0 s.front ps (t ++ marks_in w s.closer)) (sym (ended s.sites (length s.front) (parts_after (length s.front) ps) c))
+      ∙ sym (ap₂ (λ o t. front_marks w s.sites 0 s.front ps (marks_in w o ++ deep t (chain_marks w s.sites t (length s.front) (parts_after (length s.front) ps)) (marks_in w s.closer))) f e)
 
   abbrev pub Of : Kind → Flags → Parts → List Mark
   Of k g ps = shape_marks w (expression_shape k w g ps) ps
 
   -- such a node, spelled so
   pub fixed_means : (k : Kind) (g : Flags) (ps : Parts) (z : Rank) (qs : List Piece) → (expression_shape k w g ps).chain ≡ nothing → (expression_shape k w g ps).opener ≡ [] →
-      marks_of qs ≡ front_marks w (expression_shape k w g ps).front (marks_in w (expression_shape k w g ps).closer) →
-      (counts_up (marks_of qs) ps ≡ true → is_none (parts_after (length (expression_shape k w g ps).front) ps) ≡ true) → Means ps (Of k g ps) (at z qs)
+      piece_marks qs ≡ front_marks w (expression_shape k w g ps).sites 0 (expression_shape k w g ps).front ps (marks_in w (expression_shape k w g ps).closer) →
+      (counts_up (piece_marks qs) ps ≡ true → is_none (parts_after (length (expression_shape k w g ps).front) ps) ≡ true) → Means ps (Of k g ps) (at z qs)
   fixed_means k g ps z qs e f h c r u = fixed_shape (expression_shape k w g ps) ps qs e f h (c u)
 
   abbrev pub same_count : {b : Bool} → b ≡ true → b ≡ true
   same_count h = h
 
   fixed_one : (k : Kind) (g : Flags) (ps : Parts) (z : Rank) (qs : List Piece) → (expression_shape k w g ps).chain ≡ nothing → (expression_shape k w g ps).opener ≡ [] →
-      marks_of qs ≡ front_marks w (expression_shape k w g ps).front (marks_in w (expression_shape k w g ps).closer) →
-      (counts_up (marks_of qs) ps ≡ true → is_none (parts_after (length (expression_shape k w g ps).front) ps) ≡ true) → Shaped ps (Of k g ps) (at z qs ∷ [])
+      piece_marks qs ≡ front_marks w (expression_shape k w g ps).sites 0 (expression_shape k w g ps).front ps (marks_in w (expression_shape k w g ps).closer) →
+      (counts_up (piece_marks qs) ps ≡ true → is_none (parts_after (length (expression_shape k w g ps).front) ps) ≡ true) → Shaped ps (Of k g ps) (at z qs ∷ [])
   fixed_one k g ps z qs e f h c = one (fixed_means k g ps z qs e f h c)
 
   -- functions and classes, as expressions and as declarations
   pub function_means : (g : Flags) (ps : Parts) → Means ps (Of kind.FunctionExpression g ps) (at Primary (function_pieces ps))
   function_means g none r c = absurd (false≢true r)
-  function_means g (gap ps) r c = ap (λ t. text (codes "function") ∷ text (codes " ") ∷ here ∷ text (codes "(") ∷ t) (parameters_of ps r)
-  function_means g (part n ps) r c = ap (λ t. text (codes "function") ∷ text (codes " ") ∷ here ∷ text (codes "(") ∷ t) (parameters_of ps r)
+  function_means g (gap ps) r c = ap (λ t. text (codes "function") ∷ text (codes " ") ∷ here Plain ∷ text (codes "(") ∷ t) (parameters_of 1 ps r)
+  function_means g (part n ps) r c = ap (λ t. text (codes "function") ∷ text (codes " ") ∷ here Plain ∷ text (codes "(") ∷ t) (parameters_of 1 ps r)
 
   pub class_means : (g : Flags) (ps : Parts) → Means ps (Of kind.ClassExpression g ps) (at Primary (class_pieces ps))
   class_means g none r c = absurd (false≢true r)
@@ -83,30 +87,30 @@ module _ (w : List ℕ) where
 
   -- Words, lists and templates
 
-  named_space : (b : Bool) (qs : List Piece) → marks_of (cond b (lay piece.loose ∷ []) [] ++ qs) ≡ cond b (loose ∷ []) [] ++ marks_of qs
+  named_space : (b : Bool) (qs : List Piece) → piece_marks (cond b (lay piece.loose ∷ []) [] ++ qs) ≡ cond b (loose ∷ []) [] ++ piece_marks qs
   named_space true qs = refl
   named_space false qs = refl
 
   pub array_means : (g : Flags) (ps : Parts) → Means ps (Of kind.ArrayExpression g ps) (at Primary ((sign "[" ∷ elements argument ps) ++ sign "]" ∷ []))
-  array_means g ps r c = ap (λ t. text (codes "[") ∷ t) (elements-marks w argument argument_standing ps (sign "]" ∷ []) r)
+  array_means g ps r c = ap (λ t. text (codes "[") ∷ t) (elements-marks w argument argument_standing 0 ps (sign "]" ∷ []) r)
 
   pub object_means : (g : Flags) (ps : Parts) → Means ps (Of kind.ObjectExpression g ps) (at Primary ((sign "{" ∷ listed object_part ps) ++ sign "}" ∷ []))
-  object_means g ps r c = ap (λ t. text (codes "{") ∷ t) (listed-marks w object_part object_standing ps (sign "}" ∷ []) r)
+  object_means g ps r c = ap (λ t. text (codes "{") ∷ t) (listed-marks w object_part object_standing 0 ps (sign "}" ∷ []) r)
 
   pub template_means : (g : Flags) (ps : Parts) → Means ps (Of kind.TemplateLiteral g ps) (at Primary (template_elements true ps))
-  template_means g ps r c = closed _ _ (chunks-marks w true ps r)
+  template_means g ps r c = closed _ _ (chunks-marks w true 0 ps refl refl r)
 
   -- Members and calls
 
-  call_means : (z : Rank) (s : Slot) (g : Flags) (ps : Parts) → g.optional ≡ false → Means ps (Of kind.CallExpression g ps) (at z (sub s ∷ arguments (others ps)))
-  call_means z s g ps o r c = ap (λ t. here ∷ t) (arguments-marks (others ps) r) ∙ ap (λ b. shape_marks w (Rattle.printer.specs.Shapes.call_shape b) ps) (sym o)
+  call_means : (z : Rank) (s : Slot) (g : Flags) (ps : Parts) → slot_site s ≡ Plain → g.optional ≡ false → Means ps (Of kind.CallExpression g ps) (at z (sub s ∷ arguments (others ps)))
+  call_means z s g ps e o r c = ap₂ (λ x t. here x ∷ t) e (arguments-marks 1 (others ps) r) ∙ ap (λ b. shape_marks w (Rattle.printer.specs.Shapes.call_shape b) ps) (sym o)
 
   calls : (g : Flags) (ps : Parts) → Shaped ps (Of kind.CallExpression g ps) (expressions kind.CallExpression w g ps)
   unfolding expressions
-  calls g ps = shaped_if g.optional (λ e. nowhere) (λ e. shaped_if (is_super (lead ps)) (λ u. one (call_means Call (piece.fixed piece.base) g ps e)) (λ u. one (call_means Call (piece.lead Call) g ps e)))
+  calls g ps = shaped_if g.optional (λ e. nowhere) (λ e. shaped_if (is_super (lead ps)) (λ u. one (call_means Call (piece.fixed piece.base) g ps refl e)) (λ u. one (call_means Call (piece.lead Call) g ps refl e)))
 
   new_means : (g : Flags) (ps : Parts) → Means ps (Of kind.NewExpression g ps) (at Member (term "new" ∷ sp ∷ put (piece.expr Member true Any) ∷ arguments (others ps)))
-  new_means g ps r c = ap (λ t. text (codes "new") ∷ text (codes " ") ∷ here ∷ t) (arguments-marks (others ps) r)
+  new_means g ps r c = ap (λ t. text (codes "new") ∷ text (codes " ") ∷ here Plain ∷ t) (arguments-marks 1 (others ps) r)
 
   news : (g : Flags) (ps : Parts) → Shaped ps (Of kind.NewExpression g ps) (expressions kind.NewExpression w g ps)
   unfolding expressions
@@ -120,22 +124,22 @@ module _ (w : List ℕ) where
 
   -- Arrows
 
-  arrow_after : (g : Flags) → marks_of (close_parameters ∷ arrow_end g) ≡ marks_in w (spelled ")" ∷ between "=>") ++ here ∷ []
+  arrow_after : (g : Flags) → piece_marks (close_parameters ∷ arrow_end g) ≡ marks_in w (spelled ")" ∷ between "=>") ++ here Plain ∷ []
   arrow_after g = of g.expression
     where
-      of : (b : Bool) → marks_of (close_parameters ∷ unbroken ∷ sp ∷ sign "=>" ∷ sp ∷ cond b (sub (piece.tail Assignment NoBrace)) (put piece.body) ∷ []) ≡ marks_in w (spelled ")" ∷ between "=>") ++ here ∷ []
+      of : (b : Bool) → piece_marks (close_parameters ∷ unbroken ∷ sp ∷ sign "=>" ∷ sp ∷ cond b (sub (piece.tail Assignment NoBrace)) (put piece.body) ∷ []) ≡ marks_in w (spelled ")" ∷ between "=>") ++ here Plain ∷ []
       of true = refl
       of false = refl
 
   parenthesised : (g : Flags) (ps : Parts) → is_single ps ≡ false → Means ps (Of kind.ArrowFunctionExpression g ps) (at Assignment (open_parameters ∷ parameters (close_parameters ∷ arrow_end g) ps))
   parenthesised g ps e r c =
-      ap (λ t. text (codes "(") ∷ t) (closed _ _ (parameters-marks w (spelled ")" ∷ between "=>") (close_parameters ∷ arrow_end g) (arrow_after g) ps r))
+      ap (λ t. text (codes "(") ∷ t) (closed _ _ (parameters-marks w (spelled ")" ∷ between "=>") (close_parameters ∷ arrow_end g) (arrow_after g) 0 ps r))
       ∙ ap (λ b. shape_marks w (Rattle.printer.specs.Shapes.arrow_shape b) ps) (sym e)
 
-  single_means : (g : Flags) (ps : Parts) → is_single ps ≡ true → (counts_up (marks_of (put piece.name ∷ arrow_end g)) ps ≡ true → is_none (parts_after 2 ps) ≡ true) → Means ps (Of kind.ArrowFunctionExpression g ps) (at Assignment (put piece.name ∷ arrow_end g))
+  single_means : (g : Flags) (ps : Parts) → is_single ps ≡ true → (counts_up (piece_marks (put piece.name ∷ arrow_end g)) ps ≡ true → is_none (parts_after 2 ps) ≡ true) → Means ps (Of kind.ArrowFunctionExpression g ps) (at Assignment (put piece.name ∷ arrow_end g))
   single_means g ps e k r c = fixed_shape (Rattle.printer.specs.Shapes.arrow_shape true) ps (put piece.name ∷ arrow_end g) refl refl (of g.expression) (k c) ∙ ap (λ b. shape_marks w (Rattle.printer.specs.Shapes.arrow_shape b) ps) (sym e)
     where
-      of : (b : Bool) → marks_of (put piece.name ∷ unbroken ∷ sp ∷ sign "=>" ∷ sp ∷ cond b (sub (piece.tail Assignment NoBrace)) (put piece.body) ∷ []) ≡ front_marks w (Rattle.printer.specs.Shapes.arrow_shape true).front []
+      of : (b : Bool) → piece_marks (put piece.name ∷ unbroken ∷ sp ∷ sign "=>" ∷ sp ∷ cond b (sub (piece.tail Assignment NoBrace)) (put piece.body) ∷ []) ≡ front_marks w AllPlain 0 (Rattle.printer.specs.Shapes.arrow_shape true).front ps []
       of true = refl
       of false = refl
 
@@ -151,7 +155,7 @@ module _ (w : List ℕ) where
 
   -- Members
 
-  lead_open : (n : Tree) (us : Parts) (g : Flags) (qs : List Piece) → marks_of (after_number (part n us) g ++ qs) ≡ cond (not g.computed && after_open_number (part n us)) (loose ∷ []) [] ++ marks_of qs
+  lead_open : (n : Tree) (us : Parts) (g : Flags) (qs : List Piece) → piece_marks (after_number (part n us) g ++ qs) ≡ cond (not g.computed && after_open_number (part n us)) (loose ∷ []) [] ++ piece_marks qs
   lead_open (node kind.Literal v h s e ps) us g qs = named_space (not g.computed && is_open_number (literal_class v) v) qs
   lead_open (node _ v h s e ps) us g qs = named_space (not g.computed && false) qs
 
@@ -159,9 +163,9 @@ module _ (w : List ℕ) where
   dropped true ms = refl
   dropped false ms = refl
 
-  after_marks : (ps : Parts) (g : Flags) (qs : List Piece) → marks_of (after_number ps g ++ qs) ≡ cond (not g.computed && after_open_number ps) (loose ∷ []) [] ++ marks_of qs
-  after_marks none g qs = dropped g.computed (marks_of qs)
-  after_marks (gap ps) g qs = dropped g.computed (marks_of qs)
+  after_marks : (ps : Parts) (g : Flags) (qs : List Piece) → piece_marks (after_number ps g ++ qs) ≡ cond (not g.computed && after_open_number ps) (loose ∷ []) [] ++ piece_marks qs
+  after_marks none g qs = dropped g.computed (piece_marks qs)
+  after_marks (gap ps) g qs = dropped g.computed (piece_marks qs)
   after_marks (part n ps) g qs = lead_open n ps g qs
 
   super_open : (ps : Parts) → is_super (lead ps) ≡ true → after_open_number ps ≡ false
@@ -171,23 +175,23 @@ module _ (w : List ℕ) where
   super_open (part (node kind.Literal v h s e us) ps) x = absurd (false≢true x)
   super_open (part (node _ v h s e us) ps) x = refl
 
-  member_fits : (s : Slot) (g : Flags) (ps : Parts) (z : Rank) (qs : List Piece) → g.optional ≡ false → marks_of qs ≡ cond (not g.computed && after_open_number ps) (loose ∷ []) [] ++ marks_of (selector g) → Means ps (Of kind.MemberExpression g ps) (at z (sub s ∷ qs))
-  member_fits s g ps z qs o h r c =
-      ap (λ t. here ∷ t) h ∙ of g.computed (after_open_number ps) (sym (ap (λ t. counts_up t (others ps)) h) ∙ c)
+  member_fits : (s : Slot) (g : Flags) (ps : Parts) (z : Rank) (qs : List Piece) → slot_site s ≡ Plain → g.optional ≡ false → piece_marks qs ≡ cond (not g.computed && after_open_number ps) (loose ∷ []) [] ++ piece_marks (selector g) → Means ps (Of kind.MemberExpression g ps) (at z (sub s ∷ qs))
+  member_fits s g ps z qs e o h r c =
+      ap₂ (λ x t. here x ∷ t) e h ∙ of g.computed (after_open_number ps) (sym (ap (λ t. counts_up t (others ps)) h) ∙ c)
       ∙ ap (λ b. shape_marks w (Rattle.printer.specs.Shapes.member_shape b g.computed (after_open_number ps)) ps) (sym o)
     where
-      of : (u v : Bool) → counts_up (cond (not u && v) (loose ∷ []) [] ++ marks_of (cond u in_brackets (sign "." ∷ put piece.word ∷ []))) (others ps) ≡ true →
-          here ∷ (cond (not u && v) (loose ∷ []) [] ++ marks_of (cond u in_brackets (sign "." ∷ put piece.word ∷ []))) ≡ shape_marks w (Rattle.printer.specs.Shapes.member_shape false u v) ps
-      of true true k = fixed_shape (Rattle.printer.specs.Shapes.member_shape false true true) ps (sub s ∷ in_brackets) refl refl refl k
-      of true false k = fixed_shape (Rattle.printer.specs.Shapes.member_shape false true false) ps (sub s ∷ in_brackets) refl refl refl k
-      of false true k = fixed_shape (Rattle.printer.specs.Shapes.member_shape false false true) ps (sub s ∷ lay piece.loose ∷ sign "." ∷ put piece.word ∷ []) refl refl refl k
-      of false false k = fixed_shape (Rattle.printer.specs.Shapes.member_shape false false false) ps (sub s ∷ sign "." ∷ put piece.word ∷ []) refl refl refl k
+      of : (u v : Bool) → counts_up (cond (not u && v) (loose ∷ []) [] ++ piece_marks (cond u in_brackets (sign "." ∷ put piece.word ∷ []))) (others ps) ≡ true →
+          here Plain ∷ (cond (not u && v) (loose ∷ []) [] ++ piece_marks (cond u in_brackets (sign "." ∷ put piece.word ∷ []))) ≡ shape_marks w (Rattle.printer.specs.Shapes.member_shape false u v) ps
+      of true true k = fixed_shape (Rattle.printer.specs.Shapes.member_shape false true true) ps (sub piece.callee ∷ in_brackets) refl refl refl k
+      of true false k = fixed_shape (Rattle.printer.specs.Shapes.member_shape false true false) ps (sub piece.callee ∷ in_brackets) refl refl refl k
+      of false true k = fixed_shape (Rattle.printer.specs.Shapes.member_shape false false true) ps (sub piece.callee ∷ lay piece.loose ∷ sign "." ∷ put piece.word ∷ []) refl refl refl k
+      of false false k = fixed_shape (Rattle.printer.specs.Shapes.member_shape false false false) ps (sub piece.callee ∷ sign "." ∷ put piece.word ∷ []) refl refl refl k
 
   members : (g : Flags) (ps : Parts) → Shaped ps (Of kind.MemberExpression g ps) (expressions kind.MemberExpression w g ps)
   unfolding expressions
   members g ps = shaped_if g.optional (λ e. nowhere) (λ e. shaped_if (is_super (lead ps))
-      (λ u. one (member_fits (piece.fixed piece.base) g ps Member (selector g) e (sym (ap (λ b. cond b (loose ∷ []) [] ++ marks_of (selector g)) (none_behind u)))))
-      (λ u. one (member_fits piece.callee g ps Member (after_number ps g ++ selector g) e (after_marks ps g (selector g)))))
+      (λ u. one (member_fits (piece.fixed piece.base) g ps Member (selector g) refl e (sym (ap (λ b. cond b (loose ∷ []) [] ++ piece_marks (selector g)) (none_behind u)))))
+      (λ u. one (member_fits piece.callee g ps Member (after_number ps g ++ selector g) refl e (after_marks ps g (selector g)))))
     where
       never : (b : Bool) → (not b && false) ≡ false
       never true = refl
@@ -263,7 +267,7 @@ module _ (w : List ℕ) where
       (λ u. absurd (no_step_sign (first_true (is_update_operator w) (is_target (lead ps)) e) (sym (ap (λ b. cond b (sign_of_text w) None) u) ∙ n)))
       (λ u. one (λ r c. fixed_shape (Rattle.printer.specs.Shapes.update_shape false) ps (sub (piece.lead LeftHandSide) ∷ unbroken ∷ tok class.Punctuator w ∷ []) refl refl refl c ∙ ap (λ b. shape_marks w (Rattle.printer.specs.Shapes.update_shape b) ps) (sym u))))
 
-  sign_spaces : (a b : Bool) → a ≡ false → b ≡ false → (qs : List Piece) → marks_of (cond a (lay (piece.apart 43) ∷ []) (cond b (lay (piece.apart 45) ∷ []) []) ++ qs) ≡ marks_of qs
+  sign_spaces : (a b : Bool) → a ≡ false → b ≡ false → (qs : List Piece) → piece_marks (cond a (lay (piece.apart 43) ∷ []) (cond b (lay (piece.apart 45) ∷ []) []) ++ qs) ≡ piece_marks qs
   sign_spaces true b e f qs = absurd (cc)
   sign_spaces false true e f qs = absurd (cc)
   sign_spaces false false e f qs = refl
@@ -281,16 +285,16 @@ module _ (w : List ℕ) where
       (sym (ap (λ t. counts_up t ps) (sign_spaces (is w "+") (is w "-") (no_signs n).0 (no_signs n).2 (put (piece.expr Unary true Any) ∷ []))) ∙ c)
       ∙ ap (λ b. shape_marks w (word_shape_by b) ps) (sym u))))
 
-  infix_fixed : (k : Kind) (g : Flags) (ps : Parts) (z : Rank) (x y : Slot) → expression_shape k w g ps ≡ fronted ([] ∷ infix_bits ∷ []) [] → Means ps (Of k g ps) (record { rank = z; needs_in = false; pieces = sub x ∷ infix_pieces w ++ sub y ∷ [] })
-  infix_fixed k g ps z x y e r c = fixed_shape (fronted ([] ∷ infix_bits ∷ []) []) ps (sub x ∷ infix_pieces w ++ sub y ∷ []) refl refl refl c ∙ ap (λ s. shape_marks w s ps) (sym e)
+  infix_fixed : (k : Kind) (g : Flags) (ps : Parts) (z : Rank) (x y : Slot) → slot_site x ≡ Plain → slot_site y ≡ Plain → expression_shape k w g ps ≡ fronted ([] ∷ infix_bits ∷ []) [] → Means ps (Of k g ps) (record { rank = z; needs_in = false; pieces = sub x ∷ infix_pieces w ++ sub y ∷ [] })
+  infix_fixed k g ps z x y a b e r c = fixed_shape (fronted ([] ∷ infix_bits ∷ []) []) ps (sub x ∷ infix_pieces w ++ sub y ∷ []) refl refl (ap₂ (λ u v. here u ∷ text (codes " ") ∷ text w ∷ text (codes " ") ∷ here v ∷ []) a b) c ∙ ap (λ s. shape_marks w s ps) (sym e)
 
   joins : (k : Kind) (g : Flags) (ps : Parts) (z q : Rank) → expression_shape k w g ps ≡ fronted ([] ∷ infix_bits ∷ []) [] → Means ps (Of k g ps) (joined_spelling w z q)
-  joins k g ps z q e r c = infix_fixed k g ps z (piece.left z) (piece.tail q Any) e r c
+  joins k g ps z q e r c = infix_fixed k g ps z (piece.left z) (piece.tail q Any) refl refl e r c
 
   binaries : (g : Flags) (ps : Parts) (o : Operator) → Shaped ps (Of kind.BinaryExpression g ps) (binary_ways w o)
   binaries g ps (op_binary false z q) = one (joins kind.BinaryExpression g ps z q refl)
   binaries g ps (op_binary true z q) = nowhere
-  binaries g ps op_power = one (infix_fixed kind.BinaryExpression g ps Exponentiation (piece.lead Update) (piece.fixed (piece.expr Exponentiation true Any)) refl)
+  binaries g ps op_power = one (infix_fixed kind.BinaryExpression g ps Exponentiation (piece.lead Update) (piece.fixed (piece.expr Exponentiation true Any)) refl refl refl)
   binaries g ps _ = nowhere
 
   logicals : (g : Flags) (ps : Parts) (o : Operator) → Shaped ps (Of kind.LogicalExpression g ps) (logical_ways w o)
@@ -300,17 +304,17 @@ module _ (w : List ℕ) where
 
   assignments : (g : Flags) (ps : Parts) → Shaped ps (Of kind.AssignmentExpression g ps) (expressions kind.AssignmentExpression w g ps)
   unfolding expressions
-  assignments g ps = shaped_if (not (is_assignment w)) (λ e. nowhere) (λ e. shaped_if (is_target (lead ps)) (λ u. one (infix_fixed kind.AssignmentExpression g ps Assignment (piece.lead LeftHandSide) (piece.tail Assignment Any) refl))
-      (λ u. shaped_if (is w "=" && is_pattern (lead ps)) (λ v. one (infix_fixed kind.AssignmentExpression g ps Assignment piece.lead_pattern (piece.tail Assignment Any) refl)) (λ v. nowhere)))
+  assignments g ps = shaped_if (not (is_assignment w)) (λ e. nowhere) (λ e. shaped_if (is_target (lead ps)) (λ u. one (infix_fixed kind.AssignmentExpression g ps Assignment (piece.lead LeftHandSide) (piece.tail Assignment Any) refl refl refl))
+      (λ u. shaped_if (is w "=" && is_pattern (lead ps)) (λ v. one (infix_fixed kind.AssignmentExpression g ps Assignment piece.lead_pattern (piece.tail Assignment Any) refl refl refl)) (λ v. nowhere)))
 
   sequences : (g : Flags) (ps : Parts) → Shaped ps (Of kind.SequenceExpression g ps) (expressions kind.SequenceExpression w g ps)
   unfolding expressions
   sequences g none = nowhere
   sequences g (part n none) = nowhere
   sequences g (gap none) = nowhere
-  sequences g (part n (part m ps)) = one (λ r c. closed _ _ (sequence-marks w (part m ps) n r))
+  sequences g (part n (part m ps)) = one (λ r c. closed _ _ (sequence-marks w 0 (part m ps) n r))
   sequences g (part n (gap ps)) = one (λ r c. absurd (false≢true r))
-  sequences g (gap (part m ps)) = one (λ r c. closed _ _ (sequence-marks w (part m ps) m r))
+  sequences g (gap (part m ps)) = one (λ r c. closed _ _ (sequence-marks w 0 (part m ps) m r))
   sequences g (gap (gap ps)) = one (λ r c. absurd (false≢true r))
 
   tagged_fixed : (g : Flags) (ps : Parts) → Means ps (Of kind.TaggedTemplateExpression g ps) (at Member (sub piece.callee ∷ put piece.tagged_quasi ∷ []))

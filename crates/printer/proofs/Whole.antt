@@ -27,7 +27,9 @@ use Rattle.spelling_table.specs.Outlines.{role_of, parts_after, is_before_last}
 use Rattle.spellings.proofs.Bare.{none-bare, others-bare}
 use Rattle.printer.specs.declared.fragments.SignOperator.{SignOperator}
 use Rattle.printer.specs.declared.fragments.SignOperator.TheVariants.{Plus, Minus}
-use Rattle.printer.specs.Bits.{Mark, here, marks_of, Chain, Shape, before_bits, after_bits}
+use Rattle.printer.specs.declared.part_sites.PartSites.{PartSites}
+use Rattle.printer.specs.Sites.{site_in, site_at}
+use Rattle.printer.specs.Bits.{Mark, here, marks_of, Bit, Chain, Shape, before_bits, after_bits}
 use Rattle.printer.specs.Shapes.{expression_shape, sign_of_text, sign_at, has_part, is_single, after_open_number, if_shape, try_shape, for_shape, declarator_shape, word_shape, braced_shape, case_shape, catch_shape, arrow_shape, class_shape, member_shape}
 use Rattle.printer.proofs.FragmentsByPosition.{shape_by}
 use Rattle.printer.specs.Sheets.{View, Writes}
@@ -94,21 +96,35 @@ place-bare (at.Method x) k w g ps = refl
 place-bare (at.ForDeclaration b) k w g ps = refl
 place-bare _ k w g ps = shape-bare k w g ps
 
-chain-bare : (w : List ℕ) (t : Chain) (ps : Parts) → chain_marks w t (bare_parts ps) ≡ chain_marks w t ps
-chain-bare w t none = refl
-chain-bare w t (part n ps) = λ i. marks_in w (before_bits t (none-bare ps i)) ++ here ∷ (marks_in w (after_bits t false (none-bare ps i) (last-bare ps i)) ++ chain-bare w t ps i)
-chain-bare w t (gap ps) = λ i. marks_in w (before_bits t (none-bare ps i)) ++ here ∷ (marks_in w (after_bits t true (none-bare ps i) (last-bare ps i)) ++ chain-bare w t ps i)
+lead-bare : (ps : Parts) → lead (bare_parts ps) ≡ lead ps
+lead-bare none = refl
+lead-bare (gap ps) = refl
+lead-bare (part (node k w g s e us) ps) = refl
+
+site-bare : (p : PartSites) (i : ℕ) (ps : Parts) → site_at p i (bare_parts ps) ≡ site_at p i ps
+site-bare p i ps = ap₂ (site_in p i) (lead-bare ps) (ap is_none (others-bare ps) ∙ none-bare (others ps))
+
+front-bare : (w : List ℕ) (p : PartSites) (i : ℕ) (fs : List (List Bit)) (ps : Parts) (ms : List Mark) → front_marks w p i fs (bare_parts ps) ms ≡ front_marks w p i fs ps ms
+front-bare w p i [] ps ms = refl
+front-bare w p i (f ∷ fs) ps ms = ap₂ (λ x t. marks_in w f ++ here x ∷ t) (site-bare p i ps) (ap (λ q. front_marks w p (suc i) fs q ms) (others-bare ps) ∙ front-bare w p (suc i) fs (others ps) ms)
+
+chain-bare : (w : List ℕ) (p : PartSites) (t : Chain) (i : ℕ) (ps : Parts) → chain_marks w p t i (bare_parts ps) ≡ chain_marks w p t i ps
+chain-bare w p t i none = refl
+chain-bare w p t i (part n ps) = λ j. marks_in w (before_bits t (none-bare ps j)) ++ here (site-bare p i (part n ps) j) ∷ (marks_in w (after_bits t false (none-bare ps j) (last-bare ps j)) ++ chain-bare w p t (suc i) ps j)
+chain-bare w p t i (gap ps) = λ j. marks_in w (before_bits t (none-bare ps j)) ++ here (site-bare p i (gap ps) j) ∷ (marks_in w (after_bits t true (none-bare ps j) (last-bare ps j)) ++ chain-bare w p t (suc i) ps j)
 
 behind-bare : (i : ℕ) (ps : Parts) → parts_after i (bare_parts ps) ≡ bare_parts (parts_after i ps)
 behind-bare zero ps = refl
 behind-bare (suc i) ps = ap (parts_after i) (others-bare ps) ∙ behind-bare i (others ps)
 
 marks-bare : (w : List ℕ) (s : Shape) (ps : Parts) → shape_marks w s (bare_parts ps) ≡ shape_marks w s ps
-marks-bare w s ps = ap (λ u. front_marks w s.front (marks_in w s.opener ++ deep s.chain u (marks_in w s.closer))) (ap (chain_marks w s.chain) (behind-bare (length s.front) ps) ∙ chain-bare w s.chain (parts_after (length s.front) ps))
+marks-bare w s ps =
+    front-bare w s.sites 0 s.front ps (marks_in w s.opener ++ deep s.chain (chain_marks w s.sites s.chain (length s.front) (parts_after (length s.front) (bare_parts ps))) (marks_in w s.closer))
+    ∙ ap (λ u. front_marks w s.sites 0 s.front ps (marks_in w s.opener ++ deep s.chain u (marks_in w s.closer))) (ap (chain_marks w s.sites s.chain (length s.front)) (behind-bare (length s.front) ps) ∙ chain-bare w s.sites s.chain (length s.front) (parts_after (length s.front) ps))
 
 counts-bare : (ms : List Mark) (ps : Parts) → counts_up ms (bare_parts ps) ≡ counts_up ms ps
 counts-bare [] ps = none-bare ps
-counts-bare (here ∷ ms) ps = ap (counts_up ms) (others-bare ps) ∙ counts-bare ms (others ps)
+counts-bare (here x ∷ ms) ps = ap (counts_up ms) (others-bare ps) ∙ counts-bare ms (others ps)
 counts-bare (_ ∷ ms) ps = counts-bare ms ps
 
 lines_counts : (qs : List (PieceOf Role)) (ps : Parts) → lines_up qs ps ≡ true → counts_up (marks_of qs) ps ≡ true

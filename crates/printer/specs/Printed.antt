@@ -9,9 +9,11 @@ use Rattle.printer.specs.Bits.{Mark, text, line, feed, deeper, shallower, loose,
 use Rattle.language.specs.LayoutFits.{lines_up, parts_fit}
 use Rattle.printer.specs.Sheets.{View, Leads, flag_at, chunk_text, sign_code}
 use Rattle.printer.specs.declared.fragments.SignOperator.{SignOperator}
+use Rattle.language.specs.FirstPart.{others}
+use Rattle.printer.specs.declared.site.Site.TheVariants.{Plain}
 use Rattle.printer.specs.declared.part_sites.PartSites.{PartSites}
 use Rattle.tree.specs.declared.node_use.NodeUse.{NodeUse}
-use Rattle.printer.specs.Sites.{Stands}
+use Rattle.printer.specs.Sites.{site_of, site_at, UsesAgree}
 
 -- Marks of a shape, at a node of this text
 
@@ -27,14 +29,15 @@ abbrev pub marks_in : List ℕ → List Bit → List Mark
 marks_in w [] = []
 marks_in w (b ∷ bs) = mark_of w b ∷ marks_in w bs
 
-abbrev pub front_marks : List ℕ → List (List Bit) → List Mark → List Mark
-front_marks w [] ms = ms
-front_marks w (f ∷ fs) ms = marks_in w f ++ here ∷ front_marks w fs ms
+-- of first parts, and of a list, from a place on
+abbrev pub front_marks : List ℕ → PartSites → ℕ → List (List Bit) → Parts → List Mark → List Mark
+front_marks w p i [] ps ms = ms
+front_marks w p i (f ∷ fs) ps ms = marks_in w f ++ here (site_at p i ps) ∷ front_marks w p (suc i) fs (others ps) ms
 
-abbrev pub chain_marks : List ℕ → Chain → Parts → List Mark
-chain_marks w t none = []
-chain_marks w t (part n ps) = marks_in w (before_bits t (is_none ps)) ++ here ∷ (marks_in w (after_bits t false (is_none ps) (is_before_last ps)) ++ chain_marks w t ps)
-chain_marks w t (gap ps) = marks_in w (before_bits t (is_none ps)) ++ here ∷ (marks_in w (after_bits t true (is_none ps) (is_before_last ps)) ++ chain_marks w t ps)
+abbrev pub chain_marks : List ℕ → PartSites → Chain → ℕ → Parts → List Mark
+chain_marks w p t i none = []
+chain_marks w p t i (part n ps) = marks_in w (before_bits t (is_none ps)) ++ here (site_at p i (part n ps)) ∷ (marks_in w (after_bits t false (is_none ps) (is_before_last ps)) ++ chain_marks w p t (suc i) ps)
+chain_marks w p t i (gap ps) = marks_in w (before_bits t (is_none ps)) ++ here (site_at p i (gap ps)) ∷ (marks_in w (after_bits t true (is_none ps) (is_before_last ps)) ++ chain_marks w p t (suc i) ps)
 
 -- the parts of lines stand a level deeper
 abbrev pub deep : Chain → List Mark → List Mark → List Mark
@@ -42,7 +45,7 @@ deep lines ms rest = deeper ∷ (ms ++ shallower ∷ rest)
 deep _ ms rest = ms ++ rest
 
 abbrev pub shape_marks : List ℕ → Shape → Parts → List Mark
-shape_marks w s ps = front_marks w s.front (marks_in w s.opener ++ deep s.chain (chain_marks w s.chain (parts_after (length s.front) ps)) (marks_in w s.closer))
+shape_marks w s ps = front_marks w s.sites 0 s.front ps (marks_in w s.opener ++ deep s.chain (chain_marks w s.sites s.chain (length s.front) (parts_after (length s.front) ps)) (marks_in w s.closer))
 
 -- The text of marks
 
@@ -61,9 +64,9 @@ marks_text W (shallower ∷ ms) ps xs r zero b = marks_text W ms ps xs r zero b
 marks_text W (shallower ∷ ms) ps xs r (suc d) b = marks_text W ms ps xs r d b
 marks_text W (apart c ∷ ms) ps xs r d b = let rest = marks_text W ms ps xs r d b in cond (nat_eq (slice_index_or rest 0 0) c) (32 ∷ rest) rest
 marks_text W (loose ∷ ms) ps xs r d b = let rest = marks_text W ms ps xs r d b in cond b (32 ∷ rest) rest
-marks_text W (here ∷ ms) none xs r d b = marks_text W ms none xs r d false
-marks_text W (here ∷ ms) (gap ps) xs r d b = marks_text W ms ps xs r d false
-marks_text W (here ∷ ms) (part n ps) xs r d b = layout W n (next_role xs) r d ++ marks_text W ms ps (other_roles xs) (r + rows n (next_role xs)) d (not (W r))
+marks_text W (here s ∷ ms) none xs r d b = marks_text W ms none xs r d false
+marks_text W (here s ∷ ms) (gap ps) xs r d b = marks_text W ms ps xs r d false
+marks_text W (here s ∷ ms) (part n ps) xs r d b = layout W n (next_role xs) r d ++ marks_text W ms ps (other_roles xs) (r + rows n (next_role xs)) d (not (W r))
 
 -- What calls write
 
@@ -92,11 +95,24 @@ pub record Passed (W : ℕ → Bool) (old new : View) (ms ms' : List Mark) (ps p
   pub fit : parts_fit W ps' xs' row ≡ true
   pub shows : (next : List ℕ) → Leads old new (marks_text W ms ps xs r d b ++ next) (marks_text W ms' ps' xs' row d b' ++ next)
 
--- the same, with positions left that stand at a course
-pub record Gone (W : ℕ → Bool) (st : NodeUse) (m : Tree) (old new : View) (ms ms' : List Mark) (ps ps' : Parts) (xs : List Role) (c : PartSites) (b b' : Bool) (d r : ℕ) : Type 0 where
+-- parts at these positions are at the sites of marks
+abbrev pub Sited : List Mark → Parts → List Role → Type 0
+Sited [] ps xs = Unit {0}
+Sited (here s ∷ ms) none xs = Sited ms none xs
+Sited (here s ∷ ms) (gap ps) xs = Sited ms ps xs
+Sited (here s ∷ ms) (part n ps) [] = Unit {0}
+Sited (here s ∷ ms) (part n ps) (a ∷ xs) = (site_of a ≡ s) × Sited ms ps xs
+Sited (_ ∷ ms) ps xs = Sited ms ps xs
+
+-- the marks and the positions left of a node that stands so
+abbrev pub Stands : NodeUse → Tree → List Mark → Parts → List Role → Type 0
+Stands st m ms ps xs = Sited ms ps xs × UsesAgree st m ps xs
+
+-- the same, with positions left for the marks that are left
+pub record Gone (W : ℕ → Bool) (st : NodeUse) (m : Tree) (old new : View) (ms ms' : List Mark) (ps ps' : Parts) (xs : List Role) (b b' : Bool) (d r : ℕ) : Type 0 where
   pub left : List Role
   pub passed : Passed W old new ms ms' ps ps' xs left b b' d r
-  pub stands : Stands st m c ps' left
+  pub stands : Stands st m ms' ps' left
 
 -- all marks were written, with their parts and rows
 pub record Written (W : ℕ → Bool) (old new : View) (ms : List Mark) (ps : Parts) (xs : List Role) (b : Bool) (d r : ℕ) : Type 0 where
@@ -105,4 +121,4 @@ pub record Written (W : ℕ → Bool) (old new : View) (ms : List Mark) (ps : Pa
 
 -- a sign, and its operand
 abbrev pub signed_marks : List ℕ → SignOperator → List Mark
-signed_marks w s = text w ∷ apart (sign_code s) ∷ here ∷ []
+signed_marks w s = text w ∷ apart (sign_code s) ∷ here Plain ∷ []

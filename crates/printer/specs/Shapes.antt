@@ -14,7 +14,8 @@ use Rattle.language.specs.Pieces.{is_none}
 use Rattle.spelling_table.specs.Outlines.{parts_after}
 use Rattle.printer.specs.declared.site.Site.{Site}
 use Rattle.printer.specs.declared.site.Site.TheVariants as site
-use Rattle.printer.specs.Bits.{Bit, token, own_text, newline, loosely, chunk, Chain, nothing, joined, commas, lines, feeds, parameters, Shape, fronted, listed}
+use Rattle.printer.specs.declared.part_sites.PartSites.TheVariants.{AllPlain, ShorthandPair, KeyAndMethod, LoopHead, TemplateParts}
+use Rattle.printer.specs.Bits.{Bit, token, own_text, newline, loosely, chunk, Chain, nothing, joined, commas, lines, feeds, parameters, Shape, asking, fronted, listed}
 
 abbrev pub spelled : String → Bit
 spelled s = token (codes s)
@@ -44,10 +45,10 @@ abbrev pub statement_end : List Bit
 statement_end = spelled ";" ∷ []
 
 abbrev pub function_list_shape : List (List Bit) → Shape
-function_list_shape fs = record { front = fs; opener = spelled "(" ∷ []; chain = parameters close_space; closer = [] }
+function_list_shape fs = record { front = fs; opener = spelled "(" ∷ []; chain = parameters close_space; closer = []; sites = AllPlain }
 
 abbrev pub call_list_shape : List (List Bit) → List Bit → Shape
-call_list_shape fs o = record { front = fs; opener = o; chain = commas; closer = spelled ")" ∷ [] }
+call_list_shape fs o = record { front = fs; opener = o; chain = commas; closer = spelled ")" ∷ []; sites = AllPlain }
 
 -- a part stands at this place
 abbrev pub has_part : Parts → ℕ → Bool
@@ -56,7 +57,7 @@ has_part ps i = is_some (part_at ps i)
 -- Statements
 
 abbrev pub for_shape : Bool → Bool → Shape
-for_shape t u = fronted (headed "for" ∷ cond t (spelled ";" ∷ gapped ∷ []) statement_end ∷ cond u (spelled ";" ∷ gapped ∷ []) statement_end ∷ close_space ∷ []) []
+for_shape t u = asking LoopHead (headed "for" ∷ cond t (spelled ";" ∷ gapped ∷ []) statement_end ∷ cond u (spelled ";" ∷ gapped ∷ []) statement_end ∷ close_space ∷ []) []
 
 abbrev pub do_shape : Shape
 do_shape = fronted (after_word "do" ∷ (gapped ∷ spelled "while" ∷ gapped ∷ spelled "(" ∷ []) ∷ []) (spelled ")" ∷ spelled ";" ∷ [])
@@ -64,8 +65,8 @@ do_shape = fronted (after_word "do" ∷ (gapped ∷ spelled "while" ∷ gapped �
 abbrev pub loop_shape : Kind → Parts → Shape
 loop_shape kind.WhileStatement ps = fronted (headed "while" ∷ close_space ∷ []) []
 loop_shape kind.DoWhileStatement ps = do_shape
-loop_shape kind.ForInStatement ps = fronted (headed "for" ∷ between "in" ∷ close_space ∷ []) []
-loop_shape kind.ForOfStatement ps = fronted (headed "for" ∷ between "of" ∷ close_space ∷ []) []
+loop_shape kind.ForInStatement ps = asking LoopHead (headed "for" ∷ between "in" ∷ close_space ∷ []) []
+loop_shape kind.ForOfStatement ps = asking LoopHead (headed "for" ∷ between "of" ∷ close_space ∷ []) []
 loop_shape k ps = for_shape (has_part ps 1) (has_part ps 2)
 
 abbrev pub if_shape : Bool → Shape
@@ -108,12 +109,12 @@ statement_shape k ps = branch_shape k ps
 
 -- parts on lines of their own, in braces; `filled` says that there is one
 abbrev pub braced_shape : List (List Bit) → List Bit → Bool → Shape
-braced_shape fs o true = record { front = fs; opener = o; chain = lines; closer = newline ∷ spelled "}" ∷ [] }
-braced_shape fs o false = record { front = fs; opener = o; chain = nothing; closer = spelled "}" ∷ [] }
+braced_shape fs o true = record { front = fs; opener = o; chain = lines; closer = newline ∷ spelled "}" ∷ []; sites = AllPlain }
+braced_shape fs o false = record { front = fs; opener = o; chain = nothing; closer = spelled "}" ∷ []; sites = AllPlain }
 
 abbrev pub case_shape : Bool → Shape
-case_shape true = record { front = after_word "case" ∷ []; opener = spelled ":" ∷ []; chain = lines; closer = [] }
-case_shape false = record { front = [] ∷ []; opener = spelled "default" ∷ spelled ":" ∷ []; chain = lines; closer = [] }
+case_shape true = record { front = after_word "case" ∷ []; opener = spelled ":" ∷ []; chain = lines; closer = []; sites = AllPlain }
+case_shape false = record { front = [] ∷ []; opener = spelled "default" ∷ spelled ":" ∷ []; chain = lines; closer = []; sites = AllPlain }
 
 abbrev pub catch_shape : Bool → Shape
 catch_shape true = fronted (headed "catch" ∷ close_space ∷ []) []
@@ -150,7 +151,7 @@ class_shape false false = fronted (after_word "class" ∷ [] ∷ [] ∷ []) []
 
 -- the key of a method, computed or not
 abbrev pub method_key : List Bit → List Bit → Bool → Shape
-method_key plain bracketed b = fronted (cond b (bracketed ∷ (spelled "]" ∷ []) ∷ []) (plain ∷ [] ∷ [])) []
+method_key plain bracketed b = asking KeyAndMethod (cond b (bracketed ∷ (spelled "]" ∷ []) ∷ []) (plain ∷ [] ∷ [])) []
 
 abbrev pub value_shape : Bool → Shape
 value_shape b = fronted (cond b ((spelled "[" ∷ []) ∷ (spelled "]" ∷ colon_space) ∷ []) ([] ∷ colon_space ∷ [])) []
@@ -174,7 +175,7 @@ property_shape form.Get b = getter_shape b
 property_shape form.Set b = setter_shape b
 property_shape form.Method b = plain_shape b
 property_shape form.Constructor b = plain_shape b
-property_shape form.Shorthand b = fronted ([] ∷ [] ∷ []) []
+property_shape form.Shorthand b = asking ShorthandPair ([] ∷ [] ∷ []) []
 property_shape form.Init b = value_shape b
 
 abbrev pub own_member_shape : Form → Bool → Shape
@@ -248,7 +249,7 @@ expression_shape kind.ArrayExpression w g ps = listed (spelled "[" ∷ []) comma
 expression_shape kind.ArrayPattern w g ps = listed (spelled "[" ∷ []) commas (spelled "]" ∷ [])
 expression_shape kind.ObjectExpression w g ps = listed (spelled "{" ∷ []) commas (spelled "}" ∷ [])
 expression_shape kind.ObjectPattern w g ps = listed (spelled "{" ∷ []) commas (spelled "}" ∷ [])
-expression_shape kind.TemplateLiteral w g ps = listed [] joined []
+expression_shape kind.TemplateLiteral w g ps = record { front = []; opener = []; chain = joined; closer = []; sites = TemplateParts }
 expression_shape kind.SpreadElement w g ps = fronted ((spelled "..." ∷ []) ∷ []) []
 expression_shape kind.RestElement w g ps = fronted ((spelled "..." ∷ []) ∷ []) []
 expression_shape kind.AssignmentPattern w g ps = fronted ([] ∷ between "=" ∷ []) []

@@ -7,6 +7,7 @@ ghost use Rattle.printer.specs.Bits.{shape_of, fused_shape};
 ghost use Rattle.printer.specs.Shapes.{spelled, gapped, headed, block_shape, braced_shape, case_shape, catch_shape};
 
 use crate::fragments::{Fragment, Frame, ListLayout, front_frame, list_frame};
+use crate::part_sites::PartSites;
 use crate::shared_fragments::{CLOSE_SPACE, has_part, is_filled};
 use crate::statements::statement_frame;
 use tree::{Kind, Node};
@@ -33,6 +34,7 @@ static CASES: Frame = Frame {
     opener: SWITCH_BRACE,
     series: ListLayout::Lines,
     closer: LINE_END_BRACE,
+    sites: PartSites::AllPlain,
 };
 
 static NO_CASES: Frame = Frame {
@@ -40,6 +42,7 @@ static NO_CASES: Frame = Frame {
     opener: SWITCH_BRACE,
     series: ListLayout::Nothing,
     closer: END_BRACE,
+    sites: PartSites::AllPlain,
 };
 
 static CASE: Frame = Frame {
@@ -47,6 +50,7 @@ static CASE: Frame = Frame {
     opener: &[Fragment::Token(":")],
     series: ListLayout::Lines,
     closer: &[],
+    sites: PartSites::AllPlain,
 };
 
 static DEFAULT_CASE: Frame = Frame {
@@ -54,6 +58,7 @@ static DEFAULT_CASE: Frame = Frame {
     opener: &[Fragment::Token("default:")],
     series: ListLayout::Lines,
     closer: &[],
+    sites: PartSites::AllPlain,
 };
 
 static CATCH_BINDING: Frame = front_frame!(&[&[Fragment::Token("catch (")], CLOSE_SPACE,], &[]);

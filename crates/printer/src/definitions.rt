@@ -7,7 +7,8 @@ ghost use Rattle.printer.specs.Bits.{shape_of, fused_shape};
 ghost use Rattle.printer.specs.Shapes.{definition_shape, method_shape, arrow_shape, is_single as is_single_arrow, class_shape, property_shape, class_member_shape, value_shape, getter_shape, setter_shape, plain_shape, static_shape};
 
 use crate::blocks::block_frame;
-use crate::fragments::{Fragment, Frame, ListLayout, front_frame, list_frame};
+use crate::fragments::{Fragment, Frame, ListLayout, asking_frame, front_frame, list_frame};
+use crate::part_sites::PartSites;
 use crate::shared_fragments::{COLON, END_BRACKET, OPEN, has_part};
 use tree::{Flags, Form, Kind, Node};
 
@@ -45,6 +46,7 @@ macro_rules! function_frame {
             opener: OPEN,
             series: ListLayout::Parameters,
             closer: &[],
+            sites: PartSites::AllPlain,
         }
     };
 }
@@ -65,7 +67,7 @@ static SUBCLASS: Frame = front_frame!(&[CLASS, EXTENDS, &[Fragment::Space]], &[]
 
 static BARE_CLASS: Frame = front_frame!(&[CLASS, &[], &[]], &[]);
 
-static SHORTHAND: Frame = front_frame!(&[&[], &[]], &[]);
+static SHORTHAND: Frame = asking_frame!(ShorthandPair, &[&[], &[]]);
 
 static VALUE: Frame = front_frame!(&[&[], COLON], &[]);
 
@@ -74,29 +76,41 @@ static COMPUTED_VALUE: Frame = front_frame!(
     &[]
 );
 
-static GETTER: Frame = front_frame!(&[GET, &[]], &[]);
+static GETTER: Frame = asking_frame!(KeyAndMethod, &[GET, &[]]);
 
-static COMPUTED_GETTER: Frame = front_frame!(&[&[Fragment::Token("get [")], END_BRACKET,], &[]);
+static COMPUTED_GETTER: Frame = asking_frame!(
+    KeyAndMethod,
+    &[&[Fragment::Token("get [")], END_BRACKET,]
+);
 
-static SETTER: Frame = front_frame!(&[SET, &[]], &[]);
+static SETTER: Frame = asking_frame!(KeyAndMethod, &[SET, &[]]);
 
-static COMPUTED_SETTER: Frame = front_frame!(&[&[Fragment::Token("set [")], END_BRACKET,], &[]);
+static COMPUTED_SETTER: Frame = asking_frame!(
+    KeyAndMethod,
+    &[&[Fragment::Token("set [")], END_BRACKET,]
+);
 
-static PLAIN: Frame = front_frame!(&[&[], &[]], &[]);
+static PLAIN: Frame = asking_frame!(KeyAndMethod, &[&[], &[]]);
 
-static COMPUTED: Frame = front_frame!(&[&[Fragment::Token("[")], END_BRACKET], &[]);
+static COMPUTED: Frame = asking_frame!(KeyAndMethod, &[&[Fragment::Token("[")], END_BRACKET]);
 
-static STATIC_GETTER: Frame = front_frame!(&[STATIC_GET, &[]], &[]);
+static STATIC_GETTER: Frame = asking_frame!(KeyAndMethod, &[STATIC_GET, &[]]);
 
-static COMPUTED_STATIC_GETTER: Frame = front_frame!(&[STATIC_GET_BRACKET, END_BRACKET], &[]);
+static COMPUTED_STATIC_GETTER: Frame = asking_frame!(
+    KeyAndMethod,
+    &[STATIC_GET_BRACKET, END_BRACKET]
+);
 
-static STATIC_SETTER: Frame = front_frame!(&[STATIC_SET, &[]], &[]);
+static STATIC_SETTER: Frame = asking_frame!(KeyAndMethod, &[STATIC_SET, &[]]);
 
-static COMPUTED_STATIC_SETTER: Frame = front_frame!(&[STATIC_SET_BRACKET, END_BRACKET], &[]);
+static COMPUTED_STATIC_SETTER: Frame = asking_frame!(
+    KeyAndMethod,
+    &[STATIC_SET_BRACKET, END_BRACKET]
+);
 
-static STATIC_METHOD: Frame = front_frame!(&[STATIC, &[]], &[]);
+static STATIC_METHOD: Frame = asking_frame!(KeyAndMethod, &[STATIC, &[]]);
 
-static COMPUTED_STATIC_METHOD: Frame = front_frame!(&[STATIC_BRACKET, END_BRACKET], &[]);
+static COMPUTED_STATIC_METHOD: Frame = asking_frame!(KeyAndMethod, &[STATIC_BRACKET, END_BRACKET]);
 
 /// Functions, classes, properties and members.
 pub fn definition_frame(node: Node) -> &'static Frame

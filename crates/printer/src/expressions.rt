@@ -9,6 +9,7 @@ ghost use Rattle.printer.specs.Shapes.{expression_shape, operation_shape, update
 
 use crate::definitions::definition_frame;
 use crate::fragments::{Fragment, Frame, ListLayout, front_frame, list_frame};
+use crate::part_sites::PartSites;
 use crate::shared_fragments::{CLOSE, END_BRACKET, OPEN};
 use tokens::TokenClass;
 use tree::{Flags, Kind, Node};
@@ -31,6 +32,7 @@ macro_rules! arguments_frame {
             opener: $opener,
             series: ListLayout::Commas,
             closer: CLOSE,
+            sites: PartSites::AllPlain,
         }
     };
 }
@@ -45,7 +47,13 @@ static ARRAY: Frame = list_frame!(BRACKET, Commas, END_BRACKET);
 
 static OBJECT: Frame = list_frame!(&[Fragment::Token("{")], Commas, &[Fragment::Token("}")]);
 
-static TEMPLATE: Frame = list_frame!(&[], Joined, &[]);
+static TEMPLATE: Frame = Frame {
+    front: &[],
+    opener: &[],
+    series: ListLayout::Joined,
+    closer: &[],
+    sites: PartSites::TemplateParts,
+};
 
 static SPREAD: Frame = front_frame!(&[DOTS], &[]);
 

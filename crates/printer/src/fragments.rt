@@ -3,6 +3,8 @@
 ghost use Rattle.std.specs.Prelude.{◌≡◌, nat_eq};
 ghost use Rattle.printer.specs.Bits.{bits_of, chain_of, before_bits, after_bits, fused};
 
+use crate::part_sites::PartSites;
+
 /// What stands between the parts of a node.
 #[derive(Clone, Copy)]
 pub enum Fragment {
@@ -52,6 +54,8 @@ pub struct Frame {
     pub series: ListLayout,
     /// What stands behind these.
     pub closer: &'static [Fragment],
+    /// What the layout asks of the parts.
+    pub sites: PartSites,
 }
 
 /// A prefix that may not touch itself.
@@ -83,6 +87,20 @@ macro_rules! front_frame {
             opener: &[],
             series: $crate::fragments::ListLayout::Nothing,
             closer: $closer,
+            sites: $crate::part_sites::PartSites::AllPlain,
+        }
+    };
+}
+
+/// The same with nothing behind them, where the layout asks something of them.
+macro_rules! asking_frame {
+    ($sites:ident, $front:expr) => {
+        $crate::fragments::Frame {
+            front: $front,
+            opener: &[],
+            series: $crate::fragments::ListLayout::Nothing,
+            closer: &[],
+            sites: $crate::part_sites::PartSites::$sites,
         }
     };
 }
@@ -95,10 +113,12 @@ macro_rules! list_frame {
             opener: $opener,
             series: $crate::fragments::ListLayout::$series,
             closer: $closer,
+            sites: $crate::part_sites::PartSites::AllPlain,
         }
     };
 }
 
+pub(crate) use asking_frame;
 pub(crate) use front_frame;
 pub(crate) use list_frame;
 

@@ -1,81 +1,64 @@
-//! Where the parts of a node stand.
+//! What the layout asks of the parts of a node.
 
 ghost use Rattle.std.specs.Prelude.{◌≡◌};
-ghost use Rattle.tree.specs.Node.{node_tree};
-ghost use Rattle.tree.specs.Tree.{kind_of, flags_of, parts_of};
-ghost use Rattle.printer.specs.Sites.{all_at, first_at, after_first, property_course as property_course_at, for_course as for_course_at, course_at};
+ghost use Rattle.printer.specs.Sites.{chunk_site, head_site as head_site_of, site_in};
 
-use crate::shared_fragments::has_part;
-use crate::site::SiteRule;
-use tree::{Form, Kind, Node};
+use crate::site::Site;
+use tree::Kind;
 
-/// The seats of a node's parts, without gaps: of the next, and of all behind it.
+/// What the layout asks of the parts of a node, by their places.
 #[derive(Clone, Copy)]
-pub struct PartSites {
-    pub next: SiteRule,
-    pub others: SiteRule,
+pub enum PartSites {
+    /// Nothing.
+    AllPlain,
+    /// A shorthand property: its key has no text of its own.
+    ShorthandPair,
+    /// A key, and a method's function.
+    KeyAndMethod,
+    /// A `for`, which may begin with a declaration.
+    LoopHead,
+    /// A template: elements at even places, expressions between them.
+    TemplateParts,
 }
 
 impl PartSites {
-    /// All at one seat.
-    fn all(seat: SiteRule) -> PartSites
-        ensures { result ≡ all_at seat }
+    /// The site of the part at a place.
+    #[inline(always)]
+    pub fn site_of_part(self, index: usize, kind: Kind, is_last: bool) -> Site
+        ensures { result ≡ site_in self index kind is_last }
     {
-        PartSites {
-            next: seat,
-            others: seat,
+        match self {
+            PartSites::AllPlain => Site::Plain,
+            PartSites::ShorthandPair if index == 0 => Site::ShorthandKey,
+            PartSites::ShorthandPair => Site::Plain,
+            PartSites::KeyAndMethod if index == 0 => Site::Plain,
+            PartSites::KeyAndMethod => Site::Method,
+            PartSites::LoopHead if index == 0 => head_site(kind),
+            PartSites::LoopHead => Site::Plain,
+            PartSites::TemplateParts if index % 2 == 0 => element_site(index == 0, is_last),
+            PartSites::TemplateParts => Site::Plain,
         }
-    }
-
-    /// The first at one seat, the others at another.
-    fn first(first: SiteRule, others: SiteRule) -> PartSites
-        ensures { result ≡ first_at first others }
-    {
-        PartSites {
-            next: first,
-            others,
-        }
-    }
-
-    /// What is left behind the next part.
-    pub fn after_next(self) -> PartSites
-        ensures { result ≡ after_first self }
-    {
-        PartSites::all(self.others)
     }
 }
 
-/// The seats of a node's parts.
-pub fn part_sites_of(node: Node) -> PartSites
-    ensures { result ≡ course_at (kind_of (node_tree node.entry)) (flags_of (node_tree node.entry)).form (parts_of (node_tree node.entry)) }
+/// That of what a `for` begins with.
+fn head_site(kind: Kind) -> Site
+    ensures { result ≡ head_site_of kind }
 {
-    match node.kind() {
-        Kind::TemplateLiteral => PartSites::first(SiteRule::AtChunk, SiteRule::Told),
-        Kind::Property => property_course(node.flags().form),
-        Kind::MethodDefinition => PartSites::first(SiteRule::AtPlain, SiteRule::AtMethod),
-        Kind::ForStatement => for_course(has_part(node, 0)),
-        Kind::ForInStatement | Kind::ForOfStatement => {
-            PartSites::first(SiteRule::Told, SiteRule::AtPlain)
-        }
-        _ => PartSites::all(SiteRule::AtPlain),
+    match kind {
+        Kind::VariableDeclaration => Site::ForDeclaration,
+        _ => Site::Plain,
     }
 }
 
-fn property_course(form: Form) -> PartSites
-    ensures { result ≡ property_course_at form }
+/// That of an element of a template.
+fn element_site(is_first: bool, is_last: bool) -> Site
+    ensures { result ≡ chunk_site is_first is_last }
 {
-    match form {
-        Form::Init => PartSites::all(SiteRule::AtPlain),
-        Form::Shorthand => PartSites::first(SiteRule::AtEcho, SiteRule::AtPlain),
-        _ => PartSites::first(SiteRule::AtPlain, SiteRule::AtMethod),
+    match (is_first, is_last) {
+        (true, true) => Site::OnlyTemplateElement,
+        (true, false) => Site::FirstTemplateElement,
+        (false, true) => Site::LastTemplateElement,
+        (false, false) => Site::InnerTemplateElement,
     }
-}
-
-fn for_course(begins: bool) -> PartSites
-    ensures { result ≡ for_course_at begins }
-{
-    if begins {
-        return PartSites::first(SiteRule::Told, SiteRule::AtPlain);
-    }
-    PartSites::all(SiteRule::AtPlain)
 }

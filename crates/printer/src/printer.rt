@@ -1,6 +1,6 @@
 //! The text of a tree.
 
-ghost use Rattle.std.specs.Prelude.{◌≡◌, ℕ, suc, ◌<◌, ◌≤◌, ◌+◌, ◌-◌, Bool, true, nat_le, nat_eq, cond, List, [], ◌∷◌, ◌++◌, length, map, None, Some, IfOk};
+ghost use Rattle.std.specs.Prelude.{◌≡◌, ℕ, suc, ◌<◌, ◌≤◌, ◌+◌, ◌-◌, Bool, true, false, nat_le, nat_eq, cond, List, [], ◌∷◌, ◌++◌, length, map, None, Some, IfOk};
 ghost use Rattle.std.specs.String.{string_bytes};
 ghost use Rattle.tree.specs.Node.{node_tree};
 ghost use Rattle.tree.specs.Tree.{height, kind_of, text_of, flags_of, parts_of, part_count, none};
@@ -21,26 +21,17 @@ ghost use Rattle.language.specs.RowPositions.{has_row};
 ghost use Rattle.tree.specs.HeldRows.{HoldsRows};
 ghost use Rattle.tree.specs.declared.node_use.NodeUse.{NodeUse};
 ghost use Rattle.row_laws.specs.Agreements.{agrees};
-ghost use Rattle.printer.specs.Sites.{site_of, Stands};
-ghost use Rattle.printer.specs.Printed.{Reads, Printed, Direct, Gone, Written, spelled_so, front_marks, chain_marks, deep, shape_marks, marks_in, signed_marks};
+ghost use Rattle.printer.specs.Sites.{site_of, site_at};
+ghost use Rattle.printer.specs.Printed.{Stands, Reads, Printed, Direct, Gone, Written, spelled_so, front_marks, chain_marks, deep, shape_marks, marks_in, signed_marks};
 
 use crate::emitter::Emitter;
-use crate::fragments::{Fragment, Frame, ListLayout, SignOperator, after, before};
+use crate::fragments::{Frame, ListLayout, SignOperator, after, before};
 use crate::frame::{frame_of, is_word};
 use crate::output_buffer::{TextBuffer, TextSink};
-use crate::part_sites::{PartSites, part_sites_of};
-use crate::site::{Site, site_at};
+use crate::part_sites::PartSites;
+use crate::site::Site;
 use std::alloc::{AllocError, Global};
 use tree::{Kind, Node, Program};
-
-/// What is left of a node.
-#[derive(Clone, Copy)]
-pub struct PartWalk {
-    /// The seats of the parts that are left.
-    course: PartSites,
-    /// The part before has no parentheses.
-    previous_is_bare: bool,
-}
 
 /// The text of a script in its layout, with parentheses round the wrapped nodes. The flags say of the nodes at an
 /// expression's position, each before those in it, in source order, whether they are wrapped; those behind the last flag
@@ -121,7 +112,7 @@ fn print_direct<O: TextSink>(node: Node, site: Site, depth: usize, sheet: &mut E
     print_parts(node, site, depth, sheet, out);
 }
 
-/// A node by the sites of its parts.
+/// A node that is no word.
 #[cycle(print)]
 #[inline(never)]
 fn print_parts<O: TextSink>(node: Node, site: Site, depth: usize, sheet: &mut Emitter, out: &mut O)
@@ -129,13 +120,9 @@ fn print_parts<O: TextSink>(node: Node, site: Site, depth: usize, sheet: &mut Em
     ensures laid { (W : ℕ → Bool) → (r : ℕ) → (p : Position) → (st : NodeUse) → HoldsRows st node.entry → agrees st (role_of p) (kind_of (node_tree node.entry)) ≡ true → site_of (role_of p) ≡ site → Reads W r sheet.old.wraps.now → spelled_so W (parts_of (node_tree node.entry)) (ways (role_of p) (node_tree node.entry)) r ≡ true → Direct W (seen (O.stands out.old sheet.old.room) sheet.old) (seen (O.stands out.new sheet.new.room) sheet.new) (parts_of (node_tree node.entry)) (ways (role_of p) (node_tree node.entry)) r depth }
     ensures adds { Adds (O.stands out.old sheet.old.room) (O.stands out.new sheet.new.room) }
 {
-    let mut walk = PartWalk {
-        course: part_sites_of(node),
-        previous_is_bare: false,
-    };
     match sign_of(node) {
-        Some(sign) => print_sign_operator(node, sign, &mut walk, depth, sheet, out),
-        None => print_framed(node, frame_of(node, site), &mut walk, depth, sheet, out),
+        Some(sign) => print_sign_operator(node, sign, depth, sheet, out),
+        None => print_framed(node, frame_of(node, site), depth, sheet, out),
     }
 }
 
@@ -166,18 +153,26 @@ fn sign_in(text: &str) -> Option<SignOperator>
 fn print_sign_operator<O: TextSink>(
     node: Node,
     sign: SignOperator,
-    walk: &mut PartWalk,
     depth: usize,
     sheet: &mut Emitter,
     out: &mut O,
 )
     requires { depth + height (node_tree node) ≤ usize.MAX }
-    ensures laid { (W : ℕ → Bool) → (st : NodeUse) → HoldsRows st node.entry → (xs : List Role) → (r : ℕ) → Reads W r sheet.old.wraps.now → parts_fit W (parts_of (node_tree node.entry)) xs r ≡ true → Stands st (node_tree node.entry) walk.old.course (parts_of (node_tree node.entry)) xs → sign_of_text (text_of (node_tree node.entry)) ≡ Some sign → is_none (parts_after 1 (parts_of (node_tree node.entry))) ≡ true → Written W (seen (O.stands out.old sheet.old.room) sheet.old) (seen (O.stands out.new sheet.new.room) sheet.new) (signed_marks (text_of (node_tree node.entry)) sign) (parts_of (node_tree node.entry)) xs walk.old.previous_is_bare depth r }
+    ensures laid { (W : ℕ → Bool) → (st : NodeUse) → HoldsRows st node.entry → (xs : List Role) → (r : ℕ) → Reads W r sheet.old.wraps.now → parts_fit W (parts_of (node_tree node.entry)) xs r ≡ true → Stands st (node_tree node.entry) (signed_marks (text_of (node_tree node.entry)) sign) (parts_of (node_tree node.entry)) xs → sign_of_text (text_of (node_tree node.entry)) ≡ Some sign → is_none (parts_after 1 (parts_of (node_tree node.entry))) ≡ true → Written W (seen (O.stands out.old sheet.old.room) sheet.old) (seen (O.stands out.new sheet.new.room) sheet.new) (signed_marks (text_of (node_tree node.entry)) sign) (parts_of (node_tree node.entry)) xs false depth r }
     ensures adds { Adds (O.stands out.old sheet.old.room) (O.stands out.new sheet.new.room) }
 {
+    let mut previous_is_bare = false;
     sheet.push(node.text(), out);
     sheet.keep_apart(sign);
-    print_part(node, 0, walk, depth, sheet, out);
+    print_part(
+        node,
+        0,
+        PartSites::AllPlain,
+        &mut previous_is_bare,
+        depth,
+        sheet,
+        out,
+    );
     sheet.join();
 }
 
@@ -186,47 +181,47 @@ fn print_sign_operator<O: TextSink>(
 fn print_framed<O: TextSink>(
     node: Node,
     frame: &Frame,
-    walk: &mut PartWalk,
     depth: usize,
     sheet: &mut Emitter,
     out: &mut O,
 )
     requires { depth + height (node_tree node) ≤ usize.MAX }
-    ensures laid { (W : ℕ → Bool) → (st : NodeUse) → HoldsRows st node.entry → (fs : List (List Bit)) → (os cs : List Bit) → map (λ p. bits_of p.now) frame.now.front.now ≡ map fused fs → bits_of frame.now.opener.now ≡ fused os → bits_of frame.now.closer.now ≡ fused cs → (xs : List Role) → (r : ℕ) → Reads W r sheet.old.wraps.now → parts_fit W (parts_of (node_tree node.entry)) xs r ≡ true → Stands st (node_tree node.entry) walk.old.course (parts_of (node_tree node.entry)) xs → Written W (seen (O.stands out.old sheet.old.room) sheet.old) (seen (O.stands out.new sheet.new.room) sheet.new) (shape_marks (text_of (node_tree node.entry)) (record { front = fs; opener = os; chain = chain_of frame.now.series; closer = cs }) (parts_of (node_tree node.entry))) (parts_of (node_tree node.entry)) xs walk.old.previous_is_bare depth r }
+    ensures laid { (W : ℕ → Bool) → (st : NodeUse) → HoldsRows st node.entry → (fs : List (List Bit)) → (os cs : List Bit) → map (λ p. bits_of p.now) frame.now.front.now ≡ map fused fs → bits_of frame.now.opener.now ≡ fused os → bits_of frame.now.closer.now ≡ fused cs → (xs : List Role) → (r : ℕ) → Reads W r sheet.old.wraps.now → parts_fit W (parts_of (node_tree node.entry)) xs r ≡ true → Stands st (node_tree node.entry) (shape_marks (text_of (node_tree node.entry)) (record { front = fs; opener = os; chain = chain_of frame.now.series; closer = cs; sites = frame.now.sites }) (parts_of (node_tree node.entry))) (parts_of (node_tree node.entry)) xs → Written W (seen (O.stands out.old sheet.old.room) sheet.old) (seen (O.stands out.new sheet.new.room) sheet.new) (shape_marks (text_of (node_tree node.entry)) (record { front = fs; opener = os; chain = chain_of frame.now.series; closer = cs; sites = frame.now.sites }) (parts_of (node_tree node.entry))) (parts_of (node_tree node.entry)) xs false depth r }
     ensures adds { Adds (O.stands out.old sheet.old.room) (O.stands out.new sheet.new.room) }
 {
-    print_front(node, frame.front, walk, depth, sheet, out);
-    sheet.push_all(frame.opener, node, depth, walk.previous_is_bare, out);
+    let mut previous_is_bare = false;
+    print_front(node, frame, &mut previous_is_bare, depth, sheet, out);
+    sheet.push_all(frame.opener, node, depth, previous_is_bare, out);
     let inside = inner_depth(frame.series, depth);
-    print_list(
-        node,
-        frame.series,
-        frame.front.len(),
-        walk,
-        inside,
-        sheet,
-        out,
-    );
-    sheet.push_all(frame.closer, node, depth, walk.previous_is_bare, out);
+    print_list(node, frame, &mut previous_is_bare, inside, sheet, out);
+    sheet.push_all(frame.closer, node, depth, previous_is_bare, out);
 }
 
 /// The first parts, with what stands before each.
 #[cycle(print)]
 fn print_front<O: TextSink>(
     node: Node,
-    front: &[&[Fragment]],
-    walk: &mut PartWalk,
+    frame: &Frame,
+    previous_is_bare: &mut bool,
     depth: usize,
     sheet: &mut Emitter,
     out: &mut O,
 )
     requires { depth + height (node_tree node) ≤ usize.MAX }
-    ensures laid { (W : ℕ → Bool) → (st : NodeUse) → HoldsRows st node.entry → (fs : List (List Bit)) → map (λ p. bits_of p.now) front.now ≡ map fused fs → (ms : List Mark) → (xs : List Role) → (r : ℕ) → Reads W r sheet.old.wraps.now → parts_fit W (parts_of (node_tree node.entry)) xs r ≡ true → Stands st (node_tree node.entry) walk.old.course (parts_of (node_tree node.entry)) xs → Gone W st (node_tree node.entry) (seen (O.stands out.old sheet.old.room) sheet.old) (seen (O.stands out.new sheet.new.room) sheet.new) (front_marks (text_of (node_tree node.entry)) fs ms) ms (parts_of (node_tree node.entry)) (parts_after (length front.now) (parts_of (node_tree node.entry))) xs walk.new.course walk.old.previous_is_bare walk.new.previous_is_bare depth r }
+    ensures laid { (W : ℕ → Bool) → (st : NodeUse) → HoldsRows st node.entry → (fs : List (List Bit)) → map (λ p. bits_of p.now) frame.now.front.now ≡ map fused fs → (ms : List Mark) → (xs : List Role) → (r : ℕ) → Reads W r sheet.old.wraps.now → parts_fit W (parts_of (node_tree node.entry)) xs r ≡ true → Stands st (node_tree node.entry) (front_marks (text_of (node_tree node.entry)) frame.now.sites 0 fs (parts_of (node_tree node.entry)) ms) (parts_of (node_tree node.entry)) xs → Gone W st (node_tree node.entry) (seen (O.stands out.old sheet.old.room) sheet.old) (seen (O.stands out.new sheet.new.room) sheet.new) (front_marks (text_of (node_tree node.entry)) frame.now.sites 0 fs (parts_of (node_tree node.entry)) ms) ms (parts_of (node_tree node.entry)) (parts_after (length frame.now.front.now) (parts_of (node_tree node.entry))) xs previous_is_bare.old previous_is_bare.new depth r }
     ensures adds { Adds (O.stands out.old sheet.old.room) (O.stands out.new sheet.new.room) }
 {
-    for index in 0..front.len() {
-        sheet.push_all(front[index], node, depth, walk.previous_is_bare, out);
-        print_part(node, index, walk, depth, sheet, out);
+    for index in 0..frame.front.len() {
+        sheet.push_all(frame.front[index], node, depth, *previous_is_bare, out);
+        print_part(
+            node,
+            index,
+            frame.sites,
+            previous_is_bare,
+            depth,
+            sheet,
+            out,
+        );
     }
 }
 
@@ -234,20 +229,19 @@ fn print_front<O: TextSink>(
 #[cycle(print)]
 fn print_list<O: TextSink>(
     node: Node,
-    series: ListLayout,
-    from: usize,
-    walk: &mut PartWalk,
+    frame: &Frame,
+    previous_is_bare: &mut bool,
     depth: usize,
     sheet: &mut Emitter,
     out: &mut O,
 )
     requires { depth + height (node_tree node) ≤ usize.MAX + 1 }
-    ensures laid { (W : ℕ → Bool) → (st : NodeUse) → HoldsRows st node.entry → (ms : List Mark) → (xs : List Role) → (r : ℕ) → Reads W r sheet.old.wraps.now → parts_fit W (parts_after from (parts_of (node_tree node.entry))) xs r ≡ true → Stands st (node_tree node.entry) walk.old.course (parts_after from (parts_of (node_tree node.entry))) xs → Gone W st (node_tree node.entry) (seen (O.stands out.old sheet.old.room) sheet.old) (seen (O.stands out.new sheet.new.room) sheet.new) (chain_marks (text_of (node_tree node.entry)) (chain_of series) (parts_after from (parts_of (node_tree node.entry))) ++ ms) ms (parts_after from (parts_of (node_tree node.entry))) none xs walk.new.course walk.old.previous_is_bare walk.new.previous_is_bare depth r }
+    ensures laid { (W : ℕ → Bool) → (st : NodeUse) → HoldsRows st node.entry → (ms : List Mark) → (xs : List Role) → (r : ℕ) → Reads W r sheet.old.wraps.now → parts_fit W (parts_after (length frame.now.front.now) (parts_of (node_tree node.entry))) xs r ≡ true → Stands st (node_tree node.entry) (chain_marks (text_of (node_tree node.entry)) frame.now.sites (chain_of frame.now.series) (length frame.now.front.now) (parts_after (length frame.now.front.now) (parts_of (node_tree node.entry))) ++ ms) (parts_after (length frame.now.front.now) (parts_of (node_tree node.entry))) xs → Gone W st (node_tree node.entry) (seen (O.stands out.old sheet.old.room) sheet.old) (seen (O.stands out.new sheet.new.room) sheet.new) (chain_marks (text_of (node_tree node.entry)) frame.now.sites (chain_of frame.now.series) (length frame.now.front.now) (parts_after (length frame.now.front.now) (parts_of (node_tree node.entry))) ++ ms) ms (parts_after (length frame.now.front.now) (parts_of (node_tree node.entry))) none xs previous_is_bare.old previous_is_bare.new depth r }
     ensures adds { Adds (O.stands out.old sheet.old.room) (O.stands out.new sheet.new.room) }
 {
     let count = node.part_count();
-    for index in from..count {
-        print_item(node, series, index, walk, depth, sheet, out);
+    for index in frame.front.len()..count {
+        print_item(node, frame, index, previous_is_bare, depth, sheet, out);
     }
 }
 
@@ -255,33 +249,41 @@ fn print_list<O: TextSink>(
 #[cycle(print)]
 fn print_item<O: TextSink>(
     node: Node,
-    series: ListLayout,
+    frame: &Frame,
     index: usize,
-    walk: &mut PartWalk,
+    previous_is_bare: &mut bool,
     depth: usize,
     sheet: &mut Emitter,
     out: &mut O,
 )
     requires low { depth + height (node_tree node) ≤ usize.MAX + 1 }
     requires index { index < part_count (parts_of (node_tree node)) }
-    ensures laid { (W : ℕ → Bool) → (st : NodeUse) → HoldsRows st node.entry → (ms : List Mark) → (xs : List Role) → (r : ℕ) → Reads W r sheet.old.wraps.now → parts_fit W (parts_after index (parts_of (node_tree node.entry))) xs r ≡ true → Stands st (node_tree node.entry) walk.old.course (parts_after index (parts_of (node_tree node.entry))) xs → Gone W st (node_tree node.entry) (seen (O.stands out.old sheet.old.room) sheet.old) (seen (O.stands out.new sheet.new.room) sheet.new) (chain_marks (text_of (node_tree node.entry)) (chain_of series) (parts_after index (parts_of (node_tree node.entry))) ++ ms) (chain_marks (text_of (node_tree node.entry)) (chain_of series) (parts_after (suc index) (parts_of (node_tree node.entry))) ++ ms) (parts_after index (parts_of (node_tree node.entry))) (parts_after (suc index) (parts_of (node_tree node.entry))) xs walk.new.course walk.old.previous_is_bare walk.new.previous_is_bare depth r }
+    ensures laid { (W : ℕ → Bool) → (st : NodeUse) → HoldsRows st node.entry → (ms : List Mark) → (xs : List Role) → (r : ℕ) → Reads W r sheet.old.wraps.now → parts_fit W (parts_after index (parts_of (node_tree node.entry))) xs r ≡ true → Stands st (node_tree node.entry) (chain_marks (text_of (node_tree node.entry)) frame.now.sites (chain_of frame.now.series) index (parts_after index (parts_of (node_tree node.entry))) ++ ms) (parts_after index (parts_of (node_tree node.entry))) xs → Gone W st (node_tree node.entry) (seen (O.stands out.old sheet.old.room) sheet.old) (seen (O.stands out.new sheet.new.room) sheet.new) (chain_marks (text_of (node_tree node.entry)) frame.now.sites (chain_of frame.now.series) index (parts_after index (parts_of (node_tree node.entry))) ++ ms) (chain_marks (text_of (node_tree node.entry)) frame.now.sites (chain_of frame.now.series) (suc index) (parts_after (suc index) (parts_of (node_tree node.entry))) ++ ms) (parts_after index (parts_of (node_tree node.entry))) (parts_after (suc index) (parts_of (node_tree node.entry))) xs previous_is_bare.old previous_is_bare.new depth r }
     ensures adds { Adds (O.stands out.old sheet.old.room) (O.stands out.new sheet.new.room) }
 {
     let behind = node.part_count() - index - 1;
     sheet.push_all(
-        before(series, behind == 0),
+        before(frame.series, behind == 0),
         node,
         depth,
-        walk.previous_is_bare,
+        *previous_is_bare,
         out,
     );
-    print_part(node, index, walk, depth, sheet, out);
+    print_part(
+        node,
+        index,
+        frame.sites,
+        previous_is_bare,
+        depth,
+        sheet,
+        out,
+    );
     let is_gap = node.part(index).is_none();
     sheet.push_all(
-        after(series, is_gap, behind),
+        after(frame.series, is_gap, behind),
         node,
         depth,
-        walk.previous_is_bare,
+        *previous_is_bare,
         out,
     );
 }
@@ -305,22 +307,22 @@ fn inner_depth(series: ListLayout, depth: usize) -> usize
 fn print_part<O: TextSink>(
     node: Node,
     index: usize,
-    walk: &mut PartWalk,
+    sites: PartSites,
+    previous_is_bare: &mut bool,
     depth: usize,
     sheet: &mut Emitter,
     out: &mut O,
 )
     requires { depth + height (node_tree node) ≤ usize.MAX + 1 }
-    ensures laid { (W : ℕ → Bool) → (st : NodeUse) → HoldsRows st node.entry → (ms : List Mark) → (xs : List Role) → (r : ℕ) → Reads W r sheet.old.wraps.now → parts_fit W (parts_after index (parts_of (node_tree node.entry))) xs r ≡ true → Stands st (node_tree node.entry) walk.old.course (parts_after index (parts_of (node_tree node.entry))) xs → Gone W st (node_tree node.entry) (seen (O.stands out.old sheet.old.room) sheet.old) (seen (O.stands out.new sheet.new.room) sheet.new) (here ∷ ms) ms (parts_after index (parts_of (node_tree node.entry))) (parts_after (suc index) (parts_of (node_tree node.entry))) xs walk.new.course walk.old.previous_is_bare walk.new.previous_is_bare depth r }
+    ensures laid { (W : ℕ → Bool) → (st : NodeUse) → HoldsRows st node.entry → (ms : List Mark) → (xs : List Role) → (r : ℕ) → Reads W r sheet.old.wraps.now → parts_fit W (parts_after index (parts_of (node_tree node.entry))) xs r ≡ true → Stands st (node_tree node.entry) (here (site_at sites index (parts_after index (parts_of (node_tree node.entry)))) ∷ ms) (parts_after index (parts_of (node_tree node.entry))) xs → Gone W st (node_tree node.entry) (seen (O.stands out.old sheet.old.room) sheet.old) (seen (O.stands out.new sheet.new.room) sheet.new) (here (site_at sites index (parts_after index (parts_of (node_tree node.entry)))) ∷ ms) ms (parts_after index (parts_of (node_tree node.entry))) (parts_after (suc index) (parts_of (node_tree node.entry))) xs previous_is_bare.old previous_is_bare.new depth r }
     ensures adds { Adds (O.stands out.old sheet.old.room) (O.stands out.new sheet.new.room) }
 {
     let Some(part) = node.finished_part(index) else {
-        walk.previous_is_bare = false;
+        *previous_is_bare = false;
         return;
     };
-    let site = site_at(walk.course.next, part.kind(), is_last(node, index));
-    walk.course = walk.course.after_next();
-    walk.previous_is_bare = !sheet.is_wrapped();
+    let site = sites.site_of_part(index, part.kind(), is_last(node, index));
+    *previous_is_bare = !sheet.is_wrapped();
     print_node(part, site, depth, sheet, out);
 }
 

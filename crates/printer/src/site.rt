@@ -1,9 +1,7 @@
 //! What the layout asks of a node for the sake of what it is a part of.
 
 ghost use Rattle.std.specs.Prelude.{◌≡◌};
-ghost use Rattle.printer.specs.Sites.{seated_at, told_at, first_chunk as first_chunk_at, is_plain as is_plain_site};
-
-use tree::Kind;
+ghost use Rattle.printer.specs.Sites.{is_plain as is_plain_site};
 
 /// What the layout asks of a node for the sake of what it is a part of.
 #[derive(Clone, Copy)]
@@ -21,54 +19,6 @@ pub enum Site {
     ForDeclaration,
     /// Any other.
     Plain,
-}
-
-/// Where a part stands, before its kind is known.
-#[derive(Clone, Copy)]
-pub enum SiteRule {
-    AtEcho,
-    /// The first part of a template.
-    AtChunk,
-    AtMethod,
-    AtPlain,
-    /// Another part of a template, or the first of a `for`: its kind tells.
-    Told,
-}
-
-/// The site of a part of this kind, by its seat and whether it is the last.
-#[inline(always)]
-pub fn site_at(seat: SiteRule, kind: Kind, is_last: bool) -> Site
-    ensures { result ≡ seated_at seat kind is_last }
-{
-    match seat {
-        SiteRule::AtEcho => Site::ShorthandKey,
-        SiteRule::AtChunk => first_chunk(is_last),
-        SiteRule::AtMethod => Site::Method,
-        SiteRule::AtPlain => Site::Plain,
-        SiteRule::Told => site_of_kind(kind, is_last),
-    }
-}
-
-fn first_chunk(is_last: bool) -> Site
-    ensures { result ≡ first_chunk_at is_last }
-{
-    if is_last {
-        Site::OnlyTemplateElement
-    } else {
-        Site::FirstTemplateElement
-    }
-}
-
-/// What the kind tells.
-fn site_of_kind(kind: Kind, is_last: bool) -> Site
-    ensures { result ≡ told_at kind is_last }
-{
-    match kind {
-        Kind::VariableDeclaration => Site::ForDeclaration,
-        Kind::TemplateElement if is_last => Site::LastTemplateElement,
-        Kind::TemplateElement => Site::InnerTemplateElement,
-        _ => Site::Plain,
-    }
 }
 
 /// Whether what stands round a node's parts is told by the node alone.

@@ -6,7 +6,7 @@ ghost use Rattle.tree.specs.Tree.{kind_of, parts_of};
 ghost use Rattle.printer.specs.Bits.{shape_of, fused_shape};
 ghost use Rattle.printer.specs.Shapes.{head_shape, statement_shape, branch_shape, loop_shape, declarator_shape, word_shape, if_shape, try_shape, for_shape};
 
-use crate::fragments::{Fragment, Frame, front_frame, list_frame};
+use crate::fragments::{Fragment, Frame, asking_frame, front_frame, list_frame};
 use crate::shared_fragments::{CLOSE_SPACE, COLON, has_part};
 use tree::{Kind, Node};
 
@@ -93,17 +93,20 @@ static DO_LOOP: Frame = front_frame!(
     &[Fragment::Token(");")]
 );
 
-static FOR_IN: Frame = front_frame!(&[FOR, IN, CLOSE_SPACE], &[]);
+static FOR_IN: Frame = asking_frame!(LoopHead, &[FOR, IN, CLOSE_SPACE]);
 
-static FOR_OF: Frame = front_frame!(&[FOR, OF, CLOSE_SPACE], &[]);
+static FOR_OF: Frame = asking_frame!(LoopHead, &[FOR, OF, CLOSE_SPACE]);
 
-static FOR_BOTH: Frame = front_frame!(&[FOR, SEMICOLON_SPACE, SEMICOLON_SPACE, CLOSE_SPACE], &[]);
+static FOR_BOTH: Frame = asking_frame!(
+    LoopHead,
+    &[FOR, SEMICOLON_SPACE, SEMICOLON_SPACE, CLOSE_SPACE]
+);
 
-static FOR_TEST: Frame = front_frame!(&[FOR, SEMICOLON_SPACE, END, CLOSE_SPACE], &[]);
+static FOR_TEST: Frame = asking_frame!(LoopHead, &[FOR, SEMICOLON_SPACE, END, CLOSE_SPACE]);
 
-static FOR_UPDATE: Frame = front_frame!(&[FOR, END, SEMICOLON_SPACE, CLOSE_SPACE], &[]);
+static FOR_UPDATE: Frame = asking_frame!(LoopHead, &[FOR, END, SEMICOLON_SPACE, CLOSE_SPACE]);
 
-static FOR_NEITHER: Frame = front_frame!(&[FOR, END, END, CLOSE_SPACE], &[]);
+static FOR_NEITHER: Frame = asking_frame!(LoopHead, &[FOR, END, END, CLOSE_SPACE]);
 
 /// A declaration in the head of a `for`.
 pub fn head_frame() -> &'static Frame

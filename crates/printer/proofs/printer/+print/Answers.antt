@@ -7,13 +7,13 @@ use Rattle.spelling_table.specs.Outlines.{role_of, whole_at, parts_after}
 use Rattle.language.specs.RowPositions.{has_row, first_roles}
 use Rattle.printer.specs.Shapes.{shape_on}
 use Rattle.tree.proofs.PartRows.{has_its_row}
-use Rattle.printer.specs.Sites.{seated_at, is_word}
+use Rattle.printer.specs.Sites.{site_in, site_at, is_word}
 use Rattle.tree.specs.HeldRows.{use_below}
-use Rattle.printer.proofs.SiteLemmas.{row_plain, site_shape, site_word, seats, uses, whole_agrees, row_told}
-use Rattle.printer.specs.Bits.{bits_of, chain_of, fused, before_bits, after_bits}
+use Rattle.printer.proofs.SiteLemmas.{row_plain, site_shape, site_word, parts_stand, whole_agrees, row_told}
+use Rattle.printer.specs.Bits.{marks_of, bits_of, chain_of, fused, before_bits, after_bits}
 use Rattle.printer.proofs.FusedTokens.{map_length, map_at, written_bits}
 use Rattle.printer.specs.Printed.{marks_in, front_marks, chain_marks, shape_marks, signed_marks}
-use Rattle.printer.proofs.Items.{missing_part, gone_nothing, gone_then, stepped, stepped_chain, fronts_done, chain_done, fronts-next, chain-next, turn, trail, framed, part_turn, part_missing}
+use Rattle.printer.proofs.Items.{missing_part, gone_nothing, gone_then, stepped, stepped_chain, fronts_done, chain_done, fronts-next, chain-next, turn, trail, framed, site_there, part_turn, part_missing}
 use Rattle.language.specs.Layout.{first_way}
 use Rattle.printer.specs.Sheets.{Writes, seen}
 use Rattle.printer.proofs.Nodes.{NextRow, printed_rowless, printed_row, printed_inside, printed_signed}
@@ -30,7 +30,7 @@ print_parts-returns-in-Some-clause-laid g t c = λ W r p st held so e z k.
     let q = spelled_parts W (parts_of n) (ways (role_of p) n) r k in
     let m = marks_signed W p n sign c.in-Some.ensures q.0 q.1 in
     direct_by W (signed_marks (text_of n) sign) m refl q.1
-    (c.print_sign_operator.ensures.laid W st held (first_roles (ways (role_of p) n)) r z q.2 (seats p n c.part_sites_of.result c.part_sites_of.ensures q.0, uses W p n r st so k) (sign_text n sign c.in-Some.ensures) (one_part (first_way (ways (role_of p) n)) (parts_of n) (text_of n) sign q.1 m))
+    (c.print_sign_operator.ensures.laid W st held (first_roles (ways (role_of p) n)) r z q.2 (parts_stand W p n r st (signed_marks (text_of n) sign) so k q.1 m) (sign_text n sign c.in-Some.ensures) (one_part (first_way (ways (role_of p) n)) (parts_of n) (text_of n) sign q.1 m))
 
 pub print_parts-returns-in-None-clause-laid : goal.print_parts-returns-in-None-clause-laid
 print_parts-returns-in-None-clause-laid g t c = λ W r p st held so e z k.
@@ -38,10 +38,12 @@ print_parts-returns-in-None-clause-laid g t c = λ W r p st held so e z k.
     let s = shape_on c.args.site (kind_of n) (text_of n) (flags_of n) (parts_of n) in
     let f = c.frame_of.ensures in
     let q = spelled_parts W (parts_of n) (ways (role_of p) n) r k in
-    direct_by W (shape_marks (text_of n) (record { front = s.front; opener = s.opener; chain = chain_of c.frame_of.result.now.series; closer = s.closer }) (parts_of n))
-    (marks_framed W p n r c.in-None.ensures q.0 q.1 ∙ ap (λ x. shape_marks (text_of n) x (parts_of n)) (site_shape p (kind_of n) (text_of n) (flags_of n) (parts_of n) ∙ ap (λ x. shape_on x (kind_of n) (text_of n) (flags_of n) (parts_of n)) e)
-    ∙ ap (λ x. shape_marks (text_of n) (record { front = s.front; opener = s.opener; chain = x; closer = s.closer }) (parts_of n)) (sym (ap (λ x. x.chain) f))) refl q.1
-    (c.print_framed.ensures.laid W st held s.front s.opener s.closer (ap (λ x. x.front) f) (ap (λ x. x.opener) f) (ap (λ x. x.closer) f) (first_roles (ways (role_of p) n)) r z q.2 (seats p n c.part_sites_of.result c.part_sites_of.ensures q.0, uses W p n r st so k))
+    let M = shape_marks (text_of n) (record { front = s.front; opener = s.opener; chain = chain_of c.frame_of.result.now.series; closer = s.closer; sites = c.frame_of.result.now.sites }) (parts_of n) in
+    let m : marks_of (first_way (ways (role_of p) n)) ≡ M =
+    marks_framed W p n r c.in-None.ensures q.0 q.1 ∙ ap (λ x. shape_marks (text_of n) x (parts_of n)) (site_shape p (kind_of n) (text_of n) (flags_of n) (parts_of n) ∙ ap (λ x. shape_on x (kind_of n) (text_of n) (flags_of n) (parts_of n)) e)
+    ∙ sym (ap (λ x. shape_marks (text_of n) (record { front = s.front; opener = s.opener; chain = x.chain; closer = s.closer; sites = x.sites }) (parts_of n)) f) in
+    direct_by W M m refl q.1
+    (c.print_framed.ensures.laid W st held s.front s.opener s.closer (ap (λ x. x.front) f) (ap (λ x. x.opener) f) (ap (λ x. x.closer) f) (first_roles (ways (role_of p) n)) r z q.2 (parts_stand W p n r st M so k q.1 m))
 
 pub print_direct-returns-then-is_word-clause-laid : goal.print_direct-returns-then-is_word-clause-laid
 print_direct-returns-then-is_word-clause-laid g t c = λ W r p st held so e z k.
@@ -60,8 +62,7 @@ print_framed-returns-clause-laid g t c = λ W st held fs os cs ef eo ec xs r h k
     let n = node_tree c.args.node in
     let front = c.args.frame.now.front.now in
     let same : length fs ≡ length front = sym (map_length (λ p. bits_of p.now) fused front fs ef) in
-    framed W st n (text_of n) (text_of n) refl fs os cs (chain_of c.args.frame.now.series) (parts_of n) xs c.args.walk.now.course c.print_front.new.walk.course c.print_list.new.walk.course
-    (length front) c.inner_depth-inside.result (sym same) c.inner_depth-inside.ensures.inner h k so
+    framed W st n (text_of n) (text_of n) refl c.args.frame.now.sites fs os cs (chain_of c.args.frame.now.series) (parts_of n) xs (length front) c.inner_depth-inside.result (sym same) c.inner_depth-inside.ensures.inner h k so
     (λ ms ys q a b s. c.print_front.ensures.laid W st held fs ef ms ys q a b s) (written_bits _ _ _ c.args.frame.now.opener.now os eo c.push_all.ensures)
     (λ ms ys q a b s. c.print_list.ensures.laid W st held ms ys q a b s) (written_bits _ _ _ c.args.frame.now.closer.now cs ec c.push_all-2.ensures)
 
@@ -69,13 +70,14 @@ pub print_front-loop-index-preserved : goal.print_front-loop-index-preserved
 print_front-loop-index-preserved g t c = record {
   laid = λ W st held fs e ms xs r h k so.
       let n = node_tree c.args.node in
-      let front = c.args.front.now in
+      let front = c.args.frame.now.front.now in
+      let p = c.args.frame.now.sites in
       let i = c.loop-index.index in
       let same : length fs ≡ length front = sym (map_length (λ p. bits_of p.now) fused front fs e) in
       let bound = c.loop-index-test.true in
-      let ns = front_marks (text_of n) (drop (i + 1) fs) ms in
+      let ns = front_marks (text_of n) p (i + 1) (drop (i + 1) fs) (parts_after (i + 1) (parts_of n)) ms in
       stepped W st n (parts_of n) i
-      (turn W st n (get_or fs i []) (text_of n) refl (fronts-next (text_of n) fs i ms (omega (arith, same, bound))) (c.loop-index.invariant.laid W st held fs e ms xs r h k so)
+      (turn W st n (get_or fs i []) (text_of n) refl (fronts-next (text_of n) p fs (parts_of n) i ms (omega (arith, same, bound))) (c.loop-index.invariant.laid W st held fs e ms xs r h k so)
       (written_bits _ _ _ _ (get_or fs i []) (map_at (λ p. bits_of p.now) fused front fs i _ [] e bound) c.push_all.ensures) (λ ys q u v s. c.print_part.ensures.laid W st held ns ys q u v s));
   adds = adds_then c.loop-index.invariant.adds (adds_then (writes_adds c.push_all.ensures) c.print_part.ensures.adds);
 }
@@ -83,19 +85,20 @@ print_front-loop-index-preserved g t c = record {
 pub print_front-returns-clause-laid : goal.print_front-returns-clause-laid
 print_front-returns-clause-laid g t c = λ W st held fs e ms xs r h k so.
     let n = node_tree c.args.node in
-    let front = c.args.front.now in
+    let front = c.args.frame.now.front.now in
     let i = c.loop-index.index in
     let same : length fs ≡ length front = sym (map_length (λ p. bits_of p.now) fused front fs e) in
     let past : i ≡ length front = omega (arith, c.loop-index.auto.index-end, c.loop-index-test.false) in
-    fronts_done W st n (text_of n) fs (parts_of n) i (length front) ms (past ∙ sym same) past (c.loop-index.invariant.laid W st held fs e ms xs r h k so)
+    fronts_done W st n (text_of n) c.args.frame.now.sites fs (parts_of n) i (length front) ms (past ∙ sym same) past (c.loop-index.invariant.laid W st held fs e ms xs r h k so)
 
 pub print_item-returns-clause-laid : goal.print_item-returns-clause-laid
 print_item-returns-clause-laid g t c = λ W st held ms xs r h k so.
     let P = parts_of (node_tree c.args.node) in
     let w = text_of (node_tree c.args.node) in
-    let s = chain_of c.args.series in
+    let s = chain_of c.args.frame.now.series in
     let i = c.args.index in
-    let rest = chain_marks w s (parts_after (suc i) P) ++ ms in
+    let p = c.args.frame.now.sites in
+    let rest = chain_marks w p s (suc i) (parts_after (suc i) P) ++ ms in
     let o = option_map node_tree c.part.result in
     let bits = before_bits s (nat_eq ((part_count P - i) - 1) 0) in
     let here_before : bits_of c.before-2.result.now ≡ fused bits = c.before-2.ensures ∙ ap (λ m. fused (before_bits s (nat_eq ((m - i) - 1) 0))) c.part_count.ensures in
@@ -104,8 +107,8 @@ print_item-returns-clause-laid g t c = λ W st held ms xs r h k so.
     c.after.ensures ∙ (λ j. fused (after_bits s (missing_part node_tree c.part.result c.is_none-is_gap.result c.is_none-is_gap.ensures j) (nat_eq ((c.part_count.ensures j - i) - 1) 0) (nat_eq ((c.part_count.ensures j - i) - 1) 1))) in
     trail W st (node_tree c.args.node) behind w refl refl
     (turn W st (node_tree c.args.node) bits w refl
-    (chain-next w s P i o ms c.part.ensures c.requires.index)
-    (gone_nothing W st (node_tree c.args.node) xs c.args.walk.now.course r h k so) (written_bits _ _ _ c.before-2.result.now bits here_before c.push_all.ensures) (λ ys q u z s. c.print_part.ensures.laid W st held (marks_in w behind ++ rest) ys q u z s))
+    (chain-next w p s P i o ms c.part.ensures c.requires.index)
+    (gone_nothing W st (node_tree c.args.node) xs r h k so) (written_bits _ _ _ c.before-2.result.now bits here_before c.push_all.ensures) (λ ys q u z s. c.print_part.ensures.laid W st held (marks_in w behind ++ rest) ys q u z s))
     (written_bits _ _ _ c.after.result.now behind here_after c.push_all-2.ensures)
 
 pub print_list-loop-index-preserved : goal.print_list-loop-index-preserved
@@ -113,8 +116,8 @@ print_list-loop-index-preserved g t c = record {
   laid = λ W st held ms xs r h k so.
       let P = parts_of (node_tree c.args.node) in
       let w = text_of (node_tree c.args.node) in
-      let s = chain_of c.args.series in
-      stepped_chain W st (node_tree c.args.node) w s P c.loop-index.index ms (gone_then W st (node_tree c.args.node) (c.loop-index.invariant.laid W st held ms xs r h k so) (λ ys q a b u. c.print_item.ensures.laid W st held ms ys q a b u));
+      let s = chain_of c.args.frame.now.series in
+      stepped_chain W st (node_tree c.args.node) w c.args.frame.now.sites s P c.loop-index.index ms (gone_then W st (node_tree c.args.node) (c.loop-index.invariant.laid W st held ms xs r h k so) (λ ys q a b u. c.print_item.ensures.laid W st held ms ys q a b u));
   adds = adds_then c.loop-index.invariant.adds c.print_item.ensures.adds;
 }
 
@@ -122,20 +125,23 @@ pub print_list-returns-clause-laid : goal.print_list-returns-clause-laid
 print_list-returns-clause-laid g t c = λ W st held ms xs r h k so.
     let P = parts_of (node_tree c.args.node) in
     let w = text_of (node_tree c.args.node) in
-    let s = chain_of c.args.series in
+    let s = chain_of c.args.frame.now.series in
     let past : part_count P ≤ c.loop-index.index = omega (arith, c.part_count-count.ensures, c.loop-index-test.false) in
-    chain_done W st (node_tree c.args.node) w s P c.loop-index.index ms past (c.loop-index.invariant.laid W st held ms xs r h k so)
+    chain_done W st (node_tree c.args.node) w c.args.frame.now.sites s P c.loop-index.index ms past (c.loop-index.invariant.laid W st held ms xs r h k so)
 
 pub print_part-returns-in_default-clause-laid : goal.print_part-returns-in_default-clause-laid
-print_part-returns-in_default-clause-laid g t c = λ W st held ms xs r h k so. part_missing W st (node_tree c.args.node) (parts_of (node_tree c.args.node)) c.args.index r xs c.args.walk.now.course c.in_default.ensures.tree h k so
+print_part-returns-in_default-clause-laid g t c = λ W st held ms xs r h k so.
+    let P = parts_of (node_tree c.args.node) in
+    part_missing W st (node_tree c.args.node) P c.args.index r xs (site_at c.args.sites c.args.index (parts_after c.args.index P)) c.in_default.ensures.tree h k so
 
 pub print_part-returns-clause-laid : goal.print_part-returns-clause-laid
 print_part-returns-clause-laid g t c = λ W st held ms xs r h k so.
     let P = parts_of (node_tree c.args.node) in
     let n = node_tree c.args.node in
-    part_turn W st n P c.args.index r (node_tree c.in-Some.part) xs c.args.walk.now.course c.after_next-walk.result c.site_at-site.result _ refl c.in-Some.ensures.tree h (ap not (sym c.is_wrapped.ensures)) k so
-    (c.site_at-site.ensures ∙ ap₂ (seated_at c.args.walk.now.course.next) c.kind.ensures c.is_last.ensures) c.after_next-walk.ensures
-    (λ p a e f. c.print_node.ensures.laid W r p (use_below st n c.args.index (node_tree c.in-Some.part)) (c.in-Some.ensures.rows st held) a e h f)
+    let m = node_tree c.in-Some.part in
+    part_turn W st n P c.args.index r m xs c.site_of_part-site.result (site_at c.args.sites c.args.index (parts_after c.args.index P)) _ refl c.in-Some.ensures.tree h (ap not (sym c.is_wrapped.ensures)) k so
+    (c.site_of_part-site.ensures ∙ ap₂ (site_in c.args.sites c.args.index) c.kind.ensures c.is_last.ensures ∙ site_there W st n c.args.sites P c.args.index m c.in-Some.ensures.tree)
+    (λ p a e f. c.print_node.ensures.laid W r p (use_below st n c.args.index m) (c.in-Some.ensures.rows st held) a e h f)
 
 pub print_node-returns-then-is_some-clause-laid : goal.print_node-returns-then-is_some-clause-laid
 print_node-returns-then-is_some-clause-laid g t c = λ W r p st held so e h k.
@@ -162,7 +168,7 @@ print_row-returns-clause-laid g t c = λ W r p st held so e h k.
 pub print_sign_operator-returns-clause-laid : goal.print_sign_operator-returns-clause-laid
 print_sign_operator-returns-clause-laid g t c = λ W st held xs r h k so u v.
     let n = node_tree c.args.node in
-    printed_signed W st n (text_of n) c.args.sign (parts_of n) c.print_part.new.walk.course r u v
+    printed_signed W st n (text_of n) c.args.sign (parts_of n) r u v
     (subst (λ w. Writes (seen (g.O.TextSink.stands c.args.out.now c.args.sheet.now.room) c.args.sheet.now) (seen (g.O.TextSink.stands c.push.new.out c.push.new.self.room) c.push.new.self) w) c.text.ensures c.push.ensures.written)
     (λ z. c.push.ensures.parted (λ y. z (sym c.text.ensures ∙ y)))
     (ap (λ r. g.O.TextSink.stands c.push.new.out r) c.keep_apart.ensures.room) c.keep_apart.ensures.apart c.keep_apart.ensures.wraps h

@@ -1,33 +1,37 @@
-use Rattle.std.proofs.Common.{true, ◌≡◌, ℕ, ◌+◌, ◌*◌, ◌++◌, Bool, List, drop, map}
+use Rattle.std.proofs.Common.{true, ◌≡◌, ℕ, ◌+◌, ◌*◌, ◌++◌, Bool, List, drop, map, length}
 use Rattle.tree.specs.Tree.{parts_of, text_of, node_total}
 use Rattle.tree.specs.Node.{node_tree}
 use Rattle.spelling_table.specs.Outlines.{parts_after}
 use Rattle.language.specs.Pieces.{Role}
 use Rattle.tree.specs.HeldRows.{HoldsRows}
 use Rattle.tree.specs.declared.node_use.NodeUse.{NodeUse}
-use Rattle.printer.specs.Sites.{Stands}
 use Rattle.printer.specs.Bits.{Mark, Bit, bits_of, chain_of, fused}
 use Rattle.language.specs.LayoutFits.{parts_fit}
 use Rattle.printer.specs.Standings.{Adds}
 use Rattle.printer.specs.Sheets.{seen}
-use Rattle.printer.specs.Printed.{Reads, Gone, front_marks, chain_marks}
+use Rattle.printer.specs.Printed.{Reads, Stands, Gone, front_marks, chain_marks}
 use Rattle.printer.proofs.printer.+print.Given as goal
 
 -- what was passed of the first parts, and what is left of them
 abbrev pub invariant-print_front-loop-index : goal.invariant-print_front-loop-index
 invariant-print_front-loop-index g l = record {
-  laid : (W : ℕ → Bool) → (st : NodeUse) → HoldsRows st l.fn.node → (fs : List (List Bit)) → map (λ p. bits_of p.now) l.fn.front ≡ map fused fs → (ms : List Mark) → (xs : List Role) → (r : ℕ) → Reads W r l.fn.sheet.wraps.now → parts_fit W (parts_of (node_tree l.fn.node)) xs r ≡ true → Stands st (node_tree l.fn.node) l.fn.walk.course (parts_of (node_tree l.fn.node)) xs →
-      Gone W st (node_tree l.fn.node) (seen (g.O.TextSink.stands l.fn.out l.fn.sheet.room) l.fn.sheet) (seen (g.O.TextSink.stands l.out l.sheet.room) l.sheet) (front_marks (text_of (node_tree l.fn.node)) fs ms) (front_marks (text_of (node_tree l.fn.node)) (drop l.index fs) ms)
-      (parts_of (node_tree l.fn.node)) (parts_after l.index (parts_of (node_tree l.fn.node))) xs l.walk.course l.fn.walk.previous_is_bare l.walk.previous_is_bare l.fn.depth r;
+  laid : (W : ℕ → Bool) → (st : NodeUse) → HoldsRows st l.fn.node → (fs : List (List Bit)) → map (λ p. bits_of p.now) l.fn.frame.front.now ≡ map fused fs → (ms : List Mark) → (xs : List Role) → (r : ℕ) → Reads W r l.fn.sheet.wraps.now → parts_fit W (parts_of (node_tree l.fn.node)) xs r ≡ true →
+      Stands st (node_tree l.fn.node) (front_marks (text_of (node_tree l.fn.node)) l.fn.frame.sites 0 fs (parts_of (node_tree l.fn.node)) ms) (parts_of (node_tree l.fn.node)) xs →
+      Gone W st (node_tree l.fn.node) (seen (g.O.TextSink.stands l.fn.out l.fn.sheet.room) l.fn.sheet) (seen (g.O.TextSink.stands l.out l.sheet.room) l.sheet) (front_marks (text_of (node_tree l.fn.node)) l.fn.frame.sites 0 fs (parts_of (node_tree l.fn.node)) ms)
+      (front_marks (text_of (node_tree l.fn.node)) l.fn.frame.sites l.index (drop l.index fs) (parts_after l.index (parts_of (node_tree l.fn.node))) ms)
+      (parts_of (node_tree l.fn.node)) (parts_after l.index (parts_of (node_tree l.fn.node))) xs l.fn.previous_is_bare l.previous_is_bare l.fn.depth r;
   adds : Adds (g.O.TextSink.stands l.fn.out l.fn.sheet.room) (g.O.TextSink.stands l.out l.sheet.room);
 }
 
 -- the same of the others
 abbrev pub invariant-print_list-loop-index : goal.invariant-print_list-loop-index
 invariant-print_list-loop-index g l = record {
-  laid : (W : ℕ → Bool) → (st : NodeUse) → HoldsRows st l.fn.node → (ms : List Mark) → (xs : List Role) → (r : ℕ) → Reads W r l.fn.sheet.wraps.now → parts_fit W (parts_after l.fn.from (parts_of (node_tree l.fn.node))) xs r ≡ true → Stands st (node_tree l.fn.node) l.fn.walk.course (parts_after l.fn.from (parts_of (node_tree l.fn.node))) xs →
-      Gone W st (node_tree l.fn.node) (seen (g.O.TextSink.stands l.fn.out l.fn.sheet.room) l.fn.sheet) (seen (g.O.TextSink.stands l.out l.sheet.room) l.sheet) (chain_marks (text_of (node_tree l.fn.node)) (chain_of l.fn.series) (parts_after l.fn.from (parts_of (node_tree l.fn.node))) ++ ms) (chain_marks (text_of (node_tree l.fn.node)) (chain_of l.fn.series) (parts_after l.index (parts_of (node_tree l.fn.node))) ++ ms)
-      (parts_after l.fn.from (parts_of (node_tree l.fn.node))) (parts_after l.index (parts_of (node_tree l.fn.node))) xs l.walk.course l.fn.walk.previous_is_bare l.walk.previous_is_bare l.fn.depth r;
+  laid : (W : ℕ → Bool) → (st : NodeUse) → HoldsRows st l.fn.node → (ms : List Mark) → (xs : List Role) → (r : ℕ) → Reads W r l.fn.sheet.wraps.now → parts_fit W (parts_after (length l.fn.frame.front.now) (parts_of (node_tree l.fn.node))) xs r ≡ true →
+      Stands st (node_tree l.fn.node) (chain_marks (text_of (node_tree l.fn.node)) l.fn.frame.sites (chain_of l.fn.frame.series) (length l.fn.frame.front.now) (parts_after (length l.fn.frame.front.now) (parts_of (node_tree l.fn.node))) ++ ms) (parts_after (length l.fn.frame.front.now) (parts_of (node_tree l.fn.node))) xs →
+      Gone W st (node_tree l.fn.node) (seen (g.O.TextSink.stands l.fn.out l.fn.sheet.room) l.fn.sheet) (seen (g.O.TextSink.stands l.out l.sheet.room) l.sheet)
+      (chain_marks (text_of (node_tree l.fn.node)) l.fn.frame.sites (chain_of l.fn.frame.series) (length l.fn.frame.front.now) (parts_after (length l.fn.frame.front.now) (parts_of (node_tree l.fn.node))) ++ ms)
+      (chain_marks (text_of (node_tree l.fn.node)) l.fn.frame.sites (chain_of l.fn.frame.series) l.index (parts_after l.index (parts_of (node_tree l.fn.node))) ++ ms)
+      (parts_after (length l.fn.frame.front.now) (parts_of (node_tree l.fn.node))) (parts_after l.index (parts_of (node_tree l.fn.node))) xs l.fn.previous_is_bare l.previous_is_bare l.fn.depth r;
   adds : Adds (g.O.TextSink.stands l.fn.out l.fn.sheet.room) (g.O.TextSink.stands l.out l.sheet.room);
 }
 
