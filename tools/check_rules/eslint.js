@@ -11,9 +11,8 @@ const fs = require('node:fs');
 const { Linter } = require('/usr/share/nodejs/eslint');
 const { spawnSync } = require('node:child_process');
 const { program } = require('../dump.js');
+const { RULE_NAMES: RULES } = require('../reference/rules.js');
 const { files } = require('../scripts/compare.js');
-
-const RULES = ['eqeqeq', 'no-debugger', 'no-empty', 'no-extra-parens', 'no-shadow', 'no-undef', 'no-unused-vars', 'no-var', 'prefer-const'];
 
 function byEslint(text) {
   const config = {

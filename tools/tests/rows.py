@@ -17,9 +17,10 @@ import tempfile
 
 # Which program answers, what gives a command's answer, and the folder for the files of this process.
 PROGRAM, ANSWERS, ROOM = None, None, None
-ONLY_PARENS = b'[rules]\n' + b''.join(
-    b'%s = false\n' % it for it in b'eqeqeq no-debugger no-empty no-shadow no-undef no-unused-vars no-var prefer-const'.split()
-)
+# Each rule has a page of its name.
+PAGES = os.path.join(os.path.dirname(os.path.abspath(__file__)), '../../docs/rules')
+RULES = sorted(it[:-3] for it in os.listdir(PAGES) if it != 'README.md')
+ONLY_PARENS = b'[rules]\n' + b''.join(b'%s = false\n' % it.encode() for it in RULES if it != 'no-extra-parens')
 
 
 class Answer:

@@ -11,7 +11,7 @@ const { treeJson } = require('../reference/json.js');
 const { LIMITS, parse, parseOnly } = require('../reference/parse.js');
 const { extraPairs, plan, writeTable } = require('../reference/plan.js');
 const { layout } = require('../reference/print.js');
-const { fromToml, runRules } = require('../reference/rules.js');
+const { RULE_NAMES, fromToml, runRules } = require('../reference/rules.js');
 const { resolve } = require('../reference/scopes.js');
 const { unwrapped } = require('../reference/unwrap.js');
 const { linesColumns } = require('../scripts/compare.js');
@@ -238,7 +238,7 @@ function rulesRow(text) {
 const REFUSED = ['debugger;', 'a;', 'debugger; { debugger }', 'if (a) debugger; else { b; debugger\n}'];
 function refusedRow(text) {
   const { tree, pairs } = parse(text, LIMITS);
-  const settings = fromToml(Buffer.from('[rules]\n' + ['eqeqeq', 'no-empty', 'no-extra-parens', 'no-shadow', 'no-undef', 'no-unused-vars', 'no-var', 'prefer-const'].map((it) => `${it} = false\n`).join('')));
+  const settings = fromToml(Buffer.from('[rules]\n' + RULE_NAMES.filter((it) => it !== 'no-debugger').map((it) => `${it} = false\n`).join('')));
   const reports = runRules({ tree, scopes: resolve(tree), extra: extraPairs(pairs, plan(tree).wrapped), settings });
   return row('refused rule', text, '', `(true, true)${reports.map((it) => ` ${it.start}-${it.end} ${it.rule}`).join('')}`);
 }
