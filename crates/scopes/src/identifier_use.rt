@@ -74,6 +74,8 @@ pub(crate) enum PartRoles {
     Function,
 }
 
+/// What each part of a node of this role is to it.
+#[inline(always)]
 pub(crate) fn part_roles(role: IdentifierUse, node: Node) -> PartRoles
     ensures { result ≡ part_roles role (kind_of (node_tree node.entry)) (text_of (node_tree node.entry)) (flags_of (node_tree node.entry)) }
 {

@@ -77,6 +77,7 @@ fn refers(node: Node, around: Context) -> bool
 }
 
 /// Pushes the reference that a node is, if it is one.
+#[inline(always)]
 fn refer<'t>(
     node: Node<'t, '_>,
     around: Context,
@@ -170,9 +171,10 @@ fn open<'t>(
     })
 }
 
-/// Finds what is in a node and below it.
+/// Finds what is in a node and below it. It is put into the loop over parts, so that a node without parts costs no call.
 #[cycle(walk)]
 #[tactic(auto, using(tree::proofs::PartWalk::part_steps))]
+#[inline(always)]
 pub(crate) fn walk_node<'t>(
     node: Node<'t, '_>,
     around: Context,
