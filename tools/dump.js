@@ -5,6 +5,7 @@ const fs = require('node:fs');
 const os = require('node:os');
 const path = require('node:path');
 const { execFileSync, spawnSync } = require('node:child_process');
+const { ADDED, ASSIGNMENTS } = require('./reference/operators.js');
 const CRATES = path.join(__dirname, '..', 'crates');
 
 // The word behind --name on the command line.
@@ -19,7 +20,7 @@ const pieces = (text) => text.match(/\s+|[$\w]+|'[^']*'|"[^"]*"|=>|\*\*|\+\+|--|
 // Numbers with separators, right ones and wrong ones.
 const NUMBERS = ['1_0', '1_000.5_0', '0x1_F', '0b1_0', '0o7_7', '.1_2e1_0', '1_0n'];
 const NO_NUMBERS = ['1__0', '1_', '0_1', '1_.5', '1_e1', '0x_1'];
-const LOGICAL = ['&&=', '||=', '??='];
+const LOGICAL = ADDED.filter((text) => ASSIGNMENTS.includes(text));
 const BEFORE_OPERAND = /^([=+*/%<>!~?&|(]|\*\*|&&|\|\||\?\?|=>|return|typeof|throw|\.\.\.)$/;
 const BEHIND_OPERAND = /^([;)\]},+*/%<>?&|]|\*\*|&&|\|\||\?\?|)$/;
 

@@ -28,7 +28,7 @@ const NAMES = {
   // early errors
   errors: ['errors', 'Early', 'early_errors'], least_error: ['least_error', 'Early', 'early_errors'],
   // tokens as texts, and their values
-  token_at: ['is_token', 'Lexical', 'tokens'], allows: ['allows', 'Goals', 'tokens'], begins_comment: ['begins_comment', 'Comments', 'tokens'], is_comment: ['is_comment', 'Comments', 'tokens'],
+  token_at: ['is_token', 'Lexical', 'tokens'], punctuators: ['punctuators', 'Lexical', 'tokens'], allows: ['allows', 'Goals', 'tokens'], begins_comment: ['begins_comment', 'Comments', 'tokens'], is_comment: ['is_comment', 'Comments', 'tokens'],
   is_white_space: ['is_white_space', 'Spaces', 'source_text'], is_line_terminator: ['is_line_terminator', 'Lines', 'source_text'], size: ['size', 'Tokens', 'tokens'], line_column: ['line_column', 'Lines', 'source_text'],
   string_units: ['string_units', 'Strings', 'tokens'], raw_value: ['raw_value', 'Templates', 'tokens'], cooked_value: ['cooked_value', 'Templates', 'tokens'],
   literal_units: ['literal_units', 'Strings', 'language'], cooks: ['cooks', 'Cooked', 'early_errors'],

@@ -19,7 +19,7 @@ const n = value('--n', '12');
 const FAULTS = [
   ['left side of ?? takes ||', 'not (nat_eq y 4 && (nat_eq z 5 || nat_eq z 6))', 'true'],
   ['new without arguments takes a call', '&& not (nat_eq y 19 && nat_eq z 20)', ''],
-  ['&&= assigns nothing', '∷ "&&=" ∷ "||=" ∷ "??=" ∷ [], op_assign)', '∷ "||=" ∷ "??=" ∷ [], op_assign)'],
+  ['&&= assigns nothing', 'operator_of text = operator_among text operators', 'operator_of text = cond (is text "&&=") op_none (operator_among text operators)'],
   ['a pattern on the left of a logical assignment', 'cond (is text "=" && is_pattern (lead_kind parts))', 'cond ((is text "=" || is text "||=") && is_pattern (lead_kind parts))'],
   ['** takes a unary left', 'sub (lead Update) ∷ infix_pieces w', 'sub (lead Unary) ∷ infix_pieces w'],
   ['** is left associative', 'put (expr Exponentiation true Any) ∷ []) ∷ []', 'put (expr Update true Any) ∷ []) ∷ []'],
@@ -128,7 +128,7 @@ const FAULTS = [
   ['separator before n', 'next_numeral (digits_separator base) c = if is_digit_of base c then digits base else', 'next_numeral (digits_separator base) c = if is_digit_of base c then digits base else if one_of "n" c then suffix else'],
   ['no separator in a fraction', 'if one_of "_" c then fraction_separator else after_fraction c', 'after_fraction c'],
   ['no separator in an exponent', 'then exponent else if one_of "_" c then exponent_separator else no_numeral', 'then exponent else no_numeral'],
-  ['punctuator ??= missing', '∷ "??=" ∷ "=>"', '∷ "=>"'],
+  ['punctuator ??= missing', '∷ "??=" ∷', '∷'],
   ['white space U+205F missing', '0x205F ∷ ', ''],
   ['white space U+200B too much', 'nat_le c 0x200A', 'nat_le c 0x200B'],
   ['line terminator U+2029 missing', ' || (c == 0x2029)', ''],

@@ -5,6 +5,7 @@
 const path = require('path');
 const antt = require('./antt.js');
 const { REFERENCE } = require('./model.js');
+const { PUNCTUATORS } = require(path.join(REFERENCE, 'operators.js'));
 const { GOAL, makeSource, scan, stringValue, templateValue, lineColumn } = require(path.join(REFERENCE, 'scan.js'));
 
 const points = (text) => [...text].map((c) => c.codePointAt(0));
@@ -110,13 +111,13 @@ function randomText(random) {
   const closing = from === QUOTED ? random.pick([opening, opening, '']) : from === TEMPLATES ? random.pick(['`', '${', '']) : from === REGEXPS ? random.pick(['/', '/g', ']/', '']) : '';
   return opening + body + closing;
 }
-// Every character up to a bound, characters beside each other, punctuators, numbers, and pairs of pieces inside regular expressions,
+// Every character up to a bound, characters beside each other, punctuators (the model's and the definitions'), numbers, and pairs of pieces inside regular expressions,
 // strings, templates and comments.
-function allTexts() {
+function allTexts(m) {
   const out = [];
   for (let c = 0; c < 0x3100; c++) out.push(`a${String.fromCodePoint(c)}1`);
   for (const a of CHARACTERS) for (const b of CHARACTERS) out.push(a + b);
-  for (const p of '{ ( ) [ ] . ... ; , < > <= >= == != === !== + - * % ** ++ -- << >> >>> & | ^ ! ~ && || ?? ? ?. : = += -= *= %= **= <<= >>= >>>= &= |= ^= &&= ||= ??= => / /= }'.split(' ')) {
+  for (const p of new Set([...PUNCTUATORS, ...antt.toArray(m.punctuators)])) {
     for (const b of ['', '=', '.', '1', 'a', '>', '?', '/', '*', '&', '|', '+', '-', '<', '!', '..', '.1', '>=', "'", '`', '}']) out.push(p + b);
   }
   for (const a of ['0', '1', '9', '10', '01', '0.', '0.5', '.5', '5.', '1e', '1e1', '1e+', '1E-1', '0x', '0xF', '0XfFn', '0o7', '0O8', '0b1', '0B2', '0b', '0o', '1n', '0n', '1.n', '1e1n', '1_0', '1__0', '1_', '0_1', '1_0.0_1', '1_.0', '1._0', '.0_1', '._1', '1e1_0', '1e_1', '1_e1', '1e1_', '1_0n', '1_n', '0x1_0', '0x_1', '0x1_', '0x1__0', '0o1_0', '0o_1', '0b1_0', '0b1_', '00', '08', '1.e1', '.e1', '.', '..', '1..', '1...']) {

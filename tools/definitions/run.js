@@ -275,7 +275,7 @@ function work({ o, job }) {
     const { compareReading, compareTemplate, randomText, allTexts, TEMPLATES } = require('./reading.js');
     const info = { count };
     const look = (text) => { count('texts read as tokens'); note(text, compareReading(model, text, info)); };
-    const all = allTexts();
+    const all = allTexts(model);
     mine(o.fast ? all.filter((_, i) => i >= 0x3100 || i < 0x100 || i % 7 === 0 || /[\u1680\u2000-\u2030\u205f\u3000]/.test(all[i])) : all).forEach(look);
     for (let k = 0; k < Math.max(share * 20, 1500); k++) look(randomText(random));
     for (let k = 0; k < Math.max(share * 20, 1500); k++) {

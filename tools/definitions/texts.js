@@ -1,11 +1,11 @@
 'use strict';
 // Texts to compare on, and mutations of texts and trees.
 
-const fs = require('fs');
 const path = require('path');
 const zlib = require('zlib');
 const { randomSource } = require('../reference/random.js');
 const { REFERENCE, FLAGS, FORM, copyTree, nodesOf, noFlags } = require('./model.js');
+const { OPERATORS } = require(path.join(REFERENCE, 'operators.js'));
 
 // ---------------------------------------------------------------- corpora
 
@@ -54,11 +54,7 @@ for (const w of ('break case catch class const continue debugger default delete 
   'true try typeof var void while with yield let static implements interface package private protected public async await of get set eval arguments undefined target constructor').split(' ')) {
   ODD.push(`a = ${w}`, `var ${w}`, `${w}: a`, `({${w}})`, `({${w}: a.${w}})`, `({${w}} = a)`, `function ${w}(${w}) {}`, `class A { ${w}() {} static ${w}() {} }`, `${w} => a`, `for (;;) { break ${w} }`);
 }
-function lists() {                       // ALPHABETS and PIECES of fuzz.js
-  const source = fs.readFileSync(path.join(REFERENCE, 'fuzz.js'), 'utf8');
-  const a = source.indexOf('const words ='); const b = source.indexOf('// ---', a);
-  return new Function(source.slice(a, b) + '\nreturn { ALPHABETS, PIECES, oddWords };')();
-}
+const lists = () => require(path.join(REFERENCE, 'alphabets.js'));
 const programs = () => require(path.join(REFERENCE, 'fuzz-programs.js')).PROGRAMS;
 const pieces = (text) => text.match(/\s+|[$\w]+|'[^'\n]*'|"[^"\n]*"|=>|\*\*|\+\+|--|\?\.|\?\?|\|\||&&|[=!]==?|<<=?|>>>?=?|\.\.\.|\$\{|[^]/gu) ?? [];
 // A mutation of a text in pieces.
@@ -92,7 +88,7 @@ const LIKE = [['ArrayExpression', 'ArrayPattern'], ['ObjectExpression', 'ObjectP
   ['FunctionExpression', 'FunctionDeclaration', 'ArrowFunctionExpression'], ['ClassExpression', 'ClassDeclaration'], ['Identifier', 'Literal', 'ThisExpression', 'Super'],
   ['Property', 'MethodDefinition'], ['ForInStatement', 'ForOfStatement', 'ForStatement'], ['BreakStatement', 'ContinueStatement', 'ReturnStatement', 'ThrowStatement'],
   ['WhileStatement', 'DoWhileStatement'], ['ConditionalExpression', 'IfStatement'], ['BlockStatement', 'ClassBody', 'Program'], ['EmptyStatement', 'DebuggerStatement'], ['SequenceExpression', 'ArrayExpression']];
-const OPERATORS = '+ - * / % ** | ^ & == != === !== < > <= >= in instanceof << >> >>> || && ?? = += **= >>>= ++ -- ! ~ typeof void delete &&= ||= ??= , ?. =>'.split(' ');
+const TEXTS = [...OPERATORS, ',', '?.', '=>'];
 const NAMES = ['a', 'b', 'of', 'get', 'async', 'await', 'let', 'if', 'yield', 'static', 'this', 'null', 'true', 'super', 'constructor', 'eval', 'target', 'new', 'in', 'prototype', 'é', ''];
 const RAWS = ['1', '1.', '.5', '0x1n', '1n', "'s'", '"constructor"', "'\\x63onstructor'", '/r/', '/=/g', 'null', 'true', 'false', 'this', 'a', '`t`', '', 'nul', '01', '1_0', "'use strict'", '}', '// c'];
 const CHUNKS = ['', 'x', '\n', '`', '${', '\\`', '$', '}', '\\u'];
@@ -113,7 +109,7 @@ function mutateTree(root, random) {
     switch (op) {
       case 0: { const like = LIKE.filter((l) => l.includes(n.kind)); n.kind = like.length > 0 && random.chance(70) ? random.pick(random.pick(like)) : random.pick(KINDS); break; }
       case 1: case 2: { const f = random.pick([...FLAGS, 'form']); n.flags[f] = f === 'form' ? random.pick(Object.keys(FORM)) : !n.flags[f]; break; }
-      case 3: case 4: n.text = random.pick(n.kind === 'Identifier' ? NAMES : n.kind === 'Literal' ? RAWS : n.kind === 'TemplateElement' ? CHUNKS : n.kind === 'VariableDeclaration' ? WORDS : random.chance(70) ? OPERATORS : NAMES); break;
+      case 3: case 4: n.text = random.pick(n.kind === 'Identifier' ? NAMES : n.kind === 'Literal' ? RAWS : n.kind === 'TemplateElement' ? CHUNKS : n.kind === 'VariableDeclaration' ? WORDS : random.chance(70) ? TEXTS : NAMES); break;
       case 5: if (n.parts.length > 1) { const i = random.below(n.parts.length); const j = random.below(n.parts.length); [n.parts[i], n.parts[j]] = [n.parts[j], n.parts[i]]; } break;
       case 6: if (n.parts.length > 0) n.parts.splice(random.below(n.parts.length), 1); break;
       case 7: n.parts.splice(random.below(n.parts.length + 1), 0, null); break;

@@ -11,6 +11,7 @@
 
 const { isMainThread } = require('node:worker_threads');
 const { runInBigStack } = require('./bigstack.js');
+const operators = require('./operators.js');
 const { GOAL, RESERVED, makeSource, scan, stringValue, templateValue } = require('./scan.js');
 
 // The limits of the height of a tree, and of the parentheses open at one point that group or hold an arrow's parameters.
@@ -24,20 +25,17 @@ class Refusal extends Error {
   }
 }
 
-// Ranks of the binary levels; a right operand stands one rank tighter.
-const RANK = {
-  '||': 1, '&&': 2, '|': 3, '^': 4, '&': 5,
-  '==': 6, '!=': 6, '===': 6, '!==': 6,
-  '<': 7, '>': 7, '<=': 7, '>=': 7, instanceof: 7, in: 7,
-  '<<': 8, '>>': 8, '>>>': 8, '+': 9, '-': 9, '*': 10, '/': 10, '%': 10,
-};
-const LOGICAL_OR = 1;
-const BITWISE_OR = 3;
+// Ranks of the binary levels, LogicalOR to Multiplicative; a right operand stands one rank tighter.
+const LEVELS = Object.keys(operators.BINARY).filter((symbol) => symbol !== 'ShortCircuit' && symbol !== 'Exponentiation');
+const RANK = Object.fromEntries(LEVELS.flatMap((symbol, rank) => operators.BINARY[symbol].map((text) => [text, rank])));
+const LOGICAL_OR = LEVELS.indexOf('LogicalOR');
+const BITWISE_OR = LEVELS.indexOf('BitwiseOR');
+const LOGICAL_OPERATORS = new Set(operators.LOGICAL);
 const ASSIGNMENT_OPERATORS = {
-  2020: new Set('= += -= *= /= %= **= <<= >>= >>>= &= |= ^='.split(' ')),
-  2021: new Set('= += -= *= /= %= **= <<= >>= >>>= &= |= ^= &&= ||= ??='.split(' ')),
+  2020: new Set(operators.inEdition(2020, operators.ASSIGNMENTS)),
+  2021: new Set(operators.ASSIGNMENTS),
 };
-const UNARY_OPERATORS = new Set('delete void typeof + - ~ !'.split(' '));
+const UNARY_OPERATORS = new Set(operators.UNARY);
 
 class Parser {
   constructor(source, options) {
@@ -247,7 +245,7 @@ class Parser {
       if (rank < lowest || (operator === 'in' && !In)) return left;
       this.take(GOAL.Div);
       const right = this.inside(() => this.parseBinary(In, rank + 1));
-      const type = operator === '||' || operator === '&&' ? 'LogicalExpression' : 'BinaryExpression';
+      const type = LOGICAL_OPERATORS.has(operator) ? 'LogicalExpression' : 'BinaryExpression';
       left = this.node(type, start, { operator, left, right });
     }
   }

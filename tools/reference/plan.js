@@ -13,10 +13,10 @@
 // parts of a node that is spelled directly in a context, or null where it has
 // no direct spelling there.  Planner, wrapped set and checker all use it.
 
-const SYMBOLS = ['Expression', 'Assignment', 'Conditional', 'ShortCircuit', 'LogicalOR',
-  'LogicalAND', 'BitwiseOR', 'BitwiseXOR', 'BitwiseAND', 'Equality', 'Relational', 'Shift',
-  'Additive', 'Multiplicative', 'Exponentiation', 'Unary', 'Update', 'LeftHandSide', 'Call',
-  'Member', 'Primary'];
+const { BINARY, SYMBOL_OF } = require('./operators.js');
+
+const SYMBOLS = ['Expression', 'Assignment', 'Conditional', ...Object.keys(BINARY),
+  'Unary', 'Update', 'LeftHandSide', 'Call', 'Member', 'Primary'];
 const SYMBOL = Object.fromEntries(SYMBOLS.map((name, index) => [name, index]));
 
 const ANY = 0;
@@ -45,16 +45,6 @@ const ROW_TYPES = new Set(['SequenceExpression', 'AssignmentExpression', 'ArrowF
   'ThisExpression', 'ArrayExpression', 'ObjectExpression', 'FunctionExpression',
   'ClassExpression', 'TemplateLiteral']);
 
-const OPERATOR_SYMBOL = {
-  '||': 'LogicalOR', '&&': 'LogicalAND', '|': 'BitwiseOR', '^': 'BitwiseXOR', '&': 'BitwiseAND',
-  '==': 'Equality', '!=': 'Equality', '===': 'Equality', '!==': 'Equality',
-  '<': 'Relational', '>': 'Relational', '<=': 'Relational', '>=': 'Relational',
-  instanceof: 'Relational', in: 'Relational',
-  '<<': 'Shift', '>>': 'Shift', '>>>': 'Shift', '+': 'Additive', '-': 'Additive',
-  '*': 'Multiplicative', '/': 'Multiplicative', '%': 'Multiplicative', '**': 'Exponentiation',
-  '??': 'ShortCircuit',
-};
-
 // The tightest symbol that can spell the node directly.
 function rankOf(node) {
   switch (node.type) {
@@ -63,7 +53,7 @@ function rankOf(node) {
     case 'ArrowFunctionExpression': return SYMBOL.Assignment;
     case 'ConditionalExpression': return SYMBOL.Conditional;
     case 'LogicalExpression':
-    case 'BinaryExpression': return SYMBOL[OPERATOR_SYMBOL[node.operator]];
+    case 'BinaryExpression': return SYMBOL[SYMBOL_OF[node.operator]];
     case 'UnaryExpression': return SYMBOL.Unary;
     case 'UpdateExpression': return SYMBOL.Update;
     case 'ChainExpression': return SYMBOL.LeftHandSide;

@@ -4,6 +4,8 @@
 // A text is handled as a JavaScript string; places inside this file and inside
 // parse.js are string indexes (UTF-16 units). Source turns them into byte offsets.
 
+const operators = require('./operators.js');
+
 const MAX_BYTES = 16777216;
 const GOAL = Object.freeze({ Div: 'Div', RegExp: 'RegExp', TemplateTail: 'TemplateTail' });
 
@@ -13,12 +15,9 @@ const RESERVED = new Set((
   'true try typeof var void while with yield let static implements interface package private ' +
   'protected public').split(' '));
 
-const PUNCTUATORS_2020 =
-  '{ ( ) [ ] . ... ; , < > <= >= == != === !== + - * % ** ++ -- << >> >>> & | ^ ! ~ && || ?? ? ' +
-  '?. : = += -= *= %= **= <<= >>= >>>= &= |= ^= => / /= }';
 const PUNCTUATORS = {
-  2020: new Set(PUNCTUATORS_2020.split(' ')),
-  2021: new Set((PUNCTUATORS_2020 + ' &&= ||= ??=').split(' ')),
+  2020: new Set(operators.inEdition(2020, operators.PUNCTUATORS)),
+  2021: new Set(operators.PUNCTUATORS),
 };
 
 const SPACE = /[\u0009\u000b\u000c\u0020\u00a0\ufeff\u1680\u2000-\u200a\u202f\u205f\u3000]/;
