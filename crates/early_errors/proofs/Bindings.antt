@@ -1,35 +1,29 @@
 -- What an item gives, by its kind.
-use Rattle.std.proofs.Common.{◌≡◌, Bool, true, false, cond, List, [], refl, sym, ap, ◌∙◌}
+use Rattle.std.proofs.Common.{◌≡◌, ℕ, Bool, true, false, cond, List, [], ◌++◌, map, refl, sym, ap, ◌∙◌}
+use Rattle.std.specs.Prelude.{codes}
+use Rattle.std.specs.Str.{bytes_eq}
 use Rattle.tree.specs.declared.kind.Kind.{Kind}
 use Rattle.tree.specs.declared.kind.Kind.TheVariants.{VariableDeclaration, ClassDeclaration, FunctionDeclaration}
-use Rattle.tree.specs.Tree.{Tree, node, kind_of, parts_of, part_at}
-use Rattle.language.specs.Vocabulary.{is}
-use Rattle.early_errors.specs.declared.names.Lexical.{Lexical}
-use Rattle.early_errors.specs.declared.names.Lexical.TheVariants as lexical
-use Rattle.early_errors.specs.Names as names
+use Rattle.tree.specs.Tree.{Tree, Parts, node, kind_of, parts_of, part_at}
+use Rattle.name_tables.specs.declared.declared.Lexical.TheVariants as lexical
+use Rattle.name_tables.specs.BoundNames.{each_part}
+use Rattle.name_tables.specs.DeclaratorParts.{lexical_of}
+use Rattle.name_tables.specs.DeclaratorParts as parts
+use Rattle.name_tables.specs.DeclaredNames as declared
+use Rattle.name_tables.proofs.Retold.{lexically, at-case}
 use Rattle.early_errors.specs.Names.{declared_names, lexical_names, function_names}
-use Rattle.early_errors.specs.Owns.{declares_function}
-use Rattle.early_errors.specs.Walk.{names_at, lexical_of}
+use Rattle.early_errors.specs.Owns.{case_names, declares_function}
+use Rattle.early_errors.specs.Walk.{lexical_as, name_of, names_at}
+use Rattle.early_errors.proofs.FunctionLists.{others-drop}
 use Rattle.early_errors.proofs.RemainingParts.{first_names-at}
 
-abbrev declared_as : Lexical → Tree → List names.Named
-declared_as lexical.Declarators t = declared_names (parts_of t)
-declared_as lexical.FirstPart t = names_at (part_at (parts_of t) 0)
-declared_as lexical.Nothing t = []
+-- an item's lexical names are those that are bound so
+pub lexically_named : (b : Bool) (t : Tree) → map name_of (parts.lexical_as (lexical_as b) t) ≡ lexical_names b t
+lexically_named true t = lexically name_of (lexical_as true) t
+lexically_named false t = lexically name_of (lexical_as false) t
 
-lexical_by_kind : (b : Bool) (t : Tree) → lexical_names b t ≡ declared_as (lexical_of b t) t
-lexical_by_kind b (node VariableDeclaration w g s e ps) = pick (is w "var")
-  where
-    pick : (v : Bool) → cond v [] (declared_names ps) ≡ declared_as (cond v lexical.Nothing lexical.Declarators) (node VariableDeclaration w g s e ps)
-    pick true = refl
-    pick false = refl
-lexical_by_kind b (node ClassDeclaration w g s e ps) = first_names-at ps
-lexical_by_kind true (node FunctionDeclaration w g s e ps) = first_names-at ps
-lexical_by_kind false (node FunctionDeclaration w g s e ps) = refl
-lexical_by_kind b (node _ w g s e ps) = refl
-
-pub lexical_given : (b : Bool) (t : Tree) (l : Lexical) → l ≡ lexical_of b t → lexical_names b t ≡ declared_as l t
-lexical_given b t l e = lexical_by_kind b t ∙ ap (λ x. declared_as x t) (sym e)
+pub case_named : (t : Tree) → map name_of (declared.case_names (parts.lexical_as (lexical_as true)) t) ≡ case_names t
+case_named t = at-case name_of (parts.lexical_as (lexical_as true)) (lexical_names true) (lexically_named true) t ∙ ap (each_part (lexical_names true)) (sym (others-drop (parts_of t)))
 
 pub function_given : (t : Tree) (k : Kind) (b : Bool) → k ≡ kind_of t → b ≡ declares_function k → b ≡ true → names_at (part_at (parts_of t) 0) ≡ function_names t
 function_given t k b e f h = given t (ap declares_function (sym e) ∙ sym f ∙ h)

@@ -9,6 +9,7 @@ use Rattle.early_errors.specs.Names as names
 use Rattle.early_errors.specs.Names.{places, has_name, repeated, twice, shared}
 use Rattle.early_errors.specs.Early.{Error, each, number}
 use Rattle.early_errors.specs.Walk.{Named, sooner, after, named, all_named, hits}
+use Rattle.name_tables.proofs.Sets.{or-turned}
 use Rattle.early_errors.proofs.Least.{sooner-none, sooner-twice, after-append, each-append}
 
 -- one more name
@@ -61,12 +62,7 @@ repeated-more before (y ∷ xs) x =
 
 pub has_name-more : (w : List ℕ) (xs : List names.Named) (x : names.Named) → has_name w (xs ++ x ∷ []) ≡ (bytes_eq w x.0 || has_name w xs)
 has_name-more w [] x = refl
-has_name-more w (y ∷ xs) x = ap (λ b. bytes_eq w y.0 || b) (has_name-more w xs x) ∙ turned (bytes_eq w y.0) (bytes_eq w x.0) (has_name w xs)
-  where
-    turned : (a b c : Bool) → (a || (b || c)) ≡ (b || (a || c))
-    turned true true c = refl
-    turned true false c = refl
-    turned false b c = refl
+has_name-more w (y ∷ xs) x = ap (λ b. bytes_eq w y.0 || b) (has_name-more w xs x) ∙ or-turned (bytes_eq w y.0) (bytes_eq w x.0) (has_name w xs)
 
 pub hits-append : (f : List ℕ → Option Error) (xs ys : List names.Named) → hits f (xs ++ ys) ≡ sooner (hits f xs) (hits f ys)
 hits-append f [] ys = refl

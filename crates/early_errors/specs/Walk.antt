@@ -4,15 +4,13 @@ use Rattle.std.specs.BTreeMap.{get_by}
 use Rattle.std.specs.Cmp.Lexicographic.{slice_cmp}
 use Rattle.std.specs.Ordering.{nat_cmp}
 use Rattle.std.specs.Str.{bytes_eq}
-use Rattle.tree.specs.declared.kind.Kind.TheVariants.{VariableDeclaration, ClassDeclaration, FunctionDeclaration}
-use Rattle.tree.specs.Tree.{Tree, node, parts_of}
-use Rattle.language.specs.Vocabulary.{is}
+use Rattle.tree.specs.Tree.{Tree, parts_of}
 use Rattle.name_tables.specs.declared.bound.BoundName.{BoundName}
 use Rattle.name_tables.specs.PatternParts.{Bound, at_part, bound}
 use Rattle.name_tables.specs.Tables.{undone_by, value_of}
 use Rattle.early_errors.specs.declared.EarlyError.{EarlyError}
-use Rattle.early_errors.specs.declared.names.Lexical.{Lexical}
-use Rattle.early_errors.specs.declared.names.Lexical.TheVariants as lexical
+use Rattle.name_tables.specs.declared.declared.DeclaratorAs.{DeclaratorAs}
+use Rattle.name_tables.specs.declared.declared.LexicalAs.{LexicalAs}
 use Rattle.early_errors.specs.Names.{names_in, first_names}
 use Rattle.early_errors.specs.declared.table.Table.{Table}
 use Rattle.early_errors.specs.declared.conflicts.Saved.{Saved}
@@ -45,11 +43,12 @@ all_named xs = map named xs
 abbrev pub look : {V : Type 0} → Table V → List ℕ → Option V
 look t text = value_of (get_by (λ k. slice_cmp nat_cmp text k.now) t.entries)
 
-abbrev pub lexical_of : Bool → Tree → Lexical
-lexical_of b (node VariableDeclaration text flags from to parts) = cond (is text "var") lexical.Nothing lexical.Declarators
-lexical_of b (node ClassDeclaration text flags from to parts) = lexical.FirstPart
-lexical_of b (node FunctionDeclaration text flags from to parts) = cond b lexical.FirstPart lexical.Nothing
-lexical_of b (node _ text flags from to parts) = lexical.Nothing
+-- names are bound with nothing more, and functions declare theirs lexically where `b` says so
+abbrev pub with_nothing : DeclaratorAs (Unit {0})
+with_nothing = record { initialized = tt; bare = tt }
+
+abbrev pub lexical_as : Bool → LexicalAs (Unit {0})
+lexical_as b = record { by_let = with_nothing; by_const = with_nothing; class = tt; function = cond b (Some tt) None }
 
 -- the names of a part that may be missing
 abbrev pub names_at : Option Tree → List names.Named

@@ -89,7 +89,7 @@ fn body_errors(
         return Ok(found);
     };
     let mut lexical = Vec::new(alloc);
-    push_lexical_parts(false, body, 0, &mut lexical)?;
+    push_lexical_parts(false, body, &mut lexical)?;
     let found = shared(
         alloc,
         lexical.as_slice(),

@@ -6,11 +6,12 @@ ghost use Rattle.tree.specs.Tree.{parts_drop, parts_of};
 ghost use Rattle.name_tables.specs.PatternParts.{at_part};
 ghost use Rattle.name_tables.specs.BoundNames.{each_part};
 ghost use Rattle.early_errors.specs.Names.{declared_names, lexical_names, parameter_names};
-ghost use Rattle.early_errors.specs.Walk.{all_named, lexical_of, names_at};
+ghost use Rattle.early_errors.specs.Owns.{case_names};
+ghost use Rattle.early_errors.specs.Walk.{all_named, lexical_as, names_at};
 
-use name_tables::{BoundName, DeclaratorAs};
+use name_tables::{BoundName, DeclaratorAs, LexicalAs};
 use std::alloc::AllocError;
-use tree::{Kind, Node};
+use tree::Node;
 
 /// A name and the place of its identifier, in bytes.
 pub(crate) type NamePlace<'t> = BoundName<'t, ()>;
@@ -39,54 +40,24 @@ pub(crate) fn push_declared<'t>(
     name_tables::push_declarators(node, how, names)
 }
 
-/// What an item declares as lexical names.
-#[derive(Clone, Copy)]
-pub(crate) enum Lexical {
-    Declarators,
-    FirstPart,
-    Nothing,
-}
-
-pub(crate) fn lexical_of(functions: bool, item: Node) -> Lexical
-    ensures { result ≡ lexical_of functions (node_tree item.entry) }
+/// How names are bound that items declare lexically; functions too where the flag says so (ECMA-262 13.2.5, 13.2.7).
+pub(crate) fn lexical_as(functions: bool) -> LexicalAs<()>
+    ensures { result ≡ lexical_as functions }
 {
-    match item.kind() {
-        Kind::VariableDeclaration => {
-            if item.text() == "var" {
-                Lexical::Nothing
-            } else {
-                Lexical::Declarators
-            }
-        }
-        Kind::ClassDeclaration => Lexical::FirstPart,
-        Kind::FunctionDeclaration => {
-            if functions {
-                Lexical::FirstPart
-            } else {
-                Lexical::Nothing
-            }
-        }
-        _ => Lexical::Nothing,
+    let declarators = DeclaratorAs {
+        initialized: (),
+        bare: (),
+    };
+    LexicalAs {
+        by_let: declarators,
+        by_const: declarators,
+        class: (),
+        function: if functions { Some(()) } else { None },
     }
 }
 
-/// Pushes the names of an item that is a `let`, a `const` or a class, and of a function too where the flag says so
-/// (ECMA-262 13.2.5, 13.2.7).
-pub(crate) fn push_lexical<'t>(
-    functions: bool,
-    item: Node<'t, '_>,
-    names: &mut Vec<NamePlace<'t>>,
-) -> Result<(), AllocError>
-    ensures { OnOk result (all_named names.new.items ≡ all_named names.old.items ++ lexical_names functions (node_tree item.entry)) }
-{
-    match lexical_of(functions, item) {
-        Lexical::Declarators => push_declared(item, names),
-        Lexical::FirstPart => push_part_names(item.part(0), names),
-        Lexical::Nothing => Ok(()),
-    }
-}
-
-/// The same of a part that may be missing.
+/// Pushes the names of an item that is a `let`, a `const` or a class, and of a function too where the flag says so. The item may
+/// be missing.
 pub(crate) fn push_lexical_part<'t>(
     functions: bool,
     item: Option<Node<'t, '_>>,
@@ -94,25 +65,28 @@ pub(crate) fn push_lexical_part<'t>(
 ) -> Result<(), AllocError>
     ensures { OnOk result (all_named names.new.items ≡ all_named names.old.items ++ at_part (lexical_names functions) (option_map node_tree item.entry)) }
 {
-    match item {
-        Some(item) => push_lexical(functions, item, names),
-        None => Ok(()),
-    }
+    name_tables::push_lexical_part(item, &lexical_as(functions), names)
 }
 
-/// Pushes those of each part from a place on.
+/// Pushes those of each part.
 pub(crate) fn push_lexical_parts<'t>(
     functions: bool,
     node: Node<'t, '_>,
-    from: usize,
     names: &mut Vec<NamePlace<'t>>,
 ) -> Result<(), AllocError>
-    ensures { OnOk result (all_named names.new.items ≡ all_named names.old.items ++ each_part (lexical_names functions) (parts_drop from (parts_of (node_tree node.entry)))) }
+    ensures { OnOk result (all_named names.new.items ≡ all_named names.old.items ++ each_part (lexical_names functions) (parts_of (node_tree node.entry))) }
 {
-    for index in from..node.part_count() {
-        push_lexical_part(functions, node.part(index), names)?;
-    }
-    Ok(())
+    name_tables::push_lexical_parts(node, 0, &lexical_as(functions), names)
+}
+
+/// Pushes those of the cases of a switch.
+pub(crate) fn push_cases<'t>(
+    switch: Node<'t, '_>,
+    names: &mut Vec<NamePlace<'t>>,
+) -> Result<(), AllocError>
+    ensures { OnOk result (all_named names.new.items ≡ all_named names.old.items ++ each_part case_names (parts_drop 1 (parts_of (node_tree switch.entry)))) }
+{
+    name_tables::push_cases(switch, &lexical_as(true), names)
 }
 
 /// Pushes the names of a function's parameters: of all parts from a place on but the last, which is the body.

@@ -2,19 +2,19 @@
 
 ghost use Rattle.std.specs.Prelude.{◌≡◌, ◌-◌, ◌++◌, true, option_map, IfOk, OnOk};
 ghost use Rattle.tree.specs.Node.{node_tree};
-ghost use Rattle.tree.specs.Tree.{kind_of, part_at, part_count, parts_of, text_of, parts_drop};
+ghost use Rattle.tree.specs.Tree.{kind_of, part_at, part_count, parts_of, text_of};
 ghost use Rattle.early_errors.specs.Early.{each};
 ghost use Rattle.name_tables.specs.PatternParts.{at_part};
 ghost use Rattle.name_tables.specs.BoundNames.{each_part};
 ghost use Rattle.early_errors.specs.Names.{body_items, function_names, lexical_names, places, shared, twice};
-ghost use Rattle.early_errors.specs.Owns.{block_at, body_place, case_names, found_of_scope, is_block, items_at, names_of_scope, place_of_scope, declares_function, scope_error, scope_kind};
+ghost use Rattle.early_errors.specs.Owns.{block_at, body_place, found_of_scope, is_block, items_at, names_of_scope, place_of_scope, declares_function, scope_error, scope_kind};
 ghost use Rattle.early_errors.specs.Scopes.{without_initializer};
 ghost use Rattle.early_errors.specs.Walk.{after, all_named, listed};
 
 use crate::EarlyError;
 use crate::conflicts::{repeated, shared};
 use crate::found::{FirstError, with_place};
-use crate::names::{NamePlace, push_lexical_part, push_lexical_parts, push_part_names};
+use crate::names::{NamePlace, push_cases, push_lexical_part, push_lexical_parts, push_part_names};
 use name_tables::last_part;
 use std::alloc::{AllocError, Global};
 use tree::{Kind, Node};
@@ -55,33 +55,12 @@ pub(crate) fn push_scope<'t>(
     ensures { OnOk result (all_named names.new.items ≡ all_named names.old.items ++ names_of_scope kind is_body (parts_of (node_tree node.entry))) }
 {
     match kind {
-        ScopeKind::Program => push_lexical_parts(false, node, 0, names),
-        ScopeKind::Block => push_lexical_parts(!is_body, node, 0, names),
+        ScopeKind::Program => push_lexical_parts(false, node, names),
+        ScopeKind::Block => push_lexical_parts(!is_body, node, names),
         ScopeKind::Switch => push_cases(node, names),
         ScopeKind::Catch => push_part_names(node.part(0), names),
         ScopeKind::For | ScopeKind::ForEach => push_lexical_part(false, node.part(0), names),
         ScopeKind::Nothing => Ok(()),
-    }
-}
-
-fn push_cases<'t>(node: Node<'t, '_>, names: &mut Vec<NamePlace<'t>>) -> Result<(), AllocError>
-    ensures { OnOk result (all_named names.new.items ≡ all_named names.old.items ++ each_part case_names (parts_drop 1 (parts_of (node_tree node.entry)))) }
-{
-    for index in 1..node.part_count() {
-        push_case(node.part(index), names)?;
-    }
-    Ok(())
-}
-
-fn push_case<'t>(
-    case: Option<Node<'t, '_>>,
-    names: &mut Vec<NamePlace<'t>>,
-) -> Result<(), AllocError>
-    ensures { OnOk result (all_named names.new.items ≡ all_named names.old.items ++ at_part case_names (option_map node_tree case.entry)) }
-{
-    match case {
-        Some(case) => push_lexical_parts(true, case, 1, names),
-        None => Ok(()),
     }
 }
 
@@ -250,7 +229,7 @@ fn push_body<'t>(
     ensures { OnOk result (all_named names.new.items ≡ all_named names.old.items ++ each_part (lexical_names true) (items_at (option_map node_tree body.entry))) }
 {
     match body {
-        Some(body) => push_lexical_parts(true, body, 0, names),
+        Some(body) => push_lexical_parts(true, body, names),
         None => Ok(()),
     }
 }

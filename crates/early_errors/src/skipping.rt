@@ -15,9 +15,9 @@ ghost use Rattle.early_errors.specs.Walks.{IsQuiet, IsSilent, is_quiet as says_n
 use crate::around::is_method;
 use crate::conflicts::is_restricted;
 use crate::literals::begins_with_slash;
-use crate::names::{Lexical, lexical_of};
+use crate::names::lexical_as;
 use crate::own::deletes_identifier;
-use name_tables::{PatternNames, pattern_names_of};
+use name_tables::{Lexical, PatternNames, lexical_of, pattern_names_of};
 use tree::{Kind, Node};
 
 /// Where errors of a node may be.
@@ -236,7 +236,7 @@ fn declares(item: Option<Node>) -> bool
 fn is_lexical(item: Node) -> bool
     ensures { OnFalse result ((b : _) → lexical_names b (node_tree item.entry) ≡ []) }
 {
-    match lexical_of(true, item) {
+    match lexical_of(item, &lexical_as(true)) {
         Lexical::Nothing => false,
         _ => true,
     }

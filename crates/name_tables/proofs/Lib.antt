@@ -1,8 +1,9 @@
 mod DeclarableNames
 pub mod EachPart
+mod Lexically
 pub mod Patterns
 mod Places
 pub mod Results
 pub mod Retold
-mod Sets
+pub mod Sets
 pub mod Undone

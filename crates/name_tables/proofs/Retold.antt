@@ -1,12 +1,16 @@
 -- What a list of bound names says in other words.
-use Rattle.std.proofs.Common.{◌≡◌, List, [], ◌∷◌, ◌++◌, map, Option, Some, None, refl, sym, ap, ◌∙◌}
+use Rattle.std.proofs.Common.{◌≡◌, Bool, true, false, cond, List, [], ◌∷◌, ◌++◌, map, Option, Some, None, is_some, refl, sym, ap, ◌∙◌}
+use Rattle.std.specs.Prelude.{codes, unwrap_or}
+use Rattle.std.specs.Str.{bytes_eq}
 use Rattle.std.proofs.lemmas.List.{map-append}
-use Rattle.tree.specs.declared.kind.Kind.TheVariants.{Identifier, ArrayPattern, ObjectPattern, RestElement, AssignmentPattern, Property}
-use Rattle.tree.specs.Tree.{Tree, Parts, none, part, gap, node, parts_of}
+use Rattle.tree.specs.declared.kind.Kind.TheVariants.{Identifier, ArrayPattern, ObjectPattern, RestElement, AssignmentPattern, Property, VariableDeclaration, FunctionDeclaration, ClassDeclaration}
+use Rattle.tree.specs.Tree.{Tree, Parts, none, part, gap, node, parts_of, parts_drop}
 use Rattle.name_tables.specs.declared.bound.BoundName.{BoundName}
 use Rattle.name_tables.specs.PatternParts.{Bound, all_bound, at_part, bound, bound_as}
-use Rattle.name_tables.specs.DeclaredNames.{declarator_names}
-use Rattle.name_tables.specs.BoundNames.{bound_names, all_bound_names, first_bound_names, last_bound_names}
+use Rattle.name_tables.specs.declared.declared.LexicalAs.{LexicalAs}
+use Rattle.name_tables.specs.DeclaratorParts.{declarator_as, declarators_as, how_of, lexical_as}
+use Rattle.name_tables.specs.DeclaredNames.{case_names, declarator_names, lexically_declared_names}
+use Rattle.name_tables.specs.BoundNames.{each_part, bound_names, all_bound_names, first_bound_names, last_bound_names}
 
 module _ {A B : Type 0} (g : A → B) (f : Tree → A) where
   mutual
@@ -43,19 +47,13 @@ module _ {H A : Type 0} (g : Bound H → A) where
   each [] = refl
   each (x ∷ xs) = ap (λ l. g (bound x) ∷ l) (each xs)
 
-  at : (how : H) (o : Option Tree) → map g (at_part (bound_names (bound_as how)) o) ≡ at_part (bound_names (λ t. g (bound_as how t))) o
-  at how None = refl
-  at how (Some t) = names g (bound_as how) t
-
   -- names that were pushed, in these words
-  pub retold-part : (how : H) (new old : List (BoundName H)) (o : Option Tree) → all_bound new ≡ all_bound old ++ at_part (bound_names (bound_as how)) o →
-      map (λ x. g (bound x)) new ≡ map (λ x. g (bound x)) old ++ at_part (bound_names (λ t. g (bound_as how t))) o
-  retold-part how new old o h =
-      sym (each new) ∙ ap (map g) h ∙ map-append g (all_bound old) (at_part (bound_names (bound_as how)) o) ∙ (λ i. each old i ++ at how o i)
+  retold-by : (new old : List (BoundName H)) (xs : List (Bound H)) (ys : List A) → map g xs ≡ ys → all_bound new ≡ all_bound old ++ xs → map (λ x. g (bound x)) new ≡ map (λ x. g (bound x)) old ++ ys
+  retold-by new old xs ys e h = sym (each new) ∙ ap (map g) h ∙ map-append g (all_bound old) xs ∙ (λ i. each old i ++ e i)
 
   pub retold : (how : H) (new old : List (BoundName H)) (t : Tree) → all_bound new ≡ all_bound old ++ bound_names (bound_as how) t →
       map (λ x. g (bound x)) new ≡ map (λ x. g (bound x)) old ++ bound_names (λ u. g (bound_as how u)) t
-  retold how new old t h = retold-part how new old (Some t) h
+  retold how new old t h = retold-by new old (bound_names (bound_as how) t) (bound_names (λ u. g (bound_as how u)) t) (names g (bound_as how) t) h
 
   -- the same of declarators, however each is bound
   module _ (how_of : Parts → H) where
@@ -68,5 +66,47 @@ module _ {H A : Type 0} (g : Bound H → A) where
 
     pub retold-declarators : (new old : List (BoundName H)) (ps : Parts) → all_bound new ≡ all_bound old ++ declarator_names (λ qs. bound_as (how_of qs)) ps →
         map (λ x. g (bound x)) new ≡ map (λ x. g (bound x)) old ++ declarator_names (λ qs t. g (bound_as (how_of qs) t)) ps
-    retold-declarators new old ps h =
-        sym (each new) ∙ ap (map g) h ∙ map-append g (all_bound old) (declarator_names (λ qs. bound_as (how_of qs)) ps) ∙ (λ i. each old i ++ declarators ps i)
+    retold-declarators new old ps h = retold-by new old (declarator_names (λ qs. bound_as (how_of qs)) ps) (declarator_names (λ qs t. g (bound_as (how_of qs) t)) ps) (declarators ps) h
+
+  -- what an item declares lexically
+  pub lexically : (how : LexicalAs H) (t : Tree) → map g (lexical_as how t)
+      ≡ lexically_declared_names (is_some how.function) (λ text ps u. g (declarator_as (declarators_as how text) ps u)) (λ u. g (bound_as (unwrap_or how.function how.class) u)) (λ u. g (bound_as how.class u)) t
+  lexically how (node VariableDeclaration w k s e ps) = pick (bytes_eq w (codes "var"))
+    where
+      pick : (b : Bool) → map g (cond b [] (declarator_names (declarator_as (declarators_as how w)) ps)) ≡ cond b [] (declarator_names (λ qs u. g (declarator_as (declarators_as how w) qs u)) ps)
+      pick true = refl
+      pick false = declarators (how_of (declarators_as how w)) ps
+  lexically how (node FunctionDeclaration w k s e ps) = pick (is_some how.function)
+    where
+      pick : (b : Bool) → map g (cond b (first_bound_names (bound_as (unwrap_or how.function how.class)) ps) []) ≡ cond b (first_bound_names (λ u. g (bound_as (unwrap_or how.function how.class) u)) ps) []
+      pick true = first g (bound_as (unwrap_or how.function how.class)) ps
+      pick false = refl
+  lexically how (node ClassDeclaration w k s e ps) = first g (bound_as how.class) ps
+  lexically how (node _ w k s e ps) = refl
+
+  -- what trees give, however that is said of one
+  module _ (f : Tree → List (Bound H)) (r : Tree → List A) (e : (t : Tree) → map g (f t) ≡ r t) where
+    pub at-part : (o : Option Tree) → map g (at_part f o) ≡ at_part r o
+    at-part None = refl
+    at-part (Some t) = e t
+
+    pub at-each : (ps : Parts) → map g (each_part f ps) ≡ each_part r ps
+    at-each none = refl
+    at-each (part t ps) = map-append g (f t) (each_part f ps) ∙ (λ i. e t i ++ at-each ps i)
+    at-each (gap ps) = at-each ps
+
+    pub at-case : (t : Tree) → map g (case_names f t) ≡ case_names r t
+    at-case t = at-each (parts_drop 1 (parts_of t))
+
+    pub retold-tree : (new old : List (BoundName H)) (t : Tree) → all_bound new ≡ all_bound old ++ f t → map (λ x. g (bound x)) new ≡ map (λ x. g (bound x)) old ++ r t
+    retold-tree new old t h = retold-by new old (f t) (r t) (e t) h
+
+    pub retold-at : (new old : List (BoundName H)) (o : Option Tree) → all_bound new ≡ all_bound old ++ at_part f o → map (λ x. g (bound x)) new ≡ map (λ x. g (bound x)) old ++ at_part r o
+    retold-at new old o h = retold-by new old (at_part f o) (at_part r o) (at-part o) h
+
+    pub retold-each : (new old : List (BoundName H)) (ps : Parts) → all_bound new ≡ all_bound old ++ each_part f ps → map (λ x. g (bound x)) new ≡ map (λ x. g (bound x)) old ++ each_part r ps
+    retold-each new old ps h = retold-by new old (each_part f ps) (each_part r ps) (at-each ps) h
+
+  pub retold-part : (how : H) (new old : List (BoundName H)) (o : Option Tree) → all_bound new ≡ all_bound old ++ at_part (bound_names (bound_as how)) o →
+      map (λ x. g (bound x)) new ≡ map (λ x. g (bound x)) old ++ at_part (bound_names (λ t. g (bound_as how t))) o
+  retold-part how = retold-at (bound_names (bound_as how)) (bound_names (λ t. g (bound_as how t))) (names g (bound_as how))

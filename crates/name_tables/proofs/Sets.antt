@@ -6,15 +6,16 @@ use Rattle.std.specs.Str.{bytes_eq}
 use Rattle.std.proofs.lemmas.Slice.Eq.{bytes_eq-Decides}
 use Rattle.indexmap.specs.IndexSet.{insert_key}
 
+-- the first two of three turn
+pub or-turned : (a b c : Bool) → (a || (b || c)) ≡ (b || (a || c))
+or-turned true true c = refl
+or-turned true false c = refl
+or-turned false b c = refl
+
 module _ {A : Type 0} (p : A → Bool) where
   any-push : (xs : List A) (x : A) → list_any p (xs ++ x ∷ []) ≡ (p x || list_any p xs)
   any-push [] x = refl
-  any-push (y ∷ xs) x = ap (λ b. p y || b) (any-push xs x) ∙ turned (p y) (p x) (list_any p xs)
-    where
-      turned : (a b c : Bool) → (a || (b || c)) ≡ (b || (a || c))
-      turned true true c = refl
-      turned true false c = refl
-      turned false b c = refl
+  any-push (y ∷ xs) x = ap (λ b. p y || b) (any-push xs x) ∙ or-turned (p y) (p x) (list_any p xs)
 
 module _ (ks : List (Bor (List ℕ))) (n : Bor (List ℕ)) (w : List ℕ) where
   -- what is in a set with one more name

@@ -3,7 +3,7 @@ use Rattle.std.specs.Prelude.{ℕ, Bool, cond, List, [], codes}
 use Rattle.std.specs.Str.{bytes_eq}
 use Rattle.tree.specs.declared.kind.Kind.{Kind}
 use Rattle.tree.specs.declared.kind.Kind.TheVariants.{VariableDeclaration, FunctionDeclaration, ClassDeclaration}
-use Rattle.tree.specs.Tree.{Tree, node, Parts, parts_of}
+use Rattle.tree.specs.Tree.{Tree, node, Parts, parts_of, parts_drop}
 use Rattle.name_tables.specs.BoundNames.{each_part, first_bound_names}
 
 -- the names of declarators (BoundNames, 13.3.1.2, 13.3.2.1); what is made of one depends on the declarator's parts
@@ -22,3 +22,7 @@ lexically_declared_names b f g h (node _ text flags from to parts) = []
 abbrev pub own_var_names : {B : Type 0} → (Parts → Tree → B) → Kind → List ℕ → Parts → List B
 own_var_names f VariableDeclaration text parts = cond (bytes_eq text (codes "var")) (declarator_names f parts) []
 own_var_names f _ text parts = []
+
+-- what a case of a switch gives by its statements, which stand behind its test (13.12.5)
+abbrev pub case_names : {B : Type 0} → (Tree → List B) → Tree → List B
+case_names f case = each_part f (parts_drop 1 (parts_of case))

@@ -2,14 +2,15 @@
 
 ghost use Rattle.std.specs.Prelude.{◌≡◌, ◌++◌, option_map, OnOk};
 ghost use Rattle.tree.specs.Node.{node_tree};
-ghost use Rattle.tree.specs.Tree.{parts_of};
+ghost use Rattle.tree.specs.Tree.{parts_drop, parts_of};
+ghost use Rattle.name_tables.specs.BoundNames.{each_part};
 ghost use Rattle.name_tables.specs.PatternParts.{all_bound, at_part};
-ghost use Rattle.name_tables.specs.DeclaratorParts.{declarator_as, how_of, named_by};
-ghost use Rattle.name_tables.specs.DeclaredNames.{declarator_names};
+ghost use Rattle.name_tables.specs.DeclaratorParts.{by_word, declarator_as, how_of, lexical_as, lexical_of, named_by};
+ghost use Rattle.name_tables.specs.DeclaredNames.{case_names, declarator_names};
 
 use crate::bound::{BoundName, push_part_names};
 use std::alloc::AllocError;
-use tree::Node;
+use tree::{Kind, Node};
 
 /// How the names of a declarator are bound.
 #[derive(Clone, Copy)]
@@ -54,5 +55,128 @@ fn bound_how<H: Copy>(declarator: Node, how: DeclaratorAs<H>) -> H
         how.initialized
     } else {
         how.bare
+    }
+}
+
+/// How the names are bound that items declare lexically.
+#[derive(Clone, Copy)]
+pub struct LexicalAs<H> {
+    /// Those of `let`.
+    pub by_let: DeclaratorAs<H>,
+    /// Those of `const`.
+    pub by_const: DeclaratorAs<H>,
+    /// A class's.
+    pub class: H,
+    /// A function's; none where functions declare no lexical names, as at the top of a script.
+    pub function: Option<H>,
+}
+
+/// Which names an item declares lexically, and how they are bound.
+#[derive(Clone, Copy)]
+pub enum Lexical<H> {
+    /// Those of its declarators.
+    Declarators(DeclaratorAs<H>),
+    /// That of its first part.
+    FirstPart(H),
+    /// None.
+    Nothing,
+}
+
+/// Which names an item declares lexically: a `let`, a `const`, a class or a function.
+pub fn lexical_of<H: Copy>(item: Node, how: &LexicalAs<H>) -> Lexical<H>
+    ensures { result ≡ lexical_of how.now (node_tree item.entry) }
+{
+    match item.kind() {
+        Kind::VariableDeclaration => by_word(item.text(), how),
+        Kind::ClassDeclaration => Lexical::FirstPart(how.class),
+        Kind::FunctionDeclaration => match how.function {
+            Some(how) => Lexical::FirstPart(how),
+            None => Lexical::Nothing,
+        },
+        _ => Lexical::Nothing,
+    }
+}
+
+/// Which names a declaration with this word declares lexically.
+fn by_word<H: Copy>(word: &str, how: &LexicalAs<H>) -> Lexical<H>
+    ensures { result ≡ by_word how.now word.now }
+{
+    if word == "var" {
+        Lexical::Nothing
+    } else if word == "let" {
+        Lexical::Declarators(how.by_let)
+    } else {
+        Lexical::Declarators(how.by_const)
+    }
+}
+
+/// Pushes the names that an item declares lexically (ECMA-262 13.2.5, 13.2.7).
+pub fn push_lexical<'t, H: Copy>(
+    item: Node<'t, '_>,
+    how: &LexicalAs<H>,
+    names: &mut Vec<BoundName<'t, H>>,
+) -> Result<(), AllocError>
+    ensures { OnOk result (all_bound names.new.items ≡ all_bound names.old.items ++ lexical_as how.now (node_tree item.entry)) }
+{
+    match lexical_of(item, how) {
+        Lexical::Declarators(how) => push_declarators(item, how, names),
+        Lexical::FirstPart(how) => push_part_names(item.part(0), how, names),
+        Lexical::Nothing => Ok(()),
+    }
+}
+
+/// The same of a part that may be missing.
+pub fn push_lexical_part<'t, H: Copy>(
+    item: Option<Node<'t, '_>>,
+    how: &LexicalAs<H>,
+    names: &mut Vec<BoundName<'t, H>>,
+) -> Result<(), AllocError>
+    ensures { OnOk result (all_bound names.new.items ≡ all_bound names.old.items ++ at_part (lexical_as how.now) (option_map node_tree item.entry)) }
+{
+    match item {
+        Some(item) => push_lexical(item, how, names),
+        None => Ok(()),
+    }
+}
+
+/// Pushes those of each part from a place on, as of a statement list (ECMA-262 13.2.5).
+pub fn push_lexical_parts<'t, H: Copy>(
+    node: Node<'t, '_>,
+    from: usize,
+    how: &LexicalAs<H>,
+    names: &mut Vec<BoundName<'t, H>>,
+) -> Result<(), AllocError>
+    ensures { OnOk result (all_bound names.new.items ≡ all_bound names.old.items ++ each_part (lexical_as how.now) (parts_drop from (parts_of (node_tree node.entry)))) }
+{
+    for index in from..node.part_count() {
+        push_lexical_part(node.part(index), how, names)?;
+    }
+    Ok(())
+}
+
+/// Pushes those of the cases of a switch, which stand behind its discriminant (ECMA-262 13.12.5).
+pub fn push_cases<'t, H: Copy>(
+    switch: Node<'t, '_>,
+    how: &LexicalAs<H>,
+    names: &mut Vec<BoundName<'t, H>>,
+) -> Result<(), AllocError>
+    ensures { OnOk result (all_bound names.new.items ≡ all_bound names.old.items ++ each_part (case_names (lexical_as how.now)) (parts_drop 1 (parts_of (node_tree switch.entry)))) }
+{
+    for index in 1..switch.part_count() {
+        push_case(switch.part(index), how, names)?;
+    }
+    Ok(())
+}
+
+fn push_case<'t, H: Copy>(
+    case: Option<Node<'t, '_>>,
+    how: &LexicalAs<H>,
+    names: &mut Vec<BoundName<'t, H>>,
+) -> Result<(), AllocError>
+    ensures { OnOk result (all_bound names.new.items ≡ all_bound names.old.items ++ at_part (case_names (lexical_as how.now)) (option_map node_tree case.entry)) }
+{
+    match case {
+        Some(case) => push_lexical_parts(case, 1, how, names),
+        None => Ok(()),
     }
 }

@@ -11,7 +11,10 @@ mod table;
 pub use bound::{
     BoundName, PatternNames, last_part, pattern_names_of, push_names, push_part_names,
 };
-pub use declared::{DeclaratorAs, push_declarators};
+pub use declared::{
+    DeclaratorAs, Lexical, LexicalAs, lexical_of, push_cases, push_declarators, push_lexical,
+    push_lexical_part, push_lexical_parts,
+};
 pub use key::{HashKey, KeyBuilder};
 pub use set::NameSet;
 pub use table::{NameTable, SavedName};

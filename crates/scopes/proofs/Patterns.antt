@@ -1,43 +1,26 @@
 -- What an item declares, by its kind.
-use Rattle.std.proofs.Common.{◌≡◌, ℕ, Bool, true, false, cond, List, [], ◌++◌, refl, sym, ap, ◌∙◌, append-nil}
+use Rattle.std.proofs.Common.{◌≡◌, ℕ, Bool, true, false, cond, List, [], ◌++◌, map, is_some, refl, sym, ap, ◌∙◌, append-nil}
 use Rattle.tree.specs.declared.kind.Kind.TheVariants.{VariableDeclaration, ClassDeclaration, FunctionDeclaration}
 use Rattle.tree.specs.Tree.{Tree, Parts, none, part, gap, node, kind_of, text_of, parts_of, part_at}
 use Rattle.language.specs.FirstPart.{others}
 use Rattle.language.specs.Vocabulary.{is}
 use Rattle.scopes.specs.declared.names.DeclaredIn.{DeclaredIn}
 use Rattle.scopes.specs.declared.names.DeclaredIn.TheVariants.{Statement, ForHead, ForInOfHead}
-use Rattle.scopes.specs.declared.names.DeclarationKind.{DeclarationKind}
-use Rattle.scopes.specs.declared.names.DeclarationKind.TheVariants as item
+use Rattle.scopes.specs.declared.names.VarNames.{VarNames}
+use Rattle.scopes.specs.declared.names.VarNames.TheVariants as var
 use Rattle.name_tables.specs.BoundNames.{each_part}
-use Rattle.name_tables.specs.DeclaredNames.{declarator_names}
+use Rattle.name_tables.specs.DeclaredNames as declared
+use Rattle.name_tables.specs.DeclaredNames.{declarator_names, lexically_declared_names}
+use Rattle.name_tables.specs.DeclaratorParts as parts
 use Rattle.name_tables.specs.DeclaratorParts.{how_of}
 use Rattle.name_tables.specs.PatternParts.{bound_as}
-use Rattle.name_tables.specs.declared.declared.DeclaratorAs.{DeclaratorAs}
-use Rattle.std.specs.Prelude.{is_some}
+use Rattle.name_tables.proofs.Retold.{lexically, at-case}
 use Rattle.scopes.specs.declared.kind.BindingKind.{BindingKind}
-use Rattle.scopes.specs.declared.names.DeclaredAs.{DeclaredAs}
+use Rattle.scopes.specs.declared.kind.BindingKind.TheVariants.{Var, Let, Const, Function, Class}
 use Rattle.scopes.specs.Shown.{made_of}
-use Rattle.scopes.specs.Bindings.{Binding, binding_at, declared, lexical, vars_in, parts_vars, holds_statements, is_initialised, settles, word_kind}
-use Rattle.scopes.specs.Gathered.{declarator_as, names_at, item_of}
-use Rattle.scopes.proofs.RemainingParts.{first_names-at}
-
-abbrev lexical_by : DeclaredIn → DeclarationKind → Tree → List Binding
-lexical_by h item.Lexical t = declared h (text_of t) (parts_of t)
-lexical_by h (item.First k) t = names_at k false (part_at (parts_of t) 0)
-lexical_by h _ t = []
-
-lexical_by_kind : (h : DeclaredIn) (t : Tree) → lexical h t ≡ lexical_by h (item_of (kind_of t) (text_of t)) t
-lexical_by_kind h (node VariableDeclaration w g s e ps) = pick (is w "var")
-  where
-    pick : (v : Bool) → cond v [] (declared h w ps) ≡ lexical_by h (cond v item.Var item.Lexical) (node VariableDeclaration w g s e ps)
-    pick true = refl
-    pick false = refl
-lexical_by_kind h (node FunctionDeclaration w g s e ps) = first_names-at _ false ps
-lexical_by_kind h (node ClassDeclaration w g s e ps) = first_names-at _ false ps
-lexical_by_kind h (node _ w g s e ps) = refl
-
-pub lexical_given : (h : DeclaredIn) (t : Tree) (i : DeclarationKind) → i ≡ item_of (kind_of t) (text_of t) → lexical h t ≡ lexical_by h i t
-lexical_given h t i e = lexical_by_kind h t ∙ ap (λ x. lexical_by h x t) (sym e)
+use Rattle.scopes.specs.Bindings.{Binding, binding_at, lexical, vars_in, parts_vars, holds_statements, is_initialised, settles}
+use Rattle.scopes.specs.Gathered.{declarator_as, declared_by_var, lexical_as, var_names_of}
+use Rattle.scopes.specs.Openings.{case_names}
 
 vars-each : (ps : Parts) → parts_vars ps ≡ each_part vars_in ps
 unfolding parts_vars
@@ -45,27 +28,25 @@ vars-each none = refl
 vars-each (part t ps) = ap (λ l. vars_in t ++ l) (vars-each ps)
 vars-each (gap ps) = vars-each ps
 
-abbrev pub vars_by : DeclarationKind → Tree → List Binding
-vars_by item.Var t = declared Statement (text_of t) (parts_of t)
-vars_by item.Parts t = each_part vars_in (parts_of t)
-vars_by _ t = []
+abbrev pub vars_by : VarNames → Tree → List Binding
+vars_by var.Declarators t = declared_by_var (parts_of t)
+vars_by var.Parts t = each_part vars_in (parts_of t)
+vars_by var.Nothing t = []
 
-held : (b : Bool) (t : Tree) → cond b (parts_vars (parts_of t)) [] ≡ vars_by (cond b item.Parts item.Nothing) t
+held : (b : Bool) (t : Tree) → cond b (parts_vars (parts_of t)) [] ≡ vars_by (cond b var.Parts var.Nothing) t
 held true t = vars-each (parts_of t)
 held false t = refl
 
-vars_by_kind : (t : Tree) → vars_in t ≡ vars_by (item_of (kind_of t) (text_of t)) t
+vars_by_kind : (t : Tree) → vars_in t ≡ vars_by (var_names_of (kind_of t) (text_of t)) t
 unfolding vars_in
-vars_by_kind (node VariableDeclaration w g s e ps) = append-nil (cond (is w "var") (declared Statement w ps) []) ∙ pick (is w "var")
+vars_by_kind (node VariableDeclaration w g s e ps) = pick (is w "var")
   where
-    pick : (v : Bool) → cond v (declared Statement w ps) [] ≡ vars_by (cond v item.Var item.Lexical) (node VariableDeclaration w g s e ps)
-    pick true = refl
+    pick : (v : Bool) → cond v (declarator_names (λ qs. binding_at (cond v Var (cond (is w "let") Let Const)) (settles Statement qs)) ps) [] ++ [] ≡ vars_by (cond v var.Declarators var.Nothing) (node VariableDeclaration w g s e ps)
+    pick true = append-nil (declared_by_var ps)
     pick false = refl
-vars_by_kind (node FunctionDeclaration w g s e ps) = refl
-vars_by_kind (node ClassDeclaration w g s e ps) = refl
 vars_by_kind (node k w g s e ps) = held (holds_statements k) (node k w g s e ps)
 
-pub vars_given : (t : Tree) (i : DeclarationKind) → i ≡ item_of (kind_of t) (text_of t) → vars_in t ≡ vars_by i t
+pub vars_given : (t : Tree) (i : VarNames) → i ≡ var_names_of (kind_of t) (text_of t) → vars_in t ≡ vars_by i t
 vars_given t i e = vars_by_kind t ∙ ap (λ x. vars_by x t) (sym e)
 
 -- a second part stands there
@@ -95,8 +76,27 @@ bound_so ForInOfHead k ps u = pick (is_some (part_at ps 1))
     pick true = refl
     pick false = refl
 
--- the names of declarators that are declared so
-pub declared_given : (h : DeclaredIn) (w : List ℕ) (ps : Parts) (k : BindingKind) (how : DeclaratorAs DeclaredAs) → k ≡ word_kind w → how ≡ declarator_as h k → declarator_names (λ qs u. made_of (bound_as (how_of how qs) u)) ps ≡ declared h w ps
-declared_given h w ps k how e f =
-    ap (λ x. declarator_names (λ qs u. made_of (bound_as (how_of x qs) u)) ps) (f ∙ ap (declarator_as h) e)
-    ∙ (λ i. declarator_names (λ qs u. bound_so h (word_kind w) qs u i) ps)
+-- an item's lexical names are those that are bound so
+pub lexically_declared : (h : DeclaredIn) (t : Tree) → map made_of (parts.lexical_as (lexical_as h) t) ≡ lexical h t
+lexically_declared h t = lexically made_of (lexical_as h) t ∙ so t
+  where
+    by_word : (w : List ℕ) (ps : Parts) (v : Bool) → declarator_names (λ qs u. made_of (bound_as (how_of (cond v (declarator_as h Let) (declarator_as h Const)) qs) u)) ps ≡ declarator_names (λ qs. binding_at (cond v Let Const) (settles h qs)) ps
+    by_word w ps true = λ i. declarator_names (λ qs u. bound_so h Let qs u i) ps
+    by_word w ps false = λ i. declarator_names (λ qs u. bound_so h Const qs u i) ps
+
+    so : (t : Tree) → lexically_declared_names true (λ text qs u. made_of (parts.declarator_as (parts.declarators_as (lexical_as h) text) qs u)) (binding_at Function false) (binding_at Class false) t ≡ lexical h t
+    so (node VariableDeclaration w g s e ps) = pick (is w "var")
+      where
+        pick : (v : Bool) → cond v [] (declarator_names (λ qs u. made_of (bound_as (how_of (cond (is w "let") (declarator_as h Let) (declarator_as h Const)) qs) u)) ps)
+            ≡ cond v [] (declarator_names (λ qs. binding_at (cond v Var (cond (is w "let") Let Const)) (settles h qs)) ps)
+        pick true = refl
+        pick false = by_word w ps (is w "let")
+    so (node FunctionDeclaration w g s e ps) = refl
+    so (node ClassDeclaration w g s e ps) = refl
+    so (node _ w g s e ps) = refl
+
+pub case_declared : (t : Tree) → map made_of (declared.case_names (parts.lexical_as (lexical_as Statement)) t) ≡ case_names t
+case_declared t = at-case made_of (parts.lexical_as (lexical_as Statement)) (lexical Statement) (lexically_declared Statement) t
+
+pub declared_var : (ps : Parts) → declarator_names (λ qs u. made_of (bound_as (how_of (declarator_as Statement Var) qs) u)) ps ≡ declared_by_var ps
+declared_var ps = λ i. declarator_names (λ qs u. bound_so Statement Var qs u i) ps

@@ -1,19 +1,21 @@
 -- The definitions of names by the cases that the code distinguishes, tied to `Bindings` by proofs.
-use Rattle.std.specs.Prelude.{ℕ, Bool, true, false, cond, List, Option}
+use Rattle.std.specs.Prelude.{ℕ, Bool, true, false, cond, List, Option, Some}
 use Rattle.tree.specs.declared.kind.Kind.{Kind}
-use Rattle.tree.specs.declared.kind.Kind.TheVariants.{VariableDeclaration, FunctionDeclaration, ClassDeclaration}
-use Rattle.tree.specs.Tree.{Tree}
+use Rattle.tree.specs.declared.kind.Kind.TheVariants.{VariableDeclaration}
+use Rattle.tree.specs.Tree.{Tree, Parts}
 use Rattle.language.specs.Vocabulary.{is}
 use Rattle.scopes.specs.declared.kind.BindingKind.{BindingKind}
-use Rattle.scopes.specs.declared.kind.BindingKind.TheVariants.{Function, Class}
+use Rattle.scopes.specs.declared.kind.BindingKind.TheVariants.{Var, Let, Const, Function, Class}
 use Rattle.name_tables.specs.declared.declared.DeclaratorAs.{DeclaratorAs}
+use Rattle.name_tables.specs.declared.declared.LexicalAs.{LexicalAs}
+use Rattle.name_tables.specs.DeclaredNames.{declarator_names}
 use Rattle.scopes.specs.declared.names.DeclaredAs.{DeclaredAs}
 use Rattle.scopes.specs.declared.names.DeclaredIn.{DeclaredIn}
 use Rattle.scopes.specs.declared.names.DeclaredIn.TheVariants.{Statement, ForHead, ForInOfHead}
-use Rattle.scopes.specs.declared.names.DeclarationKind.{DeclarationKind}
-use Rattle.scopes.specs.declared.names.DeclarationKind.TheVariants as item
+use Rattle.scopes.specs.declared.names.VarNames.{VarNames}
+use Rattle.scopes.specs.declared.names.VarNames.TheVariants as var
 use Rattle.name_tables.specs.PatternParts.{at_part}
-use Rattle.scopes.specs.Bindings.{Binding, names_in, holds_statements}
+use Rattle.scopes.specs.Bindings.{Binding, binding_at, names_in, holds_statements, settles}
 
 -- the names of a part that may be missing
 abbrev pub names_at : BindingKind → Bool → Option Tree → List Binding
@@ -25,9 +27,15 @@ declarator_as Statement k = record { initialized = record { kind = k; settled = 
 declarator_as ForHead k = record { initialized = record { kind = k; settled = false }; bare = record { kind = k; settled = false } }
 declarator_as ForInOfHead k = record { initialized = record { kind = k; settled = true }; bare = record { kind = k; settled = true } }
 
--- what an item declares, by its kind and text
-abbrev pub item_of : Kind → List ℕ → DeclarationKind
-item_of VariableDeclaration text = cond (is text "var") item.Var item.Lexical
-item_of FunctionDeclaration text = item.First Function
-item_of ClassDeclaration text = item.First Class
-item_of kind text = cond (holds_statements kind) item.Parts item.Nothing
+-- what names are declared as that items declare lexically
+abbrev pub lexical_as : DeclaredIn → LexicalAs DeclaredAs
+lexical_as h = record { by_let = declarator_as h Let; by_const = declarator_as h Const; class = record { kind = Class; settled = false }; function = Some (record { kind = Function; settled = false }) }
+
+-- the names of a declaration by `var`
+abbrev pub declared_by_var : Parts → List Binding
+declared_by_var parts = declarator_names (λ ps. binding_at Var (settles Statement ps)) parts
+
+-- which parts of an item have the names that it declares by `var`, by its kind and text
+abbrev pub var_names_of : Kind → List ℕ → VarNames
+var_names_of VariableDeclaration text = cond (is text "var") var.Declarators var.Nothing
+var_names_of kind text = cond (holds_statements kind) var.Parts var.Nothing

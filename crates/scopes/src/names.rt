@@ -2,14 +2,15 @@
 
 ghost use Rattle.std.specs.Prelude.{◌≡◌, ◌++◌, option_map, OnOk};
 ghost use Rattle.tree.specs.Node.{node_tree};
-ghost use Rattle.tree.specs.Tree.{kind_of, parts_of, text_of};
+ghost use Rattle.tree.specs.Tree.{kind_of, parts_drop, parts_of, text_of};
 ghost use Rattle.name_tables.specs.BoundNames.{each_part};
-ghost use Rattle.scopes.specs.Bindings.{declared, holds_statements, lexical, names_in, vars_in, word_kind};
-ghost use Rattle.scopes.specs.Gathered.{declarator_as, item_of, names_at};
+ghost use Rattle.scopes.specs.Bindings.{holds_statements, lexical, names_in, vars_in};
+ghost use Rattle.scopes.specs.Gathered.{declarator_as, declared_by_var, lexical_as, names_at, var_names_of};
+ghost use Rattle.scopes.specs.Openings.{block_names, case_names};
 ghost use Rattle.scopes.specs.Shown.{all_declared};
 
 use crate::binding::BindingKind;
-use name_tables::{BoundName, DeclaratorAs};
+use name_tables::{BoundName, DeclaratorAs, LexicalAs};
 use std::alloc::AllocError;
 use tree::{Kind, Node};
 
@@ -56,18 +57,6 @@ pub(crate) fn push_part_names<'t>(
     name_tables::push_part_names(part, how, names)
 }
 
-fn word_kind(word: &str) -> BindingKind
-    ensures { result ≡ word_kind word.now }
-{
-    if word == "var" {
-        BindingKind::Var
-    } else if word == "let" {
-        BindingKind::Let
-    } else {
-        BindingKind::Const
-    }
-}
-
 /// What the names of a declarator are declared as.
 fn declarator_as(head: DeclaredIn, kind: BindingKind) -> DeclaratorAs<DeclaredAs>
     ensures { result ≡ declarator_as head kind }
@@ -89,29 +78,63 @@ fn declarator_as(head: DeclaredIn, kind: BindingKind) -> DeclaratorAs<DeclaredAs
     }
 }
 
-/// Pushes the names of a declaration, whose parts are its declarators.
-pub(crate) fn push_declared<'t>(
-    head: DeclaredIn,
-    node: Node<'t, '_>,
-    names: &mut Vec<Declared<'t>>,
-) -> Result<(), AllocError>
-    ensures { OnOk result (all_declared names.new.items ≡ all_declared names.old.items ++ declared head (text_of (node_tree node.entry)) (parts_of (node_tree node.entry))) }
+/// What names are declared as that items declare lexically, by where the declaration stands.
+fn lexical_as(head: DeclaredIn) -> LexicalAs<DeclaredAs>
+    ensures { result ≡ lexical_as head }
 {
-    let how = declarator_as(head, word_kind(node.text()));
-    name_tables::push_declarators(node, how, names)
+    LexicalAs {
+        by_let: declarator_as(head, BindingKind::Let),
+        by_const: declarator_as(head, BindingKind::Const),
+        class: DeclaredAs {
+            kind: BindingKind::Class,
+            settled: false,
+        },
+        function: Some(DeclaredAs {
+            kind: BindingKind::Function,
+            settled: false,
+        }),
+    }
 }
 
-/// What an item declares in the scope that it stands in, or in the function round it.
+/// Pushes what an item declares in the scope that it stands in: `let`, `const`, a function, a class.
+pub(crate) fn push_lexical<'t>(
+    head: DeclaredIn,
+    item: Node<'t, '_>,
+    names: &mut Vec<Declared<'t>>,
+) -> Result<(), AllocError>
+    ensures { OnOk result (all_declared names.new.items ≡ all_declared names.old.items ++ lexical head (node_tree item.entry)) }
+{
+    name_tables::push_lexical(item, &lexical_as(head), names)
+}
+
+/// Pushes what the items of a block declare there.
+pub(crate) fn push_block<'t>(
+    block: Node<'t, '_>,
+    names: &mut Vec<Declared<'t>>,
+) -> Result<(), AllocError>
+    ensures { OnOk result (all_declared names.new.items ≡ all_declared names.old.items ++ block_names (parts_of (node_tree block.entry))) }
+{
+    name_tables::push_lexical_parts(block, 0, &lexical_as(DeclaredIn::Statement), names)
+}
+
+/// Pushes what the items of a switch's cases declare there.
+pub(crate) fn push_cases<'t>(
+    switch: Node<'t, '_>,
+    names: &mut Vec<Declared<'t>>,
+) -> Result<(), AllocError>
+    ensures { OnOk result (all_declared names.new.items ≡ all_declared names.old.items ++ each_part case_names (parts_drop 1 (parts_of (node_tree switch.entry)))) }
+{
+    name_tables::push_cases(switch, &lexical_as(DeclaredIn::Statement), names)
+}
+
+/// Which parts of an item have the names that it declares by `var` in the function round it.
 #[derive(Clone, Copy)]
-pub(crate) enum DeclarationKind {
-    /// The names of its declarators, by `let` or `const`.
-    Lexical,
-    /// The same, by `var`.
-    Var,
-    /// Its first part.
-    First(BindingKind),
-    /// Those of `var` in its parts.
+pub(crate) enum VarNames {
+    /// Its declarators.
+    Declarators,
+    /// All that it has, as statements.
     Parts,
+    /// None.
     Nothing,
 }
 
@@ -136,49 +159,36 @@ fn holds_statements(kind: Kind) -> bool
     }
 }
 
-fn item_of(node: Node) -> DeclarationKind
-    ensures { result ≡ item_of (kind_of (node_tree node.entry)) (text_of (node_tree node.entry)) }
+fn var_names_of(item: Node) -> VarNames
+    ensures { result ≡ var_names_of (kind_of (node_tree item.entry)) (text_of (node_tree item.entry)) }
 {
-    match node.kind() {
+    match item.kind() {
         Kind::VariableDeclaration => {
-            if node.text() == "var" {
-                DeclarationKind::Var
+            if item.text() == "var" {
+                VarNames::Declarators
             } else {
-                DeclarationKind::Lexical
+                VarNames::Nothing
             }
         }
-        Kind::FunctionDeclaration => DeclarationKind::First(BindingKind::Function),
-        Kind::ClassDeclaration => DeclarationKind::First(BindingKind::Class),
         kind => {
             if holds_statements(kind) {
-                DeclarationKind::Parts
+                VarNames::Parts
             } else {
-                DeclarationKind::Nothing
+                VarNames::Nothing
             }
         }
     }
 }
 
-/// Pushes what an item declares in the scope that it stands in: `let`, `const`, a function, a class.
-pub(crate) fn push_lexical<'t>(
-    head: DeclaredIn,
-    item: Node<'t, '_>,
+/// Pushes the names of a declaration by `var`, whose parts are its declarators.
+fn push_var_declarators<'t>(
+    declaration: Node<'t, '_>,
     names: &mut Vec<Declared<'t>>,
 ) -> Result<(), AllocError>
-    ensures { OnOk result (all_declared names.new.items ≡ all_declared names.old.items ++ lexical head (node_tree item.entry)) }
+    ensures { OnOk result (all_declared names.new.items ≡ all_declared names.old.items ++ declared_by_var (parts_of (node_tree declaration.entry))) }
 {
-    match item_of(item) {
-        DeclarationKind::Lexical => push_declared(head, item, names),
-        DeclarationKind::First(kind) => push_part_names(
-            item.part(0),
-            DeclaredAs {
-                kind,
-                settled: false,
-            },
-            names,
-        ),
-        _ => Ok(()),
-    }
+    let how = declarator_as(DeclaredIn::Statement, BindingKind::Var);
+    name_tables::push_declarators(declaration, how, names)
 }
 
 /// Pushes the names of `var` in a statement at any depth, but not in functions inside it.
@@ -190,10 +200,10 @@ pub(crate) fn push_vars<'t>(
 ) -> Result<(), AllocError>
     ensures { OnOk result (all_declared names.new.items ≡ all_declared names.old.items ++ vars_in (node_tree item.entry)) }
 {
-    match item_of(item) {
-        DeclarationKind::Var => push_declared(DeclaredIn::Statement, item, names),
-        DeclarationKind::Parts => push_parts_vars(item, names),
-        DeclarationKind::Lexical | DeclarationKind::First(_) | DeclarationKind::Nothing => Ok(()),
+    match var_names_of(item) {
+        VarNames::Declarators => push_var_declarators(item, names),
+        VarNames::Parts => push_parts_vars(item, names),
+        VarNames::Nothing => Ok(()),
     }
 }
 

@@ -6,7 +6,7 @@ ghost use Rattle.tree.specs.Tree.{kind_of, parts_drop, parts_of};
 ghost use Rattle.name_tables.specs.PatternParts.{at_part};
 ghost use Rattle.name_tables.specs.BoundNames.{each_part};
 ghost use Rattle.scopes.specs.Bindings.{lexical};
-ghost use Rattle.scopes.specs.Openings.{body_names, case_names, function_names, is_lexical, item_names, opens_all, opens_others, scope_names, scope_round_all, scope_round_others};
+ghost use Rattle.scopes.specs.Openings.{body_names, function_names, is_lexical, item_names, opens_all, opens_others, scope_names, scope_round_all, scope_round_others};
 ghost use Rattle.scopes.specs.Roles.{is_body};
 ghost use Rattle.scopes.specs.declared.names.DeclaredIn.TheVariants.{Statement};
 ghost use Rattle.scopes.specs.Shown.{all_declared};
@@ -14,7 +14,8 @@ ghost use Rattle.scopes.specs.Shown.{all_declared};
 use crate::binding::BindingKind;
 use crate::identifier_use::{IdentifierUse, is_body};
 use crate::names::{
-    Declared, DeclaredAs, DeclaredIn, push_lexical, push_names, push_part_names, push_vars,
+    Declared, DeclaredAs, DeclaredIn, push_block, push_cases, push_lexical, push_names,
+    push_part_names, push_vars,
 };
 use std::alloc::AllocError;
 use tree::{Kind, Node};
@@ -106,7 +107,7 @@ fn push_scope<'t>(
         ScopeKind::Script => push_items(node, names)?,
         ScopeKind::Function(from) => push_function(node, from, names)?,
         ScopeKind::FirstPart(kind) => return push_first(node, kind, names),
-        ScopeKind::Block => push_block(node, 0, names)?,
+        ScopeKind::Block => push_block(node, names)?,
         ScopeKind::For(head) => return push_head(node, head, names),
         ScopeKind::Switch => push_cases(node, names)?,
         ScopeKind::NoScope => return Ok(false),
@@ -184,53 +185,6 @@ fn push_item<'t>(
     };
     push_lexical(DeclaredIn::Statement, item, names)?;
     push_vars(item, names)
-}
-
-/// Pushes what the items of a block or of a case declare there, from a place on.
-fn push_block<'t>(
-    node: Node<'t, '_>,
-    from: usize,
-    names: &mut Vec<Declared<'t>>,
-) -> Result<(), AllocError>
-    ensures { OnOk result (all_declared names.new.items ≡ all_declared names.old.items ++ each_part (lexical Statement) (parts_drop from (parts_of (node_tree node.entry)))) }
-{
-    for index in from..node.part_count() {
-        push_block_item(node.part(index), names)?;
-    }
-    Ok(())
-}
-
-fn push_block_item<'t>(
-    item: Option<Node<'t, '_>>,
-    names: &mut Vec<Declared<'t>>,
-) -> Result<(), AllocError>
-    ensures { OnOk result (all_declared names.new.items ≡ all_declared names.old.items ++ at_part (lexical Statement) (option_map node_tree item.entry)) }
-{
-    match item {
-        Some(item) => push_lexical(DeclaredIn::Statement, item, names),
-        None => Ok(()),
-    }
-}
-
-fn push_cases<'t>(node: Node<'t, '_>, names: &mut Vec<Declared<'t>>) -> Result<(), AllocError>
-    ensures { OnOk result (all_declared names.new.items ≡ all_declared names.old.items ++ each_part case_names (parts_drop 1 (parts_of (node_tree node.entry)))) }
-{
-    for index in 1..node.part_count() {
-        push_case(node.part(index), names)?;
-    }
-    Ok(())
-}
-
-fn push_case<'t>(
-    case: Option<Node<'t, '_>>,
-    names: &mut Vec<Declared<'t>>,
-) -> Result<(), AllocError>
-    ensures { OnOk result (all_declared names.new.items ≡ all_declared names.old.items ++ at_part case_names (option_map node_tree case.entry)) }
-{
-    match case {
-        Some(case) => push_block(case, 1, names),
-        None => Ok(()),
-    }
 }
 
 /// Pushes the names of a function: its parameters, from a place on, and what its body declares.
