@@ -6,7 +6,6 @@ ghost use Rattle.cost_certificate.specs.Forms.{cell_of, digits_value, number_of,
 ghost use Rattle.cost_certificate.specs.Types.{kind_named as is_kind_named};
 ghost use Rattle.cost_certificate.specs.Words.{IsLine, words_after};
 
-use crate::types::type_name;
 use tree::Kind;
 
 /// The format of a text: with all cells of each row, or without those of a row that has none but zeros.
@@ -158,9 +157,8 @@ const ROW_KINDS: [Kind; 23] = [
 pub(crate) fn kind_named(word: &[u8]) -> Option<Kind>
     ensures { result ≡ is_kind_named word.now }
 {
-    for index in 0..ROW_KINDS.len() {
-        let kind = ROW_KINDS[index];
-        if type_name(kind).as_bytes() == word {
+    for kind in ROW_KINDS {
+        if kind.type_name().as_bytes() == word {
             return Some(kind);
         }
     }

@@ -3,8 +3,8 @@ use Rattle.std.specs.Str.{bytes_eq}
 use Rattle.cost_certificate.proofs.Fronts.{kinds_more}
 use Rattle.cost_certificate.proofs.table_words.kind_named.Goals as goal
 
-pub loop-index-preserved : goal.loop-index-preserved
-loop-index-preserved c =
+pub loop-kind-preserved : goal.loop-kind-preserved
+loop-kind-preserved c =
     let w = c.args.word.now in
-    let l = c.loop-index-test.true in
-    sym (kinds_more w c.loop-index.index _ (omega (arith, l)) (sym (ap (λ n. bytes_eq n w) (c.as_bytes.ensures.value ∙ c.type_name.ensures.name)) ∙ sym c.eq.ensures ∙ c.if-eq.false)) ∙ c.loop-index.invariant
+    let l = c.loop-kind-test.true in
+    sym (kinds_more w c.loop-kind.kind-index _ (omega (arith, l)) (sym (ap (λ n. bytes_eq n w) (c.as_bytes.ensures.value ∙ c.type_name.ensures)) ∙ sym c.eq.ensures ∙ c.if-eq.false)) ∙ c.loop-kind.invariant
