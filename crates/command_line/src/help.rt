@@ -1,7 +1,7 @@
 //! What help and the version say.
 
 /// The version, and the toolchain that proves it (`rt version`).
-pub const VERSION: &str = "1.1.3 (proved with rattle-kit-13)";
+pub const VERSION: &str = "1.1.4 (proved with rattle-kit-13)";
 
 pub const ABOUT: &str =
     "A linter for strict ECMAScript scripts, with proofs of what its answers mean";
