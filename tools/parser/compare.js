@@ -15,6 +15,7 @@
 const fs = require('node:fs');
 const path = require('node:path');
 const { answersOf, copied, option, pieces, withAdditions } = require('../dump.js');
+const { ALPHABETS } = require('../reference/alphabets.js');
 const { sample } = require('../reference/brute.js');
 const { PROGRAMS } = require('../reference/fuzz-programs.js');
 const { LIMITS, parseOnly } = require('../reference/parse.js');
@@ -22,14 +23,6 @@ const { randomSource } = require('../reference/random.js');
 const { plainTree } = require('../definitions/model.js');
 
 // ---------------------------------------------------------------- texts
-
-// The alphabets of the model's own comparison.
-function alphabets() {
-  const text = fs.readFileSync(path.join(__dirname, '..', 'reference', 'fuzz.js'), 'utf8');
-  const table = /const ALPHABETS = (\{[^]*?\n\});/.exec(text)[1];
-  const words = (s) => s.split(' ').map((w) => (w === 'LF' ? '\n' : w));
-  return Object.values(new Function('words', 'return ' + table)(words));
-}
 
 function mutated(source, pool) {
   const list = pieces(source.pick(PROGRAMS));
@@ -53,7 +46,7 @@ function mutated(source, pool) {
 function makeTexts(count, seed) {
   const source = randomSource(seed);
   const pool = PROGRAMS.flatMap(pieces).filter((p) => p.trim() !== '');
-  const lists = alphabets();
+  const lists = Object.values(ALPHABETS);
   const texts = [];
   for (let k = 0; k < count; k++) {
     texts.push(sample(source.next, 10 + source.below(80)).join(source.pick([' ', ' ', '\n'])));

@@ -5,7 +5,8 @@
 // Nothing that is compared with one of these takes it. brute.js has its own tokens and levels, acorn and V8 have theirs, and so have the program
 // and the definitions (`punctuators` in crates/tokens/specs/Lexical.antt, `operators` in crates/language/specs/Vocabulary.antt). That scan.js,
 // parse.js and plan.js share a list loses nothing, since none of them judges another: a wrong text or level differs from all those.
-// A text that is missing here is tried all the same: ../definitions/reading.js also tries those of the definitions, and the rows have each.
+// A text that is missing here is tried all the same: ../definitions/reading.js also tries the punctuators of the definitions, `fuzz.js generate`
+// makes sentences of brute.js's grammar, and the rows of crates/cases/data have each.
 
 // Operators with two operands, a line for each symbol of ECMA-262 (12.6 to 12.13), from the loosest to the tightest.
 const BINARY = {
