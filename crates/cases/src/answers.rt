@@ -83,6 +83,7 @@ fn of_call(alloc: Global, row: &Case, out: &mut String) -> Result<(), AllocError
     }
 }
 
+/// Adds the answer of a call that takes a text, or how the text is refused as a source.
 fn of_text(alloc: Global, row: &Case, out: &mut String) -> Result<(), AllocError> {
     match Source::new(row.text(1).as_bytes()) {
         Ok(source) => of_source(alloc, row, &source, out),

@@ -23,6 +23,7 @@ impl Case {
         Ok(row)
     }
 
+    /// Takes the texts of a line, of which the last is the answer.
     fn read(&mut self, alloc: Global, line: &str) -> Result<(), AllocError> {
         for text in line.split('\t') {
             self.texts.push(meant(alloc, text)?)?;
@@ -72,6 +73,7 @@ fn meant(alloc: Global, written: &str) -> Result<String, AllocError> {
     Ok(text)
 }
 
+/// Adds the text that a row writes, with the pieces in `⟦…×n⟧` repeated.
 fn push_meant(text: &mut String, written: &str) -> Result<(), AllocError> {
     for piece in written.split('⟦') {
         push_piece(text, piece)?;
@@ -88,6 +90,7 @@ fn push_piece(text: &mut String, piece: &str) -> Result<(), AllocError> {
     push_plain(text, behind)
 }
 
+/// Adds a piece as often as the number after `×` says; once without it.
 fn push_repeated(text: &mut String, inside: &str) -> Result<(), AllocError> {
     let (piece, count) = inside.split_once('×').unwrap_or((inside, "1"));
     for _ in 0..count.parse::<u32>().unwrap_or(0) {
@@ -96,6 +99,7 @@ fn push_repeated(text: &mut String, inside: &str) -> Result<(), AllocError> {
     Ok(())
 }
 
+/// Adds characters, with those that picture control characters as these.
 fn push_plain(text: &mut String, pictures: &str) -> Result<(), AllocError> {
     for each in pictures.chars() {
         text.push(control(each))?;

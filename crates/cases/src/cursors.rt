@@ -8,6 +8,7 @@ use std::alloc::AllocError;
 use token_cursor::{Cursor, StatementEnd, goes_on};
 use tokens::{Goal, Token};
 
+/// The right edge that a word names.
 fn edge(word: &str) -> Edge {
     match word {
         "Arrow" => Edge::Arrow,
@@ -17,6 +18,7 @@ fn edge(word: &str) -> Edge {
     }
 }
 
+/// The end of a statement that a word names.
 fn ending(word: &str) -> StatementEnd {
     match word {
         "OfDo" => StatementEnd::DoWhile,

@@ -2,6 +2,7 @@
 
 use source_text::{DeviceFault, Sink};
 
+/// A writer that counts the bytes that it is handed, and keeps none.
 #[derive(Drop)]
 pub(crate) struct Gauge {
     /// How many bytes it was handed.
@@ -11,6 +12,7 @@ pub(crate) struct Gauge {
 }
 
 impl Gauge {
+    /// A gauge that was handed nothing.
     pub(crate) fn new() -> Gauge {
         Gauge { bytes: 0, most: 0 }
     }
@@ -23,12 +25,14 @@ impl Sink for Gauge {
 
     ghost failed = { λ _. false };
 
+    /// Counts the bytes of a call.
     fn put(&mut self, piece: &[u8]) -> Result<usize, DeviceFault> {
         self.bytes = self.bytes.saturating_add(piece.len());
         self.most = self.most.max(piece.len());
         Ok(piece.len())
     }
 
+    /// It never fails.
     fn has_failed(&self) -> bool {
         false
     }

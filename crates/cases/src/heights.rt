@@ -9,6 +9,7 @@ use source_text::Fault;
 use std::alloc::{AllocError, Global};
 use tree::{Kind, Span};
 
+/// The span of each node that is made here.
 const HERE: Span = Span { start: 3, end: 5 };
 
 /// Parts, others behind them, and the array of them all, this high at most.
@@ -38,6 +39,7 @@ fn only_height(alloc: Global, text: &str) -> Result<Option<u32>, Fault> {
     }
 }
 
+/// Adds the height of the only part that a text draws, none if it draws no part or more, or the fault.
 pub(crate) fn push_only(alloc: Global, text: &str, out: &mut String) -> Result<(), AllocError> {
     match only_height(alloc, text) {
         Ok(height) => write!(out, "{height:?}"),

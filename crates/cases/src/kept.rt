@@ -21,6 +21,7 @@ pub(crate) fn push_reading(
     }
 }
 
+/// How a script's tree reads its text, if it tells.
 fn reading_of(alloc: Global, program: &Program, text: &str) -> Result<Option<TreeReading>, Fault> {
     let source = Source::new(text.as_bytes())?;
     match tree_reading(alloc, &source, program) {
@@ -38,6 +39,7 @@ fn push_rows(reading: &TreeReading, out: &mut String) -> Result<(), AllocError> 
     push_comments(reading, out)
 }
 
+/// Adds the spans of the comments, in bytes.
 fn push_comments(reading: &TreeReading, out: &mut String) -> Result<(), AllocError> {
     out.push_str(" ;")?;
     for comment in &reading.comments {
@@ -61,6 +63,7 @@ pub(crate) fn push_kept(
     }
 }
 
+/// Whether the other text keeps the tokens and the comments of the first one.
 fn is_kept(alloc: Global, program: &Program, text: &str, other: &str) -> Result<bool, Fault> {
     let Some(reading) = reading_of(alloc, program, text)? else {
         return Ok(false);

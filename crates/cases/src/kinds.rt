@@ -86,6 +86,7 @@ pub(crate) fn set_flag(flags: &mut Flags, word: &str) {
     }
 }
 
+/// The form that a word names.
 fn form(word: &str) -> Form {
     match word {
         "#get" => Form::Get,

@@ -5,6 +5,7 @@ use source_text::Source;
 use std::alloc::{AllocError, Global};
 use tokens::{Goal, Token, TokenClass, scan, string_is, string_units, template_value};
 
+/// The lexical goal that a word names.
 pub(crate) fn goal(word: &str) -> Goal {
     match word {
         "RegExp" => Goal::RegExp,
@@ -35,6 +36,7 @@ pub(crate) fn push_token(source: &Source, row: &Case, out: &mut String) -> Resul
     }
 }
 
+/// Adds UTF-16 units in hexadecimal.
 fn push_all(units: &[u16], out: &mut String) -> Result<(), AllocError> {
     for unit in units {
         write!(out, " {unit:X}")?;
@@ -60,6 +62,7 @@ pub(crate) fn push_units(
     }
 }
 
+/// Adds the cooked value of a template's part.
 fn push_cooked(units: &[u16], out: &mut String) -> Result<(), AllocError> {
     out.push_str(" is")?;
     push_all(units, out)

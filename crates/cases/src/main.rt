@@ -1,10 +1,12 @@
 #![tactic(auto)]
 
-//! Rows: each line of a file says what a call answers for texts. A suite that is data costs the gate no proof.
+//! A program that runs rows: each line of a file says what a public call answers for texts (docs/CONTRIBUTING.md,
+//! Rows).
+//! - May touch: files of rows, and every crate but the program. It promises nothing: a row costs the gate no proof.
+//! - Contract: none. `cases FILE ..` prints how many rows each file has, and each whose answer is another; status 0.
+//! - Begin at: `answers.rt`, which says what each call is; then the file of that call. `args` names the files.
 //!
-//! `rows FILE ..` prints how many rows each file has, and each row whose answer is another, with that answer; status 0.
-//!
-//! `rows --row FILE NUMBER` makes the call of one row alone, the NUMBERth of the file, counted from 1 (lines that are empty or begin with
+//! `cases --row FILE NUMBER` makes the call of one row alone, the NUMBERth of the file, counted from 1 (lines that are empty or begin with
 //! `#` are no rows), and prints the answer that it found, as it is, and nothing else: status 0 where it is the wanted one, 1 where it is
 //! another. A call that was refused memory has no other answer than `out of memory`, status 2, and so has this program where it was refused
 //! memory itself, for its words, the file or the row. So whoever refuses its growths one by one sees the wanted answer with status 0, or
@@ -50,6 +52,7 @@ fn push_other(line: &str, row: &Case, found: &str, report: &mut String) -> Resul
     write!(report, "{line}\n  is {found:?}\n")
 }
 
+/// Adds to the report the row of a line, if its answer is another.
 fn push_row(alloc: Global, line: &str, report: &mut String) -> Result<(), AllocError> {
     let row = Case::of(alloc, line)?;
     let found = answer(alloc, &row)?;
@@ -76,6 +79,7 @@ fn show_file(rt: &(impl Files + Print + AllocGlobal), path: &str) -> io::Result<
     println!(rt; "{}{path}: {count} rows", report.as_str())
 }
 
+/// Runs the rows of each file.
 fn show_files(rt: &(impl Files + Print + AllocGlobal), paths: &[String]) -> io::Result<u8> {
     for path in paths {
         show_file(rt, path.as_str())?;
@@ -96,11 +100,13 @@ fn show_answer(rt: &(impl Print + AllocGlobal), row: &Case) -> io::Result<u8> {
     Ok(u8::from(found.as_str() != row.want()))
 }
 
+/// Prints the answer of a line's row.
 fn show_line(rt: &(impl Print + AllocGlobal), line: &str) -> io::Result<u8> {
     let row = Case::of(rt.alloc(), line)?;
     show_answer(rt, &row)
 }
 
+/// Prints the answer of the row with this number in a file.
 fn show_row(rt: &(impl Files + Print + AllocGlobal), path: &str, number: &str) -> io::Result<u8> {
     let text = fs::read_to_string(rt, path)?;
     match line_of(text.as_str(), number) {
@@ -130,6 +136,7 @@ fn refuse(rt: &(impl Print + Eprint), error: io::Error) -> io::Result<u8> {
     Ok(1)
 }
 
+/// Runs the rows that the arguments name.
 fn main(rt: HostRuntime) -> ExitCode {
     let answered = match obey(&rt) {
         Ok(status) => Ok(status),

@@ -29,6 +29,7 @@ pub(crate) fn push_of_tree(
     }
 }
 
+/// Adds what a call answers of a tree.
 fn push_tree(
     alloc: Global,
     call: &str,
@@ -50,10 +51,12 @@ fn push_tree(
     }
 }
 
+/// Adds the height of a tree.
 fn push_height(program: &Program, out: &mut String) -> Result<(), AllocError> {
     write!(out, "{}", height(program))
 }
 
+/// Adds the first early error of a tree.
 fn push_error(alloc: Global, program: &Program, out: &mut String) -> Result<(), AllocError> {
     let error = first_early_error(alloc, program)?;
     write!(out, "{error:?}")
@@ -75,6 +78,7 @@ pub(crate) fn push_copy(
     push_copied(program, &copy, out)
 }
 
+/// Adds how a copy compares with its tree, and the copy.
 fn push_copied(program: &Program, copy: &Program, out: &mut String) -> Result<(), AllocError> {
     push_compared(program, copy, out)?;
     show(copy.root(), out)
@@ -99,6 +103,7 @@ pub(crate) fn push_equal_copy(
     write!(out, "{is_equal}")
 }
 
+/// Adds whether the tree of another text is the same.
 fn push_same(
     alloc: Global,
     text: &str,

@@ -224,6 +224,7 @@ fn push_tree(
     }
 }
 
+/// Adds a number.
 fn push_count(count: usize, out: &mut String) -> Result<(), AllocError> {
     write!(out, "{count}")
 }
@@ -235,6 +236,7 @@ fn is_alike(alloc: Global, program: &Program, text: &str) -> Result<bool, Fault>
     Ok(same_tree(program, other.program()))
 }
 
+/// Adds whether another text has the same tree.
 fn push_alike(
     alloc: Global,
     program: &Program,
@@ -285,6 +287,8 @@ fn values(value: &Value) -> (Option<bool>, Option<u64>) {
     )
 }
 
+/// Adds the value of the first statement's literal if it is a boolean, and the script's end, as the tree's JSON has
+/// them.
 fn push_values(alloc: Global, program: &Program, out: &mut String) -> Result<(), AllocError> {
     let value = to_value(alloc, program)?;
     write!(out, "{:?}", values(&value))

@@ -122,6 +122,7 @@ fn called(position: Position) -> &'static str {
     }
 }
 
+/// The word for a position of a statement or a part of one.
 fn called_statement(position: Position) -> &'static str {
     match position {
         Position::Body => "body",

@@ -109,6 +109,7 @@ fn table(alloc: Global) -> Result<CostTable, AllocError> {
     Ok(table)
 }
 
+/// Adds how many rows a table has, its total, and its first row.
 fn push_held(table: &CostTable, out: &mut String) -> Result<(), AllocError> {
     write!(out, "{:?} ", (table.row_count(), table.total()))?;
     if table.row_count() == 0 {
@@ -152,6 +153,7 @@ pub(crate) fn spans_of(
     }
 }
 
+/// Adds rows of grouping pairs, and the spans of extra ones.
 fn push_both(groups: &[PairRow], spans: &[Span], out: &mut String) -> Result<(), AllocError> {
     push_groups(out, groups)?;
     out.push_str("extra")?;
@@ -170,6 +172,7 @@ pub(crate) fn push_extra(
     push_both(&groups, &spans, out)
 }
 
+/// The pair of places that a word names.
 fn pair(word: &str) -> Pair {
     let (left, right) = word.split_once('-').unwrap_or(("", ""));
     Pair {

@@ -11,6 +11,7 @@ pub(crate) fn word(is_shown: bool, word: &str) -> &str {
     }
 }
 
+/// The word for a form, after a space.
 fn form_word<'t>(form: Form) -> &'t str {
     match form {
         Form::Init => "",

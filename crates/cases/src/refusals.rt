@@ -24,6 +24,7 @@ pub(crate) fn push_refusal(text: &str, fault: Fault, out: &mut String) -> Result
     }
 }
 
+/// The reason that a word names.
 fn reason(word: &str) -> Reason {
     match word {
         "Form" => Reason::Form,
@@ -48,6 +49,7 @@ fn fault(name: &str, number: &str, word: &str) -> Fault {
     }
 }
 
+/// The fault without a place that a word names.
 fn plain_fault(name: &str) -> Fault {
     match name {
         "TooLong" => Fault::TooLong,
@@ -61,6 +63,7 @@ fn plain_fault(name: &str) -> Fault {
     }
 }
 
+/// The fault that a row names.
 fn fault_of(row: &Case) -> Fault {
     fault(row.text(1), row.text(2), row.text(3))
 }

@@ -20,6 +20,7 @@ pub(crate) struct AnyScript {
 }
 
 impl AnyScript {
+    /// The rule, for this memory.
     pub(crate) fn new(alloc: Global) -> AnyScript {
         AnyScript { alloc }
     }
@@ -32,10 +33,12 @@ impl Rule for AnyScript {
 
     ghost finds = { λ _ _. record { start = 0; stop = 0; rule = codes "any-script"; text = codes "a script" } ∷ [] };
 
+    /// The rule's name.
     fn name(&self) -> &str {
         "any-script"
     }
 
+    /// Adds one report on any script.
     fn check(&self, _view: &View, out: &mut Vec<Report>) -> Result<(), AllocError> {
         let rule = String::from_str(self.alloc, "any-script")?;
         let text = String::from_str(self.alloc, "a script")?;
@@ -57,10 +60,12 @@ impl Rule for Insatiable {
 
     ghost finds = { λ _ _. record { start = 0; stop = 0; rule = codes "any-script"; text = codes "a script" } ∷ [] };
 
+    /// The rule's name.
     fn name(&self) -> &str {
         "insatiable"
     }
 
+    /// Adds a report, and is then refused memory.
     fn check(&self, view: &View, out: &mut Vec<Report>) -> Result<(), AllocError> {
         AnyScript::new(self.alloc).check(view, out)?;
         let _room: Vec<u8> = Vec::with_capacity(self.alloc, usize::MAX)?;
@@ -82,14 +87,17 @@ impl Rule for LikeNoVar {
 
     ghost finds = { λ _ v. no_var v };
 
+    /// The rule's name.
     fn name(&self) -> &str {
         "like-no-var"
     }
 
+    /// Adds what `no-var` finds.
     fn check(&self, view: &View, out: &mut Vec<Report>) -> Result<(), AllocError> {
         NoVar::new(self.alloc).check(view, out)
     }
 
+    /// It is a rule over nodes, as `no-var` is.
     fn on_nodes(&self) -> Option<NodeRule> {
         Some(NodeRule::Var)
     }
@@ -110,6 +118,7 @@ pub(crate) fn push_settings(alloc: Global, text: &str, out: &mut String) -> Resu
     }
 }
 
+/// Adds a binding, with its place and what is known of it.
 fn push_binding(binding: &Binding, out: &mut String) -> Result<(), AllocError> {
     out.push_str(binding.name)?;
     write!(out, " {:?} {}-{}", binding.kind, binding.start, binding.end)?;
@@ -129,6 +138,7 @@ fn push_bindings(scopes: &Scopes, out: &mut String) -> Result<(), AllocError> {
     Ok(())
 }
 
+/// Adds a reference, with its place, its use and what it means.
 fn push_reference(reference: &Reference, out: &mut String) -> Result<(), AllocError> {
     out.push_str(reference.name)?;
     write!(

@@ -249,6 +249,7 @@ fn mark(answered: &Result<u8, Refused>, bytes: &[u8], written: &[u8]) -> char {
     }
 }
 
+/// A mark for the fault of a text.
 fn fault_mark(fault: Fault, bytes: &[u8]) -> char {
     let text = from_utf8(bytes).unwrap_or("");
     match fault {

@@ -31,6 +31,7 @@ struct Reader<'s> {
 }
 
 impl<'s> Reader<'s> {
+    /// Opens a node of this kind.
     fn open(&mut self, kind: Kind) -> Result<(), Fault> {
         let open = Open {
             kind,
@@ -62,6 +63,7 @@ impl<'s> Reader<'s> {
         Ok(())
     }
 
+    /// Adds a missing part to the open node.
     fn push_gap(&mut self) -> Result<(), Fault> {
         match self.opened.last_mut() {
             Some(open) => open.nodes.push_gap(),
@@ -79,6 +81,7 @@ impl<'s> Reader<'s> {
         }
     }
 
+    /// Takes one word of the sketch: it opens or closes a node, adds a gap, sets a place, or tells of the open node.
     fn take(&mut self, word: &'s str) -> Result<(), Fault> {
         match word.split_at_checked(1) {
             Some(("(", name)) => self.open(kind(name)),

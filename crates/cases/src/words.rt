@@ -54,6 +54,7 @@ pub(crate) fn push_tightness(word: &str, out: &mut String) -> Result<(), AllocEr
     write!(out, "{}", precedence_of(rank(word)))
 }
 
+/// The early error that a word names.
 fn early_error(word: &str) -> EarlyError {
     match word {
         "EvalOrArguments" => EarlyError::EvalOrArguments,

@@ -3,32 +3,42 @@
 /// The version, and the toolchain that proves it (`rt version`).
 pub const VERSION: &str = "1.1.4 (proved with rattle-kit-13)";
 
+/// What the help says of the program.
 pub const ABOUT: &str =
     "A linter for strict ECMAScript scripts, with proofs of what its answers mean";
 
+/// What the help says of `check`.
 pub const CHECK: &str = "Report what the rules find, a line each: LINE:COLUMN RULE TEXT";
 
+/// What the help says of `tree`.
 pub const TREE: &str = "Write the tree of the script as JSON, in the form of ESTree";
 
+/// What the help says of `fix`.
 pub const FIX: &str = "Write the script in one layout: the fewest parentheses, no comments";
 
 /// What stands below the help of `fix`.
 pub const FIX_NOTE: &str = "Comments are dropped. `jslint unwrap FILE` keeps them.";
 
+/// What the help says of `unwrap`.
 pub const UNWRAP: &str = "Write the script as it stands, but without its unnecessary parentheses";
 
 /// What stands below the help of `unwrap`.
 pub const UNWRAP_NOTE: &str =
     "Comments stay, and so do blanks and lines where no parenthesis goes.";
 
+/// What the help says of `cost`.
 pub const COST: &str = "Write the cost table: how many parentheses each part needs";
 
+/// What the help says of `verify`.
 pub const VERIFY: &str = "Check a cost table: how many pairs the script has, and needs at least";
 
+/// What the help says of the script's file.
 pub const FILE: &str = "The script";
 
+/// What the help says of `--settings`.
 pub const SETTINGS: &str = "Rules and options, as TOML; without it every rule is on";
 
+/// What the help says of the cost table's file.
 pub const TABLE: &str = "A cost table, as `cost` writes it";
 
 /// What stands below the commands.

@@ -1,6 +1,10 @@
 #![tactic(auto)]
 
-//! The streams of a run: its commands, whole texts from a feed, and refusals as they are written.
+//! The commands, whole texts from a reader, and refusals in words. It knows no JavaScript.
+//! - May touch: a reader up to a limit, and a writer for one line.
+//! - Contract: `write_refusal` writes the line of a refusal, or a prefix of it if the writer fails, and answers its
+//!   status.
+//! - Begin at: `command.rt`, `Command`; `refusal.rt`, `write_refusal`; `bounded_read.rt`, `read_up_to`.
 
 mod bounded_read;
 mod command;

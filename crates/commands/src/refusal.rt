@@ -17,6 +17,7 @@ pub fn status(fault: Fault) -> u8
     }
 }
 
+/// The name under which a reason is written.
 fn reason_name(reason: Reason) -> &'static str
     ensures { result.now ≡ reason_words reason }
 {

@@ -32,6 +32,7 @@ impl From<AllocError> for Refused {
 
     ghost from_gives = { λ _ e. e ≡ no_memory };
 
+    /// Refused memory, as a refusal without a place.
     fn from(_error: AllocError) -> Refused {
         Refused::at_no_place(Fault::OutOfMemory)
     }
@@ -43,6 +44,7 @@ impl<T: Drop> From<AllocFailed<T>> for Refused {
 
     ghost from_gives = { λ _ e. e ≡ no_memory };
 
+    /// Refused memory for a value, as a refusal without a place.
     fn from(_error: AllocFailed<T>) -> Refused {
         Refused::at_no_place(Fault::OutOfMemory)
     }

@@ -54,6 +54,7 @@ pub fn check_table(program: &Program, table: &CostTable) -> Result<u32, BadTable
     Ok(table.total())
 }
 
+/// The refusal of a table at this row, for this reason.
 fn bad(row: usize, reason: Reason) -> Result<u32, BadTable>
     requires { row ≤ 16777217 }
     ensures { result ≡ Err (record { row = row; reason = reason }) }

@@ -128,6 +128,7 @@ fn header(line: &[u8]) -> Option<Format>
     None
 }
 
+/// The refusal of a text that is no table, at this row.
 fn bad(row: u32) -> Result<CostTable, Fault>
     ensures { result ≡ Err (BadTable row Form) }
 {

@@ -42,6 +42,7 @@ impl StartCosts {
         self.any.is_none() && self.no_brace.is_none() && self.statement.is_none()
     }
 
+    /// The number at this start; none if the node can't begin there.
     fn at(&self, start: Start) -> Option<u32>
         ensures { result ≡ started_at self.now start }
     {
@@ -52,6 +53,7 @@ impl StartCosts {
         }
     }
 
+    /// The sums of the numbers, start by start.
     fn plus(&self, other: &StartCosts) -> StartCosts
         ensures { result ≡ each_start (λ f. capped_sum (started_at self.now f) (started_at other.now f)) }
     {
@@ -110,6 +112,7 @@ impl Costs {
         self.number(rank, has_in, start)
     }
 
+    /// The number at this symbol, In and start; none if the node can't stand there without a pair around it.
     pub(crate) fn number(&self, rank: Rank, has_in: bool, start: Start) -> Option<u32>
         ensures { result ≡ cost_at self.now rank has_in start }
     {

@@ -1,6 +1,9 @@
 #![tactic(auto)]
 
-//! Cost tables: what each node of a script costs in pairs of parentheses, and how costs add up from the parts of a node to the node.
+//! Cost tables: least numbers of pairs by expression and context, in few bytes, and how costs add up.
+//! - May touch: numbers, kinds and slots; no script: whoever walks over one hands in what each part costs.
+//! - Contract: the table holds the rows and the total that were put in, unchanged if memory is refused.
+//! - Begin at: `table.rt`, `CostTable`; `costs.rt` and `node_costs.rt` for the arithmetic.
 
 mod costs;
 mod node_costs;

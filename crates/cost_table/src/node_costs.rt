@@ -69,6 +69,7 @@ pub fn least(part: NodeCosts, position: Position) -> Option<u32>
     least_at(&part, position)
 }
 
+/// The least number of pairs of a part at a position: a pair around it is allowed only where expressions stand.
 fn least_at(part: &NodeCosts, position: Position) -> Option<u32>
     ensures { result ≡ least_of part.now (role_of position) }
 {
@@ -115,6 +116,7 @@ pub fn is_free(slot: Slot, part: &NodeCosts) -> bool
     }
 }
 
+/// Whether a part at this slot is seen at once to cost nothing, wherever its node stands.
 fn is_plainly_free(slot: Slot, part: &NodeCosts) -> bool
     ensures { result ≡ true → (a : Role) → uses_of a (slot_of slot) part.now ≡ same_everywhere (Some 0) }
 {
@@ -152,6 +154,7 @@ pub fn uses(own: Position, slot: Slot, part: &NodeCosts) -> Costs
     }
 }
 
+/// What a part costs at this slot, for each start at which its node may stand with this symbol and In.
 fn started_uses(own: Position, rank: Rank, has_in: bool, slot: Slot, part: &NodeCosts) -> StartCosts
     ensures { result ≡ each_start (λ f. least_of part.now (settled_at (role_with_own rank has_in f (role_of own)) (slot_of slot))) }
 {
@@ -162,6 +165,7 @@ fn started_uses(own: Position, rank: Rank, has_in: bool, slot: Slot, part: &Node
     }
 }
 
+/// What a part costs at this slot of a node at position `own`.
 fn use_at(own: Position, slot: Slot, part: &NodeCosts) -> Option<u32>
     ensures { result ≡ least_of part.now (settled_at (role_of own) (slot_of slot)) }
 {
@@ -189,6 +193,7 @@ pub fn is_plain(outline: Outline) -> bool
     asks_no_more(&outline)
 }
 
+/// Whether a node with this outline requires no more of its position than the symbol: no In, no start.
 fn asks_no_more(outline: &Outline) -> bool
     ensures { result ≡ is_plain_outline outline.now }
 {
@@ -209,6 +214,7 @@ fn plainly_fitting(own: Position, outline: Outline, costs: Costs) -> Costs
     }
 }
 
+/// The costs at the starts where a node with this outline may stand, with this symbol and In; none at the others.
 fn started_fitting(
     own: Position,
     rank: Rank,
@@ -233,6 +239,7 @@ fn started_fitting(
     }
 }
 
+/// This cost if a node with this outline may stand at the position, else none.
 fn fitted(position: Position, outline: Outline, cost: Option<u32>) -> Option<u32>
     ensures { result ≡ cond (fits_outline (role_of position) outline) cost None }
 {

@@ -36,6 +36,7 @@ impl FilledStarts {
         }
     }
 
+    /// All starts if `stands`, else no start.
     fn each_if(stands: bool) -> FilledStarts
         ensures { result ≡ cond stands Each Nowhere }
     {
@@ -65,6 +66,7 @@ impl FilledStarts {
     }
 }
 
+/// The form of starts that all have no number; none for others.
 fn if_nowhere(starts: &StartCosts) -> Option<FilledStarts>
     ensures { (m : _) → IfSome result (λ f. starts.now ≡ filled f m) }
 {
@@ -74,6 +76,7 @@ fn if_nowhere(starts: &StartCosts) -> Option<FilledStarts>
     None
 }
 
+/// The form of starts of which only the unrestricted one may have a number; none for others.
 fn if_only_any(starts: &StartCosts) -> Option<FilledStarts>
     ensures { (m : _) → starts.now.any ≡ Some m → IfSome result (λ f. starts.now ≡ filled f m) }
 {
@@ -188,6 +191,7 @@ pub(crate) struct Place {
 }
 
 impl Place {
+    /// The place with this index, counted from 0.
     pub(crate) fn of(index: usize) -> Place
         ensures { index_of result ≡ index }
     {
@@ -218,6 +222,7 @@ pub(crate) enum PackedRow {
 }
 
 impl PackedRow {
+    /// The kind of the row's node.
     pub(crate) fn kind(self) -> Kind
         ensures { (apart : _) → result ≡ (unpacked apart self).kind }
     {

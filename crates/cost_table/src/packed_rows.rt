@@ -80,6 +80,7 @@ impl PackedRows {
         self.push_apart(kind, costs)
     }
 
+    /// Adds a row whose numbers don't fit a shape, with those numbers; unchanged if memory is refused.
     #[inline(never)]
     fn push_apart(&mut self, kind: Kind, costs: &Costs) -> Result<(), AllocError>
         ensures rows { OnOk result (self.new.items ≡ self.old.items ++ row_with kind costs.now ∷ []) }
@@ -98,6 +99,7 @@ impl PackedRows {
         mem::swap(&mut self.turned, &mut self.packed);
     }
 
+    /// How many rows there are.
     pub(crate) fn len(&self) -> usize
         ensures { result ≡ length self.now.items }
     {

@@ -91,6 +91,7 @@ impl CostTable {
         self.total = total;
     }
 
+    /// How many rows there are.
     pub fn row_count(&self) -> usize
         ensures { result ≡ length self.now.rows.items }
     {
@@ -108,6 +109,7 @@ impl CostTable {
         (self.rows.kind(index), self.rows.cells(index))
     }
 
+    /// The number of all pairs of the script.
     pub fn total(&self) -> u32
         ensures { result ≡ self.now.total }
     {

@@ -84,7 +84,7 @@ impl<'s> Cover<'s> {
     }
 }
 
-// The pattern that a node is, as high as it.
+/// The pattern that a node becomes, of the same height.
 #[tactic(auto, using(crate::proofs::Patterns::same_height))]
 fn as_pattern_node<'s>(node: MeasuredNode<'s>) -> MeasuredNode<'s>
     ensures { result ≡ pattern_tree node.entry }
@@ -95,7 +95,7 @@ fn as_pattern_node<'s>(node: MeasuredNode<'s>) -> MeasuredNode<'s>
     MeasuredNode::of_height(syntax, height)
 }
 
-// The patterns that all parts are.
+/// The patterns that all parts become.
 fn as_pattern_items<'s>(parts: Vec<Option<BoxedNode<'s>>>) -> Vec<Option<BoxedNode<'s>>>
     ensures { parts_with_gaps result.items ≡ pattern_parts 0 (parts_with_gaps parts.entry.items) }
 {

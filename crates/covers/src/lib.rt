@@ -1,7 +1,10 @@
 #![tactic(auto)]
 
-//! What was read where an expression, a pattern, a target or parameters may stand, before it is known which (ECMA-262
-//! clauses 12.2, 12.15.5 and 14.2): it is read as an expression, with what else it may be.
+//! What was read before it is known whether it is an expression, a target, a pattern or parameters (12.2, 12.15.5,
+//! 14.2).
+//! - May touch: nodes that were read, which become patterns in place; no token. It takes no memory for that.
+//! - Contract: a cover becomes what its shape permits, and is else refused at the place that was handed in.
+//! - Begin at: `cover.rt`, `Cover`; `shape.rt`, `CoverShape`; `list.rt` for lists, item by item.
 
 mod conversions;
 mod cover;

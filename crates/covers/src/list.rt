@@ -72,8 +72,7 @@ impl ListKind {
         }
     }
 
-    // Whether items of this shape, taken together, have a reading here: as expressions, as what is assigned to, or as what is
-    // bound.
+    /// Whether items of this shape together have a reading in this list: as expressions, targets, or bindings.
     fn reads(self, shape: CoverShape) -> bool
         ensures { result ≡ reads self shape }
     {
@@ -133,7 +132,7 @@ pub struct ListSummary {
 }
 
 impl ListSummary {
-    // Of no items.
+    /// The summary of no items.
     const NOTHING: ListSummary = ListSummary {
         shape: CoverShape::EMPTY,
         last: CoverShape::EMPTY,
@@ -143,7 +142,7 @@ impl ListSummary {
         edge: Edge::Closed,
     };
 
-    // With one more item; behind `...`, what parentheses hold is no expression.
+    /// The summary with one more item; after `...`, what parentheses hold is no expression.
     fn with(self, item: &ListItem<'_>, listed: ListKind) -> ListSummary
         ensures { result ≡ seen_with self item.now listed }
     {
@@ -162,7 +161,7 @@ impl ListSummary {
         }
     }
 
-    // With a comma behind the last item, or without; a pattern has none behind its rest.
+    /// The summary with a comma after the last item, or without; a pattern has no comma after its rest.
     fn separated(self, has_comma: bool) -> ListSummary
         ensures { result ≡ separated self has_comma }
     {
@@ -265,7 +264,7 @@ impl<'s> ListBuilder<'s> {
         Ok(())
     }
 
-    // Whether it can't be one more item: a second `default`, or the rest of a setter.
+    /// Whether the list can't take this item: a second `default`, or a setter's rest.
     fn is_surplus(&self, item: &ListItem<'_>) -> bool
         ensures { result ≡ is_surplus self.now.listed self.now.seen item.now }
     {

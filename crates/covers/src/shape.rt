@@ -154,7 +154,7 @@ impl CoverShape {
         }
     }
 
-    // With a part that may be in a pattern or may not.
+    /// The shape together with a part, which may be in a pattern only if `fits`.
     fn with(self, part: CoverShape, fits: bool) -> CoverShape
         ensures { result ≡ together self part fits }
     {

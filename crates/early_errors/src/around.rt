@@ -27,6 +27,7 @@ pub(crate) struct Context {
     pub(crate) labels_loop: Option<bool>,
 }
 
+/// Whether the form is that of a getter or a setter.
 pub(crate) fn is_accessor(form: Form) -> bool
     ensures { result ≡ is_accessor form }
 {
@@ -36,6 +37,7 @@ pub(crate) fn is_accessor(form: Form) -> bool
     }
 }
 
+/// Whether the form is that of a constructor.
 pub(crate) fn is_constructor(form: Form) -> bool
     ensures { result ≡ is_constructor form }
 {
@@ -45,6 +47,7 @@ pub(crate) fn is_constructor(form: Form) -> bool
     }
 }
 
+/// Whether the form is that of a method, a getter or a setter.
 pub(crate) fn is_method(form: Form) -> bool
     ensures { result ≡ is_method form }
 {
@@ -101,6 +104,7 @@ impl Context {
         self.in_loop || self.in_switch
     }
 
+    /// What holds inside a method, where `super` has properties; `calls` if it may be called too.
     fn in_method(calls: bool) -> Context
         ensures around { round result [] ≡ in_method calls }
         ensures unknown { result.labels_loop ≡ None }
@@ -113,6 +117,7 @@ impl Context {
         }
     }
 
+    /// What holds inside a FunctionExpression, which may be the function of a method.
     fn in_function_expression(self) -> Context
         ensures around { (ls : _) → (g : _) → (ps : _) → round result [] ≡ around_others (round self ls) FunctionExpression g ps }
         ensures unknown { result.labels_loop ≡ None }
@@ -126,6 +131,7 @@ impl Context {
         }
     }
 
+    /// What holds inside an arrow function: what holds outside, but without loops and switches.
     fn in_arrow(self) -> Context
         ensures around { (ls : _) → (g : _) → (ps : _) → round result [] ≡ around_others (round self ls) ArrowFunctionExpression g ps }
         ensures unknown { result.labels_loop ≡ None }
@@ -138,6 +144,7 @@ impl Context {
         }
     }
 
+    /// What holds inside a property of an object, by its form.
     fn in_property(self, form: Form) -> Context
         ensures around { (ls : _) → (g : _) → (ps : _) → g.form ≡ form → round result (inner_labels Property g ps ls) ≡ around_others (round self ls) Property g ps }
         ensures unknown { result.labels_loop ≡ None }
@@ -214,6 +221,7 @@ pub(crate) enum FirstPart {
     LikeOthers,
 }
 
+/// How the first part of a node of this kind stands to it.
 fn first_part(kind: Kind) -> FirstPart
     ensures { result ≡ first_part kind }
 {
@@ -247,6 +255,7 @@ pub(crate) fn contexts_of(node: Node, around: Context) -> PartContexts
     }
 }
 
+/// Whether the node has a second part; for a class, a superclass.
 fn has_second(node: Node) -> bool
     ensures { has_heritage (others (parts_of (node_tree node.entry))) ≡ result }
 {

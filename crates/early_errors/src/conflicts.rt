@@ -29,6 +29,7 @@ pub(crate) struct Saved<'t> {
     value: FirstError,
 }
 
+/// Whether the name is `eval` or `arguments`.
 pub(crate) fn is_restricted(name: &str) -> bool
     ensures { result ≡ among name.now ("eval" ∷ "arguments" ∷ []) }
 {

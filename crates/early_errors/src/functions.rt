@@ -158,6 +158,7 @@ fn directive_place(item: Option<Node>) -> Option<usize>
     }
 }
 
+/// Whether a directive's literal is `'use strict'` or `"use strict"`.
 fn says_use_strict(literal: Option<Node>) -> bool
     ensures { result ≡ says_use_strict (option_map node_tree literal.entry) }
 {
@@ -167,6 +168,7 @@ fn says_use_strict(literal: Option<Node>) -> bool
     }
 }
 
+/// Whether the text is `'use strict'` or `"use strict"`, with its quotes.
 fn is_use_strict(text: &str) -> bool
     ensures { result ≡ among text.now ("'use strict'" ∷ "\"use strict\"" ∷ []) }
 {

@@ -91,6 +91,7 @@ fn undefined(names: &[NamePlace], labels: &Labels, loops: bool, found: FirstErro
     found
 }
 
+/// Whether a label that was found may be a target: any, or for `continue` (`loops`) only that of a loop.
 fn is_label_for(loops: bool, value: Option<bool>) -> bool
     ensures { result ≡ is_label_for loops value }
 {
@@ -100,6 +101,7 @@ fn is_label_for(loops: bool, value: Option<bool>) -> bool
     }
 }
 
+/// Whether the kind is that of a labelled statement.
 fn is_label(kind: Kind) -> bool
     ensures { result ≡ is_label kind }
 {

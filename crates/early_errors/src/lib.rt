@@ -1,4 +1,8 @@
 //! The early errors of ECMA-262, 11th edition, that a strict script can have.
+//! - May touch: a finished tree, and memory for names and labels. It never looks at the text.
+//! - Contract: `first_early_error` answers the tree's least error, by place and then by number; none exactly if it has
+//!   none.
+//! - Begin at: `walk.rt`; `own.rt` says which errors a node itself can have. Definitions: `specs/Early.antt`.
 #![tactic(auto)]
 
 mod around;

@@ -36,18 +36,21 @@ pub(crate) fn template_errors(
     ))
 }
 
+/// Whether both hold.
 pub(crate) fn both(first: bool, second: bool) -> bool
     ensures { result ≡ (first && second) }
 {
     first && second
 }
 
+/// Whether one of them holds.
 pub(crate) fn either(first: bool, second: bool) -> bool
     ensures { result ≡ (first || second) }
 {
     first || second
 }
 
+/// Whether a part of this template has a bad escape.
 fn some_uncooked(alloc: Global, node: Node) -> Result<bool, AllocError>
     ensures { IfOk result (λ b. b ≡ some_uncooked (parts_of (node_tree node.entry))) }
 {
@@ -59,6 +62,7 @@ fn some_uncooked(alloc: Global, node: Node) -> Result<bool, AllocError>
     Ok(false)
 }
 
+/// Whether the part is a template's element with a bad escape.
 fn is_uncooked(alloc: Global, part: Option<Node>) -> Result<bool, AllocError>
     ensures { IfOk result (λ b. b ≡ uncooked_at (option_map node_tree part.entry)) }
 {
@@ -72,6 +76,7 @@ fn is_uncooked(alloc: Global, part: Option<Node>) -> Result<bool, AllocError>
     Ok(cooked.is_none())
 }
 
+/// Whether the kind is that of a template's element.
 fn is_element(kind: Kind) -> bool
     ensures { result ≡ is_element kind }
 {
@@ -157,12 +162,14 @@ fn are_flags(flags: &[u8]) -> bool
     true
 }
 
+/// Whether the byte is a flag of regular expressions: one of `gimsuy`.
 fn is_flag(byte: u8) -> bool
     ensures { result ≡ holds (codes "gimsuy") byte }
 {
     byte == b'g' || byte == b'i' || byte == b'm' || byte == b's' || byte == b'u' || byte == b'y'
 }
 
+/// Whether the byte is among these.
 fn holds(bytes: &[u8], byte: u8) -> bool
     ensures { result ≡ holds bytes.now byte }
 {

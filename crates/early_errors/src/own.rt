@@ -45,6 +45,7 @@ pub(crate) enum OwnErrors {
     Nothing,
 }
 
+/// Which errors a node of this kind itself can have.
 fn own_of(kind: Kind) -> OwnErrors
     ensures { result ≡ own_of kind }
 {
@@ -103,6 +104,7 @@ pub(crate) enum OwnErrorInput {
     Nameless,
 }
 
+/// Whether these errors depend on names: those of declarators, those of the first part, or none.
 fn sort_of(own: OwnErrors) -> OwnErrorInput
     ensures { result ≡ sort_of own }
 {
@@ -244,6 +246,7 @@ fn delete_errors(node: Node, found: FirstError) -> FirstError
     )
 }
 
+/// Whether the node is `delete` of an identifier (12.5.3.1).
 pub(crate) fn deletes_identifier(node: Node) -> bool
     ensures { result ≡ (is (text_of (node_tree node.entry)) "delete" && is_identifier (lead (parts_of (node_tree node.entry)))) }
 {

@@ -31,6 +31,7 @@ pub(crate) enum ScopeKind {
     Nothing,
 }
 
+/// The scope that a node of this kind makes, for names that clash.
 pub(crate) fn scope_kind(kind: Kind) -> ScopeKind
     ensures { result ≡ scope_kind kind }
 {
@@ -102,6 +103,7 @@ pub(crate) fn body_of<'t, 's>(node: Node<'t, 's>) -> Option<Node<'t, 's>>
     }
 }
 
+/// Whether the kind is that of a block.
 fn is_block(kind: Kind) -> bool
     ensures { result ≡ is_block kind }
 {
@@ -173,6 +175,7 @@ fn top_errors(
     )
 }
 
+/// Adds the names of all functions among these items.
 fn push_functions<'t>(node: Node<'t, '_>, names: &mut Vec<NamePlace<'t>>) -> Result<(), AllocError>
     ensures { OnOk result (all_named names.new.items ≡ all_named names.old.items ++ each_part function_names (parts_of (node_tree node.entry))) }
 {
@@ -182,6 +185,7 @@ fn push_functions<'t>(node: Node<'t, '_>, names: &mut Vec<NamePlace<'t>>) -> Res
     Ok(())
 }
 
+/// Adds the name of an item that is a function declaration.
 fn push_function<'t>(
     item: Option<Node<'t, '_>>,
     names: &mut Vec<NamePlace<'t>>,
@@ -198,6 +202,7 @@ fn push_function<'t>(
     }
 }
 
+/// Whether the kind is that of a function declaration.
 fn is_function(kind: Kind) -> bool
     ensures { result ≡ declares_function kind }
 {
@@ -207,6 +212,7 @@ fn is_function(kind: Kind) -> bool
     }
 }
 
+/// The errors of a `catch`: a parameter's name twice, or declared in its block too (13.15.1).
 fn catch_errors(
     alloc: Global,
     node: Node,
@@ -222,6 +228,7 @@ fn catch_errors(
     shared(alloc, names, lexical.as_slice(), error, found)
 }
 
+/// Adds the names that a block declares lexically.
 fn push_body<'t>(
     body: Option<Node<'t, '_>>,
     names: &mut Vec<NamePlace<'t>>,

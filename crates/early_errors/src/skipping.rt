@@ -43,6 +43,7 @@ pub(crate) enum SkipTest {
     Nothing,
 }
 
+/// What of a node of this kind tells where its errors may be.
 fn skip_test_of(kind: Kind) -> SkipTest
     ensures { result ≡ telling_of kind }
 {
@@ -111,6 +112,7 @@ fn where_by(telling: SkipTest, node: Node) -> ErrorPlaces
     }
 }
 
+/// No errors anywhere if `is_quiet`, else they may be anywhere.
 #[inline(always)]
 fn nowhere_if(is_quiet: bool) -> ErrorPlaces
     ensures { (t : Tree) → OnTrue is_quiet (IsQuiet t) → IsWhere result t }
@@ -122,6 +124,7 @@ fn nowhere_if(is_quiet: bool) -> ErrorPlaces
     }
 }
 
+/// Errors in the parts only, unless `is_special`: then they may be anywhere.
 #[inline(always)]
 fn in_parts_unless(is_special: bool) -> ErrorPlaces
     ensures { (t : Tree) → OnFalse is_special (IsOpen t) → IsWhere result t }
@@ -143,6 +146,7 @@ fn is_quiet(node: Node) -> bool
     says_nothing(node)
 }
 
+/// Whether the node is a leaf without errors: a name, `this`, or a literal that is no regular expression.
 fn says_nothing(node: Node) -> bool
     ensures { result ≡ says_nothing (kind_of (node_tree node.entry)) (text_of (node_tree node.entry)) }
 {
@@ -201,6 +205,7 @@ fn binds_restricted(target: Option<Node>) -> bool
     }
 }
 
+/// Whether a target may name `eval` or `arguments`.
 fn names_restricted(target: Node) -> bool
     ensures { OnFalse result (filter is_restricted (names_in (node_tree target.entry)) ≡ []) }
 {
@@ -233,6 +238,7 @@ fn declares(item: Option<Node>) -> bool
     }
 }
 
+/// Whether an item may declare names lexically.
 fn is_lexical(item: Node) -> bool
     ensures { OnFalse result ((b : _) → lexical_names b (node_tree item.entry) ≡ []) }
 {

@@ -19,6 +19,7 @@ pub(crate) fn has_no_var(node: Node, from: usize, most: usize) -> bool
     parts_have_none(node, from, &mut left)
 }
 
+/// Whether no part from an index on has a `var`; no if more than `left` nodes would have to be looked at.
 #[cycle(vars)]
 #[tactic(auto, using(tree::proofs::PartWalk::part_steps))]
 fn parts_have_none(node: Node, from: usize, left: &mut usize) -> bool
@@ -44,6 +45,7 @@ fn part_has_none(part: Option<Node>, left: &mut usize) -> bool
     }
 }
 
+/// Whether no `var` is in the node, inner functions aside; no if more than `left` nodes would have to be looked at.
 #[cycle(vars)]
 #[tactic(auto, using(tree::proofs::PartWalk::part_steps))]
 fn has_none(node: Node, left: &mut usize) -> bool
@@ -62,6 +64,7 @@ fn has_none(node: Node, left: &mut usize) -> bool
     parts_have_none(node, 0, left)
 }
 
+/// Whether the node is a declaration by `var`.
 fn is_var(node: Node) -> bool
     ensures { result ≡ is_var (kind_of (node_tree node.entry)) (text_of (node_tree node.entry)) }
 {

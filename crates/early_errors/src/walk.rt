@@ -70,6 +70,7 @@ pub(crate) enum WalkKind {
     Plain,
 }
 
+/// How a walk goes on inside a node of this kind and form.
 fn inside_of(kind: Kind, form: Form) -> WalkKind
     ensures { result ≡ inside_of kind form }
 {

@@ -24,6 +24,7 @@ impl<'b> Feed for BytesFeed<'b> {
 
     ghost failed = { λ _. false };
 
+    /// Gives the next bytes, as many as the room takes.
     fn get(&mut self, room: &mut [u8]) -> Result<usize, DeviceFault> {
         let count = room.len().min(self.rest.len());
         let (front, rest) = self.rest.split_at(count);
@@ -32,6 +33,7 @@ impl<'b> Feed for BytesFeed<'b> {
         Ok(count)
     }
 
+    /// It never fails.
     fn has_failed(&self) -> bool {
         false
     }

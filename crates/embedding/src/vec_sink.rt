@@ -37,6 +37,7 @@ impl Sink for VecSink {
 
     ghost failed = { λ s. s.has_failed };
 
+    /// Adds all bytes; fails if memory is refused.
     fn put(&mut self, piece: &[u8]) -> Result<usize, DeviceFault> {
         match self.bytes.extend_from_slice(piece) {
             Ok(()) => Ok(piece.len()),
@@ -47,6 +48,7 @@ impl Sink for VecSink {
         }
     }
 
+    /// Whether memory was refused.
     fn has_failed(&self) -> bool {
         self.has_failed
     }

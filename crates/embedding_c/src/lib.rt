@@ -1,6 +1,10 @@
 #![tactic(auto)]
 
-//! The commands for C and for WebAssembly: one call, from bytes in memory to bytes in memory.
+//! The commands for C and for WebAssembly, as a static library with one call.
+//! - May touch: the caller's bytes and the caller's room. It keeps no pointer and hands out no memory.
+//! - Contract: `jslint_answer`: the room begins with the answer, as far as it fits, and the outcome has its length and
+//!   status.
+//! - Begin at: `lib.rt`, `jslint_answer`. Definitions: `specs/Calls.antt`.
 
 ghost use Rattle.std.specs.Prelude.{◌≡◌, ◌≢◌, length};
 ghost use Rattle.source_text.specs.declared.fault.Fault.TheVariants.{Usage};

@@ -50,6 +50,7 @@ impl Described for Estree<'_, '_> {
 }
 
 impl Serialize for Estree<'_, '_> {
+    /// Writes the node by this serializer; the error is the serializer's own, or that memory was refused.
     fn serialize<S: Serializer>(&self, out: &mut S) -> Result<(), S::Error> {
         let mut error = out.custom("out of memory");
         match serialize_node(out, &mut error, self.alloc, self.node, self.is_last) {

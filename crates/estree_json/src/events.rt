@@ -12,11 +12,13 @@ use std::alloc::AllocError;
 pub struct SerializeRefused;
 
 impl From<AllocError> for SerializeRefused {
+    /// Refused memory, as a refusal whose error stands there from the start.
     fn from(_refused: AllocError) -> SerializeRefused {
         SerializeRefused
     }
 }
 
+/// Keeps the serializer's error where the caller looks for it, and answers the refusal.
 #[cold]
 #[inline(never)]
 fn keep_error<E: Drop>(found: E, error: &mut E) -> SerializeRefused {

@@ -1,6 +1,9 @@
 #![tactic(auto)]
 
-//! The tree of a script as JSON, by ESTree.
+//! The tree of a script as ESTree's JSON: as a text, as a value, and for serde.
+//! - May touch: a tree, an allocator and a writer. The text is whole before its first byte is written.
+//! - Contract: `to_value` answers the value that the definition gives the tree, and `tree_text` that value's text.
+//! - Begin at: `table.rt`, `member_table`; `serialize.rt` and `estree.rt` for serde. Definitions: `specs/Fields.antt`.
 
 mod estree;
 mod events;

@@ -20,6 +20,7 @@ pub enum Primitive {
 }
 
 impl Primitive {
+    /// The same as a value of JSON.
     pub fn into_value(self) -> Value
         ensures { view result ≡ data_of self }
     {
@@ -80,6 +81,7 @@ pub fn unquoted(text: &str) -> &str
     without_last(without_first(text))
 }
 
+/// The text without the quote at its start, if there is one.
 fn without_first(text: &str) -> &str
     ensures { result.now ≡ without_first_quote text.now }
 {
@@ -92,6 +94,7 @@ fn without_first(text: &str) -> &str
     }
 }
 
+/// The text without the quote at its end, if there is one.
 fn without_last(text: &str) -> &str
     ensures { result.now ≡ without_last_quote text.now }
 {

@@ -13,7 +13,8 @@ pub fn first_byte(text: &str) -> u8
     }
 }
 
-// Whether a text is the other. Where the other is known to the compiler this becomes a few tests of bytes, which takes less than the call that `==` is.
+/// Whether the two texts are the same. If the compiler knows the second one, this becomes a few tests of bytes, which
+/// cost less than a call of `==`.
 #[inline(always)]
 pub(crate) fn is_exactly(text: &str, other: &str) -> bool
     ensures { result ≡ bytes_eq text.now other.now }

@@ -87,6 +87,7 @@ impl InfixOperator {
     }
 }
 
+/// A binary operator with these symbols, whose left side has its own symbol.
 fn binary(own: Rank, right: Rank) -> Option<InfixOperator>
     ensures { result ≡ coded_operator (op_binary false own right) [] }
 {
@@ -98,6 +99,7 @@ fn binary(own: Rank, right: Rank) -> Option<InfixOperator>
     }))
 }
 
+/// A logical operator with these symbols, whose left side has its own symbol.
 fn logical(own: Rank, right: Rank) -> Option<InfixOperator>
     ensures { result ≡ coded_operator (op_binary true own right) [] }
 {
@@ -109,7 +111,7 @@ fn logical(own: Rank, right: Rank) -> Option<InfixOperator>
     }))
 }
 
-// `**`: its left side is no unary node (12.6).
+/// The operator `**`, whose left side must be an UpdateExpression (12.6).
 fn power() -> Option<InfixOperator>
     ensures { result ≡ coded_operator op_power [] }
 {
@@ -151,6 +153,7 @@ pub(crate) fn infix_of(text: &str) -> Option<InfixOperator>
     }
 }
 
+/// The operator that is this one byte; none if there is none.
 fn infix_of_one(mark: u8) -> Option<InfixOperator>
     ensures { result ≡ coded_operator (operator_among (mark ∷ []) short_operators) (mark ∷ []) }
 {
@@ -171,7 +174,7 @@ fn infix_of_one(mark: u8) -> Option<InfixOperator>
     }
 }
 
-// By the first byte.
+/// The operator of two bytes or more with this text; none if there is none. The first byte chooses the list.
 fn infix_of_more(text: &str) -> Option<InfixOperator>
     ensures { result ≡ coded_operator (operator_among text.now long_operators) text.now }
 {
@@ -185,7 +188,7 @@ fn infix_of_more(text: &str) -> Option<InfixOperator>
     }
 }
 
-// Of a text that begins with `!` or `=`.
+/// The operator with this text, which begins with `!` or `=`.
 fn equality_of(text: &str) -> Option<InfixOperator>
     ensures { result ≡ coded_operator (operator_among text.now (only_texts (begins_with (codes "!=")) long_operators)) text.now }
 {
@@ -196,7 +199,7 @@ fn equality_of(text: &str) -> Option<InfixOperator>
     }
 }
 
-// Of a text that begins with `<` or `>`.
+/// The operator with this text, which begins with `<` or `>`.
 fn comparison_of(text: &str) -> Option<InfixOperator>
     ensures { result ≡ coded_operator (operator_among text.now (only_texts (begins_with (codes "<>")) long_operators)) text.now }
 {
@@ -208,7 +211,7 @@ fn comparison_of(text: &str) -> Option<InfixOperator>
     }
 }
 
-// Of a text that begins with `&`, `?` or `|`.
+/// The operator with this text, which begins with `&`, `?` or `|`.
 fn logical_of(text: &str) -> Option<InfixOperator>
     ensures { result ≡ coded_operator (operator_among text.now (only_texts (begins_with (codes "&?|")) long_operators)) text.now }
 {
@@ -223,7 +226,7 @@ fn logical_of(text: &str) -> Option<InfixOperator>
     }
 }
 
-// Of a text that begins with `+` or `-`.
+/// The operator with this text, which begins with `+` or `-`.
 fn sum_of(text: &str) -> Option<InfixOperator>
     ensures { result ≡ coded_operator (operator_among text.now (only_texts (begins_with (codes "+-")) long_operators)) text.now }
 {
@@ -234,7 +237,7 @@ fn sum_of(text: &str) -> Option<InfixOperator>
     }
 }
 
-// Of a text that begins with `%`, `*`, `/` or `^`.
+/// The operator with this text, which begins with `%`, `*`, `/` or `^`.
 fn product_of(text: &str) -> Option<InfixOperator>
     ensures { result ≡ coded_operator (operator_among text.now (only_texts (begins_with (codes "%*/^")) long_operators)) text.now }
 {

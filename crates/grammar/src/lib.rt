@@ -1,6 +1,11 @@
 #![tactic(auto)]
 
-//! Words, operators, and the symbol at which an expression stands by itself.
+//! Words, operators, literals and kinds as the table of the grammar has them, and the symbol of each expression.
+//! - May touch: one word, operator or node. It sees no text around it.
+//! - Contract: `rank_of` answers the tightest symbol at which an expression stands without parentheses; none for other
+//!   nodes.
+//! - Begin at: `infix.rt`, the table of infix operators; `ranks.rt`, `precedence.rt`. Definitions:
+//!   `specs/Infix.antt`; `specs/Vocabulary.antt` of `language`.
 
 mod byte_text;
 mod chain;

@@ -28,6 +28,7 @@ pub fn is_literal(raw: &str) -> bool
     }
 }
 
+/// Whether the text is `true`, `false` or `null`.
 fn is_word_literal(raw: &str) -> bool
     ensures { result ≡ among raw.now ("true" ∷ "false" ∷ "null" ∷ []) }
 {

@@ -60,6 +60,7 @@ pub fn operation_of(operator: &str) -> Operation
     }
 }
 
+/// What an infix operator does, as far as its node's spelling depends on it.
 fn operation_by(operator: InfixOperator) -> Operation
     ensures { result ≡ operation_by operator }
 {
@@ -69,7 +70,7 @@ fn operation_by(operator: InfixOperator) -> Operation
     }
 }
 
-// Only `**` has a side at the symbol of an update.
+/// What a binary or logical operator does; only `**` has a left side at the symbol of UpdateExpression.
 fn operation_by_sign(sign: BinaryOperator) -> Operation
     ensures { result ≡ operation_by_sign sign }
 {
@@ -96,6 +97,7 @@ pub(crate) fn binary_rank(operator: &str) -> Option<Rank>
     rank_of_binary(operation_of(operator))
 }
 
+/// The symbol of a binary expression with this operation; none if it isn't a binary one.
 fn rank_of_binary(operation: Operation) -> Option<Rank>
     ensures { result ≡ rank_of_binary operation }
 {
@@ -117,6 +119,7 @@ pub(crate) fn logical_rank(operator: &str) -> Option<Rank>
     rank_of_logical(operation_of(operator))
 }
 
+/// The symbol of a logical expression with this operation; none if it isn't a logical one.
 fn rank_of_logical(operation: Operation) -> Option<Rank>
     ensures { result ≡ rank_of_logical operation }
 {

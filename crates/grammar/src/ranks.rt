@@ -52,6 +52,7 @@ pub fn rank_of(node: Node<'_, '_>) -> Option<Rank>
     }
 }
 
+/// This symbol if the condition holds, else none.
 fn rank_if(holds: bool, rank: Rank) -> Option<Rank>
     ensures { result ≡ rank_if holds rank }
 {

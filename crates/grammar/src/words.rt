@@ -23,12 +23,14 @@ pub fn is_reserved(name: &str) -> bool
     }
 }
 
+/// Whether a name of two bytes is reserved in strict code (11.6.2).
 fn is_reserved_of_two(name: &str) -> bool
     ensures { result ≡ among name.now ("do" ∷ "if" ∷ "in" ∷ []) }
 {
     is_exactly(name, "do") || is_exactly(name, "if") || is_exactly(name, "in")
 }
 
+/// Whether a name of three bytes is reserved in strict code (11.6.2).
 fn is_reserved_of_three(name: &str) -> bool
     ensures { result ≡ among name.now ("for" ∷ "new" ∷ "try" ∷ "var" ∷ "let" ∷ []) }
 {
@@ -39,6 +41,7 @@ fn is_reserved_of_three(name: &str) -> bool
         || is_exactly(name, "let")
 }
 
+/// Whether a name of four bytes is reserved in strict code (11.6.2).
 fn is_reserved_of_four(name: &str) -> bool
     ensures { result ≡ among name.now ("case" ∷ "else" ∷ "enum" ∷ "null" ∷ "this" ∷ "true" ∷ "void" ∷ "with" ∷ []) }
 {
@@ -52,6 +55,7 @@ fn is_reserved_of_four(name: &str) -> bool
         || is_exactly(name, "with")
 }
 
+/// Whether a name of five bytes is reserved in strict code (11.6.2).
 fn is_reserved_of_five(name: &str) -> bool
     ensures { result ≡ among name.now ("break" ∷ "catch" ∷ "class" ∷ "const" ∷ "false" ∷ "super" ∷ "throw" ∷ "while" ∷ "yield" ∷ []) }
 {
@@ -66,6 +70,7 @@ fn is_reserved_of_five(name: &str) -> bool
         || is_exactly(name, "yield")
 }
 
+/// Whether a name of six bytes is reserved in strict code (11.6.2).
 fn is_reserved_of_six(name: &str) -> bool
     ensures { result ≡ among name.now ("delete" ∷ "export" ∷ "import" ∷ "return" ∷ "switch" ∷ "typeof" ∷ "static" ∷ "public" ∷ []) }
 {
@@ -79,6 +84,7 @@ fn is_reserved_of_six(name: &str) -> bool
         || is_exactly(name, "public")
 }
 
+/// Whether a name of seven bytes is reserved in strict code (11.6.2).
 fn is_reserved_of_seven(name: &str) -> bool
     ensures { result ≡ among name.now ("default" ∷ "extends" ∷ "finally" ∷ "package" ∷ "private" ∷ []) }
 {
@@ -89,18 +95,21 @@ fn is_reserved_of_seven(name: &str) -> bool
         || is_exactly(name, "private")
 }
 
+/// Whether a name of eight bytes is reserved in strict code (11.6.2).
 fn is_reserved_of_eight(name: &str) -> bool
     ensures { result ≡ among name.now ("continue" ∷ "debugger" ∷ "function" ∷ []) }
 {
     is_exactly(name, "continue") || is_exactly(name, "debugger") || is_exactly(name, "function")
 }
 
+/// Whether a name of nine bytes is reserved in strict code (11.6.2).
 fn is_reserved_of_nine(name: &str) -> bool
     ensures { result ≡ among name.now ("interface" ∷ "protected" ∷ []) }
 {
     is_exactly(name, "interface") || is_exactly(name, "protected")
 }
 
+/// Whether a name of ten bytes is reserved in strict code (11.6.2).
 fn is_reserved_of_ten(name: &str) -> bool
     ensures { result ≡ among name.now ("instanceof" ∷ "implements" ∷ []) }
 {

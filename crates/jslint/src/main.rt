@@ -1,6 +1,10 @@
 #![tactic(auto)]
 
 //! The program `jslint`: its words, its files, its streams and its exit status.
+//! - May touch: files, standard output and standard error. It opens them and hands on.
+//! - Contract: `Answers` in `specs/Program.antt`: a run on the file that is opened, with the status and the line of
+//!   its answer.
+//! - Begin at: `main.rt`, `main`; what isn't public is tested in `tests.rt`.
 
 ghost use Rattle.std.specs.Prelude.{◌≡◌, ◌≢◌, IfErr, IfOk, false, map};
 ghost use Rattle.source_text.specs.declared.fault.Fault.TheVariants.{Usage};
@@ -172,6 +176,7 @@ fn obey_own_words<R: Env + Files + AllocGlobal + Print + Eprint, O: Sink, W: Sin
     run_arguments(rt, &words, output, errors)
 }
 
+/// Runs the program on its own words, and exits with its status.
 fn main(rt: HostRuntime) -> ExitCode {
     let mut output = Device::of_writer(rt.stdout());
     let mut errors = Device::of_writer(rt.stderr());

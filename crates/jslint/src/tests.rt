@@ -7,6 +7,7 @@ use source_text::{FailurePlan, Fault, MemorySink};
 use std::alloc::{AllocError, Global};
 use std::test::Fail;
 
+/// An empty writer in memory with room for 64 bytes.
 fn writer(alloc: Global) -> Result<MemorySink, AllocError>
     ensures { IfOk result (λ sink. sink.failed ≡ false) }
 {
@@ -17,6 +18,7 @@ fn writer(alloc: Global) -> Result<MemorySink, AllocError>
     MemorySink::new(alloc, 64, plan)
 }
 
+/// A file that can't be read refuses the command, which writes nothing.
 #[test]
 fn files_that_cannot_be_read(rt: HostRuntime) -> Result<(), Fail> {
     for (command, file, second) in [
@@ -47,6 +49,7 @@ fn files_that_cannot_be_read(rt: HostRuntime) -> Result<(), Fail> {
     Ok(())
 }
 
+/// A refusal is a line on the standard error, and nothing is written to the output.
 #[test]
 fn refusals_go_to_the_errors(rt: HostRuntime) -> Result<(), Fail> {
     let mut output = writer(rt.alloc())?;
@@ -70,6 +73,7 @@ fn refusals_go_to_the_errors(rt: HostRuntime) -> Result<(), Fail> {
     Ok(())
 }
 
+/// Help ends with status 0.
 #[test]
 fn help_is_shown(rt: HostRuntime) -> Result<(), Fail> {
     let mut output = writer(rt.alloc())?;

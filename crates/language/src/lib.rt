@@ -1,4 +1,8 @@
-//! The words of the definitions that Rust code shares with them.
+//! The definitions of the language: the table of spellings, derivations, costs, layout; and the laws that they keep.
+//! - May touch: nothing. Its code is limits and words that code shares with the definitions, and laws, whose bodies do
+//!   nothing.
+//! - Contract: the laws of `laws.rt`: among them, no text with a script's tree has fewer pairs than its computed cost.
+//! - Begin at: `specs/Grammar.antt`, `spellings`; then `specs/Derivation.antt` and `specs/Claims.antt`.
 #![tactic(auto)]
 
 pub mod laws;

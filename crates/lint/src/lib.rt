@@ -1,6 +1,12 @@
 #![tactic(auto)]
 
-//! Whole calls over a script: reading it, fixing it, and a run of a command over two readers and a writer.
+//! Whole calls over a script: `read_script`, `fix`, `fix_text`, `unwrap_text`, and `run`, a run of a command.
+//! - May touch: two readers and a writer. All is read and judged before the first byte is written; no memory is taken
+//!   after it.
+//! - Contract: `run`: if the devices report their bytes, the whole of the command's output for what was read was
+//!   written.
+//! - Begin at: `run.rt`, `run`; `script_reader.rt`, `read_script`; a file for each command. Definitions:
+//!   `specs/Run.antt`.
 
 mod answer;
 mod check_command;

@@ -79,6 +79,7 @@ pub fn push_names<'t, H: Copy>(
     }
 }
 
+/// Adds the name of an identifier, with its place in bytes.
 fn push_name<'t, H: Copy>(
     node: Node<'t, '_>,
     how: H,
@@ -96,6 +97,7 @@ fn push_name<'t, H: Copy>(
     Ok(())
 }
 
+/// Adds the names that all parts of a node bind.
 #[cycle(pattern)]
 #[tactic(auto, using(tree::proofs::PartWalk::part_steps))]
 fn push_all_names<'t, H: Copy>(

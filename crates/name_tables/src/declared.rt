@@ -35,6 +35,7 @@ pub fn push_declarators<'t, H: Copy>(
     Ok(())
 }
 
+/// Adds the names of a declarator.
 fn push_declarator<'t, H: Copy>(
     declarator: Option<Node<'t, '_>>,
     how: DeclaratorAs<H>,
@@ -48,6 +49,7 @@ fn push_declarator<'t, H: Copy>(
     }
 }
 
+/// How the names of a declarator are bound, by whether it has an initializer.
 fn bound_how<H: Copy>(declarator: Node, how: DeclaratorAs<H>) -> H
     ensures { result ≡ how_of how (parts_of (node_tree declarator.entry)) }
 {
@@ -168,6 +170,7 @@ pub fn push_cases<'t, H: Copy>(
     Ok(())
 }
 
+/// Adds the names that the statements of a switch's case declare lexically.
 fn push_case<'t, H: Copy>(
     case: Option<Node<'t, '_>>,
     how: &LexicalAs<H>,

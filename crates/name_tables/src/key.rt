@@ -68,10 +68,12 @@ impl KeyBuilder {
 }
 
 impl BuildHasher for HashKey {
+    /// The hasher that starts from the key.
     type Hasher = DefaultHasher;
 
     ghost build_hasher = { λ key. key.keyed };
 
+    /// A hasher that starts from the key.
     fn build_hasher(&self) -> DefaultHasher {
         self.keyed
     }

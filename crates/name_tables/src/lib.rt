@@ -1,5 +1,8 @@
-//! Names of a script: those that a pattern binds; tables and sets of names, in the order in which the names came, hashed under
-//! a key that is drawn from them.
+//! Names of a script: those that a pattern binds and declarations declare; tables and sets of names.
+//! - May touch: nodes and names, and memory. A name is never taken out of a table.
+//! - Contract: tables and sets answer as lists of names do, whatever key they hash under; that is drawn from the
+//!   script's names.
+//! - Begin at: `bound.rt`, `push_names`; `declared.rt`; `table.rt`, `NameTable`; `key.rt` for the key.
 #![tactic(auto)]
 
 mod bound;

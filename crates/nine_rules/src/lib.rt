@@ -1,6 +1,9 @@
 #![tactic(auto)]
 
-//! Runs of a command with the nine rules.
+//! Runs of a command with the nine rules: `check` has them, no other command has any.
+//! - May touch: what `run` of `lint` may, and memory for the boxes. It names no rule: `rules` has the list.
+//! - Contract: `run_with_rules` promises what `lint` promises of a run, with these rules.
+//! - Begin at: `lib.rt`, `run_with_rules`. Definitions: `specs/NineRules.antt`.
 
 ghost use Rattle.std.specs.Prelude.{◌≡◌, ◌≢◌, IfErr, false};
 ghost use Rattle.source_text.specs.declared.fault.Fault.TheVariants.{Usage};

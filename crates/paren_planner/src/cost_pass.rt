@@ -129,6 +129,7 @@ fn note_row(visit: &NodeStep, costs: &Costs, table: &mut CostTable) -> Result<()
     Ok(())
 }
 
+/// What a node costs, by the costs inside it; it fits nowhere if it can't be spelled.
 fn weigh(visit: &NodeStep, inner: Costs) -> NodeCosts
     ensures { result ≡ weighed_of visit.now inner }
 {

@@ -1,6 +1,9 @@
 #![tactic(auto)]
 
 //! The planner: which expressions are wrapped in a pair of parentheses, and which pairs of a text are extra.
+//! - May touch: a finished tree, which it never changes, and memory for steps and rows.
+//! - Contract: `plan`: no derivation of any text with the same tree has fewer pairs than the plan's total.
+//! - Begin at: `planner.rt`, `plan`; the walk in `step_walk.rt`, then `cost_pass.rt` and `wrap_pass.rt`; `extra.rt`.
 
 mod cost_pass;
 mod extra;

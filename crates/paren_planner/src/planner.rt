@@ -30,6 +30,7 @@ struct Weights {
     total: Option<u32>,
 }
 
+/// The steps of a script, its cost table and its total number of pairs.
 fn weigh(alloc: Global, program: &Program) -> Result<Weights, AllocError>
     ensures rows { IfOk result (λ w. w.table.rows.items ≡ table_rows program.now script) }
     ensures total { IfOk result (λ w. w.total ≡ capped (least program.now script)) }
@@ -103,6 +104,7 @@ pub fn plan_if_any(alloc: Global, program: &Program) -> Result<Option<Plan>, All
     Ok(Some(plan))
 }
 
+/// Whether a plan is made: there is a total, and there are at most 16,777,216 rows.
 fn is_plannable(total: Option<u32>, row_count: usize) -> bool
     ensures { IsTrue result ↔ (IsSome total × (row_count ≤ 16777216)) }
 {

@@ -44,6 +44,7 @@ pub(crate) fn stands_freely(requirements: Requirements, slot: Slot) -> bool
     }
 }
 
+/// Whether a node's symbol may stand at the position, all else aside.
 fn stands_freely_at(requirements: Requirements, position: Position) -> bool
     ensures { result ≡ role_free (role_of position) requirements.rank }
 {

@@ -40,6 +40,7 @@ pub(crate) fn wrap_pass(
     Ok(())
 }
 
+/// Takes one step of the walk: chooses for its node, if it has a row, whether it is wrapped.
 fn take_step(
     step: &Step,
     table: &CostTable,
@@ -149,6 +150,7 @@ fn wrap_parent(
     Ok(())
 }
 
+/// The context inside a node at this position that isn't wrapped.
 fn plain(position: Position, requirements: Option<Requirements>) -> WrapContext
     ensures { round result ≡ plain_round (role_of position) requirements }
 {

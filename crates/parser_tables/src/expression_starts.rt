@@ -44,6 +44,7 @@ pub enum ExpressionStart {
     Prefix(Rank, Rank),
 }
 
+/// What a word begins where an expression may stand; none for a reserved word that begins nothing.
 fn start_of_word(word: &str) -> Option<ExpressionStart>
     ensures list { IfSome result BeginsList }
     ensures coded { result ≡ coded_start (expression_start_by TokenClass.IdentifierName word.now) }
@@ -64,6 +65,7 @@ fn start_of_word(word: &str) -> Option<ExpressionStart>
     })
 }
 
+/// What a punctuator begins where an expression may stand; none if it begins nothing.
 fn start_of_punctuator(mark: &str) -> Option<ExpressionStart>
     ensures list { IfSome result BeginsList }
     ensures coded { result ≡ coded_start (expression_start_by TokenClass.Punctuator mark.now) }
@@ -178,7 +180,7 @@ pub fn finish_group<'s>(list: ListBuilder<'s>, at: usize, high: u32) -> Result<O
     }
 }
 
-// What stands in parentheses that begin at a place.
+/// The operand that parentheses from this place on hold, in bytes (12.2.10).
 fn group_operand<'s>(node: MeasuredNode<'s>, shape: CoverShape, start: usize) -> Operand<'s>
     ensures { result ≡ group_part node.entry shape start }
 {

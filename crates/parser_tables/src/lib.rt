@@ -1,7 +1,9 @@
 #![tactic(auto)]
 
-//! The phrases of a script (ECMA-262 clauses 12 to 14), as far as single tokens and what was read tell: what a token begins, what it goes on with, the
-//! pieces of each statement, and what becomes of what was read. Nothing here reads on; `descent` does.
+//! What a token begins and what it goes on with (ECMA-262 12 to 14), and the symbols of each statement.
+//! - May touch: single tokens, and nodes that were read. It never moves the cursor: `recursive_descent` reads.
+//! - Contract: each table answers what the definitions say of a token at a position, in both directions.
+//! - Begin at: `expression_starts.rt`, `operators.rt`, `statements.rt`, `symbol_lists.rt`.
 
 mod expression_context;
 mod expression_starts;

@@ -102,7 +102,7 @@ impl<'s> Operand<'s> {
     }
 }
 
-// Whether it is a symbol of what stands in parentheses.
+/// Whether the symbol is that of an expression in parentheses.
 fn is_group(rank: Rank) -> bool
     ensures { result ≡ is_group rank }
 {

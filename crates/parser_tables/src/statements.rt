@@ -137,7 +137,7 @@ pub enum StatementStart {
     Expression,
 }
 
-// What a word begins where an item may stand, by its first letter.
+/// What a word begins where a declaration may stand too, by its first letter.
 fn start_of_item(word: &str, returns: bool) -> StatementStart
     ensures { result ≡ coded_statement_start (statement_start_by true returns TokenClass.IdentifierName word.now) }
 {
@@ -147,7 +147,7 @@ fn start_of_item(word: &str, returns: bool) -> StatementStart
     }
 }
 
-// What a word begins that may declare.
+/// What a word begins where a declaration may stand, if its first letter is that of one.
 fn start_of_declaration(word: &str, returns: bool) -> StatementStart
     ensures { result ≡ coded_statement_start (statement_start_by true returns TokenClass.IdentifierName word.now) }
 {
@@ -159,7 +159,7 @@ fn start_of_declaration(word: &str, returns: bool) -> StatementStart
     }
 }
 
-// What a word begins where a statement may stand, by its first letter: most names begin as none of the words.
+/// What a word begins where only a statement may stand, by its first letter, which few names share with a keyword.
 fn start_of_statement_word(word: &str, returns: bool) -> StatementStart
     ensures { result ≡ coded_statement_start (statement_start_by false returns TokenClass.IdentifierName word.now) }
 {
@@ -172,7 +172,7 @@ fn start_of_statement_word(word: &str, returns: bool) -> StatementStart
     }
 }
 
-// Of a word that begins with `b`, `d` or `i`.
+/// What a word that begins with `b`, `d` or `i` begins as a statement.
 fn start_with_bdi(word: &str) -> StatementStart
     ensures { result ≡ coded_statement_start (statement_start_among word.now (only_texts (begins_with (codes "bdi")) (statement_words true))) }
 {
@@ -185,7 +185,7 @@ fn start_with_bdi(word: &str) -> StatementStart
     })
 }
 
-// Of a word that begins with `c`, `f` or `v`.
+/// What a word that begins with `c`, `f` or `v` begins as a statement.
 fn start_with_cfv(word: &str) -> StatementStart
     ensures { result ≡ coded_statement_start (statement_start_among word.now (only_texts (begins_with (codes "cfv")) (statement_words true))) }
 {
@@ -197,7 +197,7 @@ fn start_with_cfv(word: &str) -> StatementStart
     })
 }
 
-// Of a word that begins with `r` or `t`.
+/// What a word that begins with `r` or `t` begins as a statement; `return` only if `returns`.
 fn start_with_rt(word: &str, returns: bool) -> StatementStart
     ensures { result ≡ coded_statement_start (statement_start_among word.now (only_texts (begins_with (codes "rt")) (statement_words returns))) }
 {
@@ -209,7 +209,7 @@ fn start_with_rt(word: &str, returns: bool) -> StatementStart
     })
 }
 
-// Of a word that begins with `s` or `w`.
+/// What a word that begins with `s` or `w` begins as a statement.
 fn start_with_sw(word: &str) -> StatementStart
     ensures { result ≡ coded_statement_start (statement_start_among word.now (only_texts (begins_with (codes "sw")) (statement_words true))) }
 {
@@ -220,7 +220,7 @@ fn start_with_sw(word: &str) -> StatementStart
     })
 }
 
-// What a word begins there.
+/// What a word begins in this context.
 fn start_of_name(word: &str, context: StatementContext) -> StatementStart
     ensures { result ≡ coded_statement_start (statement_start_by context.is_item context.returns TokenClass.IdentifierName word.now) }
 {
@@ -230,7 +230,7 @@ fn start_of_name(word: &str, context: StatementContext) -> StatementStart
     }
 }
 
-// What a punctuator begins where a statement may stand.
+/// What a punctuator begins where a statement may stand: a block, an empty statement or an expression.
 fn start_of_statement_punctuator(mark: &str) -> StatementStart
     ensures { (item returns : Bool) → result ≡ coded_statement_start (statement_start_by item returns TokenClass.Punctuator mark.now) }
 {

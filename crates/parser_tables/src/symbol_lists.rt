@@ -133,7 +133,7 @@ pub fn statement_symbols(headed: StatementKind, returns: bool) -> &'static [Symb
     }
 }
 
-// The pieces of a loop (13.7).
+/// The symbols of a loop after what tells its kind (13.7).
 fn loop_symbols(headed: StatementKind) -> &'static [Symbol]
     ensures { map piece_of result.now ≡ loop_parts headed }
 {
@@ -176,7 +176,7 @@ fn loop_symbols(headed: StatementKind) -> &'static [Symbol]
     }
 }
 
-// The pieces of a `switch` (13.12).
+/// The symbols of a `switch` after its word (13.12).
 fn switch_symbols(returns: bool) -> &'static [Symbol]
     ensures { map piece_of result.now ≡ switch_parts returns }
 {

@@ -12,23 +12,31 @@ use crate::shared_fragments::{CLOSE_SPACE, has_part, is_filled};
 use crate::statements::statement_frame;
 use tree::{Kind, Node};
 
+/// `{`.
 const BRACE: &[Fragment] = &[Fragment::Token("{")];
 
+/// `}`.
 const END_BRACE: &[Fragment] = &[Fragment::Token("}")];
 
+/// `}` on a line of its own.
 const LINE_END_BRACE: &[Fragment] = &[Fragment::Line, Fragment::Token("}")];
 
+/// `switch (`.
 const SWITCH: &[Fragment] = &[Fragment::Token("switch (")];
 
+/// `) {`, after the discriminant of a `switch`.
 const SWITCH_BRACE: &[Fragment] = &[Fragment::Token(") {")];
 
 /// With nothing at its end.
 static SCRIPT: Frame = list_frame!(&[], Feeds, &[Fragment::Token("")]);
 
+/// The frame of a block that isn't empty: each statement on a line of its own.
 static BLOCK: Frame = list_frame!(BRACE, Lines, LINE_END_BRACE);
 
+/// The frame of an empty block: `{}`.
 static EMPTY_BLOCK: Frame = list_frame!(BRACE, Nothing, END_BRACE);
 
+/// The frame of a `switch` with cases, each on a line of its own.
 static CASES: Frame = Frame {
     front: &[SWITCH],
     opener: SWITCH_BRACE,
@@ -37,6 +45,7 @@ static CASES: Frame = Frame {
     sites: PartSites::AllPlain,
 };
 
+/// The frame of a `switch` without cases.
 static NO_CASES: Frame = Frame {
     front: &[SWITCH],
     opener: SWITCH_BRACE,
@@ -45,6 +54,7 @@ static NO_CASES: Frame = Frame {
     sites: PartSites::AllPlain,
 };
 
+/// The frame of a `case`: its test, then each statement on a line of its own.
 static CASE: Frame = Frame {
     front: &[&[Fragment::Token("case ")]],
     opener: &[Fragment::Token(":")],
@@ -53,6 +63,7 @@ static CASE: Frame = Frame {
     sites: PartSites::AllPlain,
 };
 
+/// The frame of a `default`: each statement on a line of its own.
 static DEFAULT_CASE: Frame = Frame {
     front: &[&[]],
     opener: &[Fragment::Token("default:")],
@@ -61,8 +72,10 @@ static DEFAULT_CASE: Frame = Frame {
     sites: PartSites::AllPlain,
 };
 
+/// The frame of a `catch` with a parameter.
 static CATCH_BINDING: Frame = front_frame!(&[&[Fragment::Token("catch (")], CLOSE_SPACE,], &[]);
 
+/// The frame of a `catch` without a parameter.
 static CATCH: Frame = front_frame!(&[&[], &[Fragment::Token("catch ")]], &[]);
 
 /// Scripts, blocks, class bodies, switches and cases.

@@ -12,30 +12,43 @@ use crate::part_sites::PartSites;
 use crate::shared_fragments::{COLON, END_BRACKET, OPEN, has_part};
 use tree::{Flags, Form, Kind, Node};
 
+/// `function `.
 const FUNCTION: &[Fragment] = &[Fragment::Token("function ")];
 
+/// `class `.
 const CLASS: &[Fragment] = &[Fragment::Token("class ")];
 
+/// ` => `.
 const ARROW: &[Fragment] = &[Fragment::Token(" => ")];
 
+/// `extends `, in a class without a name.
 const EXTENDS: &[Fragment] = &[Fragment::Token("extends ")];
 
+/// ` extends `, after a class's name.
 const SPACE_EXTENDS: &[Fragment] = &[Fragment::Token(" extends ")];
 
+/// `get `.
 const GET: &[Fragment] = &[Fragment::Token("get ")];
 
+/// `set `.
 const SET: &[Fragment] = &[Fragment::Token("set ")];
 
+/// `static `.
 const STATIC: &[Fragment] = &[Fragment::Token("static ")];
 
+/// `static [`, before a computed key.
 const STATIC_BRACKET: &[Fragment] = &[Fragment::Token("static [")];
 
+/// `static get `.
 const STATIC_GET: &[Fragment] = &[Fragment::Token("static get ")];
 
+/// `static get [`, before a computed key.
 const STATIC_GET_BRACKET: &[Fragment] = &[Fragment::Token("static get [")];
 
+/// `static set `.
 const STATIC_SET: &[Fragment] = &[Fragment::Token("static set ")];
 
+/// `static set [`, before a computed key.
 const STATIC_SET_BRACKET: &[Fragment] = &[Fragment::Token("static set [")];
 
 /// Parameters in their parentheses, and a body, behind a part that stands behind these pieces.
@@ -51,65 +64,88 @@ macro_rules! function_frame {
     };
 }
 
+/// The frame of a function with its word: its name, if any, its parameters and its body.
 static NAMED_FUNCTION: Frame = function_frame!(FUNCTION);
 
+/// The frame of a method's function: its parameters and its body, without a word.
 static METHOD: Frame = function_frame!(&[]);
 
+/// The frame of an arrow function whose one parameter is a name, without parentheses.
 static NAMED_ARROW: Frame = front_frame!(&[&[], ARROW], &[]);
 
+/// The frame of an arrow function with its parameters in parentheses.
 static LISTED_ARROW: Frame = list_frame!(OPEN, ArrowParameters, &[]);
 
+/// The frame of a class with a name and a superclass.
 static NAMED_SUBCLASS: Frame = front_frame!(&[CLASS, SPACE_EXTENDS, &[Fragment::Space]], &[]);
 
+/// The frame of a class with a name and no superclass.
 static NAMED_CLASS: Frame = front_frame!(&[CLASS, &[Fragment::Space], &[]], &[]);
 
+/// The frame of a class with a superclass and no name.
 static SUBCLASS: Frame = front_frame!(&[CLASS, EXTENDS, &[Fragment::Space]], &[]);
 
+/// The frame of a class without a name and without a superclass.
 static BARE_CLASS: Frame = front_frame!(&[CLASS, &[], &[]], &[]);
 
+/// The frame of a shorthand property: its key is written as its value.
 static SHORTHAND: Frame = asking_frame!(ShorthandPair, &[&[], &[]]);
 
+/// The frame of a property with a plain key and a value.
 static VALUE: Frame = front_frame!(&[&[], COLON], &[]);
 
+/// The frame of a property with a computed key and a value.
 static COMPUTED_VALUE: Frame = front_frame!(
     &[&[Fragment::Token("[")], &[Fragment::Token("]: ")],],
     &[]
 );
 
+/// The frame of a getter with a plain key.
 static GETTER: Frame = asking_frame!(KeyAndMethod, &[GET, &[]]);
 
+/// The frame of a getter with a computed key.
 static COMPUTED_GETTER: Frame = asking_frame!(
     KeyAndMethod,
     &[&[Fragment::Token("get [")], END_BRACKET,]
 );
 
+/// The frame of a setter with a plain key.
 static SETTER: Frame = asking_frame!(KeyAndMethod, &[SET, &[]]);
 
+/// The frame of a setter with a computed key.
 static COMPUTED_SETTER: Frame = asking_frame!(
     KeyAndMethod,
     &[&[Fragment::Token("set [")], END_BRACKET,]
 );
 
+/// The frame of a method with a plain key.
 static PLAIN: Frame = asking_frame!(KeyAndMethod, &[&[], &[]]);
 
+/// The frame of a method with a computed key.
 static COMPUTED: Frame = asking_frame!(KeyAndMethod, &[&[Fragment::Token("[")], END_BRACKET]);
 
+/// The frame of a static getter with a plain key.
 static STATIC_GETTER: Frame = asking_frame!(KeyAndMethod, &[STATIC_GET, &[]]);
 
+/// The frame of a static getter with a computed key.
 static COMPUTED_STATIC_GETTER: Frame = asking_frame!(
     KeyAndMethod,
     &[STATIC_GET_BRACKET, END_BRACKET]
 );
 
+/// The frame of a static setter with a plain key.
 static STATIC_SETTER: Frame = asking_frame!(KeyAndMethod, &[STATIC_SET, &[]]);
 
+/// The frame of a static setter with a computed key.
 static COMPUTED_STATIC_SETTER: Frame = asking_frame!(
     KeyAndMethod,
     &[STATIC_SET_BRACKET, END_BRACKET]
 );
 
+/// The frame of a static method with a plain key.
 static STATIC_METHOD: Frame = asking_frame!(KeyAndMethod, &[STATIC, &[]]);
 
+/// The frame of a static method with a computed key.
 static COMPUTED_STATIC_METHOD: Frame = asking_frame!(KeyAndMethod, &[STATIC_BRACKET, END_BRACKET]);
 
 /// Functions, classes, properties and members.
@@ -135,6 +171,7 @@ pub fn method_frame() -> &'static Frame
     &METHOD
 }
 
+/// The frame of an arrow function; `single` if its one parameter is a name.
 fn arrow_frame(single: bool) -> &'static Frame
     ensures { shape_of result.now ≡ fused_shape (arrow_shape single) }
 {
@@ -166,6 +203,7 @@ fn class_frame(named: bool, extends: bool) -> &'static Frame
     }
 }
 
+/// The frame of an object's property, by its form and whether its key is computed.
 fn property_frame(flags: Flags) -> &'static Frame
     ensures { shape_of result.now ≡ fused_shape (property_shape flags.form flags.computed) }
 {
@@ -178,6 +216,7 @@ fn property_frame(flags: Flags) -> &'static Frame
     }
 }
 
+/// The frame of a class's member, by its form, whether it is static and whether its key is computed.
 fn member_frame(flags: Flags) -> &'static Frame
     ensures { shape_of result.now ≡ fused_shape (class_member_shape flags.is_static flags.form flags.computed) }
 {
@@ -196,24 +235,28 @@ fn value_frame(computed: bool) -> &'static Frame
     if computed { &COMPUTED_VALUE } else { &VALUE }
 }
 
+/// The frame of a getter that isn't static.
 fn getter_frame(computed: bool) -> &'static Frame
     ensures { shape_of result.now ≡ fused_shape (getter_shape computed) }
 {
     if computed { &COMPUTED_GETTER } else { &GETTER }
 }
 
+/// The frame of a setter that isn't static.
 fn setter_frame(computed: bool) -> &'static Frame
     ensures { shape_of result.now ≡ fused_shape (setter_shape computed) }
 {
     if computed { &COMPUTED_SETTER } else { &SETTER }
 }
 
+/// The frame of a method that isn't static.
 fn plain_frame(computed: bool) -> &'static Frame
     ensures { shape_of result.now ≡ fused_shape (plain_shape computed) }
 {
     if computed { &COMPUTED } else { &PLAIN }
 }
 
+/// The frame of a static member, by its form and whether its key is computed.
 fn static_frame(form: Form, computed: bool) -> &'static Frame
     ensures { shape_of result.now ≡ fused_shape (static_shape form computed) }
 {

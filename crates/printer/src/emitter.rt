@@ -177,6 +177,7 @@ impl<'w> Emitter<'w> {
         }
     }
 
+    /// Writes one fragment of this node's frame; `depth` is the level of its lines.
     fn push_piece<O: TextSink>(
         &mut self,
         piece: Fragment,
@@ -204,6 +205,7 @@ impl<'w> Emitter<'w> {
         }
     }
 
+    /// Writes a template's part between its delimiters.
     fn push_template_element<O: TextSink>(
         &mut self,
         text: &str,
@@ -219,6 +221,7 @@ impl<'w> Emitter<'w> {
     }
 }
 
+/// The byte of this sign.
 fn code_of(sign: SignOperator) -> u8
     ensures { result ≡ sign_code sign }
 {

@@ -14,14 +14,19 @@ use crate::shared_fragments::{CLOSE, END_BRACKET, OPEN};
 use tokens::TokenClass;
 use tree::{Flags, Kind, Node};
 
+/// The node's own text.
 const OWN: &[Fragment] = &[Fragment::NodeText];
 
+/// The operator, which is the node's text, between spaces.
 const INFIX: &[Fragment] = &[Fragment::Space, Fragment::NodeText, Fragment::Space];
 
+/// ` = `.
 const EQUALS: &[Fragment] = &[Fragment::Token(" = ")];
 
+/// `...`.
 const DOTS: &[Fragment] = &[Fragment::Token("...")];
 
+/// `[`.
 const BRACKET: &[Fragment] = &[Fragment::Token("[")];
 
 /// Arguments behind a part.
@@ -37,16 +42,22 @@ macro_rules! arguments_frame {
     };
 }
 
+/// The frame of a node that is its own text.
 static WORD: Frame = front_frame!(&[], OWN);
 
+/// The frame of `this`.
 static THIS: Frame = front_frame!(&[], &[Fragment::Token("this")]);
 
+/// The frame of `super`.
 static SUPER: Frame = front_frame!(&[], &[Fragment::Token("super")]);
 
+/// The frame of an array: its elements with commas between them, in brackets.
 static ARRAY: Frame = list_frame!(BRACKET, Commas, END_BRACKET);
 
+/// The frame of an object: its properties with commas between them, in braces.
 static OBJECT: Frame = list_frame!(&[Fragment::Token("{")], Commas, &[Fragment::Token("}")]);
 
+/// The frame of a template: its parts with nothing between them.
 static TEMPLATE: Frame = Frame {
     front: &[],
     opener: &[],
@@ -55,53 +66,73 @@ static TEMPLATE: Frame = Frame {
     sites: PartSites::TemplateParts,
 };
 
+/// The frame of a spread or a rest: `...` before its part.
 static SPREAD: Frame = front_frame!(&[DOTS], &[]);
 
+/// The frame of a target with its default.
 static DEFAULTED: Frame = front_frame!(&[&[], EQUALS], &[]);
 
+/// The frame of a tagged template: the tag, then the template.
 static TAGGED: Frame = front_frame!(&[&[], &[]], &[]);
 
+/// The frame of an optional chain: its part alone.
 static CHAIN: Frame = front_frame!(&[&[]], &[]);
 
+/// The frame of `import(…)`.
 static IMPORT: Frame = front_frame!(&[&[Fragment::Token("import(")]], CLOSE);
 
+/// The frame of `new.target`.
 static META_PROPERTY: Frame = front_frame!(&[&[], &[Fragment::Token(".")]], &[]);
 
+/// The frame of an operator that is no word, before its operand.
 static PREFIX: Frame = front_frame!(&[OWN], &[]);
 
+/// The frame of an operator after its operand.
 static POSTFIX: Frame = front_frame!(&[&[]], OWN);
 
+/// The frame of an operator that is a word, before its operand.
 static WORD_PREFIX: Frame = front_frame!(&[&[Fragment::NodeText, Fragment::Space]], &[]);
 
+/// The frame of an infix operator between its operands.
 static BINARY: Frame = front_frame!(&[&[], INFIX], &[]);
 
+/// The frame of a conditional expression.
 static CONDITIONAL: Frame = front_frame!(
     &[&[], &[Fragment::Token(" ? ")], &[Fragment::Token(" : ")],],
     &[]
 );
 
+/// The frame of a sequence: its expressions with commas between them.
 static SEQUENCE: Frame = list_frame!(&[], Commas, &[]);
 
+/// The frame of a member by name.
 static MEMBER: Frame = front_frame!(&[&[], &[Fragment::Token(".")]], &[]);
 
+/// The frame of a member by name whose object is a number; a space stands after the number if it isn't wrapped.
 static NUMBER_MEMBER: Frame = front_frame!(
     &[&[], &[Fragment::SpaceAfterNumber, Fragment::Token(".")]],
     &[]
 );
 
+/// The frame of a member by name after `?.`.
 static OPTIONAL_MEMBER: Frame = front_frame!(&[&[], &[Fragment::Token("?.")]], &[]);
 
+/// The frame of a member by index.
 static COMPUTED_MEMBER: Frame = front_frame!(&[&[], BRACKET], END_BRACKET);
 
+/// The frame of a member by index after `?.`.
 static OPTIONAL_COMPUTED_MEMBER: Frame = front_frame!(
     &[&[], &[Fragment::Token("?.[")]],
     END_BRACKET
 );
 
+/// The frame of a call.
 static CALL: Frame = arguments_frame!(&[&[]], OPEN);
 
+/// The frame of a call after `?.`.
 static OPTIONAL_CALL: Frame = arguments_frame!(&[&[]], &[Fragment::Token("?.(")]);
 
+/// The frame of `new` with its arguments.
 static NEW: Frame = arguments_frame!(&[&[Fragment::Token("new ")]], OPEN);
 
 /// Words, lists and templates.
@@ -142,12 +173,14 @@ fn operation_frame(node: Node) -> &'static Frame
     }
 }
 
+/// The frame of an update expression, by whether its operator stands before the operand.
 fn update_frame(prefix: bool) -> &'static Frame
     ensures { shape_of result.now ≡ fused_shape (update_shape prefix) }
 {
     if prefix { &PREFIX } else { &POSTFIX }
 }
 
+/// The frame of a unary expression, by its operator: a space follows a word.
 fn unary_frame(text: &str) -> &'static Frame
     ensures { shape_of result.now ≡ fused_shape (unary_shape text.now) }
 {
@@ -157,6 +190,7 @@ fn unary_frame(text: &str) -> &'static Frame
     &PREFIX
 }
 
+/// Whether the operator is a word.
 fn is_word_operator(text: &str) -> bool
     ensures { result ≡ is_operator_word text.now }
 {
@@ -174,6 +208,7 @@ fn is_open_number(node: Node) -> bool
     }
 }
 
+/// Whether the node is a number that would take a `.` after it as its own.
 #[inline(always)]
 fn is_number(kind: Kind, text: &str) -> bool
     ensures { result ≡ is_open_literal kind text.now }
@@ -195,6 +230,7 @@ fn is_open(class: TokenClass, text: &str) -> bool
     }
 }
 
+/// Whether the text ends in `n`, as a BigInt does.
 #[tactic(auto, using(crate::proofs::Ends::last_open, crate::proofs::Ends::empty_open))]
 fn ends_in_n(text: &str) -> bool
     ensures { result ≡ not (is_open_number_text TokenClass.NumericLiteral text.now) }
@@ -217,6 +253,7 @@ fn literal_class(raw: &str) -> TokenClass
     }
 }
 
+/// The frame of a member, by its flags; `after_number` if a `.` would become part of its object.
 fn member_frame(flags: Flags, after_number: bool) -> &'static Frame
     ensures { shape_of result.now ≡ fused_shape (member_shape flags.optional flags.computed after_number) }
 {
@@ -229,6 +266,7 @@ fn member_frame(flags: Flags, after_number: bool) -> &'static Frame
     }
 }
 
+/// The frame of a call, by whether it stands after `?.`.
 fn call_frame(optional: bool) -> &'static Frame
     ensures { shape_of result.now ≡ fused_shape (call_shape optional) }
 {

@@ -65,18 +65,25 @@ pub enum SignOperator {
     Minus,
 }
 
+/// Nothing.
 const NO_PIECES: &[Fragment] = &[];
 
+/// `,`.
 const COMMA: &[Fragment] = &[Fragment::Token(",")];
 
+/// `, `.
 const SEPARATOR: &[Fragment] = &[Fragment::Token(", ")];
 
+/// A line feed, and the spaces of the level.
 const LINE: &[Fragment] = &[Fragment::Line];
 
+/// A line feed.
 const FEED: &[Fragment] = &[Fragment::LineFeed];
 
+/// `) `.
 const CLOSE_SPACE: &[Fragment] = &[Fragment::Token(") ")];
 
+/// `) => `.
 const CLOSE_ARROW: &[Fragment] = &[Fragment::Token(") => ")];
 
 /// A node with no parts but these.

@@ -14,8 +14,10 @@ use crate::site::{Site, is_plain};
 use crate::statements::head_frame;
 use tree::{Kind, Node};
 
+/// The frame of a node that is written as nothing.
 static NOTHING: Frame = front_frame!(&[], &[]);
 
+/// The frame of a template's only part.
 static ONLY_CHUNK: Frame = front_frame!(
     &[],
     &[Fragment::TemplateElement {
@@ -24,6 +26,7 @@ static ONLY_CHUNK: Frame = front_frame!(
     }]
 );
 
+/// The frame of a template's first part, if others follow.
 static FIRST_CHUNK: Frame = front_frame!(
     &[],
     &[Fragment::TemplateElement {
@@ -32,6 +35,7 @@ static FIRST_CHUNK: Frame = front_frame!(
     }]
 );
 
+/// The frame of a template's last part, if others precede it.
 static LAST_CHUNK: Frame = front_frame!(
     &[],
     &[Fragment::TemplateElement {
@@ -40,6 +44,7 @@ static LAST_CHUNK: Frame = front_frame!(
     }]
 );
 
+/// The frame of a template's part between others.
 static INNER_CHUNK: Frame = front_frame!(
     &[],
     &[Fragment::TemplateElement {

@@ -1,6 +1,9 @@
 #![tactic(auto)]
 
-//! The text of a tree in its one layout, with parentheses round the nodes that are wrapped.
+//! The text of a tree in its one layout, with parentheses around the nodes that are wrapped.
+//! - May touch: a finished tree, which nodes are wrapped, and a text or a writer. What was written is never changed.
+//! - Contract: `print_text` answers the layout of a tree, and with the nodes of a plan wrapped its fixed text.
+//! - Begin at: `output.rt`, `print`; the walk in `printer.rt`; `site.rt`, `frame.rt`, and a file for each family.
 
 mod blocks;
 mod definitions;

@@ -25,6 +25,7 @@ pub trait TextSink {
 impl<W: Sink> TextSink for W {
     ghost stands = { λ w room. of_writer (W.taken w) (W.failed w) room };
 
+    /// Adds the text to what waits in the room; if it doesn't fit there, writes what waits first.
     fn put(&mut self, room: &mut OutputBuffer, text: &str) {
         let bytes = text.as_bytes();
         if room.fits(bytes.len()) {
@@ -34,6 +35,7 @@ impl<W: Sink> TextSink for W {
         put_beyond(self, room, bytes);
     }
 
+    /// Writes what waits in the room, unless the writer has failed.
     fn finish(&mut self, room: &mut OutputBuffer) {
         flush(self, room);
     }
@@ -110,6 +112,7 @@ impl TextBuffer {
 impl TextSink for TextBuffer {
     ghost stands = { λ t room. of_text (string_bytes t.string) t.is_refused };
 
+    /// Adds the text, unless memory was refused before.
     fn put(&mut self, _room: &mut OutputBuffer, text: &str) {
         if self.is_refused {
             return;
@@ -120,6 +123,7 @@ impl TextSink for TextBuffer {
         }
     }
 
+    /// Clears the room, in which nothing waits for a text.
     fn finish(&mut self, room: &mut OutputBuffer) {
         room.clear();
     }

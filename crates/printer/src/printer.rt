@@ -137,6 +137,7 @@ fn sign_of(node: Node) -> Option<SignOperator>
     }
 }
 
+/// The sign of which a prefix operator consists: `+` or `-`, once or twice; none for others.
 fn sign_in(text: &str) -> Option<SignOperator>
     ensures { result ≡ sign_of_text text.now }
 {

@@ -10,14 +10,19 @@ ghost use Rattle.printer.specs.Shapes.{has_part as has_part_at};
 use crate::fragments::Fragment;
 use tree::Node;
 
+/// `: `.
 pub const COLON: &[Fragment] = &[Fragment::Token(": ")];
 
+/// `(`.
 pub const OPEN: &[Fragment] = &[Fragment::Token("(")];
 
+/// `)`.
 pub const CLOSE: &[Fragment] = &[Fragment::Token(")")];
 
+/// `) `.
 pub const CLOSE_SPACE: &[Fragment] = &[Fragment::Token(") ")];
 
+/// `]`.
 pub const END_BRACKET: &[Fragment] = &[Fragment::Token("]")];
 
 /// Whether a part stands at a place.

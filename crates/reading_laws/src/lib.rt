@@ -1,6 +1,10 @@
 #![tactic(auto)]
 
-//! A text's own places and readings of it as lists of tokens derive the same, and the tree tells which reading it is: what is proved of the definitions. Each contract is a theorem, and the body does nothing.
+//! Theorems: what a text derives at its own places, its readings as lists of tokens spell too; the tree tells which
+//! reading.
+//! - May touch: nothing. Each contract is a theorem, and the body does nothing.
+//! - Contract: `derives_by_readings`: a text derives a script exactly if some reading of it spells that script.
+//! - Begin at: `specs/Laws.antt` and `specs/TreeReadings.antt` for what is said; `proofs/Walk.antt` for why.
 
 ghost use Rattle.reading_laws.specs.Laws.{AcceptsByReadings, AtMostOneTreeReading, DerivationsAreReadings, DerivedTextsHaveOneTreeReading, DerivesByReadings, ReadingsOfOneTreeAreEqual, SpelledReadingsAreTreeReadings};
 

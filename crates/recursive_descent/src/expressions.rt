@@ -33,13 +33,14 @@ use source_text::Fault;
 use tokens::{Goal, TokenClass};
 use tree::{Flags, Kind};
 
-// `++` and `--` before an operand.
+/// The flags of `++` or `--` before its operand.
 const PREFIX: Flags = Flags {
     prefix: true,
     ..Flags::PLAIN
 };
 
-// The left side of an operator, with the kind and the symbol of the node, the symbol of its right side, and what it may be.
+/// The left side of an operator, as a part of its node: with the node's kind and symbol, the symbol of its right side,
+/// and what the node may become.
 #[derive(Drop)]
 struct LeftOperand<'s> {
     node: MeasuredNode<'s>,
@@ -81,7 +82,7 @@ impl<'t, 's> Parser<'t, 's> {
         Ok(part)
     }
 
-    // What an operator that stands ahead makes of the expression before it.
+    /// Reads what the operator that stands ahead makes of the expression before it.
     #[cycle(grammar)]
     #[inline(never)]
     fn infix(
@@ -118,7 +119,7 @@ impl<'t, 's> Parser<'t, 's> {
         }
     }
 
-    // What `++` or `--` behind an expression makes of it, or a comma.
+    /// Reads a postfix update (12.4), or a sequence from its first comma on (12.16), from the expression before it.
     #[cycle(grammar)]
     #[inline(never)]
     fn update_or_comma(
@@ -172,7 +173,8 @@ impl<'t, 's> Parser<'t, 's> {
         }
     }
 
-    // What an operator with a right side makes: a binary or logical one, an assignment, a conditional.
+    /// Reads the rest of a binary or logical expression, an assignment or a conditional, from its operator on (12.6 to
+    /// 12.15).
     #[cycle(grammar)]
     #[inline(never)]
     fn binary_rest(
@@ -229,7 +231,7 @@ impl<'t, 's> Parser<'t, 's> {
         })
     }
 
-    // What stands left of an operator, and what the operator makes of it.
+    /// The expression before an operator as its left side; refused if its symbol or shape doesn't fit there.
     fn left_operand(
         &self,
         left: Operand<'s>,
@@ -276,7 +278,7 @@ impl<'t, 's> Parser<'t, 's> {
         }
     }
 
-    // The operand of `++` or `--` behind it.
+    /// The operand of a postfix `++` or `--` as a target of assignment (12.4); refused if it can't be one.
     fn update_target(&self, operand: Operand<'s>) -> Result<MeasuredNode<'s>, Fault>
         ensures target { BecomesHere (pattern_tree operand.entry.cover.node) (is_target operand.entry.cover.shape.assigned) self.now.cursor result }
         ensures refused { IfErr result (IsRefusal self.now.cursor.text) }
@@ -310,7 +312,7 @@ impl<'t, 's> Parser<'t, 's> {
         Ok(Operand::plain(node, Rank::Unary, edge))
     }
 
-    // A sequence of what was read, before its first comma (12.16).
+    /// A list for a sequence (12.16) that holds its first expression; refused if that is no AssignmentExpression.
     #[tactic(auto, using(parser_tables::proofs::Refusals::refusals, crate::proofs::reading::AdvancedTokens::moves, crate::proofs::sound_lists::ListRefusals::unless_taken))]
     fn sequence(&self, first: Operand<'s>, has_in: bool) -> Result<ListBuilder<'s>, Fault>
         ensures listed { IfOk result (λ list. list.listed ≡ ListKind.Sequence has_in) }
@@ -336,7 +338,7 @@ impl<'t, 's> Parser<'t, 's> {
     }
 }
 
-// The symbol of its left side.
+/// The symbol that an operator requires of its left side.
 fn left_rank(operator: InfixOperator) -> Rank
     ensures { result ≡ left_rank operator }
 {
@@ -347,7 +349,7 @@ fn left_rank(operator: InfixOperator) -> Rank
     }
 }
 
-// The text of a node of an operator: a conditional has none.
+/// The text that the node of an operator holds: none for a conditional.
 fn operator_text(kind: Kind, text: &str) -> &str
     ensures { result.now ≡ operator_text_of kind text.now }
 {

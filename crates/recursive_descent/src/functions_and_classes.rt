@@ -19,14 +19,14 @@ use productions::{MeasuredNode, MeasuredParts, finish_node, finish_plain};
 use source_text::Fault;
 use tree::{Flags, Kind};
 
-// An arrow function whose body is an expression.
+/// The flags of an arrow function whose body is an expression (14.2).
 const CONCISE: Flags = Flags {
     expression: true,
     ..Flags::PLAIN
 };
 
 impl<'t, 's> Parser<'t, 's> {
-    // The name of a function or a class, which an expression may leave out, as its first part.
+    /// Reads the name of a function or a class, which is its first part; a gap if it is left out or is a method's.
     fn function_or_class_name(
         &mut self,
         closure: FunctionOrClass,

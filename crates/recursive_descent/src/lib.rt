@@ -1,10 +1,11 @@
 #![tactic(auto)]
 
-//! Scripts from text (ECMA-262 clauses 12 to 15): by recursive descent. An expression is what its first token
-//! begins, and then what goes on with it; a statement is a list of pieces, by its first token; a list is one loop.
-//!
-//! For anyone who changes this crate or `parser_tables`, the functions on single tokens and on what was read.
-//! docs/ARCHITECTURE.md says which function reads which production, docs/PROOFS.md how the proof goes.
+//! Scripts from text by recursive descent: an expression is what its first token begins, and then what goes on with it.
+//! - May touch: all of reading: the cursor, which only this crate moves, nodes, and the list of pairs.
+//! - Contract: `read` answers what the text derives (`derived`), and all that it derives within the limits
+//!   (`complete`).
+//! - Begin at: `script.rt`, `read`; then `statements.rt` and `expressions.rt`. The rest of this head is for who
+//!   changes it.
 //!
 //! # The cycle
 //!

@@ -68,7 +68,7 @@ impl<'t, 's> Parser<'t, 's> {
         Ok(list)
     }
 
-    // Goes past any number of `;`.
+    /// Goes past all `;` that stand ahead.
     fn pass_semicolons(&mut self)
         ensures text { self.new.cursor.text ≡ self.old.cursor.text }
         ensures forward { self.old.cursor.last.stop ≤ self.new.cursor.last.stop }
@@ -80,7 +80,7 @@ impl<'t, 's> Parser<'t, 's> {
         'empty: while self.accept_punctuator(";") {}
     }
 
-    // Whether an item follows; in a class each `;` before it is passed.
+    /// Whether another item stands ahead; in a class body it goes past each `;` before it (14.6).
     fn has_item(&mut self, list: &ListBuilder<'s>) -> bool
         ensures text { self.new.cursor.text ≡ self.old.cursor.text }
         ensures forward { self.old.cursor.last.stop ≤ self.new.cursor.last.stop }
@@ -107,7 +107,7 @@ impl<'t, 's> Parser<'t, 's> {
         }
     }
 
-    // Whether another item may follow the last; a comma is passed.
+    /// Whether another item may follow the last; it goes past the comma between them.
     fn is_separated(&mut self, list: &mut ListBuilder<'s>) -> bool
         ensures text { self.new.cursor.text ≡ self.old.cursor.text }
         ensures forward { self.old.cursor.last.stop ≤ self.new.cursor.last.stop }
@@ -167,7 +167,8 @@ impl<'t, 's> Parser<'t, 's> {
         Ok(list)
     }
 
-    // One item of a list; what is no expression has functions of its own, so that this one, of each level, takes little of the stack.
+    /// Reads one item onto the list. `special_item` reads items of other kinds, so that this one, on each level, takes
+    /// little of the stack.
     #[cycle(grammar)]
     #[inline(never)]
     fn item(&mut self, list: &mut ListBuilder<'s>, high: u32) -> Result<(), Fault>
@@ -200,7 +201,7 @@ impl<'t, 's> Parser<'t, 's> {
         }
     }
 
-    // An item of a list that isn't of elements alone.
+    /// Reads one item of a list whose items aren't elements alone: properties, members, cases and the like.
     #[cycle(grammar)]
     #[inline(never)]
     fn special_item(&mut self, list: &mut ListBuilder<'s>, high: u32) -> Result<(), Fault>
@@ -261,7 +262,7 @@ impl<'t, 's> Parser<'t, 's> {
         }
     }
 
-    // An item behind `...`, which stands ahead.
+    /// Reads an item that begins with `...`, which stands ahead.
     #[cycle(grammar)]
     #[inline(never)]
     fn spread_item(&mut self, list: &mut ListBuilder<'s>, high: u32) -> Result<(), Fault>
@@ -283,7 +284,7 @@ impl<'t, 's> Parser<'t, 's> {
         list.push(item, self.cursor.next_start())
     }
 
-    // What stands between commas; `...` stands before it where it spreads.
+    /// The item that an expression between commas makes: a SpreadElement if `...` stood before it.
     pub(crate) fn element(
         &self,
         part: Operand<'s>,
@@ -310,7 +311,7 @@ impl<'t, 's> Parser<'t, 's> {
         })
     }
 
-    // A declarator: what is bound, and its value where it has one (13.3).
+    /// Reads a declarator (13.3): what is bound, and its value or a gap.
     #[cycle(grammar)]
     #[inline(never)]
     fn declarator(&mut self, has_in: bool, high: u32) -> Result<ListItem<'s>, Fault>
@@ -351,7 +352,7 @@ impl<'t, 's> Parser<'t, 's> {
         part.cover.to_binding(self.cursor.next_start())
     }
 
-    // Goes past `default`, or past `case`.
+    /// Goes past `default` or `case`, and answers whether it was `default`.
     fn is_default(&mut self) -> Result<bool, Fault>
         ensures text { self.new.cursor.text ≡ self.old.cursor.text }
         ensures forward { self.old.cursor.last.stop ≤ self.new.cursor.last.stop }
@@ -369,7 +370,7 @@ impl<'t, 's> Parser<'t, 's> {
         Ok(false)
     }
 
-    // The first part of a template.
+    /// Reads the first part of a template (12.2.9).
     fn first_template_element(&mut self, high: u32) -> Result<ListItem<'s>, Fault>
         ensures text { self.new.cursor.text ≡ self.old.cursor.text }
         ensures forward { self.old.cursor.last.stop ≤ self.new.cursor.last.stop }
@@ -386,7 +387,7 @@ impl<'t, 's> Parser<'t, 's> {
         template_element(self.alloc, token, high)
     }
 
-    // The token of the next part of a template.
+    /// Takes the token of the next part of a template, which begins with `}` (11.8.6).
     fn template_element_token(&mut self) -> Result<Token<'s>, Fault>
         ensures text { self.new.cursor.text ≡ self.old.cursor.text }
         ensures forward { self.old.cursor.last.stop ≤ self.new.cursor.last.stop }
@@ -408,7 +409,7 @@ impl<'t, 's> Parser<'t, 's> {
         Ok(token)
     }
 
-    // The next part of a template.
+    /// Reads the next part of a template (12.2.9), after an expression in it.
     fn next_template_element(&mut self, high: u32) -> Result<ListItem<'s>, Fault>
         ensures text { self.new.cursor.text ≡ self.old.cursor.text }
         ensures forward { self.old.cursor.last.stop ≤ self.new.cursor.last.stop }

@@ -44,7 +44,7 @@ use tokens::{Goal, Token, TokenClass};
 use tree::{Kind, NodeText};
 
 impl<'t, 's> Parser<'t, 's> {
-    // The token with which an expression begins at the position, and what it begins.
+    /// The token ahead and what it begins; none if no expression at the position begins with it.
     fn peek_start(&self, position: ExpressionContext) -> Option<(Token<'s>, ExpressionStart)>
         ensures ahead { IfSome result (λ found. IsAhead Goal.RegExp self.now.cursor.text self.now.cursor.last.stop (token_of found.0)) }
         ensures real { IfSome result (λ found. found.0.class ≢ TokenClass.End) }
@@ -100,7 +100,7 @@ impl<'t, 's> Parser<'t, 's> {
         }
     }
 
-    // An array, an object or a template, which stands ahead (12.2.5, 12.2.6, 12.2.9).
+    /// Reads an array, an object or a template, whose first token stands ahead (12.2.5, 12.2.6, 12.2.9).
     #[cycle(grammar)]
     #[inline(never)]
     fn bracketed_list(
@@ -127,7 +127,8 @@ impl<'t, 's> Parser<'t, 's> {
         finish_list(list, high)
     }
 
-    // A prefix with its operand, or a node that is one token, where it is no parameter of an arrow function.
+    /// Reads a prefix operator with its operand, a node of one token, or an arrow function whose parameter is that
+    /// token.
     #[cycle(grammar)]
     #[inline(never)]
     fn token_or_prefix(
@@ -170,7 +171,7 @@ impl<'t, 's> Parser<'t, 's> {
         }
     }
 
-    // A prefix, which stands ahead, with its operand (12.4, 12.5).
+    /// Reads a prefix operator, which stands ahead, with its operand (12.4, 12.5).
     #[cycle(grammar)]
     #[inline(never)]
     fn prefix_expression(
@@ -218,7 +219,7 @@ impl<'t, 's> Parser<'t, 's> {
         )
     }
 
-    // Whether a member of `super` stands ahead, or where it may stand a call (12.3.5).
+    /// Whether a member of `super` stands ahead, or its arguments if a call may stand here (12.3.7).
     fn sees_super_continuation(&self, takes_call: bool) -> bool
         ensures seen { OnTrue result (SeesBy self.now.cursor.text Div (continues_super takes_call) self.now.cursor.last) }
         ensures missed { OnFalse result (MissesBy self.now.cursor.text Div (continues_super takes_call) self.now.cursor.last) }
@@ -229,7 +230,7 @@ impl<'t, 's> Parser<'t, 's> {
         }
     }
 
-    // What follows `function`, `class`, `super`, `new` or `import` (12.3, 14.1, 14.6).
+    /// Reads the rest of an expression after `function`, `class`, `super`, `new` or `import` (12.3, 14.1, 14.6).
     #[cycle(grammar)]
     #[inline(never)]
     fn keyword_expression(
@@ -263,7 +264,7 @@ impl<'t, 's> Parser<'t, 's> {
         }
     }
 
-    // A member of `super`, or its call (12.3.5).
+    /// Reads a member of `super`, or its call, after `super` (12.3.7).
     #[cycle(grammar)]
     #[inline(never)]
     fn super_expression(
@@ -286,7 +287,7 @@ impl<'t, 's> Parser<'t, 's> {
         self.subscript(Operand::plain(node, Rank::Primary, Edge::Other), high)
     }
 
-    // What `new` makes, or `new.target` (12.3.3, 12.3.8).
+    /// Reads what stands after `new`: a callee with its arguments, or `.target` (12.3.5, 12.3.12).
     #[cycle(grammar)]
     #[inline(never)]
     fn new_expression(
@@ -322,7 +323,7 @@ impl<'t, 's> Parser<'t, 's> {
         Ok(Operand::plain(node, rank, Edge::Other))
     }
 
-    // ImportCall (12.3.10).
+    /// Reads an ImportCall after `import` (12.3.10).
     #[cycle(grammar)]
     #[inline(never)]
     fn import_call(
@@ -352,7 +353,7 @@ impl<'t, 's> Parser<'t, 's> {
         Ok(Operand::plain(node, Rank::Call, Edge::Other))
     }
 
-    // `new.target`, behind its `.` (12.3.8).
+    /// Reads the rest of `new.target` after its `.` (12.3.12).
     fn new_target(&mut self, new: Token<'s>, high: u32) -> Result<Operand<'s>, Fault>
         ensures text { self.new.cursor.text ≡ self.old.cursor.text }
         ensures forward { self.old.cursor.last.stop ≤ self.new.cursor.last.stop }
@@ -381,7 +382,7 @@ impl<'t, 's> Parser<'t, 's> {
         }
     }
 
-    // What parentheses group, or an arrow function with its parameters in them (12.2.10, 14.2).
+    /// Reads an expression in parentheses, or an arrow function whose parameters they hold (12.2.10, 14.2).
     #[cycle(grammar)]
     #[inline(never)]
     fn parenthesized(
@@ -410,7 +411,8 @@ impl<'t, 's> Parser<'t, 's> {
         finish_group(list, at, high)
     }
 
-    // Opens a parenthesis that stands ahead, with a pair that doesn't group yet: gives its place among the pairs, and in the text.
+    /// Opens the parenthesis that stands ahead, with a pair that doesn't group yet: answers the pair's index and the
+    /// place of the parenthesis in bytes.
     fn enter(&mut self) -> Result<(usize, usize), Fault>
         ensures text { self.new.cursor.text ≡ self.old.cursor.text }
         ensures last { self.new.cursor.last ≡ self.old.cursor.last }
@@ -427,7 +429,7 @@ impl<'t, 's> Parser<'t, 's> {
         Ok((place, start))
     }
 
-    // Closes the last parenthesis that counts: gives the place of what stands ahead.
+    /// Counts the last open parenthesis as closed, and answers where the next token begins, in bytes.
     fn leave(&mut self) -> usize
         ensures text { self.new.cursor.text ≡ self.old.cursor.text }
         ensures last { self.new.cursor.last ≡ self.old.cursor.last }
@@ -440,7 +442,7 @@ impl<'t, 's> Parser<'t, 's> {
         self.cursor.next_start()
     }
 
-    // The pair at this place among them groups.
+    /// Makes the pair at this index a grouping pair, with the places of its parentheses in bytes.
     fn close_pair(&mut self, place: usize, left: usize, right: usize)
         ensures cursor { self.new.cursor ≡ self.old.cursor }
         ensures pairs { place < vec_len self.old.pairs → self.new.pairs.items ≡ set self.old.pairs.items place (record { left = left; right = right }) }
@@ -451,7 +453,7 @@ impl<'t, 's> Parser<'t, 's> {
     }
 }
 
-// Whether it is the kind of a name.
+/// Whether the kind is Identifier.
 fn is_name(kind: Kind) -> bool
     ensures { result ≡ is_identifier kind }
 {

@@ -33,7 +33,7 @@ use token_cursor::{is_identifier, is_name_token};
 use tokens::{Goal, Token, TokenClass};
 use tree::{Flags, Form, Kind};
 
-// PropertyName (12.2.6).
+/// A PropertyName (12.2.6) that was read, and what its property must know of it.
 #[derive(Drop)]
 struct PropertyName<'s> {
     node: MeasuredNode<'s>,
@@ -45,7 +45,8 @@ struct PropertyName<'s> {
     is_constructor: bool,
 }
 
-// What stands before the name of a property; the name itself where it is `get`, `set` or `static`.
+/// The `static`, `get` and `set` before a property's name (14.3, 14.6); `name` is the one of them that is itself the
+/// name.
 #[derive(Clone, Copy)]
 struct Modifiers<'s> {
     is_static: bool,
@@ -53,7 +54,7 @@ struct Modifiers<'s> {
     name: Option<Token<'s>>,
 }
 
-// The modifiers with `get` or `set`, unless that is the name itself.
+/// The modifiers with this form; a method's if the word was the name itself.
 fn unless_name(is_static: bool, form: Form, name: Option<Token<'_>>) -> Modifiers<'_>
     ensures handed { result.is_static ≡ is_static }
     ensures form { result.form ≡ form_with name.entry form }
@@ -71,7 +72,7 @@ fn unless_name(is_static: bool, form: Form, name: Option<Token<'_>>) -> Modifier
 }
 
 impl<'t, 's> Parser<'t, 's> {
-    // Whether a key of a property begins ahead (12.2.6).
+    /// Whether a PropertyName stands ahead (12.2.6).
     fn sees_key(&self) -> bool
         ensures seen { OnTrue result (SeesBy self.now.cursor.text Div begins_key self.now.cursor.last) }
         ensures missed { OnFalse result (MissesBy self.now.cursor.text Div begins_key self.now.cursor.last) }
@@ -82,7 +83,7 @@ impl<'t, 's> Parser<'t, 's> {
         }
     }
 
-    // Goes past a word before a property's name: gives it where it is the name itself.
+    /// Goes past this word before a property's name, if it stands ahead; answers its token if it is the name itself.
     fn modifier(&mut self, word: &str) -> Option<Option<Token<'s>>>
         ensures text { self.new.cursor.text ≡ self.old.cursor.text }
         ensures forward { self.old.cursor.last.stop ≤ self.new.cursor.last.stop }
@@ -104,7 +105,7 @@ impl<'t, 's> Parser<'t, 's> {
         }
     }
 
-    // `get` and `set` before a name (14.3), with `static` before them or without.
+    /// Reads `get` or `set` before a property's name, if it is there (14.3).
     fn accessor(&mut self, is_static: bool) -> Modifiers<'s>
         ensures text { self.new.cursor.text ≡ self.old.cursor.text }
         ensures forward { self.old.cursor.last.stop ≤ self.new.cursor.last.stop }
@@ -123,7 +124,8 @@ impl<'t, 's> Parser<'t, 's> {
         unless_name(is_static, Form::Method, None)
     }
 
-    // `static`, `get` and `set` before a name (14.3, 14.6).
+    /// Reads `static`, in a class, and then `get` or `set` before a property's name, as far as they are there (14.3,
+    /// 14.6).
     fn modifiers(&mut self, in_class: bool) -> Modifiers<'s>
         ensures text { self.new.cursor.text ≡ self.old.cursor.text }
         ensures forward { self.old.cursor.last.stop ≤ self.new.cursor.last.stop }
@@ -142,7 +144,7 @@ impl<'t, 's> Parser<'t, 's> {
         }
     }
 
-    // The one token of a PropertyName (12.2.6) that stands ahead.
+    /// Takes the name, string or number that is a LiteralPropertyName (12.2.6).
     fn key_token(&mut self) -> Result<Token<'s>, Fault>
         ensures text { self.new.cursor.text ≡ self.old.cursor.text }
         ensures forward { self.old.cursor.last.stop ≤ self.new.cursor.last.stop }
@@ -164,7 +166,7 @@ impl<'t, 's> Parser<'t, 's> {
         Ok(token)
     }
 
-    // PropertyName (12.2.6) that is no expression in brackets.
+    /// Reads a LiteralPropertyName (12.2.6): one that isn't in brackets.
     fn plain_property_name(&mut self, in_class: bool, high: u32) -> Result<PropertyName<'s>, Fault>
         ensures text { self.new.cursor.text ≡ self.old.cursor.text }
         ensures forward { self.old.cursor.last.stop ≤ self.new.cursor.last.stop }
@@ -181,7 +183,7 @@ impl<'t, 's> Parser<'t, 's> {
         self.property_name_of(token, is_constructor, high)
     }
 
-    // The key that a name, a string or a number is.
+    /// The PropertyName that a token makes: a name, a string or a number.
     fn property_name_of(
         &self,
         token: Token<'s>,
@@ -204,7 +206,7 @@ impl<'t, 's> Parser<'t, 's> {
         })
     }
 
-    // What stands before the name of a property or a member, and the name (12.2.6, 14.3, 14.6).
+    /// Reads the modifiers of a property or a member, and its PropertyName (12.2.6, 14.3, 14.6).
     #[cycle(grammar)]
     #[inline(never)]
     fn property_name(
@@ -285,7 +287,7 @@ impl<'t, 's> Parser<'t, 's> {
         Ok(ListItem::plain(node))
     }
 
-    // What follows the key of a property of an object that is no method.
+    /// Reads the value of an object's property after its key: after a `:`, or by the shorthand (12.2.6).
     #[cycle(grammar)]
     #[inline(never)]
     fn property_value(
@@ -353,7 +355,7 @@ impl<'t, 's> Parser<'t, 's> {
     }
 }
 
-// The kind and the flags of a method, getter or setter; a method of a class whose name is `constructor` is the constructor (14.6).
+/// The kind and flags of a method, getter or setter; in a class, the method called `constructor` is the constructor.
 fn method_kind(in_class: bool, key: &PropertyName<'_>, modifiers: Modifiers<'_>) -> (Kind, Flags)
     ensures kind { result.0 ≡ member_kind in_class }
     ensures flags { result.1 ≡ member_flags key.now.computed modifiers.entry.is_static (method_form modifiers.entry.is_static modifiers.entry.form key.now.is_constructor) }

@@ -32,7 +32,7 @@ use token_cursor::StatementEnd;
 use tokens::Goal;
 use tree::{Flags, Kind};
 
-// What stands ahead where a piece does, once its own tokens were passed.
+/// What is to be read for a symbol of a statement, once its own tokens are passed.
 #[derive(Clone, Copy)]
 enum Expected {
     Nothing,
@@ -48,7 +48,7 @@ enum Expected {
     List(ListKind),
 }
 
-// What an expression that may be missing is.
+/// An expression at this position if it is there, else a gap.
 fn expected_where(is_there: bool, position: ExpressionContext) -> Expected
     ensures handler { IfHandler result ⊥ }
     ensures is { result ≡ expected_if is_there position }
@@ -59,7 +59,7 @@ fn expected_where(is_there: bool, position: ExpressionContext) -> Expected
     }
 }
 
-// What a piece wants whatever stands ahead.
+/// What a symbol requires whatever stands ahead; none if that depends on what stands there.
 fn expected_always(piece: Symbol, context: StatementContext) -> Option<Expected>
     ensures handler { IfSome result (λ want. IfHandler want ⊥) }
     ensures is { result ≡ expected_always piece context.returns }
@@ -79,7 +79,7 @@ fn expected_always(piece: Symbol, context: StatementContext) -> Option<Expected>
 }
 
 impl<'t, 's> Parser<'t, 's> {
-    // Whether an argument follows the word of a statement, if anything does.
+    /// Whether the token ahead may begin the argument of `return` (13.10): it doesn't end the statement.
     fn sees_argument(&self) -> bool
         ensures given { OnTrue result (MissesBy self.now.cursor.text RegExp ends_word self.now.cursor.last) }
         ensures missing { OnFalse result (SeesBy self.now.cursor.text RegExp ends_word self.now.cursor.last) }
@@ -90,7 +90,7 @@ impl<'t, 's> Parser<'t, 's> {
         }
     }
 
-    // Whether `in` or `of` stands ahead.
+    /// Whether `in` or `of` stands ahead.
     fn sees_in_or_of(&self) -> bool
         ensures seen { OnTrue result (SeesBy self.now.cursor.text Div is_each self.now.cursor.last) }
         ensures missed { OnFalse result (MissesBy self.now.cursor.text Div is_each self.now.cursor.last) }
@@ -101,7 +101,7 @@ impl<'t, 's> Parser<'t, 's> {
         }
     }
 
-    // A label on the same line, or nothing.
+    /// Reads the label of `break` or `continue` if it stands on the same line, else adds a gap (13.8, 13.9).
     fn label_symbol(&mut self, built: &mut PartialStatement<'s>, high: u32) -> Result<(), Fault>
         ensures text { self.new.cursor.text ≡ self.old.cursor.text }
         ensures forward { self.old.cursor.last.stop ≤ self.new.cursor.last.stop }
@@ -120,7 +120,7 @@ impl<'t, 's> Parser<'t, 's> {
             .push(self.token_node(Kind::Identifier, label, high)?)
     }
 
-    // A piece that is tokens alone.
+    /// Reads a symbol that consists of tokens alone: a mark, a word, a semicolon, a label.
     fn token_symbol(
         &mut self,
         piece: Symbol,
@@ -157,7 +157,7 @@ impl<'t, 's> Parser<'t, 's> {
         }
     }
 
-    // `else` and a statement, or nothing.
+    /// Goes past `else`, after which a statement is to be read; a gap if there is none (13.6).
     fn else_symbol(&mut self) -> Expected
         ensures text { self.new.cursor.text ≡ self.old.cursor.text }
         ensures forward { self.old.cursor.last.stop ≤ self.new.cursor.last.stop }
@@ -172,7 +172,7 @@ impl<'t, 's> Parser<'t, 's> {
         }
     }
 
-    // `finally` and a block, or nothing.
+    /// Goes past `finally`, after which a block is to be read; a gap if there is none (13.15).
     fn finally_symbol(&mut self, context: StatementContext) -> Expected
         ensures text { self.new.cursor.text ≡ self.old.cursor.text }
         ensures forward { self.old.cursor.last.stop ≤ self.new.cursor.last.stop }
@@ -187,7 +187,7 @@ impl<'t, 's> Parser<'t, 's> {
         }
     }
 
-    // `catch` and a handler, or nothing before `finally`.
+    /// Goes past `catch`, after which a handler is to be read; a gap before `finally`, else refused (13.15).
     fn catch_symbol(&mut self) -> Result<Expected, Fault>
         ensures text { self.new.cursor.text ≡ self.old.cursor.text }
         ensures forward { self.old.cursor.last.stop ≤ self.new.cursor.last.stop }
@@ -208,7 +208,7 @@ impl<'t, 's> Parser<'t, 's> {
         }
     }
 
-    // `extends` and a superclass, or nothing.
+    /// Goes past `extends`, after which a superclass is to be read; a gap if there is none (14.6).
     fn heritage_symbol(&mut self) -> Expected
         ensures text { self.new.cursor.text ≡ self.old.cursor.text }
         ensures forward { self.old.cursor.last.stop ≤ self.new.cursor.last.stop }
@@ -223,7 +223,7 @@ impl<'t, 's> Parser<'t, 's> {
         }
     }
 
-    // What a piece with one of these words before it wants.
+    /// What is to be read for a symbol that begins with `else`, `finally`, `catch` or `extends`.
     fn keyword_symbol(
         &mut self,
         piece: Symbol,
@@ -247,7 +247,7 @@ impl<'t, 's> Parser<'t, 's> {
         }
     }
 
-    // What stands first in the parentheses of a `for`.
+    /// What is to be read first in the parentheses of a `for` (13.7): a declaration's list, an expression, or a gap.
     fn for_head_symbol(&mut self, built: &mut PartialStatement<'s>) -> Expected
         ensures text { self.new.cursor.text ≡ self.old.cursor.text }
         ensures forward { self.old.cursor.last.stop ≤ self.new.cursor.last.stop }
@@ -267,7 +267,7 @@ impl<'t, 's> Parser<'t, 's> {
         }
     }
 
-    // What a piece wants behind its own tokens, which are passed.
+    /// What is to be read for a symbol; it goes past the symbol's own tokens.
     fn expected(
         &mut self,
         piece: Symbol,
@@ -316,7 +316,8 @@ impl<'t, 's> Parser<'t, 's> {
         }
     }
 
-    // What a piece makes of the expression that it wanted; `each`: `in` or `of` stands ahead.
+    /// The node that a symbol makes of its expression: a pattern in the head of a `for` with `in` or `of` ahead
+    /// (`each`), or a binding.
     fn symbol_node(
         &self,
         piece: Symbol,
@@ -333,7 +334,7 @@ impl<'t, 's> Parser<'t, 's> {
         }
     }
 
-    // Adds an expression that a piece wanted.
+    /// Adds the expression that was read for a symbol.
     fn add_expression(
         &self,
         built: &mut PartialStatement<'s>,
@@ -351,7 +352,7 @@ impl<'t, 's> Parser<'t, 's> {
         built.nodes.push(node)
     }
 
-    // Adds a list that a piece wanted; `high` is the greatest height of a part.
+    /// Adds the list that was read for a symbol; no part may be higher than `high`.
     fn add_list(
         &self,
         built: &mut PartialStatement<'s>,
@@ -385,7 +386,7 @@ impl<'t, 's> Parser<'t, 's> {
         }
     }
 
-    // Adds the head of a `for` that is a declaration (13.7.4, 13.7.5).
+    /// Adds the declaration in the head of a `for` (13.7.4, 13.7.5).
     fn add_for_declaration(
         &self,
         built: &mut PartialStatement<'s>,
@@ -410,7 +411,7 @@ impl<'t, 's> Parser<'t, 's> {
         built.nodes.push(node)
     }
 
-    // The pieces of a handler behind `catch`.
+    /// The symbols of a handler after `catch` (13.15): with a parameter if `(` stands ahead.
     fn catch_symbols(&self) -> &'static [Symbol]
         ensures { CatchParts self.now.cursor.text self.now.cursor.last (map piece_of result.now) }
     {

@@ -34,7 +34,7 @@ use tokens::{Goal, Token, TokenClass};
 use tree::{Flags, Kind};
 
 impl<'t, 's> Parser<'t, 's> {
-    // Whether a list of statements ends here.
+    /// Whether the token ahead ends this list of statements.
     fn sees_end(&self, until: StatementListEnd) -> bool
         ensures seen { OnTrue result (SeesBy self.now.cursor.text Div (ends until) self.now.cursor.last) }
         ensures missed { OnFalse result (MissesBy self.now.cursor.text Div (ends until) self.now.cursor.last) }
@@ -132,7 +132,7 @@ impl<'t, 's> Parser<'t, 's> {
         finish_node(what.kind(), text, Flags::PLAIN, span, built.nodes, high)
     }
 
-    // The first token of a statement, and what it begins; a statement has at least this height.
+    /// The token ahead and the statement that it begins; refused if no height is left for a node.
     fn peek_statement_start(
         &self,
         context: StatementContext,
@@ -155,7 +155,7 @@ impl<'t, 's> Parser<'t, 's> {
         Ok((token, statement_start_of(&token, context)))
     }
 
-    // Whether what was read is a label: a name alone with a `:` behind it (13.13).
+    /// Whether what was read is a label (13.13): a name without parentheses, with a `:` ahead.
     fn is_label(&self, part: &Operand<'s>) -> bool
         ensures label { OnTrue result ((kind_of part.now.cover.node ≡ Kind.Identifier) × (is_group part.now.rank ≡ false) × Sees self.now.cursor.text TokenClass.Punctuator (codes ":") self.now.cursor.last) }
         ensures no_label { OnFalse result (kind_of part.now.cover.node ≡ Kind.Identifier → is_group part.now.rank ≡ false → Misses self.now.cursor.text TokenClass.Punctuator (codes ":") self.now.cursor.last) }
@@ -166,7 +166,8 @@ impl<'t, 's> Parser<'t, 's> {
         self.sees_punctuator(":")
     }
 
-    // ExpressionStatement (13.5), a directive where it may be one (14.1.1), behind its expression.
+    /// Reads the end of an ExpressionStatement (13.5) after its expression; it is a directive where one may stand
+    /// (14.1.1).
     fn expression_statement(
         &mut self,
         part: Operand<'s>,
@@ -193,7 +194,7 @@ impl<'t, 's> Parser<'t, 's> {
         finish_node(Kind::ExpressionStatement, "", flags, span, nodes, high)
     }
 
-    // What a `for` is, by what follows what stands first in its parentheses (13.7).
+    /// Which `for` it is, by the token after what stands first in its parentheses (13.7).
     fn for_kind(&self) -> Result<StatementKind, Fault>
         ensures followed { IfOk result (KindFollowed self.now.cursor.text self.now.cursor.last) }
         ensures unfollowed { IfErr result (λ _. KindUnfollowed self.now.cursor.text self.now.cursor.last) }

@@ -26,7 +26,7 @@ use source_text::Fault;
 use tokens::{Goal, Token, TokenClass};
 use tree::{Flags, Kind};
 
-// What follows the object of a member, a callee or a tag.
+/// What follows the object of a member, a callee or a tag.
 #[derive(Clone, Copy)]
 enum Subscript {
     // A name behind a `.` or `?.` that was passed.
@@ -37,7 +37,7 @@ enum Subscript {
 }
 
 impl Subscript {
-    // The kind of the node.
+    /// The kind of its node.
     fn kind(self) -> Kind
         ensures { result ≡ link_kind self }
     {
@@ -48,7 +48,7 @@ impl Subscript {
         }
     }
 
-    // The flags of the node.
+    /// The flags of its node.
     fn flags(self, optional: bool) -> Flags
         ensures { result ≡ link_flags self optional }
     {
@@ -58,7 +58,7 @@ impl Subscript {
         flags
     }
 
-    // The symbol of the node; of one that begins with a call (`is_call`) it is a call's too.
+    /// The symbol of its node: a call's if the node begins with a call (`is_call`), else a member's.
     fn rank(self, is_call: bool) -> Rank
         ensures { result ≡ link_rank self is_call }
     {
@@ -70,7 +70,7 @@ impl Subscript {
     }
 }
 
-// What follows, by its first token.
+/// What the token begins after an object, if anything; a name stands after a `.` or `?.` that was passed.
 fn subscript_of(token: &Token<'_>) -> Option<Subscript>
     ensures { result ≡ link_by token.now.class token.now.text.now }
 {
@@ -86,7 +86,7 @@ fn subscript_of(token: &Token<'_>) -> Option<Subscript>
     }
 }
 
-// Whether the token goes on with a part of a chain.
+/// Whether the token goes on with an optional chain (12.3.9).
 fn is_chain_part(token: &Token<'_>) -> bool
     ensures { result ≡ is_link (as_read (token_of token.now)) }
 {
@@ -96,7 +96,7 @@ fn is_chain_part(token: &Token<'_>) -> bool
     }
 }
 
-// Whether the token is a part of a template.
+/// Whether the token is of the class of templates.
 fn is_template(token: &Token<'_>) -> bool
     ensures { result ≡ is_template (as_read (token_of token.now)) }
 {
@@ -107,7 +107,7 @@ fn is_template(token: &Token<'_>) -> bool
 }
 
 impl<'t, 's> Parser<'t, 's> {
-    // Whether a part of a chain stands ahead.
+    /// Whether the token ahead goes on with an optional chain (12.3.9).
     fn sees_chain_part(&self) -> bool
         ensures seen { OnTrue result (SeesBy self.now.cursor.text Div is_link self.now.cursor.last) }
         ensures missed { OnFalse result (MissesBy self.now.cursor.text Div is_link self.now.cursor.last) }
@@ -118,7 +118,7 @@ impl<'t, 's> Parser<'t, 's> {
         }
     }
 
-    // Arguments or an index, where they stand ahead.
+    /// What stands ahead, if it is arguments or an index.
     fn peek_enclosed(&self) -> Option<Subscript>
         ensures linked { IfSome result (λ found. LinkedAt self.now.cursor self.now.cursor found false) }
     {
@@ -134,7 +134,7 @@ impl<'t, 's> Parser<'t, 's> {
         }
     }
 
-    // What follows, and whether behind a `?.`; a `.` and `?.` are passed.
+    /// Goes past a `.` or `?.`: answers what follows the object, and whether a `?.` stood before it.
     fn subscript_start(&mut self) -> Result<(Subscript, bool), Fault>
         ensures text { self.new.cursor.text ≡ self.old.cursor.text }
         ensures forward { self.old.cursor.last.stop ≤ self.new.cursor.last.stop }
@@ -181,7 +181,7 @@ impl<'t, 's> Parser<'t, 's> {
         }
     }
 
-    // What was read with a `.`, which stands ahead, and a name (12.3.2).
+    /// Reads a member by name (12.3.2), with its `.` ahead, from the object before it.
     #[inline(never)]
     pub(crate) fn dot_member(&mut self, left: Operand<'s>, high: u32) -> Result<Operand<'s>, Fault>
         requires dot { Sees self.old.cursor.text TokenClass.Punctuator (codes ".") self.old.cursor.last }
@@ -209,7 +209,7 @@ impl<'t, 's> Parser<'t, 's> {
         Ok(Operand::plain(node, Subscript::Name.rank(is_call), Edge::Other))
     }
 
-    // What was read with arguments, which stand ahead (12.3.6).
+    /// Reads a call (12.3.6), with its `(` ahead, from the callee before it.
     #[cycle(grammar)]
     #[inline(never)]
     pub(crate) fn call_expression(
@@ -238,7 +238,7 @@ impl<'t, 's> Parser<'t, 's> {
         Ok(Operand::plain(node, Rank::Call, Edge::Other))
     }
 
-    // What was read with an index in its brackets, which stand ahead (12.3.2).
+    /// Reads a member by index (12.3.2), with its `[` ahead, from the object before it.
     #[cycle(grammar)]
     #[inline(never)]
     fn index_member(&mut self, left: Operand<'s>, high: u32) -> Result<Operand<'s>, Fault>
@@ -268,7 +268,7 @@ impl<'t, 's> Parser<'t, 's> {
         Ok(Operand::plain(node, Subscript::Index.rank(is_call), Edge::Other))
     }
 
-    // What was read with a member, a template, or what stands behind `?.`.
+    /// Reads a tagged template, what stands after `?.`, or another member or call, from the expression before it.
     #[cycle(grammar)]
     #[inline(never)]
     fn other_subscript(&mut self, left: Operand<'s>, high: u32) -> Result<Operand<'s>, Fault>
@@ -359,7 +359,7 @@ impl<'t, 's> Parser<'t, 's> {
         Ok(Operand::plain(node, Rank::LeftHandSide, Edge::Other))
     }
 
-    // Whether a template begins ahead.
+    /// Whether a template stands ahead.
     fn sees_template(&self) -> bool
         ensures seen { OnTrue result (SeesBy self.now.cursor.text Div is_template self.now.cursor.last) }
         ensures missed { OnFalse result (MissesBy self.now.cursor.text Div is_template self.now.cursor.last) }

@@ -16,7 +16,7 @@ use std::alloc::Global;
 use tokens::{Token, TokenClass, template_value};
 use tree::{Kind, NodeText, Span};
 
-// Whether the token begins with a brace that closes.
+/// Whether the token begins with `}`.
 fn is_after_brace(token: &Token<'_>) -> bool
     ensures { result ≡ nat_eq (slice_index_or (as_read (token_of token.now)).text 0 0) 125 }
 {
@@ -33,7 +33,7 @@ pub(crate) fn is_later_part(token: &Token<'_>) -> bool
     token.class == TokenClass::Template && is_after_brace(token)
 }
 
-// What stands behind an ASCII character.
+/// The text after this ASCII character, with which it begins.
 fn after_delimiter(text: &str, first: char) -> &str
     requires { first < 128 }
     ensures { (rest : List ℕ) → text.now ≡ first ∷ rest → result.now ≡ rest }
@@ -44,7 +44,7 @@ fn after_delimiter(text: &str, first: char) -> &str
     }
 }
 
-// What stands before an ASCII character.
+/// The text before this ASCII character, with which it ends.
 fn before_delimiter(text: &str, last: char) -> &str
     requires { last < 128 }
     ensures { (word : List ℕ) → text.now ≡ word ++ last ∷ [] → result.now ≡ word }
@@ -55,7 +55,7 @@ fn before_delimiter(text: &str, last: char) -> &str
     }
 }
 
-// What stands behind the first delimiter.
+/// The text after the first delimiter, which is `` ` `` or `}`.
 fn after_front(text: &str) -> &str
     ensures { (first : Bool) (rest : List ℕ) → text.now ≡ front first ++ rest → result.now ≡ rest }
 {
@@ -65,7 +65,7 @@ fn after_front(text: &str) -> &str
     }
 }
 
-// What stands before the last delimiter, and whether that is the last of the template.
+/// The text before the last delimiter, and whether that is the `` ` `` that ends the template.
 fn before_back(text: &str) -> (&str, bool)
     ensures { (last : Bool) (word : List ℕ) → text.now ≡ word ++ back last → (result.0.now ≡ word) × (result.1 ≡ last) }
 {
@@ -75,14 +75,14 @@ fn before_back(text: &str) -> (&str, bool)
     }
 }
 
-// The characters of a part of a template between its delimiters, and whether it is the last.
+/// The characters between the delimiters of a template's part, and whether it is the last part.
 fn without_delimiters(text: &str) -> (&str, bool)
     ensures { (first last : Bool) (word : List ℕ) → Holds text.now first last word → (result.0.now ≡ word) × (result.1 ≡ last) }
 {
     before_back(after_front(text))
 }
 
-// The place of what stands behind the first delimiter of the token, which is one byte.
+/// The span of the text after the token's first delimiter, which is one byte; in bytes.
 fn span_inside(token: &Token<'_>, text: &str) -> Span
     ensures { token.now.start + 1 + length text.now ≤ token.now.end → result ≡ record { start = token.now.start + 1; end = token.now.start + 1 + length text.now } }
 {
@@ -93,7 +93,7 @@ fn span_inside(token: &Token<'_>, text: &str) -> Span
     }
 }
 
-// The raw value of the characters (11.8.6.1), which is mostly the characters themselves.
+/// The raw value (11.8.6.1) of a template's part: the characters themselves unless there is a CR among them.
 fn raw_of<'s>(alloc: Global, text: &'s str) -> Result<NodeText<'s>, Fault>
     ensures raw { IfOk result (λ raw. text_bytes raw ≡ raw_value text.now) }
     ensures refused { IfErr result (λ fault. fault ≡ Fault.OutOfMemory) }

@@ -3,12 +3,14 @@
 ghost use Rattle.std.specs.Prelude.{◌≡◌};
 ghost use Rattle.rules.specs.BuiltIn.{is_array, is_built_in, is_error, is_further_object, is_global_function, is_other_object, is_value};
 
+/// Whether the name is that of a value property of the global object (ECMA-262 18.1).
 fn is_value(name: &str) -> bool
     ensures { result ≡ is_value name.now }
 {
     name == "globalThis" || name == "Infinity" || name == "NaN" || name == "undefined"
 }
 
+/// Whether the name is that of a function property of the global object (18.2).
 fn is_global_function(name: &str) -> bool
     ensures { result ≡ is_global_function name.now }
 {
@@ -23,6 +25,7 @@ fn is_global_function(name: &str) -> bool
         || name == "encodeURIComponent"
 }
 
+/// Whether the name is that of a constructor of errors (19.5).
 fn is_error(name: &str) -> bool
     ensures { result ≡ is_error name.now }
 {

@@ -47,10 +47,12 @@ impl Rule for EqEqEq {
 
     ghost finds = { λ _ v. eqeqeq v };
 
+    /// The rule's name, by which settings turn it off.
     fn name(&self) -> &str {
         EqEqEq::NAME
     }
 
+    /// Adds what the rule finds.
     fn check(&self, view: &View, out: &mut Vec<Report>) -> Result<(), AllocError> {
         push_found(
             NodeRule::Equality,
@@ -61,6 +63,7 @@ impl Rule for EqEqEq {
         )
     }
 
+    /// It is a rule over nodes, and runs in one walk with the others of that kind.
     fn on_nodes(&self) -> Option<NodeRule> {
         Some(NodeRule::Equality)
     }
@@ -105,6 +108,7 @@ fn has_null(node: Node) -> bool
     false
 }
 
+/// Whether the operand is the literal `null`.
 fn is_null(node: Option<Node>) -> bool
     ensures { result ≡ null_at (option_map node_tree node.entry) }
 {

@@ -43,14 +43,17 @@ impl Rule for NoDebugger {
 
     ghost finds = { λ _ v. no_debugger v };
 
+    /// The rule's name, by which settings turn it off.
     fn name(&self) -> &str {
         NoDebugger::NAME
     }
 
+    /// Adds what the rule finds.
     fn check(&self, view: &View, out: &mut Vec<Report>) -> Result<(), AllocError> {
         push_found(NodeRule::Debugger, self.alloc, false, view.program, out)
     }
 
+    /// It is a rule over nodes, and runs in one walk with the others of that kind.
     fn on_nodes(&self) -> Option<NodeRule> {
         Some(NodeRule::Debugger)
     }

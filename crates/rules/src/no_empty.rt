@@ -45,14 +45,17 @@ impl Rule for NoEmpty {
 
     ghost finds = { λ _ v. no_empty v };
 
+    /// The rule's name, by which settings turn it off.
     fn name(&self) -> &str {
         NoEmpty::NAME
     }
 
+    /// Adds what the rule finds.
     fn check(&self, view: &View, out: &mut Vec<Report>) -> Result<(), AllocError> {
         push_found(NodeRule::Empty, self.alloc, false, view.program, out)
     }
 
+    /// It is a rule over nodes, and runs in one walk with the others of that kind.
     fn on_nodes(&self) -> Option<NodeRule> {
         Some(NodeRule::Empty)
     }

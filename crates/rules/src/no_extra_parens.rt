@@ -47,10 +47,12 @@ impl Rule for NoExtraParens {
 
     ghost finds = { λ _ v. no_extra_parens v };
 
+    /// The rule's name, by which settings turn it off.
     fn name(&self) -> &str {
         NoExtraParens::NAME
     }
 
+    /// Adds what the rule finds.
     fn check(&self, view: &View, out: &mut Vec<Report>) -> Result<(), AllocError> {
         push_extra(self.alloc, view.extra, out)
     }

@@ -45,10 +45,12 @@ impl Rule for NoShadow {
 
     ghost finds = { λ _ v. no_shadow v };
 
+    /// The rule's name, by which settings turn it off.
     fn name(&self) -> &str {
         NoShadow::NAME
     }
 
+    /// Adds what the rule finds.
     fn check(&self, view: &View, out: &mut Vec<Report>) -> Result<(), AllocError> {
         push_bindings(
             BindingRule::Shadow,

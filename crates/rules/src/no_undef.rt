@@ -49,10 +49,12 @@ impl Rule for NoUndef {
 
     ghost finds = { λ _ v. no_undef v };
 
+    /// The rule's name, by which settings turn it off.
     fn name(&self) -> &str {
         NoUndef::NAME
     }
 
+    /// Adds what the rule finds.
     fn check(&self, view: &View, out: &mut Vec<Report>) -> Result<(), AllocError> {
         push_all_undefined(self.alloc, view.settings, view.scopes.references(), out)
     }
@@ -74,6 +76,7 @@ fn push_all_undefined(
     Ok(())
 }
 
+/// Adds the report of a reference that means nothing known.
 fn push_undefined(
     alloc: Global,
     settings: &Settings,
@@ -94,6 +97,7 @@ fn push_undefined(
     push_report(alloc, NoUndef::NAME, span, text, out)
 }
 
+/// Whether a reference has no binding and no built-in or global of its name, and is no operand of `typeof`.
 fn is_undefined(settings: &Settings, reference: Reference) -> bool
     ensures { of_undefined settings.now (reference_shown reference.entry) ≡ cond result (undefined_at (reference_shown reference.entry) ∷ []) [] }
 {

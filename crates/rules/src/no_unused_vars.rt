@@ -45,10 +45,12 @@ impl Rule for NoUnusedVars {
 
     ghost finds = { λ _ v. no_unused_vars v };
 
+    /// The rule's name, by which settings turn it off.
     fn name(&self) -> &str {
         NoUnusedVars::NAME
     }
 
+    /// Adds what the rule finds.
     fn check(&self, view: &View, out: &mut Vec<Report>) -> Result<(), AllocError> {
         push_by_use(
             BindingRule::Unused,
@@ -92,6 +94,7 @@ fn is_for_reading(kind: BindingKind) -> bool
     }
 }
 
+/// Whether the name begins with `_`.
 fn begins_with_underscore(name: &str) -> bool
     ensures { result ≡ begins_with_underscore name.now }
 {

@@ -43,14 +43,17 @@ impl Rule for NoVar {
 
     ghost finds = { λ _ v. no_var v };
 
+    /// The rule's name, by which settings turn it off.
     fn name(&self) -> &str {
         NoVar::NAME
     }
 
+    /// Adds what the rule finds.
     fn check(&self, view: &View, out: &mut Vec<Report>) -> Result<(), AllocError> {
         push_found(NodeRule::Var, self.alloc, false, view.program, out)
     }
 
+    /// It is a rule over nodes, and runs in one walk with the others of that kind.
     fn on_nodes(&self) -> Option<NodeRule> {
         Some(NodeRule::Var)
     }

@@ -45,10 +45,12 @@ impl Rule for PreferConst {
 
     ghost finds = { λ _ v. prefer_const v };
 
+    /// The rule's name, by which settings turn it off.
     fn name(&self) -> &str {
         PreferConst::NAME
     }
 
+    /// Adds what the rule finds.
     fn check(&self, view: &View, out: &mut Vec<Report>) -> Result<(), AllocError> {
         push_by_use(
             BindingRule::Constant,
@@ -84,6 +86,7 @@ pub(crate) fn push_constant(
     }
 }
 
+/// Whether the binding is declared by `let`.
 fn is_let(kind: BindingKind) -> bool
     ensures { result ≡ is_let kind }
 {

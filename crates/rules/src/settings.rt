@@ -29,6 +29,7 @@ impl Model for Settings {
     ghost view = { λ s. record { off = map string_bytes s.off.items; globals = map string_bytes s.globals.keys; allow_null = s.allow_null; ignore_underscore = s.ignore_underscore } };
 }
 
+/// Whether the name is among these.
 fn stands_in(name: &str, names: &[String]) -> bool
     ensures { result ≡ list_any (λ x. bytes_eq (string_bytes x) name.now) names.now }
 {
@@ -41,6 +42,7 @@ impl Settings {
     ghost use Rattle.std.specs.Str.{bytes_eq};
     ghost use Rattle.rules.specs.Settings.{default_settings, is_on};
 
+    /// Settings with these rules turned off, these globals and these two options.
     pub(crate) fn new(
         off: Vec<String>,
         globals: BTreeSet<String>,

@@ -16,6 +16,7 @@ use std::collections::BTreeSet;
 use toml::value::Array;
 use toml::{Table, Value};
 
+/// The fault of a text that TOML refused: memory, or bad settings.
 fn refusal(error: &toml::de::Error) -> Fault
     ensures bad { result ≡ Fault.BadSettings → ¬ IsMemory error.now }
     ensures only { IsRefusal result }
@@ -34,6 +35,7 @@ fn look<'t>(table: &'t Table, key: &str) -> Option<&'t Value>
     table.get(key)
 }
 
+/// The flag at a key: false if it is left out, none if it is no boolean.
 fn flag(table: &Table, key: &str) -> Option<bool>
     ensures { result ≡ flag_of (get_member key.now (table_view table.now)) }
 {
@@ -60,6 +62,7 @@ fn set(alloc: Global, values: &[Value]) -> Result<BTreeSet<String>, Fault>
     Ok(set)
 }
 
+/// The names at `globals`: none if it is left out; refused if it is no array of strings.
 fn globals(alloc: Global, table: &Table) -> Result<BTreeSet<String>, Fault>
     ensures ok { IfOk result (λ s. globals_of (get_member (codes "globals") (table_view table.now)) ≡ Some (map string_bytes s.keys)) }
     ensures bad { result ≡ Err Fault.BadSettings → globals_of (get_member (codes "globals") (table_view table.now)) ≡ None }
@@ -103,6 +106,7 @@ fn off_among(alloc: Global, names: &[&str], table: &Table) -> Result<Vec<String>
     Ok(off)
 }
 
+/// The rules that `rules` turns off: none if it is left out; refused if it is no table of rules.
 fn off(alloc: Global, table: &Table) -> Result<Vec<String>, Fault>
     ensures ok { IfOk result (λ v. off_of (get_member (codes "rules") (table_view table.now)) ≡ Some (map string_bytes v.items)) }
     ensures bad { result ≡ Err Fault.BadSettings → off_of (get_member (codes "rules") (table_view table.now)) ≡ None }
@@ -117,6 +121,7 @@ fn off(alloc: Global, table: &Table) -> Result<Vec<String>, Fault>
     }
 }
 
+/// The rules that a table turns off; refused if it has another key or value.
 fn off_of_table(alloc: Global, table: &Table) -> Result<Vec<String>, Fault>
     ensures ok { IfOk result (λ v. off_of_members (table_view table.now) ≡ Some (map string_bytes v.items)) }
     ensures bad { result ≡ Err Fault.BadSettings → off_of_members (table_view table.now) ≡ None }
@@ -128,6 +133,7 @@ fn off_of_table(alloc: Global, table: &Table) -> Result<Vec<String>, Fault>
     off_among(alloc, RULE_NAMES.as_slice(), table)
 }
 
+/// The settings that a table gives; refused if it has another key or value.
 fn settings_of(alloc: Global, table: &Table) -> Result<Settings, Fault>
     ensures ok { IfOk result (λ s. settings_of (table_view table.now) ≡ Some s) }
     ensures bad { result ≡ Err Fault.BadSettings → settings_of (table_view table.now) ≡ None }

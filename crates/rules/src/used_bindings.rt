@@ -133,6 +133,7 @@ fn binding_count(scopes: &Scopes, scope: usize) -> usize
     }
 }
 
+/// Whether a reference writes, or else whether it reads.
 fn uses(writes: bool, reference: Reference) -> bool
     ensures { result ≡ uses writes (reference_shown reference.entry) }
 {

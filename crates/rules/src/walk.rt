@@ -17,6 +17,7 @@ use crate::report::Report;
 use std::alloc::{AllocError, Global};
 use tree::{Kind, Node, Program};
 
+/// Whether the kind is that of a function.
 fn is_function(kind: Kind) -> bool
     ensures { result ≡ is_function kind }
 {

@@ -25,12 +25,14 @@ pub enum IdentifierUse {
     Body,
 }
 
+/// The role of the first part, or that of the others.
 fn first_else(index: usize, first: IdentifierUse, others: IdentifierUse) -> IdentifierUse
     ensures { result ≡ first_else index first others }
 {
     if index == 0 { first } else { others }
 }
 
+/// The role of a key: read if it is computed, else no reference.
 fn key_role(flags: Flags) -> IdentifierUse
     ensures { result ≡ key_role flags }
 {
@@ -41,6 +43,7 @@ fn key_role(flags: Flags) -> IdentifierUse
     }
 }
 
+/// The role of an assignment's target: written by `=`, read and written by other operators.
 fn target_role(operator: &str) -> IdentifierUse
     ensures { result ≡ target_role operator.now }
 {
@@ -51,6 +54,7 @@ fn target_role(operator: &str) -> IdentifierUse
     }
 }
 
+/// The role of a unary operator's operand: that of `typeof`, or read.
 fn operand_role(operator: &str) -> IdentifierUse
     ensures { result ≡ operand_role operator.now }
 {
@@ -143,6 +147,7 @@ pub(crate) fn part_role(role: IdentifierUse, node: Node, index: usize) -> Identi
     role_by(part_roles(role, node), role, last, index)
 }
 
+/// Whether an identifier in this role is a reference.
 pub(crate) fn is_reference(role: IdentifierUse) -> bool
     ensures { result ≡ is_reference role }
 {
@@ -152,6 +157,7 @@ pub(crate) fn is_reference(role: IdentifierUse) -> bool
     }
 }
 
+/// Whether a reference in this role reads.
 pub(crate) fn does_read(role: IdentifierUse) -> bool
     ensures { result ≡ does_read role }
 {
@@ -161,6 +167,7 @@ pub(crate) fn does_read(role: IdentifierUse) -> bool
     }
 }
 
+/// Whether a reference in this role writes.
 pub(crate) fn does_write(role: IdentifierUse) -> bool
     ensures { result ≡ does_write role }
 {
@@ -170,6 +177,7 @@ pub(crate) fn does_write(role: IdentifierUse) -> bool
     }
 }
 
+/// Whether the role is that of the operand of `typeof`.
 pub(crate) fn is_typeof_operand(role: IdentifierUse) -> bool
     ensures { result ≡ is_typeof_operand role }
 {
@@ -179,6 +187,7 @@ pub(crate) fn is_typeof_operand(role: IdentifierUse) -> bool
     }
 }
 
+/// Whether the role is that of a function's body.
 pub(crate) fn is_body(role: IdentifierUse) -> bool
     ensures { result ≡ is_body role }
 {

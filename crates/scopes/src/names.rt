@@ -159,6 +159,7 @@ fn holds_statements(kind: Kind) -> bool
     }
 }
 
+/// Which parts of an item have the names that it declares by `var`.
 fn var_names_of(item: Node) -> VarNames
     ensures { result ≡ var_names_of (kind_of (node_tree item.entry)) (text_of (node_tree item.entry)) }
 {
@@ -207,6 +208,7 @@ pub(crate) fn push_vars<'t>(
     }
 }
 
+/// Adds the names of `var` in all parts of a node.
 #[cycle(vars)]
 #[tactic(auto, using(tree::proofs::PartWalk::part_steps))]
 fn push_parts_vars<'t>(node: Node<'t, '_>, names: &mut Vec<Declared<'t>>) -> Result<(), AllocError>

@@ -95,6 +95,7 @@ pub(crate) fn push_round_others<'t>(
     push_scope(opens_others(node.kind()), node, names)
 }
 
+/// Adds the names of the scope that `opens` says; answers whether there is one.
 fn push_scope<'t>(
     opens: ScopeKind,
     node: Node<'t, '_>,
@@ -115,6 +116,7 @@ fn push_scope<'t>(
     Ok(true)
 }
 
+/// Adds the names of the first part, as a pattern; answers whether there is one.
 fn push_first<'t>(
     node: Node<'t, '_>,
     kind: BindingKind,
@@ -137,6 +139,7 @@ fn push_first<'t>(
     Ok(true)
 }
 
+/// Whether the node is a `let` or `const` declaration.
 fn is_lexical(item: Node) -> bool
     ensures { result ≡ is_lexical (node_tree item.entry) }
 {
@@ -146,6 +149,7 @@ fn is_lexical(item: Node) -> bool
     }
 }
 
+/// Adds the names of a loop's `let` or `const` declaration; answers whether there is one.
 fn push_head<'t>(
     node: Node<'t, '_>,
     head: DeclaredIn,
@@ -174,6 +178,7 @@ fn push_items<'t>(node: Node<'t, '_>, names: &mut Vec<Declared<'t>>) -> Result<(
     Ok(())
 }
 
+/// Adds what an item declares in a script or a function's body: lexically, and by `var`.
 fn push_item<'t>(
     item: Option<Node<'t, '_>>,
     names: &mut Vec<Declared<'t>>,
@@ -209,6 +214,7 @@ fn push_function<'t>(
     push_body(node.part(count - 1), names)
 }
 
+/// Adds what a function's body declares; an expression declares nothing.
 fn push_body<'t>(
     body: Option<Node<'t, '_>>,
     names: &mut Vec<Declared<'t>>,

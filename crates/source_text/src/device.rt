@@ -15,6 +15,7 @@ pub struct Device<T> {
 }
 
 impl<T> Device<T> {
+    /// A device that has not failed.
     fn new(inner: T) -> Device<T>
         ensures same { result.inner ≡ inner }
         ensures ready { result.has_failed ≡ false }
@@ -51,6 +52,7 @@ impl<T: Writer> Sink for Device<T> {
 
     ghost failed = { λ d. d.has_failed };
 
+    /// Writes bytes and answers how many; a `write` that takes none of them is a failure.
     fn put(&mut self, piece: &[u8]) -> Result<usize, DeviceFault>
         requires { self.old.has_failed ≡ false }
         ensures bytes { TakesBytes piece.now result (T.contents self.old.inner) (T.contents self.new.inner) self.new.has_failed }
@@ -65,6 +67,7 @@ impl<T: Writer> Sink for Device<T> {
         }
     }
 
+    /// Whether a write has failed.
     fn has_failed(&self) -> bool {
         self.has_failed
     }
@@ -75,6 +78,7 @@ impl<T: Reader> Feed for Device<T> {
 
     ghost failed = { λ d. d.has_failed };
 
+    /// Reads bytes into the room and answers how many; 0 at the end.
     fn get(&mut self, room: &mut [u8]) -> Result<usize, DeviceFault>
         requires ready { self.old.has_failed ≡ false }
         requires room { 0 < length room.old }
@@ -90,6 +94,7 @@ impl<T: Reader> Feed for Device<T> {
         }
     }
 
+    /// Whether a read has failed.
     fn has_failed(&self) -> bool {
         self.has_failed
     }

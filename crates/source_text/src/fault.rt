@@ -53,6 +53,7 @@ impl From<AllocError> for Fault {
 
     ghost from_gives = { λ _ e. e ≡ OutOfMemory };
 
+    /// Refused memory, as a fault.
     fn from(_error: AllocError) -> Fault {
         Fault::OutOfMemory
     }
@@ -64,6 +65,7 @@ impl<T: Drop> From<AllocFailed<T>> for Fault {
 
     ghost from_gives = { λ _ e. e ≡ OutOfMemory };
 
+    /// Refused memory for a value, as a fault.
     fn from(_error: AllocFailed<T>) -> Fault {
         Fault::OutOfMemory
     }

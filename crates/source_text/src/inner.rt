@@ -23,6 +23,7 @@ pub trait Writer: Write {
 impl<T: Write> Writer for T {
     ghost may_answer = { λ old piece answer new. WritesAtMost answer piece × WriteAppends (T.contents old) (T.contents new) answer piece };
 
+    /// Calls `write` of std once.
     fn ask(&mut self, piece: &[u8]) -> io::Result<usize> {
         self.write(piece)
     }
@@ -44,6 +45,7 @@ pub trait Reader: Read {
 impl<T: Read> Reader for T {
     ghost may_answer = { λ old room answer new. ReadsAtMost answer room × ReadConsumes (T.remaining old) (T.remaining new) answer room };
 
+    /// Calls `read` of std once.
     fn ask(&mut self, room: &mut [u8]) -> io::Result<usize> {
         self.read(room)
     }

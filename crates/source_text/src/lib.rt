@@ -1,6 +1,10 @@
 #![tactic(auto)]
 
-//! Checked source text, its lines and columns, devices, what waits for them and whole texts to them, and refusals.
+//! Checked source text, its lines and columns, refusals, and the devices that texts are read from and written to.
+//! - May touch: bytes, characters, readers and writers. It knows no token. A text's bytes are never copied.
+//! - Contract: `Source::new` answers a text of at most 16,777,216 bytes in UTF-8, or says what it isn't, and from
+//!   which byte.
+//! - Begin at: `source.rt`, `Source`; then `sink.rt` (`Sink`, `Feed`), `line_walker.rt`, `output_buffer.rt`.
 
 mod character;
 mod device;

@@ -26,6 +26,7 @@ struct Calls {
 }
 
 impl Calls {
+    /// No call was made yet of a device with this plan.
     fn new(plan: FailurePlan) -> Calls
         ensures { result ≡ record { plan = plan; made = 0; has_failed = false } }
     {
@@ -87,6 +88,7 @@ impl MemorySink {
         &self.bytes
     }
 
+    /// Marks the device as failed, and answers that.
     fn fail(&mut self) -> Result<usize, DeviceFault>
         ensures failed { self.new ≡ record self.old { failed = true } }
         ensures answer { IsErr result }
@@ -101,6 +103,7 @@ impl Sink for MemorySink {
 
     ghost failed = { λ s. s.failed };
 
+    /// Takes as many bytes as the plan allows in one call and as there is room for.
     fn put(&mut self, piece: &[u8]) -> Result<usize, DeviceFault>
         requires { self.old.failed ≡ false }
         ensures bytes { TakesBytes piece.now result (Some self.old.bytes) (Some self.new.bytes) self.new.failed }
@@ -118,6 +121,7 @@ impl Sink for MemorySink {
         Ok(count)
     }
 
+    /// Whether a call has failed.
     fn has_failed(&self) -> bool {
         self.calls.has_failed
     }
@@ -155,6 +159,7 @@ impl<'b> Feed for MemoryFeed<'b> {
 
     ghost failed = { λ f. f.failed };
 
+    /// Gives as many bytes as the plan allows in one call and as are left.
     fn get(&mut self, room: &mut [u8]) -> Result<usize, DeviceFault>
         requires ready { self.old.failed ≡ false }
         requires room { 0 < length room.old }
@@ -173,6 +178,7 @@ impl<'b> Feed for MemoryFeed<'b> {
         Ok(count)
     }
 
+    /// Whether a call has failed.
     fn has_failed(&self) -> bool {
         self.calls.has_failed
     }

@@ -75,6 +75,7 @@ pub fn list_of(production: Production) -> (ListSlots, usize)
     }
 }
 
+/// The same as `list_of`, by the whole outline: for productions that have no quicker way.
 #[inline(never)]
 fn list_of_outline(production: Production) -> (ListSlots, usize)
     ensures tail { result.0 ≡ (outline_of production).tail }
@@ -129,6 +130,7 @@ pub fn first_slot(production: &Production, ordinal: SlotIndex) -> Option<Slot>
     }
 }
 
+/// The same as `first_slot`, by the whole outline: for productions that have no quicker way.
 #[inline(never)]
 fn slot_of_outline(production: Production, ordinal: SlotIndex) -> Option<Slot>
     ensures { result ≡ slot_at (outline_of production).front ordinal }
@@ -136,6 +138,7 @@ fn slot_of_outline(production: Production, ordinal: SlotIndex) -> Option<Slot>
     slot_of_front(production.outline().front, ordinal)
 }
 
+/// The slot with this index among fixed slots; none if there are fewer.
 fn slot_of_front(slots: FixedSlots, ordinal: SlotIndex) -> Option<Slot>
     ensures { result ≡ slot_at slots ordinal }
 {
@@ -148,6 +151,7 @@ fn slot_of_front(slots: FixedSlots, ordinal: SlotIndex) -> Option<Slot>
     }
 }
 
+/// The first of the fixed slots; none if there are none.
 fn leading(slots: FixedSlots) -> Option<Slot>
     ensures { result ≡ first_of slots }
 {
@@ -160,6 +164,7 @@ fn leading(slots: FixedSlots) -> Option<Slot>
     }
 }
 
+/// The fixed slots without the first.
 fn others(slots: FixedSlots) -> FixedSlots
     ensures { result ≡ others_of slots }
 {
@@ -171,6 +176,7 @@ fn others(slots: FixedSlots) -> FixedSlots
     }
 }
 
+/// The slot with this index where there are no fixed slots: none.
 fn of_none(ordinal: SlotIndex) -> Option<Slot>
     ensures { result ≡ slot_at front.Zero ordinal }
 {
@@ -183,6 +189,7 @@ fn of_none(ordinal: SlotIndex) -> Option<Slot>
     }
 }
 
+/// The slot with this index where there is one fixed slot.
 fn of_one(first: Slot, ordinal: SlotIndex) -> Option<Slot>
     ensures { result ≡ slot_at (front.One first) ordinal }
 {
@@ -192,6 +199,7 @@ fn of_one(first: Slot, ordinal: SlotIndex) -> Option<Slot>
     }
 }
 
+/// The slot with this index where there are two fixed slots.
 fn of_two(first: Slot, second: Slot, ordinal: SlotIndex) -> Option<Slot>
     ensures { result ≡ slot_at (front.Two first second) ordinal }
 {

@@ -1,6 +1,10 @@
 #![tactic(auto)]
 
 //! Each production of the table: what it requires of its node's position, and the slots of the node's parts.
+//! - May touch: kinds, symbols and positions; no node, and no memory.
+//! - Contract: `outline` and its partial forms (`requirements`, `first_slot`, `list_of`) say what the table says of a
+//!   production.
+//! - Begin at: `production.rt`, `Production`; then `requirements.rt`, `first_slots.rt`, `list_slots.rt`.
 
 mod first_slots;
 mod list_slots;

@@ -70,6 +70,7 @@ fn listed(
     None
 }
 
+/// The position of an argument or an array's element, by its kind: a spread, or an AssignmentExpression.
 fn argument(kind: Kind) -> Position
     ensures { result ≡ argument_at kind }
 {
@@ -79,6 +80,7 @@ fn argument(kind: Kind) -> Position
     }
 }
 
+/// The position of an object's part, by its kind; none if an object can't hold it.
 fn object_part(kind: Kind) -> Option<Position>
     ensures { result ≡ object_part_at kind }
 {
@@ -89,6 +91,7 @@ fn object_part(kind: Kind) -> Option<Position>
     }
 }
 
+/// The position of an object pattern's part, by its kind; none if an object pattern can't hold it.
 fn pattern_part(binds: bool, kind: Kind) -> Option<Position>
     ensures { result ≡ pattern_part_at binds kind }
 {
@@ -148,6 +151,7 @@ pub fn element(binds: bool, kind: Kind) -> Option<Position>
     }
 }
 
+/// The slot of the next parameter and how the list goes on; the last part is the body, at `slot`.
 fn parameter(slot: Slot, next: Next) -> Option<(Slot, ListSlots)>
     ensures { result ≡ tail_at (TheVariants.Parameters slot) next.kind next.is_directive next.is_last next.is_before_last }
 {
@@ -163,6 +167,7 @@ fn parameter(slot: Slot, next: Next) -> Option<(Slot, ListSlots)>
     )
 }
 
+/// The slot of a template's next part and how the list goes on: elements and substitutions in turn.
 fn template_part(tail: ListSlots, is_last: bool) -> (Slot, ListSlots)
     ensures { result ≡ chunk_at tail is_last }
 {
@@ -180,6 +185,8 @@ fn template_part(tail: ListSlots, is_last: bool) -> (Slot, ListSlots)
     }
 }
 
+/// The slot of a body's next item and how the list goes on; its prologue is open as long as all items are directives
+/// (14.1.1).
 fn item(returns: bool, is_open: bool, is_directive: bool) -> (Slot, ListSlots)
     ensures { result ≡ item_at returns is_open is_directive }
 {

@@ -267,6 +267,7 @@ impl Production {
     }
 }
 
+/// The outline of two parts at these slots.
 fn two(first: Slot, second: Slot) -> Outline
     ensures { result ≡ fronted Primary (Two first second) }
 {
@@ -280,24 +281,28 @@ fn list(tail: ListSlots) -> Outline
     Outline::of_list(Rank::Primary, FixedSlots::Zero, tail, 0)
 }
 
+/// The outline of an ArrayLiteral (12.2.5).
 fn array() -> Outline
     ensures { result ≡ outline_of by.Array }
 {
     list(ListSlots::Arguments { holes: true })
 }
 
+/// The outline of an ObjectLiteral (12.2.6).
 fn object() -> Outline
     ensures { result ≡ outline_of by.Object }
 {
     list(ListSlots::ObjectParts).opening(FirstToken::Brace)
 }
 
+/// The outline of a TemplateLiteral (12.2.9).
 fn template() -> Outline
     ensures { result ≡ outline_of by.Template }
 {
     list(ListSlots::Chunks { is_first: true })
 }
 
+/// The outline of a tagged template (12.3.11).
 fn tagged() -> Outline
     ensures { result ≡ outline_of by.Tagged }
 {
@@ -305,6 +310,7 @@ fn tagged() -> Outline
     Outline::of_front(Rank::Member, front)
 }
 
+/// The outline of a member (12.3.2), or of one of `super` (12.3.7).
 fn member(of_super: bool, is_computed: bool) -> Outline
     ensures { result ≡ outline_of (by.Member of_super is_computed) }
 {
@@ -312,18 +318,21 @@ fn member(of_super: bool, is_computed: bool) -> Outline
     Outline::of_front(Rank::Member, front)
 }
 
+/// The outline of a call (12.3.6), or of a SuperCall (12.3.7).
 fn call(of_super: bool) -> Outline
     ensures { result ≡ outline_of (by.Call of_super) }
 {
     with_arguments(Rank::Call, callee(of_super))
 }
 
+/// The outline of `new` with arguments (12.3.5).
 fn new() -> Outline
     ensures { result ≡ outline_of by.New }
 {
     with_arguments(Rank::Member, Slot::Fixed(at(Rank::Member)))
 }
 
+/// The outline of `new.target` (12.3.12).
 fn meta() -> Outline
     ensures { result ≡ outline_of by.Meta }
 {
@@ -331,30 +340,35 @@ fn meta() -> Outline
     Outline::of_front(Rank::Member, FixedSlots::Two(word, word))
 }
 
+/// The outline of an ImportCall (12.3.10).
 fn import() -> Outline
     ensures { result ≡ outline_of by.Import }
 {
     Outline::of_front(Rank::Call, FixedSlots::One(Slot::Fixed(ASSIGNMENT)))
 }
 
+/// The outline of an OptionalExpression (12.3.9): its one part is the last link of the chain.
 fn chain() -> Outline
     ensures { result ≡ outline_of by.Chain }
 {
     Outline::of_front(Rank::LeftHandSide, FixedSlots::One(Slot::LeadSpine))
 }
 
+/// The outline of an UpdateExpression (12.4).
 fn update(is_prefix: bool) -> Outline
     ensures { result ≡ outline_of (by.Update is_prefix) }
 {
     Outline::of_front(Rank::Update, FixedSlots::One(update_operand(is_prefix)))
 }
 
+/// The outline of a UnaryExpression (12.5).
 fn unary() -> Outline
     ensures { result ≡ outline_of by.Unary }
 {
     Outline::of_front(Rank::Unary, FixedSlots::One(Slot::Fixed(at(Rank::Unary))))
 }
 
+/// The outline of an AssignmentExpression (12.15), to a target or to a pattern.
 fn assignment(to_pattern: bool) -> Outline
     ensures { result ≡ outline_of (by.Assignment to_pattern) }
 {
@@ -365,6 +379,7 @@ fn assignment(to_pattern: bool) -> Outline
     )
 }
 
+/// The outline of a sequence: an Expression with a comma (12.16).
 fn sequence() -> Outline
     ensures { result ≡ outline_of by.Sequence }
 {
@@ -373,66 +388,77 @@ fn sequence() -> Outline
     Outline::of_list(Rank::Expression, front, tail, 1)
 }
 
+/// The outline of a member in an optional chain (12.3.9); `goes_on` says whether the chain goes on in its object.
 fn member_link(goes_on: bool, is_computed: bool) -> Outline
     ensures { result ≡ outline_of (by.MemberLink goes_on is_computed) }
 {
     two(below(goes_on), selected(is_computed))
 }
 
+/// The outline of a call in an optional chain (12.3.9); `goes_on` says whether the chain goes on in its callee.
 fn call_link(goes_on: bool) -> Outline
     ensures { result ≡ outline_of (by.CallLink goes_on) }
 {
     with_arguments(Rank::Primary, below(goes_on))
 }
 
+/// The outline of a property with a key and a value at this position (12.2.6).
 fn keyed(is_computed: bool, value: Position) -> Outline
     ensures { result ≡ outline_of (by.Keyed is_computed value) }
 {
     two(key(is_computed), Slot::Fixed(value))
 }
 
+/// The outline of a shorthand property with its value at this position (12.2.6).
 fn echo(value: Position) -> Outline
     ensures { result ≡ outline_of (by.ShorthandProperty value) }
 {
     two(Slot::Fixed(Position::ShorthandKey), Slot::Fixed(value))
 }
 
+/// The outline of an array pattern that binds or assigns (13.3.3, 12.15.5).
 fn array_pattern(binds: bool) -> Outline
     ensures { result ≡ outline_of (by.ArrayPattern binds) }
 {
     list(ListSlots::PatternElements { binds })
 }
 
+/// The outline of an object pattern that binds or assigns (13.3.3, 12.15.5).
 fn object_pattern(binds: bool) -> Outline
     ensures { result ≡ outline_of (by.ObjectPattern binds) }
 {
     list(ListSlots::PatternProperties { binds }).opening(FirstToken::Brace)
 }
 
+/// The outline of a target at this position with its default (13.3.3, 12.15.5).
 fn defaulted(target: Position) -> Outline
     ensures { result ≡ outline_of (by.WithDefault target) }
 {
     two(Slot::Fixed(target), Slot::Fixed(ASSIGNMENT))
 }
 
+/// The outline of a node with one part, at this position.
 fn single(part: Position) -> Outline
     ensures { result ≡ outline_of (by.Single part) }
 {
     Outline::of_front(Rank::Primary, FixedSlots::One(Slot::Fixed(part)))
 }
 
+/// The outline of a ClassBody (14.6).
 fn class_body() -> Outline
     ensures { result ≡ outline_of by.ClassBody }
 {
     list(ListSlots::Each(Slot::Fixed(Position::Member)))
 }
 
+/// The outline of a setter's function, from its parameter on (14.3).
 fn setter(parameter: Position) -> Outline
     ensures { result ≡ outline_of (by.Setter parameter) }
 {
     two(Slot::Fixed(parameter), Slot::Fixed(Position::Body))
 }
 
+/// The outline of a method's function, from its parameters on (14.3).
 fn method() -> Outline
     ensures { result ≡ outline_of by.Method }
 {
@@ -440,12 +466,14 @@ fn method() -> Outline
     Outline::of_list(Rank::Primary, FixedSlots::Zero, tail, 1)
 }
 
+/// The outline of a Block: statements and declarations (13.2).
 fn items(returns: bool) -> Outline
     ensures { result ≡ outline_of (by.Items returns) }
 {
     list(ListSlots::Each(Slot::Fixed(Position::StatementListItem { returns })))
 }
 
+/// The outline of a body or a script: a directive prologue and items (14.1.1, 15.1).
 fn prologue(returns: bool) -> Outline
     ensures { result ≡ outline_of (by.Prologue returns) }
 {
@@ -455,30 +483,35 @@ fn prologue(returns: bool) -> Outline
     })
 }
 
+/// The outline of a declaration of one declarator or more, each at this position (13.3).
 fn declarators(position: Position) -> Outline
     ensures { result ≡ outline_of (by.Declarators position) }
 {
     list(ListSlots::Some(Slot::Fixed(position)))
 }
 
+/// The outline of a LabelledStatement (13.13).
 fn labeled(returns: bool) -> Outline
     ensures { result ≡ outline_of (by.Labeled returns) }
 {
     two(Slot::Fixed(Position::Name), body(returns))
 }
 
+/// The outline of a do-while statement (13.7.2).
 fn do_while(returns: bool) -> Outline
     ensures { result ≡ outline_of (by.DoWhile returns) }
 {
     two(body(returns), Slot::Fixed(WHOLE))
 }
 
+/// The outline of a while statement (13.7.3).
 fn while_loop(returns: bool) -> Outline
     ensures { result ≡ outline_of (by.While returns) }
 {
     two(Slot::Fixed(WHOLE), body(returns))
 }
 
+/// The outline of a `for` with semicolons in its head (13.7.4).
 fn for_loop(init: ForInit, has_test: bool, has_update: bool, returns: bool) -> Outline
     ensures { result ≡ outline_of (by.For init has_test has_update returns) }
 {
@@ -486,6 +519,7 @@ fn for_loop(init: ForInit, has_test: bool, has_update: bool, returns: bool) -> O
     Outline::of_front(Rank::Primary, front)
 }
 
+/// The outline of a SwitchStatement (13.12).
 fn switch(returns: bool) -> Outline
     ensures { result ≡ outline_of (by.Switch returns) }
 {
@@ -493,12 +527,14 @@ fn switch(returns: bool) -> Outline
     Outline::of_list(Rank::Primary, FixedSlots::One(Slot::Fixed(WHOLE)), tail, 1)
 }
 
+/// The outline of a TryStatement (13.15).
 fn try_statement(guards: TryClauses, returns: bool) -> Outline
     ensures { result ≡ outline_of (by.Try guards returns) }
 {
     Outline::of_front(Rank::Primary, try_slots(guards, returns))
 }
 
+/// The outline of a Catch with a parameter at this position (13.15).
 fn catch(parameter: Position, returns: bool) -> Outline
     ensures { result ≡ outline_of (by.Catch parameter returns) }
 {
@@ -519,6 +555,7 @@ pub(crate) fn at(rank: Rank) -> Position
     }
 }
 
+/// The outline of a function, with a name or without (14.1).
 fn function(is_named: bool) -> Outline
     ensures { result ≡ outline_of (by.Function is_named) }
 {
@@ -531,6 +568,7 @@ fn function(is_named: bool) -> Outline
     Outline::of_list(Rank::Primary, front, tail, 1).opening(FirstToken::FunctionOrClass)
 }
 
+/// The outline of a class, with a name or without, with a superclass or without (14.6).
 fn class(is_named: bool, extends: bool) -> Outline
     ensures { result ≡ outline_of (by.Class is_named extends) }
 {
@@ -548,6 +586,7 @@ fn class(is_named: bool, extends: bool) -> Outline
     Outline::of_front(Rank::Primary, front).opening(FirstToken::FunctionOrClass)
 }
 
+/// The outline of an ArrowFunction, by what its body is (14.2).
 fn arrow(is_expression: bool) -> Outline
     ensures { result ≡ outline_of (by.Arrow is_expression) }
 {
@@ -632,6 +671,7 @@ pub(crate) fn assigned(to_pattern: bool) -> Slot
     Slot::Lead(Rank::LeftHandSide)
 }
 
+/// The outline of a binary or logical expression with these symbols; `needs_in` for the operator `in` (12.7 to 12.13).
 fn infix(own: Rank, right: Rank, needs_in: bool) -> Outline
     ensures { result ≡ outline_of (by.Infix own right needs_in) }
 {
@@ -642,6 +682,7 @@ fn infix(own: Rank, right: Rank, needs_in: bool) -> Outline
     }
 }
 
+/// The outline of an ExponentiationExpression (12.6).
 fn power() -> Outline
     ensures { result ≡ outline_of by.Exponentiation }
 {
@@ -650,6 +691,7 @@ fn power() -> Outline
     Outline::of_front(Rank::Exponentiation, front)
 }
 
+/// The outline of a ConditionalExpression (12.14).
 fn conditional() -> Outline
     ensures { result ≡ outline_of by.Conditional }
 {
@@ -678,6 +720,7 @@ pub(crate) fn body(returns: bool) -> Slot
     Slot::Fixed(Position::Statement { returns })
 }
 
+/// The outline of a declarator with an initializer (13.3).
 fn initialised(name: Position, has_in: bool) -> Outline
     ensures { result ≡ outline_of (by.Initialised name has_in) }
 {
@@ -695,6 +738,7 @@ pub(crate) fn initialiser(has_in: bool) -> Slot
     })
 }
 
+/// The outline of an IfStatement (13.6).
 fn if_statement(has_else: bool, returns: bool) -> Outline
     ensures { result ≡ outline_of (by.If has_else returns) }
 {
@@ -721,6 +765,7 @@ fn for_slots(init: ForInit, has_test: bool, has_update: bool, body: Slot) -> Fix
     for_after_first(Slot::Fixed(first), has_test, has_update, body)
 }
 
+/// The slots of a `for` after its first semicolon: test and update if they are there, and the body.
 fn for_rest(has_test: bool, has_update: bool, body: Slot) -> FixedSlots
     ensures { result ≡ rest_of_for has_test has_update body }
 {
@@ -732,6 +777,7 @@ fn for_rest(has_test: bool, has_update: bool, body: Slot) -> FixedSlots
     }
 }
 
+/// The slots of a `for` whose head begins with this slot, then as `for_rest` has them.
 fn for_after_first(first: Slot, has_test: bool, has_update: bool, body: Slot) -> FixedSlots
     ensures { result ≡ behind_of_for first has_test has_update body }
 {
@@ -743,6 +789,7 @@ fn for_after_first(first: Slot, has_test: bool, has_update: bool, body: Slot) ->
     }
 }
 
+/// The outline of a for-in or for-of statement (13.7.5).
 fn for_in_of(left: Position, is_of: bool, returns: bool) -> Outline
     ensures { result ≡ outline_of (by.ForInOf left is_of returns) }
 {
@@ -751,6 +798,7 @@ fn for_in_of(left: Position, is_of: bool, returns: bool) -> Outline
     Outline::of_front(Rank::Primary, front)
 }
 
+/// The outline of a case or default clause (13.12).
 fn case(has_test: bool, returns: bool) -> Outline
     ensures { result ≡ outline_of (by.Case has_test returns) }
 {
@@ -763,6 +811,7 @@ fn case(has_test: bool, returns: bool) -> Outline
     Outline::of_list(Rank::Primary, front, tail, 1)
 }
 
+/// The slots of a TryStatement, by which of handler and finalizer it has (13.15).
 fn try_slots(guards: TryClauses, returns: bool) -> FixedSlots
     ensures { result ≡ slots_of_try guards returns }
 {

@@ -104,6 +104,7 @@ pub fn admits(position: Position, symbol: Rank, needs_in: bool, opens: FirstToke
     }
 }
 
+/// Whether a node with this first token may begin where a start is restricted.
 fn may_open(start: Start, opens: FirstToken) -> bool
     ensures { result ≡ opens_at start opens }
 {

@@ -75,6 +75,7 @@ pub(crate) fn has_two_defaults(node: Node) -> bool
     false
 }
 
+/// Whether a part is missing there, as a gap.
 fn is_gap(entry: PartAt) -> bool
     ensures { result ≡ is_gap_entry entry }
 {

@@ -76,6 +76,7 @@ fn opened_production(is_directive: bool, is_string: bool) -> Option<Production>
     }
 }
 
+/// The production of a Block (13.2); none for other kinds.
 pub(crate) fn block_production(kind: Kind, returns: bool) -> Option<Production>
     ensures { option_map outline_of result ≡ outline_of_block returns kind }
 {
@@ -95,6 +96,7 @@ pub(crate) fn body_production(kind: Kind) -> Option<Production>
     }
 }
 
+/// The production of a script (15.1); none for other kinds.
 pub(crate) fn script_production(kind: Kind) -> Option<Production>
     ensures { option_map outline_of result ≡ outline_of_script kind }
 {
@@ -122,6 +124,7 @@ pub(crate) fn for_declaration_production(node: Node, initialised: bool) -> Optio
     }
 }
 
+/// Whether the node has exactly one part, and it isn't a gap.
 fn is_one_part(node: Node) -> bool
     ensures { result ≡ is_one_of (around (parts_of (node_tree node.entry))) }
 {
@@ -145,6 +148,7 @@ pub(crate) fn declarator_production(
     }
 }
 
+/// The production of a declarator, by its name, its initializer and what stands after them (13.3).
 fn declared_production(
     has_in: bool,
     initialised: bool,
@@ -171,6 +175,7 @@ fn declared_production(
     }
 }
 
+/// The production of a declarator with an initializer, by its name's position; none if there is none.
 fn with_initialiser(has_in: bool, name: Option<Position>) -> Option<Production>
     ensures { option_map outline_of result ≡ outline_initialised has_in name }
 {
@@ -180,6 +185,7 @@ fn with_initialiser(has_in: bool, name: Option<Position>) -> Option<Production>
     }
 }
 
+/// The production of a declarator without an initializer, by its name's position; none if there is none.
 fn bare_name(name: Option<Position>) -> Option<Production>
     ensures { option_map outline_of result ≡ outline_of_bare_name name }
 {
@@ -237,6 +243,7 @@ fn caught_production(returns: bool, parameter: PartAt) -> Option<Production>
     }
 }
 
+/// The production of a Catch, by its parameter's position; none if there is none.
 fn caught(returns: bool, parameter: Option<Position>) -> Option<Production>
     ensures { option_map outline_of result ≡ outline_caught returns parameter }
 {

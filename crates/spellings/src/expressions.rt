@@ -44,6 +44,7 @@ fn definition_production(node: Node) -> Option<Production>
     }
 }
 
+/// The production of an IdentifierReference (12.1); none for a reserved word.
 fn identifier_production(name: &str) -> Option<Production>
     ensures { option_map outline_of result ≡ outline_of_identifier name.now }
 {
@@ -53,6 +54,7 @@ fn identifier_production(name: &str) -> Option<Production>
     Some(Production::Leaf)
 }
 
+/// The production of a Literal (12.2.4); none if the text isn't one.
 fn literal_production(raw: &str) -> Option<Production>
     ensures { option_map outline_of result ≡ outline_of_literal raw.now }
 {
@@ -87,6 +89,7 @@ pub(crate) fn class_production(name: PartAt, heritage: PartAt) -> Option<Product
     Some(Production::Class { is_named, extends })
 }
 
+/// The production of an ArrowFunction, by its flags (14.2).
 fn arrow_production(flags: Flags) -> Production
     ensures { outline_of result ≡ outline_of_arrow flags }
 {
@@ -122,6 +125,7 @@ pub(crate) fn kind_at(entry: PartAt) -> Kind
     }
 }
 
+/// The production of a member outside a chain (12.3.2, 12.3.7); none for a link with `?.`.
 fn member_production(flags: Flags, object: Kind) -> Option<Production>
     ensures { option_map outline_of result ≡ outline_of_member flags object }
 {
@@ -134,6 +138,7 @@ fn member_production(flags: Flags, object: Kind) -> Option<Production>
     })
 }
 
+/// The production of a call outside a chain (12.3.6, 12.3.7); none for a link with `?.`.
 fn call_production(flags: Flags, callee: Kind) -> Option<Production>
     ensures { option_map outline_of result ≡ outline_of_call flags callee }
 {
@@ -145,6 +150,7 @@ fn call_production(flags: Flags, callee: Kind) -> Option<Production>
     })
 }
 
+/// The production of `new.target` (12.3.12); none for other names.
 fn meta_production(meta: &str, property: &str) -> Option<Production>
     ensures { option_map outline_of result ≡ outline_of_meta meta.now property.now }
 {
@@ -154,6 +160,7 @@ fn meta_production(meta: &str, property: &str) -> Option<Production>
     None
 }
 
+/// The production of an optional chain (12.3.9); none if its part isn't chained.
 fn chain_production(chained: bool) -> Option<Production>
     ensures { option_map outline_of result ≡ outline_of_chain chained }
 {
@@ -180,6 +187,7 @@ fn operation_production(node: Node) -> Option<Production>
     }
 }
 
+/// The production of an UpdateExpression (12.4); none if the operand is no target or the text no such operator.
 fn update_production(operator: &str, flags: Flags, operand: Kind) -> Option<Production>
     ensures { option_map outline_of result ≡ outline_of_update operator.now flags operand }
 {
@@ -191,6 +199,7 @@ fn update_production(operator: &str, flags: Flags, operand: Kind) -> Option<Prod
     })
 }
 
+/// The production of a UnaryExpression (12.5); none if the text isn't its operator.
 fn unary_production(operator: &str) -> Option<Production>
     ensures { option_map outline_of result ≡ outline_of_unary operator.now }
 {
@@ -211,6 +220,7 @@ fn infix_production(operator: &str, own: Rank, right: Rank) -> Production
     }
 }
 
+/// The production of a binary expression (12.6 to 12.12); none if the text isn't its operator.
 fn binary_production(operator: &str) -> Option<Production>
     ensures { option_map outline_of result ≡ outline_of_binary operator.now (operation_at operator.now) }
 {
@@ -225,6 +235,7 @@ fn binary_production(operator: &str) -> Option<Production>
     }
 }
 
+/// The production of a logical expression (12.13); none if the text isn't its operator.
 fn logical_production(operator: &str) -> Option<Production>
     ensures { option_map outline_of result ≡ outline_of_logical operator.now (operation_at operator.now) }
 {
@@ -238,6 +249,7 @@ fn logical_production(operator: &str) -> Option<Production>
     }
 }
 
+/// The production of an assignment (12.15); only `=` assigns to a pattern.
 fn assignment_production(operator: &str, left: Kind) -> Option<Production>
     ensures { option_map outline_of result ≡ outline_of_assignment operator.now left }
 {

@@ -15,6 +15,7 @@ pub(crate) fn is_lean_node(node: Node) -> bool
     is_lean_label(node.kind(), node.text(), node.flags())
 }
 
+/// The same as `is_lean_node`, by the kind, the text and the flags of a node.
 #[inline(always)]
 fn is_lean_label(kind: Kind, text: &str, flags: Flags) -> bool
     ensures { result ≡ lean_label kind text.now flags }
@@ -103,6 +104,7 @@ fn used_flags(kind: Kind, flags: Flags) -> Flags
     }
 }
 
+/// Whether the form is that of a property with a value.
 fn is_init(form: Form) -> bool
     ensures { result ≡ is_init_form form }
 {

@@ -20,6 +20,7 @@ pub(crate) fn leaf_if(holds: bool) -> Option<Production>
     None
 }
 
+/// The production of a binding identifier or a label (12.1); none for a reserved word or another kind.
 pub(crate) fn name_production(kind: Kind, name: &str) -> Option<Production>
     ensures { option_map outline_of result ≡ outline_of_name kind name.now }
 {
@@ -40,6 +41,7 @@ pub(crate) fn key_production(kind: Kind, text: &str) -> Option<Production>
     }
 }
 
+/// Whether a literal with a token of this class may be a key: a string or a number.
 fn is_key_class(class: TokenClass) -> bool
     ensures { result ≡ is_class_of_key class }
 {
@@ -69,6 +71,7 @@ pub(crate) fn quasi_production(kind: Kind) -> Option<Production>
     }
 }
 
+/// Whether the kind is that of a template's element.
 pub(crate) fn is_chunk(kind: Kind) -> bool
     ensures { result ≡ is_chunk_kind kind }
 {

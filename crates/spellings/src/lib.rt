@@ -1,6 +1,11 @@
 #![tactic(auto)]
 
-//! Which production spells a node at a position, and where each part of a node stands.
+//! Which production spells a node at a position, and the slot of each of its parts; rows of grouping pairs.
+//! - May touch: nodes. It is the one crate that goes from a node to the positions of its parts; memory for `pair_rows`
+//!   alone.
+//! - Contract: `node_production` answers the first way of the table there, for each symbol, In and start; none if
+//!   there is none.
+//! - Begin at: `spelled_node.rt`, `node_production`; `slot_cursor.rt`, `SlotCursor`; `pairs.rt`.
 
 mod chain;
 mod dangling;

@@ -14,6 +14,7 @@ use crate::words::names_constructor;
 use spelling_table::{Position, Production, with_default};
 use tree::{Flags, Form, Kind, Node};
 
+/// The production of a ClassBody (14.6); none for other kinds.
 pub(crate) fn class_body_production(kind: Kind) -> Option<Production>
     ensures { option_map outline_of result ≡ outline_of_class_body kind }
 {
@@ -33,6 +34,7 @@ pub(crate) fn method_production(node: Node, form: Form) -> Option<Production>
     }
 }
 
+/// The production of the function of a getter, a setter or another method, by its parts (14.3).
 fn form_method_production(node: Node, form: Form) -> Option<Production>
     ensures { option_map outline_of result ≡ outline_of_form_method form (around (parts_of (node_tree node.entry))) }
 {
@@ -45,6 +47,7 @@ fn form_method_production(node: Node, form: Form) -> Option<Production>
     }
 }
 
+/// The production of a getter's function: its body alone (14.3).
 fn getter_production(name: PartAt, body: PartAt, other: PartAt) -> Option<Production>
     ensures { option_map outline_of result ≡ outline_of_getter name body other }
 {
@@ -54,6 +57,7 @@ fn getter_production(name: PartAt, body: PartAt, other: PartAt) -> Option<Produc
     }
 }
 
+/// The production of a setter's function: one parameter, which is no rest, and its body (14.3).
 fn setter_production(name: PartAt, value: PartAt, body: PartAt, other: PartAt) -> Option<Production>
     ensures { option_map outline_of result ≡ outline_of_setter name value body other }
 {
@@ -68,6 +72,7 @@ fn setter_production(name: PartAt, value: PartAt, body: PartAt, other: PartAt) -
     }
 }
 
+/// The production of a setter's function, by its parameter's position; none if there is none.
 fn set_at(value: Option<Position>) -> Option<Production>
     ensures { option_map outline_of result ≡ outline_set_at value }
 {
@@ -77,6 +82,7 @@ fn set_at(value: Option<Position>) -> Option<Production>
     }
 }
 
+/// The production of a method's function (14.3), which has no name.
 fn plain_method_production(name: PartAt) -> Option<Production>
     ensures { option_map outline_of result ≡ outline_of_plain_method name }
 {
@@ -107,6 +113,7 @@ fn is_constructor(flags: Flags, key: Kind, text: &str) -> bool
     !flags.computed && !flags.is_static && names_constructor(key, text)
 }
 
+/// The production of a class's member (14.6), by its form; none if the form isn't allowed to its key.
 fn member_form_production(constructs: bool, computed: bool, form: Form) -> Option<Production>
     ensures { option_map outline_of result ≡ outline_of_member_form constructs computed form }
 {

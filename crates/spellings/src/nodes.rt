@@ -74,6 +74,7 @@ pub(crate) fn production_at(node: Node, position: Position, in_chain: bool) -> O
     }
 }
 
+/// The production of an object pattern's property, by the kind of its value.
 fn pattern_property_at(node: Node, binds: bool) -> Option<Production>
     ensures { option_map outline_of result ≡ outline_of_pattern_property binds (kind_of (node_tree node.entry)) (flags_of (node_tree node.entry)) (kind_of_entry (entry_at (parts_of (node_tree node.entry)) 1)) }
 {
@@ -81,12 +82,14 @@ fn pattern_property_at(node: Node, binds: bool) -> Option<Production>
     pattern_property_production(binds, node.kind(), node.flags(), value)
 }
 
+/// The production of an array pattern's element or a parameter, by the kind of its first part.
 fn element_at(node: Node, binds: bool) -> Option<Production>
     ensures { option_map outline_of result ≡ outline_of_element binds (kind_of (node_tree node.entry)) (kind_of_entry (entry_at (parts_of (node_tree node.entry)) 0)) }
 {
     element_production(binds, node.kind(), kind_at(part_at(node, 0)))
 }
 
+/// The production of a rest, by the kind of its part.
 fn rest_at(node: Node, binds: bool, of_object: bool) -> Option<Production>
     ensures { option_map outline_of result ≡ outline_of_rest binds of_object (kind_of (node_tree node.entry)) (kind_of_entry (entry_at (parts_of (node_tree node.entry)) 0)) }
 {

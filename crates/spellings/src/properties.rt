@@ -7,6 +7,7 @@ ghost use Rattle.spelling_table.specs.Productions.{outline_of};
 use spelling_table::{ASSIGNMENT, Position, Production, bound, with_default};
 use tree::{Flags, Form, Kind};
 
+/// The production of a spread (12.2.5, 12.2.6); none for other kinds.
 pub(crate) fn spread_production(kind: Kind) -> Option<Production>
     ensures { option_map outline_of result ≡ outline_of_spread kind }
 {
@@ -46,6 +47,7 @@ pub(crate) fn property_production(kind: Kind, flags: Flags) -> Option<Production
     }
 }
 
+/// The production of an object's property, by its form (12.2.6); none for a constructor.
 fn form_production(computed: bool, form: Form) -> Option<Production>
     ensures { option_map outline_of result ≡ outline_of_form computed form }
 {
@@ -72,6 +74,7 @@ pub(crate) fn pattern_property_production(
     }
 }
 
+/// The production of an object pattern's property, by its form and the kind of its value (13.3.3, 12.15.5).
 fn pattern_form_production(
     binds: bool,
     computed: bool,
@@ -87,6 +90,7 @@ fn pattern_form_production(
     }
 }
 
+/// The production of a property with a key, by its value's position; none if there is none.
 fn keyed_at(computed: bool, value: Option<Position>) -> Option<Production>
     ensures { option_map outline_of result ≡ outline_keyed_at computed value }
 {
@@ -96,6 +100,7 @@ fn keyed_at(computed: bool, value: Option<Position>) -> Option<Production>
     }
 }
 
+/// The production of a shorthand property in a pattern: a name, or a name with a default.
 fn shorthand_production(computed: bool, value: Kind) -> Option<Production>
     ensures { option_map outline_of result ≡ outline_of_shorthand computed value }
 {
@@ -109,6 +114,7 @@ fn shorthand_production(computed: bool, value: Kind) -> Option<Production>
     }
 }
 
+/// The production of an array or object pattern; none for other kinds.
 pub(crate) fn pattern_production(binds: bool, kind: Kind) -> Option<Production>
     ensures { option_map outline_of result ≡ outline_of_pattern binds kind }
 {
@@ -129,6 +135,7 @@ pub(crate) fn element_production(binds: bool, kind: Kind, target: Kind) -> Optio
     }
 }
 
+/// The production of a target with a default, by the target's position; none if there is none.
 fn defaulted(target: Option<Position>) -> Option<Production>
     ensures { option_map outline_of result ≡ outline_defaulted target }
 {
@@ -158,6 +165,7 @@ pub(crate) fn rest_production(
     }
 }
 
+/// The production of a node with one part, by the part's position; none if there is none.
 fn one_at(position: Option<Position>) -> Option<Production>
     ensures { option_map outline_of result ≡ outline_one_at position }
 {

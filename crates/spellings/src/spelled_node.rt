@@ -83,6 +83,7 @@ pub fn holds_chain(position: Position, kind: Kind, production: Production) -> bo
     }
 }
 
+/// Whether the first part is one on which an optional chain goes on.
 fn begins_with_spine(front: FixedSlots) -> bool
     ensures { result ≡ spine_first front }
 {

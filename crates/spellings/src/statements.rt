@@ -90,6 +90,7 @@ pub(crate) const EVALUATED: Position = Position::Expression {
     start: Start::Statement,
 };
 
+/// The production of an ExpressionStatement (13.5) that is no directive.
 fn expression_statement_production(flags: Flags) -> Option<Production>
     ensures { option_map outline_of result ≡ outline_of_expression_statement flags }
 {
@@ -99,6 +100,7 @@ fn expression_statement_production(flags: Flags) -> Option<Production>
     Some(Production::Single(EVALUATED))
 }
 
+/// The production of an IfStatement (13.6); none if `else` would belong to a dangling `if` in its first branch.
 fn if_production(
     returns: bool,
     dangling: bool,
@@ -153,12 +155,14 @@ fn is_short(init: PartAt, test: PartAt, update: PartAt) -> bool
     is_past(init) || (is_past(test) || is_past(update))
 }
 
+/// Whether the node has no part there, not even a gap.
 fn is_past(entry: PartAt) -> bool
     ensures { result ≡ is_past_entry entry }
 {
     matches!(entry, PartAt::Past)
 }
 
+/// Whether a part is there, and it isn't a gap.
 pub(crate) fn is_part(entry: PartAt) -> bool
     ensures { result ≡ is_part_entry entry }
 {
@@ -175,6 +179,7 @@ fn init_of(entry: PartAt) -> ForInit
     }
 }
 
+/// What stands first in the head of a `for`, by its kind: a declaration or an expression.
 fn init_of_kind(kind: Kind) -> ForInit
     ensures { result ≡ cond (declares kind) TheVariants.Declaration TheVariants.Value }
 {
@@ -184,6 +189,7 @@ fn init_of_kind(kind: Kind) -> ForInit
     ForInit::Value
 }
 
+/// Whether the kind is that of a declaration of variables.
 fn is_declaration(kind: Kind) -> bool
     ensures { result ≡ declares kind }
 {
@@ -225,6 +231,7 @@ fn word_production(entry: PartAt, position: Position) -> Option<Production>
     }
 }
 
+/// The production of a ReturnStatement (13.10); none where `return` isn't allowed.
 fn return_production(returns: bool, value: PartAt) -> Option<Production>
     ensures { option_map outline_of result ≡ outline_of_return returns value }
 {
@@ -244,6 +251,7 @@ fn switch_production(returns: bool, defaults_twice: bool) -> Option<Production>
     Some(Production::Switch { returns })
 }
 
+/// The production of a TryStatement (13.15), by its parts; none if they aren't those of one.
 fn try_production(
     returns: bool,
     block: PartAt,

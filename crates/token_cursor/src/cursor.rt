@@ -47,7 +47,7 @@ impl<'t, 's> Model for Cursor<'t, 's> {
     ghost invariant = { λ c. IsPlace c.source.now c.last.end × (c.opened ≤ max_open) × Ahead Div c.source.now c.last.end c.ahead };
 }
 
-// What the goal reads behind a place.
+/// The token that the goal reads after a place, in bytes.
 fn scan_after<'s>(source: &Source<'s>, at: usize, goal: Goal) -> Result<Token<'s>, ScanFault>
     requires { IsPlace source.now at }
     ensures { Ahead goal source.now at result }
@@ -56,7 +56,7 @@ fn scan_after<'s>(source: &Source<'s>, at: usize, goal: Goal) -> Result<Token<'s
     scan(source, at, goal)
 }
 
-// Whether another goal may read another token.
+/// Whether another goal may read another token there: it begins with `/` or `}`.
 fn depends_on_goal(token: &Token<'_>) -> bool
     ensures { result ≡ depends (token_of token.now).text }
 {
@@ -66,7 +66,7 @@ fn depends_on_goal(token: &Token<'_>) -> bool
     }
 }
 
-// Whether a token is a `;`.
+/// Whether the token is `;`.
 fn is_semicolon(token: &Token<'_>) -> bool
     ensures { result ≡ is_semicolon (as_read (token_of token.now)) }
 {
@@ -123,7 +123,7 @@ impl<'t, 's> Cursor<'t, 's> {
         }
     }
 
-    // What the goal reads ahead: it is looked for anew only where goals may differ.
+    /// The token that the goal reads next; it is scanned again only if another goal may read another.
     #[inline(always)]
     fn ahead_by(&self, goal: Goal) -> Result<Token<'s>, ScanFault>
         ensures { Ahead goal self.now.text self.now.last.stop result }

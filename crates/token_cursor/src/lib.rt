@@ -1,6 +1,9 @@
 #![tactic(auto)]
 
-//! The place of a parser in a text: the next token by goal, missing semicolons, open parentheses.
+//! A place in a text, and the next token by goal; tests of it, missing semicolons, open parentheses.
+//! - May touch: the text, by `scan`, and the number of open parentheses; no node. It never moves backwards.
+//! - Contract: `peek` answers the token that a goal reads next, and a refusal leaves the cursor as it was.
+//! - Begin at: `cursor.rt`, `Cursor`; tests of a token in `lookahead.rt`; `semicolon.rt` for where a statement ends.
 
 mod cursor;
 mod lookahead;

@@ -20,7 +20,7 @@ pub enum StatementEnd {
     AfterExpression(Edge),
 }
 
-// Whether the token begins with this byte, which isn't one of a line end.
+/// Whether the token begins with this byte, which is beyond those of line ends.
 fn begins_with(token: &Token<'_>, byte: u8) -> bool
     requires { 13 < byte }
     ensures { result ≡ begins (as_read (token_of token.now)) byte }
@@ -31,14 +31,14 @@ fn begins_with(token: &Token<'_>, byte: u8) -> bool
     }
 }
 
-// Whether the token is this punctuator.
+/// Whether the token is the punctuator of this one byte.
 pub(crate) fn is_punctuator(token: &Token<'_>, mark: u8) -> bool
     ensures { result ≡ is_mark (mark ∷ []) (as_read (token_of token.now)) }
 {
     token.class == TokenClass::Punctuator && is_byte(token.text, mark)
 }
 
-// Whether the text is this byte.
+/// Whether the text is this one byte.
 #[inline(always)]
 fn is_byte(text: &str, byte: u8) -> bool
     ensures { result ≡ bytes_eq text.now (byte ∷ []) }
@@ -67,14 +67,14 @@ pub fn goes_on(edge: Edge, token: &Token<'_>) -> bool
     }
 }
 
-// Whether the token is a `)`.
+/// Whether the token is `)`.
 fn is_closing(token: &Token<'_>) -> bool
     ensures { result ≡ is (as_read (token_of token.now)).text ")" }
 {
     is_byte(token.text, b')')
 }
 
-// The right edge as it stands: behind a `)` it is that of a node in parentheses.
+/// The right edge as it is written: after a `)`, that of an expression in parentheses.
 fn edge_as_written(edge: Edge, last: &Token<'_>) -> Edge
     ensures { result ≡ edge_as_written edge (as_read (token_of last.now)) }
 {
@@ -84,7 +84,7 @@ fn edge_as_written(edge: Edge, last: &Token<'_>) -> Edge
     }
 }
 
-// Whether the `;` may be missing between two tokens, of which the second is no `;`.
+/// Whether the `;` between two tokens may be missing (11.9); the second one is no `;`.
 pub(crate) fn may_omit_semicolon(ending: StatementEnd, last: &Token<'_>, token: &Token<'_>) -> bool
     requires { is_semicolon (as_read (token_of token.now)) ≡ false }
     ensures { result ≡ may_omit_semicolon (ending_of ending) (as_read (token_of last.now)) (as_read (token_of token.now)) }

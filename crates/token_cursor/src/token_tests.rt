@@ -10,7 +10,7 @@ ghost use Rattle.token_cursor.specs.Seen.{is_any, is_free_name, declares};
 use grammar::is_reserved;
 use tokens::{Token, TokenClass};
 
-// Whether two texts are the same: most punctuators have one byte.
+/// Whether two texts are the same; texts of one byte are compared first, since most punctuators have one.
 #[inline(always)]
 fn is_same_text(text: &str, other: &str) -> bool
     ensures { result ≡ bytes_eq text.now other.now }
@@ -66,7 +66,7 @@ pub fn is_declaration_word(token: &Token<'_>) -> bool
     token.class == TokenClass::IdentifierName && is_var_let_const(token.text)
 }
 
-// Whether the word declares variables: `var`, `let` or `const`.
+/// Whether the word declares variables: `var`, `let` or `const`.
 fn is_var_let_const(word: &str) -> bool
     ensures { result ≡ declares word.now }
 {

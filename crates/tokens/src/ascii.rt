@@ -3,7 +3,7 @@
 ghost use Rattle.std.specs.Prelude.{◌≡◌, ◌<◌};
 ghost use Rattle.tokens.specs.Sets.{has_bit};
 
-// Whether a character is in a set, which has a bit for each: those below U+0040 in the first number.
+/// Whether a character of ASCII is in a set, which has a bit for each: the first number those below U+0040.
 #[inline]
 pub fn is_in(set: &[u64; 2], c: char) -> bool
     requires { c < 128 }

@@ -14,7 +14,7 @@ pub struct CharAt {
     pub end: usize,
 }
 
-// The character at a place, if the text doesn't end there.
+/// The character at a place in bytes, with the place after it; none at the end of the text.
 #[inline]
 pub fn char_at(text: &str, at: usize) -> Option<CharAt>
     requires { IsPlace text.now at }
@@ -28,7 +28,7 @@ pub fn char_at(text: &str, at: usize) -> Option<CharAt>
     non_ascii_char_at(text, at)
 }
 
-// The character at a place, if it is one of ASCII.
+/// The character at a place in bytes, if it is one of ASCII.
 #[inline]
 pub fn ascii_char_at(text: &str, at: usize) -> Option<CharAt>
     requires { IsPlace text.now at }
@@ -51,7 +51,7 @@ pub fn ascii_char_at(text: &str, at: usize) -> Option<CharAt>
     })
 }
 
-// The same, whatever the character is.
+/// The same as `char_at`, by decoding UTF-8: for characters that aren't of ASCII.
 fn non_ascii_char_at(text: &str, at: usize) -> Option<CharAt>
     requires { IsPlace text.now at }
     ensures some { IfSome result (λ s. Passed text.now at s.end (s.c ∷ [])) }

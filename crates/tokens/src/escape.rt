@@ -19,7 +19,7 @@ pub struct Escaped {
     pub value: Option<u32>,
 }
 
-// The value of a hexadecimal digit.
+/// The value of a hexadecimal digit; none for other characters.
 #[inline]
 fn hex_digit(c: char) -> Option<u32>
     ensures some { IfSome result (λ d. (d ≡ digit_value c) × (d < 16) × IsTrue (is_hex_digit c)) }
@@ -33,7 +33,7 @@ fn hex_digit(c: char) -> Option<u32>
     }
 }
 
-// So many hexadecimal digits.
+/// The value of exactly this many hexadecimal digits, at most four, as in `\xHH` and `\uHHHH`.
 fn fixed_digits(text: &str, at: usize, count: u32) -> Option<Escaped>
     requires place { IsPlace text.now at }
     requires few { count ≤ 4 }
@@ -58,7 +58,7 @@ fn fixed_digits(text: &str, at: usize, count: u32) -> Option<Escaped>
     })
 }
 
-// Hexadecimal digits behind `u{`, at least one, and `}`.
+/// The value of the digits in `\u{…}`, from after the `{` on; at most 0x10FFFF.
 fn code_point(text: &str, at: usize) -> Option<Escaped>
     requires { IsPlace text.now at }
     ensures some { IfSome result (λ e. IsPieceAt (unicode_escape (0x7B ∷ behind text.now at)) 2 text.now at e) }
@@ -88,7 +88,7 @@ fn code_point(text: &str, at: usize) -> Option<Escaped>
     })
 }
 
-// What stands behind `u`.
+/// The value of a UnicodeEscapeSequence after its `u`: four digits, or digits in braces (11.8.4).
 fn unicode_escape(text: &str, at: usize) -> Option<Escaped>
     requires { IsPlace text.now at }
     ensures some { IfSome result (λ e. IsPieceAt (unicode_escape (behind text.now at)) 1 text.now at e) }
@@ -102,7 +102,7 @@ fn unicode_escape(text: &str, at: usize) -> Option<Escaped>
     fixed_digits(text, at, 4)
 }
 
-// `0`, where no digit follows.
+/// The value of `\0` after its `0`; none if a digit follows.
 fn null_escape(text: &str, at: usize) -> Option<Escaped>
     requires { IsPlace text.now at }
     ensures some { IfSome result (λ e. IsPieceAt (escape (0x30 ∷ behind text.now at)) 1 text.now at e) }
@@ -119,7 +119,7 @@ fn null_escape(text: &str, at: usize) -> Option<Escaped>
     })
 }
 
-// A line end, which stands for nothing.
+/// A LineContinuation (11.8.4), which has no value; CR LF counts as one line end.
 fn line_continuation(text: &str, at: usize, first: char) -> Escaped
     requires place { IsPlace text.now at }
     requires ends_line { IsTrue (is_line_terminator first) }
@@ -136,7 +136,7 @@ fn line_continuation(text: &str, at: usize, first: char) -> Escaped
     Escaped { end, value: None }
 }
 
-// The character that a single character stands for behind a backslash.
+/// The code point that one character after a backslash stands for: `n` for LF; most stand for themselves.
 fn escaped_character(c: char) -> u32
     ensures value { result ≡ escaped_character c }
     ensures code_point { result < 0x11_0000 }
@@ -152,7 +152,7 @@ fn escaped_character(c: char) -> u32
     }
 }
 
-// What stands behind a backslash, if it is an escape.
+/// The escape after a backslash, with its value and its end (11.8.4); none if it is no escape.
 fn escape(text: &str, at: usize) -> Option<Escaped>
     requires { IsPlace text.now at }
     ensures some { IfSome result (λ e. IsPieceAt (escape (behind text.now at)) 0 text.now at e) }
@@ -174,7 +174,7 @@ fn escape(text: &str, at: usize) -> Option<Escaped>
     }
 }
 
-// A character in front of a place, with its escape where it is a backslash.
+/// The value of a character that ends at this place, with its escape if it is a backslash (11.8.4).
 #[inline]
 pub fn character_value(text: &str, c: char, at: usize) -> Option<Escaped>
     requires { IsPlace text.now at }

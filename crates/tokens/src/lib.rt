@@ -1,6 +1,10 @@
 #![tactic(auto)]
 
-//! The tokens of a text, and the values of strings and templates.
+//! The tokens of a text (ECMA-262 11), by lexical goal, and the values of strings and templates.
+//! - May touch: a checked text. `scan` takes no memory and keeps nothing from one call to the next.
+//! - Contract: `scan` answers the token that a goal reads at a place, the longest of its class; a fault exactly if
+//!   there is none.
+//! - Begin at: `scanner.rt`, `scan`; then a file for each class, and `value.rt`. Definitions: `specs/Tokens.antt`.
 
 mod ascii;
 mod char_at;

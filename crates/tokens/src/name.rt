@@ -11,9 +11,10 @@ use crate::ascii::is_in;
 use crate::char_at::{CharAt, char_at};
 use unicode_ident::{is_xid_continue, is_xid_start};
 
-// The IdentifierPart characters of ASCII: `$`, the digits, the letters and `_`.
+/// The IdentifierPart characters of ASCII: `$`, the digits, the letters and `_`.
 const PARTS: [u64; 2] = [0x03FF_0010_0000_0000, 0x07FF_FFFE_87FF_FFFE];
 
+/// Whether a character of ASCII is an IdentifierStart (11.6).
 #[inline]
 fn is_ascii_start(c: char) -> bool
     ensures { result ≡ (one_of "$_" c || is_ascii_alphabetic c) }
@@ -21,6 +22,7 @@ fn is_ascii_start(c: char) -> bool
     matches!(c, 'a'..='z' | 'A'..='Z' | '$' | '_')
 }
 
+/// Whether a character of ASCII is an IdentifierPart (11.6).
 #[inline]
 fn is_ascii_part(c: char) -> bool
     requires { c < 128 }
@@ -29,7 +31,7 @@ fn is_ascii_part(c: char) -> bool
     is_in(&PARTS, c)
 }
 
-// IdentifierStart, without escapes.
+/// Whether the character is an IdentifierStart (11.6), escapes aside.
 #[inline]
 pub fn is_start(c: char) -> bool
     ensures { result ≡ is_identifier_start c }
@@ -40,7 +42,7 @@ pub fn is_start(c: char) -> bool
     is_xid_start(c)
 }
 
-// IdentifierPart, without escapes.
+/// Whether the character is an IdentifierPart (11.6), escapes aside.
 #[inline]
 pub fn is_part(c: char) -> bool
     ensures { result ≡ is_identifier_part c }
@@ -51,7 +53,7 @@ pub fn is_part(c: char) -> bool
     is_xid_continue(c) || c == '\u{200C}' || c == '\u{200D}'
 }
 
-// The place behind the name that begins with a step, if there is one.
+/// Where the name that begins with this character ends, in bytes; none if no name begins with it.
 #[inline]
 pub fn name_end(text: &str, first: CharAt) -> Option<usize>
     requires { IsPlace text.now first.end }
@@ -64,7 +66,7 @@ pub fn name_end(text: &str, first: CharAt) -> Option<usize>
     None
 }
 
-// The first place from a place on where no IdentifierPart stands.
+/// Where the IdentifierPart characters from this place on end, in bytes.
 pub fn parts_end(text: &str, at: usize) -> usize
     requires { IsPlace text.now at }
     ensures { IsRun is_identifier_part text.now at result }

@@ -11,7 +11,7 @@ use crate::TokenClass;
 use crate::char_at::char_at;
 use crate::name::is_start;
 
-// What a prefix says of the digits.
+/// The base that the prefix `0b`, `0o` or `0x` gives the digits after it (11.8.3).
 #[derive(Clone, Copy)]
 enum Base {
     Binary,
@@ -19,7 +19,7 @@ enum Base {
     Hexadecimal,
 }
 
-// What has been read of a number.
+/// The state of the automaton that reads a number (11.8.3): what the characters so far are.
 #[derive(Clone, Copy)]
 enum NumberState {
     Unread,
@@ -41,6 +41,7 @@ enum NumberState {
     Dead,
 }
 
+/// Whether the character is a digit of this base.
 #[inline]
 fn is_digit_of(base: Base, c: char) -> bool
     ensures { result ≡ is_digit_of (base_of base) c }
@@ -52,6 +53,7 @@ fn is_digit_of(base: Base, c: char) -> bool
     }
 }
 
+/// The state after an integer and this character, which is neither a digit nor a separator.
 fn after_integer(c: char) -> NumberState
     ensures { numeral_of result ≡ after_integer c }
 {
@@ -63,6 +65,7 @@ fn after_integer(c: char) -> NumberState
     }
 }
 
+/// The state after a leading `0` and this character.
 fn after_zero(c: char) -> NumberState
     ensures { numeral_of result ≡ after_zero c }
 {
@@ -74,6 +77,7 @@ fn after_zero(c: char) -> NumberState
     }
 }
 
+/// The state after a point or the digits of a fraction and this character, which is no separator.
 fn after_fraction(c: char) -> NumberState
     ensures { numeral_of result ≡ after_fraction c }
 {
@@ -84,7 +88,7 @@ fn after_fraction(c: char) -> NumberState
     }
 }
 
-// Behind one more character.
+/// The state after one more character.
 fn next_number_state(state: NumberState, c: char) -> NumberState
     ensures { numeral_of result ≡ next_numeral (numeral_of state) c }
 {
@@ -145,7 +149,7 @@ fn next_number_state(state: NumberState, c: char) -> NumberState
     }
 }
 
-// A state behind a digit.
+/// This state if the character is a decimal digit, else `Dead`.
 #[inline]
 fn digit_or_dead(c: char, state: NumberState) -> NumberState
     ensures { numeral_of result ≡ (if is_decimal_digit c then numeral_of state else no_numeral) }
@@ -157,7 +161,7 @@ fn digit_or_dead(c: char, state: NumberState) -> NumberState
     }
 }
 
-// Behind a prefix, or a separator of its digits.
+/// The state after a prefix, or a separator of its digits, and this character: a digit must follow.
 #[inline]
 fn after_prefix(base: Base, c: char) -> NumberState
     ensures { numeral_of result ≡ (if is_digit_of (base_of base) c then digits (base_of base) else no_numeral) }
@@ -169,6 +173,7 @@ fn after_prefix(base: Base, c: char) -> NumberState
     }
 }
 
+/// The state after a number's first character.
 fn first_state(c: char) -> NumberState
     ensures { numeral_of result ≡ next_numeral unread c }
 {
@@ -180,7 +185,7 @@ fn first_state(c: char) -> NumberState
     }
 }
 
-// Whether a number may end there.
+/// Whether a number may end in this state.
 fn is_complete(state: NumberState) -> bool
     ensures { result ≡ is_complete (numeral_of state) }
 {
@@ -205,7 +210,7 @@ fn is_complete(state: NumberState) -> bool
     }
 }
 
-// Whether none goes on from there.
+/// Whether no number goes on from this state.
 #[inline]
 fn is_dead(state: NumberState) -> bool
     ensures { result ≡ is_dead (numeral_of state) }
@@ -216,7 +221,7 @@ fn is_dead(state: NumberState) -> bool
     }
 }
 
-// Whether a number may not end before the character.
+/// Whether the character may not follow a number at once (11.8.3): an IdentifierStart or a digit.
 #[inline]
 fn is_bad_end(c: char) -> bool
     ensures { result ≡ (is_identifier_start c || is_decimal_digit c) }
@@ -224,7 +229,7 @@ fn is_bad_end(c: char) -> bool
     is_start(c) || c.is_ascii_digit()
 }
 
-// The place behind the number at a place, if there is one: no IdentifierStart and no digit follows it.
+/// Where the number at this place ends, in bytes; none if there is none, or an IdentifierStart or a digit follows it.
 pub fn number_end(text: &str, at: usize) -> Option<usize>
     requires { IsPlace text.now at }
     ensures some { IfSome result (λ e. IsWordAt TokenClass.NumericLiteral text.now at e) }

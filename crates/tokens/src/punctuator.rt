@@ -10,7 +10,7 @@ use crate::TokenClass;
 use crate::ascii::is_in;
 use crate::char_at::{CharAt, char_at};
 
-// The next character, U+0000 at the end of the text, and the place behind it.
+/// The character at a place, and the place after it; U+0000 at the end of the text.
 #[inline]
 fn char_or_nul(text: &str, at: usize) -> CharAt
     requires { IsPlace text.now at }
@@ -22,6 +22,7 @@ fn char_or_nul(text: &str, at: usize) -> CharAt
     }
 }
 
+/// Whether the character alone is a punctuator (11.7).
 #[inline]
 fn is_single(b: char) -> bool
     ensures { result ≡ is_single b }
@@ -54,10 +55,10 @@ fn is_single(b: char) -> bool
     )
 }
 
-// `{` `}` `(` `)` `[` `]` `;` `,` `:` `~`
+/// The characters that are a punctuator whatever follows: `{` `}` `(` `)` `[` `]` `;` `,` `:` `~`.
 const SINGLE_PUNCTUATORS: [u64; 2] = [0x0C00_1300_0000_0000, 0x6800_0000_2800_0000];
 
-// Whether no longer punctuator begins with the character, and a digit behind it changes nothing.
+/// Whether the character is a punctuator whatever follows it: no longer one begins with it.
 #[inline]
 fn is_single_punctuator(b: char) -> bool
     ensures { result ≡ is_among b alone }
@@ -68,7 +69,7 @@ fn is_single_punctuator(b: char) -> bool
     is_in(&SINGLE_PUNCTUATORS, b)
 }
 
-// Whether the character is a digit or the second one of some punctuator.
+/// Whether the character is a digit, or the second one of some punctuator.
 #[inline]
 fn goes_on(c: char) -> bool
     ensures { result ≡ goes_on c }
@@ -79,6 +80,7 @@ fn goes_on(c: char) -> bool
     )
 }
 
+/// Whether the character and `=` are a punctuator.
 #[inline]
 fn stands_before_equals(b: char) -> bool
     ensures { result ≡ is_among b (firsts 61) }
@@ -89,6 +91,7 @@ fn stands_before_equals(b: char) -> bool
     )
 }
 
+/// Whether the two characters are a punctuator (11.7).
 #[inline]
 fn is_pair(b: char, c: char) -> bool
     ensures { result ≡ is_pair b c }
@@ -108,6 +111,7 @@ fn is_pair(b: char, c: char) -> bool
     }
 }
 
+/// Whether the three characters are a punctuator (11.7).
 #[inline]
 fn is_triple(b: char, c: char, d: char) -> bool
     ensures { result ≡ is_triple b c d }
@@ -129,6 +133,7 @@ fn is_triple(b: char, c: char, d: char) -> bool
     }
 }
 
+/// Whether the four characters are a punctuator: `>>>=`.
 #[inline]
 fn is_quadruple(b: char, c: char, d: char, e: char) -> bool
     ensures { result ≡ is_quadruple b c d e }
@@ -136,7 +141,7 @@ fn is_quadruple(b: char, c: char, d: char, e: char) -> bool
     ((b == '>') & (c == '>')) & ((d == '>') & (e == '='))
 }
 
-// The place behind the punctuator that begins with a step, if there is one; `?.` and `.` are none before a digit.
+/// Where the punctuator that begins with this character ends, in bytes; `?.` and `.` are none before a digit (11.7).
 #[inline]
 pub fn punctuator_end(text: &str, b: CharAt) -> Option<usize>
     requires { IsPlace text.now b.end }

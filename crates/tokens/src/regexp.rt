@@ -12,7 +12,7 @@ use crate::char_at::char_at;
 use crate::name::is_part;
 use source_text::is_line_terminator;
 
-// What has been read of one.
+/// The state of the automaton that reads a regular expression (11.8.5): what the characters so far are.
 #[derive(Clone, Copy)]
 enum RegExpState {
     Opened,
@@ -24,6 +24,7 @@ enum RegExpState {
     Failed,
 }
 
+/// The state after a character in the body, outside brackets.
 fn next_in_body(c: char) -> RegExpState
     ensures { expression_of result ≡ next_in_body c }
 {
@@ -38,6 +39,7 @@ fn next_in_body(c: char) -> RegExpState
     }
 }
 
+/// The state after a character of a RegularExpressionClass, in brackets.
 fn next_in_brackets(c: char) -> RegExpState
     ensures { expression_of result ≡ next_in_brackets c }
 {
@@ -51,7 +53,7 @@ fn next_in_brackets(c: char) -> RegExpState
     }
 }
 
-// Behind one more character.
+/// The state after one more character.
 fn next_regexp_state(part: RegExpState, c: char) -> RegExpState
     ensures { expression_of result ≡ next_expression (expression_of part) c }
 {
@@ -78,7 +80,7 @@ fn next_regexp_state(part: RegExpState, c: char) -> RegExpState
     }
 }
 
-// A state behind a character that a backslash takes.
+/// This state after a character that follows a backslash; `Failed` if it ends the line.
 fn taken(c: char, part: RegExpState) -> RegExpState
     ensures { expression_of result ≡ (if is_line_terminator c then no_expression else expression_of part) }
 {
@@ -89,7 +91,7 @@ fn taken(c: char, part: RegExpState) -> RegExpState
     }
 }
 
-// The place behind the regular expression at a place, if there is one.
+/// Where the regular expression at this place ends, in bytes; none if there is none (11.8.5).
 pub fn regexp_end(text: &str, at: usize) -> Option<usize>
     requires { IsPlace text.now at }
     ensures some { IfSome result (λ e. IsWordAt TokenClass.RegularExpressionLiteral text.now at e) }
@@ -104,7 +106,7 @@ pub fn regexp_end(text: &str, at: usize) -> Option<usize>
     None
 }
 
-// The place behind the flags, from the body on.
+/// Where the flags end, in bytes, of a regular expression whose body begins at this place.
 fn flags_end(text: &str, at: usize) -> Option<usize>
     requires { IsPlace text.now at }
     ensures some { IfSome result (λ e. IsFlagsAt text.now at e) }
@@ -123,7 +125,7 @@ fn flags_end(text: &str, at: usize) -> Option<usize>
     if has_flags(part) { Some(end) } else { None }
 }
 
-// Whether none goes on from there.
+/// Whether no regular expression goes on from this state.
 #[inline]
 fn is_over(part: RegExpState) -> bool
     ensures { result ≡ is_over (expression_of part) }
@@ -134,7 +136,7 @@ fn is_over(part: RegExpState) -> bool
     }
 }
 
-// Whether one may end there.
+/// Whether a regular expression may end in this state.
 #[inline]
 fn has_flags(part: RegExpState) -> bool
     ensures { result ≡ has_flags (expression_of part) }

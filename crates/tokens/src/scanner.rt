@@ -29,7 +29,7 @@ pub struct ScanFault {
     pub at: usize,
 }
 
-// Whether the goal reads a regular expression at `/`, and a part of a template at `}`.
+/// Whether the goal reads a regular expression at `/`.
 #[inline]
 fn reads_regexps(goal: Goal) -> bool
     ensures { result ≡ reads_regexps goal }
@@ -41,6 +41,7 @@ fn reads_regexps(goal: Goal) -> bool
     }
 }
 
+/// Whether the goal reads a part of a template at `}`.
 #[inline]
 fn reads_template_parts(goal: Goal) -> bool
     ensures { result ≡ reads_template_parts goal }
@@ -52,10 +53,11 @@ fn reads_template_parts(goal: Goal) -> bool
     }
 }
 
-// `{` `(` `)` `[` `]` `;` `,` `<` `>` `=` `!` `+` `-` `*` `%` `&` `|` `^` `~` `?` `:`
+/// The characters with which only punctuators begin: `{` `(` `)` `[` `]` `;` `,` `<` `>` `=` `!` `+` `-` `*` `%` `&`
+/// `|` `^` `~` `?` `:`.
 const PUNCTUATOR_STARTS: [u64; 2] = [0xFC00_3F62_0000_0000, 0x5800_0000_6800_0000];
 
-// Whether nothing but a punctuator begins with the character.
+/// Whether only punctuators begin with the character.
 #[inline]
 fn begins_punctuator(c: char) -> bool
     ensures { result ≡ is_mark c }
@@ -66,7 +68,7 @@ fn begins_punctuator(c: char) -> bool
     is_in(&PUNCTUATOR_STARTS, c)
 }
 
-// Whether a digit stands at a place.
+/// Whether a decimal digit stands at this place.
 #[inline]
 fn digit_follows(text: &str, at: usize) -> bool
     requires { IsPlace text.now at }
@@ -78,7 +80,7 @@ fn digit_follows(text: &str, at: usize) -> bool
     }
 }
 
-// The class of the tokens that begin with a character, by the goal and whether a digit follows a point.
+/// The class of the tokens that begin with a character, for a goal; `digit` says that a digit follows a point.
 #[inline]
 fn class_by(c: char, goal: Goal, digit: bool) -> TokenClass
     ensures { result ≡ class_by goal c digit }
@@ -123,7 +125,7 @@ fn class_by(c: char, goal: Goal, digit: bool) -> TokenClass
     }
 }
 
-// Whether the character is a point and a digit stands behind it.
+/// Whether the character is a point and a digit follows it, so that a number begins.
 #[inline]
 fn is_point_before_digit(text: &str, first: CharAt) -> bool
     requires { IsPlace text.now first.end }
@@ -135,8 +137,8 @@ fn is_point_before_digit(text: &str, first: CharAt) -> bool
     digit_follows(text, first.end)
 }
 
-// The place behind the token of a class that begins with a step, if there is one. The class is the one that the goal
-// reads there.
+/// Where the token of this class ends, in bytes; none if there is none. The class is the one that the goal reads at the
+/// place.
 #[inline]
 fn token_end(text: &str, at: usize, first: CharAt, class: TokenClass) -> Option<usize>
     requires place { IsPlace text.now at }
@@ -156,14 +158,14 @@ fn token_end(text: &str, at: usize, first: CharAt, class: TokenClass) -> Option<
     }
 }
 
-// A token's class, and the place behind it.
+/// A token's class, and the place after it, in bytes.
 #[derive(Clone, Copy)]
 struct Lexeme {
     class: TokenClass,
     end: usize,
 }
 
-// The token that the goal reads at a place where no separator stands, if there is one.
+/// The token that the goal reads at a place where no separator stands; none if it is no token.
 #[inline]
 fn lexeme_at(text: &str, at: usize, goal: Goal) -> Option<Lexeme>
     requires { IsPlace text.now at }

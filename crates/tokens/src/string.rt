@@ -9,7 +9,7 @@ use crate::TokenClass;
 use crate::char_at::char_at;
 use crate::escape::character_value;
 
-// The place behind the string at a place, if there is one.
+/// Where the string at this place ends, in bytes; none if there is none (11.8.4).
 pub fn string_end(text: &str, at: usize) -> Option<usize>
     requires { IsPlace text.now at }
     ensures some { IfSome result (λ e. IsWordAt TokenClass.StringLiteral text.now at e) }
@@ -24,7 +24,7 @@ pub fn string_end(text: &str, at: usize) -> Option<usize>
     None
 }
 
-// Whether no string goes on over the character (ECMA-262 11.8.4).
+/// Whether a string may not hold the character unescaped because it ends the line: LF or CR (11.8.4).
 #[inline]
 fn ends_line(c: char) -> bool
     ensures { result ≡ ((c == 0xA) || (c == 0xD)) }
@@ -32,7 +32,7 @@ fn ends_line(c: char) -> bool
     c == '\n' || c == '\r'
 }
 
-// The place behind the quote that ends the string.
+/// Where a string ends, in bytes, that was opened by this quote before the place; none if it isn't closed.
 fn closed_end(text: &str, at: usize, quote: char) -> Option<usize>
     requires { IsPlace text.now at }
     ensures some { IfSome result (λ e. IsStringRest quote text.now at e) }

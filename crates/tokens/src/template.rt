@@ -7,7 +7,7 @@ ghost use Rattle.tokens.specs.Scanned.{IsPartRest, IsWordAt, NoPartRest, NoWordA
 use crate::TokenClass;
 use crate::char_at::char_at;
 
-// The place behind the part of a template at a place, if there is one.
+/// Where the part of a template at this place ends, in bytes; none if there is none (11.8.6).
 pub fn template_end(text: &str, at: usize) -> Option<usize>
     requires { IsPlace text.now at }
     ensures some { IfSome result (λ e. IsWordAt TokenClass.Template text.now at e) }
@@ -22,7 +22,7 @@ pub fn template_end(text: &str, at: usize) -> Option<usize>
     None
 }
 
-// The place behind the grave accent or the `${` that ends the part; a backslash takes the next character.
+/// Where a template's part ends, in bytes: after the first `` ` `` or `${` from this place on that no backslash takes.
 fn part_end(text: &str, at: usize) -> Option<usize>
     requires { IsPlace text.now at }
     ensures some { IfSome result (λ e. IsPartRest text.now at e) }

@@ -20,7 +20,7 @@ pub struct Trivia {
     pub has_line_break: bool,
 }
 
-// The place behind the line terminators, the white space and the comments at a place; often the place itself.
+/// Skips white space, line terminators and comments (11.2 to 11.4); mostly there are none.
 #[inline]
 pub fn skip_trivia(text: &str, at: usize) -> Trivia
     requires { IsPlace text.now at }
@@ -36,7 +36,7 @@ pub fn skip_trivia(text: &str, at: usize) -> Trivia
     skip_all_trivia(text, at)
 }
 
-// The same, whatever stands there.
+/// The same as `skip_trivia`, without the quick test for none.
 fn skip_all_trivia(text: &str, at: usize) -> Trivia
     requires { IsPlace text.now at }
     ensures gap { IsGap text.now at result.end result.has_line_break }
@@ -53,7 +53,7 @@ fn skip_all_trivia(text: &str, at: usize) -> Trivia
     gap
 }
 
-// The place behind the line terminators and the white space of ASCII at a place.
+/// Skips the white space and line terminators of ASCII.
 #[inline]
 fn blanks(text: &str, at: usize) -> Trivia
     requires { IsPlace text.now at }
@@ -75,7 +75,7 @@ fn blanks(text: &str, at: usize) -> Trivia
     gap
 }
 
-// Whether a character of ASCII separates tokens by itself.
+/// Whether a character of ASCII is white space or a line terminator (11.2, 11.3).
 #[inline]
 fn is_ascii_blank(c: char) -> bool
     requires { c < 128 }
@@ -84,7 +84,7 @@ fn is_ascii_blank(c: char) -> bool
     matches!(c, ' ' | '\t'..='\r')
 }
 
-// Whether a character of ASCII stands at a place with which no separator begins.
+/// Whether a character of ASCII stands at the place with which no separator begins.
 #[inline]
 fn is_solid(text: &str, at: usize) -> bool
     requires { IsPlace text.now at }
@@ -96,7 +96,7 @@ fn is_solid(text: &str, at: usize) -> bool
     }
 }
 
-// Whether no separator begins with a character of ASCII.
+/// Whether no separator begins with this character of ASCII.
 #[inline]
 fn separates_none(c: char) -> bool
     requires { c < 128 }
@@ -105,7 +105,7 @@ fn separates_none(c: char) -> bool
     !matches!(c, '/' | ' ' | '\t'..='\r')
 }
 
-// A white space, a line terminator or a comment.
+/// One white space, line terminator or comment at the place; none if there is none.
 #[inline]
 fn separator(text: &str, at: usize) -> Option<Trivia>
     requires { IsPlace text.now at }
@@ -119,7 +119,7 @@ fn separator(text: &str, at: usize) -> Option<Trivia>
     any_separator(text, at)
 }
 
-// The same, whatever stands there.
+/// The same as `separator`, without the quick test for none.
 fn any_separator(text: &str, at: usize) -> Option<Trivia>
     requires { IsPlace text.now at }
     ensures some { IfSome result (λ g. IsSeparator text.now at g.end g.has_line_break) }
@@ -142,7 +142,7 @@ fn any_separator(text: &str, at: usize) -> Option<Trivia>
     None
 }
 
-// A comment whose `/` stands before a place.
+/// The comment whose first `/` stands before this place (11.4); none if there is none.
 fn comment(text: &str, at: usize) -> Option<Trivia>
     requires { IsPlace text.now at }
     ensures some { IfSome result (λ g. IsCommentRest text.now at g.end g.has_line_break) }
@@ -161,7 +161,7 @@ fn comment(text: &str, at: usize) -> Option<Trivia>
     }
 }
 
-// The place of the first line terminator from a place on, or the end of the text.
+/// Where the line ends, in bytes: at its line terminator, or at the end of the text.
 fn line_end(text: &str, at: usize) -> usize
     requires { IsPlace text.now at }
     ensures { IsRun (λ c. not (is_line_terminator c)) text.now at result }
@@ -176,8 +176,7 @@ fn line_end(text: &str, at: usize) -> usize
     end
 }
 
-// The place behind the characters at a place that neither end a line nor begin the end of a comment, up to the first
-// that isn't of ASCII at most.
+/// Where the run of characters of ASCII ends, in bytes, that neither end a line nor are `*`.
 #[inline]
 fn plain_end(text: &str, at: usize) -> usize
     requires { IsPlace text.now at }
@@ -193,7 +192,7 @@ fn plain_end(text: &str, at: usize) -> usize
     end
 }
 
-// The same, but behind a `*` the place itself.
+/// The same as `plain_end`, but this place itself after a `*`.
 #[inline]
 fn plain_unless(text: &str, at: usize, starred: bool) -> usize
     requires { IsPlace text.now at }
@@ -206,7 +205,7 @@ fn plain_unless(text: &str, at: usize, starred: bool) -> usize
     plain_end(text, at)
 }
 
-// Whether a character of ASCII is one of them.
+/// Whether a character of ASCII is none of LF, CR and `*`.
 #[inline]
 fn is_ascii_plain(c: char) -> bool
     requires { c < 128 }
@@ -215,7 +214,7 @@ fn is_ascii_plain(c: char) -> bool
     !matches!(c, '\n' | '\r' | '*')
 }
 
-// What is left of a comment behind its `/*`, with the first `*/`.
+/// The rest of a MultiLineComment (11.4) after its `/*`; none if no `*/` follows.
 fn block_rest(text: &str, at: usize) -> Option<Trivia>
     requires { IsPlace text.now at }
     ensures some { IfSome result (λ g. IsBlockRest text.now at g.end g.has_line_break) }
@@ -243,7 +242,7 @@ fn block_rest(text: &str, at: usize) -> Option<Trivia>
     None
 }
 
-// Whether a comment can begin at a place, whether it ends or not.
+/// Whether a comment begins at the place, even one that doesn't end.
 #[inline]
 pub fn comment_begins(text: &str, at: usize) -> bool
     requires { IsPlace text.now at }

@@ -44,7 +44,7 @@ pub fn string_is(text: &str, word: &str) -> bool
     units_are(contents(text), word)
 }
 
-// What stands between the first and the last character.
+/// The text without its first and its last character.
 fn contents(text: &str) -> &str
     ensures { chars result.now ≡ string_contents (chars text.now) }
 {
@@ -54,7 +54,7 @@ fn contents(text: &str) -> &str
     inner.as_str()
 }
 
-// Whether the units of a text with escapes are the bytes of a word; they aren't where an escape is bad.
+/// Whether the UTF-16 units of a text with escapes are the bytes of a word, one for one; no if an escape is bad.
 fn units_are(text: &str, word: &str) -> bool
     requires { 0 < length word.now }
     ensures { result ≡ bytes_eq (unwrap_or (unescaped (chars text.now)) []) word.now }
@@ -74,7 +74,7 @@ fn units_are(text: &str, word: &str) -> bool
     matched == word.len()
 }
 
-// How many bytes of a word match, with a further value behind those that do; none where it isn't the next byte.
+/// How many bytes of a word match after one more value; none if the value isn't the next byte.
 fn matched_by(word: &str, matched: usize, value: Option<u32>) -> Option<usize>
     requires { matched ≤ length word.now }
     ensures some { IfSome result (λ n. (n ≤ length word.now) × (take n word.now ≡ take matched word.now ++ units_of value)) }
@@ -114,7 +114,7 @@ pub fn template_value<'s>(
     Ok((CowStr::Borrowed(text), cooked))
 }
 
-// The text with U+000D U+000A and U+000D as U+000A.
+/// The text with each CR LF and each CR as LF (11.8.6.1).
 fn turned(alloc: Global, text: &str) -> Result<String, AllocError>
     ensures { IfOk result (λ s. string_bytes s ≡ encode_utf8_all (raw_value (chars text.now))) }
 {
@@ -129,7 +129,7 @@ fn turned(alloc: Global, text: &str) -> Result<String, AllocError>
     Ok(out)
 }
 
-// What becomes of a character, where a flag says that U+000D stands before it.
+/// Adds a character with CR LF and CR as LF; `returned` says that a CR stands before it.
 #[inline]
 fn push_turned(out: &mut String, c: char, returned: bool) -> Result<(), AllocError>
     ensures { IfOk result (λ _. string_bytes out.new ≡ string_bytes out.old ++ encode_utf8_all (line_end_turned returned c)) }
@@ -144,7 +144,7 @@ fn push_turned(out: &mut String, c: char, returned: bool) -> Result<(), AllocErr
     }
 }
 
-// The units of a text with escapes, unless one is bad.
+/// The UTF-16 units of a text with escapes; none if an escape is bad.
 fn units(alloc: Global, text: &str) -> Result<Option<Vec<u16>>, AllocError>
     ensures { IfOk result (λ o. option_map (λ v. v.items) o ≡ unescaped (chars text.now)) }
 {
@@ -160,7 +160,7 @@ fn units(alloc: Global, text: &str) -> Result<Option<Vec<u16>>, AllocError>
     Ok(Some(out))
 }
 
-// UTF16Encoding of a code point (10.1.1), if there is one.
+/// Adds the UTF16Encoding of a code point (10.1.1), if there is one.
 #[inline]
 fn push_units(out: &mut Vec<u16>, value: Option<u32>) -> Result<(), AllocError>
     requires { IfSome value (λ v. v < 0x11_0000) }

@@ -82,7 +82,8 @@ impl<'s> BoxedNode<'s> {
     }
 }
 
-// A list of parts keeps up to so much room: to give back less makes other requests dearer than it saves.
+/// A list keeps spare room for up to this many parts: giving back less makes other requests for memory dearer than it
+/// saves.
 const KEPT_ROOM: usize = 4;
 
 /// Gives back the room behind a node's parts. That of a single part stays: no other list would fit into it.

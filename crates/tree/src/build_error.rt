@@ -17,6 +17,7 @@ impl From<AllocError> for BuildError {
 
     ghost from_gives = { λ _ e. e ≡ Memory };
 
+    /// Refused memory, as an error of building a tree.
     fn from(_error: AllocError) -> BuildError {
         BuildError::Memory
     }
@@ -28,6 +29,7 @@ impl<T: Drop> From<AllocFailed<T>> for BuildError {
 
     ghost from_gives = { λ _ e. e ≡ Memory };
 
+    /// Refused memory for a value, as an error of building a tree.
     fn from(_error: AllocFailed<T>) -> BuildError {
         BuildError::Memory
     }

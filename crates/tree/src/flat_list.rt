@@ -24,6 +24,7 @@ impl<'t, 's> FlatList<'t, 's> {
     ghost use Rattle.tree.specs.Places.{place_tree, run_parts};
     ghost use Rattle.tree.specs.HeldRows.{IsNamed};
 
+    /// The parts with these numbers in a finished tree.
     pub(crate) fn new(tree: &'t FlatTree<'s>, parts: &'t [PartNumber]) -> FlatList<'t, 's>
         requires { AreBefore (length tree.now.nodes) parts.now }
         ensures parts { run_parts result ≡ parts_with_gaps (map (named (trees tree.now.parts.items [] tree.now.nodes)) parts.now) }
@@ -33,6 +34,7 @@ impl<'t, 's> FlatList<'t, 's> {
         FlatList { tree, parts }
     }
 
+    /// How many parts there are, gaps counted too.
     pub(crate) fn len(self) -> usize
         ensures { result ≡ part_count (run_parts self.entry) }
     {

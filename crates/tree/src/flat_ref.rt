@@ -41,6 +41,7 @@ impl<'t, 's> FlatRef<'t, 's> {
         FlatRef { tree, node }
     }
 
+    /// The node's kind.
     pub(crate) fn kind(self) -> Kind
         ensures { result ≡ kind_of (place_tree self.entry) }
     {
@@ -48,6 +49,7 @@ impl<'t, 's> FlatRef<'t, 's> {
         node.kind
     }
 
+    /// The node's text.
     pub(crate) fn text(self) -> &'t str
         ensures { result.now ≡ text_of (place_tree self.entry) }
     {
@@ -55,6 +57,7 @@ impl<'t, 's> FlatRef<'t, 's> {
         node.text.as_str()
     }
 
+    /// The node's flags.
     pub(crate) fn flags(self) -> Flags
         ensures { result ≡ flags_of (place_tree self.entry) }
     {
@@ -62,6 +65,7 @@ impl<'t, 's> FlatRef<'t, 's> {
         node.flags
     }
 
+    /// The node's place in the source, in bytes.
     pub(crate) fn span(self) -> Span
         ensures starts { result.start ≡ start_of (place_tree self.entry) }
         ensures ends { result.end ≡ stop_of (place_tree self.entry) }

@@ -1,6 +1,10 @@
 #![tactic(auto)]
 
-//! The tree of a script: ESTree nodes.
+//! The tree of a script, with ESTree's kinds of nodes: while a script is read (`BoxedNode`), and finished (`Program`).
+//! - May touch: nodes, their texts, places and parts, and memory. It knows no grammar.
+//! - Contract: `Program::build` shows the statements that it was made of, places included; each node holds its row.
+//! - Begin at: `kind.rt`, `Kind`; then `node.rt`, by which both forms are read, `build.rt`. Definitions:
+//!   `specs/Tree.antt`.
 
 mod boxed_node;
 mod build;

@@ -28,6 +28,7 @@ impl<'t, 's> NodeList<'t, 's> {
     ghost use Rattle.tree.specs.Places.{run_parts};
     ghost use Rattle.tree.specs.Fields.{last_part, before_last};
 
+    /// The list of a node's parts while a script is read.
     pub(crate) fn new(parts: &'t [Option<BoxedNode<'s>>]) -> NodeList<'t, 's>
         ensures { list_parts result ≡ parts_with_gaps parts.now }
     {
@@ -36,6 +37,7 @@ impl<'t, 's> NodeList<'t, 's> {
         }
     }
 
+    /// The list of a node's parts in a finished tree.
     pub(crate) fn of_run(run: FlatList<'t, 's>) -> NodeList<'t, 's>
         ensures { list_parts result ≡ run_parts run.entry }
     {

@@ -29,6 +29,7 @@ impl<'s> NodeText<'s> {
         }
     }
 
+    /// A copy: it borrows the same characters, or owns a copy of its own.
     pub(crate) fn try_clone(&self, alloc: Global) -> Result<NodeText<'s>, AllocError>
         ensures { IfOk result (λ copy. text_bytes copy ≡ text_bytes self.now) }
     {
@@ -41,6 +42,7 @@ impl<'s> NodeText<'s> {
         }
     }
 
+    /// The characters.
     pub(crate) fn as_str(&self) -> &str
         ensures { result.now ≡ text_bytes self.now }
     {

@@ -182,6 +182,7 @@ fn property_use(node_use: NodeUse, flags: Flags, index: usize) -> NodeUse
     NodeUse::NotEvaluated
 }
 
+/// The use of a property's value, by the use of the property and its form.
 fn value_use(node_use: NodeUse, form: Form) -> NodeUse
     ensures { result ≡ value_at node_use form }
 {

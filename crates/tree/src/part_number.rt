@@ -30,6 +30,7 @@ impl Model for PartNumber {
 impl PartNumber {
     ghost use Rattle.std.specs.Prelude.{◌≡◌, ◌<◌, Some, None};
 
+    /// The number of a part that is missing.
     pub(crate) fn gap() -> PartNumber
         ensures { result ≡ None }
     {

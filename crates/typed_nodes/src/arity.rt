@@ -13,6 +13,7 @@ pub(crate) fn is_whole(node: Node) -> bool
     has_arity(node.kind(), node.part_count())
 }
 
+/// Whether a node of this kind may have this many parts, gaps counted too.
 fn has_arity(kind: Kind, count: usize) -> bool
     ensures { result ≡ has_arity kind count }
 {

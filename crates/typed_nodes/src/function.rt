@@ -58,6 +58,7 @@ impl<'t, 's> Class<'t, 's> {
     }
 }
 
+/// The function that the node is, whatever parts it has; none if one is missing that it must have.
 fn any_function<'t, 's>(node: Node<'t, 's>) -> Option<Function<'t, 's>>
     ensures { option_map function_seen result ≡ function_by (kind_of (node_tree node.entry)) (node_tree node.entry) }
 {
@@ -82,6 +83,7 @@ fn any_function<'t, 's>(node: Node<'t, 's>) -> Option<Function<'t, 's>>
     }
 }
 
+/// The arrow function that the node is; none without a body.
 fn arrow<'t, 's>(node: Node<'t, 's>) -> Option<Function<'t, 's>>
     ensures { option_map function_seen result ≡ function_by ArrowFunctionExpression (node_tree node.entry) }
 {
@@ -97,6 +99,7 @@ fn arrow<'t, 's>(node: Node<'t, 's>) -> Option<Function<'t, 's>>
     })
 }
 
+/// The class that the node is, whatever parts it has; none if one is missing that it must have.
 fn any_class<'t, 's>(node: Node<'t, 's>) -> Option<Class<'t, 's>>
     ensures { option_map class_seen result ≡ class_by (kind_of (node_tree node.entry)) (node_tree node.entry) }
 {

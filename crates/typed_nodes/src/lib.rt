@@ -1,7 +1,10 @@
 #![tactic(auto)]
 
-//! Views of a node as what ESTree says that it is: its kind, and its fields by name. A view is made when it is asked for, without memory,
-//! and shows one node; the parts in it are nodes, of which views can be made in turn. The parts in a list aren't looked at.
+//! ESTree's fields of a node by name, for other programs: `Expression::of(node)` and its kin borrow one node.
+//! - May touch: a node, how many parts it has and which are missing; not what its parts are. It takes no memory.
+//! - Contract: a view shows what `specs/` says of its kind, and there is none exactly if the node lacks a part that it
+//!   must have.
+//! - Begin at: `expression.rt`, `Expression`; `arity.rt` says how many parts each kind has.
 
 mod arity;
 mod expression;

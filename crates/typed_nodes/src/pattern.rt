@@ -50,6 +50,7 @@ impl<'t, 's> Pattern<'t, 's> {
     }
 }
 
+/// The pattern that the node is, whatever parts it has; none if one is missing that it must have.
 fn any_pattern<'t, 's>(node: Node<'t, 's>) -> Option<Pattern<'t, 's>>
     ensures { option_map pattern_seen result ≡ pattern_by (kind_of (node_tree node.entry)) (node_tree node.entry) }
 {

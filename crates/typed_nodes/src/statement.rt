@@ -137,6 +137,7 @@ fn any_statement<'t, 's>(node: Node<'t, 's>) -> Option<Statement<'t, 's>>
     }
 }
 
+/// The `for` with semicolons that the node is; none without a body.
 fn for_each_step<'t, 's>(node: Node<'t, 's>) -> Option<Statement<'t, 's>>
     ensures { option_map statement_seen result ≡ loop_by ForStatement (node_tree node.entry) }
 {
@@ -173,6 +174,7 @@ fn headed<'t, 's>(node: Node<'t, 's>) -> Option<Statement<'t, 's>>
     }
 }
 
+/// The `try` that the node is, with this block; none without a handler and a finalizer.
 fn tried<'t, 's>(node: Node<'t, 's>, block: Node<'t, 's>) -> Option<Statement<'t, 's>>
     requires { Some (node_tree block) ≡ field 0 (node_tree node) }
     ensures { option_map statement_seen result ≡ choice_by TryStatement (node_tree node.entry) }

@@ -1,6 +1,9 @@
 #![tactic(auto)]
 
-//! The grammar is unambiguous, short scripts are within the limits, and grouping pairs come in order: what is proved of its definitions. Each contract is a theorem, and the body does nothing.
+//! Theorems: the grammar is unambiguous, short scripts are within the limits, grouping pairs come in order.
+//! - May touch: nothing. It has no word about the parser, so the theorems hold for every text.
+//! - Contract: `at_most_one_script`: two derivations of a text agree in tree, places and pairs.
+//! - Begin at: `specs/Laws.antt` for what is said; `proofs/Unique.antt` for why.
 
 ghost use Rattle.unambiguity_laws.specs.Laws.{AtMostOneScript, EarlierScriptIsTheOne, ShortScriptsFit, PairsInOrder};
 

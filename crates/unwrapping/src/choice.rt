@@ -200,6 +200,7 @@ fn choose(
     })
 }
 
+/// What a node gets in the answer: parentheses if it is opened, or else arguments if it is called; nothing if neither.
 fn addition(is_opened: bool, is_called: bool) -> Option<Addition> {
     match (is_opened, is_called) {
         (true, _) => Some(Addition::Parenthesis),

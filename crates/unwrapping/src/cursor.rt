@@ -14,6 +14,7 @@ pub(crate) struct Cursor<'c> {
 }
 
 impl<'c> Cursor<'c> {
+    /// A cursor before the first of these changes.
     pub(crate) fn new(changes: &'c Changes) -> Cursor<'c> {
         Cursor {
             removed: changes.removed.as_slice(),

@@ -24,10 +24,12 @@ pub(crate) struct Part<'s> {
 }
 
 impl<'s> Part<'s> {
+    /// Whether it is white space and line ends.
     pub(crate) fn is_blank(self) -> bool {
         matches!(self.kind, PartKind::Blank)
     }
 
+    /// Whether it is a comment that ends with its line.
     pub(crate) fn is_line_comment(self) -> bool {
         matches!(self.kind, PartKind::LineComment)
     }

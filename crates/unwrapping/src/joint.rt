@@ -65,6 +65,7 @@ fn end_line<'s>(
     push_parts(parts, gap)
 }
 
+/// The last part, if there is one.
 pub(crate) fn last_part<'s>(parts: &Vec<Part<'s>>) -> Option<Part<'s>> {
     match parts.last() {
         Some(part) => Some(*part),

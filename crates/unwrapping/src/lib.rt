@@ -1,6 +1,10 @@
 #![tactic(auto)]
 
-//! A script's text without its unnecessary grouping pairs. All else stays as it is: tokens, comments, blanks and lines.
+//! A script's text without its unnecessary pairs of parentheses: all else stays as it is.
+//! - May touch: a text, its tree and a plan, and memory. It parses nothing: `lint` reads again what it makes.
+//! - Contract: `keeps` answers yes only if a text's tokens and comments are kept in the other; `unwrapped` promises
+//!   nothing.
+//! - Begin at: `text.rt`, `unwrapped`; `choice.rt`, `writer.rt`; for the comparison `reading.rt` and `keeping.rt`.
 
 mod changes;
 mod character;

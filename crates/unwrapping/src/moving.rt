@@ -13,6 +13,7 @@ pub(crate) struct Indent {
 }
 
 impl Indent {
+    /// The indentation of the last line of a text.
     pub(crate) fn of_last_line(text: &[u8]) -> Indent {
         let start = last_line(text);
         let line = &text[start..];
@@ -44,6 +45,7 @@ impl Indent {
         self.write(out)
     }
 
+    /// Writes a part; if blanks in it end a line, with this indentation after them.
     fn write_part(self, part: Part<'_>, out: &mut Vec<u8>) -> Result<(), AllocError> {
         if part.is_line_end() {
             return self.write_line_end(part.text, out);
@@ -69,6 +71,7 @@ impl Indent {
         self.write_ending(parts.get(last.saturating_add(1)), out)
     }
 
+    /// Writes what ends the lifted comments: the next part's line end and this indentation, or a space.
     fn write_ending(self, next: Option<&Part<'_>>, out: &mut Vec<u8>) -> Result<(), AllocError> {
         match next {
             Some(part) if part.is_line_end() => {
@@ -83,6 +86,7 @@ impl Indent {
     }
 }
 
+/// The byte at an index of what was written, if there is one.
 fn byte_at(out: &Vec<u8>, index: usize) -> Option<u8> {
     out.get(index).copied()
 }

@@ -26,6 +26,7 @@ pub struct ByteSpan {
 }
 
 impl ByteSpan {
+    /// The span from `start` to `end`, in bytes, neither over 16,777,216.
     pub(crate) fn of(start: usize, end: usize) -> ByteSpan
         requires start { start ≤ 16777216 }
         requires end { end ≤ 16777216 }

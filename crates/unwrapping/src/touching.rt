@@ -34,6 +34,7 @@ impl Next {
         })
     }
 
+    /// What comes next if this part does: nothing if it is blank, else the `/` of its comment.
     fn of_part(part: Part<'_>) -> Option<Next> {
         if part.is_blank() {
             return None;
@@ -41,6 +42,7 @@ impl Next {
         Some(Next::mark(b'/'))
     }
 
+    /// What comes next if it begins with this byte and is no word.
     fn mark(first: u8) -> Next {
         Next {
             first,
@@ -74,6 +76,7 @@ fn run_together(last: Last<'_>, end: u8, first: u8) -> bool {
     }
 }
 
+/// Whether all bytes are decimal digits or `_`.
 fn is_decimal_integer(number: &[u8]) -> bool {
     for byte in number {
         if !matches!(*byte, b'0'..=b'9' | b'_') {

@@ -79,6 +79,7 @@ struct Writer<'s> {
 }
 
 impl<'s> Writer<'s> {
+    /// A writer that has written nothing, with room for `capacity` bytes.
     fn new(alloc: Global, capacity: usize) -> Result<Writer<'s>, AllocError> {
         Ok(Writer {
             out: Vec::with_capacity(alloc, capacity)?,
@@ -365,6 +366,7 @@ fn goes_on(token: &[u8]) -> bool {
     }
 }
 
+/// Whether `!` comes after `<`, with which an HTML-like comment could begin.
 fn is_less_and_not(last: &[u8], token: &[u8]) -> bool {
     matches!(last, b"<") && matches!(token, b"!")
 }
