@@ -21,7 +21,9 @@ mod token;
 mod trivia;
 mod value;
 
+pub use char_at::{CharAt, char_at};
 pub use laws::{at_most_one_token, readings_take_tokens};
 pub use scanner::{ScanFault, scan};
 pub use token::{Goal, Token, TokenClass};
+pub use trivia::{Trivia, comment};
 pub use value::{quoted_units, string_is, string_units, template_value};

@@ -143,7 +143,7 @@ fn any_separator(text: &str, at: usize) -> Option<Trivia>
 }
 
 /// The comment whose first `/` stands before this place (11.4); none if there is none.
-fn comment(text: &str, at: usize) -> Option<Trivia>
+pub fn comment(text: &str, at: usize) -> Option<Trivia>
     requires { IsPlace text.now at }
     ensures some { IfSome result (λ g. IsCommentRest text.now at g.end g.has_line_break) }
     ensures none { IfNone result (NoCommentRest text.now at) }

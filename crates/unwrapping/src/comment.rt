@@ -1,65 +1,16 @@
 //! The comments in a gap (ECMA-262 11.4).
 
-ghost use Rattle.std.specs.Prelude.{◌≡◌, ◌<◌, ◌≤◌, ◌++◌, length, Bool, true, not, map, List, ℕ, IfOk, IfSome};
-ghost use Rattle.source_text.specs.Lines.{is_line_terminator};
+ghost use Rattle.std.specs.Prelude.{◌≡◌, ◌≤◌, ◌++◌, length, true, map, List, ℕ, IfOk};
 ghost use Rattle.source_text.specs.Source.{IsPlace};
 ghost use Rattle.tokens.specs.Comments.{Separators};
 ghost use Rattle.tokens.specs.Reading.{behind};
-ghost use Rattle.tokens.specs.Scanned.{IsBlockRest, IsCommentRest, IsRun, Passed};
+ghost use Rattle.tokens.specs.Scanned.{Passed};
 ghost use Rattle.unwrapping.specs.Keeps.{comments};
 ghost use Rattle.unwrapping.specs.Readings.{bytes_in};
 
-use crate::character::char_at;
 use crate::reading::ByteSpan;
-use source_text::is_line_terminator;
 use std::alloc::AllocError;
-
-/// The place of the first line terminator from a place on, or the end of the text.
-fn line_end(text: &str, at: usize) -> usize
-    requires { IsPlace text.now at }
-    ensures { IsRun (λ c. not (is_line_terminator c)) text.now at result }
-{
-    let mut end = at;
-    while let Some(step) = char_at(text, end) {
-        if is_line_terminator(step.c) {
-            return end;
-        }
-        end = step.end;
-    }
-    end
-}
-
-/// The place after the first `*/` from a place on, where a comment's `/*` stands before it.
-fn block_end(text: &str, at: usize) -> Option<usize>
-    requires { IsPlace text.now at }
-    ensures { IfSome result (λ end. (breaks : Bool) × IsBlockRest text.now at end breaks) }
-{
-    let mut end = at;
-    let mut starred = false;
-    while let Some(step) = char_at(text, end) {
-        if starred & (step.c == '/') {
-            return Some(step.end);
-        }
-        starred = step.c == '*';
-        end = step.end;
-    }
-    None
-}
-
-/// The place after a comment whose `/` stands before a place.
-fn comment_end(text: &str, at: usize) -> Option<usize>
-    requires { IsPlace text.now at }
-    ensures { IfSome result (λ end. (breaks : Bool) × IsCommentRest text.now at end breaks) }
-{
-    let Some(step) = char_at(text, at) else {
-        return None;
-    };
-    match step.c {
-        '/' => Some(line_end(text, step.end)),
-        '*' => block_end(text, step.end),
-        _ => None,
-    }
-}
+use tokens::{char_at, comment};
 
 /// Adds the comments between two places, and says whether all that stands there was passed.
 ///
@@ -86,11 +37,11 @@ pub(crate) fn push_comments(
             place = step.end;
             continue;
         }
-        let Some(end) = comment_end(text, step.end) else {
+        let Some(comment) = comment(text, step.end) else {
             return Ok(false);
         };
-        spans.push(ByteSpan::of(place, end))?;
-        place = end;
+        spans.push(ByteSpan::of(place, comment.end))?;
+        place = comment.end;
     }
     if place != stop {
         return Ok(false);

@@ -7,7 +7,6 @@
 //! - Begin at: `text.rt`, `unwrapped`; `choice.rt`, `writer.rt`; for the comparison `reading.rt` and `keeping.rt`.
 
 mod changes;
-mod character;
 mod choice;
 mod comment;
 mod cursor;
