@@ -61,28 +61,6 @@ fn spells(alloc: Global, bytes: &[u8], original: Original<'_, '_>) -> Result<boo
     }
 }
 
-/// What is made of a script whose pairs are more than the fewest, as bytes: no more is known of them.
-///
-/// # Errors
-///
-/// `AllocError` where memory is refused.
-fn rewritten(
-    alloc: Global,
-    source: &Source<'_>,
-    reading: &TreeReading,
-    parsed: &Parsed<'_>,
-    plan: &Plan,
-) -> Result<Vec<u8>, AllocError> {
-    let script = PlannedScript {
-        source,
-        reading,
-        program: parsed.program(),
-        pairs: parsed.grouping_pairs(),
-        table: plan.table(),
-    };
-    unwrapped(alloc, script)
-}
-
 /// The text that bytes are, if they are a script within the limits with the same tree and so many pairs, which keeps the tokens and the
 /// comments.
 ///
@@ -145,7 +123,14 @@ fn unwrap_read(
         program,
         count,
     };
-    match rewritten(alloc, source, reading, parsed, plan) {
+    let script = PlannedScript {
+        source,
+        reading,
+        program,
+        pairs: parsed.grouping_pairs(),
+        table: plan.table(),
+    };
+    match unwrapped(alloc, script) {
         Ok(bytes) => validated(alloc, bytes, original),
         Err(AllocError) => Err(Fault::OutOfMemory),
     }
