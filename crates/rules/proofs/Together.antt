@@ -5,11 +5,10 @@ use Rattle.std.proofs.Math.Seq.{drop-cons}
 use Rattle.std.proofs.lemmas.List.{drop_all}
 use Rattle.tree.specs.declared.kind.Kind.TheVariants.{BinaryExpression, BlockStatement, DebuggerStatement, SwitchStatement, VariableDeclaration}
 use Rattle.tree.specs.Tree.{Tree, node, Parts, none, part, gap, kind_of}
-use Rattle.rules.specs.declared.node_rule.NodeRule.{NodeRule}
-use Rattle.rules.specs.declared.node_rule.NodeRule.TheVariants.{Equality, Debugger, Empty, Var}
-use Rattle.rules.specs.declared.node_rule.NodeRules.{NodeRules}
-use Rattle.rules.specs.Nodes.{of_node}
-use Rattle.rules.specs.NodeRules.{looking_at, no_rules, has, with_rule, of_looking, of_rules, found_on_nodes, found_alone}
+use Rattle.rules.specs.declared.rule_list.NodeRule.{NodeRule}
+use Rattle.rules.specs.declared.rule_list.NodeRule.TheVariants.{Equality, Debugger, Empty, Var}
+use Rattle.rules.specs.declared.rule_list.NodeRules.{NodeRules}
+use Rattle.rules.specs.NodeRules.{of_node, looking_at, no_rules, has, with_rule, of_looking, of_rules, found_on_nodes, found_alone}
 use Rattle.rules.specs.Reports.{Report}
 use Rattle.rules.specs.Rules.{View, is_function, over_nodes, over_parts}
 

@@ -3,12 +3,11 @@ use Rattle.std.specs.Prelude.{◌≡◌, Bool, true, false, cond, List, [], Opti
 use Rattle.tree.specs.declared.kind.Kind.{Kind}
 use Rattle.tree.specs.declared.kind.Kind.TheVariants.{BinaryExpression, BlockStatement, DebuggerStatement, SwitchStatement, VariableDeclaration}
 use Rattle.tree.specs.Tree.{Tree, kind_of, part_count, parts_of}
-use Rattle.rules.specs.declared.node_rule.NodeRule.{NodeRule}
-use Rattle.rules.specs.declared.node_rule.NodeRule.TheVariants.{Equality, Debugger, Empty, Var}
-use Rattle.rules.specs.declared.node_rule.NodeRules.{NodeRules}
-use Rattle.rules.specs.Nodes.{of_node}
+use Rattle.rules.specs.declared.rule_list.NodeRule.{NodeRule}
+use Rattle.rules.specs.declared.rule_list.NodeRule.TheVariants.{Equality, Debugger, Empty, Var}
+use Rattle.rules.specs.declared.rule_list.NodeRules.{NodeRules}
 use Rattle.rules.specs.Reports.{Report}
-use Rattle.rules.specs.Rules.{View, over_nodes}
+use Rattle.rules.specs.Rules.{View, of_debugger, of_empty, of_equality, of_var, over_nodes}
 
 -- the rule that looks at nodes of a kind
 abbrev pub looking_at : Kind → Option NodeRule
@@ -18,6 +17,13 @@ looking_at BlockStatement = Some Empty
 looking_at SwitchStatement = Some Empty
 looking_at VariableDeclaration = Some Var
 looking_at _ = None
+
+-- what a rule reports of a node
+abbrev pub of_node : NodeRule → Bool → Bool → Tree → List Report
+of_node Equality null b tree = of_equality null tree
+of_node Debugger null b tree = of_debugger tree
+of_node Empty null b tree = of_empty b tree
+of_node Var null b tree = of_var tree
 
 abbrev pub no_rules : NodeRules
 no_rules = record { equality = false; debugger = false; empty = false; var = false }

@@ -1,19 +1,11 @@
 -- What the code's own calls say of single nodes.
-use Rattle.std.specs.Prelude.{Bool, false, ◌||◌, List, Option, Some, None}
+use Rattle.std.specs.Prelude.{Bool, false, ◌||◌, Option, Some, None}
 use Rattle.tree.specs.declared.kind.Kind.TheVariants.{BinaryExpression}
 use Rattle.tree.specs.Tree.{Tree, node}
 use Rattle.language.specs.Vocabulary.{is}
-use Rattle.rules.specs.declared.node_rule.NodeRule.{NodeRule}
-use Rattle.rules.specs.declared.node_rule.NodeRule.TheVariants.{Equality, Debugger, Empty, Var}
 use Rattle.scopes.specs.Found.{Reference}
 use Rattle.rules.specs.Reports.{Report}
-use Rattle.rules.specs.Rules.{is_null, of_debugger, of_empty, of_equality, of_var, quoted, report}
-
-abbrev pub of_node : NodeRule → Bool → Bool → Tree → List Report
-of_node Equality null b tree = of_equality null tree
-of_node Debugger null b tree = of_debugger tree
-of_node Empty null b tree = of_empty b tree
-of_node Var null b tree = of_var tree
+use Rattle.rules.specs.Rules.{is_null, quoted, report}
 
 abbrev pub is_equality : Tree → Bool
 is_equality (node BinaryExpression text flags from to parts) = is text "==" || is text "!="

@@ -8,9 +8,9 @@ ghost use Rattle.rules.specs.Nodes.{is_equality, null_at};
 ghost use Rattle.rules.specs.Rules.{has_null, of_equality};
 
 use crate::new_report::push_report;
-use crate::node_rule::NodeRule;
 use crate::report::Report;
 use crate::rule::Rule;
+use crate::rule_list::NodeRule;
 use crate::view::View;
 use crate::walk::push_found;
 use std::alloc::{AllocError, Global};

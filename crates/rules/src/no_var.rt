@@ -6,9 +6,9 @@ ghost use Rattle.rules.specs.Appends.{Grows};
 ghost use Rattle.rules.specs.Rules.{of_var};
 
 use crate::new_report::push_fixed_report;
-use crate::node_rule::NodeRule;
 use crate::report::Report;
 use crate::rule::Rule;
+use crate::rule_list::NodeRule;
 use crate::view::View;
 use crate::walk::push_found;
 use std::alloc::{AllocError, Global};

@@ -1,7 +1,7 @@
 //! A rule.
 
-use crate::node_rule::NodeRule;
 use crate::report::Report;
+use crate::rule_list::NodeRule;
 use crate::view::View;
 use std::alloc::AllocError;
 

@@ -8,9 +8,9 @@ ghost use Rattle.rules.specs.Run.{all_found, found_by};
 ghost use Rattle.rules.specs.RuleViews.{seen};
 ghost use Rattle.rules.specs.Settings.{is_on};
 
-use crate::node_rule::{NodeRule, NodeRules};
 use crate::report::Report;
 use crate::rule::Rule;
+use crate::rule_list::{NodeRule, NodeRules};
 use crate::view::View;
 use crate::walk::push_all_found;
 use std::alloc::{AllocError, Global};

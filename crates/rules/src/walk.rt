@@ -1,21 +1,16 @@
 //! The rules that look at single nodes: one walk over the tree, in the order of the source.
 
 ghost use Rattle.std.specs.Prelude.{◌≡◌, ◌++◌, false, true, IfSome, None, OnOk, Some};
-ghost use Rattle.tree.specs.Node.{node_tree};
-ghost use Rattle.tree.specs.Tree.{part_at, parts_of};
+ghost use Rattle.tree.specs.Node.{list_parts, node_tree};
+ghost use Rattle.tree.specs.Tree.{part_at};
 ghost use Rattle.rules.specs.Appends.{Grows};
-ghost use Rattle.rules.specs.NodeRules.{IsPassed, of_rules};
-ghost use Rattle.rules.specs.Nodes.{of_node};
+ghost use Rattle.rules.specs.NodeRules.{IsPassed, of_node, of_rules};
 ghost use Rattle.rules.specs.Rules.{is_function, over_nodes};
 
-use crate::eqeqeq::push_equality;
-use crate::no_debugger::push_debugger;
-use crate::no_empty::push_empty;
-use crate::no_var::push_var;
-use crate::node_rule::{NodeRule, NodeRules};
 use crate::report::Report;
+use crate::rule_list::{NodeRule, NodeRules, push_node};
 use std::alloc::{AllocError, Global};
-use tree::{Kind, Node, Program};
+use tree::{Kind, Node, NodeList, Program};
 
 /// Whether the kind is that of a function.
 fn is_function(kind: Kind) -> bool
@@ -72,8 +67,9 @@ fn push_nodes(
 {
     push_selected(rules, alloc, allow_null, node, of_function, out)?;
     let inner = is_function(node.kind());
-    for index in 0..node.part_count() {
-        if let Some(part) = looked_at(node, index) {
+    let parts = node.parts();
+    for index in 0..parts.len() {
+        if let Some(part) = looked_at(parts, index) {
             push_nodes(rules, alloc, allow_null, part, inner, out)?;
         }
     }
@@ -83,11 +79,11 @@ fn push_nodes(
 /// The part at a place, if rules may report of it or of a node below: none for a gap, and for a node without parts at which no rule
 /// looks, such as a name.
 #[inline]
-fn looked_at<'t, 's>(node: Node<'t, 's>, index: usize) -> Option<Node<'t, 's>>
-    ensures given { IfSome result (λ part. Some (node_tree part) ≡ part_at (parts_of (node_tree node.entry)) index) }
-    ensures passed { result ≡ None → IsPassed (part_at (parts_of (node_tree node.entry)) index) }
+fn looked_at<'t, 's>(parts: NodeList<'t, 's>, index: usize) -> Option<Node<'t, 's>>
+    ensures given { IfSome result (λ part. Some (node_tree part) ≡ part_at (list_parts parts.entry) index) }
+    ensures passed { result ≡ None → IsPassed (part_at (list_parts parts.entry) index) }
 {
-    let Some(part) = node.part(index) else {
+    let Some(part) = parts.get(index) else {
         return None;
     };
     if is_passed(part) { None } else { Some(part) }
@@ -123,24 +119,4 @@ fn push_selected(
         return Ok(());
     }
     push_node(rule, alloc, allow_null, node, of_function, out)
-}
-
-/// Appends what a rule reports of a node.
-fn push_node(
-    rule: NodeRule,
-    alloc: Global,
-    allow_null: bool,
-    node: Node,
-    of_function: bool,
-    out: &mut Vec<Report>,
-) -> Result<(), AllocError>
-    ensures found { OnOk result (out.new.items ≡ out.old.items ++ of_node rule allow_null of_function (node_tree node.entry)) }
-    ensures kept { Grows out.old.items out.new.items }
-{
-    match rule {
-        NodeRule::Equality => push_equality(alloc, allow_null, node, out),
-        NodeRule::Debugger => push_debugger(alloc, node, out),
-        NodeRule::Empty => push_empty(alloc, node, of_function, out),
-        NodeRule::Var => push_var(alloc, node, out),
-    }
 }

@@ -1,4 +1,4 @@
-use Rattle.std.proofs.Common.{◌≡◌, ◌∙◌, ℕ, List, ap, refl, subst, sym, length}
+use Rattle.std.proofs.Common.{◌∙◌, ℕ, List, ap, refl, subst, sym, length}
 use Rattle.std.specs.Str.{IsUtf8}
 use Rattle.tree.specs.declared.kind.Pair.{Pair}
 use Rattle.tree.specs.Tree.{Tree, SameTree}

@@ -1,4 +1,4 @@
-use Rattle.std.proofs.Common.{◌≡◌, subst}
+use Rattle.std.proofs.Common.{subst}
 use Rattle.tree.specs.Tree.{Tree}
 use Rattle.unwrapping.specs.Readings.{IsRead}
 use Rattle.lint.proofs.unwrap.unwrap_more.Goals as goal

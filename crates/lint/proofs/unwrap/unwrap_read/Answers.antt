@@ -1,4 +1,4 @@
-use Rattle.std.proofs.Common.{◌≡◌, ℕ, sym, subst, string_bytes}
+use Rattle.std.proofs.Common.{ℕ, sym, subst, string_bytes}
 use Rattle.std.specs.Result.{IfOk}
 use Rattle.tree.specs.Tree.{Tree}
 use Rattle.unwrapping.specs.Readings.{IsRead}
