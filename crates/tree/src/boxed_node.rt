@@ -46,7 +46,7 @@ impl<'s> Model for BoxedNode<'s> {
 }
 
 impl<'s> BoxedNode<'s> {
-    /// A node of this kind, with its text, its place, its parts and its flags; a long list of parts gives back its room.
+    /// A node of this kind, with its text, its place, its parts and its flags; room for more than one further part is given back.
     pub fn new(
         kind: Kind,
         text: NodeText<'s>,
@@ -82,15 +82,11 @@ impl<'s> BoxedNode<'s> {
     }
 }
 
-/// A list keeps spare room for up to this many parts: giving back less makes other requests for memory dearer than it
-/// saves.
-const KEPT_ROOM: usize = 4;
-
-/// Gives back the room behind a node's parts. That of a single part stays: no other list would fit into it.
+/// Gives back the room behind a node's parts, except that for one further part, which few other lists would fit into.
 fn shrink_parts(parts: &mut Vec<Option<BoxedNode>>)
     ensures { parts.new.items ≡ parts.old.items }
 {
-    if parts.capacity() > KEPT_ROOM && parts.capacity() > parts.len() + 1 {
+    if parts.capacity() > parts.len() + 1 {
         parts.shrink_to_fit();
     }
 }
