@@ -9,7 +9,7 @@ ghost use Rattle.tokens.specs.Escaped.{IsPieceAt};
 ghost use Rattle.tokens.specs.Escapes.{escape, escaped_character, fixed_escape, piece, unicode_escape};
 ghost use Rattle.tokens.specs.Reading.{behind};
 
-use crate::char_at::char_at;
+use crate::character::char_at;
 use source_text::is_line_terminator;
 
 /// What an escape stands for, a code point or nothing, and the place behind it.

@@ -7,7 +7,7 @@
 //! - Begin at: `scanner.rt`, `scan`; then a file for each class, and `value.rt`. Definitions: `specs/Tokens.antt`.
 
 mod ascii;
-mod char_at;
+mod character;
 mod escape;
 mod laws;
 mod name;
@@ -21,7 +21,7 @@ mod token;
 mod trivia;
 mod value;
 
-pub use char_at::{CharAt, char_at};
+pub use character::{CharAt, char_at};
 pub use laws::{at_most_one_token, readings_take_tokens};
 pub use scanner::{ScanFault, scan};
 pub use token::{Goal, Token, TokenClass};

@@ -8,7 +8,7 @@ ghost use Rattle.tokens.specs.Scanned.{IsRun, IsWordAt, NoWordAt, Passed};
 
 use crate::TokenClass;
 use crate::ascii::is_in;
-use crate::char_at::{CharAt, char_at};
+use crate::character::{CharAt, char_at};
 use unicode_ident::{is_xid_continue, is_xid_start};
 
 /// The IdentifierPart characters of ASCII: `$`, the digits, the letters and `_`.

@@ -8,7 +8,7 @@ ghost use Rattle.tokens.specs.States.{base_of, is_dead, numeral_of};
 ghost use Rattle.tokens.specs.Scanned.{IsWordAt, NoWordAt};
 
 use crate::TokenClass;
-use crate::char_at::char_at;
+use crate::character::char_at;
 use crate::name::is_start;
 
 /// The base that the prefix `0b`, `0o` or `0x` gives the digits after it (11.8.3).

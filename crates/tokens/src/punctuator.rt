@@ -8,7 +8,7 @@ ghost use Rattle.tokens.specs.Scanned.{IsWordAt, Looks, NoWordAt, Passed};
 
 use crate::TokenClass;
 use crate::ascii::is_in;
-use crate::char_at::{CharAt, char_at};
+use crate::character::{CharAt, char_at};
 
 /// The character at a place, and the place after it; U+0000 at the end of the text.
 #[inline]

@@ -8,7 +8,7 @@ ghost use Rattle.tokens.specs.States.{expression_of, is_over};
 ghost use Rattle.tokens.specs.Scanned.{IsFlagsAt, NoFlagsAt, IsWordAt, NoWordAt};
 
 use crate::TokenClass;
-use crate::char_at::char_at;
+use crate::character::char_at;
 use crate::name::is_part;
 use source_text::is_line_terminator;
 

@@ -12,7 +12,7 @@ ghost use Rattle.tokens.specs.Scanned.{IsWordAt, NoWordAt, Passed, token_of};
 ghost use Rattle.tokens.specs.Strings.{is_string};
 
 use crate::ascii::is_in;
-use crate::char_at::{CharAt, char_at};
+use crate::character::{CharAt, char_at};
 use crate::name::name_end;
 use crate::number::number_end;
 use crate::punctuator::punctuator_end;

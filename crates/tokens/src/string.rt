@@ -6,7 +6,7 @@ ghost use Rattle.tokens.specs.Escaped.{IsStringRest, NoStringRest};
 ghost use Rattle.tokens.specs.Scanned.{IsWordAt, NoWordAt};
 
 use crate::TokenClass;
-use crate::char_at::char_at;
+use crate::character::char_at;
 use crate::escape::character_value;
 
 /// Where the string at this place ends, in bytes; none if there is none (11.8.4).

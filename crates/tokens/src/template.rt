@@ -5,7 +5,7 @@ ghost use Rattle.source_text.specs.Source.{IsPlace};
 ghost use Rattle.tokens.specs.Scanned.{IsPartRest, IsWordAt, NoPartRest, NoWordAt};
 
 use crate::TokenClass;
-use crate::char_at::char_at;
+use crate::character::char_at;
 
 /// Where the part of a template at this place ends, in bytes; none if there is none (11.8.6).
 pub fn template_end(text: &str, at: usize) -> Option<usize>

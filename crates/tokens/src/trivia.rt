@@ -10,7 +10,7 @@ ghost use Rattle.tokens.specs.Comments.{begins_comment};
 ghost use Rattle.tokens.specs.Reading.{behind};
 ghost use Rattle.tokens.specs.Scanned.{AllPass, IsBlockRest, IsCommentRest, IsGap, IsRun, IsSeparator, IsSolid, NoBlockRest, NoCommentRest};
 
-use crate::char_at::{ascii_char_at, char_at};
+use crate::character::{ascii_char_at, char_at};
 use source_text::{is_line_terminator, is_space};
 
 /// The place behind separators, and whether a line terminator is among them.

@@ -9,7 +9,7 @@ ghost use Rattle.tokens.specs.Escapes.{unescaped};
 ghost use Rattle.tokens.specs.Strings.{is_string, string_contents, string_units};
 ghost use Rattle.tokens.specs.Templates.{IsSettled, cooked_value, line_end_turned, raw_value};
 
-use crate::char_at::char_at;
+use crate::character::char_at;
 use crate::escape::character_value;
 use std::alloc::{AllocError, Global};
 use std::borrow::CowStr;

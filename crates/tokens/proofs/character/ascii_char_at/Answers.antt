@@ -1,7 +1,7 @@
 use Rattle.std.proofs.Common.{◌≡◌, ◌+◌, ◌<◌, ◌≤◌, ◌∷◌, [], ℕ, List, get_or, length, sym, ap, ◌∙◌, subst}
 use Rattle.tokens.specs.Scanned.{Passed}
 use Rattle.tokens.proofs.PassedCharacters.{pass_ascii, no_ascii_end, no_ascii_far}
-use Rattle.tokens.proofs.char_at.ascii_char_at.Goals as goal
+use Rattle.tokens.proofs.character.ascii_char_at.Goals as goal
 
 pub returns-clause-some : goal.returns-clause-some
 returns-clause-some c =

@@ -2,7 +2,7 @@ use Rattle.std.proofs.Common.{◌≡◌, ◌+◌, ◌∷◌, ◌++◌, [], drop,
 use Rattle.std.specs.Char.{encode_utf8}
 use Rattle.tokens.specs.Scanned.{Passed}
 use Rattle.tokens.proofs.PassedCharacters.{pass_char}
-use Rattle.tokens.proofs.char_at.non_ascii_char_at.Goals as goal
+use Rattle.tokens.proofs.character.non_ascii_char_at.Goals as goal
 
 pub returns-clause-some : goal.returns-clause-some
 returns-clause-some c =
