@@ -4,8 +4,9 @@
 
 Tries those that are named, or all, and says of each why it was refused. The exit status is 0 where each is.
 
-With `--built`, an edit that an earlier run on this machine saw refused isn't tried again, where nothing that its try read has changed: the edit, the
-crate, the libraries below it as they were built, the kit, and this file. `rt ci` keeps what it passed in the same folder. `--anew` tries all.
+An edit that an earlier run on this machine saw refused isn't tried again, where nothing that its try read has changed: the edit, the crate, the
+libraries below it, the kit, and this file. Where `rt ci` keeps what it passed, that is in its folder, for runs with `--built`; a kit that keeps nothing
+has it in a folder of this program's own (`~/.cache/jslint/edits`), under a sum of the sources. `--anew` tries all.
 
 `rt must-fail` makes a check of each. Here wrong bodies of different functions share one. A function is proved by its own body and the
 contracts of what it calls, never their bodies, so no wrong body can break or mend the proof of another, and the prover says of each function by itself
@@ -25,6 +26,7 @@ import importlib.util
 import os
 import re
 import shutil
+import subprocess
 import sys
 import tempfile
 
@@ -44,6 +46,11 @@ IMPL = re.compile(r'^impl\b(.*?)\{', re.M | re.S)
 CYCLE = re.compile(r'#\[cycle\((\w+)\)\]')
 
 Edit = collections.namedtuple('Edit', 'name file pairs function cycle')
+
+
+def sum_of_file(path):
+    with open(path, 'rb') as file:
+        return hashlib.sha256(file.read()).hexdigest()
 
 
 def loaded():
@@ -239,9 +246,7 @@ class Earlier:
 
     def __init__(self, kept, crate):
         self.kept, self.crate, self.used = kept, crate, 0
-        with open(os.path.abspath(__file__), 'rb') as file:
-            runner = hashlib.sha256(file.read()).hexdigest()
-        self.sum = repr((runner, kept.key(crate))) if kept else None
+        self.sum = repr((sum_of_file(os.path.abspath(__file__)), kept.key(crate))) if kept else None
 
     def why(self, edit):
         """Why an earlier run saw the edit refused, if one did."""
@@ -252,13 +257,56 @@ class Earlier:
     def keep(self, file, why):
         """Keeps why an edit was refused, unless a file of the crate or of one below it was touched since the run began."""
         if self.kept and all(self.kept.is_untouched(it) for it in [self.crate, *self.crate.below()]):
-            self.kept.keep_tried(self.kept.of_edit(file, self.sum), RT.REFUSED, why)
+            self.kept.keep_tried(self.kept.of_edit(file, self.sum), getattr(RT, 'REFUSED', 'refused'), why)
 
 
-def earlier_of(crates, is_anew):
+class KeptHere:
+    """For a kit whose `rt ci` keeps nothing: what was seen refused, in a folder of this program's own, under a sum of the sources of the crate and of
+    those below it, which say what their libraries are."""
+
+    def __init__(self, is_anew):
+        self.folder = f'{os.environ.get("XDG_CACHE_HOME") or os.path.expanduser("~/.cache")}/jslint/edits'
+        self.is_anew, self.begun = is_anew, {}
+        os.makedirs(self.folder, exist_ok=True)
+
+    @staticmethod
+    def sources(crate):
+        names = [it.name for it in [crate, *crate.below()]]
+        words = ['sh', '-c', '. "$0/tools/made-of"; made_of sha256sum "$0" "$@"', ROOT, *names]
+        return subprocess.run(words, stdout=subprocess.PIPE, text=True, check=True).stdout
+
+    def key(self, crate):
+        with open(f'{RT.KIT}/KIT-ID', encoding='utf-8') as file:
+            kit = file.read()
+        self.begun[crate.name] = self.sources(crate)
+        return kit, crate.name, self.begun[crate.name]
+
+    def is_untouched(self, crate):
+        # (the sum of a crate has those below it)
+        return crate.name not in self.begun or self.begun[crate.name] == self.sources(crate)
+
+    def of_edit(self, file, key):
+        with open(file, 'rb') as edit:
+            return f'{self.folder}/{hashlib.sha256(key.encode() + edit.read()).hexdigest()}'
+
+    def tried(self, path):
+        if self.is_anew or not os.path.isfile(path):
+            return None
+        with open(path, encoding='utf-8') as file:
+            return True, file.read()
+
+    def keep_tried(self, path, _, why):
+        with open(f'{path}.{os.getpid()}', 'w', encoding='utf-8') as file:
+            file.write(why)
+        os.replace(file.name, path)
+
+
+def earlier_of(crates, is_built, is_anew):
     """What earlier runs kept, by crates whose libraries are those that stand built."""
-    kept = RT.Kept(crates, is_anew)
-    for crate in crates:
+    if not hasattr(RT, 'Kept'):
+        return KeptHere(is_anew)
+    kept = RT.Kept(crates, is_anew) if is_built else None
+    for crate in crates if kept else []:
         kept.is_built(crate)
     return kept
 
@@ -291,7 +339,7 @@ def main(words):
     for crate in crates if not is_built else []:
         if any(it.build_rlib(ONE_JOB, anew=False) for it in crate.below()):
             sys.exit(f'{crate.name}: a library below it is not proved')
-    kept = earlier_of(RT.rtlib.crates_below(ROOT), is_anew) if is_built else None
+    kept = earlier_of(RT.rtlib.crates_below(ROOT), is_built, is_anew)
     crates.sort(key=lambda it: -it.count(b'\n'))
     with concurrent.futures.ThreadPoolExecutor(int(os.environ.get('RT_JOBS') or RT.processors())) as pool:
         found = list(pool.map(lambda it: tried_crate(it, words, is_built, kept), crates))
