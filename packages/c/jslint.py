@@ -67,7 +67,7 @@ def unwrap(text):
 
 
 def check(text, settings=''):
-    """What the nine rules find; the settings are TOML."""
+    """What the rules find; the settings are TOML."""
     lines = re.findall(r'^(\d+):(\d+) (\S+) (.*)$', _output('check', text, settings), re.M)
     return [Report(int(line), int(column), rule, message) for line, column, rule, message in lines]
 

@@ -1,4 +1,4 @@
-// What the nine rules find in files, in the form of ESLint's formatter `json`, for the tools that read it.
+// What the rules find in files, in the form of ESLint's formatter `json`, for the tools that read it.
 import { Refused, check } from './jslint.mjs';
 
 /** A message as ESLint has it. Severity 2 is an error. */

@@ -37,7 +37,7 @@ export interface Node {
   [key: string]: unknown;
 }
 
-/** What the nine rules find, by place and rule. The settings are TOML, as the program takes them. */
+/** What the rules find, by place and rule. The settings are TOML, as the program takes them. */
 export function check(text: Text, options?: { settings?: Text }): Report[];
 /** The script in one layout, with the fewest parentheses that its tree allows. */
 export function fix(text: Text): string;

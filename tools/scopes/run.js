@@ -1,5 +1,5 @@
 'use strict';
-// Holds the reports of the nine rules, as the program makes them, against the plain model.
+// Holds the reports of the rules, as the program makes them, against the plain model.
 //
 //   node run.js [--n COUNT] [--seed S] [--show K] [--keep FOLDER]
 //

@@ -226,7 +226,7 @@ function tableRows(text) {
   });
 }
 
-// What all nine rules report of a script, and that none of them touches a report that stands in front.
+// What all rules report of a script, and that none of them touches a report that stands in front.
 function rulesRow(text) {
   const { tree, pairs } = parse(text, LIMITS);
   const settings = SECOND.get(text) ?? '';
@@ -255,7 +255,7 @@ function likeRow(text) {
 
 const calls = () => [
   '# Settings: whether `no-var` and `eqeqeq` are on, whether `a` is a global name, and both options. Tables that are read: how many rows and the total.',
-  '# What the nine rules report of a script under settings, from where to where, and that each keeps a report that stands in front. A rule that is',
+  '# What the rules report of a script under settings, from where to where, and that each keeps a report that stands in front. A rule that is',
   '# refused memory, behind `no-debugger`: that it was, alone and in a list, and the reports that stand in front. Another rule that finds what',
   '# `no-var` does, alone and behind it. Made by tools/worked/rows.js.',
   ...SETTINGS.map(settingsRow),

@@ -1,5 +1,5 @@
 #!/usr/bin/env node
-// What the nine rules find in files, as ESLint's formatter `json` writes it. Status 0 where nothing is found, 1 where anything is, 2 where a file or
+// What the rules find in files, as ESLint's formatter `json` writes it. Status 0 where nothing is found, 1 where anything is, 2 where a file or
 // the settings can't be taken.
 import { readFileSync } from 'node:fs';
 import { resolve } from 'node:path';
