@@ -15,7 +15,7 @@ use Rattle.early_errors.specs.Names.{declared_names, lexical_names, function_nam
 use Rattle.early_errors.specs.Owns.{case_names, declares_function}
 use Rattle.early_errors.specs.Walk.{lexical_as, name_of, names_at}
 use Rattle.early_errors.proofs.FunctionLists.{others-drop}
-use Rattle.early_errors.proofs.RemainingParts.{first_names-at}
+use Rattle.early_errors.proofs.FirstNames.{first_names-at}
 
 -- an item's lexical names are those that are bound so
 pub lexically_named : (b : Bool) (t : Tree) → map name_of (parts.lexical_as (lexical_as b) t) ≡ lexical_names b t

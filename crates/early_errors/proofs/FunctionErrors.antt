@@ -16,7 +16,7 @@ use Rattle.early_errors.specs.Early.{Error, each, own_errors}
 use Rattle.early_errors.specs.Owns.{own_of, items_at, parameter_place, function_name}
 use Rattle.early_errors.specs.Walk.{after, names_at}
 use Rattle.early_errors.proofs.Least.{after-append, each-append}
-use Rattle.early_errors.proofs.RemainingParts.{first_names-at}
+use Rattle.early_errors.proofs.FirstNames.{first_names-at}
 use Rattle.early_errors.proofs.FunctionLists.{others-drop}
 use Rattle.early_errors.proofs.OwnErrorsByKind.{small_given, names_of, doubles_of, lexicals_of, directives_of}
 

@@ -12,7 +12,7 @@ pub mod LiteralRows
 pub mod Least
 pub mod NameLoops
 pub mod Tables
-pub mod RemainingParts
+pub mod FirstNames
 pub mod Bindings
 pub mod Jumps
 pub mod OwnErrorsByKind

@@ -26,7 +26,7 @@ use Rattle.early_errors.specs.Owns.{own_of}
 use Rattle.early_errors.specs.Walk.{names_at}
 use Rattle.early_errors.specs.Walks.{IsQuiet, IsSilent}
 use Rattle.early_errors.specs.Passed.{IsOpen, is_super_at, telling_of}
-use Rattle.early_errors.proofs.RemainingParts.{first_names-at}
+use Rattle.early_errors.proofs.FirstNames.{first_names-at}
 use Rattle.early_errors.proofs.OwnErrorsByKind.{small_given, named_plain, restricted_given}
 
 abbrev pub in_parts : SkipTest → Bool

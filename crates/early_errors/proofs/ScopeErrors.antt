@@ -25,7 +25,7 @@ use Rattle.early_errors.specs.Early.{Error, each, own_errors, least}
 use Rattle.early_errors.specs.Owns.{inside_of, scope_kind, scope_error, names_of_scope, place_of_scope, body_place, block_at, is_block, items_at, found_of_scope, plain_errors, doubled, clash_with, case_names}
 use Rattle.early_errors.specs.Walk.{sooner}
 use Rattle.early_errors.specs.Walks.{vars_at, range_vars}
-use Rattle.early_errors.proofs.RemainingParts.{first_names-at}
+use Rattle.early_errors.proofs.FirstNames.{first_names-at}
 use Rattle.early_errors.proofs.Insides.{in_scope, not_scope}
 use Rattle.early_errors.proofs.Least.{sooner-twice, least-append}
 use Rattle.early_errors.proofs.FunctionLists.{others-drop, body-whole}

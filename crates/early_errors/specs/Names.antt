@@ -7,6 +7,7 @@ pub use Rattle.tree.specs.Kinds.{is_function}
 use Rattle.tree.specs.Tree.{Tree, node, Parts, none, part, gap, text_of, start_of}
 use Rattle.language.specs.FirstPart.{others}
 use Rattle.name_tables.specs.BoundNames.{bound_names, first_bound_names}
+use Rattle.name_tables.specs.DeclaredNames as declared
 use Rattle.name_tables.specs.DeclaredNames.{declarator_names, lexically_declared_names, own_var_names}
 
 -- a name and its place
@@ -74,10 +75,7 @@ function_names (node _ text flags from to parts) = []
 
 -- the parameters' names: all parts but the last, which is the body
 abbrev pub parameter_names : Parts → List Named
-parameter_names none = []
-parameter_names (part tree none) = []
-parameter_names (part tree rest) = names_in tree ++ parameter_names rest
-parameter_names (gap rest) = parameter_names rest
+parameter_names parts = declared.parameter_names name_at parts
 
 -- the parts of a function from its first parameter on
 abbrev pub parameters_on : Kind → Parts → Parts

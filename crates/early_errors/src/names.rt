@@ -97,12 +97,5 @@ pub(crate) fn push_parameters<'t>(
 ) -> Result<(), AllocError>
     ensures { OnOk result (all_named names.new.items ≡ all_named names.old.items ++ parameter_names (parts_drop from (parts_of (node_tree node.entry)))) }
 {
-    let count = node.part_count();
-    if count == 0 {
-        return Ok(());
-    }
-    for index in from..count - 1 {
-        push_part_names(node.part(index), names)?;
-    }
-    Ok(())
+    name_tables::push_parameters(node, from, (), names)
 }

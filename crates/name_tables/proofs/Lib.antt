@@ -1,6 +1,7 @@
 mod DeclarableNames
 pub mod EachPart
 mod Lexically
+mod Parameters
 pub mod Patterns
 mod Places
 pub mod Results

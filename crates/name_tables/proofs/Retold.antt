@@ -9,7 +9,7 @@ use Rattle.name_tables.specs.declared.bound.BoundName.{BoundName}
 use Rattle.name_tables.specs.PatternParts.{Bound, all_bound, at_part, bound, bound_as}
 use Rattle.name_tables.specs.declared.declared.LexicalAs.{LexicalAs}
 use Rattle.name_tables.specs.DeclaratorParts.{declarator_as, declarators_as, how_of, lexical_as}
-use Rattle.name_tables.specs.DeclaredNames.{case_names, declarator_names, lexically_declared_names}
+use Rattle.name_tables.specs.DeclaredNames.{case_names, declarator_names, lexically_declared_names, parameter_names}
 use Rattle.name_tables.specs.BoundNames.{each_part, bound_names, all_bound_names, first_bound_names, last_bound_names}
 
 module _ {A B : Type 0} (g : A → B) (f : Tree → A) where
@@ -41,6 +41,14 @@ module _ {A B : Type 0} (g : A → B) (f : Tree → A) where
     last (part t (part u ps)) = last (part u ps)
     last (part t (gap ps)) = last ps
     last (gap ps) = last ps
+
+module _ {A B : Type 0} (g : A → B) (f : Tree → A) where
+  parameters : (ps : Parts) → map g (parameter_names f ps) ≡ parameter_names (λ u. g (f u)) ps
+  parameters none = refl
+  parameters (part t none) = refl
+  parameters (part t (part u ps)) = map-append g (bound_names f t) (parameter_names f (part u ps)) ∙ (λ i. names g f t i ++ parameters (part u ps) i)
+  parameters (part t (gap ps)) = map-append g (bound_names f t) (parameter_names f (gap ps)) ∙ (λ i. names g f t i ++ parameters (gap ps) i)
+  parameters (gap ps) = parameters ps
 
 module _ {H A : Type 0} (g : Bound H → A) where
   each : (xs : List (BoundName H)) → map g (all_bound xs) ≡ map (λ x. g (bound x)) xs
@@ -110,3 +118,7 @@ module _ {H A : Type 0} (g : Bound H → A) where
   pub retold-part : (how : H) (new old : List (BoundName H)) (o : Option Tree) → all_bound new ≡ all_bound old ++ at_part (bound_names (bound_as how)) o →
       map (λ x. g (bound x)) new ≡ map (λ x. g (bound x)) old ++ at_part (bound_names (λ t. g (bound_as how t))) o
   retold-part how = retold-at (bound_names (bound_as how)) (bound_names (λ t. g (bound_as how t))) (names g (bound_as how))
+
+  pub retold-parameters : (how : H) (new old : List (BoundName H)) (ps : Parts) → all_bound new ≡ all_bound old ++ parameter_names (bound_as how) ps →
+      map (λ x. g (bound x)) new ≡ map (λ x. g (bound x)) old ++ parameter_names (λ t. g (bound_as how t)) ps
+  retold-parameters how new old ps h = retold-by new old (parameter_names (bound_as how) ps) (parameter_names (λ t. g (bound_as how t)) ps) (parameters g (bound_as how) ps) h

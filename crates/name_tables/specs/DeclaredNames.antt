@@ -1,10 +1,10 @@
 -- The names that declarations declare, in the order of the tree, each as what is made of its identifier.
-use Rattle.std.specs.Prelude.{ℕ, Bool, cond, List, [], codes}
+use Rattle.std.specs.Prelude.{ℕ, Bool, cond, List, [], ◌++◌, codes}
 use Rattle.std.specs.Str.{bytes_eq}
 use Rattle.tree.specs.declared.kind.Kind.{Kind}
 use Rattle.tree.specs.declared.kind.Kind.TheVariants.{VariableDeclaration, FunctionDeclaration, ClassDeclaration}
-use Rattle.tree.specs.Tree.{Tree, node, Parts, parts_of, parts_drop}
-use Rattle.name_tables.specs.BoundNames.{each_part, first_bound_names}
+use Rattle.tree.specs.Tree.{Tree, node, Parts, none, part, gap, parts_of, parts_drop}
+use Rattle.name_tables.specs.BoundNames.{each_part, bound_names, first_bound_names}
 
 -- the names of declarators (BoundNames, 13.3.1.2, 13.3.2.1); what is made of one depends on the declarator's parts
 abbrev pub declarator_names : {B : Type 0} → (Parts → Tree → B) → Parts → List B
@@ -26,3 +26,10 @@ own_var_names f _ text parts = []
 -- what a case of a switch gives by its statements, which stand behind its test (13.12.5)
 abbrev pub case_names : {B : Type 0} → (Tree → List B) → Tree → List B
 case_names f case = each_part f (parts_drop 1 (parts_of case))
+
+-- the names of a function's parameters: all its parts but the last, which is the body (BoundNames, 14.1.3)
+abbrev pub parameter_names : {B : Type 0} → (Tree → B) → Parts → List B
+parameter_names f none = []
+parameter_names f (part tree none) = []
+parameter_names f (part tree rest) = bound_names f tree ++ parameter_names f rest
+parameter_names f (gap rest) = parameter_names f rest

@@ -4,9 +4,9 @@ ghost use Rattle.std.specs.Prelude.{◌≡◌, ◌++◌, option_map, OnOk};
 ghost use Rattle.tree.specs.Node.{node_tree};
 ghost use Rattle.tree.specs.Tree.{parts_drop, parts_of};
 ghost use Rattle.name_tables.specs.BoundNames.{each_part};
-ghost use Rattle.name_tables.specs.PatternParts.{all_bound, at_part};
+ghost use Rattle.name_tables.specs.PatternParts.{all_bound, at_part, bound_as};
 ghost use Rattle.name_tables.specs.DeclaratorParts.{by_word, declarator_as, how_of, lexical_as, lexical_of, named_by};
-ghost use Rattle.name_tables.specs.DeclaredNames.{case_names, declarator_names};
+ghost use Rattle.name_tables.specs.DeclaredNames.{case_names, declarator_names, parameter_names};
 
 use crate::bound::{BoundName, push_part_names};
 use std::alloc::AllocError;
@@ -182,4 +182,23 @@ fn push_case<'t, H: Copy>(
         Some(case) => push_lexical_parts(case, 1, how, names),
         None => Ok(()),
     }
+}
+
+/// Pushes the names of a function's parameters: of all its parts from a place on but the last, which is the body (ECMA-262 14.1.3).
+pub fn push_parameters<'t, H: Copy>(
+    function: Node<'t, '_>,
+    from: usize,
+    how: H,
+    names: &mut Vec<BoundName<'t, H>>,
+) -> Result<(), AllocError>
+    ensures { OnOk result (all_bound names.new.items ≡ all_bound names.old.items ++ parameter_names (bound_as how) (parts_drop from (parts_of (node_tree function.entry)))) }
+{
+    let count = function.part_count();
+    if count == 0 {
+        return Ok(());
+    }
+    for index in from..count - 1 {
+        push_part_names(function.part(index), how, names)?;
+    }
+    Ok(())
 }

@@ -16,7 +16,7 @@ pub use bound::{
 };
 pub use declared::{
     DeclaratorAs, Lexical, LexicalAs, lexical_of, push_cases, push_declarators, push_lexical,
-    push_lexical_part, push_lexical_parts,
+    push_lexical_part, push_lexical_parts, push_parameters,
 };
 pub use key::{HashKey, KeyBuilder};
 pub use set::NameSet;

@@ -1,25 +1,20 @@
 -- The definitions of names by the cases that the code distinguishes, tied to `Bindings` by proofs.
-use Rattle.std.specs.Prelude.{ℕ, Bool, true, false, cond, List, Option, Some}
+use Rattle.std.specs.Prelude.{ℕ, true, false, cond, List, Some}
 use Rattle.tree.specs.declared.kind.Kind.{Kind}
 use Rattle.tree.specs.declared.kind.Kind.TheVariants.{VariableDeclaration}
-use Rattle.tree.specs.Tree.{Tree, Parts}
+use Rattle.tree.specs.Tree.{Parts}
 use Rattle.language.specs.Vocabulary.{is}
 use Rattle.scopes.specs.declared.kind.BindingKind.{BindingKind}
-use Rattle.scopes.specs.declared.kind.BindingKind.TheVariants.{Var, Let, Const, Function, Class}
+use Rattle.scopes.specs.declared.kind.BindingKind.TheVariants.{Var, Let, Const, Function, Class, Param}
 use Rattle.name_tables.specs.declared.declared.DeclaratorAs.{DeclaratorAs}
 use Rattle.name_tables.specs.declared.declared.LexicalAs.{LexicalAs}
-use Rattle.name_tables.specs.DeclaredNames.{declarator_names}
+use Rattle.name_tables.specs.DeclaredNames.{declarator_names, parameter_names}
 use Rattle.scopes.specs.declared.names.DeclaredAs.{DeclaredAs}
 use Rattle.scopes.specs.declared.names.DeclaredIn.{DeclaredIn}
 use Rattle.scopes.specs.declared.names.DeclaredIn.TheVariants.{Statement, ForHead, ForInOfHead}
 use Rattle.scopes.specs.declared.names.VarNames.{VarNames}
 use Rattle.scopes.specs.declared.names.VarNames.TheVariants as var
-use Rattle.name_tables.specs.PatternParts.{at_part}
-use Rattle.scopes.specs.Bindings.{Binding, binding_at, names_in, holds_statements, settles}
-
--- the names of a part that may be missing
-abbrev pub names_at : BindingKind → Bool → Option Tree → List Binding
-names_at k b o = at_part (names_in k b) o
+use Rattle.scopes.specs.Bindings.{Binding, binding_at, holds_statements, settles}
 
 -- what the names of a declarator are declared as
 abbrev pub declarator_as : DeclaredIn → BindingKind → DeclaratorAs DeclaredAs
@@ -39,3 +34,7 @@ declared_by_var parts = declarator_names (λ ps. binding_at Var (settles Stateme
 abbrev pub var_names_of : Kind → List ℕ → VarNames
 var_names_of VariableDeclaration text = cond (is text "var") var.Declarators var.Nothing
 var_names_of kind text = cond (holds_statements kind) var.Parts var.Nothing
+
+-- the names of a function's parameters
+abbrev pub parameters : Parts → List Binding
+parameters parts = parameter_names (binding_at Param false) parts

@@ -1,11 +1,11 @@
 //! The names that patterns and statement list items declare, in the order of the tree.
 
-ghost use Rattle.std.specs.Prelude.{◌≡◌, ◌++◌, option_map, OnOk};
+ghost use Rattle.std.specs.Prelude.{◌≡◌, ◌++◌, OnOk};
 ghost use Rattle.tree.specs.Node.{node_tree};
 ghost use Rattle.tree.specs.Tree.{kind_of, parts_drop, parts_of, text_of};
 ghost use Rattle.name_tables.specs.BoundNames.{each_part};
 ghost use Rattle.scopes.specs.Bindings.{holds_statements, lexical, names_in, vars_in};
-ghost use Rattle.scopes.specs.Gathered.{declarator_as, declared_by_var, lexical_as, names_at, var_names_of};
+ghost use Rattle.scopes.specs.Gathered.{declarator_as, declared_by_var, lexical_as, parameters, var_names_of};
 ghost use Rattle.scopes.specs.Openings.{block_names, case_names};
 ghost use Rattle.scopes.specs.Shown.{all_declared};
 
@@ -46,15 +46,19 @@ pub(crate) fn push_names<'t>(
     name_tables::push_names(node, how, names)
 }
 
-/// Pushes the names of a part that may be missing.
-pub(crate) fn push_part_names<'t>(
-    part: Option<Node<'t, '_>>,
-    how: DeclaredAs,
+/// Pushes the names of a function's parameters, which begin at a place among its parts.
+pub(crate) fn push_parameters<'t>(
+    function: Node<'t, '_>,
+    from: usize,
     names: &mut Vec<Declared<'t>>,
 ) -> Result<(), AllocError>
-    ensures { OnOk result (all_declared names.new.items ≡ all_declared names.old.items ++ names_at how.kind how.settled (option_map node_tree part.entry)) }
+    ensures { OnOk result (all_declared names.new.items ≡ all_declared names.old.items ++ parameters (parts_drop from (parts_of (node_tree function.entry)))) }
 {
-    name_tables::push_part_names(part, how, names)
+    let how = DeclaredAs {
+        kind: BindingKind::Param,
+        settled: false,
+    };
+    name_tables::push_parameters(function, from, how, names)
 }
 
 /// What the names of a declarator are declared as.

@@ -15,7 +15,7 @@ use crate::binding::BindingKind;
 use crate::identifier_use::{IdentifierUse, is_body};
 use crate::names::{
     Declared, DeclaredAs, DeclaredIn, push_block, push_cases, push_lexical, push_names,
-    push_part_names, push_vars,
+    push_parameters, push_vars,
 };
 use std::alloc::AllocError;
 use tree::{Kind, Node};
@@ -204,13 +204,7 @@ fn push_function<'t>(
     if count <= from {
         return Ok(());
     }
-    let how = DeclaredAs {
-        kind: BindingKind::Param,
-        settled: false,
-    };
-    for index in from..count - 1 {
-        push_part_names(node.part(index), how, names)?;
-    }
+    push_parameters(node, from, names)?;
     push_body(node.part(count - 1), names)
 }
 

@@ -2,7 +2,7 @@ use Rattle.std.proofs.Common.{◌++◌, sym, ap, ◌∙◌}
 use Rattle.tree.specs.Node.{node_tree}
 use Rattle.tree.specs.Tree.{parts_of}
 use Rattle.early_errors.specs.Walk.{all_named, names_at}
-use Rattle.early_errors.proofs.RemainingParts.{first_names-at}
+use Rattle.early_errors.proofs.FirstNames.{first_names-at}
 use Rattle.early_errors.proofs.own.first_name_errors.Goals as goal
 
 pub named_found-requires-clause-names : goal.named_found-requires-clause-names

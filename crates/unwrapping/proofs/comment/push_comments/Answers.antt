@@ -16,7 +16,7 @@ pub loop-place-preserved : goal.loop-place-preserved
 loop-place-preserved c =
     let text = c.args.text.now in
     let next = c.in-Some-comment.comment.end in
-    let rest = c.in-Some-comment.ensures in
+    let rest = c.in-Some-comment.ensures.some in
     let slash = subst (λ x. Passed text c.loop-place.place c.in-Some.step.end (x ∷ [])) c.if-step-ne47.false c.in-Some.ensures.some in
     subst (λ (ss : List ByteSpan). IsPassing text c.args.at next c.args.stop c.args.spans.now.items ss) (sym c.in_ok-push.ensures.items)
     (passes_comment text c.args.at c.loop-place.place c.in-Some.step.end next c.args.stop c.in-Some-comment.comment.has_line_break c.args.spans.now.items c.loop-place.spans.items c.of.result c.utf8.text c.loop-place.invariant slash rest
