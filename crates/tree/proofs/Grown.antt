@@ -182,6 +182,12 @@ next_gap a b d r m os h n p w x =
       numbered = ap (λ (ns : Pool). ns ++ None ∷ []) h.numbered ∙ sym (numbers_of-append (length a.nodes) os (None ∷ []));
     }
 
+-- the number of a tree's own node is that of the last
+pub at_last : (a b : FlatBuilder) (k : ℕ) (st : NodeUse) (t : Tree) → Pushes a b k st t → Pushes a b (length b.nodes - 1) st t
+at_last a b k st t m =
+    let here : k ≡ length b.nodes - 1 = omega (arith, m.last) in
+    subst (λ (i : ℕ). Pushes a b i st t) here m
+
 pub next_part : (a b c d : FlatBuilder) (r : ParentUse) (q : ℕ) (os : List (Option Tree)) (k : NodeNumber) (st : NodeUse) (t : Tree) → PushesParts a b r q os → Pushes b c k.number st t
     → st ≡ use_in r q (0 + length os) t → d.nodes ≡ c.nodes
     → d.parts.items ≡ c.parts.items → d.pending.items ≡ c.pending.items ++ Some k ∷ [] → d.next_row ≡ c.next_row → PushesParts a d r q (os ++ Some t ∷ [])

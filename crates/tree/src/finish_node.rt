@@ -8,7 +8,7 @@ ghost use Rattle.tree.specs.declared.build_error.BuildError.TheVariants.{TooLarg
 use crate::boxed_node::BoxedNode;
 use crate::build_error::BuildError;
 use crate::flat_builder::FlatBuilder;
-use crate::flat_node::{FlatNode, NodeNumber};
+use crate::flat_node::FlatNode;
 use crate::kind::Kind;
 use crate::node_text::NodeText;
 use crate::node_use::{NodeUse, has_row};
@@ -19,16 +19,16 @@ use std::mem;
 /// The greatest place or number of a tree that is built: four bytes hold one more.
 const MAX_NUMBER: u32 = 4_294_967_294;
 
-/// Adds a node whose parts are those that wait from a place on, and gives its number. The text is moved into it.
+/// Adds a node whose parts are those that wait from a place on, and takes its text.
 #[inline(always)]
 pub(crate) fn finish_node<'s>(
     growing: &mut FlatBuilder<'s>,
     waiting: usize,
     syntax: &mut BoxedNode<'s>,
     row: Option<u32>,
-) -> Result<NodeNumber, BuildError>
+) -> Result<(), BuildError>
     requires { waiting ≤ length growing.old.pending.items }
-    ensures added { IfOk result (λ k. Finishes growing.old growing.new waiting syntax.old row k.number) }
+    ensures added { IfOk result (λ _. Finishes growing.old growing.new waiting syntax.old row (length growing.old.nodes)) }
     ensures refused { IfErr result (λ error. error ≡ TooLarge → NodeOverflows growing.old waiting syntax.old) }
 {
     let first = growing.parts.len();
@@ -61,9 +61,7 @@ pub(crate) fn finish_node<'s>(
         row,
     };
     growing.nodes.push(node)?;
-    Ok(NodeNumber {
-        number: number as u32,
-    })
+    Ok(())
 }
 
 /// Adds a node's parts to those of all. They are few: one by one takes less than a copy of them all.
