@@ -116,7 +116,7 @@ impl Costs {
     pub(crate) fn number(&self, rank: Rank, has_in: bool, start: Start) -> Option<u32>
         ensures { result ≡ cost_at self.now rank has_in start }
     {
-        if precedence_of(rank) >= 21 {
+        if precedence_of(rank) >= precedence_of(Rank::Member) {
             return self.at_member.at(start);
         }
         if has_in {

@@ -140,7 +140,7 @@ impl CellShape {
     fn at(self, rank: Rank, has_in: bool) -> FilledStarts
         ensures { (m f : _) → started_at (filled result m) f ≡ cost_of_costs (shaped self m) rank has_in f }
     {
-        if precedence_of(rank) >= 21 {
+        if precedence_of(rank) >= precedence_of(Rank::Member) {
             return self.at_member;
         }
         if has_in {

@@ -1,6 +1,6 @@
 //! Templates and regular expressions.
 
-ghost use Rattle.std.specs.Prelude.{◌≡◌, ◌≤◌, ◌&&◌, ◌||◌, [], drop, length, codes, option_map, slice_index_or, IfOk};
+ghost use Rattle.std.specs.Prelude.{◌≡◌, ◌≤◌, ◌&&◌, ◌||◌, [], drop, length, codes, option_map, IfOk};
 ghost use Rattle.tree.specs.Node.{node_tree};
 ghost use Rattle.tree.specs.Tree.{kind_of, parts_of};
 ghost use Rattle.language.specs.Vocabulary.{is_string, literal_class};
@@ -13,8 +13,9 @@ ghost use Rattle.early_errors.specs.declared.own.OwnErrors.{OwnErrors};
 use crate::EarlyError;
 use crate::around::Context;
 use crate::found::{FirstError, with_error_if};
+use grammar::literal_class;
 use std::alloc::{AllocError, Global};
-use tokens::template_value;
+use tokens::{TokenClass, template_value};
 use tree::{Kind, Node};
 
 /// An untagged template with a part that has no cooked value (ECMA-262 12.2.9.1).
@@ -110,29 +111,18 @@ fn has_good_flags(text: &str) -> bool
     are_flags(&bytes[flags_start(bytes)..])
 }
 
-/// The first byte of a text, 0 where there is none.
-fn first_byte(text: &str) -> u8
-    ensures { result ≡ slice_index_or text.now 0 0 }
-{
-    match text.as_bytes().first() {
-        Some(first) => *first,
-        None => 0,
-    }
-}
-
 /// Whether a literal's text is that of a string.
 pub(crate) fn begins_with_quote(text: &str) -> bool
     ensures { result ≡ is_string (literal_class text.now) }
 {
-    let first = first_byte(text);
-    first == b'"' || first == b'\''
+    matches!(literal_class(text), TokenClass::StringLiteral)
 }
 
 /// Whether a literal's text is that of a regular expression.
 pub(crate) fn begins_with_slash(text: &str) -> bool
     ensures { result ≡ is_reg_exp (literal_class text.now) }
 {
-    first_byte(text) == b'/'
+    matches!(literal_class(text), TokenClass::RegularExpressionLiteral)
 }
 
 /// The place behind the last `/`, the end where there is none.

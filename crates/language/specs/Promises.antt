@@ -102,7 +102,7 @@ module _ (S : Type 0) (Next : S → Token → S → Type 0) (behind : S → Toke
   pub record AbsentConditionalWithin (o h : ℕ) (i : Bool) (f : Start) (s : S) : Type 0 where
     pub nothing : (e' : S) (n' : Tree) (P' : List Pair) → Spells ways S Next behind o (expr Conditional i f) n' s e' P' → Stops Assignment i n' e' → height n' ≤ h → ⊥
 
-  -- What stands behind `new` (12.3.3): a MemberExpression; or a NewExpression behind which no `(` follows, since a `new` without
+  -- What stands behind `new` (12.3.5): a MemberExpression; or a NewExpression behind which no `(` follows, since a `new` without
   -- arguments in it would have taken those.
   pub data Callee (o : ℕ) (n : Tree) (s e : S) (P : List Pair) : Type 0 where
     at_member : Spells ways S Next behind o (expr Member true Any) n s e P → Callee o n s e P

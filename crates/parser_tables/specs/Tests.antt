@@ -44,7 +44,7 @@ ends until.ClosingBrace t = is_mark (codes "}") t
 ends until.NextCase t = is_mark (codes "}") t || (same_class IdentifierName t.class && among t.text ("case" ∷ "default" ∷ []))
 ends until.EndOfText t = is_end t
 
--- what goes on with `super` (12.3.5): a member, or where it may stand a call
+-- what goes on with `super` (12.3.7): a member, or where it may stand a call
 abbrev pub continues_super : Bool → Token → Bool
 continues_super takes_call t = is_mark (codes ".") t || (is_mark (codes "[") t || (takes_call && is_mark (codes "(") t))
 

@@ -4,13 +4,14 @@ ghost use Rattle.std.specs.Prelude.{◌≡◌, not};
 ghost use Rattle.tree.specs.Node.{node_tree};
 ghost use Rattle.tree.specs.Tree.{kind_of, text_of, flags_of, parts_of};
 ghost use Rattle.printer.specs.Bits.{shape_of, fused_shape};
-ghost use Rattle.language.specs.Vocabulary.{is_word_operator as is_operator_word, is_open_number as is_open_number_text, literal_class as class_of_literal};
+ghost use Rattle.language.specs.Vocabulary.{is_word_operator as is_operator_word, is_open_number as is_open_number_text};
 ghost use Rattle.printer.specs.Shapes.{expression_shape, operation_shape, update_shape, unary_shape, after_open_number, is_open_literal, member_shape, call_shape};
 
 use crate::definitions::definition_frame;
 use crate::fragments::{Fragment, Frame, ListLayout, front_frame, list_frame};
 use crate::part_sites::PartSites;
 use crate::shared_fragments::{CLOSE, END_BRACKET, OPEN};
+use grammar::literal_class;
 use tokens::TokenClass;
 use tree::{Flags, Kind, Node};
 
@@ -238,18 +239,6 @@ fn ends_in_n(text: &str) -> bool
     match text.as_bytes().last() {
         Some(last) => *last == b'n',
         None => false,
-    }
-}
-
-/// The class of a literal, which its first character tells.
-fn literal_class(raw: &str) -> TokenClass
-    ensures { result ≡ class_of_literal raw.now }
-{
-    match raw.as_bytes() {
-        [b'"' | b'\'', ..] => TokenClass::StringLiteral,
-        [b'/', ..] => TokenClass::RegularExpressionLiteral,
-        [b'.' | b'0'..=b'9', ..] => TokenClass::NumericLiteral,
-        _ => TokenClass::IdentifierName,
     }
 }
 

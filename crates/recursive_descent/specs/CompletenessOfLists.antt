@@ -1,4 +1,4 @@
--- What is given of lists, and of their items (ECMA-262 12.2, 12.3.6, 12.16, 13.3, 13.12, 14.1, 14.6).
+-- What is given of lists, and of their items (ECMA-262 12.2, 12.3.8, 12.16, 13.3, 13.12, 14.1, 14.6).
 use Rattle.std.specs.Prelude.{◌≡◌, ◌⊎◌, ℕ, ◌+◌, Bool, true, false, cond, ◌&&◌, List, [], nat_le, Some, codes}
 use Rattle.tokens.specs.declared.token.TokenClass.TheVariants.{Punctuator}
 use Rattle.tokens.specs.Reading.{any_goal}

@@ -143,7 +143,7 @@ ReadsOn text p l r o m e Q = (s : Token) (P : List Pair) → ReadAt text p l o s
 abbrev pub GoesOn : List ℕ → Bool → Operand → Operand → ℕ → Token → Token → List Pair → Type 0
 GoesOn text i l r o m e Q = (f : Start) (s : Token) (P : List Pair) → PartAt text i f l o s m P → PartAt text i f r o s e (P ++ Q)
 
--- a part of a chain above its base (12.3.9); `super` before its member or its arguments (12.3.5)
+-- a part of a chain above its base (12.3.9); `super` before its member or its arguments (12.3.7)
 pub record LinkAt (text : List ℕ) (f : Start) (p : Operand) (o : ℕ) (s e : Token) (P : List Pair) : Type 0 where
   pub begins : Begins text p.start s
   pub chained : has_optional p.cover.node ≡ true
@@ -164,7 +164,7 @@ pub record Links (text : List ℕ) (l r : Operand) (o : ℕ) (m e : Token) (Q : 
   pub further : MissesBy text Div is_template m → (f : Start) (s : Token) (P : List Pair) → LinkAt text f l o s m P → LinkAt text f r o s e (P ++ Q)
   pub super : MissesBy text Div is_template m → (flags_of r.cover.node).optional ≡ false → (i : Bool) (f : Start) (s : Token) (P : List Pair) → SuperAt text l o s m P → PartAt text i f r o s e (P ++ Q)
 
--- arguments with their parentheses (12.3.6)
+-- arguments with their parentheses (12.3.8)
 abbrev pub ArgumentsAt : List ℕ → Parts → ℕ → Token → Token → List Pair → Type 0
 ArgumentsAt text ps o s e P = RunsIn text o (anywhere (arguments ps)) ps s e P
 

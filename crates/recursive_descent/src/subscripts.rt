@@ -1,4 +1,4 @@
-//! Members, calls, tagged templates and optional chains (ECMA-262 12.3.2 to 12.3.9).
+//! Members, calls, tagged templates and optional chains (ECMA-262 12.3.2 to 12.3.11).
 #![tactic(auto, using(parser_tables::proofs::Refusals::refusals, crate::proofs::reading::AdvancedTokens::moves))]
 
 ghost use Rattle.recursive_descent.specs.Complete.{SubscriptComplete, ArgumentsComplete, ChainComplete};
@@ -311,7 +311,7 @@ impl<'t, 's> Parser<'t, 's> {
         Ok(Operand::plain(node, found.rank(is_call), Edge::Other))
     }
 
-    /// Arguments in their parentheses, which stand ahead (12.3.6).
+    /// Arguments in their parentheses, which stand ahead (12.3.8).
     #[cycle(grammar)]
     #[inline(never)]
     pub(crate) fn arguments(&mut self, high: u32) -> Result<MeasuredParts<'s>, Fault>

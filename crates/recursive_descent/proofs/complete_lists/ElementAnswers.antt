@@ -1,4 +1,4 @@
--- An element, an argument or a parameter that is given as an item of a list is refused, or taken (ECMA-262 12.2.5, 12.3.6, 12.15.5, 14.1).
+-- An element, an argument or a parameter that is given as an item of a list is refused, or taken (ECMA-262 12.2.5, 12.3.8, 12.15.5, 14.1).
 use Rattle.std.proofs.Common.{◌+◌, ◌-◌, ◌≤◌, ◌≡◌, ℕ, suc, Bool, true, false, not, cond, List, [], Result, Ok, Err, refl, sym, ap, ◌∙◌, subst, arith}
 use Rattle.std.specs.Prelude.{IfOk, IfErr, ◌&&◌, ◌||◌, nat_le, Some, None, codes}
 use Rattle.std.specs.Result.{IsErrAnd}

@@ -1,4 +1,4 @@
--- Elements, arguments and parameters as items of a list that is given: alone, or behind `...` (ECMA-262 12.2.5, 12.3.6, 12.15.5, 14.1).
+-- Elements, arguments and parameters as items of a list that is given: alone, or behind `...` (ECMA-262 12.2.5, 12.3.8, 12.15.5, 14.1).
 use Rattle.std.proofs.Common.{◌≡◌, ◌≤◌, ℕ, suc, inl, inr, Bool, true, false, cond, List, [], refl, sym, ap, ◌∙◌, subst, arith}
 use Rattle.std.specs.Prelude.{Option, Some, codes}
 use Rattle.std.proofs.lemmas.Bool.{false≢true}

@@ -1,4 +1,4 @@
--- A list that is given is over, or has a first item and what stands behind it, whatever it lists (ECMA-262 12.2, 12.3.6, 12.16, 13.3, 13.12, 14.1, 14.6).
+-- A list that is given is over, or has a first item and what stands behind it, whatever it lists (ECMA-262 12.2, 12.3.8, 12.16, 13.3, 13.12, 14.1, 14.6).
 use Rattle.std.proofs.Common.{◌≡◌, inl, inr, ℕ, Bool, true, false, List, [], ◌∷◌, ◌++◌, refl, sym, ◌∙◌, subst}
 use Rattle.std.specs.Prelude.{Option, Some, codes}
 use Rattle.tokens.specs.Reading.{any_goal}

@@ -1,4 +1,4 @@
--- What runs over the items of a list, inverted: its first item, and what stands behind it (ECMA-262 12.2, 12.3.6, 12.16, 13.3, 14.1).
+-- What runs over the items of a list, inverted: its first item, and what stands behind it (ECMA-262 12.2, 12.3.8, 12.16, 13.3, 14.1).
 use Rattle.std.proofs.Common.{◌≡◌, ℕ, Bool, true, false, cond, List, [], ◌∷◌, ◌++◌, refl, sym, subst}
 use Rattle.std.specs.Prelude.{Option, Some, None, codes, map}
 use Rattle.tokens.specs.Reading.{any_goal}

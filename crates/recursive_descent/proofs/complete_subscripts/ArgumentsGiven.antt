@@ -1,4 +1,4 @@
--- Given arguments, as a list that was begun behind its parenthesis (ECMA-262 12.3.6).
+-- Given arguments, as a list that was begun behind its parenthesis (ECMA-262 12.3.8).
 use Rattle.std.proofs.Common.{◌≡◌, ℕ, true, List, [], ◌∷◌, ◌++◌, Result, Ok, Err, refl, sym, ap, ◌∙◌, subst}
 use Rattle.std.specs.Prelude.{codes}
 use Rattle.std.specs.Result.{IsErrAnd}

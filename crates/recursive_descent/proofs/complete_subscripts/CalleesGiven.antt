@@ -1,4 +1,4 @@
--- How what the code makes behind `new` agrees with what is given (ECMA-262 12.3.3, 12.3.8).
+-- How what the code makes behind `new` agrees with what is given (ECMA-262 12.3.5, 12.3.12).
 use Rattle.std.proofs.Common.{◌≡◌, ℕ, suc, ◌≤◌, max, true, false, List, [], ◌++◌, Result, Ok, Err, refl, sym, ap, ◌∙◌, subst, arith}
 use Rattle.std.specs.Prelude.{IsTrue, codes}
 use Rattle.std.specs.Result.{IfOk, IfErr}

@@ -1,4 +1,4 @@
--- What is given behind `new` (ECMA-262 12.3.3, 12.3.8): `target`; a callee and its arguments; or a callee alone.
+-- What is given behind `new` (ECMA-262 12.3.5, 12.3.12): `target`; a callee and its arguments; or a callee alone.
 use Rattle.std.proofs.Common.{◌≡◌, ℕ, true, false, List, [], ◌++◌, refl, sym, ap, ◌∙◌, subst, arith}
 use Rattle.std.specs.Prelude.{IsTrue, codes, ◌&&◌}
 use Prim.Native.String.{String}

@@ -1,4 +1,4 @@
--- How what is read behind an object agrees with a member, arguments or a template that is given there (ECMA-262 12.3.2 to 12.3.8).
+-- How what is read behind an object agrees with a member, arguments or a template that is given there (ECMA-262 12.3.2 to 12.3.11).
 use Rattle.std.proofs.Common.{◌≡◌, ℕ, suc, ◌≤◌, ◌<◌, ◌-◌, Bool, true, false, List, [], Result, Ok, Err, refl, sym, ap, ◌∙◌, subst, arith}
 use Rattle.std.specs.Prelude.{codes, max}
 use Rattle.std.specs.Result.{IsErrAnd}

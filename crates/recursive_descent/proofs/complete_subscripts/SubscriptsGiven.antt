@@ -1,4 +1,4 @@
--- A member, arguments or a template that is given, against the token that was passed and the one that stands ahead (ECMA-262 12.3.2 to 12.3.8).
+-- A member, arguments or a template that is given, against the token that was passed and the one that stands ahead (ECMA-262 12.3.2 to 12.3.11).
 use Rattle.std.proofs.Common.{◌≡◌, ℕ, Bool, true, false, List, [], ◌∷◌, ◌⊎◌, inl, inr, refl, sym, ap, ◌∙◌, subst}
 use Rattle.std.specs.Prelude.{codes, Some, None}
 use Rattle.std.proofs.lemmas.Bool.{false≢true}

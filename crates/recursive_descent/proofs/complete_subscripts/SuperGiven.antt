@@ -1,4 +1,4 @@
--- What is given behind `super` (ECMA-262 12.3.5): a member, or arguments where a call may stand.
+-- What is given behind `super` (ECMA-262 12.3.7): a member, or arguments where a call may stand.
 use Rattle.std.proofs.Common.{◌≡◌, ℕ, Bool, true, false, cond, List, [], ◌∷◌, ◌++◌, refl, sym, ap, ◌∙◌, subst}
 use Rattle.std.specs.Prelude.{IsTrue, codes}
 use Rattle.tokens.specs.Reading.{any_goal}

@@ -1,4 +1,4 @@
--- A list with one more item: what runs over the rest behind it runs over both (ECMA-262 12.2, 12.3.6, 12.16, 13.3, 13.12, 14.1, 14.6).
+-- A list with one more item: what runs over the rest behind it runs over both (ECMA-262 12.2, 12.3.8, 12.16, 13.3, 13.12, 14.1, 14.6).
 use Rattle.std.proofs.Common.{◌≡◌, ℕ, Bool, true, false, cond, List, [], ◌∷◌, ◌++◌, refl, sym, ap, ◌∙◌, subst}
 use Rattle.std.specs.Prelude.{Option, Some, None, codes, map}
 use Rattle.std.proofs.lemmas.List.{append-nil}

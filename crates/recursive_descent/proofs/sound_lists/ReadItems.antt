@@ -1,4 +1,4 @@
--- One item of a list, from what was read: an element, alone or behind `...` (ECMA-262 12.2.5, 12.3.6, 12.15.5, 14.1).
+-- One item of a list, from what was read: an element, alone or behind `...` (ECMA-262 12.2.5, 12.3.8, 12.15.5, 14.1).
 use Rattle.std.proofs.Common.{arith, ◌≡◌, ℕ, ◌-◌, ◌≤◌, Result, Ok, Err, Bool, true, false, cond, List, [], refl, sym, ap, ◌∙◌, subst}
 use Rattle.std.specs.Prelude.{IsTrue, Some, codes, not, max, ◌&&◌, nat_le}
 use Rattle.std.specs.Result.{IfOk}

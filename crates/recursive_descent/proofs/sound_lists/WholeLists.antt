@@ -1,4 +1,4 @@
--- A list as far as it is read, with one more item; and the whole (ECMA-262 12.2, 12.3.6, 12.16, 13.3, 13.12, 14.1, 14.6).
+-- A list as far as it is read, with one more item; and the whole (ECMA-262 12.2, 12.3.8, 12.16, 13.3, 13.12, 14.1, 14.6).
 use Rattle.std.proofs.Common.{arith, ◌≡◌, ℕ, ◌+◌, ◌-◌, Bool, true, false, List, [], ◌++◌, refl, sym, ap, ◌∙◌, subst, append_assoc}
 use Rattle.std.specs.Prelude.{not, ◌&&◌, ◌||◌, if◌then◌else◌, nat_le, nat_lt, codes}
 use Rattle.std.proofs.lemmas.Bool.{and_parts, false≢true, true≢false}

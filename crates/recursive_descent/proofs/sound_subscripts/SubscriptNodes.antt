@@ -1,4 +1,4 @@
--- Members, calls and tagged templates, from what stands before them and what was read behind it (ECMA-262 12.3.2 to 12.3.9).
+-- Members, calls and tagged templates, from what stands before them and what was read behind it (ECMA-262 12.3.2 to 12.3.11).
 use Rattle.std.proofs.Common.{◌≡◌, ℕ, Bool, true, false, cond, List, [], ◌∷◌, ◌++◌, refl, sym, ap, ◌∙◌, subst, arith}
 use Rattle.std.specs.Prelude.{IsTrue, Some, codes, ◌&&◌, ◌||◌, nat_eq, slice_index_or}
 use Rattle.std.specs.Str.{bytes_eq}

@@ -1,4 +1,4 @@
--- What a function reads behind the object of a member, a callee or a tag, step by step (ECMA-262 12.3.2 to 12.3.9).
+-- What a function reads behind the object of a member, a callee or a tag, step by step (ECMA-262 12.3.2 to 12.3.11).
 use Rattle.std.proofs.Common.{◌≡◌, ℕ, Bool, true, false, cond, List, [], ◌∷◌, ◌++◌, refl, sym, ap, ◌∙◌, subst}
 use Rattle.std.specs.Prelude.{IsTrue, Some, None, codes}
 use Rattle.std.proofs.lemmas.Bool.{false≢true, true≢false}
