@@ -39,7 +39,7 @@ MADE = f'{TOP}/release/MADE'
 DISK = 3
 # A second processor for one crate adds this much of the first.
 SHARE = 0.5
-# Minutes of a build as measured (52 on two processors, with other work on the two others), to those that are computed from tools/gate/seconds.txt.
+# Minutes of a build as measured (52 on two processors, with other work on the two others), to those that are computed from tools/measure/seconds.txt.
 PACE = 1.08
 WIDEST = 4
 # The toolchain's command, as a module.
@@ -76,7 +76,7 @@ def text_of(path):
 def costs():
     """What each crate takes, by its name."""
     found = collections.defaultdict(lambda: Cost(120, 2_000_000_000))
-    for line in (text_of(f'{TOP}/tools/gate/seconds.txt') or '').split('\n'):
+    for line in (text_of(f'{TOP}/tools/measure/seconds.txt') or '').split('\n'):
         words = line.partition('#')[0].split()
         if words:
             found[words[0]] = Cost(int(words[1]), int(float(words[2]) * 1e9))

@@ -2,7 +2,7 @@
 // Holds `jslint check` against the plain model over generated texts, each with settings of its own: the lines, the status, and the
 // refusal where the text or the settings are refused, but for the place of a syntax error.
 //
-//   node compare.js [--n COUNT] [--seed S] [--show K]
+//   node check_rules.js [--n COUNT] [--seed S] [--show K]
 //
 // JSLINT names the program (default: the one that ./jslint runs). Exit status 1 where anything disagrees.
 
@@ -10,15 +10,15 @@ const fs = require('node:fs');
 const os = require('node:os');
 const path = require('node:path');
 const { spawnSync } = require('node:child_process');
-const { option, program, withAdditions } = require('../dump.js');
-const { makeTexts, nested } = require('../parser/compare.js');
-const { LIMITS, parse } = require('../reference/parse.js');
-const { extraPairs, plan } = require('../reference/plan.js');
-const { randomSource } = require('../reference/random.js');
-const { RULE_NAMES, fromToml, runRules } = require('../reference/rules.js');
-const { resolve } = require('../reference/scopes.js');
-const { linesColumns, words } = require('../scripts/compare.js');
-const { OWN, scopeScript } = require('../scopes/texts.js');
+const { option, program, withAdditions } = require('./shared.js');
+const { makeTexts, nested } = require('./parser.js');
+const { LIMITS, parse } = require('../model/parse.js');
+const { extraPairs, plan } = require('../model/plan.js');
+const { randomSource } = require('../model/random.js');
+const { RULE_NAMES, fromToml, runRules } = require('../model/rules.js');
+const { resolve } = require('../model/scopes.js');
+const { linesColumns, words } = require('./scripts.js');
+const { OWN, scopeScript } = require('../rows/scope_texts.js');
 
 
 // A settings file: mostly a right one.

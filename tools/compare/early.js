@@ -1,20 +1,20 @@
 'use strict';
 // Holds `first_early_error` against the plain model over random scripts.
 //
-//   node compare.js [--n COUNT] [--seed S] [--show K] [--keep FOLDER] [--file TEXTS]
+//   node early.js [--n COUNT] [--seed S] [--show K] [--keep FOLDER] [--file TEXTS]
 //
 // Makes COUNT scripts that are dense in names, labels, jumps, functions and classes, beside the model's own programs and
-// mutations of them, half of them with what the 12th edition adds, copies the crates to a temporary folder, runs the program dump.txt there by `rt try` (no proof) and
+// mutations of them, half of them with what the 12th edition adds, copies the crates to a temporary folder, runs the program early.txt there by `rt try` (no proof) and
 // compares its answers with early.js. Exit status 1 where anything disagrees.
 
 const fs = require('node:fs');
 const path = require('node:path');
-const { answersOf, copied, option, pieces, withAdditions } = require('../dump.js');
-const { sample } = require('../reference/brute.js');
-const { earlyErrors } = require('../reference/early.js');
-const { PROGRAMS } = require('../reference/fuzz-programs.js');
-const { LIMITS, parseOnly } = require('../reference/parse.js');
-const { randomSource } = require('../reference/random.js');
+const { answersOf, copied, option, pieces, withAdditions } = require('./shared.js');
+const { sample } = require('../model/brute.js');
+const { earlyErrors } = require('../model/early.js');
+const { PROGRAMS } = require('../model/fuzz-programs.js');
+const { LIMITS, parseOnly } = require('../model/parse.js');
+const { randomSource } = require('../model/random.js');
 
 // ---------------------------------------------------------------- scripts dense in early errors
 
@@ -131,7 +131,7 @@ function answer(text) {
 function main() {
   const file = option('file', null);
   const texts = file !== null ? fs.readFileSync(file, 'utf8').split('\0') : makeTexts(Number(option('n', 1000)), Number(option('seed', 1)));
-  const answers = answersOf(copied(path.join(__dirname, 'dump.txt'), ['source_text', 'parser', 'early_errors']), texts, 8000);
+  const answers = answersOf(copied(path.join(__dirname, 'early.txt'), ['source_text', 'parser', 'early_errors']), texts, 8000);
   const seen = {};
   let differ = 0;
   for (let i = 0; i < answers.length; i++) {

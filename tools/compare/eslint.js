@@ -10,9 +10,9 @@
 const fs = require('node:fs');
 const { Linter } = require('/usr/share/nodejs/eslint');
 const { spawnSync } = require('node:child_process');
-const { program } = require('../dump.js');
-const { RULE_NAMES: RULES } = require('../reference/rules.js');
-const { files } = require('../scripts/compare.js');
+const { program } = require('./shared.js');
+const { RULE_NAMES: RULES } = require('../model/rules.js');
+const { files } = require('./scripts.js');
 
 function byEslint(text) {
   const config = {

@@ -2,21 +2,21 @@
 // Holds `fix` against the plain model over random scripts: the fixed text is the model's, it has the same tree, and fixing it again
 // gives it again.
 //
-//   node compare.js [--n COUNT] [--seed S] [--show K] [--keep FOLDER] [--file TEXTS]
+//   node fix.js [--n COUNT] [--seed S] [--show K] [--keep FOLDER] [--file TEXTS]
 //
 // Makes COUNT texts of each of three kinds (constructs that stand in each other, with groups; scripts dense in names, functions and
-// classes; sentences and mutated programs), half of them with what the 12th edition adds, runs the program dump.txt over copies of the crates by `rt try` (no proof) and compares
+// classes; sentences and mutated programs), half of them with what the 12th edition adds, runs the program fix.txt over copies of the crates by `rt try` (no proof) and compares
 // its answers with plan.js and print.js. Exit status 1 where anything disagrees.
 
 const fs = require('node:fs');
 const path = require('node:path');
-const { answersOf, copied, option, withAdditions } = require('../dump.js');
-const { makeScript } = require('../early/compare.js');
-const { makeTexts, nested } = require('../parser/compare.js');
-const { LIMITS, parse } = require('../reference/parse.js');
-const { plan } = require('../reference/plan.js');
-const { layout } = require('../reference/print.js');
-const { randomSource } = require('../reference/random.js');
+const { answersOf, copied, option, withAdditions } = require('./shared.js');
+const { makeScript } = require('./early.js');
+const { makeTexts, nested } = require('./parser.js');
+const { LIMITS, parse } = require('../model/parse.js');
+const { plan } = require('../model/plan.js');
+const { layout } = require('../model/print.js');
+const { randomSource } = require('../model/random.js');
 const { plainTree } = require('../definitions/model.js');
 
 function someTexts(count, seed) {
@@ -41,7 +41,7 @@ function bare(n) {
 function main() {
   const file = option('file', null);
   const texts = file !== null ? fs.readFileSync(file, 'utf8').split('\0') : someTexts(Number(option('n', 1000)), Number(option('seed', 1)));
-  const folder = copied(path.join(__dirname, 'dump.txt'), ['source_text', 'lint']);
+  const folder = copied(path.join(__dirname, 'fix.txt'), ['source_text', 'lint']);
   const answers = answersOf(folder, texts, 4000);
   const fixed = [];
   let differ = 0;

@@ -1,12 +1,12 @@
 'use strict';
 // Holds the parser against the plain model: acceptance, grouping pairs, and the tree with places, texts and flags.
 //
-//   node compare.js [--n COUNT] [--nested COUNT] [--seed S] [--show K] [--keep FOLDER] [--file TEXTS]
+//   node parser.js [--n COUNT] [--nested COUNT] [--seed S] [--show K] [--keep FOLDER] [--file TEXTS]
 //                   [--high H --open M]
 //
 // Makes COUNT texts of each kind (sentences of the declarative grammar, mutated programs, random token strings), half of them with
 // what the 12th edition adds, copies
-// the crates that the parser stands on and the program dump.txt to a temporary folder, runs the program there by `rt try`
+// the crates that the parser stands on and the program parser.txt to a temporary folder, runs the program there by `rt try`
 // (it needs no proof; the environment's RT may name another command) and compares its answers with parse.js.
 // --nested: that many texts in which constructs stand in each other, and no others.
 // --file: texts of one's own, with U+0000 between them. --high H --open M: with these limits in place of the usual ones, so
@@ -14,12 +14,12 @@
 
 const fs = require('node:fs');
 const path = require('node:path');
-const { answersOf, copied, option, pieces, withAdditions } = require('../dump.js');
-const { ALPHABETS } = require('../reference/alphabets.js');
-const { sample } = require('../reference/brute.js');
-const { PROGRAMS } = require('../reference/fuzz-programs.js');
-const { LIMITS, parseOnly } = require('../reference/parse.js');
-const { randomSource } = require('../reference/random.js');
+const { answersOf, copied, option, pieces, withAdditions } = require('./shared.js');
+const { ALPHABETS } = require('../model/alphabets.js');
+const { sample } = require('../model/brute.js');
+const { PROGRAMS } = require('../model/fuzz-programs.js');
+const { LIMITS, parseOnly } = require('../model/parse.js');
+const { randomSource } = require('../model/random.js');
 const { plainTree } = require('../definitions/model.js');
 
 // ---------------------------------------------------------------- texts
@@ -101,7 +101,7 @@ function answer(text) {
 // ---------------------------------------------------------------- the parser's answers
 
 function run(texts) {
-  const folder = copied(path.join(__dirname, 'dump.txt'), ['source_text', 'tree', 'parser']);
+  const folder = copied(path.join(__dirname, 'parser.txt'), ['source_text', 'tree', 'parser']);
   const at = path.join(folder, 'crates/language/src/limits.rt');
   const limit = (name, value) => {
     fs.writeFileSync(at, fs.readFileSync(at, 'utf8').replace(new RegExp(`(const ${name}: \\w+ = )\\d+`), '$1' + value));

@@ -1,22 +1,22 @@
 'use strict';
 // Holds the planner against the plain model: of each script the rows with their kinds and cells, the wrapped nodes and the total.
 //
-//   node compare.js [--n COUNT] [--seed S] [FILE..]
+//   node planner.js [--n COUNT] [--seed S] [FILE..]
 //
 // The scripts are the files, and COUNT sentences of the declarative grammar (0 where files are given, else 2,000), half of them with what
 // the 12th edition adds. Copies the crates
-// that the planner and the parser stand on and the program dump.txt to a temporary folder and runs it there by `rt try` (it needs no
+// that the planner and the parser stand on and the program planner.txt to a temporary folder and runs it there by `rt try` (it needs no
 // proof; the environment's RT may name another command). What the parser refuses must be refused by the model. Exit status 1 where
 // anything disagrees.
 
 const fs = require('node:fs');
 const path = require('node:path');
-const { answersOf, copied, option, withAdditions } = require('../dump.js');
-const { runInBigStack } = require('../reference/bigstack.js');
-const { sample } = require('../reference/brute.js');
-const { parseOnly } = require('../reference/parse.js');
-const { plan } = require('../reference/plan.js');
-const { randomSource } = require('../reference/random.js');
+const { answersOf, copied, option, withAdditions } = require('./shared.js');
+const { runInBigStack } = require('../model/bigstack.js');
+const { sample } = require('../model/brute.js');
+const { parseOnly } = require('../model/parse.js');
+const { plan } = require('../model/plan.js');
+const { randomSource } = require('../model/random.js');
 
 const files = process.argv.slice(2).filter((word, i, words) => !word.startsWith('--') && !words[i - 1]?.startsWith('--'));
 
@@ -47,7 +47,7 @@ function answer(text) {
 
 function main() {
   const texts = scripts();
-  const answers = answersOf(copied(path.join(__dirname, 'dump.txt'), ['source_text', 'tree', 'parser', 'paren_planner']), texts, 4000);
+  const answers = answersOf(copied(path.join(__dirname, 'planner.txt'), ['source_text', 'tree', 'parser', 'paren_planner']), texts, 4000);
   const model = runInBigStack(__filename, 'modelAnswers', [texts]);
   let rows = 0;
   let refused = 0;

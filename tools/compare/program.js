@@ -1,26 +1,26 @@
 'use strict';
 // Holds the built program against the plain model over generated texts: what `tree`, `fix`, `unwrap`, `cost`, `check` and `verify` (of `cost`'s
 // table) write, their status and their refusals, but for the place of a syntax error; and that `fix` and `unwrap` give again what they wrote.
-// ../unwrap/check.js judges what `unwrap` writes.
+// unwrap_check.js judges what `unwrap` writes.
 //
-//   node compare.js [--n COUNT] [--seed S] [--show K] [--height H --open M] [--unwrap]
+//   node program.js [--n COUNT] [--seed S] [--show K] [--height H --open M] [--unwrap]
 //
 // COUNT texts of each of five kinds: sentences, mutated programs and random tokens; constructs in each other; scripts dense in names, functions
 // and classes. To half of them what the 12th edition adds is added, where they have room. With --unwrap only what `unwrap` answers, for the texts
-// of ../unwrap/compare.js: scripts, each as it is and three times with pairs, blanks, line ends and comments strewn in. JSLINT names the program
+// of unwrap.js: scripts, each as it is and three times with pairs, blanks, line ends and comments strewn in. JSLINT names the program
 // (default: the one that ./jslint runs), --height and --open its limits. Exit status 1 where anything disagrees.
 
 const fs = require('node:fs');
 const os = require('node:os');
 const path = require('node:path');
 const { spawnSync } = require('node:child_process');
-const { option, program, withAdditions } = require('../dump.js');
-const { makeScript } = require('../early/compare.js');
-const { makeTexts, nested } = require('../parser/compare.js');
-const { runInBigStack } = require('../reference/bigstack.js');
-const { randomSource } = require('../reference/random.js');
-const { judgement, modelOf } = require('../scripts/compare.js');
-const strewn = require('../unwrap/compare.js');
+const { option, program, withAdditions } = require('./shared.js');
+const { makeScript } = require('./early.js');
+const { makeTexts, nested } = require('./parser.js');
+const { runInBigStack } = require('../model/bigstack.js');
+const { randomSource } = require('../model/random.js');
+const { judgement, modelOf } = require('./scripts.js');
+const strewn = require('./unwrap.js');
 const isUnwrapAlone = process.argv.includes('--unwrap');
 const COMMANDS = isUnwrapAlone ? ['unwrap'] : ['tree', 'fix', 'unwrap', 'cost', 'check', 'verify'];
 // These give again what they wrote.

@@ -1,17 +1,17 @@
 'use strict';
 // Holds the reports of the rules, as the program makes them, against the plain model.
 //
-//   node run.js [--n COUNT] [--seed S] [--show K] [--keep FOLDER]
+//   node scopes.js [--n COUNT] [--seed S] [--show K] [--keep FOLDER]
 //
 // All grouping pairs count as extra here. Exit status 1 where anything disagrees.
 
 const path = require('node:path');
-const { answersOf, copied, option, withAdditions } = require('../dump.js');
-const { parseOnly } = require('../reference/parse.js');
-const { randomSource } = require('../reference/random.js');
-const { resolve } = require('../reference/scopes.js');
-const { RULE_NAMES, runRules } = require('../reference/rules.js');
-const { OWN, scopeScript } = require('./texts.js');
+const { answersOf, copied, option, withAdditions } = require('./shared.js');
+const { parseOnly } = require('../model/parse.js');
+const { randomSource } = require('../model/random.js');
+const { resolve } = require('../model/scopes.js');
+const { RULE_NAMES, runRules } = require('../model/rules.js');
+const { OWN, scopeScript } = require('../rows/scope_texts.js');
 
 const source = randomSource(Number(option('seed', 1)));
 const texts = [...OWN, ...withAdditions(source, Array.from({ length: Number(option('n', 1000)) }, () => scopeScript(source)))];
@@ -24,7 +24,7 @@ function answer(text) {
   return runRules({ tree: result.tree, scopes: resolve(result.tree), extra, settings }).map((r) => `${r.start}-${r.end} ${r.rule} ${r.text}\n`).join('');
 }
 
-const answers = answersOf(copied(path.join(__dirname, 'dump.txt'), ['source_text', 'tree', 'parser', 'scopes', 'rules']), texts, 8000);
+const answers = answersOf(copied(path.join(__dirname, 'scopes.txt'), ['source_text', 'tree', 'parser', 'scopes', 'rules']), texts, 8000);
 let differ = 0;
 answers.forEach((given, i) => {
   const wanted = answer(texts[i]);

@@ -1,11 +1,11 @@
 'use strict';
 // Holds the commands of `jslint` against the plain model, byte for byte, over scripts of Debian's packages.
 //
-//   node compare.js [all|COMMAND,..] [FILE..]
+//   node scripts.js [all|COMMAND,..] [FILE..]
 //
 // The commands are check, tree, fix, unwrap, cost and verify. Without files: every .js file of the packages named below, as far as they are
 // installed; what the model refuses must be refused with the same line. Of `fix` and `unwrap` also: the same command on what it wrote gives that
-// again. What `unwrap` writes is also judged by ../unwrap/check.js: the same tree, the fewest pairs, each token and each comment in its place, and a
+// again. What `unwrap` writes is also judged by unwrap_check.js: the same tree, the fewest pairs, each token and each comment in its place, and a
 // script for V8 where the text was one; how many pairs went and how many lines differ is printed.
 // `verify` is given the table that `cost` writes, and its two numbers are the pairs of the script and those of its fixed text. JSLINT names
 // another program than the one that ./jslint runs. Exit status 1 where anything disagrees.
@@ -15,16 +15,16 @@ const fs = require('node:fs');
 const os = require('node:os');
 const path = require('node:path');
 const { spawnSync } = require('node:child_process');
-const { program } = require('../dump.js');
-const { LIMITS, parse } = require('../reference/parse.js');
-const { treeJson } = require('../reference/json.js');
-const { extraPairs, plan, writeTable } = require('../reference/plan.js');
-const { layout } = require('../reference/print.js');
-const { defaultSettings, runRules } = require('../reference/rules.js');
-const { resolve } = require('../reference/scopes.js');
-const { unwrap, unwrapped } = require('../reference/unwrap.js');
-const { runInBigStack } = require('../reference/bigstack.js');
-const { check: judged } = require('../unwrap/check.js');
+const { program } = require('./shared.js');
+const { LIMITS, parse } = require('../model/parse.js');
+const { treeJson } = require('../model/json.js');
+const { extraPairs, plan, writeTable } = require('../model/plan.js');
+const { layout } = require('../model/print.js');
+const { defaultSettings, runRules } = require('../model/rules.js');
+const { resolve } = require('../model/scopes.js');
+const { unwrap, unwrapped } = require('../model/unwrap.js');
+const { runInBigStack } = require('../model/bigstack.js');
+const { check: judged } = require('./unwrap_check.js');
 const PACKAGES = ['libjs-jquery', 'libjs-d3', 'libjs-three', 'node-react-dom', 'node-react', 'node-acorn', 'libjs-underscore', 'libjs-highlight.js'];
 
 const plans = new WeakMap();

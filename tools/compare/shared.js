@@ -5,8 +5,8 @@ const fs = require('node:fs');
 const os = require('node:os');
 const path = require('node:path');
 const { execFileSync, spawnSync } = require('node:child_process');
-const { ADDED, ASSIGNMENTS } = require('./reference/operators.js');
-const CRATES = path.join(__dirname, '..', 'crates');
+const { ADDED, ASSIGNMENTS } = require('../model/operators.js');
+const CRATES = path.join(__dirname, '..', '..', 'crates');
 
 // The word behind --name on the command line.
 function option(name, otherwise) {
@@ -102,7 +102,7 @@ let named = process.env.JSLINT;
 
 // The program that JSLINT names, or else the one that the launcher runs; where it is to be built first, the launcher does so and says it.
 function program() {
-  named ??= execFileSync(path.join(__dirname, '..', 'jslint'), ['--program'], { encoding: 'utf8', stdio: ['ignore', 'pipe', 'inherit'] }).trim();
+  named ??= execFileSync(path.join(__dirname, '..', '..', 'jslint'), ['--program'], { encoding: 'utf8', stdio: ['ignore', 'pipe', 'inherit'] }).trim();
   return named;
 }
 

@@ -1,25 +1,25 @@
 'use strict';
 // Holds `unwrap_text` against the plain model over generated scripts: their texts without unnecessary pairs, byte for byte.
 //
-//   node compare.js [--n COUNT] [--seed S] [--show K] [--keep FOLDER] [--file TEXTS] [--cases]
+//   node unwrap.js [--n COUNT] [--seed S] [--show K] [--keep FOLDER] [--file TEXTS] [--cases]
 //
 // The texts are COUNT of each of four kinds (sentences, mutated programs, constructs that stand in each other, scripts dense in names,
 // functions and classes), those of them that the model accepts once as they are and three times with pairs round expressions, and blanks,
 // line ends and comments between tokens; or those of a file, with U+0000 between them; or, with --cases, the worked texts of
-// crates/cases/data/unwrap alone. Runs the program dump.txt over copies of the crates by `rt try` (no proof). Exit status 1 where anything
-// disagrees, or where check.js finds a fault in an answer.
+// crates/cases/data/unwrap alone. Runs the program unwrap.txt over copies of the crates by `rt try` (no proof). Exit status 1 where anything
+// disagrees, or where unwrap_check.js finds a fault in an answer.
 
 const fs = require('node:fs');
 const path = require('node:path');
-const { answersOf, copied, option, withAdditions } = require('../dump.js');
-const { makeScript } = require('../early/compare.js');
-const { makeTexts, nested } = require('../parser/compare.js');
-const { runInBigStack } = require('../reference/bigstack.js');
-const { parse } = require('../reference/parse.js');
-const { randomSource } = require('../reference/random.js');
-const { unwrap } = require('../reference/unwrap.js');
-const { check } = require('./check.js');
-const { strewn } = require('./strew.js');
+const { answersOf, copied, option, withAdditions } = require('./shared.js');
+const { makeScript } = require('./early.js');
+const { makeTexts, nested } = require('./parser.js');
+const { runInBigStack } = require('../model/bigstack.js');
+const { parse } = require('../model/parse.js');
+const { randomSource } = require('../model/random.js');
+const { unwrap } = require('../model/unwrap.js');
+const { check } = require('./unwrap_check.js');
+const { strewn } = require('../rows/strew.js');
 const CRATES = ['source_text', 'lint'];
 const ROWS = path.join(__dirname, '..', '..', 'crates', 'cases', 'data', 'unwrap');
 
@@ -63,7 +63,7 @@ function main() {
   const rows = process.argv.includes('--cases') ? workedRows() : [];
   const texts = rows.length > 0 ? rows.map(([text]) => text)
     : file !== null ? fs.readFileSync(file, 'utf8').split('\0') : someTexts(Number(option('n', 300)), Number(option('seed', 1)));
-  const answers = answersOf(copied(path.join(__dirname, 'dump.txt'), CRATES), texts, 4000);
+  const answers = answersOf(copied(path.join(__dirname, 'unwrap.txt'), CRATES), texts, 4000);
   const model = runInBigStack(__filename, 'modelAnswers', [texts]);
   const counts = { changed: 0, before: 0, after: 0, differ: 0 };
   answers.forEach((found, i) => {

@@ -1,6 +1,6 @@
 #!/usr/bin/env node
 'use strict';
-// Checks one answer of `unwrap` against the text it was made from, by the reference parser and by V8:
+// Checks one answer of `unwrap` against the text it was made from, by the plain model's parser and by V8:
 //
 //   check(before, after, unwrap) -> null, or what is wrong
 //
@@ -15,10 +15,10 @@
 // Texts with `for (async of` are left out of 10: they are scripts of the 11th edition, and none of the 12th, which V8 reads.
 
 const vm = require('node:vm');
-const { parse } = require('../reference/parse.js');
-const { plan } = require('../reference/plan.js');
-const { canon } = require('../reference/canon.js');
-const { tokensOf, FINAL } = require('../reference/unwrap.js');
+const { parse } = require('../model/parse.js');
+const { plan } = require('../model/plan.js');
+const { canon } = require('../model/canon.js');
+const { tokensOf, FINAL } = require('../model/unwrap.js');
 
 const COMMENTS = /\/\/[^\n\r\u2028\u2029]*|\/\*[^]*?\*\//g;
 
@@ -143,7 +143,7 @@ module.exports = { check };
 
 if (require.main === module) {
   const fs = require('fs');
-  const { unwrap } = require('../reference/unwrap.js');
+  const { unwrap } = require('../model/unwrap.js');
   let bad = 0;
   for (const name of process.argv.slice(2)) {
     const before = fs.readFileSync(name);

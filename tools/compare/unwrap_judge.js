@@ -1,23 +1,23 @@
 'use strict';
-// Judges what `jslint unwrap` writes of strewn texts: of generated scripts with pairs, blanks, line ends and comments strewn in (strew.js).
+// Judges what `jslint unwrap` writes of strewn texts: of generated scripts with pairs, blanks, line ends and comments strewn in (../rows/strew.js).
 //
-//   node judge.js [--n COUNT] [--seed S] [--show K]
+//   node unwrap_judge.js [--n COUNT] [--seed S] [--show K]
 //
-// check.js looks at each answer, and the program has to write it again when it is given it. JSLINT names the program (default: the one that
+// unwrap_check.js looks at each answer, and the program has to write it again when it is given it. JSLINT names the program (default: the one that
 // ./jslint runs). Exit status 1 where a fault is found. tools/test judges 500 texts so, and has this see the faults of planted programs;
-// `node tools/unwrap/judge.js --n 10000 --seed $(date +%Y%m%d)` is the run for a night: other texts each time.
+// `node tools/compare/unwrap_judge.js --n 10000 --seed $(date +%Y%m%d)` is the run for a night: other texts each time.
 
 const fs = require('node:fs');
 const os = require('node:os');
 const path = require('node:path');
 const { spawnSync } = require('node:child_process');
-const { option, program } = require('../dump.js');
-const { runInBigStack } = require('../reference/bigstack.js');
-const { randomSource } = require('../reference/random.js');
-const { parse } = require('../reference/parse.js');
-const { check } = require('./check.js');
-const { isWhole, scripts } = require('./compare.js');
-const { strewn } = require('./strew.js');
+const { option, program } = require('./shared.js');
+const { runInBigStack } = require('../model/bigstack.js');
+const { randomSource } = require('../model/random.js');
+const { parse } = require('../model/parse.js');
+const { check } = require('./unwrap_check.js');
+const { isWhole, scripts } = require('./unwrap.js');
+const { strewn } = require('../rows/strew.js');
 // Scripts of each kind that are made at a time: some of them are accepted.
 const ROUND = 20;
 

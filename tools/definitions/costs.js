@@ -3,8 +3,8 @@
 
 const path = require('path');
 const antt = require('./antt.js');
-const { REFERENCE } = require('./model.js');
-const P = require(path.join(REFERENCE, 'plan.js'));
+const { PLAIN_MODEL } = require('./model.js');
+const P = require(path.join(PLAIN_MODEL, 'plan.js'));
 
 const option = (o) => (o.$.name === 'None' ? '-' : String(o.a[0]));
 const cellText = (c) => (c === P.NONE ? '-' : String(c));
@@ -15,19 +15,19 @@ function compareCosts(m, program, root, random) {
   const pl = P.plan(program);
   const say = (what, detail) => out.push({ what, detail });
   const total = option(m.least(root, m.script));
-  if (total !== cellText(pl.total)) say('least', `definitions ${total}, reference ${pl.total}`);
+  if (total !== cellText(pl.total)) say('least', `definitions ${total}, model ${pl.total}`);
   const nodes = antt.toArray(m.row_nodes(root, m.script));
   const theirs = pl.rows.map((r) => r.node);
-  if (nodes.length !== theirs.length || nodes.some((n, i) => n.plain?.from !== theirs[i])) { say('row_nodes', `definitions ${nodes.map((n) => n.a[0].$.name)}, reference ${theirs.map((n) => n.type)}`); return { out, pl }; }
+  if (nodes.length !== theirs.length || nodes.some((n, i) => n.plain?.from !== theirs[i])) { say('row_nodes', `definitions ${nodes.map((n) => n.a[0].$.name)}, model ${theirs.map((n) => n.type)}`); return { out, pl }; }
   if (m.rows(root, m.script) !== nodes.length) say('rows', `${m.rows(root, m.script)} and ${nodes.length}`);
   nodes.forEach((n, i) => {
     const got = antt.toArray(m.cells(n)).map(option).join(' ');
     const want = pl.rows[i].cells.map(cellText).join(' ');
-    if (got !== want) say('cells', `row ${i + 1} ${n.a[0].$.name}: definitions ${got}, reference ${want}`);
+    if (got !== want) say('cells', `row ${i + 1} ${n.a[0].$.name}: definitions ${got}, model ${want}`);
   });
   const wrapped = antt.toArray(m.wrapped_rows(root, m.script, 1));
   const want = [...pl.wrappedRows].sort((a, b) => a - b);
-  if (wrapped.slice().sort((a, b) => a - b).join(' ') !== want.join(' ')) say('wrapped', `definitions ${wrapped}, reference ${want}`);
+  if (wrapped.slice().sort((a, b) => a - b).join(' ') !== want.join(' ')) say('wrapped', `definitions ${wrapped}, model ${want}`);
   if (nodes.length <= 400) {
     const OPT = (c) => (c === P.NONE ? optionNone(m) : optionSome(m, c));
     const tableOf = (cells, t) => ({ rows: antt.fromArray(cells.map((row, i) => [nodes[i].a[0], antt.fromArray(row.map(OPT))])), total: t });
@@ -38,7 +38,7 @@ function compareCosts(m, program, root, random) {
       nodes.forEach((n, i) => contexts.forEach((a, k) => {
         const got = option(m.cell_bound(t, n, a, i + 1));
         const wanted = cellText(P.boundOf(pl.rows[i].node, k, cellsOf));
-        if (got !== wanted) say(got === cellText(otherBound(pl.rows[i].node, k, cellsOf)) ? 'bound: a number counts where only start or In forbids (' + name + ')' : 'bound, ' + name, `row ${i + 1} ${n.a[0].$.name} cell ${k + 1}: definitions ${got}, reference ${wanted}, table ${cells.map((r) => r.map(cellText).join(' ')).join(' / ')}`);
+        if (got !== wanted) say(got === cellText(otherBound(pl.rows[i].node, k, cellsOf)) ? 'bound: a number counts where only start or In forbids (' + name + ')' : 'bound, ' + name, `row ${i + 1} ${n.a[0].$.name} cell ${k + 1}: definitions ${got}, model ${wanted}, table ${cells.map((r) => r.map(cellText).join(' ')).join(' / ')}`);
       }));
       const positions = P.programPositions(program);
       const sum = (strict) => positions.reduce((s, p) => {
@@ -47,7 +47,7 @@ function compareCosts(m, program, root, random) {
         return s + (passed ? 1 + c[0] : Math.min(c[P.cellOf(p)], 1 + c[0]));
       }, 0);
       const got = option(m.total_bound(t, root));
-      if (got !== cellText(sum(false))) say(got === cellText(sum(true)) ? 'bound: a number counts where only start or In forbids (' + name + ')' : 'total bound, ' + name, `total: definitions ${got}, reference ${cellText(sum(false))}, table ${cells.map((r) => r.map(cellText).join(' ')).join(' / ')}`);
+      if (got !== cellText(sum(false))) say(got === cellText(sum(true)) ? 'bound: a number counts where only start or In forbids (' + name + ')' : 'total bound, ' + name, `total: definitions ${got}, model ${cellText(sum(false))}, table ${cells.map((r) => r.map(cellText).join(' ')).join(' / ')}`);
     };
     check(pl.rows.map((r) => r.cells), 'own table');
     if (random !== undefined && nodes.length <= 40) {

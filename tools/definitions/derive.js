@@ -6,8 +6,8 @@
 
 const path = require('path');
 const antt = require('./antt.js');
-const { REFERENCE } = require('./model.js');
-const { GOAL, makeSource, scan } = require(path.join(REFERENCE, 'scan.js'));
+const { PLAIN_MODEL } = require('./model.js');
+const { GOAL, makeSource, scan } = require(path.join(PLAIN_MODEL, 'scan.js'));
 
 class Reading {
   constructor(model, text) {

@@ -3,13 +3,13 @@
 
 const path = require('path');
 const antt = require('./antt.js');
-const { REFERENCE } = require('./model.js');
-const { layout } = require(path.join(REFERENCE, 'print.js'));
+const { PLAIN_MODEL } = require('./model.js');
+const { layout } = require(path.join(PLAIN_MODEL, 'print.js'));
 
 function compareLayout(m, program, root, pl, random) {
   const out = [];
   const differ = (what, got, want) => {
-    if (got !== want) out.push({ what, detail: `definitions ${JSON.stringify(got)}, reference ${JSON.stringify(want)}` });
+    if (got !== want) out.push({ what, detail: `definitions ${JSON.stringify(got)}, model ${JSON.stringify(want)}` });
   };
   const fixed = layout(program, pl.wrapped);
   differ('fixed text', antt.text(m.fixed_text(root)), fixed);

@@ -1,9 +1,9 @@
 'use strict';
-// What the runners look up in the definitions, and the trees between them and the reference.
+// What the runners look up in the definitions, and the trees between them and the plain model.
 
 const path = require('path');
 const antt = require('./antt.js');
-const REFERENCE = path.join(__dirname, '../reference');
+const PLAIN_MODEL = path.join(__dirname, '../model');
 const CRATES = ['source_text', 'tokens', 'tree', 'language', 'name_tables', 'early_errors'].map((c) => path.join(__dirname, '../../crates', c));
 
 // Names of the definitions: ours -> [name, the last part of its module, its crate].
@@ -69,7 +69,7 @@ class Model {
 // ---------------------------------------------------------------- ESTree to plain trees
 
 const noFlags = () => ({ computed: false, optional: false, is_static: false, prefix: false, directive: false, expression: false, form: 'init' });
-// A node of the reference (or of the outside judge) as a plain tree; `n.from` is the ESTree node.
+// A node of the model (or of the outside judge) as a plain tree; `n.from` is the ESTree node.
 function plainTree(e) {
   const make = (parts, word = '', flags = {}) =>
     ({ kind: e.type, text: word, flags: { ...noFlags(), ...flags }, start: e.start ?? 0, stop: e.end ?? 0, parts: parts.map((p) => (p === null || p === undefined ? null : plainTree(p))), from: e });
@@ -126,4 +126,4 @@ function bareText(n) {
 }
 function nodesOf(n, list = []) { list.push(n); for (const p of n.parts) if (p !== null) nodesOf(p, list); return list; }
 
-module.exports = { Model, NAMES, REFERENCE, CRATES, FLAGS, FORM, plainTree, copyTree, bareText, nodesOf, noFlags };
+module.exports = { Model, NAMES, PLAIN_MODEL, CRATES, FLAGS, FORM, plainTree, copyTree, bareText, nodesOf, noFlags };

@@ -1,7 +1,7 @@
 #!/usr/bin/env node
 'use strict';
-// Does compare.js see faults? Plants one fault at a time into a copy of the definitions of scopes and rules, and runs it:
-//   node plant.js [--n N]
+// Does scopes.js see faults? Plants one fault at a time into a copy of the definitions of scopes and rules, and runs it:
+//   node plant_scopes.js [--n N]
 // Exit status 1 where a fault isn't seen, or where its text isn't found any more.
 
 const fs = require('node:fs');
@@ -59,7 +59,7 @@ for (const [what, file, old, other] of faults) {
   const text = fs.readFileSync(target, 'utf8');
   if (!text.includes(old)) { console.log(`not found: ${what}`); bad += 1; continue; }
   fs.writeFileSync(target, text.replace(old, () => other));
-  const run = spawnSync(process.execPath, ['--stack-size=30000', path.join(__dirname, 'compare.js'), '--n', n, '--show', '0', '--crates', folder], { encoding: 'utf8' });
+  const run = spawnSync(process.execPath, ['--stack-size=30000', path.join(__dirname, 'scopes.js'), '--n', n, '--show', '0', '--crates', folder], { encoding: 'utf8' });
   if (run.status !== 1 || !/disagreements/.test(run.stdout)) { console.log(`not seen: ${what}\n${run.stdout}${run.stderr.slice(0, 300)}`); bad += 1; }
   fs.rmSync(folder, { recursive: true });
 }

@@ -4,9 +4,9 @@
 
 const path = require('path');
 const antt = require('./antt.js');
-const { REFERENCE } = require('./model.js');
-const { PUNCTUATORS } = require(path.join(REFERENCE, 'operators.js'));
-const { GOAL, makeSource, scan, stringValue, templateValue, lineColumn } = require(path.join(REFERENCE, 'scan.js'));
+const { PLAIN_MODEL } = require('./model.js');
+const { PUNCTUATORS } = require(path.join(PLAIN_MODEL, 'operators.js'));
+const { GOAL, makeSource, scan, stringValue, templateValue, lineColumn } = require(path.join(PLAIN_MODEL, 'scan.js'));
 
 const points = (text) => [...text].map((c) => c.codePointAt(0));
 const units = (text) => Array.from({ length: text.length }, (_, i) => text.charCodeAt(i));
@@ -64,12 +64,12 @@ function compareReading(m, text, info) {
       const theirs = t.cls === 'fault' ? [] : [`${WORD[t.cls]} ${JSON.stringify(t.text)} ${source.byteAt(t.start)}-${source.byteAt(t.end)} ${t.afterBreak}`];
       info.count('tokens looked for (place and goal)');
       if (theirs.length > 0) info.count(`tokens read: ${WORD[t.cls]}`);
-      if (ours.join('\n') !== theirs.join('\n')) say(`token, goal ${goal}`, `at ${i}: definitions [${ours.join('] [')}], reference [${theirs.join('')}]`);
+      if (ours.join('\n') !== theirs.join('\n')) say(`token, goal ${goal}`, `at ${i}: definitions [${ours.join('] [')}], model [${theirs.join('')}]`);
       if (t.cls === 'string' || t.cls === 'template') out.push(...compareValues(m, t, info));
     }
     const place = lineColumn(text, byteOf[i]);
     const mine = m.line_column(antt.bytes(text), byteOf[i]);
-    if (mine[0] !== place.line || mine[1] !== place.column) say('line and column', `at byte ${byteOf[i]}: definitions ${mine}, reference ${place.line},${place.column}`);
+    if (mine[0] !== place.line || mine[1] !== place.column) say('line and column', `at byte ${byteOf[i]}: definitions ${mine}, model ${place.line},${place.column}`);
   }
   return out;
 }
@@ -79,9 +79,9 @@ function compareValues(m, t, info) {
   info.count('values of strings');
   const want = units(stringValue(t.text)).join(' ');
   const ours = antt.toArray(m.string_units(antt.fromArray(points(t.text)))).join(' ');
-  if (ours !== want) out.push({ what: 'value of a string', detail: `${JSON.stringify(t.text)}: definitions ${ours}, reference ${want}` });
+  if (ours !== want) out.push({ what: 'value of a string', detail: `${JSON.stringify(t.text)}: definitions ${ours}, model ${want}` });
   const bytes = antt.toArray(m.literal_units(antt.bytes(t.text))).join(' ');
-  if (bytes !== want) out.push({ what: 'value of a string in UTF-8', detail: `${JSON.stringify(t.text)}: definitions ${bytes}, reference ${want}` });
+  if (bytes !== want) out.push({ what: 'value of a string in UTF-8', detail: `${JSON.stringify(t.text)}: definitions ${bytes}, model ${want}` });
   return out;
 }
 function compareTemplate(m, characters, info) {
@@ -90,9 +90,9 @@ function compareTemplate(m, characters, info) {
   const { raw, cooked } = templateValue(characters);
   const cs = antt.fromArray(points(characters));
   const ours = antt.toArray(m.raw_value(cs)).join(' ');
-  if (ours !== points(raw).join(' ')) out.push({ what: 'raw value', detail: `${JSON.stringify(characters)}: definitions ${ours}, reference ${points(raw).join(' ')}` });
+  if (ours !== points(raw).join(' ')) out.push({ what: 'raw value', detail: `${JSON.stringify(characters)}: definitions ${ours}, model ${points(raw).join(' ')}` });
   const mine = yes(m.cooked_value(cs)); const want = cooked === null ? null : units(cooked);
-  if (String(mine === null ? 'none' : mine.join(' ')) !== String(want === null ? 'none' : want.join(' '))) out.push({ what: 'cooked value', detail: `${JSON.stringify(characters)}: definitions ${mine}, reference ${want}` });
+  if (String(mine === null ? 'none' : mine.join(' ')) !== String(want === null ? 'none' : want.join(' '))) out.push({ what: 'cooked value', detail: `${JSON.stringify(characters)}: definitions ${mine}, model ${want}` });
   if (m.cooks(antt.bytes(raw)) !== (cooked !== null)) out.push({ what: 'whether a part cooks', detail: JSON.stringify(characters) });
   return out;
 }

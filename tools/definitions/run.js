@@ -1,6 +1,6 @@
 #!/usr/bin/env node
 'use strict';
-// Runs all comparisons of the definitions with the reference:
+// Runs all comparisons of the definitions with the model:
 //   node run.js [--specs FOLDER]... [--n N] [--seed S] [--jobs J] [--only PART,..] [--text TEXT] [--fast] [--first] [--brief]
 // FOLDER: a crate or a folder of crates (default tokens, tree, language, early_errors of ../../crates). N scales
 // the numbers of texts (default 1000). --text checks one text alone, with its mutations. --fast takes fewer mutations,
@@ -37,17 +37,17 @@ function options(argv) {
 
 function work({ o, job }) {
   const antt = require('./antt.js');
-  const { Model, REFERENCE, plainTree, copyTree, bareText, nodesOf } = require('./model.js');
+  const { Model, PLAIN_MODEL, plainTree, copyTree, bareText, nodesOf } = require('./model.js');
   const { Derive, Reading, TooMuch } = require('./derive.js');
   const { compareCosts, compareLeast } = require('./costs.js');
   const { compareLayout } = require('./layout.js');
   const { compareEarly } = require('./early.js');
   const T = require('./texts.js');
-  const { parseOnly } = require(path.join(REFERENCE, 'parse.js'));
-  const brute = require(path.join(REFERENCE, 'brute.js'));
-  const trees = require(path.join(REFERENCE, 'trees.js'));
-  const print = require(path.join(REFERENCE, 'print.js'));
-  const planner = require(path.join(REFERENCE, 'plan.js'));
+  const { parseOnly } = require(path.join(PLAIN_MODEL, 'parse.js'));
+  const brute = require(path.join(PLAIN_MODEL, 'brute.js'));
+  const trees = require(path.join(PLAIN_MODEL, 'trees.js'));
+  const print = require(path.join(PLAIN_MODEL, 'print.js'));
+  const planner = require(path.join(PLAIN_MODEL, 'plan.js'));
 
   const model = new Model(o.specs);
   const derive = new Derive(model);
@@ -83,7 +83,7 @@ function work({ o, job }) {
       seen.add(b);
       count('trees of parsers with a check left out');
       const d = tryDerive(text, tree, { places: false });
-      if (d !== null && d.length > 0) say(own === null ? 'refused text derives' : 'another tree is derived, check left out', `check "${p.name}", tree ${b}${own === null ? '' : `, reference ${own}`}`);
+      if (d !== null && d.length > 0) say(own === null ? 'refused text derives' : 'another tree is derived, check left out', `check "${p.name}", tree ${b}${own === null ? '' : `, model ${own}`}`);
     }
   }
   const keyed = (r) => r.pairs.map((p) => `${p.left}-${p.right}`).join(' ');
@@ -108,7 +108,7 @@ function work({ o, job }) {
     return cut || out.length >= 8 ? null : out;
   };
 
-  // Everything of one text alone: [{what, detail}]; info.tree where the reference accepts
+  // Everything of one text alone: [{what, detail}]; info.tree where the model accepts
   function check(text, seed, info = {}) {
     const out = [];
     const say = (what, detail) => out.push({ what, detail });
@@ -135,11 +135,11 @@ function work({ o, job }) {
       const name = places ? '' : ' (places aside)';
       if (d.length === 0) say('accepted text has no derivation' + name, `tree ${bareText(plain)}`);
       else if (d.length > 1) say('several lists of pairs' + name, d.map((x) => `[${x.key}]`).join(' '));
-      else if (d[0].key !== want) say('other pairs' + name, `definitions [${d[0].key}], reference [${want}]`);
-      else if (d[0].open !== r.openParens) say('other number of open parentheses' + name, `definitions ${d[0].open}, reference ${r.openParens}`);
+      else if (d[0].key !== want) say('other pairs' + name, `definitions [${d[0].key}], model [${want}]`);
+      else if (d[0].open !== r.openParens) say('other number of open parentheses' + name, `definitions ${d[0].open}, model ${r.openParens}`);
     }
     for (const n of info.nodes) if (!model.is_lean(n.spec)) say('text or flags that the kind has no use for', `${n.kind} ${n.start}-${n.stop}`);
-    if (model.height(root) !== r.height) say('height', `definitions ${model.height(root)}, reference ${r.height}`);
+    if (model.height(root) !== r.height) say('height', `definitions ${model.height(root)}, model ${r.height}`);
     if (info.nodes.length <= 6000) {
       count('trees for costs, layout, early errors');
       const c = compareCosts(model, r.tree, root, random);
@@ -173,7 +173,7 @@ function work({ o, job }) {
             if (rest.t === null) keys.add(antt.toArray(P).map((p) => `${p.left}-${p.right}`).join(' '));
           }
         }
-        if (keys.size !== 1 || !keys.has(want)) say('the search of the definitions', `found ${[...keys].map((k) => `[${k}]`).join(' ')}, reference [${want}]`);
+        if (keys.size !== 1 || !keys.has(want)) say('the search of the definitions', `found ${[...keys].map((k) => `[${k}]`).join(' ')}, model [${want}]`);
       }
     }
     return out;
@@ -199,7 +199,7 @@ function work({ o, job }) {
       model.tree(t);
       count('mutated trees');
       const d = tryDerive(text, t, { places: false });
-      if (d !== null && d.length > 0) report('another tree is derived', text, `reference ${own}\n   derived ${b}`);
+      if (d !== null && d.length > 0) report('another tree is derived', text, `model ${own}\n   derived ${b}`);
       spelled(t, b, random);
     }
     for (let k = 0; k < Math.ceil(trees / 4); k++) {             // places changed
@@ -227,7 +227,7 @@ function work({ o, job }) {
     const d = tryDerive(changed, tree, { places: false });
     if (d === null) return;
     const same = sub.tree !== undefined && bareText(sub.tree) === own;
-    if ((d.length > 0) !== same) report(d.length > 0 ? 'the old tree is derived from a changed text' : 'the old tree is not derived from a changed text', changed, `tree ${own}, reference ${sub.tree ? bareText(sub.tree) : 'refuses'}`);
+    if ((d.length > 0) !== same) report(d.length > 0 ? 'the old tree is derived from a changed text' : 'the old tree is not derived from a changed text', changed, `tree ${own}, model ${sub.tree ? bareText(sub.tree) : 'refuses'}`);
   }
   // Texts that the definitions spell a tree with, whatever the tree is.
   function spelled(tree, own, random) {
@@ -239,9 +239,9 @@ function work({ o, job }) {
     if (d === null) return;
     const theirs = r.ok ? bareText(plainTree(r.tree)) : 'refuses';
     if (d.length > 0) count('of these derived');
-    if ((d.length > 0) !== (theirs === own)) report(d.length > 0 ? 'a spelled text is read otherwise' : 'a text of this tree is not derived', text, `tree ${own}\n   reference ${theirs}`);
+    if ((d.length > 0) !== (theirs === own)) report(d.length > 0 ? 'a spelled text is read otherwise' : 'a text of this tree is not derived', text, `tree ${own}\n   model ${theirs}`);
     else if (d.length > 1) report('several lists of pairs (places aside)', text, d.map((x) => `[${x.key}]`).join(' '));
-    else if (d.length === 1 && d[0].key !== keyed(r)) report('other pairs (places aside)', text, `definitions [${d[0].key}], reference [${keyed(r)}]`);
+    else if (d.length === 1 && d[0].key !== keyed(r)) report('other pairs (places aside)', text, `definitions [${d[0].key}], model [${keyed(r)}]`);
   }
 
   const { ALPHABETS, PIECES, oddWords } = T.lists();

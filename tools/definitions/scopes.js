@@ -1,24 +1,24 @@
 'use strict';
 // Holds the definitions of scopes, bindings, references and reports (crates scopes and rules) against the plain model
-// (reference/scopes.js, rules.js), by the interpreter of ../definitions. Reports are left out where the crate rules isn't there.
+// (../model/scopes.js, rules.js), by antt.js. Reports are left out where the crate rules isn't there.
 //
-//   node compare.js [--n COUNT] [--seed S] [--show K] [--file TEXTS] [--crates FOLDER]
+//   node scopes.js [--n COUNT] [--seed S] [--show K] [--file TEXTS] [--crates FOLDER]
 //
 // TEXTS: JSON, a list of texts. Exit status 1 where anything disagrees.
 
 const fs = require('node:fs');
 const path = require('node:path');
-const antt = require('../definitions/antt.js');
-const { CRATES, Model, plainTree } = require('../definitions/model.js');
-const { ODD, rowTexts, programs } = require('../definitions/texts.js');
-const { withAdditions } = require('../dump.js');
-const { makeScript } = require('../early/compare.js');
-const { parseOnly } = require('../reference/parse.js');
-const { randomSource } = require('../reference/random.js');
-const { resolve } = require('../reference/scopes.js');
-const { RULE_NAMES, runRules } = require('../reference/rules.js');
-const { runInBigStack } = require('../reference/bigstack.js');
-const { scopeScript, OWN } = require('./texts.js');
+const antt = require('./antt.js');
+const { CRATES, Model, plainTree } = require('./model.js');
+const { ODD, rowTexts, programs } = require('./texts.js');
+const { withAdditions } = require('../compare/shared.js');
+const { makeScript } = require('../compare/early.js');
+const { parseOnly } = require('../model/parse.js');
+const { randomSource } = require('../model/random.js');
+const { resolve } = require('../model/scopes.js');
+const { RULE_NAMES, runRules } = require('../model/rules.js');
+const { runInBigStack } = require('../model/bigstack.js');
+const { scopeScript, OWN } = require('../rows/scope_texts.js');
 
 const option = (name, otherwise) => { const i = process.argv.indexOf('--' + name); return i < 0 ? otherwise : process.argv[i + 1]; };
 

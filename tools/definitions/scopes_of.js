@@ -1,12 +1,12 @@
 'use strict';
 // What the plain model says of texts, as antt source for examples, in the words of crates/scopes/proofs/Trees.antt:
-//   node example.js NAME TEXT [NAME TEXT]..
+//   node scopes_of.js NAME TEXT [NAME TEXT]..
 // The output is checked by the proofs of the examples, so nothing rests on this.
 
-const { plainTree } = require('../definitions/model.js');
-const { bare, quoted, term } = require('../definitions/tree_of.js');
-const { parseOnly } = require('../reference/parse.js');
-const { resolve } = require('../reference/scopes.js');
+const { plainTree } = require('./model.js');
+const { bare, quoted, term } = require('./tree_of.js');
+const { parseOnly } = require('../model/parse.js');
+const { resolve } = require('../model/scopes.js');
 
 const KINDS = { var: 'Var', let: 'Let', const: 'Const', function: 'Function', class: 'Class', param: 'Param', catch: 'Catch', self: 'OwnName' };
 const list = (items) => items.map((x) => x + ' ∷ ').join('') + '[]';

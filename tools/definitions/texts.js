@@ -3,9 +3,9 @@
 
 const path = require('path');
 const zlib = require('zlib');
-const { randomSource } = require('../reference/random.js');
-const { REFERENCE, FLAGS, FORM, copyTree, nodesOf, noFlags } = require('./model.js');
-const { OPERATORS } = require(path.join(REFERENCE, 'operators.js'));
+const { randomSource } = require('../model/random.js');
+const { PLAIN_MODEL, FLAGS, FORM, copyTree, nodesOf, noFlags } = require('./model.js');
+const { OPERATORS } = require(path.join(PLAIN_MODEL, 'operators.js'));
 
 // ---------------------------------------------------------------- corpora
 
@@ -54,8 +54,8 @@ for (const w of ('break case catch class const continue debugger default delete 
   'true try typeof var void while with yield let static implements interface package private protected public async await of get set eval arguments undefined target constructor').split(' ')) {
   ODD.push(`a = ${w}`, `var ${w}`, `${w}: a`, `({${w}})`, `({${w}: a.${w}})`, `({${w}} = a)`, `function ${w}(${w}) {}`, `class A { ${w}() {} static ${w}() {} }`, `${w} => a`, `for (;;) { break ${w} }`);
 }
-const lists = () => require(path.join(REFERENCE, 'alphabets.js'));
-const programs = () => require(path.join(REFERENCE, 'fuzz-programs.js')).PROGRAMS;
+const lists = () => require(path.join(PLAIN_MODEL, 'alphabets.js'));
+const programs = () => require(path.join(PLAIN_MODEL, 'fuzz-programs.js')).PROGRAMS;
 const pieces = (text) => text.match(/\s+|[$\w]+|'[^'\n]*'|"[^"\n]*"|=>|\*\*|\+\+|--|\?\.|\?\?|\|\||&&|[=!]==?|<<=?|>>>?=?|\.\.\.|\$\{|[^]/gu) ?? [];
 // A mutation of a text in pieces.
 function mutateText(list, random, extras) {

@@ -1,14 +1,14 @@
 #!/usr/bin/env node
 'use strict';
-// What the reference makes of a text, as antt source for an example, in the words of language/proofs/Trees.antt and Sources.antt:
+// What the model makes of a text, as antt source for an example, in the words of language/proofs/examples/Trees.antt and Sources.antt:
 //   node tree_of.js TEXT              the tree, with the tokens and the grouping pairs; `\n` in TEXT is a line feed
 //   node tree_of.js --relaxed TEXT    the trees that parsers with one check left out make of a text that is refused
 // The output is checked by the proof of the example, so nothing rests on this.
 
 const path = require('path');
-const { REFERENCE, plainTree } = require('./model.js');
-const { parseOnly } = require(path.join(REFERENCE, 'parse.js'));
-const { GOAL, scan } = require(path.join(REFERENCE, 'scan.js'));
+const { PLAIN_MODEL, plainTree } = require('./model.js');
+const { parseOnly } = require(path.join(PLAIN_MODEL, 'parse.js'));
+const { GOAL, scan } = require(path.join(PLAIN_MODEL, 'scan.js'));
 
 const quoted = (s) => '"' + s.replace(/\\/g, '\\\\').replace(/"/g, '\\"').replace(/\n/g, '\\n') + '"';
 const KIND = { string: 'StringLiteral', name: 'IdentifierName', punctuator: 'Punctuator', number: 'NumericLiteral', template: 'Template', regexp: 'RegularExpressionLiteral', end: 'End' };
@@ -74,6 +74,6 @@ if (require.main === module) {
   const tokens = tokensOf(text, regexps) ?? tokensOf(text, true);
   if (tokens === null) console.log('no tokens');
   else for (const t of tokens) console.log(`  ${t.cls} ${quoted(t.text)} ${t.start} ${t.stop}${t.afterBreak ? ' after a break' : ''}`);
-  show('the reference', readTree(text));
+  show('the model', readTree(text));
   if (all) for (const r of require('./relaxed.js').relaxed()) show(r.name, readTree(text, r.parseOnly));
 }

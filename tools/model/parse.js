@@ -1,5 +1,5 @@
 'use strict';
-// The parser of the reference model: the whole grammar by recursive descent,
+// The parser of the plain model: the whole grammar by recursive descent,
 // with covers for arrow parameters and assignment patterns.
 //
 //   parse(textOrBuffer, options)      the whole front end (`read_script`): refusals 2, 1, 3, 4, 5

@@ -2,12 +2,12 @@
 // Writes the rows of texts at the limits: `limits`, where each construct stands in itself up to the greatest height, and `mixes`, where
 // a construct, or two in turn, go to the greatest height with the most open parentheses. The answers are those of the plain model.
 //
-//   node rows.js limits|mixes > ../../crates/cases/data/limits|mixes
+//   node limits.js limits|mixes > ../../crates/cases/data/limits|mixes
 
-const { HOLDERS } = require('../parser/compare.js');
-const { runInBigStack } = require('../reference/bigstack.js');
-const { LIMITS, parse, parseOnly } = require('../reference/parse.js');
-const { unwrap } = require('../reference/unwrap.js');
+const { HOLDERS } = require('../compare/parser.js');
+const { runInBigStack } = require('../model/bigstack.js');
+const { LIMITS, parse, parseOnly } = require('../model/parse.js');
+const { unwrap } = require('../model/unwrap.js');
 
 // What holds an expression as an expression, or a statement as a statement: its text, with `@` for what it holds. The links are those
 // that the parser's comparison has no holder of.
@@ -114,13 +114,13 @@ const both = (one, other) => `(${one.replace('@', `(${other})`)})`;
 const FILES = {
   limits: () => [
     '# Each construct in itself, up to the greatest height, and once more; and that it is unwrapped to itself, where it is. Made by',
-    '# tools/limits/rows.js.',
+    '# tools/rows/limits.js.',
     ...AS_EXPRESSIONS.flatMap((it) => limitRows(it, 'a')),
     ...AS_STATEMENTS.flatMap((it) => limitRows(it, ';')),
   ],
   mixes: () => [
     '# Each construct, and two in turn, up to the greatest height and with the most open parentheses; then with one level or one',
-    '# parenthesis more; and what it is unwrapped to, where no other pair goes. Made by tools/limits/rows.js.',
+    '# parenthesis more; and what it is unwrapped to, where no other pair goes. Made by tools/rows/limits.js.',
     ...MIXED.flatMap((it) => mixedRows(it)),
     ...MIXED.flatMap((it, i) => mixedRows(both(it, MIXED[(i + 31) % MIXED.length]))),
   ],

@@ -2,8 +2,8 @@
 // Strews a script: puts pairs of parentheses round expressions, and blanks, line ends and comments between tokens, and takes out a `;`
 // here and there. The result may be no script.
 
-const { parse, children } = require('../reference/parse.js');
-const { tokensOf } = require('../reference/unwrap.js');
+const { parse, children } = require('../model/parse.js');
+const { tokensOf } = require('../model/unwrap.js');
 
 const EXPRESSIONS = new Set(('SequenceExpression AssignmentExpression ArrowFunctionExpression ConditionalExpression LogicalExpression ' +
   'BinaryExpression UnaryExpression UpdateExpression ChainExpression CallExpression ImportExpression MemberExpression ' +

@@ -1,20 +1,20 @@
 'use strict';
-// Writes the rows of the worked texts (texts.js) that are made by rule. The answers are those of the plain model.
+// Writes the rows of the worked texts (worked_texts.js) that are made by rule. The answers are those of the plain model.
 //
-//   node rows.js beginnings|flat|failures|worked|resolved|calls|gauged > ../../crates/cases/data/NAME
+//   node worked.js beginnings|flat|failures|worked|resolved|calls|gauged > ../../crates/cases/data/NAME
 
 const fs = require('node:fs');
 const path = require('node:path');
-const { EXPRESSIONS, NEAR_LIMITS, SECOND, TABLE, TEXTS } = require('./texts.js');
-const { runInBigStack } = require('../reference/bigstack.js');
-const { treeJson } = require('../reference/json.js');
-const { LIMITS, parse, parseOnly } = require('../reference/parse.js');
-const { extraPairs, plan, writeTable } = require('../reference/plan.js');
-const { layout } = require('../reference/print.js');
-const { RULE_NAMES, fromToml, runRules } = require('../reference/rules.js');
-const { resolve } = require('../reference/scopes.js');
-const { unwrapped } = require('../reference/unwrap.js');
-const { linesColumns } = require('../scripts/compare.js');
+const { EXPRESSIONS, NEAR_LIMITS, SECOND, TABLE, TEXTS } = require('./worked_texts.js');
+const { runInBigStack } = require('../model/bigstack.js');
+const { treeJson } = require('../model/json.js');
+const { LIMITS, parse, parseOnly } = require('../model/parse.js');
+const { extraPairs, plan, writeTable } = require('../model/plan.js');
+const { layout } = require('../model/print.js');
+const { RULE_NAMES, fromToml, runRules } = require('../model/rules.js');
+const { resolve } = require('../model/scopes.js');
+const { unwrapped } = require('../model/unwrap.js');
+const { linesColumns } = require('../compare/scripts.js');
 
 // A text as it stands in a row, and the text that a row means.
 const written = (text) => text.replace(/[\x00-\x1f]/g, (it) => String.fromCharCode(0x2400 + it.charCodeAt(0)));
@@ -77,7 +77,7 @@ function beginnings() {
   const texts = [...new Set([...TEXTS.filter((it) => !NEAR_LIMITS.includes(it)), ...fixed, ...TEXTS.filter((it) => it.length < 200).map((it) => it + '\n')])];
   return [
     '# Texts, and what `fix` answers for each of their beginnings, from the empty one to the whole text, byte by byte, each asked twice: `;` where',
-    '# it is fixed, `x` a syntax error or nested too deep (a cut text may be both), `e` an early error, `u` not UTF-8. Made by tools/worked/rows.js.',
+    '# it is fixed, `x` a syntax error or nested too deep (a cut text may be both), `e` an early error, `u` not UTF-8. Made by tools/rows/worked.js.',
     ...texts.map((it) => row('begins', it) + '\t' + short(marks(it))),
   ];
 }
@@ -97,7 +97,7 @@ function flat() {
     if (!parseOnly(block.repeat(2), LIMITS).ok || parseOnly(block.repeat(2) + ')', LIMITS).fault?.kind !== 'Syntax') throw new Error(`no flat text: ${it}`);
     return `pairs\t⟦${written(block)}×${COUNT}⟧)\tsyntax`;
   });
-  return [`# Long flat texts with one fault at the end: each worked script in a block, ${COUNT} times, and then a parenthesis. Made by tools/worked/rows.js.`, ...rows];
+  return [`# Long flat texts with one fault at the end: each worked script in a block, ${COUNT} times, and then a parenthesis. Made by tools/rows/worked.js.`, ...rows];
 }
 
 // ---------------------------------------------------------------- devices that fail
@@ -134,7 +134,7 @@ function failuresOf(given) {
 
 const failures = () => [
   '# Runs whose readers or writer pass a byte a call and fail at each call in turn, and behind the last; a writer that takes nothing. Made by',
-  '# tools/worked/rows.js.',
+  '# tools/rows/worked.js.',
   ...RUNS.flatMap(failuresOf),
 ];
 
@@ -163,7 +163,7 @@ function workedOf(text) {
 const worked = () => [
   '# Each worked script with what the commands answer: `fix` and `unwrap`, and `tree` by single bytes; the exit status of `check`, `cost` and `verify`,',
   '# which takes the table that `cost` wrote, and what they write. Then the text of the JSON value of each, and that the copy of a script is equal to it.',
-  '# Made by tools/worked/rows.js.',
+  '# Made by tools/rows/worked.js.',
   ...ACCEPTED.flatMap(workedOf),
   ...ACCEPTED.map((it) => [it, treeJson(parse(it, LIMITS).tree)]).filter(([, json]) => isShort(json)).map(([it, json]) => row('value text', it, json)),
   ...EXPRESSIONS.filter((it) => parseOnly(it, LIMITS).ok).map((it) => `equal copy\t${written(it)}\t(true, true)true`),
@@ -196,7 +196,7 @@ function resolved() {
   const texts = [...new Set([...ACCEPTED, ...others])].filter((it) => isShort(it));
   return [
     '# Scripts with their scopes, each with the number of the one round it and what it declares, and behind `;` their references, each with the',
-    '# binding that it means, as the scope and the place in it. Made by tools/worked/rows.js.',
+    '# binding that it means, as the scope and the place in it. Made by tools/rows/worked.js.',
     ...texts.map((it) => row('scopes', it, resolvedText(resolve(parse(it, LIMITS).tree)))),
   ];
 }
@@ -257,7 +257,7 @@ const calls = () => [
   '# Settings: whether `no-var` and `eqeqeq` are on, whether `a` is a global name, and both options. Tables that are read: how many rows and the total.',
   '# What the rules report of a script under settings, from where to where, and that each keeps a report that stands in front. A rule that is',
   '# refused memory, behind `no-debugger`: that it was, alone and in a list, and the reports that stand in front. Another rule that finds what',
-  '# `no-var` does, alone and behind it. Made by tools/worked/rows.js.',
+  '# `no-var` does, alone and behind it. Made by tools/rows/worked.js.',
   ...SETTINGS.map(settingsRow),
   ...['', 'a + (b);', '({}).a;', 'for (x = (a in b) && (c in d);;);'].flatMap(tableRows),
   ...[...new Set([...ACCEPTED, 'debugger; if (a == b) {} let c; { let c = (d); var e; }'])].filter(isShort).map(rulesRow),
@@ -282,7 +282,7 @@ function gaugedRows(given) {
 
 const gauged = () => [
   '# How many bytes a run writes, the layout of a tree with no node wrapped, and a table, and that no piece has more than 4,096. Made by',
-  '# tools/worked/rows.js.',
+  '# tools/rows/worked.js.',
   ...GAUGED.flatMap((it) => accepted(meant(it)) ? gaugedRows(it) : []),
 ];
 

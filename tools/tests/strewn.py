@@ -1,4 +1,4 @@
-"""What `unwrap` writes of strewn texts, judged by tools/unwrap/judge.js: the same tree, the fewest pairs, each token and each comment in its place, the
+"""What `unwrap` writes of strewn texts, judged by tools/compare/unwrap_judge.js: the same tree, the fewest pairs, each token and each comment in its place, the
 same bytes when it is unwrapped again, and a script for V8 where the text was one. And that the judge sees the faults of programs that are wrong.
 
 Each test is a function that raises where something is wrong, and Skipped where it can't be tried. Its argument is a room: a folder of its own.
@@ -14,7 +14,7 @@ from recipes import is_well
 TOP = os.path.dirname(os.path.dirname(os.path.dirname(os.path.realpath(__file__))))
 # How many texts are judged, and how many of each program that is wrong.
 TEXTS, FEW = 500, 60
-# Programs that are wrong: what each makes of the right answer, and the number of a fault that is to be seen then (tools/unwrap/check.js).
+# Programs that are wrong: what each makes of the right answer, and the number of a fault that is to be seen then (tools/compare/unwrap_check.js).
 WRONG = {
     'answers the text always': ('cat "$2"', 3),
     'leaves a pair': (r's/= *\([a-z]\)\( *[];,)}]\)/= (\1)\2/', 3),
@@ -28,7 +28,7 @@ WRONG = {
 
 def judged(room, program, count):
     """The status of the judge, and what it prints."""
-    words = [node(20), f'{TOP}/tools/unwrap/judge.js', '--n', str(count), '--show', str(count)]
+    words = [node(20), f'{TOP}/tools/compare/unwrap_judge.js', '--n', str(count), '--show', str(count)]
     env = {**os.environ, 'JSLINT': program, 'TMPDIR': room.folder}
     ran = subprocess.run(words, cwd=room.folder, env=env, stdout=subprocess.PIPE, stderr=subprocess.PIPE, text=True)
     is_well(not ran.stderr, ran.stderr[-2000:])

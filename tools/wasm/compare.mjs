@@ -2,8 +2,8 @@
 //
 //   node compare.mjs --program JSLINT --package FOLDER [--n COUNT] [--seed S] [FILE|FOLDER ..]
 //
-// FOLDER is packages/npm with its module. Of folders it takes the files *.js. Without files: those of Debian's packages (../scripts/compare.js), or with
-// --n generated texts: COUNT of each kind of ../program/compare.js, and the strewn scripts of ../unwrap/compare.js. `check` runs with settings too,
+// FOLDER is packages/npm with its module. Of folders it takes the files *.js. Without files: those of Debian's packages (../compare/scripts.js), or with
+// --n generated texts: COUNT of each kind of ../compare/program.js, and the strewn scripts of ../compare/unwrap.js. `check` runs with settings too,
 // `verify` on the table of `cost`, and on that table with another total. Prints a line for each difference, and then how many answers were compared;
 // status 1 where any differs.
 import { spawnSync } from 'node:child_process';
@@ -32,7 +32,7 @@ function* scripts(path) {
 
 /** Generated texts. */
 function generated(count, seed) {
-  return [require('../program/compare.js'), require('../unwrap/compare.js')].flatMap((it) => it.someTexts(count, seed));
+  return [require('../compare/program.js'), require('../compare/unwrap.js')].flatMap((it) => it.someTexts(count, seed));
 }
 
 /** What the program answers. */
@@ -76,7 +76,7 @@ function compareText(room, text) {
 const room = mkdtempSync(join(tmpdir(), 'jslint-compare-'));
 const texts = Number(values.n) > 0 ? generated(Number(values.n), Number(values.seed)) : [];
 for (const text of texts) compareText(room, text);
-const paths = positionals.length + texts.length > 0 ? positionals : require('../scripts/compare.js').packaged();
+const paths = positionals.length + texts.length > 0 ? positionals : require('../compare/scripts.js').packaged();
 for (const path of paths) for (const file of scripts(path)) compareAll(room, file);
 rmSync(room, { recursive: true });
 console.log(`${counts.scripts} scripts, ${counts.answers} answers compared, ${counts.refusals} of them refusals, ${counts.differences} differences`);
