@@ -62,7 +62,7 @@
 //!
 //! # Checking
 //!
-//! - One function of the cycle alone: `tools/parser/stub.py CRATE COPY FUNCTION` writes a copy of the crate in
+//! - One function of the cycle alone: `tools/measure/stub.py CRATE COPY FUNCTION` writes a copy of the crate in
 //!   which each other function of the cycle only refuses, so that its contract is taken as it is. Then, in COPY,
 //!   `rt check --only parser::Parser::FUNCTION --allow-holes`: 10 to 60 s over the kept work of the crates below.
 //!   The whole cycle takes six minutes on four processors over kept work, a third of them the cycle itself in one
@@ -75,7 +75,7 @@
 //!   a lemma.
 //! - A lemma that ends in `.. (Err fault)`, or whose premise `Agrees ..` computes away, leaves implicit arguments
 //!   undetermined: make them explicit.
-//! - The comparison with the plain model: `tools/parser/compare.js` (`--n`, `--seed`, `--high`, `--open`,
+//! - The comparison with the plain model: `tools/compare/parser.js` (`--n`, `--seed`, `--high`, `--open`,
 //!   `--nested`). The stack of `rt try` is too small for the rows at height 600: run them by `rt test`.
 
 mod expressions;
