@@ -77,4 +77,6 @@ def main(folder):
     report(seen)
 
 
+if len(sys.argv) != 2:
+    sys.exit(__doc__.strip())
 main(os.path.realpath(sys.argv[1]))

@@ -895,7 +895,7 @@ class Parser {
     return this.node('ExpressionStatement', start, { expression });
   }
 
-  // The right edge of part 4: 'arrow', 'postfix', 'expression' or (for no expression) 'none'.
+  // The right edge of an expression: 'arrow', 'postfix', 'expression' or (for no expression) 'none'.
   rightEdge(node) {
     let n = node;
     while (!this.grouped.has(n)) {
@@ -920,7 +920,7 @@ class Parser {
     return 'expression';
   }
 
-  // Whether an ending with this right edge goes on with the token (the table of part 4).
+  // Whether an ending with this right edge goes on with the token (`Continuations` of the definitions).
   goesOn(edge, token) {
     const opens = this.is(token, '(') || this.is(token, '[') || token.cls === 'template';
     const sign = this.is(token, '+') || this.is(token, '-') || token.text[0] === '/';
