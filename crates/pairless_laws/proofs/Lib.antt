@@ -1,0 +1,3 @@
+pub mod PairPlaces
+pub mod WidestWays
+pub mod PairlessNodes

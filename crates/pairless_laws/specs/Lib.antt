@@ -1,0 +1,2 @@
+pub mod Pairless
+pub mod Laws
