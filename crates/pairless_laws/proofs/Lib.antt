@@ -1,3 +1,5 @@
 pub mod PairPlaces
 pub mod WidestWays
 pub mod PairlessNodes
+pub mod FreeParts
+mod PairlessExamples

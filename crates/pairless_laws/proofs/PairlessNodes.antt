@@ -1,5 +1,5 @@
 -- In a derivation each node in whose span no grouping pair opens costs no pair at its widest position.
-use Rattle.std.proofs.Common.{◌≡◌, ℕ, Bool, true, List, [], ◌∷◌, ◌++◌, length, refl, ap, subst, arith}
+use Rattle.std.proofs.Common.{◌≡◌, ℕ, Bool, true, List, [], ◌∷◌, ◌++◌, length, ap, subst, arith}
 use Rattle.std.specs.Prelude.{Option, Some}
 use Rattle.tokens.specs.Reading.{any_goal}
 use Rattle.language.specs.declared.Rank.{Rank}

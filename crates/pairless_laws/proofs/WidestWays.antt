@@ -4,8 +4,6 @@ use Rattle.std.specs.Prelude.{IsTrue, map}
 use Rattle.std.proofs.lemmas.Bool.{false≢true}
 use Rattle.tree.specs.Tree.{Tree, node, parts_of, bare}
 use Rattle.tree.specs.Uses.{implies, is_lean}
-use Rattle.language.specs.declared.Rank.{Rank}
-use Rattle.language.specs.declared.Rank.TheVariants.{Expression}
 use Rattle.language.specs.declared.Start.{Start}
 use Rattle.language.specs.declared.Start.TheVariants.{Any}
 use Rattle.language.specs.Vocabulary.{precedence}
@@ -13,7 +11,7 @@ use Rattle.language.specs.Pieces.{Role, expr, chain_part, pattern, PieceOf, Spel
 use Rattle.language.specs.Grammar.{ways, ways_bare, spellings}
 use Rattle.language.specs.Derivation.{Among}
 use Rattle.language.specs.RowPositions.{roles, first_roles, widest}
-use Rattle.language.specs.Cost.{AtMost, least, parts_least, if_any, cell_position}
+use Rattle.language.specs.Cost.{AtMost, least, parts_least, if_any}
 use Rattle.language.proofs.table.Ranks.{looser_all}
 use Rattle.language.proofs.table.LooserPositions.{Looser, same, looser, looser_spine, looser_pattern, AllLooser, least-direct}
 use Rattle.language.proofs.table.TidyTable.{tidy_table}

@@ -1,11 +1,18 @@
 -- What is proved of nodes without pairs.
-use Rattle.std.specs.Prelude.{ℕ, List}
+use Rattle.std.specs.Prelude.{◌≡◌, ℕ, List, Some}
 use Rattle.tree.specs.declared.kind.Pair.{Pair}
-use Rattle.tree.specs.Tree.{Tree}
-use Rattle.language.specs.Pieces.{script}
+use Rattle.tree.specs.Tree.{Tree, parts_of}
+use Rattle.language.specs.Pieces.{Role, script}
+use Rattle.language.specs.Grammar.{ways}
+use Rattle.language.specs.RowPositions.{first_roles}
+use Rattle.language.specs.Cost.{least, parts_least, cell_position}
 use Rattle.language.specs.Claims.{Derives}
 use Rattle.pairless_laws.specs.Pairless.{PairlessAreFree}
 
 -- in a script that some text derives, each node in whose span no pair opens costs no pair
 abbrev pub PairlessCostNothing : Type 0
 PairlessCostNothing = (text : List ℕ) (n : Tree) (P : List Pair) → Derives text n P → PairlessAreFree P n script
+
+-- what costs no pair has parts that cost none, each at its own position
+abbrev pub FreePartsAreFree : Type 0
+FreePartsAreFree = (n : Tree) (a : Role) → least n a ≡ Some 0 → parts_least (parts_of n) (first_roles (ways (cell_position a) n)) ≡ Some 0

@@ -1,9 +1,14 @@
-//! What is proved of nodes without pairs: the contract is a theorem, and the body does nothing.
+//! What is proved of nodes without pairs: each contract is a theorem, and the body does nothing.
 
-ghost use Rattle.pairless_laws.specs.Laws.{PairlessCostNothing};
+ghost use Rattle.pairless_laws.specs.Laws.{FreePartsAreFree, PairlessCostNothing};
 
-/// In a script that some text derives, each node in whose span no grouping pair opens costs no pair: an expression in a pair, any other
-/// node at its own position.
+/// In a script that some text derives, each node in whose span no grouping pair opens costs no pair at its widest position. That is a
+/// statement's own; a pair round an expression opens before it, so the expression costs nothing in a pair.
 pub fn pairless_cost_nothing()
     ensures { PairlessCostNothing }
+{}
+
+/// A node that costs no pair at a position has parts that cost none, each at its own.
+pub fn free_parts_are_free()
+    ensures { FreePartsAreFree }
 {}
