@@ -13,7 +13,7 @@ use spellings::pair_rows;
 use std::alloc::{AllocError, Global};
 use tree::Program;
 
-/// A rule that is none of the nine: it reports every script, at its beginning.
+/// A rule of this program's own: it reports every script, at its beginning.
 #[derive(Drop)]
 pub(crate) struct AnyScript {
     alloc: Global,
@@ -237,7 +237,7 @@ fn push_kept(
     out.push_str("kept")
 }
 
-/// What the nine rules find, and that each keeps what stands in front.
+/// What the rules find, and that each keeps what stands in front.
 fn push_of_nine(alloc: Global, view: &View, out: &mut String) -> Result<(), AllocError> {
     let rules: [Box<dyn Rule>; RULE_COUNT] = of_each_rule!(boxed_rule, alloc);
     push_kept(alloc, &rules, view, out)?;

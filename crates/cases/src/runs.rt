@@ -29,7 +29,7 @@ pub(crate) fn command(word: &str) -> Command {
     }
 }
 
-/// A run: its command, what stands in both files, the plans of their readers, and whether a rule stands behind the nine.
+/// A run: its command, what stands in both files, the plans of their readers, and whether a rule stands behind the others.
 #[derive(Clone, Copy)]
 struct Run<'a> {
     command: Command,
@@ -78,9 +78,9 @@ fn answered<W: Sink>(
     requires { W.failed writer.old ≡ false }
     ensures { IfOk result (λ answered. IfErr answered (λ refused. refused.fault ≢ Usage)) }
 {
-    let nine: [Box<dyn Rule>; RULE_COUNT] = of_each_rule!(boxed_rule, alloc);
+    let boxes: [Box<dyn Rule>; RULE_COUNT] = of_each_rule!(boxed_rule, alloc);
     let mut rules: Vec<Box<dyn Rule>> = Vec::new(alloc);
-    for rule in nine {
+    for rule in boxes {
         rules.push(rule)?;
     }
     if given.has_tenth {
@@ -188,7 +188,7 @@ pub(crate) fn push_command(alloc: Global, row: &Case, out: &mut String) -> Resul
     push_both(alloc, Run::new(command(row.text(0)), file, second, ""), out)
 }
 
-/// What `check` answers where a rule of this program's own stands behind the nine.
+/// What `check` answers where a rule of this program's own stands behind the others.
 pub(crate) fn push_with_tenth(
     alloc: Global,
     row: &Case,

@@ -9,7 +9,7 @@ use Rattle.commands.specs.declared.command.Command.{Command}
 use Rattle.commands.specs.declared.command.Command.TheVariants.{Check}
 use Rattle.commands.specs.declared.refused.Refused.{Refused}
 
--- the rules of a command: `check` has the nine, no other has any
+-- the rules of a command: `check` has those of `rules`, no other has any
 abbrev pub rules_of : Command → List NamedRule
 rules_of Check = nine_rules
 rules_of other = []

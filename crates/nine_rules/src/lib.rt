@@ -1,6 +1,6 @@
 #![tactic(auto)]
 
-//! Runs of a command with the nine rules: `check` has them, no other command has any.
+//! Runs of a command with the rules of `rules`: `check` has them, no other command has any.
 //! - May touch: what `run` of `lint` may, and memory for the boxes. It names no rule: `rules` has the list.
 //! - Contract: `run_with_rules` promises what `lint` promises of a run, with these rules.
 //! - Begin at: `lib.rt`, `run_with_rules`. Definitions: `specs/NineRules.antt`.
@@ -16,7 +16,7 @@ use rules::{RULE_COUNT, Rule, of_each_rule};
 use source_text::{Feed, Sink};
 use std::alloc::Global;
 
-/// Runs `check` with these rules, which find what the nine find.
+/// Runs `check` with these rules, which find what those of `rules` find.
 fn check_by<F: Feed, S: Feed, W: Sink>(
     alloc: Global,
     rules: &[Box<dyn Rule>],
@@ -42,7 +42,7 @@ fn check_by<F: Feed, S: Feed, W: Sink>(
     run(alloc, Command::Check, rules, file, settings, output)
 }
 
-/// Runs `check` with the nine rules.
+/// Runs `check` with the rules of `rules`.
 fn check<F: Feed, S: Feed, W: Sink>(
     alloc: Global,
     file: &mut F,
@@ -67,7 +67,7 @@ fn check<F: Feed, S: Feed, W: Sink>(
     check_by(alloc, &rules, file, settings, output)
 }
 
-/// Runs a command over its two readers and a writer, with the nine rules where it is `check`.
+/// Runs a command over its two readers and a writer, with the rules of `rules` where it is `check`.
 ///
 /// # Errors
 ///

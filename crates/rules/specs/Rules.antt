@@ -1,4 +1,4 @@
--- What each of the nine rules reports. Names of rules and texts are bytes.
+-- What each rule reports. Names of rules and texts are bytes.
 use Rattle.std.specs.Prelude.{ℕ, Bool, true, false, not, cond, ◌+◌, ◌&&◌, ◌||◌, nat_eq, List, [], ◌∷◌, ◌++◌, map, Option, Some, None, is_none, codes}
 use Rattle.std.specs.List.{list_any}
 use Rattle.std.specs.Str.{bytes_eq}

@@ -1,4 +1,4 @@
-//! The nine rules, rules of others in boxes, the settings that both look at, and the lines of reports.
+//! The rules, rules of others in boxes, the settings that both look at, and the lines of reports.
 //! - May touch: what a `View` shows: tree, scopes, extra pairs, settings. No rule knows another.
 //! - Contract: `run_rules` answers all that the rules which are on find, by what each says of itself, sorted.
 //! - Begin at: `rule.rt`, `Rule`; `run.rt`, `run_rules`; a file for each rule; `rule_list.rt` says which there are.

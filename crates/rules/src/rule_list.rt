@@ -1,4 +1,4 @@
-//! Which rules there are: the nine in one list, and what those that look at single nodes look at.
+//! Which rules there are: all in one list, and what those that look at single nodes look at.
 
 ghost use Rattle.std.specs.Prelude.{◌≡◌, ◌++◌, OnOk};
 ghost use Rattle.tree.specs.Node.{node_tree};
@@ -13,7 +13,7 @@ use crate::report::Report;
 use std::alloc::{AllocError, Global};
 use tree::{Kind, Node};
 
-/// The nine rules, in the order of their names: an array of what another macro makes of each. `of_each_rule!(rule_name)` has their
+/// The rules, in the order of their names: an array of what another macro makes of each. `of_each_rule!(rule_name)` has their
 /// names, and `of_each_rule!(boxed_rule, alloc)` the rules in boxes, in a function that may answer that memory is refused.
 #[macro_export]
 macro_rules! of_each_rule {
@@ -51,7 +51,7 @@ macro_rules! boxed_rule {
 /// How many rules there are.
 pub const RULE_COUNT: usize = 9;
 
-/// The names of the nine rules.
+/// The names of the rules.
 pub(crate) const RULE_NAMES: [&str; RULE_COUNT] = of_each_rule!(rule_name);
 
 /// A rule that looks at single nodes.

@@ -73,7 +73,7 @@ fn gather(alloc: Global, rules: &[Box<dyn Rule>], view: &View) -> Result<Vec<Rep
     Ok(found)
 }
 
-/// All reports of the rules that are on, sorted by start, rule name, end and text. A rule of another name than the nine is
+/// All reports of the rules that are on, sorted by start, rule name, end and text. A rule of another name than these is
 /// on, and is run like any other; a rule that stands twice in the list reports twice.
 ///
 /// # Errors

@@ -72,7 +72,7 @@ impl Settings {
         }
     }
 
-    /// Whether a rule of this name is on: each name that isn't turned off is, also one that is none of the nine.
+    /// Whether a rule of this name is on: each name that isn't turned off is, also one that no rule here has.
     pub fn is_on(&self, name: &str) -> bool
         ensures { result ≡ is_on name.now self.now }
     {

@@ -158,7 +158,7 @@ impl Settings {
     ghost use Rattle.rules.specs.Toml.{settings_of_text};
     ghost use Rattle.rules.specs.Refusals.{RefusesToml};
 
-    /// The settings of a TOML text: `rules`, a table of names of the nine rules, each true or false; `globals`, an array of
+    /// The settings of a TOML text: `rules`, a table of names of rules, each true or false; `globals`, an array of
     /// strings; `allow-null` and `ignore-underscore`, each true or false; each key at most once, and left out as in
     /// `default_settings`.
     ///

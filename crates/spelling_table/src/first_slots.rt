@@ -7,8 +7,9 @@ ghost use Rattle.spelling_table.specs.Productions.{outline_of};
 
 use crate::outline::{FixedSlots, ListSlots};
 use crate::position::{Position, Slot, WHOLE};
-use crate::production::{
-    Production, assigned, at, body, callee, initialiser, key, object_of, selected, update_operand,
+use crate::production::Production;
+use crate::production_outlines::{
+    assigned, at, body, callee, initialiser, key, object_of, selected, update_operand,
 };
 use language::{Rank, Start};
 

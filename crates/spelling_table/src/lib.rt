@@ -4,13 +4,14 @@
 //! - May touch: kinds, symbols and positions; no node, and no memory.
 //! - Contract: `outline` and its partial forms (`requirements`, `first_slot`, `list_of`) say what the table says of a
 //!   production.
-//! - Begin at: `production.rt`, `Production`; then `requirements.rt`, `first_slots.rt`, `list_slots.rt`.
+//! - Begin at: `production.rt`, `Production`; then `production_outlines.rt`, `requirements.rt`, `first_slots.rt`, `list_slots.rt`.
 
 mod first_slots;
 mod list_slots;
 mod outline;
 mod position;
 mod production;
+mod production_outlines;
 mod requirements;
 
 pub use first_slots::{SlotIndex, first_slot, list_of};

@@ -3,7 +3,7 @@ use Rattle.lint.specs.Run.{Runs}
 use Rattle.commands.specs.declared.command.Command.TheVariants.{Check}
 use Rattle.nine_rules.proofs.check_by.Goals as goal
 
--- the rules find what the nine do
+-- the rules find what those of `rules` do
 pub returns-clause-answer : goal.returns-clause-answer
 returns-clause-answer g c = subst (λ finds. Runs finds Check (record {
   given = g.F.Feed.left c.args.file.now;
