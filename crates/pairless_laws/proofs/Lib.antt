@@ -1,5 +1,6 @@
 pub mod PairPlaces
 pub mod WidestWays
+pub mod FreeAnywhere
 pub mod PairlessNodes
 pub mod FreeParts
 mod PairlessExamples

@@ -1,5 +1,5 @@
 -- In a derivation each node in whose span no grouping pair opens costs no pair at its widest position.
-use Rattle.std.proofs.Common.{◌≡◌, ℕ, Bool, true, List, [], ◌∷◌, ◌++◌, length, ap, subst, arith}
+use Rattle.std.proofs.Common.{◌≡◌, ℕ, Bool, true, List, [], ◌∷◌, refl, ◌++◌, length, ap, subst, arith}
 use Rattle.std.specs.Prelude.{Option, Some}
 use Rattle.tokens.specs.Reading.{any_goal}
 use Rattle.language.specs.declared.Rank.{Rank}
@@ -19,6 +19,7 @@ use Rattle.language.specs.Claims.{Derives}
 use Rattle.language.proofs.table.LooserPositions.{Looser, same, looser, AllLooser, next}
 use Rattle.language.proofs.lower_bound.LowerBound.{Step-roles, parts_lower_bound}
 use Rattle.pairless_laws.specs.Pairless.{IsPairless, PairlessAreFree, PairlessPartsAreFree}
+use Rattle.pairless_laws.proofs.FreeAnywhere.{free_anywhere}
 use Rattle.pairless_laws.proofs.PairPlaces.{RunsIn, no_pairs}
 use Rattle.pairless_laws.proofs.WidestWays.{widens_widest, holds_first, cost_first}
 
@@ -57,9 +58,8 @@ node_free P (node k w g s e ps) a h i = (h, i)
 
 -- an expression has one widest position
 in_pair : (P : List Pair) (n : Tree) {y : Rank} {i : Bool} {f : Start} {b : Role} → Looser (expr y i f) b → PairlessAreFree P n (expr Expression true Any) → PairlessAreFree P n b
-unfolding PairlessAreFree
-in_pair P (node k w g s e ps) same h = h
-in_pair P (node k w g s e ps) (looser u v w') h = h
+in_pair P n {b = b} same h = free_anywhere P n (expr Expression true Any) b refl h
+in_pair P n {b = b} (looser u v w) h = free_anywhere P n (expr Expression true Any) b refl h
 
 costs_none : (x : Option ℕ) (P : List Pair) → P ≡ [] → AtMost x (length P) → x ≡ Some 0
 costs_none x P i h = of (subst (λ Q. AtMost x (length Q)) i h)
