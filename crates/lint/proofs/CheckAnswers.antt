@@ -5,8 +5,7 @@ use Rattle.tree.specs.declared.kind.Pair.{Pair}
 use Rattle.tree.specs.declared.kind.Span.{Span}
 use Rattle.tree.specs.Tree.{Tree}
 use Rattle.spellings.specs.Groupings.{grouping, row_starts}
-use Rattle.paren_planner.specs.declared.wrap_plan.Plan.{Plan}
-use Rattle.paren_planner.specs.Plans.{IsPlan}
+use Rattle.paren_planner.specs.Plans.{AreWraps}
 use Rattle.paren_planner.specs.Extra.{extra_spans}
 use Rattle.paren_planner.proofs.PairRows.{extra_pairs_are_extra}
 use Rattle.source_text.specs.declared.fault.Fault.{Fault}
@@ -22,13 +21,13 @@ use Rattle.lint.specs.declared.answer.Answer.{Answer}
 use Rattle.lint.specs.Outputs.{IsExtra, IsView, IsSecond}
 use Rattle.lint.specs.Steps.{Answers, ReadsSettings, RefusesSettingsBy, ReportsLines}
 
--- the pairs that are extra by a plan are all of the derivation but the innermost of each wrapped node
-pub are_extra : (text : List ℕ) (n : Tree) (P : List Pair) (p : Plan) (spans : List Span) → IsUtf8 text → IsPlan n p
-    → spans ≡ extra_spans p.wrapped.items (map (grouping (row_starts n)) P) → IsExtra text n P spans
-are_extra text n P p spans utf8 plan is = record {
-  wrapped = p.wrapped.items;
-  is_wrapped = plan.wrapped;
-  but_needed = λ o last d. is ∙ extra_pairs_are_extra text o n last P utf8 d p.wrapped.items;
+-- the pairs that are extra by the wrapped nodes are all of the derivation but the innermost of each wrapped node
+pub are_extra : (text : List ℕ) (n : Tree) (P : List Pair) (wraps : List Bool) (spans : List Span) → IsUtf8 text → AreWraps n wraps
+    → spans ≡ extra_spans wraps (map (grouping (row_starts n)) P) → IsExtra text n P spans
+are_extra text n P wraps spans utf8 wrapped is = record {
+  wrapped = wraps;
+  is_wrapped = wrapped;
+  but_needed = λ o last d. is ∙ extra_pairs_are_extra text o n last P utf8 d wraps;
 }
 
 -- the view that is made of a script, what is found in it, its extra pairs and settings

@@ -3,6 +3,7 @@ use Rattle.std.proofs.Common.{◌≡◌, ℕ, zero, suc, Bool, true, false, List
 use Rattle.tree.specs.Tree.{Tree, SameTree}
 use Rattle.tree.specs.declared.kind.Pair.{Pair}
 use Rattle.std.specs.Str.{IsUtf8}
+use Rattle.std.specs.Prelude.{Vec}
 use Rattle.early_errors.specs.Accepted.{Accepted}
 use Rattle.early_errors.proofs.Placeless.{none_either}
 use Rattle.language.specs.Claims.{Derives, WithinLimits, max_open}
@@ -11,8 +12,7 @@ use Rattle.language.proofs.layout.FixedReads.{within_always}
 use Rattle.language.proofs.layout.ReadableScript.{script_readable}
 use Rattle.language.specs.Cost.{AtMost, at_most, least}
 use Rattle.language.proofs.lower_bound.LeastPairs.{derived_at_least}
-use Rattle.paren_planner.specs.declared.wrap_plan.Plan.{Plan}
-use Rattle.paren_planner.specs.Plans.{IsPlan}
+use Rattle.paren_planner.proofs.Totals.{wrapped_count}
 use Rattle.language.specs.Pieces.{script}
 use Rattle.language.specs.Layout.{fixed_text, has_number, wrapped_rows}
 use Rattle.paren_planner.specs.Wrapped.{is_flagged}
@@ -51,22 +51,19 @@ is_planned n bs same r = wrapped_is bs r ∙ same r
 
 -- ---- costs
 
-below : (l : Option ℕ) (c k : ℕ) → Some c ≡ l → AtMost l k → c ≤ k
-below None c k is most = absurd (cc)
-below (Some m) c k is (at_most h) = let same : c ≡ m = cc in omega arith
+counted : (n : Tree) (l : Option ℕ) (k : ℕ) → l ≡ least n script → AtMost l k → length (wrapped_rows n script 1) ≤ k
+counted n None k is ()
+counted n (Some m) k is (at_most h) = let count : length (wrapped_rows n script 1) ≡ m = wrapped_count n m (sym is) in omega (arith, count, h)
 
--- no derivation of the same tree has fewer pairs than a plan wraps nodes
-pub fewest : (n m : Tree) (p : Plan) (source : List ℕ) (P : List Pair) → IsPlan n p → SameTree m n → Derives source m P → length (wrapped_rows n script 1) ≤ length P
-fewest n m p source P is same derived =
-    let most : p.table.total ≤ length P = below (least n script) p.table.total (length P) is.total (derived_at_least n m source P same derived) in
-    let count : p.table.total ≡ length (wrapped_rows n script 1) = is.count in
-    omega arith
+-- no derivation of the same tree has fewer pairs than nodes are wrapped
+pub fewest : (n m : Tree) (source : List ℕ) (P : List Pair) → SameTree m n → Derives source m P → length (wrapped_rows n script 1) ≤ length P
+fewest n m source P same derived = counted n (least n script) (length P) refl (derived_at_least n m source P same derived)
 
 -- ---- the fixed text
 
--- the fixed text of an accepted tree that has a plan
-pub fixes : (text fixed : List ℕ) (n : Tree) (P : List Pair) (p : Plan) → IsUtf8 fixed → Accepted text n P → IsPlan n p → fixed ≡ fixed_text n → Fixes text fixed
-fixes text fixed n P p utf8 is plan laid = from (within_always script_readable text n P is.source is.derived)
+-- the fixed text of an accepted tree
+pub fixes : (text fixed : List ℕ) (n : Tree) (P : List Pair) → IsUtf8 fixed → Accepted text n P → fixed ≡ fixed_text n → Fixes text fixed
+fixes text fixed n P utf8 is laid = from (within_always script_readable text n P is.source is.derived)
   where
     only_again : (m : Tree) (Q : List Pair) → WithinLimits (fixed_text n) m Q → IsOnly fixed m Q
     only_again m Q within = only_script fixed m Q (subst (λ t. WithinLimits t m Q) (sym laid) within)
@@ -85,7 +82,7 @@ fixes text fixed n P p utf8 is plan laid = from (within_always script_readable t
       accepted_again = record { source = utf8; derived = subst (λ t. WithinLimits t m Q) (sym laid) within; lawful = none_either n m (sym same) is.lawful };
       fewest = record {
         attained = (fixed_text n, m, Q, same, (max_open, within.1), refl);
-        least = λ source k R alike d. subst (λ x. x ≤ length R) (sym count) (fewest n k p source R plan alike d);
+        least = λ source k R alike d. subst (λ x. x ≤ length R) (sym count) (fewest n k source R alike d);
       };
       stable = λ k R d. ap fixed_text (only_again m Q within k R d).0 ∙ same_layout m n same ∙ sym laid;
     }
@@ -95,13 +92,13 @@ fixed_utf8 : (text : List ℕ) (n : Tree) (P : List Pair) → IsUtf8 text → De
 fixed_utf8 text n P utf8 derived =
     subst IsUtf8 (fixed_items n) (readable_utf8 (script_readable (has_number (wrapped_rows n script 1)) n (text_fits text n P derived) (text_worded text n P utf8 derived)))
 
--- what `fix` answers: the text that the tree and its plan make
-pub fixed_answer : (text : List ℕ) (parsed : Parsed) (plan : Plan) → IsReading text parsed.program parsed.pairs.items → IsPlan parsed.program plan → AnswersAlone Fix text parsed.program parsed.pairs.items (Ok (Fixed parsed plan))
-fixed_answer text parsed plan reading meets = λ finds given.
+-- what `fix` answers: the text that the tree and its wrapped nodes make
+pub fixed_answer : (text : List ℕ) (parsed : Parsed) (wraps : Vec Bool) → IsReading text parsed.program parsed.pairs.items → AnswersAlone Fix text parsed.program parsed.pairs.items (Ok (Fixed parsed wraps))
+fixed_answer text parsed wraps reading = λ finds given.
     let n = parsed.program in
     let accepted = reading.accepted in
     let utf8 : IsUtf8 (fixed_text n) = fixed_utf8 text n parsed.pairs.items accepted.source (_, accepted.derived.1) in
-    let is : Fixes text (fixed_text n) = fixes text (fixed_text n) n parsed.pairs.items plan utf8 accepted meets refl in
+    let is : Fixes text (fixed_text n) = fixes text (fixed_text n) n parsed.pairs.items utf8 accepted refl in
     (refl, ([], refl, (is, refl)))
 
 -- a beginning was written, and the writer failed

@@ -1,13 +1,14 @@
 -- What a script that a text derives gives the planner.
-use Rattle.std.proofs.Common.{◌≤◌, ℕ, List, length, arith}
+use Rattle.std.proofs.Common.{◌≡◌, ◌≤◌, ℕ, List, length, arith, subst}
 use Rattle.std.specs.Prelude.{IsSome}
 use Rattle.tree.specs.declared.kind.Pair.{Pair}
 use Rattle.tree.specs.Tree.{Tree}
 use Rattle.language.specs.Pieces.{script}
 use Rattle.language.specs.RowPositions.{rows}
 use Rattle.language.specs.Cost.{least}
-use Rattle.language.specs.Claims.{max_open}
+use Rattle.language.specs.Claims.{Derives, max_open}
 use Rattle.paren_planner.proofs.Bytes.{rows_within, derived_least}
+use Rattle.paren_planner.specs.Plans.{IsDerived}
 use Rattle.lint.specs.ReadScripts.{IsReading, IsScript}
 
 -- some number of pairs spells it
@@ -24,3 +25,7 @@ script_few n P is =
 -- what is read of a text is a script
 pub reading_script : (text : List ℕ) (n : Tree) (P : List Pair) → IsReading text n P → length text ≤ 16777216 → IsScript n P
 reading_script text n P reading short = record { text = text; utf8 = reading.accepted.source; short = short; derived = (max_open, reading.accepted.derived.1) }
+
+-- it is derived, with its own pairs
+pub script_derived : (n m : Tree) (P Q : List Pair) → n ≡ m → P ≡ Q → IsScript n P → IsDerived m Q
+script_derived n m P Q same alike is = record { text = is.text; utf8 = is.utf8; short = is.short; derived = subst (λ R. Derives is.text m R) alike (subst (λ k. Derives is.text k P) same is.derived) }

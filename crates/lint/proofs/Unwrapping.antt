@@ -21,7 +21,7 @@ are_fewest : (n m : Tree) (p : Plan) (text : List ℕ) (P : List Pair) → IsPla
 are_fewest n m p text P plan same derived count =
     record {
       attained = (text, m, P, same, derived, refl);
-      least = λ source k R alike d. subst (λ x. x ≤ length R) (sym (count ∙ plan.count)) (fewest n k p source R plan alike d);
+      least = λ source k R alike d. subst (λ x. x ≤ length R) (sym (count ∙ plan.count)) (fewest n k source R alike d);
     }
 
 -- a text with no more pairs than the fewest is unwrapped to itself

@@ -16,7 +16,7 @@ use Rattle.rules.specs.Settings.{Settings}
 use Rattle.rules.specs.Toml.{settings_of_text}
 use Rattle.rules.specs.Lines.{report_lines, report_status}
 use Rattle.language.specs.Layout.{fixed_text}
-use Rattle.paren_planner.specs.Plans.{IsPlan}
+use Rattle.paren_planner.specs.Plans.{AreWraps}
 use Rattle.cost_table.specs.Tables.{table_of}
 use Rattle.cost_table.specs.declared.table.CostTable.{CostTable}
 use Rattle.cost_certificate.specs.Forms.{short, table_text, IsTable, IsBadLine}
@@ -29,18 +29,18 @@ use Rattle.lint.specs.Run.{Seen, NothingWritten, HasOutput, Refuses}
 -- what an answer writes, and its status
 abbrev pub output_of : Answer → List ℕ
 output_of (Text text status) = string_bytes text
-output_of (Fixed parsed plan) = fixed_text parsed.program
+output_of (Fixed parsed wraps) = fixed_text parsed.program
 output_of (Table parsed plan) = table_text short (table_of plan.table.rows.items plan.table.total)
 
 abbrev pub status_of : Answer → ℕ
 status_of (Text text status) = status
-status_of (Fixed parsed plan) = 0
+status_of (Fixed parsed wraps) = 0
 status_of (Table parsed plan) = 0
 
--- what is made as it is written: a script's text by its plan, and a table that has no more rows than a text may have bytes
+-- what is made as it is written: a script's text by which nodes are wrapped, and a table that has no more rows than a text may have bytes
 abbrev pub IsWritable : Answer → Type 0
 IsWritable (Text text status) = Unit {0}
-IsWritable (Fixed parsed plan) = IsScript parsed.program parsed.pairs.items × IsPlan parsed.program plan
+IsWritable (Fixed parsed wraps) = IsScript parsed.program parsed.pairs.items × AreWraps parsed.program wraps.items
 IsWritable (Table parsed plan) = length plan.table.rows.items ≤ 16777216
 
 -- why bytes give no settings

@@ -15,8 +15,8 @@ use source_text::{DeviceFault, Sink, write_text};
 pub enum Answer<'s> {
     /// A text that is made, and its status.
     Text(String, u8),
-    /// The fixed text of a script, which is made as it is written; status 0.
-    Fixed(Parsed<'s>, Plan),
+    /// The fixed text of a script, which is made as it is written by which nodes are wrapped; status 0.
+    Fixed(Parsed<'s>, Vec<bool>),
     /// The text of a script's cost table, which is made as it is written; status 0.
     Table(Parsed<'s>, Plan),
 }
@@ -44,7 +44,7 @@ impl<'s> Answer<'s> {
     {
         match self {
             Answer::Text(text, _) => write_text(text.as_bytes(), writer),
-            Answer::Fixed(parsed, plan) => write_fixed(parsed, plan, writer),
+            Answer::Fixed(parsed, wraps) => write_fixed(parsed, wraps, writer),
             Answer::Table(parsed, plan) => match write_table(
                 parsed.program(),
                 plan.table(),

@@ -11,7 +11,7 @@ ghost use Rattle.lint.specs.Steps.{Answers, ReadsSettings, IsWritable, RefusesSe
 
 use crate::answer::Answer;
 use commands::read_up_to;
-use paren_planner::{extra_pairs, plan};
+use paren_planner::{extra_pairs, wraps_by_pairs};
 use parser::Parsed;
 use rules::{Report, Rule, Settings, View, report_lines, report_status, run_rules};
 use scopes::resolve;
@@ -58,9 +58,10 @@ fn extra_spans(alloc: Global, parsed: &Parsed<'_>) -> Result<Vec<Span>, AllocErr
     ensures { IfOk result (λ spans. (text : _) → IsUtf8 text → IsExtra text parsed.now.program parsed.now.pairs.items spans.items) }
 {
     let program = parsed.program();
-    let plan = plan(alloc, program)?;
-    let pair_rows = pair_rows(alloc, program, parsed.grouping_pairs())?;
-    let spans = extra_pairs(alloc, &pair_rows, &plan)?;
+    let pairs = parsed.grouping_pairs();
+    let wraps = wraps_by_pairs(alloc, program, pairs)?;
+    let pair_rows = pair_rows(alloc, program, pairs)?;
+    let spans = extra_pairs(alloc, &pair_rows, &wraps)?;
     Ok(spans)
 }
 

@@ -13,7 +13,7 @@ use crate::cost_commands::{cost, verify};
 use crate::unwrap::unwrap_script;
 use commands::Command;
 use estree_json::tree_text;
-use paren_planner::plan;
+use paren_planner::wraps_by_pairs;
 use parser::Parsed;
 use rules::Rule;
 use source_text::{Fault, Feed, Source};
@@ -46,8 +46,8 @@ fn fixed<'s>(alloc: Global, source: &Source<'_>, parsed: Parsed<'s>) -> Result<A
     ensures answer { AnswersAlone Fix source.now parsed.entry.program parsed.entry.pairs.items result }
     ensures writable { IfOk result IsWritable }
 {
-    match plan(alloc, parsed.program()) {
-        Ok(plan) => Ok(Answer::Fixed(parsed, plan)),
+    match wraps_by_pairs(alloc, parsed.program(), parsed.grouping_pairs()) {
+        Ok(wraps) => Ok(Answer::Fixed(parsed, wraps)),
         Err(AllocError) => Err(Fault::OutOfMemory),
     }
 }

@@ -3,12 +3,12 @@
 ghost use Rattle.std.specs.Prelude.{IfErr, IfOk, ◌≡◌, false, string_bytes};
 ghost use Rattle.source_text.specs.Writing.{WritesText};
 ghost use Rattle.language.specs.Layout.{fixed_text};
-ghost use Rattle.paren_planner.specs.Plans.{IsPlan};
+ghost use Rattle.paren_planner.specs.Plans.{AreWraps};
 ghost use Rattle.lint.specs.Fixes.{Fixes, FixesEach, IsStable};
 ghost use Rattle.lint.specs.ReadScripts.{IsScript, RefusesReading};
 
 use crate::script_reader::read_script;
-use paren_planner::{Plan, plan};
+use paren_planner::wraps_by_pairs;
 use parser::Parsed;
 use printer::{print, print_text};
 use source_text::{DeviceFault, Fault, Sink, Source};
@@ -24,27 +24,28 @@ pub fn fix(alloc: Global, parsed: &Parsed<'_>) -> Result<String, AllocError>
     ensures fixed { IfOk result (λ text. FixesEach parsed.now.program parsed.now.pairs.items (string_bytes text)) }
 {
     let program = parsed.program();
-    let plan = plan(alloc, program)?;
-    let text = print_text(alloc, program, plan.flags())?;
+    let wraps = wraps_by_pairs(alloc, program, parsed.grouping_pairs())?;
+    let text = print_text(alloc, program, &wraps)?;
     Ok(text)
 }
 
-/// Writes the fixed text of a script as it makes it. No memory; what was written is always a beginning of it.
+/// Writes the fixed text of a script as it makes it, where it is said of each row, in order, whether its node is wrapped. No memory; what
+/// was written is always a beginning of it.
 ///
 /// # Errors
 ///
 /// A `DeviceFault` where the writer fails; it is not asked again.
 pub fn write_fixed<W: Sink>(
     parsed: &Parsed<'_>,
-    plan: &Plan,
+    wraps: &[bool],
     writer: &mut W,
 ) -> Result<(), DeviceFault>
     requires script { IsScript parsed.now.program parsed.now.pairs.items }
-    requires plan { IsPlan parsed.now.program plan.now }
+    requires wraps { AreWraps parsed.now.program wraps.now }
     requires ready { W.failed writer.old ≡ false }
     ensures { WritesText (fixed_text parsed.now.program) result (W.taken writer.old) (W.taken writer.new) (W.failed writer.new) }
 {
-    match print(parsed.program(), plan.flags(), writer) {
+    match print(parsed.program(), wraps, writer) {
         Ok(()) => Ok(()),
         Err(_) => Err(DeviceFault),
     }

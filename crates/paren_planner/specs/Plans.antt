@@ -1,5 +1,5 @@
 -- Which scripts have a plan, and what a plan says.
-use Rattle.std.specs.Prelude.{◌≡◌, ℕ, ◌≤◌, List, Some, map, length, IsSome}
+use Rattle.std.specs.Prelude.{◌≡◌, ℕ, ◌≤◌, Bool, List, Some, map, length, IsSome}
 use Rattle.std.specs.Str.{IsUtf8}
 use Rattle.tree.specs.declared.kind.Pair.{Pair}
 use Rattle.tree.specs.Tree.{Tree}
@@ -13,6 +13,17 @@ use Rattle.language.specs.ExactCells.{Exact}
 use Rattle.cost_table.specs.Rows.{cell_rows, shown}
 use Rattle.cost_table.specs.Tables.{MeetsBounds, table_of}
 use Rattle.paren_planner.specs.Wrapped.{is_flagged}
+
+-- some source text derives this script with these grouping pairs
+pub record IsDerived (n : Tree) (P : List Pair) : Type 0 where
+  pub text : List ℕ
+  pub utf8 : IsUtf8 text
+  pub short : length text ≤ 16777216
+  pub derived : Derives text n P
+
+-- of each row, in order, these flags say whether its node is wrapped
+abbrev pub AreWraps : Tree → List Bool → Type 0
+AreWraps n wraps = (r : ℕ) → is_flagged wraps r ≡ has_number (wrapped_rows n script 1) r
 
 -- some number of pairs spells the script, and it has no more rows than a text may have bytes
 abbrev pub HasPlan : Tree → Type 0

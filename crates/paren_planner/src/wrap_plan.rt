@@ -17,13 +17,7 @@ impl Plan {
     pub fn wrapped(&self, row: usize) -> bool
         ensures { result ≡ is_flagged self.now.wrapped.items row }
     {
-        if row < 1 {
-            return false;
-        }
-        match self.wrapped.get(row - 1) {
-            Some(wrapped) => *wrapped,
-            None => false,
-        }
+        is_wrapped(&self.wrapped, row)
     }
 
     /// For each row, in the order of the rows, whether its node is wrapped.
@@ -46,5 +40,19 @@ impl Plan {
         ensures total { result.now.total ≡ self.now.table.total }
     {
         &self.table
+    }
+}
+
+/// Whether the node of a row is wrapped in a pair, by the row's number, counted from 1, where it is said of each row in order; not where
+/// there is no such row.
+pub(crate) fn is_wrapped(wraps: &[bool], row: usize) -> bool
+    ensures { result ≡ is_flagged wraps.now row }
+{
+    if row < 1 {
+        return false;
+    }
+    match wraps.get(row - 1) {
+        Some(wrapped) => *wrapped,
+        None => false,
     }
 }
