@@ -15,9 +15,9 @@ mod step_walk;
 mod steps;
 mod wrap_pass;
 mod wrap_plan;
-mod wraps_by_pairs;
+mod wraps;
 
 pub use extra::extra_pairs;
 pub use planner::{plan, plan_if_any};
 pub use wrap_plan::Plan;
-pub use wraps_by_pairs::wraps_by_pairs;
+pub use wraps::wraps_by_pairs;

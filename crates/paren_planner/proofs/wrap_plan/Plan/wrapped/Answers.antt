@@ -1,5 +1,5 @@
 use Rattle.std.proofs.Common.{rules}
 use Rattle.paren_planner.proofs.wrap_plan.Plan.wrapped.Goals as goal
 
-pub returns-then-row-lt1 : goal.returns-then-row-lt1
-returns-then-row-lt1 c = search rules
+pub returns : goal.returns
+returns c = search rules
