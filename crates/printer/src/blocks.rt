@@ -79,7 +79,7 @@ static CATCH_BINDING: Frame = front_frame!(&[&[Fragment::Token("catch (")], CLOS
 static CATCH: Frame = front_frame!(&[&[], &[Fragment::Token("catch ")]], &[]);
 
 /// Scripts, blocks, class bodies, switches and cases.
-pub fn block_frame(node: Node) -> &'static Frame
+pub(crate) fn block_frame(node: Node) -> &'static Frame
     ensures { shape_of result.now ≡ fused_shape (block_shape (kind_of (node_tree node.entry)) (parts_of (node_tree node.entry))) }
 {
     match node.kind() {

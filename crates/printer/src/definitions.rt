@@ -149,7 +149,7 @@ static STATIC_METHOD: Frame = asking_frame!(KeyAndMethod, &[STATIC, &[]]);
 static COMPUTED_STATIC_METHOD: Frame = asking_frame!(KeyAndMethod, &[STATIC_BRACKET, END_BRACKET]);
 
 /// Functions, classes, properties and members.
-pub fn definition_frame(node: Node) -> &'static Frame
+pub(crate) fn definition_frame(node: Node) -> &'static Frame
     ensures { shape_of result.now ≡ fused_shape (definition_shape (kind_of (node_tree node.entry)) (flags_of (node_tree node.entry)) (parts_of (node_tree node.entry))) }
 {
     match node.kind() {
@@ -165,7 +165,7 @@ pub fn definition_frame(node: Node) -> &'static Frame
 }
 
 /// The function of a method, whose name is missing.
-pub fn method_frame() -> &'static Frame
+pub(crate) fn method_frame() -> &'static Frame
     ensures { shape_of result.now ≡ fused_shape method_shape }
 {
     &METHOD

@@ -27,7 +27,7 @@ pub struct Emitter<'w> {
 
 impl<'w> Emitter<'w> {
     /// Before anything is written.
-    pub fn new(wraps: &'w [bool]) -> Emitter<'w>
+    pub(crate) fn new(wraps: &'w [bool]) -> Emitter<'w>
         ensures room { result.room ≡ [] }
         ensures apart { result.apart ≡ None }
         ensures wraps { result.wraps.now ≡ wraps.now }
@@ -40,7 +40,7 @@ impl<'w> Emitter<'w> {
     }
 
     /// Writes all that waits.
-    pub fn finish<O: TextSink>(&mut self, out: &mut O)
+    pub(crate) fn finish<O: TextSink>(&mut self, out: &mut O)
         ensures done { Puts (O.stands out.old self.old.room) (O.stands out.new []) [] }
     {
         out.finish(&mut self.room);
@@ -48,7 +48,7 @@ impl<'w> Emitter<'w> {
 
     /// Writes some characters.
     #[inline(always)]
-    pub fn push<O: TextSink>(&mut self, text: &str, out: &mut O)
+    pub(crate) fn push<O: TextSink>(&mut self, text: &str, out: &mut O)
         ensures written { Writes (seen (O.stands out.old self.old.room) self.old) (seen (O.stands out.new self.new.room) self.new) text.now }
         ensures parted { ¬ (text.now ≡ []) → self.new.apart ≡ None }
     {
@@ -94,7 +94,7 @@ impl<'w> Emitter<'w> {
     }
 
     /// Parts what follows from this sign.
-    pub fn keep_apart(&mut self, sign: SignOperator)
+    pub(crate) fn keep_apart(&mut self, sign: SignOperator)
         ensures room { self.new.room ≡ self.old.room }
         ensures apart { self.new.apart ≡ Some sign }
         ensures wraps { self.new.wraps.now ≡ self.old.wraps.now }
@@ -103,7 +103,7 @@ impl<'w> Emitter<'w> {
     }
 
     /// Parts nothing.
-    pub fn join(&mut self)
+    pub(crate) fn join(&mut self)
         ensures room { self.new.room ≡ self.old.room }
         ensures apart { self.new.apart ≡ None }
         ensures wraps { self.new.wraps.now ≡ self.old.wraps.now }
@@ -112,7 +112,7 @@ impl<'w> Emitter<'w> {
     }
 
     /// Whether the node of the next row is wrapped.
-    pub fn is_wrapped(&self) -> bool
+    pub(crate) fn is_wrapped(&self) -> bool
         ensures { result ≡ flag_at self.now.wraps.now 0 }
     {
         match self.wraps.first() {
@@ -122,7 +122,7 @@ impl<'w> Emitter<'w> {
     }
 
     /// The same, and goes on to the row behind it.
-    pub fn next_row(&mut self) -> bool
+    pub(crate) fn next_row(&mut self) -> bool
         ensures flag { result ≡ flag_at self.old.wraps.now 0 }
         ensures others { self.new.wraps.now ≡ other_flags self.old.wraps.now }
         ensures room { self.new.room ≡ self.old.room }
@@ -139,7 +139,7 @@ impl<'w> Emitter<'w> {
 
     /// Writes the pieces of a node, which stand at a depth; `alone` says that the part before isn't wrapped.
     #[inline(always)]
-    pub fn push_all<O: TextSink>(
+    pub(crate) fn push_all<O: TextSink>(
         &mut self,
         pieces: &[Fragment],
         node: Node,

@@ -137,7 +137,7 @@ static OPTIONAL_CALL: Frame = arguments_frame!(&[&[]], &[Fragment::Token("?.(")]
 static NEW: Frame = arguments_frame!(&[&[Fragment::Token("new ")]], OPEN);
 
 /// Words, lists and templates.
-pub fn expression_frame(node: Node) -> &'static Frame
+pub(crate) fn expression_frame(node: Node) -> &'static Frame
     ensures { shape_of result.now ≡ fused_shape (expression_shape (kind_of (node_tree node.entry)) (text_of (node_tree node.entry)) (flags_of (node_tree node.entry)) (parts_of (node_tree node.entry))) }
 {
     match node.kind() {

@@ -130,7 +130,7 @@ pub(crate) use front_frame;
 pub(crate) use list_frame;
 
 /// What stands before a part of a list.
-pub fn before(series: ListLayout, is_last: bool) -> &'static [Fragment]
+pub(crate) fn before(series: ListLayout, is_last: bool) -> &'static [Fragment]
     ensures { bits_of result.now ≡ fused (before_bits (chain_of series) is_last) }
 {
     match series {
@@ -142,7 +142,7 @@ pub fn before(series: ListLayout, is_last: bool) -> &'static [Fragment]
 }
 
 /// What stands behind a part of a list, or a gap.
-pub fn after(series: ListLayout, is_gap: bool, behind: usize) -> &'static [Fragment]
+pub(crate) fn after(series: ListLayout, is_gap: bool, behind: usize) -> &'static [Fragment]
     ensures { bits_of result.now ≡ fused (after_bits (chain_of series) is_gap (nat_eq behind 0) (nat_eq behind 1)) }
 {
     match series {

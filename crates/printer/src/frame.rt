@@ -54,7 +54,7 @@ static INNER_CHUNK: Frame = front_frame!(
 );
 
 /// What stands round the parts of a node at a site.
-pub fn frame_of(node: Node, site: Site) -> &'static Frame
+pub(crate) fn frame_of(node: Node, site: Site) -> &'static Frame
     ensures { shape_of result.now ≡ fused_shape (shape_on site (kind_of (node_tree node.entry)) (text_of (node_tree node.entry)) (flags_of (node_tree node.entry)) (parts_of (node_tree node.entry))) }
 {
     match site {
@@ -71,7 +71,7 @@ pub fn frame_of(node: Node, site: Site) -> &'static Frame
 
 /// Whether a node is written as its own text: a name or a literal without parts, but where a template's part, a head, a method or a
 /// shorthand property's key stands.
-pub fn is_word(node: Node, site: Site) -> bool
+pub(crate) fn is_word(node: Node, site: Site) -> bool
     ensures { result ≡ is_word_at site (kind_of (node_tree node.entry)) (parts_of (node_tree node.entry)) }
 {
     match node.kind() {

@@ -85,7 +85,7 @@ pub struct TextBuffer {
 
 impl TextBuffer {
     /// With nothing in it, and room for so many bytes.
-    pub fn new(alloc: Global, room: usize) -> Result<TextBuffer, AllocError>
+    pub(crate) fn new(alloc: Global, room: usize) -> Result<TextBuffer, AllocError>
         ensures empty { IfOk result (λ t. string_bytes t.string ≡ []) }
         ensures given { IfOk result (λ t. t.is_refused ≡ false) }
     {
@@ -99,7 +99,7 @@ impl TextBuffer {
     ///
     /// # Errors
     /// Memory was refused.
-    pub fn into_string(self) -> Result<String, AllocError>
+    pub(crate) fn into_string(self) -> Result<String, AllocError>
         ensures { IfOk result (λ s. (string_bytes s ≡ string_bytes self.string) × (self.is_refused ≡ false)) }
     {
         if self.is_refused {

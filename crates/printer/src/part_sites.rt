@@ -24,7 +24,7 @@ pub enum PartSites {
 impl PartSites {
     /// The site of the part at a place.
     #[inline(always)]
-    pub fn site_of_part(self, index: usize, kind: Kind, is_last: bool) -> Site
+    pub(crate) fn site_of_part(self, index: usize, kind: Kind, is_last: bool) -> Site
         ensures { result ≡ site_in self index kind is_last }
     {
         match self {

@@ -54,7 +54,7 @@ pub fn print_text(
 }
 
 /// Puts in the text of a script in its layout.
-pub fn print_whole<O: TextSink>(program: &Program<'_>, wraps: &[bool], out: &mut O)
+pub(crate) fn print_whole<O: TextSink>(program: &Program<'_>, wraps: &[bool], out: &mut O)
     ensures laid { fits (wrapped_by wraps.now) program.now script 1 ≡ true → Puts (O.stands out.old []) (O.stands out.new []) (layout (wrapped_by wraps.now) program.now script 1 0) }
     ensures adds { Adds (O.stands out.old []) (O.stands out.new []) }
 {

@@ -27,14 +27,14 @@ pub const END_BRACKET: &[Fragment] = &[Fragment::Token("]")];
 
 /// Whether a part stands at a place.
 #[inline(always)]
-pub fn has_part(node: Node, index: usize) -> bool
+pub(crate) fn has_part(node: Node, index: usize) -> bool
     ensures { result ≡ has_part_at (parts_of (node_tree node.entry)) index }
 {
     node.part(index).is_some()
 }
 
 /// Whether there is a part or a gap at a place.
-pub fn is_filled(node: Node, from: usize) -> bool
+pub(crate) fn is_filled(node: Node, from: usize) -> bool
     ensures { result ≡ not (is_none (parts_after from (parts_of (node_tree node.entry)))) }
 {
     node.part_count() > from

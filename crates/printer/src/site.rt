@@ -22,7 +22,7 @@ pub enum Site {
 }
 
 /// Whether what stands round a node's parts is told by the node alone.
-pub fn is_plain(site: Site) -> bool
+pub(crate) fn is_plain(site: Site) -> bool
     ensures { result ≡ is_plain_site site }
 {
     matches!(site, Site::Plain)

@@ -155,14 +155,14 @@ static FOR_UPDATE: Frame = asking_frame!(LoopHead, &[FOR, END, SEMICOLON_SPACE, 
 static FOR_NEITHER: Frame = asking_frame!(LoopHead, &[FOR, END, END, CLOSE_SPACE]);
 
 /// A declaration in the head of a `for`.
-pub fn head_frame() -> &'static Frame
+pub(crate) fn head_frame() -> &'static Frame
     ensures { shape_of result.now ≡ fused_shape head_shape }
 {
     &HEAD
 }
 
 /// Statements without others in them.
-pub fn statement_frame(node: Node) -> &'static Frame
+pub(crate) fn statement_frame(node: Node) -> &'static Frame
     ensures { shape_of result.now ≡ fused_shape (statement_shape (kind_of (node_tree node.entry)) (parts_of (node_tree node.entry))) }
 {
     match node.kind() {
