@@ -8,6 +8,7 @@ pub mod WrappedRows
 pub mod Bounds
 pub mod Turns
 pub mod Totals
+pub mod MadeRows
 pub mod Backwards
 pub mod Forwards
 pub mod CellRows

@@ -166,7 +166,7 @@ parts_sum xs ys x y c h f g =
 mutual
   unfolding least parts_least wrapped_rows parts_wrapped cell
 
-  node_count : (n : Tree) (a : Role) (r c : ℕ) → is_plain a ≡ true → least n a ≡ Some c → length (wrapped_rows n a r) ≡ c
+  pub node_count : (n : Tree) (a : Role) (r c : ℕ) → is_plain a ≡ true → least n a ≡ Some c → length (wrapped_rows n a r) ≡ c
   node_count (node k w g s e ps) (expr y i f) r c p h =
       expression_count (node k w g s e ps) y i f r c p h
       (λ m q. parts_count ps (first_roles (ways (expr Expression true Any) (node k w g s e ps))) (1 + r) m (parts_plain (expr Expression true Any) (node k w g s e ps)) q)

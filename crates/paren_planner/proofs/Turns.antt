@@ -1,7 +1,7 @@
 -- Rows and flags of a node, as a pass over the steps of a walk meets them.
-use Rattle.std.proofs.Common.{◌≡◌, ℕ, zero, suc, ◌+◌, ◌≤◌, ◌<◌, Bool, true, false, cond, List, [], ◌∷◌, ◌++◌, length, drop, get_or, Option, Some, None, refl, sym, ap, ap₂, ◌∙◌, subst, append_assoc, append-nil, arith}
+use Rattle.std.proofs.Common.{◌≡◌, ℕ, suc, ◌+◌, ◌≤◌, Bool, true, false, cond, List, [], ◌∷◌, ◌++◌, length, drop, Option, Some, None, refl, sym, ap, ap₂, ◌∙◌, subst, append_assoc, append-nil, arith}
 use Rattle.std.specs.Prelude.{◌&&◌, IsSome}
-use Rattle.std.proofs.lemmas.List.{length-replicate, length-append, drop-drop, drop_at}
+use Rattle.std.proofs.lemmas.List.{length-append, drop-drop, drop_at}
 use Rattle.tree.specs.Tree.{Tree, node, Parts, none, part, gap, parts_of}
 use Rattle.language.specs.declared.Rank.TheVariants.{Expression}
 use Rattle.language.specs.declared.Start.TheVariants.{Any}
@@ -22,29 +22,11 @@ use Rattle.cost_table.specs.Weighed.{cost_of, fits_spelled}
 use Rattle.cost_table.specs.Rows.{row_of, is_expression, own_row, table_rows, parts_table}
 use Rattle.paren_planner.specs.Wrapped.{unwrapped, flags, parts_flags, inner_flags, HasRows}
 use Rattle.cost_table.proofs.Known.{fits_widest, counted}
-use Rattle.cost_table.proofs.NodeRowNumbers.{way_when, rows_inside}
+use Rattle.cost_table.proofs.NodeRowNumbers.{way_when}
 use Rattle.paren_planner.proofs.Bounds.{Below, below_more, cell_below, widest-cell, capped_below, sum_below, rows_inner}
-use Rattle.paren_planner.proofs.WrappedRows.{parts-rows, parts-table, widest_own, flags-length, rows-empty}
+use Rattle.paren_planner.proofs.WrappedRows.{parts-rows, widest_own, rows-empty}
 
 -- Rows from a place on
-
-head_in : (xs : List Row) (k : ℕ) (y : Row) (ys : List Row) → drop k xs ≡ y ∷ ys → k < length xs
-head_in [] zero y ys h = absurd (cc)
-head_in [] (suc k) y ys h = absurd (cc)
-head_in (x ∷ xs) zero y ys h = omega arith
-head_in (x ∷ xs) (suc k) y ys h = omega (arith, head_in xs k y ys h)
-
-head_is : (xs : List Row) (k : ℕ) (d y : Row) (ys : List Row) → drop k xs ≡ y ∷ ys → get_or xs k d ≡ y
-head_is [] zero d y ys h = absurd (cc)
-head_is [] (suc k) d y ys h = absurd (cc)
-head_is (x ∷ xs) zero d y ys h = cc
-head_is (x ∷ xs) (suc k) d y ys h = head_is xs k d y ys h
-
-head_behind : (xs : List Row) (k : ℕ) (y : Row) (ys : List Row) → drop k xs ≡ y ∷ ys → drop (suc k) xs ≡ ys
-head_behind [] zero y ys h = absurd (cc)
-head_behind [] (suc k) y ys h = absurd (cc)
-head_behind (x ∷ xs) zero y ys h = cc
-head_behind (x ∷ xs) (suc k) y ys h = head_behind xs k y ys h
 
 pub front_rows : (t : List Row) (k : ℕ) (xs ys : List Row) → HasRows t k (xs ++ ys) → HasRows t k xs
 front_rows t k xs ys h = record { rest = ys ++ h.rest; stand = h.stand ∙ append_assoc xs ys h.rest }
@@ -55,7 +37,7 @@ rows_behind t k m xs ys e h = record {
   stand = ap (λ i. drop i t) e ∙ sym (drop-drop (length xs) k t) ∙ ap (drop (length xs)) (h.stand ∙ append_assoc xs ys h.rest) ∙ drop_at xs (ys ++ h.rest) (length xs) refl;
 }
 
-own-row-length : (a : Role) (r : Row) → length (own_row a r) ≡ has_row a
+pub own-row-length : (a : Role) (r : Row) → length (own_row a r) ≡ has_row a
 own-row-length (expr y i f) r = refl
 own-row-length _ r = refl
 
@@ -71,14 +53,6 @@ mutual
   parts-table-length (part n ps) [] = refl
   parts-table-length (part n ps) (a ∷ xs) = length-append (table_rows n a) (parts_table ps xs) ∙ ap₂ (λ u v. u + v) (table-length n a) (parts-table-length ps xs)
 
-given-length : (may_wrap : Bool) (n : Tree) (a : Role) → length (cond may_wrap (flags n a) (unwrapped (rows n a))) ≡ rows n a
-given-length true n a = flags-length n a
-given-length false n a = length-replicate (rows n a) false
-
--- behind a part
-pub table_turn : (t : List Row) (ws vs : List Bool) (may_wrap : Bool) (n : Tree) (a : Role) (ys : List Row) → vs ≡ ws ++ cond may_wrap (flags n a) (unwrapped (rows n a)) → HasRows t (length ws) (table_rows n a ++ ys) → HasRows t (length vs) ys
-table_turn t ws vs may_wrap n a ys e h = rows_behind t (length ws) (length vs) (table_rows n a) ys (ap length e ∙ length-append ws _ ∙ ap (λ m. length ws + m) (given-length may_wrap n a ∙ sym (table-length n a))) h
-
 -- Below a node
 
 widely_known : (b : Role) (n : Tree) (x : NodeSpelling) → IsSpelledWherever b n (Some x) → first_roles (ways (widest b) n) ≡ settled_roles (widest b) (left x.slots)
@@ -86,9 +60,6 @@ widely_known b n x h =
     let v : Verdict (ways (widest b) n) (spelled_roles (widest b) (Some x)) = subst (λ u. Verdict (ways u n) (spelled_roles u (Some x))) (widest_own b) (h Expression true Any) in
     let w : Verdict (ways (widest b) n) (Some (settled_roles (widest b) (left x.slots))) = subst (λ u. Verdict (ways (widest b) n) (cond u (Some (settled_roles (widest b) (left x.slots))) None)) (fits_widest b x.outline) v in
     w.1
-
-pub table_below : (b : Role) (n : Tree) (x : NodeSpelling) → IsSpelledWherever b n (Some x) → parts_table (parts_of n) (first_roles (ways (widest b) n)) ≡ parts_table (parts_of n) (settled_roles b (left x.slots))
-table_below b n x h = ap (parts_table (parts_of n)) (widely_known b n x h) ∙ parts-table (parts_of n) (widest b) b (left x.slots)
 
 pub rows_below : (b : Role) (n : Tree) (x : NodeSpelling) → IsSpelledWherever b n (Some x) → parts_rows (parts_of n) (first_roles (ways (widest b) n)) ≡ parts_rows (parts_of n) (settled_roles b (left x.slots))
 rows_below b n x h = ap (parts_rows (parts_of n)) (widely_known b n x h) ∙ parts-rows (parts_of n) (widest b) b (left x.slots)
@@ -133,12 +104,6 @@ pub plain_rows : (n : Tree) (a : Role) → is_expression a ≡ false → rows n 
 unfolding rows
 plain_rows (node k w g s e ps) (expr y i f) h = absurd (cc)
 plain_rows (node k w g s e ps) _ h = let m : (m : ℕ) → 0 + m ≡ m = λ m. omega arith in m _
-
--- an expression's row stands first
-pub first_row : (t : List Row) (m : ℕ) (n : Tree) (a : Role) → is_expression a ≡ true → HasRows t m (table_rows n a) → (m < length t) × ((d : Row) → get_or t m d ≡ row_of n) × HasRows t (suc m) (parts_table (parts_of n) (first_roles (ways (expr Expression true Any) n)))
-unfolding table_rows
-first_row t m (node k w g s e ps) (expr y i f) h r = (head_in t m _ _ r.stand, λ d. head_is t m d _ _ r.stand, record { rest = r.rest; stand = head_behind t m _ _ r.stand })
-first_row t m n _ h r = absurd (cc)
 
 pub wanted : (n : Tree) (a : Role) (r : Option NodeSpelling) (c : own.Costs) → is_expression a ≡ true → IsSpelledWherever a n r → rows n a ≤ 16777216 → c ≡ cells_at n (expr Expression true Any) →
     exceeds (cond (fits_spelled a r) (cost_of c a) None) (capped_sum (Some 1) c.has_in.any) ≡ wants_pair n a
@@ -195,14 +160,6 @@ total_is o (Some s) t h e k = ap (λ m. Some m) (k s e)
 
 -- An expression, step by step
 
-pub own_standing : (t : List Row) (ws vs : List Bool) (n : Tree) (a o : Role) (b : Bool) → is_expression a ≡ true → o ≡ inside b a → vs ≡ ws ++ b ∷ [] → HasRows t (length ws) (table_rows n a) →
-    HasRows t (length vs) (parts_table (parts_of n) (first_roles (ways (widest o) n)))
-own_standing t ws vs n a o b h q e s =
-    let here : length vs ≡ suc (length ws) = ap length e ∙ length-append ws (b ∷ []) ∙ (let m : length ws + 1 ≡ suc (length ws) = omega arith in m) in
-    let wide : widest o ≡ expr Expression true Any = ap widest q ∙ widest_whole a b h in
-    subst (λ m. HasRows t m (parts_table (parts_of n) (first_roles (ways (widest o) n)))) (sym here)
-    (subst (λ r. HasRows t (suc (length ws)) (parts_table (parts_of n) (first_roles (ways r n)))) (sym wide) (first_row t (length ws) n a h s).2)
-
 own_rows : (n : Tree) (a : Role) → is_expression a ≡ true → rows n a ≡ 1 + parts_rows (parts_of n) (first_roles (ways (expr Expression true Any) n))
 own_rows n (expr y i f) h = rows_inner n y i f
 own_rows n _ h = absurd (cc)
@@ -220,10 +177,6 @@ own_result n a o may_wrap b ws us vs h q e u k =
     own_flags n a may_wrap ws vs h
     (k ∙ ap (λ w. w ++ cond may_wrap (inner_flags n o) (unwrapped (parts_rows (parts_of n) (first_roles (ways (widest o) n))))) (u ∙ ap (λ v. ws ++ v ∷ []) e)
     ∙ (λ j. (ws ++ (may_wrap && wants_pair n a) ∷ []) ++ cond may_wrap (inner_flags n (r j)) (unwrapped (parts_rows (parts_of n) (first_roles (ways (widest (r j)) n))))))
-
--- below a node that has no row
-pub plain_standing : (t : List Row) (m : ℕ) (n : Tree) (a : Role) → is_expression a ≡ false → HasRows t m (table_rows n a) → HasRows t m (parts_table (parts_of n) (first_roles (ways (widest a) n)))
-plain_standing t m n a h s = subst (HasRows t m) (rows_inside n a h) s
 
 pub plain_few : (n : Tree) (a : Role) (m : ℕ) → is_expression a ≡ false → rows n a ≤ m → parts_rows (parts_of n) (first_roles (ways (widest a) n)) ≤ m
 plain_few n a m h l = subst (λ k. k ≤ m) (plain_rows n a h) l

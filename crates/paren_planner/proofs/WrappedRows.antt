@@ -24,7 +24,7 @@ use Rattle.cost_table.proofs.Known.{fits_widest}
 
 -- The rows of a part don't depend on its node's own symbol, In and start.
 
-settled-rows : (n : Tree) (b c : Role) (s : Slot) → rows n (settled_at b s) ≡ rows n (settled_at c s)
+pub settled-rows : (n : Tree) (b c : Role) (s : Slot) → rows n (settled_at b s) ≡ rows n (settled_at c s)
 unfolding rows
 settled-rows (node k w g s e ps) b c (fixed r) = refl
 settled-rows (node k w g s e ps) b c (left y) = refl

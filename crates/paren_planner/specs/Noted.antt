@@ -1,8 +1,9 @@
 -- The steps that a walk over a node notes.
-use Rattle.std.specs.Prelude.{◌≡◌, Bool, true, false, ◌&&◌, List, [], ◌∷◌, ◌++◌, Some, None}
+use Rattle.std.specs.Prelude.{◌≡◌, Bool, true, false, cond, ◌&&◌, List, [], ◌∷◌, ◌++◌, length, Some, None}
 use Rattle.tree.specs.Tree.{Tree, Parts, none, part, gap, kind_of, parts_of}
 use Rattle.language.specs.Pieces.{Role, expr, chain_part, pattern, Slot, fixed}
-use Rattle.language.specs.RowPositions.{widest}
+use Rattle.language.specs.RowPositions.{widest, rows}
+use Rattle.language.specs.Cost.{least}
 use Rattle.spelling_table.specs.declared.outline.FixedSlots.{FixedSlots}
 use Rattle.spelling_table.specs.declared.outline.FixedSlots.TheVariants as front
 use Rattle.spelling_table.specs.declared.outline.ListSlots as tails
@@ -16,7 +17,9 @@ use Rattle.paren_planner.specs.declared.steps.Step.{Step}
 use Rattle.paren_planner.specs.declared.steps.Step.TheVariants.{Free, Leaf, Enter, Leave}
 use Rattle.cost_table.specs.Weighed.{settled_at, slot_free, is_plain_outline}
 use Rattle.spelling_table.specs.Requirements.{requirements_of}
-use Rattle.paren_planner.specs.Steps.{nowhere, has_row_at}
+use Rattle.cost_table.specs.declared.table.Row.{Row}
+use Rattle.cost_table.specs.Rows.{row_of}
+use Rattle.paren_planner.specs.Steps.{nowhere, has_row_at, free_row}
 
 -- it is a visit to this node, at a slot of a node at a position
 pub record IsVisit (a : Role) (s : Slot) (n : Tree) (v : NodeStep) : Type 0 where
@@ -72,34 +75,62 @@ are_free [] = true
 are_free (x ∷ xs) = is_free_step x && are_free xs
 
 mutual
-  -- the steps of a node at a slot of a node at its widest position: none of its own where it costs nothing and has no row, or where it hands on what its parts cost
-  pub data Steps : Role → Slot → Tree → List Step → Type 0 where
-    unspelled : {a : Role} {s : Slot} {n : Tree} {xs : List Step} (v : NodeStep) → IsVisit a s n v → v.requirements ≡ None → IsSpelledWherever (widest (settled_at a s)) n None → xs ≡ Leaf v ∷ [] → Steps a s n xs
-    alone : {a : Role} {s : Slot} {n : Tree} {xs : List Step} (v : NodeStep) (x : NodeSpelling) → IsVisit a s n v → v.requirements ≡ Some (requirements_of x.outline) → IsSpelledWherever (widest (settled_at a s)) n (Some x) → parts_of n ≡ none → xs ≡ Leaf v ∷ [] → Steps a s n xs
-    around : {a : Role} {s : Slot} {n : Tree} {xs : List Step} (v : NodeStep) (x : NodeSpelling) (ys : List Step) → IsVisit a s n v → v.requirements ≡ Some (requirements_of x.outline) → IsSpelledWherever (widest (settled_at a s)) n (Some x) →
-        PartsSteps (widest (settled_at a s)) (left x.slots) (parts_of n) ys → xs ≡ Enter v ∷ (ys ++ Leave ∷ []) → Steps a s n xs
-    costless : {a : Role} {s : Slot} {n : Tree} {xs : List Step} (x : NodeSpelling) (ys : List Step) → IsSpelledWherever (widest (settled_at a s)) n (Some x) → is_plain_outline x.outline ≡ true → has_row_at s ≡ true → slot_free s x.outline.rank ≡ true →
-        PartsSteps (widest (settled_at a s)) (left x.slots) (parts_of n) ys → are_free ys ≡ true → xs ≡ Free (kind_of n) x.outline.rank ∷ ys → Steps a s n xs
-    hidden : {a : Role} {s : Slot} {n : Tree} {xs : List Step} (x : NodeSpelling) → IsSpelledWherever (widest (settled_at a s)) n (Some x) → is_plain_outline x.outline ≡ true → parts_of n ≡ none → has_row_at s ≡ false → xs ≡ [] → Steps a s n xs
-    through : {a : Role} {s : Slot} {n : Tree} {xs : List Step} (x : NodeSpelling) → IsSpelledWherever (widest (settled_at a s)) n (Some x) → is_settled_slot s ≡ true → are_fixed (left x.slots) ≡ true →
-        PartsSteps (widest (settled_at a s)) (left x.slots) (parts_of n) xs → Steps a s n xs
+  -- the steps of a node at a slot of a node at its widest position: none of its own where it costs nothing and has no row, or where it hands on what its parts cost.
+  -- Where `may_pass`, a node that costs nothing at its position may be passed: its steps then only count its rows.
+  pub data Steps : Bool → Role → Slot → Tree → List Step → Type 0 where
+    unspelled : {may_pass : Bool} {a : Role} {s : Slot} {n : Tree} {xs : List Step} (v : NodeStep) → IsVisit a s n v → v.requirements ≡ None → IsSpelledWherever (widest (settled_at a s)) n None → xs ≡ Leaf v ∷ [] → Steps may_pass a s n xs
+    alone : {may_pass : Bool} {a : Role} {s : Slot} {n : Tree} {xs : List Step} (v : NodeStep) (x : NodeSpelling) → IsVisit a s n v → v.requirements ≡ Some (requirements_of x.outline) → IsSpelledWherever (widest (settled_at a s)) n (Some x) → parts_of n ≡ none → xs ≡ Leaf v ∷ [] → Steps may_pass a s n xs
+    around : {may_pass : Bool} {a : Role} {s : Slot} {n : Tree} {xs : List Step} (v : NodeStep) (x : NodeSpelling) (ys : List Step) → IsVisit a s n v → v.requirements ≡ Some (requirements_of x.outline) → IsSpelledWherever (widest (settled_at a s)) n (Some x) →
+        PartsSteps may_pass (widest (settled_at a s)) (left x.slots) (parts_of n) ys → xs ≡ Enter v ∷ (ys ++ Leave ∷ []) → Steps may_pass a s n xs
+    costless : {may_pass : Bool} {a : Role} {s : Slot} {n : Tree} {xs : List Step} (x : NodeSpelling) (ys : List Step) → IsSpelledWherever (widest (settled_at a s)) n (Some x) → is_plain_outline x.outline ≡ true → has_row_at s ≡ true → slot_free s x.outline.rank ≡ true →
+        PartsSteps may_pass (widest (settled_at a s)) (left x.slots) (parts_of n) ys → are_free ys ≡ true → xs ≡ Free (kind_of n) x.outline.rank ∷ ys → Steps may_pass a s n xs
+    hidden : {may_pass : Bool} {a : Role} {s : Slot} {n : Tree} {xs : List Step} (x : NodeSpelling) → IsSpelledWherever (widest (settled_at a s)) n (Some x) → is_plain_outline x.outline ≡ true → parts_of n ≡ none → has_row_at s ≡ false → xs ≡ [] → Steps may_pass a s n xs
+    through : {may_pass : Bool} {a : Role} {s : Slot} {n : Tree} {xs : List Step} (x : NodeSpelling) → IsSpelledWherever (widest (settled_at a s)) n (Some x) → is_settled_slot s ≡ true → are_fixed (left x.slots) ≡ true →
+        PartsSteps may_pass (widest (settled_at a s)) (left x.slots) (parts_of n) xs → Steps may_pass a s n xs
+    passed : {may_pass : Bool} {a : Role} {s : Slot} {n : Tree} {xs : List Step} → may_pass ≡ true → is_fixed s ≡ true → least n (settled_at a s) ≡ Some 0 → are_free xs ≡ true → length xs ≡ rows n (settled_at a s) → Steps may_pass a s n xs
 
   -- those of parts at these slots
-  pub data PartsSteps : Role → List Slot → Parts → List Step → Type 0 where
-    over : {a : Role} {ss : List Slot} → PartsSteps a ss none []
-    skipped : {a : Role} {ss : List Slot} {ps : Parts} {xs : List Step} → PartsSteps a ss ps xs → PartsSteps a ss (gap ps) xs
-    unplaced : {a : Role} {n : Tree} {ps : Parts} → PartsSteps a [] (part n ps) (Leaf (nowhere (kind_of n)) ∷ [])
-    next : {a : Role} {s : Slot} {ss : List Slot} {n : Tree} {ps : Parts} {zs : List Step} (xs ys : List Step) → Steps a s n xs → PartsSteps a ss ps ys → zs ≡ xs ++ ys → PartsSteps a (s ∷ ss) (part n ps) zs
+  pub data PartsSteps : Bool → Role → List Slot → Parts → List Step → Type 0 where
+    over : {may_pass : Bool} {a : Role} {ss : List Slot} → PartsSteps may_pass a ss none []
+    skipped : {may_pass : Bool} {a : Role} {ss : List Slot} {ps : Parts} {xs : List Step} → PartsSteps may_pass a ss ps xs → PartsSteps may_pass a ss (gap ps) xs
+    unplaced : {may_pass : Bool} {a : Role} {n : Tree} {ps : Parts} → PartsSteps may_pass a [] (part n ps) (Leaf (nowhere (kind_of n)) ∷ [])
+    next : {may_pass : Bool} {a : Role} {s : Slot} {ss : List Slot} {n : Tree} {ps : Parts} {zs : List Step} (xs ys : List Step) → Steps may_pass a s n xs → PartsSteps may_pass a ss ps ys → zs ≡ xs ++ ys → PartsSteps may_pass a (s ∷ ss) (part n ps) zs
+
+-- the row of a node at a slot, where it has one
+abbrev pub row_at : Slot → Tree → List Row
+row_at s n = cond (has_row_at s) (row_of n ∷ []) []
+
+abbrev pub free_rows : List Step → List Row
+free_rows [] = []
+free_rows (Free k z ∷ xs) = free_row k z ∷ free_rows xs
+free_rows (x ∷ xs) = free_rows xs
+
+unfoldable mutual
+  -- the rows that these steps make: those of a node that is passed are not its own, and nothing reads them
+  pub made_rows : {may_pass : Bool} {a : Role} {s : Slot} {n : Tree} {xs : List Step} → Steps may_pass a s n xs → List Row
+  made_rows {s = s} {n = n} (unspelled v i l k e) = row_at s n
+  made_rows {s = s} {n = n} (alone v x i l k p e) = row_at s n
+  made_rows {s = s} {n = n} (around v x ys i l k h e) = row_at s n ++ made_parts h
+  made_rows {s = s} {n = n} (costless x ys k p r f h g z) = row_at s n ++ made_parts h
+  made_rows (hidden x k p e r z) = []
+  made_rows (through x k r g h) = made_parts h
+  made_rows {xs = xs} (passed l f z g e) = free_rows xs
+
+  pub made_parts : {may_pass : Bool} {a : Role} {ss : List Slot} {ps : Parts} {xs : List Step} → PartsSteps may_pass a ss ps xs → List Row
+  made_parts over = []
+  made_parts (skipped h) = made_parts h
+  made_parts unplaced = []
+  made_parts (next xs ys p h e) = made_rows p ++ made_parts h
 
 -- what was noted behind earlier steps, and that each of these steps is such a node, where this is known
-pub record Noted (a : Role) (s : Slot) (n : Tree) (known : Bool) (old new : List Step) : Type 0 where
+pub record Noted (may_pass : Bool) (a : Role) (s : Slot) (n : Tree) (known : Bool) (old new : List Step) : Type 0 where
   pub steps : List Step
   pub added : new ≡ old ++ steps
-  pub are : Steps a s n steps
+  pub are : Steps may_pass a s n steps
   pub free : known ≡ true → are_free steps ≡ true
 
-pub record PartsNoted (a : Role) (ss : List Slot) (ps : Parts) (known : Bool) (old new : List Step) : Type 0 where
+pub record PartsNoted (may_pass : Bool) (a : Role) (ss : List Slot) (ps : Parts) (known : Bool) (old new : List Step) : Type 0 where
   pub steps : List Step
   pub added : new ≡ old ++ steps
-  pub are : PartsSteps a ss ps steps
+  pub are : PartsSteps may_pass a ss ps steps
   pub free : known ≡ true → are_free steps ≡ true

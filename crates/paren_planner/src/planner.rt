@@ -1,6 +1,6 @@
 //! The plan of a script.
 
-ghost use Rattle.std.specs.Prelude.{◌≡◌, ◌≤◌, ◌↔◌, Option, Some, IfOk, IfSome, IfNone, IsSome, IsTrue};
+ghost use Rattle.std.specs.Prelude.{◌≡◌, false, ◌≤◌, ◌↔◌, Option, Some, IfOk, IfSome, IfNone, IsSome, IsTrue};
 ghost use Rattle.language.specs.Pieces.{script, fixed};
 ghost use Rattle.language.specs.Cost.{least};
 ghost use Rattle.language.specs.RowPositions.{rows};
@@ -34,7 +34,7 @@ struct Weights {
 fn weigh(alloc: Global, program: &Program) -> Result<Weights, AllocError>
     ensures rows { IfOk result (λ w. w.table.rows.items ≡ table_rows program.now script) }
     ensures total { IfOk result (λ w. w.total ≡ capped (least program.now script)) }
-    ensures steps { IfOk result (λ w. Steps script (fixed script) program.now w.steps) }
+    ensures steps { IfOk result (λ w. Steps false script (fixed script) program.now w.steps) }
 {
     let mut steps = Steps::new(alloc);
     let above = Position::Script;
@@ -58,7 +58,7 @@ fn planned(
     total: u32,
 ) -> Result<Plan, AllocError>
     requires rows { weights.table.rows.items ≡ table_rows program.now script }
-    requires steps { Steps script (fixed script) program.now weights.steps }
+    requires steps { Steps false script (fixed script) program.now weights.steps }
     requires few { rows program.now script ≤ 16777216 }
     requires total { Some total ≡ least program.now script }
     ensures { IfOk result (IsPlan program.now) }

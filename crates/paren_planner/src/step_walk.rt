@@ -1,6 +1,6 @@
 //! The walk over a script that notes its steps: where each node stands, and how it is spelled.
 
-ghost use Rattle.std.specs.Prelude.{◌≡◌, true, IfOk};
+ghost use Rattle.std.specs.Prelude.{◌≡◌, true, false, IfOk};
 ghost use Rattle.tree.specs.Node.{node_tree};
 ghost use Rattle.tree.specs.Tree.{kind_of, parts_of};
 ghost use Rattle.language.specs.Expressions.{has_optional, first_has_optional};
@@ -37,7 +37,7 @@ pub(crate) fn visit_node(
     steps: &mut Steps,
 ) -> Result<bool, AllocError>
     requires { in_chain ≡ true → has_optional (node_tree node) ≡ true }
-    ensures { IfOk result (λ free. Noted (role_of above.now) (slot_of slot.now) (node_tree node.entry) free steps.old steps.new) }
+    ensures { IfOk result (λ free. Noted false (role_of above.now) (slot_of slot.now) (node_tree node.entry) free steps.old steps.new) }
 {
     if may_be_leaf(node.kind()) {
         return visit_atom(node, above, slot, in_chain, steps);
@@ -56,7 +56,7 @@ fn visit_atom(
     steps: &mut Steps,
 ) -> Result<bool, AllocError>
     requires { in_chain ≡ true → has_optional (node_tree node) ≡ true }
-    ensures { IfOk result (λ free. Noted (role_of above.now) (slot_of slot.now) (node_tree node.entry) free steps.old steps.new) }
+    ensures { IfOk result (λ free. Noted false (role_of above.now) (slot_of slot.now) (node_tree node.entry) free steps.old steps.new) }
 {
     if !is_leaf(node, widest_of(slot)) {
         return visit_at(node, above, slot, in_chain, steps);
@@ -82,7 +82,7 @@ fn visit_at(
     steps: &mut Steps,
 ) -> Result<bool, AllocError>
     requires { in_chain ≡ true → has_optional (node_tree node) ≡ true }
-    ensures { IfOk result (λ free. Noted (role_of above.now) (slot_of slot.now) (node_tree node.entry) free steps.old steps.new) }
+    ensures { IfOk result (λ free. Noted false (role_of above.now) (slot_of slot.now) (node_tree node.entry) free steps.old steps.new) }
 {
     let own = widest_of(slot);
     let Some(production) = node_production(node, own, in_chain) else {
@@ -119,7 +119,7 @@ fn visit_parts(
     steps: &mut Steps,
 ) -> Result<bool, AllocError>
     requires { (spelled_by node own.now production.now).holds_chain ≡ true → first_has_optional (parts_of (node_tree node)) ≡ true }
-    ensures { IfOk result (λ free. PartsNoted (role_of own.now) (left (spelled_by node.entry own.now production.now).slots) (parts_of (node_tree node.entry)) free steps.old steps.new) }
+    ensures { IfOk result (λ free. PartsNoted false (role_of own.now) (left (spelled_by node.entry own.now production.now).slots) (parts_of (node_tree node.entry)) free steps.old steps.new) }
 {
     let is_chain = holds_chain(*own, node.kind(), *production);
     let parts = node.parts();

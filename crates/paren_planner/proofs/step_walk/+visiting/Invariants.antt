@@ -1,4 +1,4 @@
-use Rattle.std.proofs.Common.{◌+◌, ◌*◌}
+use Rattle.std.proofs.Common.{false, ◌+◌, ◌*◌}
 use Rattle.tree.specs.Tree.{node_total}
 use Rattle.tree.specs.Node.{node_tree, list_parts}
 use Rattle.tree.proofs.PartWalk.{parts_drop}
@@ -23,4 +23,4 @@ decreases-visit_parts l = 4 * node_total (node_tree l.node)
 
 abbrev pub invariant-visit_parts-loop-index : goal.invariant-visit_parts-loop-index
 invariant-visit_parts-loop-index l =
-    Begun (role_of l.own) (left (spelled_by l.node l.own l.production).slots) (left_by l.slots (list_parts l.parts)) (list_parts l.parts) (parts_drop l.index (list_parts l.parts)) l.are_free l.fn.steps l.steps
+    Begun false (role_of l.own) (left (spelled_by l.node l.own l.production).slots) (left_by l.slots (list_parts l.parts)) (list_parts l.parts) (parts_drop l.index (list_parts l.parts)) l.are_free l.fn.steps l.steps
