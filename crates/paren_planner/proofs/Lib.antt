@@ -23,3 +23,5 @@ pub mod Somewhere
 pub mod LaidTokens
 pub mod AttainedCells
 pub mod ExactPlans
+pub mod PassedRows
+pub mod LinedRows

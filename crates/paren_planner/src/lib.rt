@@ -9,6 +9,7 @@ mod cost_pass;
 mod extra;
 pub mod laws;
 mod open_sums;
+mod pairless;
 mod planner;
 mod step_walk;
 mod steps;
