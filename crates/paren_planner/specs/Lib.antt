@@ -8,3 +8,5 @@ pub mod Plans
 pub mod Extra
 pub mod PairNodes
 pub mod Pairless
+pub mod PairlessNodes
+pub mod Passing

@@ -9,6 +9,7 @@ use Rattle.language.specs.Layout.{has_number, wrapped_rows}
 use Rattle.language.specs.Claims.{Derives}
 use Rattle.language.specs.RowPositions.{rows}
 use Rattle.paren_planner.specs.declared.wrap_plan.Plan.{Plan}
+use Rattle.paren_planner.specs.declared.wrapping.Wrapping.{Wrapping}
 use Rattle.language.specs.ExactCells.{Exact}
 use Rattle.cost_table.specs.Rows.{cell_rows, shown}
 use Rattle.cost_table.specs.Tables.{MeetsBounds, table_of}
@@ -28,3 +29,9 @@ pub record IsPlan (n : Tree) (p : Plan) : Type 0 where
   pub count : p.table.total ≡ length (wrapped_rows n script 1)
   pub wrapped : (r : ℕ) → is_flagged p.wrapped.items r ≡ has_number (wrapped_rows n script 1) r
   pub exact : (text : List ℕ) (P : List Pair) → IsUtf8 text → Derives text n P → Exact (table_of p.table.rows.items p.table.total) n
+
+-- the wrapped nodes of the script's plan, without its table
+pub record IsWrapping (n : Tree) (p : Wrapping) : Type 0 where
+  pub total : Some p.total ≡ least n script
+  pub count : p.total ≡ length (wrapped_rows n script 1)
+  pub wrapped : (r : ℕ) → is_flagged p.wrapped.items r ≡ has_number (wrapped_rows n script 1) r

@@ -10,12 +10,15 @@ mod extra;
 pub mod laws;
 mod open_sums;
 mod pairless;
+mod text_pairs;
 mod planner;
 mod step_walk;
 mod steps;
 mod wrap_pass;
 mod wrap_plan;
+mod wrapping;
 
 pub use extra::extra_pairs;
-pub use planner::{plan, plan_if_any};
+pub use planner::{plan, plan_if_any, wrapping_by_pairs};
 pub use wrap_plan::Plan;
+pub use wrapping::Wrapping;

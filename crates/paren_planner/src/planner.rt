@@ -8,16 +8,24 @@ ghost use Rattle.cost_table.specs.Costs.{capped};
 ghost use Rattle.paren_planner.specs.Noted.{Steps};
 ghost use Rattle.paren_planner.specs.Plans.{HasPlan, IsPlan};
 ghost use Rattle.cost_table.specs.Rows.{table_rows};
+ghost use Rattle.std.specs.Prelude.{true};
+ghost use Rattle.row_laws.specs.Lined.{lined};
+ghost use Rattle.paren_planner.specs.Noted.{ScriptSteps};
+ghost use Rattle.paren_planner.specs.PairlessNodes.{PairlessAreFree};
+ghost use Rattle.paren_planner.specs.Passing.{AreOrdered, ScriptPassing};
+ghost use Rattle.paren_planner.specs.Plans.{IsWrapping};
 
 use crate::cost_pass::cost_pass;
+use crate::text_pairs::TextPairs;
 use crate::step_walk::visit_node;
 use crate::steps::Steps;
 use crate::wrap_pass::wrap_pass;
 use crate::wrap_plan::Plan;
+use crate::wrapping::Wrapping;
 use cost_table::CostTable;
 use spelling_table::{Position, Slot};
 use std::alloc::{AllocError, Global};
-use tree::Program;
+use tree::{Pair, Program};
 
 /// What the nodes of a script cost.
 #[derive(Drop)]
@@ -36,10 +44,34 @@ fn weigh(alloc: Global, program: &Program) -> Result<Weights, AllocError>
     ensures total { IfOk result (λ w. w.total ≡ capped (least program.now script)) }
     ensures steps { IfOk result (λ w. Steps false script (fixed script) program.now w.steps) }
 {
+    let pairs = TextPairs {
+        pairs: &[],
+        are_known: false,
+    };
+    weigh_by_pairs(alloc, program, &pairs)
+}
+
+/// The same where nodes may be passed by the text's pairs: the rows are those that the steps make.
+fn weigh_by_pairs(
+    alloc: Global,
+    program: &Program,
+    pairs: &TextPairs,
+) -> Result<Weights, AllocError>
+    requires { pairs.now.are_known ≡ true → ScriptPassing pairs.now.pairs.now program.now }
+    ensures made { IfOk result (λ w. ScriptSteps pairs.now.are_known program.now w.steps w.table.rows.items) }
+    ensures total { IfOk result (λ w. w.total ≡ capped (least program.now script)) }
+{
     let mut steps = Steps::new(alloc);
     let above = Position::Script;
     let slot = Slot::Fixed(above);
-    visit_node(program.root(), &above, &slot, false, &mut steps)?;
+    visit_node(
+        program.finished_root(),
+        &above,
+        &slot,
+        false,
+        pairs,
+        &mut steps,
+    )?;
     let mut table = CostTable::new(alloc);
     let sums = cost_pass(alloc, &steps, &mut table)?;
     let total = sums.has_in.any;
@@ -102,6 +134,50 @@ pub fn plan_if_any(alloc: Global, program: &Program) -> Result<Option<Plan>, All
     let total = number(weights.total);
     let plan = planned(alloc, program, weights, total)?;
     Ok(Some(plan))
+}
+
+/// Which nodes of a script are wrapped, and how many, as its plan has them; without the table. By the pairs of a text that derives it
+/// most nodes are passed: those in whose span no pair opens cost nothing.
+///
+/// # Errors
+///
+/// `AllocError` where memory is refused.
+pub fn wrapping_by_pairs(
+    alloc: Global,
+    program: &Program,
+    pairs: &[Pair],
+) -> Result<Wrapping, AllocError>
+    requires spelled { IsSome (least program.now script) }
+    requires few { rows program.now script ≤ 16777216 }
+    requires ordered { AreOrdered pairs.now }
+    requires lined { lined program.now script ≡ true }
+    requires pairless { PairlessAreFree pairs.now program.now script }
+    ensures { IfOk result (IsWrapping program.now) }
+{
+    let pairs = TextPairs {
+        pairs,
+        are_known: true,
+    };
+    let weights = weigh_by_pairs(alloc, program, &pairs)?;
+    let total = number(weights.total);
+    wrapping(alloc, program, &weights, total)
+}
+
+/// Which nodes of a script are wrapped, from its steps and the rows that they make.
+fn wrapping(
+    alloc: Global,
+    program: &Program,
+    weights: &Weights,
+    total: u32,
+) -> Result<Wrapping, AllocError>
+    requires made { ScriptSteps true program.now weights.now.steps weights.now.table.rows.items }
+    requires few { rows program.now script ≤ 16777216 }
+    requires total { Some total ≡ least program.now script }
+    ensures { IfOk result (IsWrapping program.now) }
+{
+    let mut wrapped = Vec::with_capacity(alloc, weights.table.row_count())?;
+    wrap_pass(alloc, &weights.steps, &weights.table, &mut wrapped)?;
+    Ok(Wrapping { total, wrapped })
 }
 
 /// Whether a plan is made: there is a total, and there are at most 16,777,216 rows.
