@@ -25,3 +25,5 @@ pub mod AttainedCells
 pub mod ExactPlans
 pub mod PassedRows
 pub mod LinedRows
+pub mod Passing
+pub mod PairlessSpans

@@ -8,3 +8,4 @@ pub mod Plans
 pub mod Extra
 pub mod PairNodes
 pub mod Pairless
+pub mod Passing

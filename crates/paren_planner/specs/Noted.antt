@@ -1,7 +1,7 @@
 -- The steps that a walk over a node notes.
 use Rattle.std.specs.Prelude.{◌≡◌, Bool, true, false, cond, ◌&&◌, List, [], ◌∷◌, ◌++◌, length, Some, None}
 use Rattle.tree.specs.Tree.{Tree, Parts, none, part, gap, kind_of, parts_of}
-use Rattle.language.specs.Pieces.{Role, expr, chain_part, pattern, Slot, fixed}
+use Rattle.language.specs.Pieces.{Role, expr, chain_part, pattern, script, Slot, fixed}
 use Rattle.language.specs.RowPositions.{widest, rows}
 use Rattle.language.specs.Cost.{least}
 use Rattle.spelling_table.specs.declared.outline.FixedSlots.{FixedSlots}
@@ -134,3 +134,8 @@ pub record PartsNoted (may_pass : Bool) (a : Role) (ss : List Slot) (ps : Parts)
   pub added : new ≡ old ++ steps
   pub are : PartsSteps may_pass a ss ps steps
   pub free : known ≡ true → are_free steps ≡ true
+
+-- the steps of a script, and the rows that they make
+pub record ScriptSteps (may_pass : Bool) (n : Tree) (xs : List Step) (R : List Row) : Type 0 where
+  pub are : Steps may_pass script (fixed script) n xs
+  pub rows : R ≡ made_rows are

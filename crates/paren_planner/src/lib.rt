@@ -3,7 +3,8 @@
 //! The planner: which expressions are wrapped in a pair of parentheses, and which pairs of a text are extra.
 //! - May touch: a finished tree, which it never changes, and memory for steps and rows.
 //! - Contract: `plan`: no derivation of any text with the same tree has fewer pairs than the plan's total.
-//! - Begin at: `planner.rt`, `plan`; the walk in `step_walk.rt`, then `cost_pass.rt` and `wrap_pass.rt`; `extra.rt`.
+//! - Begin at: `planner.rt`, `plan`; `wraps.rt` for the wrapped nodes alone; the walk in `step_walk.rt`, then `cost_pass.rt` and
+//!   `wrap_pass.rt`; `extra.rt`.
 
 mod cost_pass;
 mod extra;
@@ -13,6 +14,7 @@ mod pairless;
 mod planner;
 mod step_walk;
 mod steps;
+mod text_pairs;
 mod wrap_pass;
 mod wrap_plan;
 mod wraps;

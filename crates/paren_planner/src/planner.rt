@@ -8,10 +8,14 @@ ghost use Rattle.cost_table.specs.Costs.{capped};
 ghost use Rattle.paren_planner.specs.Noted.{Steps};
 ghost use Rattle.paren_planner.specs.Plans.{HasPlan, IsPlan};
 ghost use Rattle.cost_table.specs.Rows.{table_rows};
+ghost use Rattle.std.specs.Prelude.{true};
+ghost use Rattle.paren_planner.specs.Noted.{ScriptSteps};
+ghost use Rattle.paren_planner.specs.Passing.{ScriptPassing};
 
 use crate::cost_pass::cost_pass;
 use crate::step_walk::visit_node;
 use crate::steps::Steps;
+use crate::text_pairs::TextPairs;
 use crate::wrap_pass::wrap_pass;
 use crate::wrap_plan::Plan;
 use cost_table::CostTable;
@@ -21,11 +25,11 @@ use tree::Program;
 
 /// What the nodes of a script cost.
 #[derive(Drop)]
-struct Weights {
+pub(crate) struct Weights {
     /// The steps of a walk over it.
-    steps: Steps,
+    pub(crate) steps: Steps,
     /// A row for each node that has one.
-    table: CostTable,
+    pub(crate) table: CostTable,
     /// The number of pairs of the whole, where some number spells it.
     total: Option<u32>,
 }
@@ -36,10 +40,34 @@ fn weigh(alloc: Global, program: &Program) -> Result<Weights, AllocError>
     ensures total { IfOk result (λ w. w.total ≡ capped (least program.now script)) }
     ensures steps { IfOk result (λ w. Steps false script (fixed script) program.now w.steps) }
 {
+    let pairs = TextPairs {
+        pairs: &[],
+        are_known: false,
+    };
+    weigh_by_pairs(alloc, program, &pairs)
+}
+
+/// The same where nodes may be passed by the text's pairs: the rows are those that the steps make.
+pub(crate) fn weigh_by_pairs(
+    alloc: Global,
+    program: &Program,
+    pairs: &TextPairs,
+) -> Result<Weights, AllocError>
+    requires { pairs.now.are_known ≡ true → ScriptPassing pairs.now.pairs.now program.now }
+    ensures made { IfOk result (λ w. ScriptSteps pairs.now.are_known program.now w.steps w.table.rows.items) }
+    ensures total { IfOk result (λ w. w.total ≡ capped (least program.now script)) }
+{
     let mut steps = Steps::new(alloc);
     let above = Position::Script;
     let slot = Slot::Fixed(above);
-    visit_node(program.root(), &above, &slot, false, &mut steps)?;
+    visit_node(
+        program.finished_root(),
+        &above,
+        &slot,
+        false,
+        pairs,
+        &mut steps,
+    )?;
     let mut table = CostTable::new(alloc);
     let sums = cost_pass(alloc, &steps, &mut table)?;
     let total = sums.has_in.any;

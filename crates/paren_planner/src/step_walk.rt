@@ -1,6 +1,6 @@
 //! The walk over a script that notes its steps: where each node stands, and how it is spelled.
 
-ghost use Rattle.std.specs.Prelude.{◌≡◌, true, false, IfOk};
+ghost use Rattle.std.specs.Prelude.{◌≡◌, true, IfOk};
 ghost use Rattle.tree.specs.Node.{node_tree};
 ghost use Rattle.tree.specs.Tree.{kind_of, parts_of};
 ghost use Rattle.language.specs.Expressions.{has_optional, first_has_optional};
@@ -11,12 +11,16 @@ ghost use Rattle.spellings.specs.Remaining.{left};
 ghost use Rattle.spellings.specs.Wherever.{spelled_by};
 ghost use Rattle.paren_planner.specs.declared.steps.Step.TheVariants.{Leaf};
 ghost use Rattle.spelling_table.specs.Productions.{outline_of};
-ghost use Rattle.paren_planner.specs.Noted.{IsVisit, Noted, PartsNoted, is_settled_slot, fixed_outline};
+ghost use Rattle.paren_planner.specs.Noted.{IsVisit, Noted, PartsNoted, fixed_outline};
+ghost use Rattle.paren_planner.specs.Passing.{Passing, PassingParts};
+ghost use Rattle.spellings.specs.Spelled.{settled_roles};
 ghost use Rattle.language.specs.declared.Rank.TheVariants.{Primary};
 ghost use Rattle.paren_planner.specs.Steps.{nowhere};
 ghost use Rattle.cost_table.specs.Weighed.{settled_at, slot_free};
 
+use crate::pairless::push_free_rows;
 use crate::steps::{NodeStep, Step, Steps, has_row};
+use crate::text_pairs::{TextPairs, is_passed, is_settled};
 use cost_table::widest;
 use grammar::accepts_rank;
 use language::{Rank, Start};
@@ -26,7 +30,7 @@ use std::alloc::AllocError;
 use tree::{Kind, Node};
 
 /// Notes the steps of a node at a slot of the node above; says whether each is a node that costs nothing. `in_chain`: the node is known to be
-/// part of a chain, with a `?.` in it or below it.
+/// part of a chain, with a `?.` in it or below it. Where the text's pairs are known, nodes are passed by them.
 #[cycle(visiting)]
 #[inline(always)]
 pub(crate) fn visit_node(
@@ -34,15 +38,21 @@ pub(crate) fn visit_node(
     above: &Position,
     slot: &Slot,
     in_chain: bool,
+    pairs: &TextPairs,
     steps: &mut Steps,
 ) -> Result<bool, AllocError>
-    requires { in_chain ≡ true → has_optional (node_tree node) ≡ true }
-    ensures { IfOk result (λ free. Noted false (role_of above.now) (slot_of slot.now) (node_tree node.entry) free steps.old steps.new) }
+    requires chain { in_chain ≡ true → has_optional (node_tree node) ≡ true }
+    requires passing { pairs.now.are_known ≡ true → Passing pairs.now.pairs.now node (settled_at (role_of above.now) (slot_of slot.now)) }
+    ensures { IfOk result (λ free. Noted pairs.now.are_known (role_of above.now) (slot_of slot.now) (node_tree node.entry) free steps.old steps.new) }
 {
     if may_be_leaf(node.kind()) {
-        return visit_atom(node, above, slot, in_chain, steps);
+        return visit_atom(node, above, slot, in_chain, pairs, steps);
     }
-    visit_at(node, above, slot, in_chain, steps)
+    if is_passed(pairs, node, slot) {
+        push_free_rows(node, steps)?;
+        return Ok(true);
+    }
+    visit_at(node, above, slot, in_chain, pairs, steps)
 }
 
 /// The same of an identifier or a literal.
@@ -53,19 +63,21 @@ fn visit_atom(
     above: &Position,
     slot: &Slot,
     in_chain: bool,
+    pairs: &TextPairs,
     steps: &mut Steps,
 ) -> Result<bool, AllocError>
-    requires { in_chain ≡ true → has_optional (node_tree node) ≡ true }
-    ensures { IfOk result (λ free. Noted false (role_of above.now) (slot_of slot.now) (node_tree node.entry) free steps.old steps.new) }
+    requires chain { in_chain ≡ true → has_optional (node_tree node) ≡ true }
+    requires passing { pairs.now.are_known ≡ true → Passing pairs.now.pairs.now node (settled_at (role_of above.now) (slot_of slot.now)) }
+    ensures { IfOk result (λ free. Noted pairs.now.are_known (role_of above.now) (slot_of slot.now) (node_tree node.entry) free steps.old steps.new) }
 {
     if !is_leaf(node, widest_of(slot)) {
-        return visit_at(node, above, slot, in_chain, steps);
+        return visit_at(node, above, slot, in_chain, pairs, steps);
     }
     if !has_row(slot) {
         return Ok(true);
     }
     if !takes_atom(slot) {
-        return visit_at(node, above, slot, in_chain, steps);
+        return visit_at(node, above, slot, in_chain, pairs, steps);
     }
     steps.push(Step::Free(node.kind(), Rank::Primary))?;
     Ok(true)
@@ -79,10 +91,12 @@ fn visit_at(
     above: &Position,
     slot: &Slot,
     in_chain: bool,
+    pairs: &TextPairs,
     steps: &mut Steps,
 ) -> Result<bool, AllocError>
-    requires { in_chain ≡ true → has_optional (node_tree node) ≡ true }
-    ensures { IfOk result (λ free. Noted false (role_of above.now) (slot_of slot.now) (node_tree node.entry) free steps.old steps.new) }
+    requires chain { in_chain ≡ true → has_optional (node_tree node) ≡ true }
+    requires passing { pairs.now.are_known ≡ true → Passing pairs.now.pairs.now node (settled_at (role_of above.now) (slot_of slot.now)) }
+    ensures { IfOk result (λ free. Noted pairs.now.are_known (role_of above.now) (slot_of slot.now) (node_tree node.entry) free steps.old steps.new) }
 {
     let own = widest_of(slot);
     let Some(production) = node_production(node, own, in_chain) else {
@@ -90,7 +104,7 @@ fn visit_at(
         return Ok(false);
     };
     if is_settled(slot) && has_fixed_slots(&production) {
-        return visit_parts(node, &own, &production, steps);
+        return visit_parts(node, &own, &production, pairs, steps);
     }
     let requirements = production.requirements();
     let visit = node_step(node, above, slot, Some(requirements));
@@ -100,7 +114,7 @@ fn visit_at(
     }
     let index = steps.len();
     steps.push(Step::Enter(visit))?;
-    let are_free = visit_parts(node, &own, &production, steps)?;
+    let are_free = visit_parts(node, &own, &production, pairs, steps)?;
     if are_free && visit.is_free(requirements) {
         steps.set(index, Step::Free(visit.kind, requirements.rank));
         return Ok(true);
@@ -116,17 +130,19 @@ fn visit_parts(
     node: Node,
     own: &Position,
     production: &Production,
+    pairs: &TextPairs,
     steps: &mut Steps,
 ) -> Result<bool, AllocError>
-    requires { (spelled_by node own.now production.now).holds_chain ≡ true → first_has_optional (parts_of (node_tree node)) ≡ true }
-    ensures { IfOk result (λ free. PartsNoted false (role_of own.now) (left (spelled_by node.entry own.now production.now).slots) (parts_of (node_tree node.entry)) free steps.old steps.new) }
+    requires chain { (spelled_by node own.now production.now).holds_chain ≡ true → first_has_optional (parts_of (node_tree node)) ≡ true }
+    requires passing { pairs.now.are_known ≡ true → PassingParts pairs.now.pairs.now node 0 (parts_of (node_tree node)) (settled_roles (role_of own.now) (left (spelled_by node own.now production.now).slots)) }
+    ensures { IfOk result (λ free. PartsNoted pairs.now.are_known (role_of own.now) (left (spelled_by node.entry own.now production.now).slots) (parts_of (node_tree node.entry)) free steps.old steps.new) }
 {
     let is_chain = holds_chain(*own, node.kind(), *production);
     let parts = node.parts();
     let mut slots = SlotCursor::new(*production);
     let mut are_free = true;
     for index in 0..parts.len() {
-        let Some(part) = parts.get(index) else {
+        let Some(part) = node.finished_part(index) else {
             continue;
         };
         let Some(slot) = slots.take(parts, part, index) else {
@@ -134,7 +150,7 @@ fn visit_parts(
             return Ok(false);
         };
         let in_chain = leads_chain(is_chain, index);
-        let is_free = visit_node(part, own, &slot, in_chain, steps)?;
+        let is_free = visit_node(part, own, &slot, in_chain, pairs, steps)?;
         are_free &= is_free;
     }
     Ok(are_free)
@@ -156,19 +172,6 @@ fn takes_atom(slot: &Slot) -> bool
 /// Whether a node of this kind may be seen at once to be a leaf.
 fn may_be_leaf(kind: Kind) -> bool {
     matches!(kind, Kind::Identifier | Kind::Literal)
-}
-
-/// Whether a slot is a position that hands on no symbol, In and start of its own, and takes whatever is spelled there.
-fn is_settled(slot: &Slot) -> bool
-    ensures { result ≡ is_settled_slot (slot_of slot.now) }
-{
-    match slot {
-        Slot::Fixed(
-            Position::Expression { .. } | Position::ChainPart { .. } | Position::Pattern { .. },
-        ) => false,
-        Slot::Fixed(_) => true,
-        _ => false,
-    }
 }
 
 /// Whether it is seen at once that each slot of a production is a position.

@@ -1,14 +1,20 @@
-//! Which nodes of a script are wrapped, by the pairs of its text.
+//! Which nodes of a script are wrapped, by the pairs of its text: without a table of costs.
 
-ghost use Rattle.std.specs.Prelude.{IfOk};
+ghost use Rattle.std.specs.Prelude.{◌≤◌, true, IfOk};
+ghost use Rattle.language.specs.Pieces.{script};
+ghost use Rattle.language.specs.RowPositions.{rows};
+ghost use Rattle.paren_planner.specs.Noted.{ScriptSteps};
 ghost use Rattle.paren_planner.specs.Plans.{AreWraps, IsDerived};
 
-use crate::planner::plan;
+use crate::planner::{Weights, weigh_by_pairs};
+use crate::text_pairs::TextPairs;
+use crate::wrap_pass::wrap_pass;
 use std::alloc::{AllocError, Global};
 use tree::{Pair, Program};
 
 /// Which nodes of a script are wrapped, by the grouping pairs of a text that derives it: of each row, in the order of the rows, whether
-/// its node is wrapped.
+/// its node is wrapped. Where no pair opens in a statement, or in another node whose position hands on nothing, that node costs nothing,
+/// and the walk passes it.
 ///
 /// # Errors
 ///
@@ -21,6 +27,26 @@ pub fn wraps_by_pairs(
     requires { IsDerived program.now pairs.now }
     ensures { IfOk result (λ wraps. AreWraps program.now wraps.items) }
 {
-    let plan = plan(alloc, program)?;
-    Ok(plan.wrapped)
+    let pairs = TextPairs {
+        pairs,
+        are_known: true,
+    };
+    let weights = weigh_by_pairs(alloc, program, &pairs)?;
+    weighed_wraps(alloc, program, &weights)
+}
+
+/// The same, from a script's steps and the rows that they make.
+fn weighed_wraps(
+    alloc: Global,
+    program: &Program<'_>,
+    weights: &Weights,
+) -> Result<Vec<bool>, AllocError>
+    requires made { ScriptSteps true program.now weights.now.steps weights.now.table.rows.items }
+    requires few { rows program.now script ≤ 16777216 }
+    ensures { IfOk result (λ wraps. AreWraps program.now wraps.items) }
+{
+    let _ = program.node_count();
+    let mut wraps = Vec::with_capacity(alloc, weights.table.row_count())?;
+    wrap_pass(alloc, &weights.steps, &weights.table, &mut wraps)?;
+    Ok(wraps)
 }

@@ -1,0 +1,54 @@
+//! Which nodes a walk passes: those in whose span no pair of the text opens.
+
+ghost use Rattle.std.specs.Prelude.{◌≡◌, true};
+ghost use Rattle.tree.specs.Node.{node_tree};
+ghost use Rattle.tree.specs.Tree.{start_of, stop_of};
+ghost use Rattle.spelling_table.specs.Outlines.{slot_of};
+ghost use Rattle.paren_planner.specs.Noted.{is_settled_slot};
+ghost use Rattle.pairless_laws.specs.Pairless.{IsPairless};
+ghost use Rattle.paren_planner.specs.Passing.{AreOrdered};
+
+use spelling_table::{Position, Slot};
+use tree::{Node, Pair, Span};
+
+/// The pairs of the text that a script was read from, where a walk may pass nodes by them.
+#[derive(Clone, Copy)]
+pub(crate) struct TextPairs<'t> {
+    pub(crate) pairs: &'t [Pair],
+    pub(crate) are_known: bool,
+}
+
+/// Whether a node at a slot is passed: where the pairs are known, the slot is a position that is its own widest, and no pair opens in
+/// the node's span.
+#[inline(always)]
+pub(crate) fn is_passed(pairs: &TextPairs, node: Node, slot: &Slot) -> bool
+    ensures known { result ≡ true → pairs.now.are_known ≡ true }
+    ensures settled { result ≡ true → is_settled_slot (slot_of slot.now) ≡ true }
+    ensures pairless { result ≡ true → AreOrdered pairs.now.pairs.now → IsPairless pairs.now.pairs.now (start_of (node_tree node.entry)) (stop_of (node_tree node.entry)) }
+{
+    pairs.are_known && is_settled(slot) && is_pairless(pairs.pairs, node.span())
+}
+
+/// Whether a slot is a position that hands on no symbol, In and start of its own, and takes whatever is spelled there.
+pub(crate) fn is_settled(slot: &Slot) -> bool
+    ensures { result ≡ is_settled_slot (slot_of slot.now) }
+{
+    match slot {
+        Slot::Fixed(
+            Position::Expression { .. } | Position::ChainPart { .. } | Position::Pattern { .. },
+        ) => false,
+        Slot::Fixed(_) => true,
+        _ => false,
+    }
+}
+
+/// Whether no pair opens in a span, of pairs in order of their `(`.
+fn is_pairless(pairs: &[Pair], span: Span) -> bool
+    ensures { result ≡ true → AreOrdered pairs.now → IsPairless pairs.now span.start span.end }
+{
+    let first = pairs.partition_point(|pair| pair.left < span.start);
+    match pairs.get(first) {
+        Some(pair) => span.end <= pair.left,
+        None => true,
+    }
+}
