@@ -1,6 +1,7 @@
 //! Which nodes a walk passes: those in whose span no pair of the text opens.
 
-ghost use Rattle.std.specs.Prelude.{◌≡◌, true};
+ghost use Rattle.std.specs.Prelude.{◌≡◌, true, false, ltb};
+ghost use Rattle.std.specs.List.Sorted.{IsPartitionPoint};
 ghost use Rattle.tree.specs.Node.{node_tree};
 ghost use Rattle.tree.specs.Tree.{start_of, stop_of};
 ghost use Rattle.spelling_table.specs.Outlines.{slot_of};
@@ -46,9 +47,15 @@ pub(crate) fn is_settled(slot: &Slot) -> bool
 fn is_pairless(pairs: &[Pair], span: Span) -> bool
     ensures { result ≡ true → AreOrdered pairs.now → IsPairless pairs.now span.start span.end }
 {
-    let first = pairs.partition_point(|pair| pair.left < span.start);
-    match pairs.get(first) {
+    match pairs.get(first_from(pairs, span.start)) {
         Some(pair) => span.end <= pair.left,
         None => true,
     }
+}
+
+/// The index of the first pair whose `(` doesn't stand before a place.
+fn first_from(pairs: &[Pair], place: usize) -> usize
+    ensures { AreOrdered pairs.now → IsPartitionPoint (λ p. ltb p.left place ≡ true) (λ p. ltb p.left place ≡ false) pairs.now result }
+{
+    pairs.partition_point(|pair| pair.left < place)
 }

@@ -16,7 +16,7 @@ use Rattle.paren_planner.specs.declared.steps.Step.TheVariants.{Free}
 use Rattle.cost_table.specs.Weighed.{is_plain_outline, slot_free}
 use Rattle.std.specs.Prelude.{set}
 use Rattle.cost_table.proofs.NodeRowNumbers.{chained_at}
-use Rattle.paren_planner.proofs.WalkSteps.{Begun, begun_first, begun_skip, begun_stop, begun_finish, begun_next, noted_unspelled, noted_alone, noted_around, place_within, noted_free, noted_word, noted_hidden, noted_through, outline_fixed}
+use Rattle.paren_planner.proofs.WalkSteps.{begun_stop, begun_finish, noted_unspelled, noted_alone, noted_around, place_within, noted_free, noted_word, noted_hidden, noted_through, outline_fixed}
 use Rattle.paren_planner.proofs.Passing.{reached_first, reached_skip, reached_part, reached_next, noted_passed, passing_parts}
 use Rattle.paren_planner.proofs.step_walk.+visiting.Goals as goal
 

@@ -1,7 +1,6 @@
-use Rattle.std.proofs.Common.{false, ◌+◌, ◌*◌}
+use Rattle.std.proofs.Common.{◌+◌, ◌*◌}
 use Rattle.tree.specs.Tree.{node_total}
 use Rattle.tree.specs.Node.{node_tree, list_parts}
-use Rattle.tree.proofs.PartWalk.{parts_drop}
 use Rattle.spelling_table.specs.Outlines.{role_of}
 use Rattle.spellings.specs.Remaining.{left}
 use Rattle.spellings.specs.Wherever.{spelled_by}
