@@ -1,21 +1,19 @@
 -- The rows of a node that stands as its position asks are those of the position.
-use Rattle.std.proofs.Common.{◌≡◌, ℕ, ◌+◌, Bool, true, false, cond, List, [], ◌∷◌, length, refl, sym, ap, ap₂, ◌∙◌, subst, arith, length-append}
+use Rattle.std.proofs.Common.{◌≡◌, ◌+◌, Bool, true, false, cond, List, [], ◌∷◌, length, refl, sym, ap, ap₂, ◌∙◌, subst, arith, length-append}
 use Rattle.std.specs.Prelude.{◌&&◌, map, filter, Result, Ok, Err, IfOk}
 use Rattle.std.proofs.lemmas.Bool.{and_parts, false≢true}
-use Rattle.tree.specs.Tree.{Tree, node, Parts, none, part, gap, kind_of, bare, bare_parts}
+use Rattle.tree.specs.Tree.{Tree, node, Parts, none, part, gap, kind_of, bare_parts}
 use Rattle.tree.specs.Uses.{is_lean}
 use Rattle.tree.specs.NodeUses.{rows_in}
 use Rattle.tree.specs.declared.kind.Kind.{Kind}
 use Rattle.tree.specs.declared.kind.Kind.TheVariants as kind
-use Rattle.tree.specs.declared.kind.Flags.{Flags}
 use Rattle.tree.specs.declared.node_use.NodeUse.{NodeUse}
-use Rattle.language.specs.declared.Rank.{Rank}
 use Rattle.language.specs.declared.Rank.TheVariants.{Expression}
 use Rattle.language.specs.declared.Start.{Start}
 use Rattle.language.specs.declared.Start.TheVariants.{Any}
 use Rattle.language.specs.Pieces.{Role, expr, chain_part, pattern, Slot, fixed, left, lead, tail, callee, lead_chain, lead_pattern, settle, Piece, sub, settle_piece, Spelling}
 use Rattle.language.specs.Grammar.{ways, ways_bare, spellings, patterns, starts, can_run}
-use Rattle.language.specs.RowPositions.{roles, first_roles, widest, has_row, rows, parts_rows}
+use Rattle.language.specs.RowPositions.{roles, first_roles, widest, rows, parts_rows}
 use Rattle.language.specs.Layout.{some_way, first_way}
 use Rattle.language.specs.LayoutFits.{lines_up}
 use Rattle.language.specs.Claims.{row_nodes, parts_row_nodes}

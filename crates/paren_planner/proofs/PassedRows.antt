@@ -1,10 +1,10 @@
 -- The steps of a node that costs nothing, row by row.
-use Rattle.std.proofs.Common.{◌≡◌, ℕ, ◌+◌, ◌<◌, ◌≤◌, true, false, ◌&&◌, cond, List, [], ◌∷◌, ◌++◌, length, Some, None, refl, sym, ap, ◌∙◌, subst, arith, append_assoc, append-nil, length-append}
+use Rattle.std.proofs.Common.{◌≡◌, ℕ, ◌+◌, ◌<◌, ◌≤◌, true, false, ◌&&◌, cond, List, [], ◌∷◌, ◌++◌, Some, None, refl, sym, ap, ◌∙◌, subst, arith, append_assoc, append-nil, length-append}
 use Rattle.std.specs.Prelude.{is_some, Result, Ok, Err, IfOk, OnOk}
 use Rattle.std.proofs.lemmas.Bool.{and_parts}
 use Rattle.tree.specs.Tree.{Tree, node, kind_of, flags_of, parts_of, part_count, part_at}
 use Rattle.tree.specs.Node.{node_tree, node_row}
-use Rattle.tree.specs.NodeUses.{has_row, own_rows, rows_in, parts_rows}
+use Rattle.tree.specs.NodeUses.{own_rows, rows_in, parts_rows}
 use Rattle.tree.specs.HeldRows.{HoldsRows, use_below}
 use Rattle.tree.specs.declared.node.Node.{Node}
 use Rattle.tree.specs.declared.node_use.NodeUse.{NodeUse}

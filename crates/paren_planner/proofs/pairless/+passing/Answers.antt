@@ -1,6 +1,6 @@
-use Rattle.std.proofs.Common.{◌≡◌, ◌∙◌, ◌<◌, ◌≤◌, Some, sym, arith, rules}
+use Rattle.std.proofs.Common.{◌∙◌, ◌<◌, ◌≤◌, sym, arith, rules}
 use Rattle.tree.specs.Node.{node_tree}
-use Rattle.tree.specs.Tree.{parts_of, part_count, part_at, node_total}
+use Rattle.tree.specs.Tree.{parts_of, part_count, node_total}
 use Rattle.tree.proofs.PartWalk.{part_smaller}
 use Rattle.paren_planner.proofs.PassedRows.{leaf_rows, rows_within, passed_gap, passed_part, passed_all}
 use Rattle.paren_planner.proofs.pairless.+passing.Goals as goal
