@@ -24,11 +24,11 @@ free_append (x ∷ xs) ys h e =
     let p = and_parts (is_free_step x) (are_free xs) h in
     (λ j. p.0 j && are_free (xs ++ ys)) ∙ free_append xs ys p.1 e
 
-pub no_rows : (m : ℕ) (old : List Step) → m ≡ 0 → FreeRows m old old
+no_rows : (m : ℕ) (old : List Step) → m ≡ 0 → FreeRows m old old
 no_rows m old e = record { steps = []; added = sym (append-nil old); free = refl; count = sym e }
 
 -- one after the other
-pub both_rows : (m k s : ℕ) (old mid new : List Step) → m + k ≡ s → FreeRows m old mid → FreeRows k mid new → FreeRows s old new
+both_rows : (m k s : ℕ) (old mid new : List Step) → m + k ≡ s → FreeRows m old mid → FreeRows k mid new → FreeRows s old new
 both_rows m k s old mid new e x y = record {
   steps = x.steps ++ y.steps;
   added = y.added ∙ ap (λ u. u ++ y.steps) x.added ∙ append_assoc old x.steps y.steps;
@@ -68,7 +68,7 @@ leaf_rows st n old new p x =
 -- Those below it, part by part
 
 -- the rows in the parts from a place on
-abbrev pub rows_left : NodeUse → Tree → ℕ → ℕ
+abbrev rows_left : NodeUse → Tree → ℕ → ℕ
 rows_left st n i = parts_rows (record { node_use = st; kind = kind_of n; flags = flags_of n }) (part_count (parts_of n)) i (parts_drop i (parts_of n))
 
 -- the rows in the parts up to there are noted

@@ -2,7 +2,7 @@ use Rattle.std.proofs.Common.{◌∙◌, ◌<◌, ◌≤◌, sym, arith, rules}
 use Rattle.tree.specs.Node.{node_tree}
 use Rattle.tree.specs.Tree.{parts_of, part_count, node_total}
 use Rattle.tree.proofs.PartWalk.{part_smaller}
-use Rattle.paren_planner.proofs.PassedRows.{leaf_rows, rows_within, passed_gap, passed_part, passed_all}
+use Rattle.paren_planner.proofs.PassedRows.{leaf_rows, rows_within, passed_first, passed_gap, passed_part, passed_all}
 use Rattle.paren_planner.proofs.pairless.+passing.Goals as goal
 
 pub push_held_rows-returns-then-part_count-eq0 : goal.push_held_rows-returns-then-part_count-eq0
@@ -11,6 +11,9 @@ push_held_rows-returns-then-part_count-eq0 t c = λ st held.
 
 pub push_held_rows-returns : goal.push_held_rows-returns
 push_held_rows-returns t c = rows_within c.push_part_rows.result c.args.node c.args.steps.now c.push_own_row.new.steps c.push_part_rows.new.steps c.in_ok-push_own_row.ensures c.push_part_rows.ensures
+
+pub push_part_rows-loop-index-init : goal.push_part_rows-loop-index-init
+push_part_rows-loop-index-init t c = λ st held. passed_first st (node_tree c.args.node) c.args.steps.now
 
 pub push_part_rows-loop-index-preserved-in_default : goal.push_part_rows-loop-index-preserved-in_default
 push_part_rows-loop-index-preserved-in_default t c = λ st held.
