@@ -4,6 +4,7 @@ use Rattle.tree.specs.Tree.{Tree, SameTree}
 use Rattle.tree.specs.declared.kind.Pair.{Pair}
 use Rattle.std.specs.Str.{IsUtf8}
 use Rattle.std.specs.Prelude.{Vec}
+use Rattle.std.specs.declared.alloc.Global.{Global}
 use Rattle.early_errors.specs.Accepted.{Accepted}
 use Rattle.early_errors.proofs.Placeless.{none_either}
 use Rattle.language.specs.Claims.{Derives, WithinLimits, max_open}
@@ -52,7 +53,7 @@ is_planned n bs same r = wrapped_is bs r ∙ same r
 -- ---- costs
 
 counted : (n : Tree) (l : Option ℕ) (k : ℕ) → l ≡ least n script → AtMost l k → length (wrapped_rows n script 1) ≤ k
-counted n None k is ()
+counted n None k is h = elim h [ ]
 counted n (Some m) k is (at_most h) = let count : length (wrapped_rows n script 1) ≡ m = wrapped_count n m (sym is) in omega (arith, count, h)
 
 -- no derivation of the same tree has fewer pairs than nodes are wrapped
@@ -93,7 +94,7 @@ fixed_utf8 text n P utf8 derived =
     subst IsUtf8 (fixed_items n) (readable_utf8 (script_readable (has_number (wrapped_rows n script 1)) n (text_fits text n P derived) (text_worded text n P utf8 derived)))
 
 -- what `fix` answers: the text that the tree and its wrapped nodes make
-pub fixed_answer : (text : List ℕ) (parsed : Parsed) (wraps : Vec Bool) → IsReading text parsed.program parsed.pairs.items → AnswersAlone Fix text parsed.program parsed.pairs.items (Ok (Fixed parsed wraps))
+pub fixed_answer : (text : List ℕ) (parsed : Parsed) (wraps : Vec Bool Global) → IsReading text parsed.program parsed.pairs.items → AnswersAlone Fix text parsed.program parsed.pairs.items (Ok (Fixed parsed wraps))
 fixed_answer text parsed wraps reading = λ finds given.
     let n = parsed.program in
     let accepted = reading.accepted in

@@ -1,4 +1,4 @@
-use Rattle.std.proofs.Common.{◌≡◌, ◌∙◌, List, Bool, false, sym, ap, subst, Err}
+use Rattle.std.proofs.Common.{◌≡◌, false, sym, subst, Err}
 use Rattle.std.specs.Io.KnownBytes.{Appends}
 use Rattle.language.specs.Claims.{Derives}
 use Rattle.language.specs.Layout.{fixed_text}
