@@ -126,11 +126,14 @@ def print_beside(tools, files, runs=7):
     print("| Script | bytes | program | one processor: processor | wall | all: processor | wall | MiB |\n|---|---|---|---|---|---|---|---|")
     ratios = []
     for path in files:
-        least = []
-        for name, words in tools(path).items():
-            times = [it for cpus in (one, every) for it in timed(words, cpus, runs) or [None]]
+        least, every_tool = [], tools(path)
+        # (in turn, so that a slower minute of the host isn't one tool's)
+        rounds = [{name: [timed(words, cpus, 1) for cpus in (one, every)] for name, words in every_tool.items()} for _ in range(runs)]
+        for name, words in every_tool.items():
+            found = [it[name] for it in rounds]
             cells, size = ["refused", "", "", ""], ""
-            if None not in times:
+            if all(None not in it for it in found):
+                times = [[it[where][what][0] for it in found] for where in (0, 1) for what in (0, 1)]
                 cells, size = [f"{min(it):.1f} {statistics.median(it):.1f}" for it in times], peak(words) / 1024
                 least.append([*map(min, times), size])
                 size = f"{size:.0f}"
