@@ -116,25 +116,35 @@ def timed(words, cpus, runs, well=(0,)):
     return [*zip(*found)]
 
 
+def in_turn(tools, places, runs, well=(0,)):
+    """Of each of these tools the processor and the wall milliseconds of its runs at each place, a set of processors; none where it refuses.
+
+    The tools run in turn, so that a slower minute of the host isn't one tool's.
+    """
+    rounds = [{name: [timed(words, cpus, 1, well) for cpus in places] for name, words in tools.items()} for _ in range(runs)]
+    found = {name: [it[name] for it in rounds] for name in tools}
+    return {name: None if any(None in it for it in each) else [[it[at][what][0] for it in each] for at in range(len(places)) for what in (0, 1)] for name, each in found.items()}
+
+
+def one_processor():
+    """The processor that CPU names, or the last."""
+    return {int(os.environ["CPU"])} if "CPU" in os.environ else {max(os.sched_getaffinity(0))}
+
+
 def print_beside(tools, files, runs=7):
     """Prints what our program, the first of these tools, and the others take for each file, and then how ours compares with the second.
 
     Times are in milliseconds, the least and the median of some runs, on one processor (that CPU names, or the last) and on all.
     """
-    every = os.sched_getaffinity(0)
-    one = {int(os.environ["CPU"])} if "CPU" in os.environ else {max(every)}
+    places = [one_processor(), os.sched_getaffinity(0)]
     print("| Script | bytes | program | one processor: processor | wall | all: processor | wall | MiB |\n|---|---|---|---|---|---|---|---|")
     ratios = []
     for path in files:
-        least, every_tool = [], tools(path)
-        # (in turn, so that a slower minute of the host isn't one tool's)
-        rounds = [{name: [timed(words, cpus, 1) for cpus in (one, every)] for name, words in every_tool.items()} for _ in range(runs)]
-        for name, words in every_tool.items():
-            found = [it[name] for it in rounds]
+        least, words_of = [], tools(path)
+        for name, times in in_turn(words_of, places, runs).items():
             cells, size = ["refused", "", "", ""], ""
-            if all(None not in it for it in found):
-                times = [[it[where][what][0] for it in found] for where in (0, 1) for what in (0, 1)]
-                cells, size = [f"{min(it):.1f} {statistics.median(it):.1f}" for it in times], peak(words) / 1024
+            if times:
+                cells, size = [f"{min(it):.1f} {statistics.median(it):.1f}" for it in times], peak(words_of[name]) / 1024
                 least.append([*map(min, times), size])
                 size = f"{size:.0f}"
             print(f"| {os.path.basename(path)} | {os.path.getsize(path)} | {name} | {' | '.join(cells)} | {size} |", flush=True)
