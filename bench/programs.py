@@ -77,11 +77,6 @@ def pinned(words):
     return ["taskset", "-c", os.environ["CPU"], *words] if "CPU" in os.environ else list(words)
 
 
-def checked(words, runs=5):
-    """As `process`, of a linter: status 1 says that it reports something."""
-    return process(words, runs, (0, 1))
-
-
 def process(words, runs=5, well=(0,)):
     """The least seconds of some runs of a process, and its peak memory in KiB; none where it refuses."""
     words = pinned(words)
