@@ -14,3 +14,4 @@ pub mod TreesTooLarge
 pub mod Wholes
 pub mod Parents
 pub mod PartRows
+pub mod RowNumbers

@@ -1,5 +1,5 @@
 -- The rows that a node of a finished tree and those below it hold: the rows of nodes that stand so.
-use Rattle.std.specs.Prelude.{◌≡◌, ℕ, cond, List, ◌++◌, length, slice_index_or, ◌<◌, Some, None}
+use Rattle.std.specs.Prelude.{◌≡◌, ℕ, ◌+◌, cond, List, ◌++◌, length, slice_index_or, ◌<◌, Some, None}
 use Rattle.std.specs.List.{slice_get}
 use Rattle.tree.specs.declared.flat_ref.FlatRef.{FlatRef}
 use Rattle.tree.specs.declared.flat_list.FlatList.{FlatList}
@@ -11,7 +11,7 @@ use Rattle.tree.specs.declared.node_use.NodeUse.{NodeUse}
 use Rattle.tree.specs.Tree.{Tree, kind_of, flags_of, parts_of, part_count}
 use Rattle.tree.specs.Flat.{numbers_of, runs_of, run_of}
 use Rattle.tree.specs.Growth.{node_rows, node_runs}
-use Rattle.tree.specs.NodeUses.{row_list, has_row, use_in}
+use Rattle.tree.specs.NodeUses.{row_list, has_row, use_in, own_rows, rows_before}
 use Rattle.tree.specs.Places.{place_tree, place_row}
 
 -- a node is the one that a list of parts names at this place
@@ -35,6 +35,10 @@ pub record PlaceHoldsRows (a : NodeUse) (p : FlatRef) : Type 0 where
   pub own_row : place_row p ≡ cond (has_row a (kind_of (place_tree p))) (Some row) None
   pub own_run : run_of p.tree.now.parts.items p.node.now ≡ numbers_of first (parts_of (place_tree p))
 
+-- the same, and the first row in it, if there is one, has this number
+abbrev pub PlaceHoldsRowsFrom : NodeUse → ℕ → FlatRef → Type 0
+PlaceHoldsRowsFrom a r p = (held : PlaceHoldsRows a p) × (held.row ≡ r)
+
 abbrev pub shown_rows : NodeUse → NodeStorage → Type 0
 shown_rows a (shown.Boxed s) = ⊥
 shown_rows a (shown.Flat p) = PlaceHoldsRows a p
@@ -43,6 +47,18 @@ shown_rows a (shown.Flat p) = PlaceHoldsRows a p
 unfoldable pub HoldsRows : NodeUse → Node → Type 0
 HoldsRows a n = shown_rows a n.storage
 
+abbrev pub shown_rows_from : NodeUse → ℕ → NodeStorage → Type 0
+shown_rows_from a r (shown.Boxed s) = ⊥
+shown_rows_from a r (shown.Flat p) = PlaceHoldsRowsFrom a r p
+
+-- the same, and the first row in it, if there is one, has this number
+unfoldable pub HoldsRowsFrom : NodeUse → ℕ → Node → Type 0
+HoldsRowsFrom a r n = shown_rows_from a r n.storage
+
 -- how a part of a node stands that stands so itself
 abbrev pub use_below : NodeUse → Tree → ℕ → Tree → NodeUse
 use_below a n i m = use_in (record { node_use = a; kind = kind_of n; flags = flags_of n }) (part_count (parts_of n)) i m
+
+-- the number of the first row in a part of a node, if there is one, where that of the node is known
+abbrev pub row_below : NodeUse → ℕ → Tree → ℕ → ℕ
+row_below a r n i = r + own_rows a (kind_of n) + rows_before (record { node_use = a; kind = kind_of n; flags = flags_of n }) (part_count (parts_of n)) i (parts_of n)

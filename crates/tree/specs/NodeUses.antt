@@ -11,7 +11,7 @@ use Rattle.tree.specs.declared.node_use.NodeUse.TheVariants.{Evaluated, ChainPar
 use Rattle.tree.specs.declared.node_use.ParentUse.{ParentUse}
 use Rattle.tree.specs.declared.node_use.ChildPlace.{ChildPlace}
 use Rattle.tree.specs.Kinds.{is_chain_part, is_expression, is_pattern, is_target}
-use Rattle.tree.specs.Tree.{Tree, Parts, node, none, part, gap, kind_of, part_count}
+use Rattle.tree.specs.Tree.{Tree, Parts, node, none, part, gap, kind_of, part_count, parts_take}
 
 abbrev pub has_row : NodeUse → Kind → Bool
 has_row Evaluated node_kind = is_expression node_kind
@@ -122,6 +122,10 @@ abbrev mutual
   parts_row_list a count i r (gap rest) = parts_row_list a count (i + 1) r rest
   parts_row_list a count i r (part tree rest) =
       row_list (use_in a count i tree) r tree ++ parts_row_list a count (i + 1) (r + rows_in (use_in a count i tree) tree) rest
+
+-- the rows in the parts before a place
+abbrev pub rows_before : ParentUse → ℕ → ℕ → Parts → ℕ
+rows_before a count i parts = parts_rows a count 0 (parts_take i parts)
 
 -- those of a whole script
 abbrev pub rows_of : Tree → List (Option ℕ)

@@ -18,7 +18,7 @@ pub(crate) struct FlatRef<'t, 's> {
 }
 
 impl<'t, 's> FlatRef<'t, 's> {
-    ghost use Rattle.std.specs.Prelude.{◌≡◌, ◌<◌, length};
+    ghost use Rattle.std.specs.Prelude.{◌≡◌, ◌<◌, ℕ, length};
     ghost use Rattle.tree.specs.Tree.{kind_of, text_of, flags_of, start_of, stop_of, parts_of};
     ghost use Rattle.tree.specs.Flat.{tree_at};
     ghost use Rattle.tree.specs.Growth.{row_at};
@@ -26,7 +26,7 @@ impl<'t, 's> FlatRef<'t, 's> {
     ghost use Rattle.tree.specs.Tree.{part_at};
     ghost use Rattle.tree.specs.Flat.{run_of};
     ghost use Rattle.tree.specs.Places.{place_tree, place_row, run_parts};
-    ghost use Rattle.tree.specs.HeldRows.{PlaceHoldsRows, use_below};
+    ghost use Rattle.tree.specs.HeldRows.{PlaceHoldsRows, PlaceHoldsRowsFrom, use_below, row_below};
     ghost use Rattle.tree.specs.declared.node_use.NodeUse.{NodeUse};
 
     /// The node with a number.
@@ -102,6 +102,7 @@ impl<'t, 's> FlatRef<'t, 's> {
     pub(crate) fn part(self, index: usize) -> Option<FlatRef<'t, 's>>
         ensures tree { option_map place_tree result ≡ part_at (parts_of (place_tree self.entry)) index }
         ensures rows { IfSome result (λ q. (a : NodeUse) → PlaceHoldsRows a self.entry → PlaceHoldsRows (use_below a (place_tree self.entry) index (place_tree q)) q) }
+        ensures numbered { IfSome result (λ q. (a : NodeUse) (r : ℕ) → PlaceHoldsRowsFrom a r self.entry → PlaceHoldsRowsFrom (use_below a (place_tree self.entry) index (place_tree q)) (row_below a r (place_tree self.entry) index) q) }
     {
         let parts = self.parts();
         parts.get(index)
