@@ -15,3 +15,4 @@ pub mod Wholes
 pub mod Parents
 pub mod PartRows
 pub mod RowNumbers
+pub mod FirstAndLast

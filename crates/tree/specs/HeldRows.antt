@@ -1,5 +1,5 @@
 -- The rows that a node of a finished tree and those below it hold: the rows of nodes that stand so.
-use Rattle.std.specs.Prelude.{◌≡◌, ℕ, ◌+◌, cond, List, ◌++◌, length, slice_index_or, ◌<◌, Some, None}
+use Rattle.std.specs.Prelude.{◌≡◌, ℕ, zero, suc, ◌+◌, cond, List, ◌++◌, length, slice_index_or, ◌<◌, Option, Some, None}
 use Rattle.std.specs.List.{slice_get}
 use Rattle.tree.specs.declared.flat_ref.FlatRef.{FlatRef}
 use Rattle.tree.specs.declared.flat_list.FlatList.{FlatList}
@@ -62,3 +62,13 @@ use_below a n i m = use_in (record { node_use = a; kind = kind_of n; flags = fla
 -- the number of the first row in a part of a node, if there is one, where that of the node is known
 abbrev pub row_below : NodeUse → ℕ → Tree → ℕ → ℕ
 row_below a r n i = r + own_rows a (kind_of n) + rows_before (record { node_use = a; kind = kind_of n; flags = flags_of n }) (part_count (parts_of n)) i (parts_of n)
+
+-- the first of so many numbers from one on
+abbrev pub first_number : ℕ → ℕ → Option ℕ
+first_number r zero = None
+first_number r (suc k) = Some r
+
+-- the last of them
+abbrev pub last_number : ℕ → ℕ → Option ℕ
+last_number r zero = None
+last_number r (suc k) = Some (r + k)

@@ -19,7 +19,7 @@ pub(crate) struct FlatRef<'t, 's> {
 
 impl<'t, 's> FlatRef<'t, 's> {
     ghost use Rattle.std.specs.Prelude.{◌≡◌, ◌<◌, ℕ, length};
-    ghost use Rattle.tree.specs.Tree.{kind_of, text_of, flags_of, start_of, stop_of, parts_of};
+    ghost use Rattle.tree.specs.Tree.{kind_of, text_of, flags_of, start_of, stop_of, parts_of, part_count};
     ghost use Rattle.tree.specs.Flat.{tree_at};
     ghost use Rattle.tree.specs.Growth.{row_at};
     ghost use Rattle.std.specs.Prelude.{option_map, slice_index_or, IfSome};
@@ -96,6 +96,14 @@ impl<'t, 's> FlatRef<'t, 's> {
         let first = node.first as usize;
         let count = node.count as usize;
         FlatList::new(tree, section(&tree.parts, first, count))
+    }
+
+    /// The number of its parts, gaps included.
+    pub(crate) fn part_count(self) -> usize
+        ensures { result ≡ part_count (parts_of (place_tree self.entry)) }
+    {
+        let parts = self.parts();
+        parts.len()
     }
 
     /// The part at a place, counted from 0 in source order; none for a gap and past the end.

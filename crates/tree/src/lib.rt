@@ -26,6 +26,7 @@ mod part_access;
 mod part_number;
 mod parts;
 mod program;
+mod row_count;
 mod walk;
 
 pub use boxed_node::BoxedNode;
