@@ -81,6 +81,15 @@ pub(crate) fn push_nodes(program: &Program, out: &mut String) -> Result<(), Allo
     Ok(())
 }
 
+/// The kind of each node of a finished script, and how many rows are in it.
+pub(crate) fn push_row_counts(program: &Program, out: &mut String) -> Result<(), AllocError> {
+    for number in 0..program.node_count() {
+        let node = program.node(number);
+        write!(out, "{:?} {};", node.kind(), node.row_count())?;
+    }
+    Ok(())
+}
+
 /// The same of a text, if it is a script.
 pub(crate) fn push_difference_of_source(
     alloc: Global,

@@ -1,7 +1,7 @@
 //! What calls answer for trees that are written down.
 
 use crate::case::Case;
-use crate::finished::{push_difference_of_text, push_nodes};
+use crate::finished::{push_difference_of_text, push_nodes, push_row_counts};
 use crate::placed::push_places;
 use crate::print::show;
 use crate::refusals::push_refusal;
@@ -40,6 +40,7 @@ fn push_tree(
     match call {
         "line" => show(program.root(), out),
         "numbers" => push_nodes(program, out),
+        "row counts" => push_row_counts(program, out),
         "height" => push_height(program, out),
         "copy" => push_copy(alloc, program, out),
         "same" => push_same(alloc, row.text(2), program, out),

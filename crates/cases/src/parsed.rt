@@ -2,7 +2,7 @@
 
 use crate::case::Case;
 use crate::devices::{plan, push_answer};
-use crate::finished::push_nodes;
+use crate::finished::{push_nodes, push_row_counts};
 use crate::kept::{push_kept, push_reading};
 use crate::nodes::{push_copy, push_equal_copy};
 use crate::plans::{push_extra, push_extra_pairs, push_gauged_table, push_plan};
@@ -220,6 +220,7 @@ fn push_tree(
         "copied" => push_copy(alloc, program, out),
         "equal copy" => push_equal_copy(alloc, program, out),
         "numbers" => push_nodes(program, out),
+        "row counts" => push_row_counts(program, out),
         call => write!(out, "no call {call}"),
     }
 }
