@@ -11,7 +11,7 @@ use Rattle.cost_table.specs.declared.table.Row.{Row}
 use Rattle.cost_table.specs.declared.node_costs.NodeCosts.{NodeCosts}
 use Rattle.paren_planner.specs.declared.steps.NodeStep.{NodeStep}
 use Rattle.paren_planner.specs.declared.steps.Step.{Step}
-use Rattle.paren_planner.specs.declared.steps.Step.TheVariants.{Free, Leaf, Enter, Leave}
+use Rattle.paren_planner.specs.declared.steps.Step.TheVariants.{Free, Passed, Leaf, Enter, Leave}
 use Rattle.cost_table.specs.Costs.{sums, no_pairs, IsHeld}
 use Rattle.paren_planner.specs.Pending.{here_of, outer_of, shown_sums, AreHeld}
 use Rattle.cost_table.specs.Rows.{row_with}
@@ -36,6 +36,7 @@ others_held (c ∷ cs) h = All-tail IsHeld c cs h
 
 taken_held : (x : Step) (t : Sums) → AreHeld t → AreHeld (taken x t)
 taken_held (Free k z) t h = record { here = h.here; outer = h.outer }
+taken_held (Passed m) t h = h
 taken_held (Leaf v) t h = record { here = sums-zero t.here (used v no_pairs); outer = h.outer }
 taken_held (Enter v) t h = record { here = sums-zero (innermost t.outer) (used v t.here); outer = others_held t.outer h.outer }
 taken_held Leave t h = record { here = zero-zero; outer = All-cons IsHeld t.here t.outer h.here h.outer }
@@ -74,6 +75,9 @@ step_taken (Err a) x y t u i e = e
 pub free_taken : {A E : Type 0} (r : Result A E) (x : Step) (k : Kind) (z : Rank) (p : OpenSums) (old new : List Row) → x ≡ Free k z → OnOk r (new ≡ old ++ free_row k z ∷ []) → OnOk r (shown_sums p new ≡ taken x (shown_sums p old))
 free_taken (Ok a) x k z p old new i e = (λ j. record { here = here_of p; outer = outer_of p; rows = row_pushed true (free_row k z) old new e j }) ∙ ap (λ y. taken y (shown_sums p old)) (sym i)
 free_taken (Err a) x k z p old new i e = e
+
+pub passed_taken : (x : Step) (m : ℕ) (t : Sums) → x ≡ Passed m → t ≡ taken x t
+passed_taken x m t i = ap (λ y. taken y t) (sym i)
 
 pub parent_taken : {A E : Type 0} (r : Result A E) (v : NodeStep) (c : own.Costs) (p q : OpenSums) (t : Sums) (old : List Row) → c ≡ here_of p → here_of q ≡ innermost (outer_of p) → outer_of q ≡ others (outer_of p)
     → OnOk r (t ≡ joined v c (shown_sums q old)) → OnOk r (t ≡ taken (Enter v) (shown_sums p old))

@@ -19,13 +19,13 @@ use Rattle.cost_table.specs.declared.node_costs.NodeCosts.{NodeCosts}
 use Rattle.cost_table.specs.declared.table.Row.{Row}
 use Rattle.paren_planner.specs.declared.steps.NodeStep.{NodeStep}
 use Rattle.paren_planner.specs.declared.steps.Step.{Step}
-use Rattle.paren_planner.specs.declared.steps.Step.TheVariants.{Free, Leaf, Enter, Leave}
+use Rattle.paren_planner.specs.declared.steps.Step.TheVariants.{Free, Passed, Leaf, Enter, Leave}
 use Rattle.cost_table.specs.Costs.{capped, capped_sum, each, cost_at, sums, same_everywhere, cells_at, no_pairs, IsHeld}
 use Rattle.cost_table.specs.Weighed.{settled_at, uses, fitting, sums_over, IsWeighed, slot_free, is_plain_outline}
 use Rattle.cost_table.specs.Rows.{row_with, row_of, own_row}
 use Rattle.spelling_table.specs.Requirements.{requirements_of}
 use Rattle.paren_planner.specs.Steps.{free_row, outline_of, has_row_at, weighed_as, weighed_of, row_of_visit, Sums, joined, taken, taken_from, at_the_end}
-use Rattle.paren_planner.specs.Noted.{IsVisit, are_free, Steps, unspelled, alone, around, costless, hidden, through, passed, is_settled, is_settled_slot, is_fixed, PartsSteps, over, skipped, unplaced, next, row_at, free_rows, made_rows, made_parts}
+use Rattle.paren_planner.specs.Noted.{IsVisit, are_free, Steps, unspelled, alone, around, costless, hidden, through, passed, is_settled, is_settled_slot, is_fixed, PartsSteps, over, skipped, unplaced, next, row_at, made_rows, made_parts}
 use Rattle.cost_table.proofs.Plainly.{plain_uses}
 use Rattle.paren_planner.proofs.FreeRows.{free_row_at}
 use Rattle.cost_table.proofs.Sums.{sums-assoc, sums-zero, zero-zero, zero-sums}
@@ -184,16 +184,14 @@ free_node a s n x R t k p r f e h =
     }
 
 -- steps of nodes that cost nothing change no sums
-taken_free : (xs : List Step) (t : Sums) → are_free xs ≡ true → taken_from xs t ≡ record { here = t.here; outer = t.outer; rows = free_rows xs ++ t.rows }
-unfolding taken_from
-taken_free [] t h = refl
-taken_free (Free k z ∷ xs) t h = ap (taken (Free k z)) (taken_free xs t h)
-taken_free (Leaf v ∷ xs) t h = absurd (false≢true h)
-taken_free (Enter v ∷ xs) t h = absurd (false≢true h)
-taken_free (Leave ∷ xs) t h = absurd (false≢true h)
-
 free_here : (xs : List Step) (t : Sums) → are_free xs ≡ true → (taken_from xs t).here ≡ t.here
-free_here xs t h = ap (λ u. u.here) (taken_free xs t h)
+unfolding taken_from
+free_here [] t h = refl
+free_here (Free k z ∷ xs) t h = free_here xs t h
+free_here (Passed m ∷ xs) t h = free_here xs t h
+free_here (Leaf v ∷ xs) t h = absurd (false≢true h)
+free_here (Enter v ∷ xs) t h = absurd (false≢true h)
+free_here (Leave ∷ xs) t h = absurd (false≢true h)
 
 free_first : (k : Rattle.tree.specs.declared.kind.Kind.Kind) (z : Rank) (xs : List Step) (t : Sums) → taken_from (Free k z ∷ xs) t ≡ taken (Free k z) (taken_from xs t)
 unfolding taken_from
@@ -258,13 +256,17 @@ passed_uses a callee n w h k z = absurd (false≢true h)
 passed_uses a lead_chain n w h k z = absurd (false≢true h)
 passed_uses a lead_pattern n w h k z = absurd (false≢true h)
 
-passed_node : (a : Role) (s : Slot) (n : Tree) (xs : List Step) (t : Sums) → is_fixed s ≡ true → least n (settled_at a s) ≡ Some 0 → are_free xs ≡ true → IsHeld t.here → Joined a s n (free_rows xs) t (taken_from xs t)
-passed_node a s n xs t f z g h =
+taken_passed : (m : ℕ) (t : Sums) → taken_from (Passed m ∷ []) t ≡ t
+unfolding taken_from
+taken_passed m t = refl
+
+passed_node : (a : Role) (s : Slot) (n : Tree) (t : Sums) → is_fixed s ≡ true → least n (settled_at a s) ≡ Some 0 → IsHeld t.here → Joined a s n [] t t
+passed_node a s n t f z h =
     let w : AnyWeighed (settled_at a s) n = any_weighed (settled_at a s) n in
     record {
       weighed = w.weighed;
       known = w.known;
-      is = taken_free xs t g ∙ (λ j. record { here = (sym h ∙ ap (sums t.here) (sym (passed_uses a s n w.weighed f w.known z))) j; outer = t.outer; rows = free_rows xs ++ t.rows });
+      is = λ j. record { here = (sym h ∙ ap (sums t.here) (sym (passed_uses a s n w.weighed f w.known z))) j; outer = t.outer; rows = t.rows };
     }
 
 -- parts whose steps are such cost nothing, by what the steps do
@@ -296,7 +298,7 @@ mutual
       (free_node a s n x (made_parts q) t k p r f (free_sums_of (widest (settled_at a s)) (left x.slots) (parts_of n) ys (made_parts q) g (parts_taken q at_the_end zero-zero)) h)
   node_taken {a} {s} {n} {xs} (hidden x k p e r z) t h = subst (Joined a s n [] t) (sym (ap (λ u. taken_from u t) z)) (hidden_node a s n x t k p e r h)
   node_taken {a} {s} {n} {xs} (through x k r g q) t h = settled_here a s n x (made_parts q) t (taken_from xs t) k r (parts_taken q t h)
-  node_taken {a} {s} {n} {xs} (passed l f z g e) t h = passed_node a s n xs t f z g h
+  node_taken {a} {s} {n} {xs} (passed m l f z e i) t h = subst (Joined a s n [] t) (sym (ap (λ u. taken_from u t) i ∙ taken_passed m t)) (passed_node a s n t f z h)
 
   pub parts_taken : {may_pass : Bool} {a : Role} {ss : List Slot} {ps : Parts} {xs : List Step} → (h : PartsSteps may_pass a ss ps xs) → (t : Sums) → IsHeld t.here →
       taken_from xs t ≡ record { here = sums t.here (sums_over ps a ss); outer = t.outer; rows = made_parts h ++ t.rows }

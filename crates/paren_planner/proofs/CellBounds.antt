@@ -25,11 +25,10 @@ use Rattle.spellings.proofs.Slots.{is_plain, is_lawful, is_wide, all_pass, parts
 use Rattle.cost_table.specs.declared.table.Row.{Row}
 use Rattle.cost_table.specs.Rows.{row_of, shown, celled, table_rows, parts_table}
 use Rattle.cost_table.specs.Tables.{table_of, MeetsBounds}
-use Rattle.paren_planner.specs.Wrapped.{HasRows}
 use Rattle.cost_table.proofs.Known.{implies_true, takes_all, takes_tight, least_expr}
 use Rattle.cost_table.proofs.NodeRowNumbers.{way_when}
 use Rattle.paren_planner.proofs.WrappedRows.{table_at, rows_at}
-use Rattle.paren_planner.proofs.Turns.{front_rows, rows_behind, table-length}
+use Rattle.paren_planner.proofs.Turns.{HasRows, front_rows, rows_behind, table-length}
 use Rattle.paren_planner.proofs.Bounds.{rows_inner}
 use Rattle.paren_planner.proofs.CellRows.{row_shown, script_shown}
 use Rattle.cost_table.proofs.RowNodes.{wide_itself, wide_start, split_at, nodes-length}

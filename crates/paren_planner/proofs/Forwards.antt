@@ -1,10 +1,10 @@
 -- Forwards over the steps of a walk: the flags are the definition's.
-use Rattle.std.proofs.Common.{◌≡◌, ℕ, zero, suc, ◌+◌, ◌≤◌, Bool, true, false, cond, min, List, [], ◌∷◌, ◌++◌, length, drop, Option, Some, None, refl, sym, ap, ◌∙◌, subst, append_assoc, append-nil, arith}
-use Rattle.std.specs.Prelude.{◌&&◌, not, slice_get}
+use Rattle.std.proofs.Common.{◌≡◌, ℕ, zero, suc, ◌+◌, ◌≤◌, Bool, true, false, cond, min, List, [], ◌∷◌, ◌++◌, length, Option, Some, None, refl, sym, ap, ◌∙◌, subst, append_assoc, append-nil, arith}
+use Rattle.std.specs.Prelude.{◌&&◌, not}
 use Rattle.std.proofs.lemmas.Bool.{false≢true, and_parts}
 use Rattle.std.proofs.lemmas.Bool.Decides.{nat_tests}
-use Rattle.std.proofs.lemmas.List.{length-append, replicate-append-replicate}
-use Rattle.tree.specs.Tree.{Tree, Parts, none, kind_of, parts_of}
+use Rattle.std.proofs.lemmas.List.{replicate-append-replicate}
+use Rattle.tree.specs.Tree.{Tree, Parts, none, parts_of}
 use Rattle.language.specs.declared.Rank.{Rank}
 use Rattle.language.specs.declared.Rank.TheVariants.{Expression}
 use Rattle.language.specs.declared.Start.{Start}
@@ -27,48 +27,48 @@ use Rattle.cost_table.specs.declared.table.Row.{Row}
 use Rattle.spelling_table.specs.declared.requirements.Requirements.{Requirements}
 use Rattle.paren_planner.specs.declared.steps.NodeStep.{NodeStep}
 use Rattle.paren_planner.specs.declared.steps.Step.{Step}
-use Rattle.paren_planner.specs.declared.steps.Step.TheVariants.{Free, Leaf, Enter, Leave}
+use Rattle.paren_planner.specs.declared.steps.Step.TheVariants.{Free, Passed, Leaf, Enter, Leave}
 use Rattle.cost_table.specs.Costs.{capped, cells_at, no_pairs, is_free}
 use Rattle.cost_table.specs.Weighed.{settled_at, cost_of, fitting, sums_over, fits_spelled, slot_free, role_free, is_plain_outline}
 use Rattle.cost_table.specs.Rows.{row_of, is_expression}
-use Rattle.paren_planner.specs.Wrapped.{unwrapped, flags, parts_flags, inner_flags, HasRows}
+use Rattle.paren_planner.specs.Wrapped.{unwrapped, flags, parts_flags, inner_flags}
 use Rattle.spelling_table.specs.Requirements.{requirements_of}
-use Rattle.paren_planner.specs.Steps.{outline_of, stands_at, has_row_at}
+use Rattle.paren_planner.specs.Steps.{outline_of, stands_at, has_row_at, others}
 use Rattle.paren_planner.specs.Noted.{IsVisit, are_free, Steps, unspelled, alone, around, costless, hidden, through, passed, is_settled_slot, is_fixed, are_fixed, PartsSteps, over, skipped, unplaced, next, row_at, made_rows, made_parts}
-use Rattle.paren_planner.specs.Marked.{Round, Marks, meets, wants, around_parts, flag_at, round_at, plain_round, flag_of, round_of, marked, marked_through, at_the_start}
+use Rattle.paren_planner.specs.Marked.{Round, Marks, meets, wants, around_parts, first_row, flag_at, round_at, plain_round, flag_of, round_of, rows_after, marked, marked_through, at_the_start}
 use Rattle.cost_table.proofs.Known.{own_widest, counted}
 use Rattle.cost_table.proofs.NodeRowNumbers.{weighed_some}
-use Rattle.paren_planner.proofs.WrappedRows.{settled-rows, parts-rows, flags-length, parts-flags-length, wrapped-numbers, parts-numbers, no_number}
-use Rattle.paren_planner.proofs.Turns.{front_rows, rows_behind, inner_some, inner_none, plain_flags, wanted, rows_below, own_few, own_result, plain_few, spelled_inside, all_rows}
+use Rattle.paren_planner.proofs.WrappedRows.{parts-rows, flags-length, parts-flags-length, wrapped-numbers, parts-numbers, no_number}
+use Rattle.paren_planner.proofs.Turns.{inner_some, inner_none, plain_flags, wanted, rows_below, own_few, own_result, plain_few, spelled_inside}
 use Rattle.paren_planner.proofs.Totals.{node_count, parts_count, cell_roles}
-use Rattle.paren_planner.proofs.MadeRows.{settled_rowless, bare_rows, no_way_rows, spelled_rows, hidden_rows, through_rows, made_length}
+use Rattle.paren_planner.proofs.MadeRows.{settled_rowless, bare_rows, no_way_rows, spelled_rows, hidden_rows, through_rows}
 use Rattle.paren_planner.proofs.Backwards.{fits_outlined, free_sums}
 use Rattle.cost_table.proofs.Plainly.{plain_fits, cost_free, settled_free}
 
 -- The steps
 
-marked_append : (T : List Row) (xs ys : List Step) (t : Marks) → marked_through T (xs ++ ys) t ≡ marked_through T ys (marked_through T xs t)
+marked_append : (xs ys : List Step) (t : Marks) → marked_through (xs ++ ys) t ≡ marked_through ys (marked_through xs t)
 unfolding marked_through
-marked_append T [] ys t = refl
-marked_append T (x ∷ xs) ys t = marked_append T xs ys (marked T x t)
+marked_append [] ys t = refl
+marked_append (x ∷ xs) ys t = marked_append xs ys (marked x t)
 
-marked_leaf : (T : List Row) (v : NodeStep) (t : Marks) → marked_through T (Leaf v ∷ []) t ≡ marked T (Leaf v) t
+marked_one : (x : Step) (t : Marks) → marked_through (x ∷ []) t ≡ marked x t
 unfolding marked_through
-marked_leaf T v t = refl
+marked_one x t = refl
 
-marked_around : (T : List Row) (v : NodeStep) (ys : List Step) (t : Marks) → marked_through T (Enter v ∷ (ys ++ Leave ∷ [])) t ≡ marked T Leave (marked_through T ys (marked T (Enter v) t))
+marked_around : (v : NodeStep) (ys : List Step) (t : Marks) → marked_through (Enter v ∷ (ys ++ Leave ∷ [])) t ≡ marked Leave (marked_through ys (marked (Enter v) t))
 unfolding marked_through
-marked_around T v ys t = marked_append T ys (Leave ∷ []) (marked T (Enter v) t)
+marked_around v ys t = marked_append ys (Leave ∷ []) (marked (Enter v) t)
 
--- what the steps of a node do: flags are added
-abbrev flagged : Marks → List Bool → Marks
-flagged t bs = record { here = t.here; outer = t.outer; flags = t.flags ++ bs }
+abbrev marks : Round → List Round → List Row → List Bool → Marks
+marks x us R bs = record { here = x; outer = us; rows = R; flags = bs }
 
-flagged_twice : (t : Marks) (bs cs : List Bool) → flagged (flagged t bs) cs ≡ flagged t (bs ++ cs)
-flagged_twice t bs cs = λ j. record { here = t.here; outer = t.outer; flags = append_assoc t.flags bs cs j }
+-- what the steps of a node do: they use rows, and add flags
+twice : (x : Round) (us : List Round) (R : List Row) (bs cs ds : List Bool) → marks x us R ((bs ++ cs) ++ ds) ≡ marks x us R (bs ++ (cs ++ ds))
+twice x us R bs cs ds = ap (marks x us R) (append_assoc bs cs ds)
 
-flagged_not : (t : Marks) → t ≡ flagged t []
-flagged_not t = λ j. record { here = t.here; outer = t.outer; flags = sym (append-nil t.flags) j }
+not_once : (x : Round) (us : List Round) (R : List Row) (bs : List Bool) → marks x us R bs ≡ marks x us R (bs ++ [])
+not_once x us R bs = ap (marks x us R) (sym (append-nil bs))
 
 -- Rows, by the slot alone
 
@@ -107,18 +107,38 @@ spelled_at a o s n r h = λ y i f. subst (λ b. Verdict (ways b n) (spelled_role
 unwrapped_sum : (m k : ℕ) → unwrapped m ++ unwrapped k ≡ unwrapped (m + k)
 unwrapped_sum m k = replicate-append-replicate m k false
 
+-- The rows behind a node's own
+
+own_after : (b : Bool) (r : Row) (R : List Row) → cond b (others (cond b (r ∷ []) [] ++ R)) (cond b (r ∷ []) [] ++ R) ≡ R
+own_after true r R = refl
+own_after false r R = refl
+
+after_own : (s : Slot) (n : Tree) (v : NodeStep) (R : List Row) → slot_of v.slot ≡ s → rows_after v (row_at s n ++ R) ≡ R
+after_own s n v R i = ap (λ u. cond (has_row_at u) (others (row_at s n ++ R)) (row_at s n ++ R)) i ∙ own_after (has_row_at s) (row_of n) R
+
+first_own : (b : Bool) (r : Row) (R : List Row) → b ≡ true → first_row (cond b (r ∷ []) [] ++ R) ≡ Some r
+first_own true r R h = refl
+first_own false r R h = absurd (false≢true h)
+
 -- Where nothing may be wrapped
 
-dead_round : (T : List Row) (v : NodeStep) (x : Round) (bs : List Bool) → x.may_wrap ≡ false → round_of T v x bs ≡ x
-dead_round T v x bs h = ap (λ b. cond b (cond (has_row_at (slot_of v.slot)) (round_at (slice_get T (length bs)) (stands_at x.own v) v.requirements) (plain_round (stands_at x.own v) v.requirements)) x) h
+dead_round : (v : NodeStep) (x : Round) (r : Option Row) → x.may_wrap ≡ false → round_of v x r ≡ x
+dead_round v x r h = ap (λ b. cond b (cond (has_row_at (slot_of v.slot)) (round_at r (stands_at x.own v) v.requirements) (plain_round (stands_at x.own v) v.requirements)) x) h
 
-dead_flag : (T : List Row) (a : Role) (s : Slot) (n : Tree) (v : NodeStep) (x : Round) (bs : List Bool) → IsVisit a s n v → x.may_wrap ≡ false → flag_of T v x bs ≡ unwrapped (has_row (settled_at a s))
-dead_flag T a s n v x bs i h =
-    (λ j. cond (has_row_at (i.slot j)) (cond (h j) (flag_at (slice_get T (length bs)) (stands_at x.own v) v.requirements) false ∷ []) []) ∙ row_count s a
+dead_flag : (a : Role) (s : Slot) (n : Tree) (v : NodeStep) (x : Round) (r : Option Row) → IsVisit a s n v → x.may_wrap ≡ false → flag_of v x r ≡ unwrapped (has_row (settled_at a s))
+dead_flag a s n v x r i h =
+    (λ j. cond (has_row_at (i.slot j)) (cond (h j) (flag_at r (stands_at x.own v) v.requirements) false ∷ []) []) ∙ row_count s a
 
-dead_leaf : (T : List Row) (a : Role) (s : Slot) (n : Tree) (v : NodeStep) (t : Marks) → IsVisit a s n v → t.here.may_wrap ≡ false → has_row (settled_at a s) ≡ rows n (settled_at a s) →
-    marked T (Leaf v) t ≡ flagged t (unwrapped (rows n (settled_at a s)))
-dead_leaf T a s n v t i h e = ap (flagged t) (dead_flag T a s n v t.here t.flags i h ∙ ap unwrapped e)
+dead_leaf : (a : Role) (s : Slot) (n : Tree) (v : NodeStep) (x : Round) (us : List Round) (R : List Row) (bs : List Bool) → IsVisit a s n v → x.may_wrap ≡ false → has_row (settled_at a s) ≡ rows n (settled_at a s) →
+    marked (Leaf v) (marks x us (row_at s n ++ R) bs) ≡ marks x us R (bs ++ unwrapped (rows n (settled_at a s)))
+dead_leaf a s n v x us R bs i h e =
+    λ j. marks x us (after_own s n v R i.slot j) (bs ++ (dead_flag a s n v x (first_row (row_at s n ++ R)) i h ∙ ap unwrapped e) j)
+
+dead_enter : (a : Role) (s : Slot) (n : Tree) (v : NodeStep) (x : Round) (us : List Round) (R : List Row) (bs : List Bool) → IsVisit a s n v → x.may_wrap ≡ false →
+    marked (Enter v) (marks x us (row_at s n ++ R) bs) ≡ marks x (x ∷ us) R (bs ++ unwrapped (has_row (settled_at a s)))
+dead_enter a s n v x us R bs i h =
+    let r : Option Row = first_row (row_at s n ++ R) in
+    λ j. marks (dead_round v x r h j) (x ∷ us) (after_own s n v R i.slot j) (bs ++ dead_flag a s n v x r i h j)
 
 -- A node that has no step of its own
 
@@ -130,54 +150,69 @@ costless_rows a s n x k h =
 
 -- Nodes that cost nothing
 
-marked_free : (T : List Row) (xs : List Step) (t : Marks) → are_free xs ≡ true → marked_through T xs t ≡ flagged t (unwrapped (length xs))
-unfolding marked_through
-marked_free T [] t h = flagged_not t
-marked_free T (Free k z ∷ xs) t h = marked_free T xs (flagged t (false ∷ [])) h ∙ flagged_twice t (false ∷ []) (unwrapped (length xs))
-marked_free T (Leaf v ∷ xs) t h = absurd (false≢true h)
-marked_free T (Enter v ∷ xs) t h = absurd (false≢true h)
-marked_free T (Leave ∷ xs) t h = absurd (false≢true h)
-
 mutual
-  unfolding marked_through parts_rows
+  unfolding marked_through parts_rows made_rows made_parts
 
-  dead_node : (T : List Row) {may_pass : Bool} {a : Role} {s : Slot} {n : Tree} {xs : List Step} → Steps may_pass a s n xs → (t : Marks) → t.here.may_wrap ≡ false → marked_through T xs t ≡ flagged t (unwrapped (rows n (settled_at a s)))
-  dead_node T {a} {s} {n} (unspelled v i l k e) t h =
-      ap (λ u. marked_through T u t) e ∙ marked_leaf T v t ∙ dead_leaf T a s n v t i h (no_way_rows a s n k)
-  dead_node T {a} {s} {n} (alone v x i l k p e) t h =
-      ap (λ u. marked_through T u t) e ∙ marked_leaf T v t ∙ dead_leaf T a s n v t i h (bare_rows a s n p)
-  dead_node T {a} {s} {n} (around v x ys i l k q e) t h =
-      let entered : marked T (Enter v) t ≡ record { here = t.here; outer = t.here ∷ t.outer; flags = t.flags ++ unwrapped (has_row (settled_at a s)) } =
-      λ j. record { here = dead_round T v t.here t.flags h j; outer = t.here ∷ t.outer; flags = t.flags ++ dead_flag T a s n v t.here t.flags i h j } in
-      let r = parts_rows (parts_of n) (settled_roles (widest (settled_at a s)) (left x.slots)) in
-      ap (λ u. marked_through T u t) e ∙ marked_around T v ys t ∙ ap (λ u. marked T Leave (marked_through T ys u)) entered
-      ∙ ap (marked T Leave) (dead_parts T q (record { here = t.here; outer = t.here ∷ t.outer; flags = t.flags ++ unwrapped (has_row (settled_at a s)) }) h)
-      ∙ flagged_twice t (unwrapped (has_row (settled_at a s))) (unwrapped r)
-      ∙ ap (flagged t) (unwrapped_sum (has_row (settled_at a s)) r ∙ ap unwrapped (spelled_rows a s n x k))
-  dead_node T {a} {s} {n} (costless x ys k p r f q g z) t h =
-      ap (λ u. marked_through T u t) z ∙ dead_parts T q (flagged t (false ∷ [])) h
-      ∙ flagged_twice t (false ∷ []) (unwrapped (parts_rows (parts_of n) (settled_roles (widest (settled_at a s)) (left x.slots))))
-      ∙ ap (flagged t) (costless_rows a s n x k r)
-  dead_node T {a} {s} {n} (hidden x k p e r z) t h =
-      ap (λ u. marked_through T u t) z ∙ flagged_not t ∙ ap (λ m. flagged t (unwrapped m)) (sym (hidden_rows a s n r e))
-  dead_node T {a} {s} {n} (through x k r g q) t h =
-      dead_parts T q t h ∙ ap (λ m. flagged t (unwrapped m)) (through_rows a s n x k r)
-  dead_node T {a} {s} {n} {xs} (passed l f z g e) t h = marked_free T xs t g ∙ ap (λ m. flagged t (unwrapped m)) e
+  dead_node : {may_pass : Bool} {a : Role} {s : Slot} {n : Tree} {xs : List Step} → (h : Steps may_pass a s n xs) → (x : Round) (us : List Round) (R : List Row) (bs : List Bool) → x.may_wrap ≡ false →
+      marked_through xs (marks x us (made_rows h ++ R) bs) ≡ marks x us R (bs ++ unwrapped (rows n (settled_at a s)))
+  dead_node {a} {s} {n} (unspelled v i l k e) x us R bs h =
+      ap (λ u. marked_through u (marks x us (row_at s n ++ R) bs)) e ∙ marked_one (Leaf v) (marks x us (row_at s n ++ R) bs) ∙ dead_leaf a s n v x us R bs i h (no_way_rows a s n k)
+  dead_node {a} {s} {n} (alone v y i l k p e) x us R bs h =
+      ap (λ u. marked_through u (marks x us (row_at s n ++ R) bs)) e ∙ marked_one (Leaf v) (marks x us (row_at s n ++ R) bs) ∙ dead_leaf a s n v x us R bs i h (bare_rows a s n p)
+  dead_node {a} {s} {n} (around v y ys i l k q e) x us R bs h =
+      let m : ℕ = has_row (settled_at a s) in
+      let r : ℕ = parts_rows (parts_of n) (settled_roles (widest (settled_at a s)) (left y.slots)) in
+      let t : Marks = marks x us ((row_at s n ++ made_parts q) ++ R) bs in
+      ap (λ u. marked_through u t) e ∙ marked_around v ys t
+      ∙ ap (λ u. marked Leave (marked_through ys (marked (Enter v) (marks x us u bs)))) (append_assoc (row_at s n) (made_parts q) R)
+      ∙ ap (λ u. marked Leave (marked_through ys u)) (dead_enter a s n v x us (made_parts q ++ R) bs i h)
+      ∙ ap (marked Leave) (dead_parts q x (x ∷ us) R (bs ++ unwrapped m) h)
+      ∙ twice x us R bs (unwrapped m) (unwrapped r)
+      ∙ ap (λ u. marks x us R (bs ++ u)) (unwrapped_sum m r ∙ ap unwrapped (spelled_rows a s n y k))
+  dead_node {a} {s} {n} (costless y ys k p r f q g z) x us R bs h =
+      let m : ℕ = parts_rows (parts_of n) (settled_roles (widest (settled_at a s)) (left y.slots)) in
+      ap (λ u. marked_through u (marks x us ((row_at s n ++ made_parts q) ++ R) bs)) z
+      ∙ ap (λ u. marked_through ys (marks x us u (bs ++ false ∷ []))) (ap (λ b. others ((cond b (row_of n ∷ []) [] ++ made_parts q) ++ R)) r)
+      ∙ dead_parts q x us R (bs ++ false ∷ []) h
+      ∙ twice x us R bs (false ∷ []) (unwrapped m)
+      ∙ ap (λ u. marks x us R (bs ++ u)) (costless_rows a s n y k r)
+  dead_node {a} {s} {n} (hidden y k p e r z) x us R bs h =
+      ap (λ u. marked_through u (marks x us R bs)) z ∙ not_once x us R bs ∙ ap (λ m. marks x us R (bs ++ unwrapped m)) (sym (hidden_rows a s n r e))
+  dead_node {a} {s} {n} (through y k r g q) x us R bs h =
+      dead_parts q x us R bs h ∙ ap (λ m. marks x us R (bs ++ unwrapped m)) (through_rows a s n y k r)
+  dead_node {a} {s} {n} (passed m l f z e i) x us R bs h =
+      ap (λ u. marked_through u (marks x us R bs)) i ∙ marked_one (Passed m) (marks x us R bs) ∙ ap (λ k. marks x us R (bs ++ unwrapped k)) e
 
-  dead_parts : (T : List Row) {may_pass : Bool} {a : Role} {ss : List Slot} {ps : Parts} {xs : List Step} → PartsSteps may_pass a ss ps xs → (t : Marks) → t.here.may_wrap ≡ false → marked_through T xs t ≡ flagged t (unwrapped (parts_rows ps (settled_roles a ss)))
-  dead_parts T over t h = flagged_not t
-  dead_parts T (skipped q) t h = dead_parts T q t h
-  dead_parts T (unplaced {n = n}) t h = refl
-  dead_parts T {a} (next {s = s} {ss = ss} {n = n} {ps = ps} xs ys p q e) t h =
-      ap (λ u. marked_through T u t) e ∙ marked_append T xs ys t ∙ ap (marked_through T ys) (dead_node T p t h) ∙ dead_parts T q (flagged t (unwrapped (rows n (settled_at a s)))) h
-      ∙ flagged_twice t (unwrapped (rows n (settled_at a s))) (unwrapped (parts_rows ps (settled_roles a ss)))
-      ∙ ap (flagged t) (unwrapped_sum (rows n (settled_at a s)) (parts_rows ps (settled_roles a ss)))
+  dead_parts : {may_pass : Bool} {a : Role} {ss : List Slot} {ps : Parts} {xs : List Step} → (h : PartsSteps may_pass a ss ps xs) → (x : Round) (us : List Round) (R : List Row) (bs : List Bool) → x.may_wrap ≡ false →
+      marked_through xs (marks x us (made_parts h ++ R) bs) ≡ marks x us R (bs ++ unwrapped (parts_rows ps (settled_roles a ss)))
+  dead_parts over x us R bs h = not_once x us R bs
+  dead_parts (skipped q) x us R bs h = dead_parts q x us R bs h
+  dead_parts (unplaced {n = n}) x us R bs h = refl
+  dead_parts {a} (next {s = s} {ss = ss} {n = n} {ps = ps} xs ys p q e) x us R bs h =
+      let f : List Bool = unwrapped (rows n (settled_at a s)) in
+      let t : Marks = marks x us ((made_rows p ++ made_parts q) ++ R) bs in
+      ap (λ u. marked_through u t) e ∙ marked_append xs ys t
+      ∙ ap (λ u. marked_through ys (marked_through xs (marks x us u bs))) (append_assoc (made_rows p) (made_parts q) R)
+      ∙ ap (marked_through ys) (dead_node p x us (made_parts q ++ R) bs h) ∙ dead_parts q x us R (bs ++ f) h
+      ∙ twice x us R bs f (unwrapped (parts_rows ps (settled_roles a ss)))
+      ∙ ap (λ u. marks x us R (bs ++ u)) (unwrapped_sum (rows n (settled_at a s)) (parts_rows ps (settled_roles a ss)))
 
--- each of such steps is a row
-free_flags : {may_pass : Bool} {a : Role} {ss : List Slot} {ps : Parts} {xs : List Step} → PartsSteps may_pass a ss ps xs → are_free xs ≡ true → unwrapped (length xs) ≡ unwrapped (parts_rows ps (settled_roles a ss))
-free_flags {a} {ss} {ps} {xs} q g =
-    let t : Marks = record { here = record { own = script; may_wrap = false }; outer = []; flags = [] } in
-    ap (λ u. u.flags) (sym (marked_free [] xs t g) ∙ dead_parts [] q t refl)
+-- steps of nodes that cost nothing do the same wherever they stand
+free_anywhere : (xs : List Step) (x y : Round) (us : List Round) (R : List Row) (bs : List Bool) → are_free xs ≡ true →
+    marked_through xs (marks x us R bs) ≡ marks x us (marked_through xs (marks y us R bs)).rows (marked_through xs (marks y us R bs)).flags
+unfolding marked_through
+free_anywhere [] x y us R bs h = refl
+free_anywhere (Free k z ∷ xs) x y us R bs h = free_anywhere xs x y us (others R) (bs ++ false ∷ []) h
+free_anywhere (Passed m ∷ xs) x y us R bs h = free_anywhere xs x y us R (bs ++ unwrapped m) h
+free_anywhere (Leaf v ∷ xs) x y us R bs h = absurd (false≢true h)
+free_anywhere (Enter v ∷ xs) x y us R bs h = absurd (false≢true h)
+free_anywhere (Leave ∷ xs) x y us R bs h = absurd (false≢true h)
+
+free_steps : {may_pass : Bool} {a : Role} {ss : List Slot} {ps : Parts} {xs : List Step} → (q : PartsSteps may_pass a ss ps xs) → are_free xs ≡ true → (x : Round) (us : List Round) (R : List Row) (bs : List Bool) →
+    marked_through xs (marks x us (made_parts q ++ R) bs) ≡ marks x us R (bs ++ unwrapped (parts_rows ps (settled_roles a ss)))
+free_steps {a} {ss} {ps} {xs} q g x us R bs =
+    let dead : Round = record { own = script; may_wrap = false } in
+    free_anywhere xs x dead us (made_parts q ++ R) bs g ∙ ap (λ t. marks x us t.rows t.flags) (dead_parts q dead us R bs refl)
 
 -- Where a node costs nothing, nothing in it is wrapped
 
@@ -215,31 +250,6 @@ free_inside n _ d h p w e z = absurd (false≢true h)
 
 -- A node that may be wrapped
 
-got : (T : List Row) (k : ℕ) (x : Row) (xs : List Row) → drop k T ≡ x ∷ xs → slice_get T k ≡ Some x
-got [] zero x xs h = absurd (cc)
-got [] (suc k) x xs h = absurd (cc)
-got (y ∷ ys) zero x xs h = let e : y ≡ x = cc in ap (λ u. Some u) e
-got (y ∷ ys) (suc k) x xs h = got ys k x xs h
-
-row_here : (T : List Row) (k : ℕ) (b : Bool) (x : Row) (R : List Row) → b ≡ true → HasRows T k (cond b (x ∷ []) [] ++ R) → slice_get T k ≡ Some x
-row_here T k true x R h r = got T k x (R ++ r.rest) r.stand
-row_here T k false x R h r = absurd (false≢true h)
-
--- the rows behind those of a node are those behind its flags
-one_each : (b v : Bool) (x : Row) → length (cond b (v ∷ []) []) ≡ length (cond b (x ∷ []) [])
-one_each true v x = refl
-one_each false v x = refl
-
-behind_own : (T : List Row) (v : NodeStep) (s : Slot) (n : Tree) (x : Round) (bs : List Bool) (R : List Row) → slot_of v.slot ≡ s → HasRows T (length bs) (row_at s n ++ R) → HasRows T (length (bs ++ flag_of T v x bs)) R
-behind_own T v s n x bs R i h =
-    rows_behind T (length bs) (length (bs ++ flag_of T v x bs)) (row_at s n) R
-    (length-append bs _ ∙ ap (λ m. length bs + m) (one_each (has_row_at (slot_of v.slot)) _ (row_of n) ∙ ap (λ u. length (row_at u n)) i)) h
-
-behind_node : {may_pass : Bool} {a : Role} {s : Slot} {n : Tree} {xs : List Step} (T : List Row) (p : Steps may_pass a s n xs) (o : Role) (bs : List Bool) (R : List Row) → HasRows T (length bs) (made_rows p ++ R) → HasRows T (length (bs ++ flags n (settled_at o s))) R
-behind_node {a} {s} {n} T p o bs R h =
-    rows_behind T (length bs) (length (bs ++ flags n (settled_at o s))) (made_rows p) R
-    (length-append bs _ ∙ ap (λ m. length bs + m) (flags-length n (settled_at o s) ∙ settled-rows n o a s ∙ sym (made_length p))) h
-
 row_cells : (n : Tree) → (row_of n).costs ≡ cells_at n (expr Expression true Any)
 unfolding row_of
 row_cells n = refl
@@ -274,64 +284,61 @@ expression_inside : (b : Bool) (p : Role) → is_expression p ≡ true → is_ex
 expression_inside true p h = refl
 expression_inside false p h = h
 
--- what stands around the parts of a node, and that its flag and theirs are its flags
-record Entered (T R : List Row) (v : NodeStep) (o : Role) (bs : List Bool) (n : Tree) (p : Role) (r : Option NodeSpelling) : Type 0 where
+-- what stands around the parts of a node, and that its flag and theirs are its flags, where these rows are left
+record Entered (R : List Row) (v : NodeStep) (o : Role) (bs : List Bool) (n : Tree) (p : Role) (r : Option NodeSpelling) : Type 0 where
   own : Role
   quiet : Bool
-  round : round_of T v (living o) bs ≡ record { own = own; may_wrap = meets own v.requirements && not quiet }
+  round : round_of v (living o) (first_row R) ≡ record { own = own; may_wrap = meets own v.requirements && not quiet }
   free : quiet ≡ true → some_way (ways own n) ≡ true → parts_flags (parts_of n) (first_roles (ways own n)) ≡ unwrapped (parts_rows (parts_of n) (first_roles (ways own n)))
-  stands : HasRows T (length (bs ++ flag_of T v (living o) bs)) R
   few : parts_rows (parts_of n) (first_roles (ways (widest own) n)) ≤ 16777216
   known : IsSpelledWherever own n r
-  result : (vs : List Bool) → vs ≡ (bs ++ flag_of T v (living o) bs) ++ inner_flags n own → vs ≡ bs ++ flags n p
+  result : (vs : List Bool) → vs ≡ (bs ++ flag_of v (living o) (first_row R)) ++ inner_flags n own → vs ≡ bs ++ flags n p
 
-entered_row : (T R : List Row) (v : NodeStep) (o : Role) (bs : List Bool) (s : Slot) (n : Tree) (r : Option NodeSpelling) → slot_of v.slot ≡ s → is_expression (settled_at o s) ≡ true → Says v.requirements r → IsSpelledWherever (settled_at o s) n r →
-    is_plain (settled_at o s) ≡ true → HasRows T (length bs) (row_at s n ++ R) → rows n (settled_at o s) ≤ 16777216 → Entered T R v o bs n (settled_at o s) r
-entered_row T R v o bs s n r i h q k pl st few =
+entered_row : (R : List Row) (v : NodeStep) (o : Role) (bs : List Bool) (s : Slot) (n : Tree) (r : Option NodeSpelling) → slot_of v.slot ≡ s → is_expression (settled_at o s) ≡ true → Says v.requirements r → IsSpelledWherever (settled_at o s) n r →
+    is_plain (settled_at o s) ≡ true → rows n (settled_at o s) ≤ 16777216 → Entered (row_at s n ++ R) v o bs n (settled_at o s) r
+entered_row R v o bs s n r i h q k pl few =
     let p : Role = settled_at o s in
     let b : Bool = wants_pair n p in
     let c : Costs = (row_of n).costs in
     let w : wants p v.requirements c ≡ b = wants_is n p v.requirements r h k q few in
     let rowed : has_row_at (slot_of v.slot) ≡ true = ap has_row_at i ∙ is_row s o ∙ h in
-    let got_row : slice_get T (length bs) ≡ Some (row_of n) = row_here T (length bs) (has_row_at s) (row_of n) R (is_row s o ∙ h) st in
-    let flag : flag_of T v (living o) bs ≡ b ∷ [] =
+    let got_row : first_row (row_at s n ++ R) ≡ Some (row_of n) = first_own (has_row_at s) (row_of n) R (is_row s o ∙ h) in
+    let flag : flag_of v (living o) (first_row (row_at s n ++ R)) ≡ b ∷ [] =
     (λ j. cond (rowed j) (flag_at (got_row j) (settled_at o (i j)) v.requirements ∷ []) []) ∙ ap (λ u. u ∷ []) w in
     record {
       own = inside b p;
       quiet = is_free (cost_of c (inside b p));
       round = (λ j. cond (rowed j) (round_at (got_row j) (settled_at o (i j)) v.requirements) (plain_round (settled_at o (i j)) v.requirements)) ∙ ap (λ u. around_parts (inside u p) v.requirements c) w;
       free = λ z y. free_inside n (inside b p) c (expression_inside b p h) (plain_inside b p pl) y (row_cells n) z;
-      stands = behind_own T v s n (living o) bs R i st;
       few = own_few n p (inside b p) b 16777216 h refl few;
       known = spelled_inside n p b r h k;
       result = λ vs e. own_result n p (inside b p) true b bs (bs ++ b ∷ []) vs h refl refl refl (e ∙ ap (λ u. (bs ++ u) ++ inner_flags n (inside b p)) flag);
     }
 
-entered_plain : (T R : List Row) (v : NodeStep) (o : Role) (bs : List Bool) (s : Slot) (n : Tree) (r : Option NodeSpelling) → slot_of v.slot ≡ s → is_expression (settled_at o s) ≡ false → IsSpelledWherever (settled_at o s) n r →
-    HasRows T (length bs) (row_at s n ++ R) → rows n (settled_at o s) ≤ 16777216 → Entered T R v o bs n (settled_at o s) r
-entered_plain T R v o bs s n r i h k st few =
+entered_plain : (R : List Row) (v : NodeStep) (o : Role) (bs : List Bool) (s : Slot) (n : Tree) (r : Option NodeSpelling) → slot_of v.slot ≡ s → is_expression (settled_at o s) ≡ false → IsSpelledWherever (settled_at o s) n r →
+    rows n (settled_at o s) ≤ 16777216 → Entered R v o bs n (settled_at o s) r
+entered_plain R v o bs s n r i h k few =
     let p : Role = settled_at o s in
     let rowed : has_row_at (slot_of v.slot) ≡ false = ap has_row_at i ∙ is_row s o ∙ h in
-    let flag : flag_of T v (living o) bs ≡ [] = λ j. cond (rowed j) (flag_at (slice_get T (length bs)) (settled_at o (i j)) v.requirements ∷ []) [] in
-    let same : bs ++ flag_of T v (living o) bs ≡ bs = ap (λ u. bs ++ u) flag ∙ append-nil bs in
+    let flag : flag_of v (living o) (first_row R) ≡ [] = λ j. cond (rowed j) (flag_at (first_row R) (settled_at o (i j)) v.requirements ∷ []) [] in
+    let same : bs ++ flag_of v (living o) (first_row R) ≡ bs = ap (λ u. bs ++ u) flag ∙ append-nil bs in
     record {
       own = p;
       quiet = false;
-      round = (λ j. cond (rowed j) (round_at (slice_get T (length bs)) (settled_at o (i j)) v.requirements) (plain_round (settled_at o (i j)) v.requirements)) ∙ ap (λ u. record { own = p; may_wrap = u }) (and_true (meets p v.requirements));
+      round = (λ j. cond (rowed j) (round_at (first_row R) (settled_at o (i j)) v.requirements) (plain_round (settled_at o (i j)) v.requirements)) ∙ ap (λ u. record { own = p; may_wrap = u }) (and_true (meets p v.requirements));
       free = λ z y. absurd (false≢true z);
-      stands = behind_own T v s n (living o) bs R i st;
       few = plain_few n p 16777216 h few;
       known = k;
       result = λ vs e. e ∙ ap (λ u. u ++ inner_flags n p) same ∙ ap (λ u. bs ++ u) (plain_flags n p true h);
     }
 
-entered : (T R : List Row) (v : NodeStep) (o : Role) (bs : List Bool) (s : Slot) (n : Tree) (r : Option NodeSpelling) → slot_of v.slot ≡ s → Says v.requirements r → IsSpelledWherever (settled_at o s) n r → is_plain (settled_at o s) ≡ true →
-    HasRows T (length bs) (row_at s n ++ R) → rows n (settled_at o s) ≤ 16777216 → Entered T R v o bs n (settled_at o s) r
-entered T R v o bs s n r i q k pl st few = of (is_expression (settled_at o s)) refl
+entered : (R : List Row) (v : NodeStep) (o : Role) (bs : List Bool) (s : Slot) (n : Tree) (r : Option NodeSpelling) → slot_of v.slot ≡ s → Says v.requirements r → IsSpelledWherever (settled_at o s) n r → is_plain (settled_at o s) ≡ true →
+    rows n (settled_at o s) ≤ 16777216 → Entered (row_at s n ++ R) v o bs n (settled_at o s) r
+entered R v o bs s n r i q k pl few = of (is_expression (settled_at o s)) refl
   where
-    of : (b : Bool) → is_expression (settled_at o s) ≡ b → Entered T R v o bs n (settled_at o s) r
-    of true h = entered_row T R v o bs s n r i h q k pl st few
-    of false h = entered_plain T R v o bs s n r i h k st few
+    of : (b : Bool) → is_expression (settled_at o s) ≡ b → Entered (row_at s n ++ R) v o bs n (settled_at o s) r
+    of true h = entered_row R v o bs s n r i h q k pl few
+    of false h = entered_plain (row_at s n ++ R) v o bs s n r i h k few
 
 either_way : (b : Bool) (bs : List Bool) → cond b bs bs ≡ bs
 either_way true bs = refl
@@ -343,10 +350,11 @@ inner_bare n c h =
     ap (λ ps. cond (some_way (ways c n)) (parts_flags ps (first_roles (ways c n))) (unwrapped (parts_rows ps (first_roles (ways (widest c) n))))) h ∙ either_way (some_way (ways c n)) []
 
 -- a node without parts at positions
-live_leaf : (T R : List Row) (v : NodeStep) (o : Role) (us : List Round) (bs : List Bool) (n : Tree) (p : Role) (r : Option NodeSpelling) → (x : Entered T R v o bs n p r) → inner_flags n x.own ≡ [] →
-    marked T (Leaf v) (record { here = living o; outer = us; flags = bs }) ≡ record { here = living o; outer = us; flags = bs ++ flags n p }
-live_leaf T R v o us bs n p r x h =
-    ap (λ u. record { here = living o; outer = us; flags = u }) (x.result (bs ++ flag_of T v (living o) bs) (sym (append-nil _) ∙ ap (λ u. (bs ++ flag_of T v (living o) bs) ++ u) (sym h)))
+live_leaf : (R : List Row) (v : NodeStep) (o : Role) (us : List Round) (bs : List Bool) (s : Slot) (n : Tree) (p : Role) (r : Option NodeSpelling) → slot_of v.slot ≡ s → (x : Entered (row_at s n ++ R) v o bs n p r) → inner_flags n x.own ≡ [] →
+    marked (Leaf v) (marks (living o) us (row_at s n ++ R) bs) ≡ marks (living o) us R (bs ++ flags n p)
+live_leaf R v o us bs s n p r i x h =
+    let own : List Bool = bs ++ flag_of v (living o) (first_row (row_at s n ++ R)) in
+    λ j. marks (living o) us (after_own s n v R i j) (x.result own (sym (append-nil _) ∙ ap (λ u. own ++ u) (sym h)) j)
 
 inside_case : (F q : Bool) (P U I : List Bool) → cond (true && F) P U ≡ I → (q ≡ true → F ≡ true → P ≡ U) → cond (F && not q) P U ≡ I
 inside_case true true P U I h z = sym (z refl refl) ∙ h
@@ -358,12 +366,12 @@ here_roles : (c : Role) (n : Tree) (x : NodeSpelling) → IsSpelledWherever c n 
 here_roles c n x k f = subst (λ u. Verdict (ways c n) (cond u (Some (settled_roles c (left x.slots))) None)) f (spelled_here c n (Some x) k)
 
 -- parts of a node in which some may be wrapped, or none
-within_parts : (T : List Row) (xs : List Step) (o : Role) (l : Bool) (us : List Round) (bs P U : List Bool) →
-    marked_through T xs (record { here = record { own = o; may_wrap = false }; outer = us; flags = bs }) ≡ record { here = record { own = o; may_wrap = false }; outer = us; flags = bs ++ U } →
-    (l ≡ true → marked_through T xs (record { here = living o; outer = us; flags = bs }) ≡ record { here = living o; outer = us; flags = bs ++ P }) →
-    marked_through T xs (record { here = record { own = o; may_wrap = l }; outer = us; flags = bs }) ≡ record { here = record { own = o; may_wrap = l }; outer = us; flags = bs ++ cond l P U }
-within_parts T xs o true us bs P U h k = k refl
-within_parts T xs o false us bs P U h k = h
+within_parts : (xs : List Step) (o : Role) (l : Bool) (us : List Round) (Q R : List Row) (bs P U : List Bool) →
+    marked_through xs (marks (record { own = o; may_wrap = false }) us Q bs) ≡ marks (record { own = o; may_wrap = false }) us R (bs ++ U) →
+    (l ≡ true → marked_through xs (marks (living o) us Q bs) ≡ marks (living o) us R (bs ++ P)) →
+    marked_through xs (marks (record { own = o; may_wrap = l }) us Q bs) ≡ marks (record { own = o; may_wrap = l }) us R (bs ++ cond l P U)
+within_parts xs o true us Q R bs P U h k = k refl
+within_parts xs o false us Q R bs P U h k = h
 
 -- a node that has no step of its own, and no row
 rowless : (s : Slot) (o : Role) → has_row_at s ≡ false → is_expression (settled_at o s) ≡ false
@@ -476,66 +484,70 @@ through_parts o s n x k r g few =
 mutual
   unfolding marked_through parts_flags parts_rows made_rows made_parts
 
-  live_node : (T : List Row) {may_pass : Bool} {a : Role} {s : Slot} {n : Tree} {xs : List Step} → (h : Steps may_pass a s n xs) → (o : Role) (us : List Round) (bs : List Bool) → is_plain (settled_at o s) ≡ true → HasRows T (length bs) (made_rows h) →
-      rows n (settled_at o s) ≤ 16777216 → marked_through T xs (record { here = living o; outer = us; flags = bs }) ≡ record { here = living o; outer = us; flags = bs ++ flags n (settled_at o s) }
-  live_node T {a} {s} {n} (unspelled v i l k e) o us bs pl st few =
-      let x : Entered T [] v o bs n (settled_at o s) None = entered T [] v o bs s n None i.slot (says_none v.requirements l) (spelled_at a o s n None k) pl (subst (HasRows T (length bs)) (sym (append-nil (row_at s n))) st) few in
-      ap (λ u. marked_through T u (record { here = living o; outer = us; flags = bs })) e ∙ marked_leaf T v (record { here = living o; outer = us; flags = bs })
-      ∙ live_leaf T [] v o us bs n (settled_at o s) None x (sym (inner_none x.own n true x.known))
-  live_node T {a} {s} {n} (alone v y i l k p e) o us bs pl st few =
-      let x : Entered T [] v o bs n (settled_at o s) (Some y) = entered T [] v o bs s n (Some y) i.slot (says_some v.requirements y l) (spelled_at a o s n (Some y) k) pl (subst (HasRows T (length bs)) (sym (append-nil (row_at s n))) st) few in
-      ap (λ u. marked_through T u (record { here = living o; outer = us; flags = bs })) e ∙ marked_leaf T v (record { here = living o; outer = us; flags = bs })
-      ∙ live_leaf T [] v o us bs n (settled_at o s) (Some y) x (inner_bare n x.own p)
-  live_node T {a} {s} {n} (around v y ys i l k q e) o us bs pl st few =
-      let t : Marks = record { here = living o; outer = us; flags = bs } in
-      let x : Entered T (made_parts q) v o bs n (settled_at o s) (Some y) = entered T (made_parts q) v o bs s n (Some y) i.slot (says_some v.requirements y l) (spelled_at a o s n (Some y) k) pl st few in
-      let gs : List Bool = bs ++ flag_of T v (living o) bs in
+  live_node : {may_pass : Bool} {a : Role} {s : Slot} {n : Tree} {xs : List Step} → (h : Steps may_pass a s n xs) → (o : Role) (us : List Round) (R : List Row) (bs : List Bool) → is_plain (settled_at o s) ≡ true → rows n (settled_at o s) ≤ 16777216 →
+      marked_through xs (marks (living o) us (made_rows h ++ R) bs) ≡ marks (living o) us R (bs ++ flags n (settled_at o s))
+  live_node {a} {s} {n} (unspelled v i l k e) o us R bs pl few =
+      let x : Entered (row_at s n ++ R) v o bs n (settled_at o s) None = entered R v o bs s n None i.slot (says_none v.requirements l) (spelled_at a o s n None k) pl few in
+      ap (λ u. marked_through u (marks (living o) us (row_at s n ++ R) bs)) e ∙ marked_one (Leaf v) (marks (living o) us (row_at s n ++ R) bs)
+      ∙ live_leaf R v o us bs s n (settled_at o s) None i.slot x (sym (inner_none x.own n true x.known))
+  live_node {a} {s} {n} (alone v y i l k p e) o us R bs pl few =
+      let x : Entered (row_at s n ++ R) v o bs n (settled_at o s) (Some y) = entered R v o bs s n (Some y) i.slot (says_some v.requirements y l) (spelled_at a o s n (Some y) k) pl few in
+      ap (λ u. marked_through u (marks (living o) us (row_at s n ++ R) bs)) e ∙ marked_one (Leaf v) (marks (living o) us (row_at s n ++ R) bs)
+      ∙ live_leaf R v o us bs s n (settled_at o s) (Some y) i.slot x (inner_bare n x.own p)
+  live_node {a} {s} {n} (around v y ys i l k q e) o us R bs pl few =
+      let Q : List Row = row_at s n ++ (made_parts q ++ R) in
+      let t : Marks = marks (living o) us Q bs in
+      let x : Entered Q v o bs n (settled_at o s) (Some y) = entered (made_parts q ++ R) v o bs s n (Some y) i.slot (says_some v.requirements y l) (spelled_at a o s n (Some y) k) pl few in
+      let gs : List Bool = bs ++ flag_of v (living o) (first_row Q) in
       let F : Bool = fits_outline x.own y.outline in
       let fit : meets x.own v.requirements ≡ F = says_some v.requirements y l x.own in
       let P : List Bool = parts_flags (parts_of n) (settled_roles x.own (left y.slots)) in
       let U : List Bool = unwrapped (parts_rows (parts_of n) (settled_roles x.own (left y.slots))) in
       let free : x.quiet ≡ true → F ≡ true → P ≡ U = λ z f. let g = here_roles x.own n y x.known f in subst (λ rs. parts_flags (parts_of n) rs ≡ unwrapped (parts_rows (parts_of n) rs)) g.1 (x.free z g.0) in
       let whole : cond (F && not x.quiet) P U ≡ inner_flags n x.own = inside_case F x.quiet P U (inner_flags n x.own) (inner_some x.own n y true x.known) free in
-      ap (λ u. marked_through T u t) e ∙ marked_around T v ys t
-      ∙ ap (λ u. marked T Leave (marked_through T ys (record { here = u; outer = living o ∷ us; flags = gs }))) (x.round ∙ ap (λ u. record { own = x.own; may_wrap = u && not x.quiet }) fit)
-      ∙ ap (marked T Leave) (within_parts T ys x.own (F && not x.quiet) (living o ∷ us) gs P U
-      (dead_parts T q (record { here = record { own = x.own; may_wrap = false }; outer = living o ∷ us; flags = gs }) refl
-      ∙ ap (λ m. record { here = record { own = x.own; may_wrap = false }; outer = living o ∷ us; flags = gs ++ unwrapped m }) (parts-rows (parts_of n) (widest (settled_at a s)) x.own (left y.slots)))
-      (λ z. live_parts T q x.own (living o ∷ us) gs
+      ap (λ u. marked_through u (marks (living o) us ((row_at s n ++ made_parts q) ++ R) bs)) e
+      ∙ ap (λ u. marked_through (Enter v ∷ (ys ++ Leave ∷ [])) (marks (living o) us u bs)) (append_assoc (row_at s n) (made_parts q) R)
+      ∙ marked_around v ys t
+      ∙ (λ j. marked Leave (marked_through ys (marks ((x.round ∙ ap (λ u. record { own = x.own; may_wrap = u && not x.quiet }) fit) j) (living o ∷ us) (after_own s n v (made_parts q ++ R) i.slot j) gs)))
+      ∙ ap (marked Leave) (within_parts ys x.own (F && not x.quiet) (living o ∷ us) (made_parts q ++ R) R gs P U
+      (dead_parts q (record { own = x.own; may_wrap = false }) (living o ∷ us) R gs refl
+      ∙ ap (λ m. marks (record { own = x.own; may_wrap = false }) (living o ∷ us) R (gs ++ unwrapped m)) (parts-rows (parts_of n) (widest (settled_at a s)) x.own (left y.slots)))
+      (λ z. live_parts q x.own (living o ∷ us) R gs
       (subst (λ rs. all_pass is_plain rs ≡ true) (here_roles x.own n y x.known (and_parts F (not x.quiet) z).0).1 (parts_plain x.own n))
-      x.stands
       (subst (λ m. m ≤ 16777216) (rows_below x.own n y x.known) x.few)))
-      ∙ ap (λ u. record { here = living o; outer = us; flags = u }) (x.result (gs ++ cond (F && not x.quiet) P U) (ap (λ u. gs ++ u) whole))
-  live_node T {a} {s} {n} (costless x ys k p r f q g z) o us bs pl st few =
-      let t : Marks = record { here = living o; outer = us; flags = bs } in
-      ap (λ u. marked_through T u t) z ∙ marked_free T (Free (kind_of n) x.outline.rank ∷ ys) t g
-      ∙ ap (flagged t) (ap (λ u. false ∷ u) (free_flags q g) ∙ costless_flags a o s n x (spelled_at a o s n (Some x) k) p r f (free_sums q g) pl few)
-  live_node T {a} {s} {n} (hidden x k p e r z) o us bs pl st few =
-      ap (λ u. marked_through T u (record { here = living o; outer = us; flags = bs })) z
-      ∙ (λ j. record { here = living o; outer = us; flags = (sym (append-nil bs) ∙ ap (λ u. bs ++ u) (sym (hidden_flags o s n r e))) j })
-  live_node T {a} {s} {n} (through x k r g q) o us bs pl st few =
+      ∙ ap (marks (living o) us R) (x.result (gs ++ cond (F && not x.quiet) P U) (ap (λ u. gs ++ u) whole))
+  live_node {a} {s} {n} (costless x ys k p r f q g z) o us R bs pl few =
+      let m : ℕ = parts_rows (parts_of n) (settled_roles (widest (settled_at a s)) (left x.slots)) in
+      ap (λ u. marked_through u (marks (living o) us ((row_at s n ++ made_parts q) ++ R) bs)) z
+      ∙ ap (λ u. marked_through ys (marks (living o) us u (bs ++ false ∷ []))) (ap (λ b. others ((cond b (row_of n ∷ []) [] ++ made_parts q) ++ R)) r)
+      ∙ free_steps q g (living o) us R (bs ++ false ∷ [])
+      ∙ twice (living o) us R bs (false ∷ []) (unwrapped m)
+      ∙ ap (λ u. marks (living o) us R (bs ++ u)) (costless_flags a o s n x (spelled_at a o s n (Some x) k) p r f (free_sums q g) pl few)
+  live_node {a} {s} {n} (hidden x k p e r z) o us R bs pl few =
+      ap (λ u. marked_through u (marks (living o) us R bs)) z ∙ not_once (living o) us R bs ∙ ap (λ u. marks (living o) us R (bs ++ u)) (sym (hidden_flags o s n r e))
+  live_node {a} {s} {n} (through x k r g q) o us R bs pl few =
       let y : Through o n (settled_at o s) (left x.slots) = through_parts o s n x (spelled_at a o s n (Some x) k) r g few in
-      live_parts T q o us bs y.plain st y.few ∙ ap (λ u. record { here = living o; outer = us; flags = bs ++ u }) y.result
-  live_node T {a} {s} {n} {xs} (passed l f z g e) o us bs pl st few =
+      live_parts q o us R bs y.plain y.few ∙ ap (λ u. marks (living o) us R (bs ++ u)) y.result
+  live_node {a} {s} {n} (passed m l f z e i) o us R bs pl few =
       let same : settled_at a s ≡ settled_at o s = fixed_same s a o f in
-      marked_free T xs (record { here = living o; outer = us; flags = bs }) g
-      ∙ ap (λ u. record { here = living o; outer = us; flags = bs ++ u }) (ap unwrapped (e ∙ ap (rows n) same) ∙ free_node n (settled_at o s) pl (ap (least n) (sym same) ∙ z))
+      ap (λ u. marked_through u (marks (living o) us R bs)) i ∙ marked_one (Passed m) (marks (living o) us R bs)
+      ∙ ap (λ u. marks (living o) us R (bs ++ u)) (ap unwrapped (e ∙ ap (rows n) same) ∙ free_node n (settled_at o s) pl (ap (least n) (sym same) ∙ z))
 
-  live_parts : (T : List Row) {may_pass : Bool} {a : Role} {ss : List Slot} {ps : Parts} {xs : List Step} → (h : PartsSteps may_pass a ss ps xs) → (o : Role) (us : List Round) (bs : List Bool) → all_pass is_plain (settled_roles o ss) ≡ true →
-      HasRows T (length bs) (made_parts h) → parts_rows ps (settled_roles o ss) ≤ 16777216 →
-      marked_through T xs (record { here = living o; outer = us; flags = bs }) ≡ record { here = living o; outer = us; flags = bs ++ parts_flags ps (settled_roles o ss) }
-  live_parts T over o us bs pl st few = flagged_not (record { here = living o; outer = us; flags = bs })
-  live_parts T (skipped q) o us bs pl st few = live_parts T q o us bs pl st few
-  live_parts T (unplaced {n = n}) o us bs pl st few = refl
-  live_parts T {a} (next {s = s} {ss = ss} {n = n} {ps = ps} xs ys p q e) o us bs pl st few =
-      let t : Marks = record { here = living o; outer = us; flags = bs } in
+  live_parts : {may_pass : Bool} {a : Role} {ss : List Slot} {ps : Parts} {xs : List Step} → (h : PartsSteps may_pass a ss ps xs) → (o : Role) (us : List Round) (R : List Row) (bs : List Bool) → all_pass is_plain (settled_roles o ss) ≡ true →
+      parts_rows ps (settled_roles o ss) ≤ 16777216 → marked_through xs (marks (living o) us (made_parts h ++ R) bs) ≡ marks (living o) us R (bs ++ parts_flags ps (settled_roles o ss))
+  live_parts over o us R bs pl few = not_once (living o) us R bs
+  live_parts (skipped q) o us R bs pl few = live_parts q o us R bs pl few
+  live_parts (unplaced {n = n}) o us R bs pl few = refl
+  live_parts {a} (next {s = s} {ss = ss} {n = n} {ps = ps} xs ys p q e) o us R bs pl few =
+      let t : Marks = marks (living o) us ((made_rows p ++ made_parts q) ++ R) bs in
       let f : List Bool = flags n (settled_at o s) in
-      ap (λ u. marked_through T u t) e ∙ marked_append T xs ys t
-      ∙ ap (marked_through T ys) (live_node T p o us bs (and_parts _ _ pl).0 (front_rows T (length bs) (made_rows p) (made_parts q) st) (omega (arith, few)))
-      ∙ live_parts T q o us (bs ++ f) (and_parts _ _ pl).1 (behind_node T p o bs (made_parts q) st) (omega (arith, few))
-      ∙ flagged_twice t f (parts_flags ps (settled_roles o ss))
+      ap (λ u. marked_through u t) e ∙ marked_append xs ys t
+      ∙ ap (λ u. marked_through ys (marked_through xs (marks (living o) us u bs))) (append_assoc (made_rows p) (made_parts q) R)
+      ∙ ap (marked_through ys) (live_node p o us (made_parts q ++ R) bs (and_parts _ _ pl).0 (omega (arith, few)))
+      ∙ live_parts q o us R (bs ++ f) (and_parts _ _ pl).1 (omega (arith, few))
+      ∙ twice (living o) us R bs f (parts_flags ps (settled_roles o ss))
 
 -- A script
 
-pub script_flags : {may_pass : Bool} (T : List Row) (n : Tree) (xs : List Step) → (h : Steps may_pass script (fixed script) n xs) → T ≡ made_rows h → rows n script ≤ 16777216 → (marked_through T xs at_the_start).flags ≡ flags n script
-script_flags T n xs h e few = ap (λ t. t.flags) (live_node T h script [] [] refl (all_rows T (made_rows h) e) few)
+pub script_flags : {may_pass : Bool} (T : List Row) (n : Tree) (xs : List Step) → (h : Steps may_pass script (fixed script) n xs) → T ≡ made_rows h → rows n script ≤ 16777216 → (marked_through xs (at_the_start T)).flags ≡ flags n script
+script_flags T n xs h e few = ap (λ R. (marked_through xs (at_the_start R)).flags) (e ∙ sym (append-nil (made_rows h))) ∙ ap (λ t. t.flags) (live_node h script [] [] [] refl few)

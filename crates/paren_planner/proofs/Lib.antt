@@ -23,7 +23,7 @@ pub mod Somewhere
 pub mod LaidTokens
 pub mod AttainedCells
 pub mod ExactPlans
-pub mod PassedRows
+pub mod RowCounts
 pub mod LinedRows
-pub mod Passing
+pub mod PassedNodes
 pub mod PairlessSpans

@@ -1,6 +1,6 @@
 -- The rows of a node that stands as its position asks are those of the position.
-use Rattle.std.proofs.Common.{◌≡◌, ◌+◌, Bool, true, false, cond, List, [], ◌∷◌, length, refl, sym, ap, ap₂, ◌∙◌, subst, arith, length-append}
-use Rattle.std.specs.Prelude.{◌&&◌, map, filter, Result, Ok, Err, IfOk}
+use Rattle.std.proofs.Common.{◌≡◌, ◌+◌, Bool, true, false, cond, List, [], ◌∷◌, length, refl, sym, ap, ap₂, ◌∙◌, arith, length-append}
+use Rattle.std.specs.Prelude.{◌&&◌, map, filter}
 use Rattle.std.proofs.lemmas.Bool.{and_parts, false≢true}
 use Rattle.tree.specs.Tree.{Tree, node, Parts, none, part, gap, kind_of, bare_parts}
 use Rattle.tree.specs.Uses.{is_lean}
@@ -18,14 +18,9 @@ use Rattle.language.specs.Layout.{some_way, first_way}
 use Rattle.language.specs.LayoutFits.{lines_up}
 use Rattle.language.specs.Claims.{row_nodes, parts_row_nodes}
 use Rattle.language.proofs.lower_bound.Domination.{settled, ways_of}
-use Rattle.tree.specs.Node.{node_tree}
-use Rattle.tree.specs.HeldRows.{HoldsRows}
-use Rattle.tree.specs.declared.node.Node.{Node}
 use Rattle.row_laws.specs.Agreements.{agrees}
 use Rattle.row_laws.specs.Lined.{leads, lined, parts_lined}
 use Rattle.row_laws.proofs.Walk.{node_rowed}
-use Rattle.paren_planner.specs.declared.steps.Step.{Step}
-use Rattle.paren_planner.specs.Pairless.{FreeRows}
 
 -- Rows don't depend on a start
 
@@ -138,10 +133,5 @@ mutual
       let l = and_parts (lined n a) (parts_lined ps xs) h in
       length-append (row_nodes n a) (parts_row_nodes ps xs) ∙ ap₂ (λ u v. u + v) (nodes_counted n a l.0) (parts_counted ps xs l.1)
 
-rows_agree : (st : NodeUse) (a : Role) (n : Tree) → agrees st a (kind_of n) ≡ true → lined n a ≡ true → rows_in st n ≡ rows n a
+pub rows_agree : (st : NodeUse) (a : Role) (n : Tree) → agrees st a (kind_of n) ≡ true → lined n a ≡ true → rows_in st n ≡ rows n a
 rows_agree st a n h l = (node_rowed st a n h l).count ∙ nodes_counted n a l
-
-pub rows_at_position : {A E : Type 0} (q : Result A E) (n : Node) (old new : List Step) → IfOk q (λ _. (st : NodeUse) → HoldsRows st n → FreeRows (rows_in st (node_tree n)) old new) →
-    IfOk q (λ _. (a : Role) → (st : NodeUse) → HoldsRows st n → agrees st a (kind_of (node_tree n)) ≡ true → lined (node_tree n) a ≡ true → FreeRows (rows (node_tree n) a) old new)
-rows_at_position (Ok u) n old new p = λ a st held h l. subst (λ m. FreeRows m old new) (rows_agree st a (node_tree n) h l) (p st held)
-rows_at_position (Err u) n old new p = p

@@ -1,7 +1,6 @@
--- The rows that the steps of a node make: as many as the node has, and where none may be passed its own.
-use Rattle.std.proofs.Common.{◌≡◌, suc, ◌+◌, Bool, true, false, cond, List, [], ◌∷◌, ◌++◌, length, Some, None, refl, sym, ap, ap₂, ◌∙◌, append-nil, arith}
+-- The rows of a node, and those that its steps make: its own, where none may be passed.
+use Rattle.std.proofs.Common.{◌≡◌, ◌+◌, Bool, true, false, cond, List, [], ◌∷◌, ◌++◌, Some, None, refl, sym, ap, ap₂, ◌∙◌, append-nil, arith}
 use Rattle.std.proofs.lemmas.Bool.{false≢true, true≢false}
-use Rattle.std.proofs.lemmas.List.{length-append}
 use Rattle.tree.specs.Tree.{Tree, node, Parts, none, parts_of}
 use Rattle.language.specs.Pieces.{Role, expr, Slot, fixed, left as left_slot, lead, tail, callee, lead_chain, lead_pattern}
 use Rattle.language.specs.Grammar.{ways}
@@ -13,12 +12,10 @@ use Rattle.cost_table.specs.declared.table.Row.{Row}
 use Rattle.cost_table.specs.Weighed.{settled_at}
 use Rattle.cost_table.specs.Rows.{row_of, own_row, table_rows, parts_table}
 use Rattle.paren_planner.specs.declared.steps.Step.{Step}
-use Rattle.paren_planner.specs.declared.steps.Step.TheVariants.{Free, Leaf, Enter, Leave}
 use Rattle.paren_planner.specs.Steps.{has_row_at}
-use Rattle.paren_planner.specs.Noted.{are_free, Steps, unspelled, alone, around, costless, hidden, through, passed, is_settled_slot, PartsSteps, over, skipped, unplaced, next, row_at, free_rows, made_rows, made_parts}
+use Rattle.paren_planner.specs.Noted.{Steps, unspelled, alone, around, costless, hidden, through, passed, is_settled_slot, PartsSteps, over, skipped, unplaced, next, row_at, made_rows, made_parts}
 use Rattle.cost_table.proofs.NodeRowNumbers.{table-part, table-gap, table-end, table-stop, table-empty, roles_some, roles_none}
 use Rattle.paren_planner.proofs.WrappedRows.{rows-empty}
-use Rattle.paren_planner.proofs.Turns.{own-row-length}
 
 -- Rows, by the slot alone
 
@@ -31,9 +28,6 @@ own_row_at (tail y x) a r = refl
 own_row_at callee a r = refl
 own_row_at lead_chain a r = refl
 own_row_at lead_pattern a r = refl
-
-pub row_length : (s : Slot) (a : Role) (r : Row) → length (cond (has_row_at s) (r ∷ []) []) ≡ has_row (settled_at a s)
-row_length s a r = ap length (own_row_at s a r) ∙ own-row-length (settled_at a s) r
 
 pub no_row_here : (s : Slot) (a : Role) → has_row_at s ≡ false → has_row (settled_at a s) ≡ 0
 no_row_here (fixed (expr y i f)) a h = absurd (true≢false h)
@@ -92,31 +86,6 @@ through_rows a s n x k h =
     let o = no_row_here s a (settled_rowless s h) in
     omega (arith, r, o)
 
-free_length : (xs : List Step) → are_free xs ≡ true → length (free_rows xs) ≡ length xs
-free_length [] h = refl
-free_length (Free k z ∷ xs) h = ap (λ m. suc m) (free_length xs h)
-free_length (Leaf v ∷ xs) h = absurd (false≢true h)
-free_length (Enter v ∷ xs) h = absurd (false≢true h)
-free_length (Leave ∷ xs) h = absurd (false≢true h)
-
-mutual
-  unfolding made_rows made_parts parts_rows
-
-  pub made_length : {may_pass : Bool} {a : Role} {s : Slot} {n : Tree} {xs : List Step} → (h : Steps may_pass a s n xs) → length (made_rows h) ≡ rows n (settled_at a s)
-  made_length {a} {s} {n} (unspelled v i l k e) = row_length s a (row_of n) ∙ no_way_rows a s n k
-  made_length {a} {s} {n} (alone v x i l k p e) = row_length s a (row_of n) ∙ bare_rows a s n p
-  made_length {a} {s} {n} (around v x ys i l k h e) = length-append (row_at s n) (made_parts h) ∙ ap₂ (λ u v. u + v) (row_length s a (row_of n)) (made_parts_length h) ∙ spelled_rows a s n x k
-  made_length {a} {s} {n} (costless x ys k p r f h g z) = length-append (row_at s n) (made_parts h) ∙ ap₂ (λ u v. u + v) (row_length s a (row_of n)) (made_parts_length h) ∙ spelled_rows a s n x k
-  made_length {a} {s} {n} (hidden x k p e r z) = sym (hidden_rows a s n r e)
-  made_length {a} {s} {n} (through x k r g h) = made_parts_length h ∙ through_rows a s n x k r
-  made_length {xs} (passed l f z g e) = free_length xs g ∙ e
-
-  pub made_parts_length : {may_pass : Bool} {a : Role} {ss : List Slot} {ps : Parts} {xs : List Step} → (h : PartsSteps may_pass a ss ps xs) → length (made_parts h) ≡ parts_rows ps (settled_roles a ss)
-  made_parts_length over = refl
-  made_parts_length (skipped h) = made_parts_length h
-  made_parts_length unplaced = refl
-  made_parts_length (next xs ys p h e) = length-append (made_rows p) (made_parts h) ∙ ap₂ (λ u v. u + v) (made_length p) (made_parts_length h)
-
 -- Which
 
 rows_of_node : (n : Tree) (p : Role) → own_row p (row_of n) ++ parts_table (parts_of n) (first_roles (ways (widest p) n)) ≡ table_rows n p
@@ -146,7 +115,7 @@ mutual
   made_true {a} {s} {n} (costless x ys k p r f h g z) m = rows_with a s n (made_parts h) (made_parts_true h m ∙ ap (parts_table (parts_of n)) (sym (roles_some (settled_at a s) n x k)))
   made_true {a} {s} {n} (hidden x k p e r z) m = rows_below a s n [] r (sym (none_below n _ e))
   made_true {a} {s} {n} (through x k r g h) m = rows_below a s n (made_parts h) (settled_rowless s r) (made_parts_true h m ∙ ap (parts_table (parts_of n)) (sym (roles_some (settled_at a s) n x k)))
-  made_true (passed l f z g e) m = absurd (false≢true (sym m ∙ l))
+  made_true (passed k l f z e i) m = absurd (false≢true (sym m ∙ l))
 
   made_parts_true : {may_pass : Bool} {a : Role} {ss : List Slot} {ps : Parts} {xs : List Step} → (h : PartsSteps may_pass a ss ps xs) → may_pass ≡ false → made_parts h ≡ parts_table ps (settled_roles a ss)
   made_parts_true {a} {ss} over m = sym (table-end (settled_roles a ss))

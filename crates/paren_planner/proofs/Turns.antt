@@ -1,5 +1,5 @@
 -- Rows and flags of a node, as a pass over the steps of a walk meets them.
-use Rattle.std.proofs.Common.{◌≡◌, ℕ, suc, ◌+◌, ◌≤◌, Bool, true, false, cond, List, [], ◌∷◌, ◌++◌, length, drop, Option, Some, None, refl, sym, ap, ap₂, ◌∙◌, subst, append_assoc, append-nil, arith}
+use Rattle.std.proofs.Common.{◌≡◌, ℕ, suc, ◌+◌, ◌≤◌, Bool, true, false, cond, List, [], ◌∷◌, ◌++◌, length, drop, Option, Some, None, refl, sym, ap, ap₂, ◌∙◌, subst, append_assoc, arith}
 use Rattle.std.specs.Prelude.{◌&&◌, IsSome}
 use Rattle.std.proofs.lemmas.List.{length-append, drop-drop, drop_at}
 use Rattle.tree.specs.Tree.{Tree, node, Parts, none, part, gap, parts_of}
@@ -20,13 +20,18 @@ use Rattle.cost_table.specs.declared.table.Row.{Row}
 use Rattle.cost_table.specs.Costs.{capped_sum, cells_at}
 use Rattle.cost_table.specs.Weighed.{cost_of, fits_spelled}
 use Rattle.cost_table.specs.Rows.{row_of, is_expression, own_row, table_rows, parts_table}
-use Rattle.paren_planner.specs.Wrapped.{unwrapped, flags, parts_flags, inner_flags, HasRows}
+use Rattle.paren_planner.specs.Wrapped.{unwrapped, flags, parts_flags, inner_flags}
 use Rattle.cost_table.proofs.Known.{fits_widest, counted}
 use Rattle.cost_table.proofs.NodeRowNumbers.{way_when}
 use Rattle.paren_planner.proofs.Bounds.{Below, below_more, cell_below, widest-cell, capped_below, sum_below, rows_inner}
 use Rattle.paren_planner.proofs.WrappedRows.{parts-rows, widest_own, rows-empty}
 
 -- Rows from a place on
+
+-- these rows stand in a table from a place on
+pub record HasRows (table : List Row) (at : ℕ) (rows : List Row) : Type 0 where
+  pub rest : List Row
+  pub stand : drop at table ≡ rows ++ rest
 
 pub front_rows : (t : List Row) (k : ℕ) (xs ys : List Row) → HasRows t k (xs ++ ys) → HasRows t k xs
 front_rows t k xs ys h = record { rest = ys ++ h.rest; stand = h.stand ∙ append_assoc xs ys h.rest }
@@ -150,9 +155,6 @@ own_flags (node k w g s e ps) (expr y i f) false ws vs h q =
 own_flags n _ may_wrap ws vs h q = absurd (cc)
 
 -- A script
-
-pub all_rows : (t rows : List Row) → t ≡ rows → HasRows t 0 rows
-all_rows t rows h = record { rest = []; stand = h ∙ sym (append-nil rows) }
 
 pub total_is : (o l : Option ℕ) (t : ℕ) → IsSome l → o ≡ l → ((s : ℕ) → o ≡ Some s → t ≡ s) → Some t ≡ l
 total_is o None t h e k = absurd (cc)

@@ -7,5 +7,4 @@ pub mod Laws
 pub mod Plans
 pub mod Extra
 pub mod PairNodes
-pub mod Pairless
 pub mod Passing

@@ -1,5 +1,5 @@
 -- Forwards over the steps of a walk: which nodes are wrapped.
-use Rattle.std.specs.Prelude.{Bool, true, false, not, cond, ◌&&◌, List, [], ◌∷◌, ◌++◌, length, slice_get, map, reverse, Option, Some, None}
+use Rattle.std.specs.Prelude.{Bool, true, false, not, cond, ◌&&◌, List, [], ◌∷◌, ◌++◌, drop, map, reverse, Option, Some, None}
 use Rattle.language.specs.Pieces.{Role, script}
 use Rattle.language.specs.Layout.{exceeds, inside}
 use Rattle.spelling_table.specs.Outlines.{role_of, slot_of}
@@ -8,12 +8,14 @@ use Rattle.cost_table.specs.declared.costs.Costs.{Costs}
 use Rattle.spelling_table.specs.declared.requirements.Requirements.{Requirements}
 use Rattle.paren_planner.specs.declared.steps.NodeStep.{NodeStep}
 use Rattle.paren_planner.specs.declared.steps.Step.{Step}
-use Rattle.paren_planner.specs.declared.steps.Step.TheVariants.{Free, Leaf, Enter, Leave}
+use Rattle.paren_planner.specs.declared.steps.Step.TheVariants.{Free, Passed, Leaf, Enter, Leave}
 use Rattle.cost_table.specs.declared.table.Row.{Row}
 use Rattle.paren_planner.specs.declared.wrap_pass.WrapContext.{WrapContext}
+use Rattle.paren_planner.specs.declared.wrap_pass.RowFlags.{RowFlags}
 use Rattle.cost_table.specs.Costs.{capped_sum, is_free}
 use Rattle.cost_table.specs.Weighed.{cost_of}
 use Rattle.paren_planner.specs.Steps.{outline_of, stands_at, has_row_at, others}
+use Rattle.paren_planner.specs.Wrapped.{unwrapped}
 
 -- where the steps stand: the position of the innermost open node, as it is with its pair or without, and whether a node in it may be wrapped
 pub record Round : Type 0 where
@@ -23,10 +25,11 @@ pub record Round : Type 0 where
 abbrev pub round : WrapContext → Round
 round x = record { own = role_of x.own; may_wrap = x.may_wrap }
 
--- the same of the open nodes round it, the innermost first, and the flags so far
+-- the same of the open nodes round it, the innermost first, the rows of the table from the next on, and the flags so far
 pub record Marks : Type 0 where
   pub here : Round
   pub outer : List Round
+  pub rows : List Row
   pub flags : List Bool
 
 abbrev pub meets : Role → Option Requirements → Bool
@@ -52,30 +55,39 @@ round_at (Some r) a l = around_parts (inside (wants a l r.costs) a) l r.costs
 abbrev pub plain_round : Role → Option Requirements → Round
 plain_round a l = record { own = a; may_wrap = meets a l }
 
--- the flag of a node, where it has a row
-abbrev pub flag_of : List Row → NodeStep → Round → List Bool → List Bool
-flag_of T v x bs = cond (has_row_at (slot_of v.slot)) (cond x.may_wrap (flag_at (slice_get T (length bs)) (stands_at x.own v) v.requirements) false ∷ []) []
+abbrev pub first_row : List Row → Option Row
+first_row [] = None
+first_row (r ∷ R) = Some r
 
-abbrev pub round_of : List Row → NodeStep → Round → List Bool → Round
-round_of T v x bs = cond x.may_wrap (cond (has_row_at (slot_of v.slot)) (round_at (slice_get T (length bs)) (stands_at x.own v) v.requirements) (plain_round (stands_at x.own v) v.requirements)) x
+-- the flag of a node, where it has a row
+abbrev pub flag_of : NodeStep → Round → Option Row → List Bool
+flag_of v x r = cond (has_row_at (slot_of v.slot)) (cond x.may_wrap (flag_at r (stands_at x.own v) v.requirements) false ∷ []) []
+
+abbrev pub round_of : NodeStep → Round → Option Row → Round
+round_of v x r = cond x.may_wrap (cond (has_row_at (slot_of v.slot)) (round_at r (stands_at x.own v) v.requirements) (plain_round (stands_at x.own v) v.requirements)) x
+
+abbrev pub rows_after : NodeStep → List Row → List Row
+rows_after v R = cond (has_row_at (slot_of v.slot)) (others R) R
 
 abbrev pub innermost_round : List Round → Round → Round
 innermost_round [] x = x
 innermost_round (y ∷ ys) x = y
 
-abbrev pub marked : List Row → Step → Marks → Marks
-marked T (Free k z) t = record { here = t.here; outer = t.outer; flags = t.flags ++ false ∷ [] }
-marked T (Leaf v) t = record { here = t.here; outer = t.outer; flags = t.flags ++ flag_of T v t.here t.flags }
-marked T (Enter v) t = record { here = round_of T v t.here t.flags; outer = t.here ∷ t.outer; flags = t.flags ++ flag_of T v t.here t.flags }
-marked T Leave t = record { here = innermost_round t.outer t.here; outer = others t.outer; flags = t.flags }
+-- the table has no rows of a node that is passed
+abbrev pub marked : Step → Marks → Marks
+marked (Free k z) t = record { here = t.here; outer = t.outer; rows = others t.rows; flags = t.flags ++ false ∷ [] }
+marked (Passed m) t = record { here = t.here; outer = t.outer; rows = t.rows; flags = t.flags ++ unwrapped m }
+marked (Leaf v) t = record { here = t.here; outer = t.outer; rows = rows_after v t.rows; flags = t.flags ++ flag_of v t.here (first_row t.rows) }
+marked (Enter v) t = record { here = round_of v t.here (first_row t.rows); outer = t.here ∷ t.outer; rows = rows_after v t.rows; flags = t.flags ++ flag_of v t.here (first_row t.rows) }
+marked Leave t = record { here = innermost_round t.outer t.here; outer = others t.outer; rows = t.rows; flags = t.flags }
 
-unfoldable pub marked_through : List Row → List Step → Marks → Marks
-marked_through T [] t = t
-marked_through T (x ∷ xs) t = marked_through T xs (marked T x t)
+unfoldable pub marked_through : List Step → Marks → Marks
+marked_through [] t = t
+marked_through (x ∷ xs) t = marked_through xs (marked x t)
 
-abbrev pub at_the_start : Marks
-at_the_start = record { here = record { own = script; may_wrap = true }; outer = []; flags = [] }
+abbrev pub at_the_start : List Row → Marks
+at_the_start R = record { here = record { own = script; may_wrap = true }; outer = []; rows = R; flags = [] }
 
 -- the same as vectors, the innermost node last
-abbrev pub shown_marks : WrapContext → List WrapContext → List Bool → Marks
-shown_marks x xs bs = record { here = round x; outer = reverse (map round xs); flags = bs }
+abbrev pub shown_marks : List Row → WrapContext → List WrapContext → RowFlags → Marks
+shown_marks T x xs w = record { here = round x; outer = reverse (map round xs); rows = drop w.next_row T; flags = w.flags.items }

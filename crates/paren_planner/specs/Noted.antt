@@ -1,5 +1,5 @@
 -- The steps that a walk over a node notes.
-use Rattle.std.specs.Prelude.{◌≡◌, Bool, true, false, cond, ◌&&◌, List, [], ◌∷◌, ◌++◌, length, Some, None}
+use Rattle.std.specs.Prelude.{◌≡◌, ℕ, Bool, true, false, cond, ◌&&◌, List, [], ◌∷◌, ◌++◌, Some, None}
 use Rattle.tree.specs.Tree.{Tree, Parts, none, part, gap, kind_of, parts_of}
 use Rattle.language.specs.Pieces.{Role, expr, chain_part, pattern, script, Slot, fixed}
 use Rattle.language.specs.RowPositions.{widest, rows}
@@ -14,12 +14,12 @@ use Rattle.spellings.specs.Remaining.{left}
 use Rattle.spellings.specs.Wherever.{NodeSpelling, IsSpelledWherever}
 use Rattle.paren_planner.specs.declared.steps.NodeStep.{NodeStep}
 use Rattle.paren_planner.specs.declared.steps.Step.{Step}
-use Rattle.paren_planner.specs.declared.steps.Step.TheVariants.{Free, Leaf, Enter, Leave}
+use Rattle.paren_planner.specs.declared.steps.Step.TheVariants.{Free, Passed, Leaf, Enter, Leave}
 use Rattle.cost_table.specs.Weighed.{settled_at, slot_free, is_plain_outline}
 use Rattle.spelling_table.specs.Requirements.{requirements_of}
 use Rattle.cost_table.specs.declared.table.Row.{Row}
 use Rattle.cost_table.specs.Rows.{row_of}
-use Rattle.paren_planner.specs.Steps.{nowhere, has_row_at, free_row}
+use Rattle.paren_planner.specs.Steps.{nowhere, has_row_at}
 
 -- it is a visit to this node, at a slot of a node at a position
 pub record IsVisit (a : Role) (s : Slot) (n : Tree) (v : NodeStep) : Type 0 where
@@ -68,6 +68,7 @@ fixed_outline x = fixed_front x.front && fixed_tail x.tail
 -- each of these steps is a node that costs nothing
 abbrev pub is_free_step : Step → Bool
 is_free_step (Free k z) = true
+is_free_step (Passed m) = true
 is_free_step x = false
 
 abbrev pub are_free : List Step → Bool
@@ -76,7 +77,7 @@ are_free (x ∷ xs) = is_free_step x && are_free xs
 
 mutual
   -- the steps of a node at a slot of a node at its widest position: none of its own where it costs nothing and has no row, or where it hands on what its parts cost.
-  -- Where `may_pass`, a node that costs nothing at its position may be passed: its steps then only count its rows.
+  -- Where `may_pass`, a node that costs nothing at its position may be passed: its step then only counts its rows.
   pub data Steps : Bool → Role → Slot → Tree → List Step → Type 0 where
     unspelled : {may_pass : Bool} {a : Role} {s : Slot} {n : Tree} {xs : List Step} (v : NodeStep) → IsVisit a s n v → v.requirements ≡ None → IsSpelledWherever (widest (settled_at a s)) n None → xs ≡ Leaf v ∷ [] → Steps may_pass a s n xs
     alone : {may_pass : Bool} {a : Role} {s : Slot} {n : Tree} {xs : List Step} (v : NodeStep) (x : NodeSpelling) → IsVisit a s n v → v.requirements ≡ Some (requirements_of x.outline) → IsSpelledWherever (widest (settled_at a s)) n (Some x) → parts_of n ≡ none → xs ≡ Leaf v ∷ [] → Steps may_pass a s n xs
@@ -87,7 +88,7 @@ mutual
     hidden : {may_pass : Bool} {a : Role} {s : Slot} {n : Tree} {xs : List Step} (x : NodeSpelling) → IsSpelledWherever (widest (settled_at a s)) n (Some x) → is_plain_outline x.outline ≡ true → parts_of n ≡ none → has_row_at s ≡ false → xs ≡ [] → Steps may_pass a s n xs
     through : {may_pass : Bool} {a : Role} {s : Slot} {n : Tree} {xs : List Step} (x : NodeSpelling) → IsSpelledWherever (widest (settled_at a s)) n (Some x) → is_settled_slot s ≡ true → are_fixed (left x.slots) ≡ true →
         PartsSteps may_pass (widest (settled_at a s)) (left x.slots) (parts_of n) xs → Steps may_pass a s n xs
-    passed : {may_pass : Bool} {a : Role} {s : Slot} {n : Tree} {xs : List Step} → may_pass ≡ true → is_fixed s ≡ true → least n (settled_at a s) ≡ Some 0 → are_free xs ≡ true → length xs ≡ rows n (settled_at a s) → Steps may_pass a s n xs
+    passed : {may_pass : Bool} {a : Role} {s : Slot} {n : Tree} {xs : List Step} (m : ℕ) → may_pass ≡ true → is_fixed s ≡ true → least n (settled_at a s) ≡ Some 0 → m ≡ rows n (settled_at a s) → xs ≡ Passed m ∷ [] → Steps may_pass a s n xs
 
   -- those of parts at these slots
   pub data PartsSteps : Bool → Role → List Slot → Parts → List Step → Type 0 where
@@ -100,13 +101,8 @@ mutual
 abbrev pub row_at : Slot → Tree → List Row
 row_at s n = cond (has_row_at s) (row_of n ∷ []) []
 
-abbrev pub free_rows : List Step → List Row
-free_rows [] = []
-free_rows (Free k z ∷ xs) = free_row k z ∷ free_rows xs
-free_rows (x ∷ xs) = free_rows xs
-
 unfoldable mutual
-  -- the rows that these steps make: those of a node that is passed are not its own, and nothing reads them
+  -- the rows that these steps make: of a node that is passed there are none
   pub made_rows : {may_pass : Bool} {a : Role} {s : Slot} {n : Tree} {xs : List Step} → Steps may_pass a s n xs → List Row
   made_rows {s = s} {n = n} (unspelled v i l k e) = row_at s n
   made_rows {s = s} {n = n} (alone v x i l k p e) = row_at s n
@@ -114,7 +110,7 @@ unfoldable mutual
   made_rows {s = s} {n = n} (costless x ys k p r f h g z) = row_at s n ++ made_parts h
   made_rows (hidden x k p e r z) = []
   made_rows (through x k r g h) = made_parts h
-  made_rows {xs = xs} (passed l f z g e) = free_rows xs
+  made_rows (passed m l f z e i) = []
 
   pub made_parts : {may_pass : Bool} {a : Role} {ss : List Slot} {ps : Parts} {xs : List Step} → PartsSteps may_pass a ss ps xs → List Row
   made_parts over = []

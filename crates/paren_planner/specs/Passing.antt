@@ -1,5 +1,5 @@
 -- Which nodes a walk may pass, by the pairs of the text that derives the script.
-use Rattle.std.specs.Prelude.{◌≡◌, ℕ, ◌+◌, true, List, [], ◌∷◌, Some}
+use Rattle.std.specs.Prelude.{◌≡◌, ℕ, ◌+◌, ◌≤◌, true, List, [], ◌∷◌, Some}
 use Rattle.std.specs.List.Sorted.{IsNonDecreasingBy}
 use Rattle.tree.specs.declared.kind.Pair.{Pair}
 use Rattle.tree.specs.declared.node.Node.{Node}
@@ -12,7 +12,7 @@ use Rattle.tree.specs.NodeUses.{use_in}
 use Rattle.tree.specs.Tree.{Tree, node, Parts, none, part, gap, kind_of, flags_of, start_of, stop_of, parts_of, part_count}
 use Rattle.language.specs.Pieces.{Role, script}
 use Rattle.language.specs.Grammar.{ways}
-use Rattle.language.specs.RowPositions.{first_roles, widest}
+use Rattle.language.specs.RowPositions.{first_roles, widest, rows}
 use Rattle.language.specs.Cost.{least}
 use Rattle.row_laws.specs.Agreements.{agrees}
 use Rattle.row_laws.specs.Lined.{lined}
@@ -23,10 +23,11 @@ use Rattle.pairless_laws.specs.Pairless.{IsPairless}
 abbrev pub AreOrdered : List Pair → Type 0
 AreOrdered P = IsNonDecreasingBy (λ p. p.left) P
 
--- a node that stands so fits its position, and costs nothing there if no pair opens in its span
+-- a node that stands so fits its position, has no more rows there than a script may, and costs nothing there if no pair opens in its span
 pub record IsKnown (P : List Pair) (st : NodeUse) (n : Tree) (a : Role) : Type 0 where
   pub stands : agrees st a (kind_of n) ≡ true
   pub lines_up : lined n a ≡ true
+  pub few : rows n a ≤ 16777216
   pub free : IsPairless P (start_of n) (stop_of n) → least n a ≡ Some 0
 
 unfoldable mutual

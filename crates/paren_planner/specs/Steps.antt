@@ -14,7 +14,7 @@ use Rattle.cost_table.specs.declared.costs.Costs as own
 use Rattle.spelling_table.specs.declared.requirements.Requirements.{Requirements}
 use Rattle.paren_planner.specs.declared.steps.NodeStep.{NodeStep}
 use Rattle.paren_planner.specs.declared.steps.Step.{Step}
-use Rattle.paren_planner.specs.declared.steps.Step.TheVariants.{Free, Leaf, Enter, Leave}
+use Rattle.paren_planner.specs.declared.steps.Step.TheVariants.{Free, Passed, Leaf, Enter, Leave}
 use Rattle.cost_table.specs.declared.table.Row.{Row}
 use Rattle.cost_table.specs.declared.node_costs.NodeCosts.{NodeCosts}
 use Rattle.cost_table.specs.Costs.{same_everywhere, sums, no_pairs}
@@ -91,6 +91,7 @@ free_row k z = row_with k (shaped (free_shape z) 0)
 
 abbrev pub taken : Step → Sums → Sums
 taken (Free k z) t = record { here = t.here; outer = t.outer; rows = free_row k z ∷ t.rows }
+taken (Passed m) t = t
 taken (Leaf v) t = joined v no_pairs t
 taken (Enter v) t = joined v t.here (record { here = innermost t.outer; outer = others t.outer; rows = t.rows })
 taken Leave t = record { here = no_pairs; outer = t.here ∷ t.outer; rows = t.rows }

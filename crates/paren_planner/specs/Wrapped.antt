@@ -1,11 +1,10 @@
 -- Of each row in a node, in the order of the rows, whether its node is wrapped.
-use Rattle.std.specs.Prelude.{◌≡◌, ℕ, zero, suc, Bool, false, cond, List, [], ◌∷◌, ◌++◌, drop, replicate, get_or}
+use Rattle.std.specs.Prelude.{ℕ, zero, suc, Bool, false, cond, List, [], ◌∷◌, ◌++◌, replicate, get_or}
 use Rattle.tree.specs.Tree.{Tree, node, Parts, none, part, gap, parts_of}
 use Rattle.language.specs.Pieces.{Role, expr}
 use Rattle.language.specs.Grammar.{ways}
 use Rattle.language.specs.RowPositions.{first_roles, widest, parts_rows}
 use Rattle.language.specs.Layout.{some_way, wants_pair, inside}
-use Rattle.cost_table.specs.declared.table.Row.{Row}
 
 -- at an expression's position
 abbrev pub own_flag : Role → Bool → List Bool
@@ -32,11 +31,6 @@ unfoldable mutual
 -- below a node at a position where it is spelled directly, or isn't
 unfoldable pub inner_flags : Tree → Role → List Bool
 inner_flags n a = cond (some_way (ways a n)) (parts_flags (parts_of n) (first_roles (ways a n))) (unwrapped (parts_rows (parts_of n) (first_roles (ways (widest a) n))))
-
--- these rows stand in a table from a place on
-pub record HasRows (table : List Row) (at : ℕ) (rows : List Row) : Type 0 where
-  pub rest : List Row
-  pub stand : drop at table ≡ rows ++ rest
 
 -- the flag of a row, by its number, counted from 1
 abbrev pub is_flagged : List Bool → ℕ → Bool

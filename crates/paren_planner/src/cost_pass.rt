@@ -40,6 +40,7 @@ fn take_back(step: &Step, pending: &mut OpenSums, table: &mut CostTable) -> Resu
 {
     match step {
         Step::Free(kind, rank) => table.push_free(*kind, *rank),
+        Step::Passed(_) => Ok(()),
         Step::Leaf(visit) => add_leaf(visit, pending, table),
         Step::Enter(visit) => add_parent(visit, pending, table),
         Step::Leave => pending.enter(),

@@ -93,8 +93,7 @@ fn planned(
 {
     let mut table = weights.table;
     table.set_total(total);
-    let mut wrapped = Vec::with_capacity(alloc, table.row_count())?;
-    wrap_pass(alloc, &weights.steps, &table, &mut wrapped)?;
+    let wrapped = wrap_pass(alloc, &weights.steps, &table, table.row_count())?;
     Ok(Plan { table, wrapped })
 }
 

@@ -18,7 +18,7 @@ ghost use Rattle.language.specs.declared.Rank.TheVariants.{Primary};
 ghost use Rattle.paren_planner.specs.Steps.{nowhere};
 ghost use Rattle.cost_table.specs.Weighed.{settled_at, slot_free};
 
-use crate::pairless::push_free_rows;
+use crate::row_count::row_count;
 use crate::steps::{NodeStep, Step, Steps, has_row};
 use crate::text_pairs::{TextPairs, is_passed, is_settled};
 use cost_table::widest;
@@ -49,7 +49,7 @@ pub(crate) fn visit_node(
         return visit_atom(node, above, slot, in_chain, pairs, steps);
     }
     if is_passed(pairs, node, slot) {
-        push_free_rows(node, steps)?;
+        steps.push(Step::Passed(row_count(node)))?;
         return Ok(true);
     }
     visit_at(node, above, slot, in_chain, pairs, steps)

@@ -108,6 +108,8 @@ pub(crate) enum Step {
     /// A node at this symbol with a row, which costs nothing wherever it may stand. The steps of its parts, where it has any, are such too,
     /// and none goes back to it.
     Free(Kind, Rank),
+    /// A node that the walk passes, and how many rows there are in it: it costs nothing, and no node in it is wrapped.
+    Passed(u32),
     Leaf(NodeStep),
     Enter(NodeStep),
     Leave,

@@ -1,10 +1,11 @@
 //! Which nodes are wrapped, from the first step of a walk to the last: from the script inwards.
 
-ghost use Rattle.std.specs.Prelude.{◌≡◌, ◌++◌, [], ◌∷◌, true, false, cond, OnOk, length, slice_get};
+ghost use Rattle.std.specs.Prelude.{◌≡◌, ◌++◌, [], ◌∷◌, true, false, cond, OnOk, IfOk, drop, slice_get};
 ghost use Rattle.language.specs.Layout.{inside as inside_role};
 ghost use Rattle.spelling_table.specs.Outlines.{role_of, slot_of};
-ghost use Rattle.paren_planner.specs.Steps.{has_row_at, stands_at};
-ghost use Rattle.paren_planner.specs.Marked.{round, shown_marks, marked, marked_through, at_the_start, flag_at, flag_of, round_at, round_of, plain_round, meets as meets_at};
+ghost use Rattle.paren_planner.specs.Steps.{has_row_at, stands_at, others};
+ghost use Rattle.paren_planner.specs.Marked.{round, shown_marks, marked, marked_through, at_the_start, flag_at, flag_of, round_at, round_of, rows_after, plain_round, meets as meets_at};
+ghost use Rattle.paren_planner.specs.Wrapped.{unwrapped};
 
 use crate::steps::{NodeStep, Step, Steps, bare_outline};
 use cost_table::{CostTable, exceeds, is_zero, sum};
@@ -19,25 +20,64 @@ struct WrapContext {
     may_wrap: bool,
 }
 
-/// Says of each row of a script whether its node is wrapped.
+/// Of each row that was met, in order, whether its node is wrapped, and the index of the next row in the table, which has no rows of nodes
+/// that the walk passes.
+#[derive(Drop)]
+struct RowFlags {
+    flags: Vec<bool>,
+    next_row: usize,
+}
+
+impl RowFlags {
+    /// Says whether the node of the next row is wrapped.
+    fn push(&mut self, table: &CostTable, flag: bool) -> Result<(), AllocError>
+        ensures flags { OnOk result (self.new.flags.items ≡ self.old.flags.items ++ flag ∷ []) }
+        ensures rows { OnOk result (drop self.new.next_row table.now.rows.items ≡ others (drop self.old.next_row table.now.rows.items)) }
+    {
+        self.flags.push(flag)?;
+        if self.next_row < table.row_count() {
+            self.next_row += 1;
+        }
+        Ok(())
+    }
+
+    /// So many rows of nodes that aren't wrapped, and that have none in the table.
+    fn pass(&mut self, count: u32) -> Result<(), AllocError>
+        ensures flags { OnOk result (self.new.flags.items ≡ self.old.flags.items ++ unwrapped count) }
+        ensures row { self.new.next_row ≡ self.old.next_row }
+    {
+        self.flags.resize(self.flags.len() + count as usize, false)
+    }
+}
+
+/// Says of each row of a script whether its node is wrapped. `capacity`: how many flags there is room for at first.
 pub(crate) fn wrap_pass(
     alloc: Global,
     steps: &Steps,
     table: &CostTable,
-    wrapped: &mut Vec<bool>,
-) -> Result<(), AllocError>
-    requires { wrapped.old.items ≡ [] }
-    ensures { OnOk result (wrapped.new.items ≡ (marked_through table.now.rows.items steps.now at_the_start).flags) }
+    capacity: usize,
+) -> Result<Vec<bool>, AllocError>
+    ensures { IfOk result (λ wrapped. wrapped.items ≡ (marked_through steps.now (at_the_start table.now.rows.items)).flags) }
 {
     let mut outer = Vec::new(alloc);
     let mut around = WrapContext {
         own: Position::Script,
         may_wrap: true,
     };
+    let mut wrapped = RowFlags {
+        flags: Vec::with_capacity(alloc, capacity)?,
+        next_row: 0,
+    };
     for index in 0..steps.len() {
-        take_step(steps.at(index), table, &mut around, &mut outer, wrapped)?;
+        take_step(
+            steps.at(index),
+            table,
+            &mut around,
+            &mut outer,
+            &mut wrapped,
+        )?;
     }
-    Ok(())
+    Ok(wrapped.flags)
 }
 
 /// Takes one step of the walk: chooses for its node, if it has a row, whether it is wrapped.
@@ -46,15 +86,16 @@ fn take_step(
     table: &CostTable,
     around: &mut WrapContext,
     outer: &mut Vec<WrapContext>,
-    wrapped: &mut Vec<bool>,
+    wrapped: &mut RowFlags,
 ) -> Result<(), AllocError>
-    ensures { OnOk result (shown_marks around.new outer.new.items wrapped.new.items ≡ marked table.now.rows.items step.now (shown_marks around.old outer.old.items wrapped.old.items)) }
+    ensures { OnOk result (shown_marks table.now.rows.items around.new outer.new.items wrapped.new ≡ marked step.now (shown_marks table.now.rows.items around.old outer.old.items wrapped.old)) }
 {
     if !around.may_wrap {
-        return pass_step(step, around, outer, wrapped);
+        return pass_step(step, table, around, outer, wrapped);
     }
     match step {
-        Step::Free(_, _) => pass_row(wrapped),
+        Step::Free(_, _) => wrapped.push(table, false),
+        Step::Passed(count) => wrapped.pass(*count),
         Step::Leaf(visit) => wrap_leaf(visit, table, around.own, wrapped),
         Step::Enter(visit) => {
             outer.push(*around)?;
@@ -70,19 +111,21 @@ fn take_step(
 /// A step where no node may be wrapped.
 fn pass_step(
     step: &Step,
+    table: &CostTable,
     around: &mut WrapContext,
     outer: &mut Vec<WrapContext>,
-    wrapped: &mut Vec<bool>,
+    wrapped: &mut RowFlags,
 ) -> Result<(), AllocError>
     requires { around.old.may_wrap ≡ false }
-    ensures { (table : _) → OnOk result (shown_marks around.new outer.new.items wrapped.new.items ≡ marked table step.now (shown_marks around.old outer.old.items wrapped.old.items)) }
+    ensures { OnOk result (shown_marks table.now.rows.items around.new outer.new.items wrapped.new ≡ marked step.now (shown_marks table.now.rows.items around.old outer.old.items wrapped.old)) }
 {
     match step {
-        Step::Free(_, _) => pass_row(wrapped),
-        Step::Leaf(visit) => pass_node(visit, wrapped),
+        Step::Free(_, _) => wrapped.push(table, false),
+        Step::Passed(count) => wrapped.pass(*count),
+        Step::Leaf(visit) => pass_node(visit, table, wrapped),
         Step::Enter(visit) => {
             outer.push(*around)?;
-            pass_node(visit, wrapped)
+            pass_node(visit, table, wrapped)
         }
         Step::Leave => {
             *around = outer.pop().unwrap_or(*around);
@@ -92,21 +135,14 @@ fn pass_step(
 }
 
 /// A node that isn't wrapped.
-fn pass_node(visit: &NodeStep, wrapped: &mut Vec<bool>) -> Result<(), AllocError>
-    ensures { OnOk result (wrapped.new.items ≡ wrapped.old.items ++ cond (has_row_at (slot_of visit.now.slot)) (false ∷ []) []) }
+fn pass_node(visit: &NodeStep, table: &CostTable, wrapped: &mut RowFlags) -> Result<(), AllocError>
+    ensures flags { OnOk result (wrapped.new.flags.items ≡ wrapped.old.flags.items ++ cond (has_row_at (slot_of visit.now.slot)) (false ∷ []) []) }
+    ensures rows { OnOk result (drop wrapped.new.next_row table.now.rows.items ≡ rows_after visit.now (drop wrapped.old.next_row table.now.rows.items)) }
 {
     if !visit.has_row() {
         return Ok(());
     }
-    pass_row(wrapped)
-}
-
-/// A row of a node that isn't wrapped.
-fn pass_row(wrapped: &mut Vec<bool>) -> Result<(), AllocError>
-    ensures { OnOk result (wrapped.new.items ≡ wrapped.old.items ++ false ∷ []) }
-{
-    wrapped.push(false)?;
-    Ok(())
+    wrapped.push(table, false)
 }
 
 /// Says of a node without parts whether it is wrapped, where it has a row.
@@ -114,17 +150,17 @@ fn wrap_leaf(
     visit: &NodeStep,
     table: &CostTable,
     own: Position,
-    wrapped: &mut Vec<bool>,
+    wrapped: &mut RowFlags,
 ) -> Result<(), AllocError>
-    ensures { OnOk result (wrapped.new.items ≡ wrapped.old.items ++ cond (has_row_at (slot_of visit.now.slot)) (flag_at (slice_get table.now.rows.items (length wrapped.old.items)) (stands_at (role_of own) visit.now) visit.now.requirements ∷ []) []) }
+    ensures flags { OnOk result (wrapped.new.flags.items ≡ wrapped.old.flags.items ++ cond (has_row_at (slot_of visit.now.slot)) (flag_at (slice_get table.now.rows.items wrapped.old.next_row) (stands_at (role_of own) visit.now) visit.now.requirements ∷ []) []) }
+    ensures rows { OnOk result (drop wrapped.new.next_row table.now.rows.items ≡ rows_after visit.now (drop wrapped.old.next_row table.now.rows.items)) }
 {
     if !visit.has_row() {
         return Ok(());
     }
     let position = resolve_slot(own, visit.slot);
-    let wants = wants_pair(visit.requirements, position, table, wrapped.len());
-    wrapped.push(wants)?;
-    Ok(())
+    let wants = wants_pair(visit.requirements, position, table, wrapped.next_row);
+    wrapped.push(table, wants)
 }
 
 /// Says of a node with parts whether it is wrapped, where it has a row, and what stands around its parts.
@@ -132,20 +168,21 @@ fn wrap_parent(
     visit: &NodeStep,
     table: &CostTable,
     around: &mut WrapContext,
-    wrapped: &mut Vec<bool>,
+    wrapped: &mut RowFlags,
 ) -> Result<(), AllocError>
     requires { around.old.may_wrap ≡ true }
-    ensures around { OnOk result (round around.new ≡ round_of table.now.rows.items visit.now (round around.old) wrapped.old.items) }
-    ensures flag { OnOk result (wrapped.new.items ≡ wrapped.old.items ++ flag_of table.now.rows.items visit.now (round around.old) wrapped.old.items) }
+    ensures around { OnOk result (round around.new ≡ round_of visit.now (round around.old) (slice_get table.now.rows.items wrapped.old.next_row)) }
+    ensures flags { OnOk result (wrapped.new.flags.items ≡ wrapped.old.flags.items ++ flag_of visit.now (round around.old) (slice_get table.now.rows.items wrapped.old.next_row)) }
+    ensures rows { OnOk result (drop wrapped.new.next_row table.now.rows.items ≡ rows_after visit.now (drop wrapped.old.next_row table.now.rows.items)) }
 {
     let position = resolve_slot(around.own, visit.slot);
     if !visit.has_row() {
         *around = plain(position, visit.requirements);
         return Ok(());
     }
-    let row = wrapped.len();
+    let row = wrapped.next_row;
     let wants = wants_pair(visit.requirements, position, table, row);
-    wrapped.push(wants)?;
+    wrapped.push(table, wants)?;
     *around = within(wants, position, visit.requirements, table, row);
     Ok(())
 }

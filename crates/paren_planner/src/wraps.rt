@@ -45,8 +45,5 @@ fn weighed_wraps(
     requires few { rows program.now script ≤ 16777216 }
     ensures { IfOk result (λ wraps. AreWraps program.now wraps.items) }
 {
-    let _ = program.node_count();
-    let mut wraps = Vec::with_capacity(alloc, weights.table.row_count())?;
-    wrap_pass(alloc, &weights.steps, &weights.table, &mut wraps)?;
-    Ok(wraps)
+    wrap_pass(alloc, &weights.steps, &weights.table, program.node_count())
 }

@@ -3,7 +3,7 @@ use Rattle.language.specs.Pieces.{script, fixed}
 use Rattle.paren_planner.specs.Noted.{Steps}
 use Rattle.paren_planner.proofs.WalkSteps.{noted_first}
 use Rattle.paren_planner.proofs.Backwards.{script_rows, script_total}
-use Rattle.paren_planner.proofs.Passing.{script_passing}
+use Rattle.paren_planner.proofs.PassedNodes.{script_passing}
 use Rattle.paren_planner.proofs.planner.weigh_by_pairs.Goals as goal
 
 pub visit_node-requires-clause-passing : goal.visit_node-requires-clause-passing

@@ -17,7 +17,7 @@ use Rattle.cost_table.specs.Weighed.{is_plain_outline, slot_free}
 use Rattle.std.specs.Prelude.{set}
 use Rattle.cost_table.proofs.NodeRowNumbers.{chained_at}
 use Rattle.paren_planner.proofs.WalkSteps.{begun_stop, begun_finish, noted_unspelled, noted_alone, noted_around, place_within, noted_free, noted_word, noted_hidden, noted_through, outline_fixed}
-use Rattle.paren_planner.proofs.Passing.{reached_first, reached_skip, reached_part, reached_next, noted_passed, passing_parts}
+use Rattle.paren_planner.proofs.PassedNodes.{reached_first, reached_skip, reached_part, reached_next, noted_passed, passing_parts}
 use Rattle.paren_planner.proofs.step_walk.+visiting.Goals as goal
 
 -- the part at a place
@@ -74,8 +74,9 @@ visit_parts-loop-index-preserved t c =
 
 pub visit_node-returns-then-is_passed : goal.visit_node-returns-then-is_passed
 visit_node-returns-then-is_passed t c =
-    noted_passed c.args.pairs.now.are_known c.args.pairs.now.pairs.now (role_of c.args.above.now) (slot_of c.args.slot.now) c.args.node c.args.steps.now c.push_free_rows.new.steps
-    (c.is_passed.ensures.known c.if-is_passed.true) (c.is_passed.ensures.settled c.if-is_passed.true) (c.is_passed.ensures.pairless c.if-is_passed.true) (c.requires.passing (c.is_passed.ensures.known c.if-is_passed.true)) c.in_ok-push_free_rows.ensures
+    noted_passed c.args.pairs.now.are_known c.args.pairs.now.pairs.now (role_of c.args.above.now) (slot_of c.args.slot.now) c.args.node c.row_count.result c.args.steps.now c.push.new.self
+    (c.is_passed.ensures.known c.if-is_passed.true) (c.is_passed.ensures.settled c.if-is_passed.true) (c.is_passed.ensures.pairless c.if-is_passed.true) (c.requires.passing (c.is_passed.ensures.known c.if-is_passed.true))
+    c.row_count.ensures c.in_ok-push.ensures.items
 
 pub visit_atom-returns : goal.visit_atom-returns
 visit_atom-returns t c =

@@ -5,7 +5,7 @@ use Rattle.spelling_table.specs.Outlines.{role_of}
 use Rattle.spellings.specs.Remaining.{left}
 use Rattle.spellings.specs.Wherever.{spelled_by}
 use Rattle.spellings.specs.Cursors.{left_by}
-use Rattle.paren_planner.proofs.Passing.{Reached}
+use Rattle.paren_planner.proofs.PassedNodes.{Reached}
 use Rattle.paren_planner.proofs.step_walk.+visiting.Given as goal
 
 abbrev pub decreases-visit_node : goal.decreases-visit_node

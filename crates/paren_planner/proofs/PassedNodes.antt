@@ -1,5 +1,5 @@
--- What is known of a script's nodes, from the root to each part.
-use Rattle.std.proofs.Common.{◌≡◌, ℕ, ◌+◌, Bool, true, List, [], ◌∷◌, Some, refl, sym, ap, ◌∙◌, subst}
+-- What is known of a script's nodes, from the root to each part, and the step of one that is passed.
+use Rattle.std.proofs.Common.{◌≡◌, ℕ, ◌+◌, ◌≤◌, Bool, true, List, [], ◌∷◌, ◌++◌, length, Some, refl, sym, ap, ◌∙◌, subst, arith}
 use Rattle.std.specs.Prelude.{◌&&◌}
 use Rattle.std.proofs.lemmas.Bool.{false≢true, and_parts}
 use Rattle.tree.specs.declared.kind.Kind.{Kind}
@@ -11,7 +11,7 @@ use Rattle.tree.specs.declared.node_use.NodeUse.TheVariants.{NotEvaluated}
 use Rattle.tree.specs.declared.node_use.ParentUse.{ParentUse}
 use Rattle.tree.specs.HeldRows.{HoldsRows, use_below}
 use Rattle.tree.specs.Node.{node_tree}
-use Rattle.tree.specs.NodeUses.{use_in}
+use Rattle.tree.specs.NodeUses.{use_in, rows_in}
 use Rattle.tree.specs.Tree.{Tree, node, Parts, none, part, gap, kind_of, flags_of, start_of, stop_of, parts_of, part_count}
 use Rattle.language.specs.declared.Rank.TheVariants.{Expression}
 use Rattle.language.specs.declared.Start.TheVariants.{Any}
@@ -19,7 +19,7 @@ use Rattle.language.specs.Pieces.{Role, expr, chain_part, pattern, script, Slot,
 use Rattle.language.specs.Grammar.{ways}
 use Rattle.language.specs.Layout.{some_way, first_way}
 use Rattle.language.specs.LayoutFits.{lines_up}
-use Rattle.language.specs.RowPositions.{first_roles, widest, rows}
+use Rattle.language.specs.RowPositions.{first_roles, widest, rows, parts_rows}
 use Rattle.language.specs.Cost.{least}
 use Rattle.row_laws.specs.Agreements.{agrees, PartsAgree}
 use Rattle.row_laws.specs.Lined.{leads, lined, parts_lined}
@@ -30,14 +30,16 @@ use Rattle.spellings.specs.Wherever.{NodeSpelling, IsSpelledWherever}
 use Rattle.cost_table.specs.Weighed.{settled_at}
 use Rattle.cost_table.proofs.NodeRowNumbers.{roles_some}
 use Rattle.paren_planner.specs.declared.steps.Step.{Step}
+use Rattle.paren_planner.specs.declared.steps.Step.TheVariants.{Passed}
 use Rattle.paren_planner.specs.Noted.{is_settled, is_settled_slot, is_fixed, passed, Noted}
-use Rattle.paren_planner.specs.Pairless.{FreeRows}
 use Rattle.pairless_laws.specs.Pairless.{IsPairless, PairlessAreFree, PairlessPartsAreFree}
 use Rattle.paren_planner.specs.Passing.{AreOrdered, IsKnown, Passable, PassableParts, Passing, PassingParts, ScriptPassing}
 use Rattle.tree.proofs.PartWalk.{parts_drop}
 use Rattle.paren_planner.proofs.WrappedRows.{SlotsOf, slots_of}
 use Rattle.paren_planner.proofs.WalkSteps.{Begun, begun_first, begun_skip, begun_next}
 use Rattle.paren_planner.proofs.PairlessSpans.{ascending}
+use Rattle.paren_planner.proofs.LinedRows.{rows_agree}
+use Rattle.paren_planner.proofs.Bytes.{rows_within}
 use Rattle.paren_planner.specs.Plans.{IsDerived}
 use Rattle.pairless_laws.proofs.PairlessNodes.{derived_free}
 use Rattle.row_laws.proofs.FirstWayRows.{derived_lined}
@@ -91,10 +93,10 @@ laid st k w g s e ps c h l =
     record { role = c; same = refl; stands = h; led = q.0; parts = q.1 }
 
 mutual
-  unfolding parts_lined PairlessAreFree PairlessPartsAreFree Passable PassableParts
+  unfolding parts_lined PairlessAreFree PairlessPartsAreFree Passable PassableParts rows parts_rows
 
-  passable : (P : List Pair) (st : NodeUse) (n : Tree) (c a : Role) → widest c ≡ widest a → agrees st c (kind_of n) ≡ true → lined n c ≡ true → PairlessAreFree P n a → Passable P st n a
-  passable P st (node k w g s e ps) c a v h l x =
+  passable : (P : List Pair) (st : NodeUse) (n : Tree) (c a : Role) → widest c ≡ widest a → agrees st c (kind_of n) ≡ true → lined n c ≡ true → rows n a ≤ 16777216 → PairlessAreFree P n a → Passable P st n a
+  passable P st (node k w g s e ps) c a v h l few x =
       let n : Tree = node k w g s e ps in
       let y : Laid st k w g s e ps c = laid st k w g s e ps c h l in
       let b : Role = y.role in
@@ -106,25 +108,28 @@ mutual
         λ t. record {
           stands = subst (λ r. agrees st r k ≡ true) (settled_same c a v t) h;
           lines_up = subst (λ r. lined n r ≡ true) (settled_same c a v t) l;
+          few = few;
           free = λ q. subst (λ r. least n r ≡ Some 0) (settled_widest a t) (x.0 q);
         },
         subst (PassableParts P u (part_count ps) 0 ps) roles
             (passable_parts P u (part_count ps) 0 ps b (widest b) z.slots
             (subst (PartsAgree u (part_count ps) 0 ps) z.here suits)
             (subst (λ rs. parts_lined ps rs ≡ true) z.here y.parts)
+            (subst (λ rs. parts_rows ps rs ≤ 16777216) (sym roles) (omega (arith, few)))
             (subst (PairlessPartsAreFree P ps) (sym roles) x.1)),
       )
 
-  passable_parts : (P : List Pair) (u : ParentUse) (m i : ℕ) (ps : Parts) (c b : Role) (ss : List Slot) → PartsAgree u m i ps (settled_roles c ss) → parts_lined ps (settled_roles c ss) ≡ true → PairlessPartsAreFree P ps (settled_roles b ss) → PassableParts P u m i ps (settled_roles b ss)
-  passable_parts P u m i none c b ss h l x = tt
-  passable_parts P u m i (gap ps) c b ss h l x = passable_parts P u m (i + 1) ps c b ss h l x
-  passable_parts P u m i (part n ps) c b [] h l x = tt
-  passable_parts P u m i (part n ps) c b (s ∷ ss) h l x =
+  passable_parts : (P : List Pair) (u : ParentUse) (m i : ℕ) (ps : Parts) (c b : Role) (ss : List Slot) → PartsAgree u m i ps (settled_roles c ss) → parts_lined ps (settled_roles c ss) ≡ true → parts_rows ps (settled_roles b ss) ≤ 16777216 → PairlessPartsAreFree P ps (settled_roles b ss) →
+      PassableParts P u m i ps (settled_roles b ss)
+  passable_parts P u m i none c b ss h l few x = tt
+  passable_parts P u m i (gap ps) c b ss h l few x = passable_parts P u m (i + 1) ps c b ss h l few x
+  passable_parts P u m i (part n ps) c b [] h l few x = tt
+  passable_parts P u m i (part n ps) c b (s ∷ ss) h l few x =
       let q = and_parts (lined n (settled_at c s)) (parts_lined ps (settled_roles c ss)) l in
-      (passable P (use_in u m i n) n (settled_at c s) (settled_at b s) (slot_widest c b s) h.0 q.0 x.0, passable_parts P u m (i + 1) ps c b ss h.1 q.1 x.1)
+      (passable P (use_in u m i n) n (settled_at c s) (settled_at b s) (slot_widest c b s) h.0 q.0 (omega (arith, few)) x.0, passable_parts P u m (i + 1) ps c b ss h.1 q.1 (omega (arith, few)) x.1)
 
-pub script_passable : (P : List Pair) (n : Tree) → lined n script ≡ true → PairlessAreFree P n script → Passable P NotEvaluated n script
-script_passable P n l x = passable P NotEvaluated n script script refl refl l x
+pub script_passable : (P : List Pair) (n : Tree) → lined n script ≡ true → rows n script ≤ 16777216 → PairlessAreFree P n script → Passable P NotEvaluated n script
+script_passable P n l few x = passable P NotEvaluated n script script refl refl l few x
 
 pub script_passing : (P : List Pair) (n : Tree) (m : Node) → ScriptPassing P n → node_tree m ≡ n → HoldsRows NotEvaluated m → Passing P m script
 script_passing P n m h e r = record { ordered = h.ordered; node_use = NotEvaluated; rows = r; passable = subst (λ t. Passable P NotEvaluated t script) (sym e) h.passable }
@@ -190,16 +195,17 @@ settled_there : (a : Role) (s : Slot) → is_settled_slot s ≡ true → is_sett
 settled_there a (fixed b) h = h
 settled_there a s h = absurd (false≢true h)
 
-pub noted_passed : (may_pass : Bool) (P : List Pair) (a : Role) (s : Slot) (n : Node) (old new : List Step) → may_pass ≡ true → is_settled_slot s ≡ true → (AreOrdered P → IsPairless P (start_of (node_tree n)) (stop_of (node_tree n))) → Passing P n (settled_at a s) →
-    ((b : Role) (st : NodeUse) → HoldsRows st n → agrees st b (kind_of (node_tree n)) ≡ true → lined (node_tree n) b ≡ true → FreeRows (rows (node_tree n) b) old new) → Noted may_pass a s (node_tree n) true old new
-noted_passed may_pass P a s n old new m t q h f =
+pub noted_passed : (may_pass : Bool) (P : List Pair) (a : Role) (s : Slot) (n : Node) (m : ℕ) (old new : List Step) → may_pass ≡ true → is_settled_slot s ≡ true → (AreOrdered P → IsPairless P (start_of (node_tree n)) (stop_of (node_tree n))) → Passing P n (settled_at a s) →
+    ((st : NodeUse) → HoldsRows st n → rows_in st (node_tree n) ≤ 4294967295 → m ≡ rows_in st (node_tree n)) → new ≡ old ++ Passed m ∷ [] → Noted may_pass a s (node_tree n) true old new
+noted_passed may_pass P a s n m old new l t q h c e =
     let k : IsKnown P h.node_use (node_tree n) (settled_at a s) = passable_here P h.node_use (node_tree n) (settled_at a s) h.passable (settled_there a s t) in
-    let r : FreeRows (rows (node_tree n) (settled_at a s)) old new = f (settled_at a s) h.node_use h.rows k.stands k.lines_up in
+    let all : rows_in h.node_use (node_tree n) ≡ rows (node_tree n) (settled_at a s) = rows_agree h.node_use (settled_at a s) (node_tree n) k.stands k.lines_up in
+    let few = k.few in
     record {
-      steps = r.steps;
-      added = r.added;
-      are = passed m (settled_fixed s t) (k.free (q h.ordered)) r.free r.count;
-      free = λ z. r.free;
+      steps = Passed m ∷ [];
+      added = e;
+      are = passed m l (settled_fixed s t) (k.free (q h.ordered)) (c h.node_use h.rows (omega (arith, all, few)) ∙ all) refl;
+      free = λ z. refl;
     }
 
 -- The walk over the parts of a node
@@ -233,8 +239,14 @@ reached_next may_pass P n p a s ss rest later ps i g f old now new h e r k z = r
 }
 
 -- what is known of a script that a text derives
+pub derived_few : (n : Tree) (P : List Pair) → IsDerived n P → rows n script ≤ 16777216
+derived_few n P is =
+    let within : rows n script ≤ length is.text = rows_within is.text n P is.utf8 is.derived in
+    let short = is.short in
+    omega (arith, within, short)
+
 pub derived_passing : (n : Tree) (P : List Pair) → IsDerived n P → ScriptPassing P n
 derived_passing n P is = record {
   ordered = ascending P (pairs_ordered is.text n P is.utf8 is.derived);
-  passable = script_passable P n (derived_lined is.text n P is.derived) (derived_free is.text n P is.derived);
+  passable = script_passable P n (derived_lined is.text n P is.derived) (derived_few n P is) (derived_free is.text n P is.derived);
 }
