@@ -1,5 +1,5 @@
 pub mod Lines
+mod LineEnds
 mod LineExamples
 pub mod Pieces
 pub mod EndsMeet
-mod PlainBytes

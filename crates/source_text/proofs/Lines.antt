@@ -172,7 +172,7 @@ line_column_by_bytes text offset u place =
     ap (λ x. after_bytes (1, 1) x text) (sym n) ∙ ap (λ x. after_bytes (1, 1) (length (encodes before)) x) (sym whole) ∙ over_characters (1, 1) before following
 
 -- a turn of the walk at the byte i
-at_next : (i : ℕ) (bs : List ℕ) → i < length bs →
+pub at_next : (i : ℕ) (bs : List ℕ) → i < length bs →
     after_bytes (1, 1) (i + 1) bs ≡ after_byte (after_bytes (1, 1) i bs) (get_or bs i 0) (get_or bs (i + 1) 0) (get_or bs (i + 2) 0)
 at_next i bs lt =
     let one : suc i ≡ i + 1 = omega arith in

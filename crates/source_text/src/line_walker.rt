@@ -1,12 +1,13 @@
 //! Lines and columns of places, in one walk over the text.
 
-ghost use Rattle.std.specs.Prelude.{◌≡◌, ◌≤◌, ◌<◌, ◌+◌, ℕ, false, length, slice_index, true};
-ghost use Rattle.source_text.specs.LineBytes.{continues, ends_line_at};
+ghost use Rattle.std.specs.Prelude.{◌≡◌, ◌≤◌, ◌<◌, ◌+◌, ℕ, length, slice_index, IfSome, IfNone};
+ghost use Rattle.source_text.specs.LineBytes.{continues, ends_line_at, IsNextLine, NoLineEnds};
 ghost use Rattle.source_text.specs.Lines.{line_column};
 ghost use Rattle.source_text.specs.Located.{IsLocated};
 ghost use Rattle.source_text.specs.Source.{IsPlace};
 
-use crate::Source;
+use crate::{MAX_BYTES, Source};
+use memchr::memchr3;
 
 /// A place of a text, with its line and column, which count from 1, columns in characters. From there it walks on to later places, so ascending
 /// places cost one walk over the text.
@@ -55,39 +56,59 @@ impl LineWalker {
         ensures value { IsPlace source.now place → ◌≡◌ {A = ℕ × ℕ} (result.line, result.column) (line_column source.now place) }
     {
         let bytes = source.bytes();
-        let mut line = self.line;
+        let mut here = self;
+        while let Some(at) = next_line(bytes, here.at, place) {
+            here = LineWalker {
+                at,
+                line: here.line + 1,
+                column: 1,
+            };
+        }
+        here.along(bytes, place)
+    }
+
+    /// A later place of the same line.
+    fn along(self, bytes: &[u8], place: usize) -> LineWalker
+        requires here { IsLocated bytes.now self }
+        requires ahead { self.at ≤ place }
+        requires within { place ≤ length bytes.now }
+        requires short { length bytes.now ≤ MAX_BYTES }
+        requires same_line { NoLineEnds bytes.now self.at place }
+        ensures there { IsLocated bytes.now result }
+        ensures place { result.at ≡ place }
+    {
         let mut column = self.column;
         for i in self.at..place {
-            if is_plain(bytes[i]) {
-                column += 1;
-                continue;
-            }
-            if continues_character(bytes[i]) {
-                continue;
-            }
-            if ends_line(bytes, i) {
-                line += 1;
-                column = 1;
-            } else {
+            if !continues_character(bytes[i]) {
                 column += 1;
             }
         }
         LineWalker {
             at: place,
-            line,
+            line: self.line,
             column,
         }
     }
 }
 
-/// Whether a byte is one of those characters that most texts are made of: they have one byte, and end no line.
+/// The place behind the first line end from one place on, up to another; none if no line ends there.
 #[inline]
-#[tactic(auto, using(crate::proofs::PlainBytes::plain_begins, crate::proofs::PlainBytes::plain_ends_no_line))]
-fn is_plain(byte: u8) -> bool
-    ensures begins { result ≡ true → continues byte ≡ false }
-    ensures stays { result ≡ true → (b1 b2 : ℕ) → ends_line_at byte b1 b2 ≡ false }
+fn next_line(bytes: &[u8], from: usize, to: usize) -> Option<usize>
+    requires ordered { from ≤ to }
+    requires within { to ≤ length bytes.now }
+    ensures some { IfSome result (λ at. IsNextLine bytes.now from at) }
+    ensures until { IfSome result (λ at. at ≤ to) }
+    ensures none { IfNone result (NoLineEnds bytes.now from to) }
 {
-    matches!(byte, 0x0E..=0x7F)
+    let mut seen = from;
+    while let Some(passed) = memchr3(b'\n', b'\r', 0xE2, &bytes[seen..to]) {
+        let at = seen + passed;
+        seen = at + 1;
+        if ends_line(bytes, at) {
+            return Some(seen);
+        }
+    }
+    None
 }
 
 /// Whether a byte of UTF-8 begins no character.

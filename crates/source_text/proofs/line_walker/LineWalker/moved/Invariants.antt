@@ -1,6 +1,9 @@
-use Rattle.std.proofs.Common.{◌≡◌, ◌+◌, ◌≤◌}
-use Rattle.source_text.specs.LineBytes.{after_bytes}
+use Rattle.std.proofs.Common.{◌≤◌, ◌-◌}
+use Rattle.source_text.specs.Located.{IsLocated}
 use Rattle.source_text.proofs.line_walker.LineWalker.moved.Given as goal
 
-abbrev pub invariant-loop-i : goal.invariant-loop-i
-invariant-loop-i l = record { walked : (l.line, l.column) ≡ after_bytes (1, 1) l.i l.bytes; few_lines : l.line ≤ l.i + 1; few_columns : l.column ≤ l.i + 1 }
+abbrev pub invariant-loop-at : goal.invariant-loop-at
+invariant-loop-at l = record { located : IsLocated l.bytes l.here; ahead : l.here.at ≤ l.place }
+
+abbrev pub decreases-loop-at : goal.decreases-loop-at
+decreases-loop-at l = l.place - l.here.at
