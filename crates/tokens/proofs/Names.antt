@@ -1,26 +1,26 @@
 -- Names: the longest.
-use Rattle.std.proofs.Common.{◌≡◌, ℕ, ◌<◌, Bool, true, false, ◌&&◌, ◌||◌, ◌==◌, List, [], ◌∷◌, ◌++◌, IsTrue, IsFalse, refl, sym, ap, ◌∙◌, subst, arith}
+use Rattle.std.proofs.Common.{◌≡◌, ℕ, ◌<◌, Bool, true, false, not, ◌&&◌, ◌||◌, ◌==◌, nat_eq, get_or, List, [], ◌∷◌, ◌++◌, IsTrue, IsFalse, refl, sym, ap, ◌∙◌, subst, arith}
 use Rattle.std.specs.Char.{is_ascii, is_ascii_alphabetic, is_ascii_alphanumeric}
 use Rattle.std.specs.List.{list_all}
 use Rattle.std.proofs.lemmas.Bool.Decides.{nat_tests}
 use Rattle.unicode_ident.specs.Ident.{is_xid_continue}
 use Rattle.unicode_ident.proofs.IdentLemmas.{is_xid_start-ascii, is_xid_continue-ascii}
 use Rattle.tokens.specs.Alphabet.{one_of, is_among, begins_with, is_identifier_start, is_identifier_part}
-use Rattle.tokens.specs.Sets.{has_bit}
+use Rattle.tokens.specs.declared.name.TheConstants.{PARTS}
 use Rattle.tokens.specs.Lexical.{IdentifierName, none_longer, is_token}
 use Rattle.tokens.specs.Reading.{behind}
 use Rattle.tokens.specs.Scanned.{Passed, IsRun, IsWordAt, NoWordAt}
 use Rattle.tokens.proofs.PassedCharacters.{passed_on}
 use Rattle.tokens.proofs.Beginnings.{true_false}
-use Rattle.tokens.proofs.Sets.{set_is}
+use Rattle.tokens.proofs.Sets.{agree}
 use Rattle.tokens.proofs.Longest.{none_is_longer}
 
 -- the identifier characters of ASCII
 small : (c : ℕ) → is_ascii c ≡ true → c < 128
 small c e = grind (arith, nat_tests)
 
-pub part_bits : (c : ℕ) → c < 128 → has_bit (0x03FF001000000000 ∷ 0x07FFFFFE87FFFFFE ∷ []) c ≡ (one_of "$_" c || is_ascii_alphanumeric c)
-part_bits c lt = set_is (0x03FF001000000000 ∷ 0x07FFFFFE87FFFFFE ∷ []) (λ x. one_of "$_" x || is_ascii_alphanumeric x) refl c lt
+pub part_rows : (c : ℕ) → c < 128 → not (nat_eq (get_or PARTS c 0) 44) ≡ (one_of "$_" c || is_ascii_alphanumeric c)
+part_rows c lt = agree (λ x. not (nat_eq (get_or PARTS x 0) 44)) (λ x. one_of "$_" x || is_ascii_alphanumeric x) refl c lt
 
 pub ascii_start : (c : ℕ) → is_ascii c ≡ true → (one_of "$_" c || is_ascii_alphabetic c) ≡ is_identifier_start c
 ascii_start c e = ap (λ x. one_of "$_" c || x) (sym (is_xid_start-ascii c (small c e)))

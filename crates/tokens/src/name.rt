@@ -7,12 +7,15 @@ ghost use Rattle.tokens.specs.Alphabet.{is_identifier_start, is_identifier_part,
 ghost use Rattle.tokens.specs.Scanned.{IsRun, IsWordAt, NoWordAt, Passed};
 
 use crate::TokenClass;
-use crate::ascii::is_in;
 use crate::character::{CharAt, char_at};
 use unicode_ident::{is_xid_continue, is_xid_start};
 
-/// The IdentifierPart characters of ASCII: `$`, the digits, the letters and `_`.
-const PARTS: [u64; 2] = [0x03FF_0010_0000_0000, 0x07FF_FFFE_87FF_FFFE];
+/// The IdentifierPart characters of ASCII, each at its own place: `$`, the digits, the letters and `_`. A comma is at every other place.
+static PARTS: [u8; 128] = *b"\
+    ,,,,,,,,,,,,,,,,,,,,,,,,,,,,,,,,\
+    ,,,,$,,,,,,,,,,,0123456789,,,,,,\
+    ,ABCDEFGHIJKLMNOPQRSTUVWXYZ,,,,_\
+    ,abcdefghijklmnopqrstuvwxyz,,,,,";
 
 /// Whether a character of ASCII is an IdentifierStart (11.6).
 #[inline]
@@ -28,7 +31,7 @@ fn is_ascii_part(c: char) -> bool
     requires { c < 128 }
     ensures { result ≡ (one_of "$_" c || is_ascii_alphanumeric c) }
 {
-    is_in(&PARTS, c)
+    PARTS[c as usize] != b','
 }
 
 /// Whether the character is an IdentifierStart (11.6), escapes aside.
