@@ -1,10 +1,10 @@
 -- The earlier numbers and punctuators are those of the 11th edition, written out once more.
-use Rattle.std.proofs.Common.{◌≡◌, ℕ, Bool, true, false, not, ◌&&◌, ◌||◌, List, [], ◌∷◌, IsTrue, IsFalse, refl, sym, ap, ◌∙◌, subst, arith, if◌then◌else◌}
+use Rattle.std.proofs.Common.{◌≡◌, ℕ, Bool, true, false, not, ◌&&◌, ◌||◌, List, [], ◌∷◌, IsTrue, IsFalse, refl, sym, ap, ◌∙◌, arith, if◌then◌else◌}
 use Prim.Native.String.{String}
 use Rattle.std.specs.List.{list_any}
 use Rattle.std.proofs.lemmas.Bool.Decides.{nat_tests}
 use Rattle.tokens.specs.Alphabet.{one_of, is_decimal_digit}
-use Rattle.tokens.specs.Numbers.{binary, octal, hexadecimal, Numeral, unread, zero_read, integer, leading_point, point, fraction, exponent_mark, exponent_sign, exponent, prefix, digits, integer_separator, fraction_separator, exponent_separator, digits_separator, suffix, no_numeral, is_digit_of, after_integer, after_fraction, next_numeral, numeral_after, is_complete, is_number}
+use Rattle.tokens.specs.Numbers.{binary, octal, hexadecimal, Numeral, unread, zero_read, integer, leading_point, point, fraction, exponent_mark, exponent_sign, exponent, prefix, digits, integer_separator, fraction_separator, exponent_separator, digits_separator, suffix, no_numeral, is_digit_of, after_integer, after_fraction, next_numeral, numeral_after, is_complete}
 use Rattle.tokens.specs.Lexical.{NumericLiteral, Punctuator, is_of, is_one_of_words, is_punctuator, punctuators}
 use Rattle.tokens.specs.Earlier.{is_new, new_punctuators}
 use Rattle.tokens.proofs.Beginnings.{true_false}

@@ -8,13 +8,13 @@ use Rattle.std.specs.List.{list_any}
 use Rattle.std.specs.Str.{bytes_eq}
 use Rattle.tokens.specs.Alphabet.{one_of, begins_with, is_identifier_start, is_decimal_digit}
 use Rattle.tokens.specs.Numbers.{Numeral, unread, next_numeral, numeral_after, is_complete, no_numeral}
-use Rattle.tokens.specs.Lexical.{LexicalClass, IdentifierName, Punctuator, NumericLiteral, StringLiteral, Template, RegularExpressionLiteral, End, is_one_of_words, is_punctuator, is_of, is_at, may_stand, none_longer, ends_well, is_token}
+use Rattle.tokens.specs.Lexical.{LexicalClass, IdentifierName, Punctuator, NumericLiteral, StringLiteral, Template, RegularExpressionLiteral, End, is_one_of_words, is_at, none_longer, ends_well, is_token}
 use Rattle.tokens.specs.States.{is_dead}
-use Rattle.tokens.specs.Earlier.{is_new, new_punctuators, earlier_is_at, earlier_none_longer, earlier_is_token}
+use Rattle.tokens.specs.Earlier.{is_new, earlier_is_at, earlier_none_longer, earlier_is_token}
 use Rattle.tokens.proofs.Beginnings.{true_false}
 use Rattle.tokens.proofs.Classes.{dead_stays}
 use Rattle.tokens.proofs.Longest.{and_first, and_second, none_is_longer}
-use Rattle.tokens.proofs.Numerals.{behind_append, dead_is, whole_kind, ends_or_goes_on}
+use Rattle.tokens.proofs.Numerals.{behind_append, dead_is, whole_kind}
 
 -- the punctuators that go on with `=` today alone
 abbrev pub longer_today : List String

@@ -1,26 +1,28 @@
 -- Names: the longest.
-use Rattle.std.proofs.Common.{◌≡◌, ℕ, ◌<◌, Bool, true, false, ◌&&◌, ◌||◌, ◌==◌, List, [], ◌∷◌, ◌++◌, IsTrue, IsFalse, refl, sym, ap, ◌∙◌, subst, arith}
+use Rattle.std.proofs.Common.{◌≡◌, ℕ, ◌+◌, ◌<◌, Bool, true, false, not, ◌&&◌, ◌||◌, ◌==◌, nat_eq, get_or, length, List, [], ◌∷◌, ◌++◌, IsTrue, IsFalse, refl, sym, ap, ◌∙◌, subst, arith}
 use Rattle.std.specs.Char.{is_ascii, is_ascii_alphabetic, is_ascii_alphanumeric}
 use Rattle.std.specs.List.{list_all}
+use Rattle.std.specs.Str.{IsUtf8}
 use Rattle.std.proofs.lemmas.Bool.Decides.{nat_tests}
 use Rattle.unicode_ident.specs.Ident.{is_xid_continue}
 use Rattle.unicode_ident.proofs.IdentLemmas.{is_xid_start-ascii, is_xid_continue-ascii}
 use Rattle.tokens.specs.Alphabet.{one_of, is_among, begins_with, is_identifier_start, is_identifier_part}
-use Rattle.tokens.specs.Sets.{has_bit}
+use Rattle.tokens.specs.declared.name.TheConstants.{PARTS}
 use Rattle.tokens.specs.Lexical.{IdentifierName, none_longer, is_token}
 use Rattle.tokens.specs.Reading.{behind}
-use Rattle.tokens.specs.Scanned.{Passed, IsRun, IsWordAt, NoWordAt}
-use Rattle.tokens.proofs.PassedCharacters.{passed_on}
+use Rattle.tokens.specs.Scanned.{Passed, AllPass, IsRun, IsWordAt, NoWordAt}
+use Rattle.tokens.proofs.PassedCharacters.{pass_ascii, passed_on}
 use Rattle.tokens.proofs.Beginnings.{true_false}
-use Rattle.tokens.proofs.Sets.{set_is}
+use Rattle.tokens.proofs.Sets.{agree}
+use Rattle.tokens.proofs.TriviaSteps.{all_append, all_goes_on}
 use Rattle.tokens.proofs.Longest.{none_is_longer}
 
 -- the identifier characters of ASCII
 small : (c : ℕ) → is_ascii c ≡ true → c < 128
 small c e = grind (arith, nat_tests)
 
-pub part_bits : (c : ℕ) → c < 128 → has_bit (0x03FF001000000000 ∷ 0x07FFFFFE87FFFFFE ∷ []) c ≡ (one_of "$_" c || is_ascii_alphanumeric c)
-part_bits c lt = set_is (0x03FF001000000000 ∷ 0x07FFFFFE87FFFFFE ∷ []) (λ x. one_of "$_" x || is_ascii_alphanumeric x) refl c lt
+pub part_rows : (c : ℕ) → c < 256 → not (nat_eq (get_or PARTS c 0) 44) ≡ (one_of "$_" c || is_ascii_alphanumeric c)
+part_rows c lt = agree (λ x. not (nat_eq (get_or PARTS x 0) 44)) (λ x. one_of "$_" x || is_ascii_alphanumeric x) 256 refl c lt
 
 pub ascii_start : (c : ℕ) → is_ascii c ≡ true → (one_of "$_" c || is_ascii_alphabetic c) ≡ is_identifier_start c
 ascii_start c e = ap (λ x. one_of "$_" c || x) (sym (is_xid_start-ascii c (small c e)))
@@ -29,6 +31,27 @@ pub ascii_part : (c : ℕ) → is_ascii c ≡ true → (one_of "$_" c || is_asci
 ascii_part c e = same c (is_xid_continue c) (small c e) (is_xid_continue-ascii c (small c e)) where
   same : (c : ℕ) (x : Bool) → c < 128 → x ≡ (is_ascii_alphanumeric c || (c == 95)) → (one_of "$_" c || is_ascii_alphanumeric c) ≡ (one_of "$" c || x || is_among c (0x200C ∷ 0x200D ∷ []))
   same c x lt e = grind (arith, nat_tests)
+
+part_is_small : (c : ℕ) → (one_of "$_" c || is_ascii_alphanumeric c) ≡ true → c < 128
+part_is_small c h = grind (arith, nat_tests)
+
+is_small : (c : ℕ) → c < 128 → is_ascii c ≡ true
+is_small c lt = grind (arith, nat_tests)
+
+-- over one more part that is a byte
+pub over_part : (text bytes : List ℕ) (at stop : ℕ) → IsUtf8 text → bytes ≡ text → AllPass is_identifier_part text at stop → stop < length bytes →
+    (one_of "$_" (get_or bytes stop 0) || is_ascii_alphanumeric (get_or bytes stop 0)) ≡ true → AllPass is_identifier_part text at (stop + 1)
+over_part text bytes at stop u e h lt part =
+    let c = get_or text stop 0 in
+    let is : (one_of "$_" c || is_ascii_alphanumeric c) ≡ true = subst (λ x. (one_of "$_" (get_or x stop 0) || is_ascii_alphanumeric (get_or x stop 0)) ≡ true) e part in
+    let low = part_is_small c is in
+    let within : stop < length text = subst (λ x. stop < length x) e lt in
+    all_goes_on is_identifier_part text at stop (stop + 1) c h (pass_ascii text stop u h.passed.place within low)
+    (subst IsTrue (sym (sym (ascii_part c (is_small c low)) ∙ is)) refl)
+
+pub parts_joined : (text : List ℕ) (at mid stop : ℕ) → AllPass is_identifier_part text at mid → AllPass is_identifier_part text mid stop → AllPass is_identifier_part text at stop
+parts_joined text at mid stop h k =
+    record { word = h.word ++ k.word; passed = passed_on text at mid stop h.word k.word h.passed k.passed; all = all_append is_identifier_part h.word k.word h.all k.all }
 
 -- where a character follows that fails the test, no longer text has all passing
 pub all_stop : (test : ℕ → Bool) (v more : List ℕ) (c : ℕ) → IsFalse (test c) → IsFalse (list_all test (v ++ c ∷ more))

@@ -10,13 +10,17 @@ use Rattle.tokens.specs.Sets.{has_bit}
 use Rattle.tokens.proofs.Beginnings.{true_false}
 use Rattle.tokens.proofs.TokenUniqueness.{all_from, from_range}
 
-pub set_is : (set : List ℕ) (test : ℕ → Bool) → IsTrue (all_from (λ x. beq (has_bit set x) (test x)) 0 128) → (c : ℕ) → c < 128 → has_bit set c ≡ test c
-set_is set test h c lt = same (has_bit set c) (test c) (from_range (λ x. beq (has_bit set x) (test x)) 0 128 c h (omega arith) (omega arith)) where
+-- two tests agree below a number
+pub agree : (f test : ℕ → Bool) (n : ℕ) → IsTrue (all_from (λ x. beq (f x) (test x)) 0 n) → (c : ℕ) → c < n → f c ≡ test c
+agree f test n h c lt = same (f c) (test c) (from_range (λ x. beq (f x) (test x)) 0 n c h (omega arith) (omega arith)) where
   same : (a b : Bool) → IsTrue (beq a b) → a ≡ b
   same true true h = refl
   same true false h = absurd (true_false _ h refl)
   same false true h = absurd (true_false _ h refl)
   same false false h = refl
+
+set_is : (set : List ℕ) (test : ℕ → Bool) → IsTrue (all_from (λ x. beq (has_bit set x) (test x)) 0 128) → (c : ℕ) → c < 128 → has_bit set c ≡ test c
+set_is set test h c lt = agree (has_bit set) test 128 h c lt
 
 small : (c : ℕ) → is_ascii c ≡ true → c < 128
 small c e = grind (arith, nat_tests)

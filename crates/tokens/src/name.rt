@@ -4,15 +4,22 @@ ghost use Rattle.std.specs.Prelude.{◌≡◌, ◌<◌, ◌||◌, [], ◌∷◌,
 ghost use Rattle.std.specs.Char.{is_ascii_alphabetic, is_ascii_alphanumeric};
 ghost use Rattle.source_text.specs.Source.{IsPlace};
 ghost use Rattle.tokens.specs.Alphabet.{is_identifier_start, is_identifier_part, one_of};
-ghost use Rattle.tokens.specs.Scanned.{IsRun, IsWordAt, NoWordAt, Passed};
+ghost use Rattle.tokens.specs.Scanned.{AllPass, IsRun, IsWordAt, NoWordAt, Passed};
 
 use crate::TokenClass;
-use crate::ascii::is_in;
 use crate::character::{CharAt, char_at};
 use unicode_ident::{is_xid_continue, is_xid_start};
 
-/// The IdentifierPart characters of ASCII: `$`, the digits, the letters and `_`.
-const PARTS: [u64; 2] = [0x03FF_0010_0000_0000, 0x07FF_FFFE_87FF_FFFE];
+/// The IdentifierPart characters of ASCII, each at its own place: `$`, the digits, the letters and `_`. A comma is at every other place.
+static PARTS: [u8; 256] = *b"\
+    ,,,,,,,,,,,,,,,,,,,,,,,,,,,,,,,,\
+    ,,,,$,,,,,,,,,,,0123456789,,,,,,\
+    ,ABCDEFGHIJKLMNOPQRSTUVWXYZ,,,,_\
+    ,abcdefghijklmnopqrstuvwxyz,,,,,\
+    ,,,,,,,,,,,,,,,,,,,,,,,,,,,,,,,,\
+    ,,,,,,,,,,,,,,,,,,,,,,,,,,,,,,,,\
+    ,,,,,,,,,,,,,,,,,,,,,,,,,,,,,,,,\
+    ,,,,,,,,,,,,,,,,,,,,,,,,,,,,,,,,";
 
 /// Whether a character of ASCII is an IdentifierStart (11.6).
 #[inline]
@@ -28,7 +35,15 @@ fn is_ascii_part(c: char) -> bool
     requires { c < 128 }
     ensures { result ≡ (one_of "$_" c || is_ascii_alphanumeric c) }
 {
-    is_in(&PARTS, c)
+    PARTS[c as usize] != b','
+}
+
+/// Whether a byte is an IdentifierPart character of ASCII (11.6).
+#[inline]
+fn is_part_byte(byte: u8) -> bool
+    ensures { result ≡ (one_of "$_" byte || is_ascii_alphanumeric byte) }
+{
+    PARTS[byte as usize] != b','
 }
 
 /// Whether the character is an IdentifierStart (11.6), escapes aside.
@@ -71,12 +86,26 @@ pub fn parts_end(text: &str, at: usize) -> usize
     requires { IsPlace text.now at }
     ensures { IsRun is_identifier_part text.now at result }
 {
-    let mut end = at;
+    let mut end = ascii_parts_end(text, at);
     while let Some(step) = char_at(text, end) {
         if !is_part(step.c) {
             return end;
         }
-        end = step.end;
+        end = ascii_parts_end(text, step.end);
+    }
+    end
+}
+
+/// Where the run of IdentifierPart characters of ASCII from this place on ends, in bytes.
+#[inline]
+fn ascii_parts_end(text: &str, at: usize) -> usize
+    requires { IsPlace text.now at }
+    ensures { AllPass is_identifier_part text.now at result }
+{
+    let bytes = text.as_bytes();
+    let mut end = at;
+    while end < bytes.len() && is_part_byte(bytes[end]) {
+        end += 1;
     }
     end
 }

@@ -1,6 +1,8 @@
-use Rattle.std.proofs.Common.{◌∙◌}
-use Rattle.tokens.proofs.Names.{part_bits}
+use Rattle.std.proofs.Common.{arith}
+use Rattle.tokens.proofs.Names.{part_rows}
 use Rattle.tokens.proofs.name.is_ascii_part.Goals as goal
 
 pub returns : goal.returns
-returns c = c.is_in.ensures ∙ part_bits c.args.c c.requires
+returns c =
+    let low = c.requires in
+    part_rows c.args.c (omega arith)
