@@ -1,5 +1,5 @@
 -- Which nodes a walk may pass, by the pairs of the text that derives the script.
-use Rattle.std.specs.Prelude.{◌≡◌, ℕ, ◌+◌, ◌≤◌, true, List, [], ◌∷◌, Some}
+use Rattle.std.specs.Prelude.{◌≡◌, ℕ, ◌+◌, ◌≤◌, Bool, true, List, [], ◌∷◌, Some, is_some, option_map, unwrap_or}
 use Rattle.std.specs.List.Sorted.{IsNonDecreasingBy}
 use Rattle.tree.specs.declared.kind.Pair.{Pair}
 use Rattle.tree.specs.declared.node.Node.{Node}
@@ -16,8 +16,16 @@ use Rattle.language.specs.RowPositions.{first_roles, widest, rows}
 use Rattle.language.specs.Cost.{least}
 use Rattle.row_laws.specs.Agreements.{agrees}
 use Rattle.row_laws.specs.Lined.{lined}
+use Rattle.paren_planner.specs.declared.text_pairs.TextPairs.{TextPairs}
 use Rattle.paren_planner.specs.Noted.{is_settled}
 use Rattle.pairless_laws.specs.Pairless.{IsPairless}
+
+-- the pairs of the text, and whether they are known
+abbrev pub pairs_of : TextPairs → List Pair
+pairs_of t = unwrap_or (option_map (λ pairs. pairs.now) t.known) []
+
+abbrev pub may_pass : TextPairs → Bool
+may_pass t = is_some t.known
 
 -- the pairs come in order of their `(`
 abbrev pub AreOrdered : List Pair → Type 0

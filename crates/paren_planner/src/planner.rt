@@ -10,7 +10,7 @@ ghost use Rattle.paren_planner.specs.Plans.{HasPlan, IsPlan};
 ghost use Rattle.cost_table.specs.Rows.{table_rows};
 ghost use Rattle.std.specs.Prelude.{true};
 ghost use Rattle.paren_planner.specs.Noted.{ScriptSteps};
-ghost use Rattle.paren_planner.specs.Passing.{ScriptPassing};
+ghost use Rattle.paren_planner.specs.Passing.{ScriptPassing, may_pass, pairs_of};
 
 use crate::cost_pass::cost_pass;
 use crate::step_walk::visit_node;
@@ -28,7 +28,7 @@ use tree::Program;
 pub(crate) struct Weights {
     /// The steps of a walk over it.
     pub(crate) steps: Steps,
-    /// A row for each node that has one.
+    /// A row for each node that has one, and that the walk doesn't pass.
     pub(crate) table: CostTable,
     /// The number of pairs of the whole, where some number spells it.
     total: Option<u32>,
@@ -40,10 +40,7 @@ fn weigh(alloc: Global, program: &Program) -> Result<Weights, AllocError>
     ensures total { IfOk result (λ w. w.total ≡ capped (least program.now script)) }
     ensures steps { IfOk result (λ w. Steps false script (fixed script) program.now w.steps) }
 {
-    let pairs = TextPairs {
-        pairs: &[],
-        are_known: false,
-    };
+    let pairs = TextPairs { known: None };
     weigh_by_pairs(alloc, program, &pairs)
 }
 
@@ -53,8 +50,8 @@ pub(crate) fn weigh_by_pairs(
     program: &Program,
     pairs: &TextPairs,
 ) -> Result<Weights, AllocError>
-    requires { pairs.now.are_known ≡ true → ScriptPassing pairs.now.pairs.now program.now }
-    ensures made { IfOk result (λ w. ScriptSteps pairs.now.are_known program.now w.steps w.table.rows.items) }
+    requires { may_pass pairs.now ≡ true → ScriptPassing (pairs_of pairs.now) program.now }
+    ensures made { IfOk result (λ w. ScriptSteps (may_pass pairs.now) program.now w.steps w.table.rows.items) }
     ensures total { IfOk result (λ w. w.total ≡ capped (least program.now script)) }
 {
     let mut steps = Steps::new(alloc);

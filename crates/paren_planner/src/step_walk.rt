@@ -12,7 +12,7 @@ ghost use Rattle.spellings.specs.Wherever.{spelled_by};
 ghost use Rattle.paren_planner.specs.declared.steps.Step.TheVariants.{Leaf};
 ghost use Rattle.spelling_table.specs.Productions.{outline_of};
 ghost use Rattle.paren_planner.specs.Noted.{IsVisit, Noted, PartsNoted, fixed_outline};
-ghost use Rattle.paren_planner.specs.Passing.{Passing, PassingParts};
+ghost use Rattle.paren_planner.specs.Passing.{Passing, PassingParts, may_pass, pairs_of};
 ghost use Rattle.spellings.specs.Spelled.{settled_roles};
 ghost use Rattle.language.specs.declared.Rank.TheVariants.{Primary};
 ghost use Rattle.paren_planner.specs.Steps.{nowhere};
@@ -42,8 +42,8 @@ pub(crate) fn visit_node(
     steps: &mut Steps,
 ) -> Result<bool, AllocError>
     requires chain { in_chain ≡ true → has_optional (node_tree node) ≡ true }
-    requires passing { pairs.now.are_known ≡ true → Passing pairs.now.pairs.now node (settled_at (role_of above.now) (slot_of slot.now)) }
-    ensures { IfOk result (λ free. Noted pairs.now.are_known (role_of above.now) (slot_of slot.now) (node_tree node.entry) free steps.old steps.new) }
+    requires passing { may_pass pairs.now ≡ true → Passing (pairs_of pairs.now) node (settled_at (role_of above.now) (slot_of slot.now)) }
+    ensures { IfOk result (λ free. Noted (may_pass pairs.now) (role_of above.now) (slot_of slot.now) (node_tree node.entry) free steps.old steps.new) }
 {
     if may_be_leaf(node.kind()) {
         return visit_atom(node, above, slot, in_chain, pairs, steps);
@@ -67,8 +67,8 @@ fn visit_atom(
     steps: &mut Steps,
 ) -> Result<bool, AllocError>
     requires chain { in_chain ≡ true → has_optional (node_tree node) ≡ true }
-    requires passing { pairs.now.are_known ≡ true → Passing pairs.now.pairs.now node (settled_at (role_of above.now) (slot_of slot.now)) }
-    ensures { IfOk result (λ free. Noted pairs.now.are_known (role_of above.now) (slot_of slot.now) (node_tree node.entry) free steps.old steps.new) }
+    requires passing { may_pass pairs.now ≡ true → Passing (pairs_of pairs.now) node (settled_at (role_of above.now) (slot_of slot.now)) }
+    ensures { IfOk result (λ free. Noted (may_pass pairs.now) (role_of above.now) (slot_of slot.now) (node_tree node.entry) free steps.old steps.new) }
 {
     if !is_leaf(node, widest_of(slot)) {
         return visit_at(node, above, slot, in_chain, pairs, steps);
@@ -95,8 +95,8 @@ fn visit_at(
     steps: &mut Steps,
 ) -> Result<bool, AllocError>
     requires chain { in_chain ≡ true → has_optional (node_tree node) ≡ true }
-    requires passing { pairs.now.are_known ≡ true → Passing pairs.now.pairs.now node (settled_at (role_of above.now) (slot_of slot.now)) }
-    ensures { IfOk result (λ free. Noted pairs.now.are_known (role_of above.now) (slot_of slot.now) (node_tree node.entry) free steps.old steps.new) }
+    requires passing { may_pass pairs.now ≡ true → Passing (pairs_of pairs.now) node (settled_at (role_of above.now) (slot_of slot.now)) }
+    ensures { IfOk result (λ free. Noted (may_pass pairs.now) (role_of above.now) (slot_of slot.now) (node_tree node.entry) free steps.old steps.new) }
 {
     let own = widest_of(slot);
     let Some(production) = node_production(node, own, in_chain) else {
@@ -134,8 +134,8 @@ fn visit_parts(
     steps: &mut Steps,
 ) -> Result<bool, AllocError>
     requires chain { (spelled_by node own.now production.now).holds_chain ≡ true → first_has_optional (parts_of (node_tree node)) ≡ true }
-    requires passing { pairs.now.are_known ≡ true → PassingParts pairs.now.pairs.now node 0 (parts_of (node_tree node)) (settled_roles (role_of own.now) (left (spelled_by node own.now production.now).slots)) }
-    ensures { IfOk result (λ free. PartsNoted pairs.now.are_known (role_of own.now) (left (spelled_by node.entry own.now production.now).slots) (parts_of (node_tree node.entry)) free steps.old steps.new) }
+    requires passing { may_pass pairs.now ≡ true → PassingParts (pairs_of pairs.now) node 0 (parts_of (node_tree node)) (settled_roles (role_of own.now) (left (spelled_by node own.now production.now).slots)) }
+    ensures { IfOk result (λ free. PartsNoted (may_pass pairs.now) (role_of own.now) (left (spelled_by node.entry own.now production.now).slots) (parts_of (node_tree node.entry)) free steps.old steps.new) }
 {
     let is_chain = holds_chain(*own, node.kind(), *production);
     let parts = node.parts();

@@ -7,27 +7,29 @@ ghost use Rattle.tree.specs.Tree.{start_of, stop_of};
 ghost use Rattle.spelling_table.specs.Outlines.{slot_of};
 ghost use Rattle.paren_planner.specs.Noted.{is_settled_slot};
 ghost use Rattle.pairless_laws.specs.Pairless.{IsPairless};
-ghost use Rattle.paren_planner.specs.Passing.{AreOrdered};
+ghost use Rattle.paren_planner.specs.Passing.{AreOrdered, may_pass, pairs_of};
 
 use spelling_table::{Position, Slot};
 use tree::{Node, Pair, Span};
 
-/// The pairs of the text that a script was read from, where a walk may pass nodes by them.
+/// The pairs of the text that a script was read from, in order of their `(`, where they are known and a walk may pass nodes by them.
 #[derive(Clone, Copy)]
 pub(crate) struct TextPairs<'t> {
-    pub(crate) pairs: &'t [Pair],
-    pub(crate) are_known: bool,
+    pub(crate) known: Option<&'t [Pair]>,
 }
 
 /// Whether a node at a slot is passed: where the pairs are known, the slot is a position that is its own widest, and no pair opens in
 /// the node's span.
 #[inline(always)]
 pub(crate) fn is_passed(pairs: &TextPairs, node: Node, slot: &Slot) -> bool
-    ensures known { result ≡ true → pairs.now.are_known ≡ true }
+    ensures known { result ≡ true → may_pass pairs.now ≡ true }
     ensures settled { result ≡ true → is_settled_slot (slot_of slot.now) ≡ true }
-    ensures pairless { result ≡ true → AreOrdered pairs.now.pairs.now → IsPairless pairs.now.pairs.now (start_of (node_tree node.entry)) (stop_of (node_tree node.entry)) }
+    ensures pairless { result ≡ true → AreOrdered (pairs_of pairs.now) → IsPairless (pairs_of pairs.now) (start_of (node_tree node.entry)) (stop_of (node_tree node.entry)) }
 {
-    pairs.are_known && is_settled(slot) && is_pairless(pairs.pairs, node.span())
+    let Some(known) = pairs.known else {
+        return false;
+    };
+    is_settled(slot) && is_pairless(known, node.span())
 }
 
 /// Whether a slot is a position that hands on no symbol, In and start of its own, and takes whatever is spelled there.

@@ -27,10 +27,7 @@ pub fn wraps_by_pairs(
     requires { IsDerived program.now pairs.now }
     ensures { IfOk result (λ wraps. AreWraps program.now wraps.items) }
 {
-    let pairs = TextPairs {
-        pairs,
-        are_known: true,
-    };
+    let pairs = TextPairs { known: Some(pairs) };
     let weights = weigh_by_pairs(alloc, program, &pairs)?;
     weighed_wraps(alloc, program, &weights)
 }

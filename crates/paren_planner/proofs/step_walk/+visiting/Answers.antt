@@ -9,6 +9,7 @@ use Rattle.spelling_table.specs.Productions.{outline_of}
 use Rattle.spellings.specs.Remaining.{left}
 use Rattle.spellings.specs.Wherever.{spelled_by, chain_above}
 use Rattle.spellings.specs.Cursors.{left_by}
+use Rattle.paren_planner.specs.Passing.{may_pass, pairs_of}
 use Rattle.paren_planner.specs.Noted.{PartsNoted}
 use Rattle.paren_planner.specs.Steps as planned
 use Rattle.paren_planner.specs.Steps.{has_row_at}
@@ -39,14 +40,14 @@ visit_parts-loop-index-preserved-in_default t c =
 pub visit_parts-returns-in_default-take : goal.visit_parts-returns-in_default-take
 visit_parts-returns-in_default-take t c =
     let ps = list_parts c.parts-parts.result in
-    subst (λ qs. PartsNoted c.args.pairs.now.are_known (role_of c.args.own.now) (left (spelled_by c.args.node c.args.own.now c.args.production.now).slots) qs false c.args.steps.now c.push.new.self) c.parts-parts.ensures
+    subst (λ qs. PartsNoted (may_pass c.args.pairs.now) (role_of c.args.own.now) (left (spelled_by c.args.node c.args.own.now c.args.production.now).slots) qs false c.args.steps.now c.push.new.self) c.parts-parts.ensures
     (begun_stop _ _ _ (left_by c.loop-index.slots ps) _ _ _ (node_tree c.in-Some.part) _ _ _ _ c.loop-index.invariant.begun
     (here ps _ c.loop-index.index (node_tree c.in-Some.part) c.parts-parts.ensures c.in-Some.ensures.tree) c.in_default-take.ensures (c.in_ok-push.ensures.items ∙ ap (λ x. c.loop-index.steps ++ x ∷ []) c.unplaced_step.ensures))
 
 pub visit_parts-returns : goal.visit_parts-returns
 visit_parts-returns t c =
     let ps = list_parts c.parts-parts.result in
-    subst (λ qs. PartsNoted c.args.pairs.now.are_known (role_of c.args.own.now) (left (spelled_by c.args.node c.args.own.now c.args.production.now).slots) qs c.loop-index.are_free c.args.steps.now c.loop-index.steps) c.parts-parts.ensures
+    subst (λ qs. PartsNoted (may_pass c.args.pairs.now) (role_of c.args.own.now) (left (spelled_by c.args.node c.args.own.now c.args.production.now).slots) qs c.loop-index.are_free c.args.steps.now c.loop-index.steps) c.parts-parts.ensures
     (begun_finish _ _ _ _ _ _ _ _ _ c.loop-index.invariant.begun (parts_drop-past ps c.loop-index.index (omega (arith, c.len-index-end.ensures, c.loop-index-test.false))))
 
 pub visit_parts-visit_node-requires : goal.visit_parts-visit_node-requires
@@ -74,34 +75,34 @@ visit_parts-loop-index-preserved t c =
 
 pub visit_node-returns-then-is_passed : goal.visit_node-returns-then-is_passed
 visit_node-returns-then-is_passed t c =
-    noted_passed c.args.pairs.now.are_known c.args.pairs.now.pairs.now (role_of c.args.above.now) (slot_of c.args.slot.now) c.args.node c.row_count.result c.args.steps.now c.push.new.self
+    noted_passed (may_pass c.args.pairs.now) (pairs_of c.args.pairs.now) (role_of c.args.above.now) (slot_of c.args.slot.now) c.args.node c.row_count.result c.args.steps.now c.push.new.self
     (c.is_passed.ensures.known c.if-is_passed.true) (c.is_passed.ensures.settled c.if-is_passed.true) (c.is_passed.ensures.pairless c.if-is_passed.true) (c.requires.passing (c.is_passed.ensures.known c.if-is_passed.true))
     c.row_count.ensures c.in_ok-push.ensures.items
 
 pub visit_atom-returns : goal.visit_atom-returns
 visit_atom-returns t c =
-    noted_word c.args.pairs.now.are_known (role_of c.args.above.now) (role_of c.widest_of.result) (slot_of c.args.slot.now) (node_tree c.args.node) (spelled_by c.args.node c.widest_of.result by.Leaf) c.kind.result c.args.steps.now c.push.new.self
+    noted_word (may_pass c.args.pairs.now) (role_of c.args.above.now) (role_of c.widest_of.result) (slot_of c.args.slot.now) (node_tree c.args.node) (spelled_by c.args.node c.widest_of.result by.Leaf) c.kind.result c.args.steps.now c.push.new.self
     (c.widest_of.ensures (role_of c.args.above.now)) (c.is_leaf.ensures.spelled c.if-not-is_leaf.false) refl (c.is_leaf.ensures.parts c.if-not-is_leaf.false) (sym c.has_row.ensures ∙ c.if-not-has_row.false) (sym c.takes_atom.ensures ∙ c.if-not-takes_atom.false) c.kind.ensures c.in_ok-push.ensures.items
 
 pub visit_at-returns-in_default : goal.visit_at-returns-in_default
 visit_at-returns-in_default t c =
-    noted_unspelled c.args.pairs.now.are_known (role_of c.args.above.now) (role_of c.widest_of-own.result) (slot_of c.args.slot.now) (node_tree c.args.node) c.node_step.result c.args.steps.now c.push.new.self
+    noted_unspelled (may_pass c.args.pairs.now) (role_of c.args.above.now) (role_of c.widest_of-own.result) (slot_of c.args.slot.now) (node_tree c.args.node) c.node_step.result c.args.steps.now c.push.new.self
     c.node_step.ensures.visit c.node_step.ensures.requirements (c.widest_of-own.ensures (role_of c.args.above.now)) c.in_default.ensures.ways c.in_ok-push.ensures.items
 
 pub visit_at-returns-then-part_count-eq0 : goal.visit_at-returns-then-part_count-eq0
 visit_at-returns-then-part_count-eq0 t c =
-    noted_alone c.args.pairs.now.are_known (role_of c.args.above.now) (role_of c.widest_of-own.result) (slot_of c.args.slot.now) (node_tree c.args.node) c.node_step-visit.result (spelled_by c.args.node c.widest_of-own.result c.in-Some.production) c.args.steps.now c.push-then-part_count-eq0.new.self
+    noted_alone (may_pass c.args.pairs.now) (role_of c.args.above.now) (role_of c.widest_of-own.result) (slot_of c.args.slot.now) (node_tree c.args.node) c.node_step-visit.result (spelled_by c.args.node c.widest_of-own.result c.in-Some.production) c.args.steps.now c.push-then-part_count-eq0.new.self
     c.node_step-visit.ensures.visit (c.node_step-visit.ensures.requirements ∙ ap (λ l. Some l) c.requirements-requirements.ensures) (c.widest_of-own.ensures (role_of c.args.above.now)) c.in-Some.ensures.ways (sym c.part_count.ensures ∙ c.if-part_count-eq0.true) c.in_ok-push-2.ensures.items
 
 pub visit_at-returns : goal.visit_at-returns
 visit_at-returns t c =
-    noted_around c.args.pairs.now.are_known (role_of c.args.above.now) (role_of c.widest_of-own.result) (slot_of c.args.slot.now) (node_tree c.args.node) c.node_step-visit.result (spelled_by c.args.node c.widest_of-own.result c.in-Some.production) _ c.args.steps.now c.push-2.new.self c.visit_parts-2.new.steps c.push-3.new.self
+    noted_around (may_pass c.args.pairs.now) (role_of c.args.above.now) (role_of c.widest_of-own.result) (slot_of c.args.slot.now) (node_tree c.args.node) c.node_step-visit.result (spelled_by c.args.node c.widest_of-own.result c.in-Some.production) _ c.args.steps.now c.push-2.new.self c.visit_parts-2.new.steps c.push-3.new.self
     c.node_step-visit.ensures.visit (c.node_step-visit.ensures.requirements ∙ ap (λ l. Some l) c.requirements-requirements.ensures) (c.widest_of-own.ensures (role_of c.args.above.now)) c.in-Some.ensures.ways c.in_ok-push-3.ensures.items c.in_ok-are_free.ensures c.in_ok-push-4.ensures.items
 
 pub visit_at-set-requires : goal.visit_at-set-requires
 visit_at-set-requires t c = (
   search rules,
-  place_within c.args.pairs.now.are_known (role_of c.widest_of-own.result) _ _ _ c.node_step-visit.result c.len-index.result c.args.steps.now c.push-2.new.self c.visit_parts-2.new.steps
+  place_within (may_pass c.args.pairs.now) (role_of c.widest_of-own.result) _ _ _ c.node_step-visit.result c.len-index.result c.args.steps.now c.push-2.new.self c.visit_parts-2.new.steps
       c.len-index.ensures.value c.in_ok-push-3.ensures.items c.in_ok-are_free.ensures,
 )
 
@@ -110,7 +111,7 @@ visit_at-returns-then-is_free t c =
     let s = slot_of c.args.slot.now in
     let l = c.requirements-requirements.ensures in
     let v = c.node_step-visit.ensures.visit in
-    noted_free c.args.pairs.now.are_known (role_of c.args.above.now) (role_of c.widest_of-own.result) s (node_tree c.args.node) c.node_step-visit.result (spelled_by c.args.node c.widest_of-own.result c.in-Some.production)
+    noted_free (may_pass c.args.pairs.now) (role_of c.args.above.now) (role_of c.widest_of-own.result) s (node_tree c.args.node) c.node_step-visit.result (spelled_by c.args.node c.widest_of-own.result c.in-Some.production)
     c.node_step-visit.result.kind _ c.len-index.result c.args.steps.now c.push-2.new.self c.visit_parts-2.new.steps c.set.new.self
     v.kind (c.widest_of-own.ensures (role_of c.args.above.now)) c.in-Some.ensures.ways
     (ap (λ u. is_plain_outline (planned.outline_of u)) (sym l) ∙ c.is_free.ensures.plain c.if-is_free.true) (ap has_row_at (sym v.slot) ∙ c.is_free.ensures.row c.if-is_free.true) (ap (λ u. slot_free s u.rank) (sym l) ∙ ap (λ u. slot_free u c.requirements-requirements.result.rank) (sym v.slot) ∙ c.is_free.ensures.slot c.if-is_free.true)
@@ -119,14 +120,14 @@ visit_at-returns-then-is_free t c =
 
 pub visit_atom-returns-then-not-has_row : goal.visit_atom-returns-then-not-has_row
 visit_atom-returns-then-not-has_row t c =
-    noted_hidden c.args.pairs.now.are_known (role_of c.args.above.now) (role_of c.widest_of.result) (slot_of c.args.slot.now) (node_tree c.args.node) (spelled_by c.args.node c.widest_of.result by.Leaf) c.args.steps.now
+    noted_hidden (may_pass c.args.pairs.now) (role_of c.args.above.now) (role_of c.widest_of.result) (slot_of c.args.slot.now) (node_tree c.args.node) (spelled_by c.args.node c.widest_of.result by.Leaf) c.args.steps.now
     (c.widest_of.ensures (role_of c.args.above.now)) (c.is_leaf.ensures.spelled c.if-not-is_leaf.false) refl (c.is_leaf.ensures.parts c.if-not-is_leaf.false) (sym c.has_row.ensures ∙ c.if-not-has_row.true)
 
 pub visit_at-returns-then-has_fixed_slots : goal.visit_at-returns-then-has_fixed_slots
 visit_at-returns-then-has_fixed_slots t c =
     let n = node_tree c.args.node in
     let x = outline_of c.in-Some.production in
-    noted_through c.visit_parts.result c.args.pairs.now.are_known (role_of c.args.above.now) (role_of c.widest_of-own.result) (slot_of c.args.slot.now) n (spelled_by c.args.node c.widest_of-own.result c.in-Some.production) c.args.steps.now c.visit_parts.new.steps
+    noted_through c.visit_parts.result (may_pass c.args.pairs.now) (role_of c.args.above.now) (role_of c.widest_of-own.result) (slot_of c.args.slot.now) n (spelled_by c.args.node c.widest_of-own.result c.in-Some.production) c.args.steps.now c.visit_parts.new.steps
     (c.widest_of-own.ensures (role_of c.args.above.now)) c.in-Some.ensures.ways (sym c.is_settled.ensures ∙ c.if-is_settled.true) (outline_fixed x (parts_after x.from (parts_of n)) (c.has_fixed_slots.ensures c.if-has_fixed_slots.true)) c.visit_parts.ensures
 
 pub visit_at-visit_parts-requires : goal.visit_at-visit_parts-requires
@@ -134,7 +135,7 @@ visit_at-visit_parts-requires t c = (
   search rules,
   (
     c.in-Some.ensures.chain,
-    λ m. passing_parts c.args.pairs.now.pairs.now c.args.node _ (role_of c.widest_of-own.result) (spelled_by c.args.node c.widest_of-own.result c.in-Some.production) (c.widest_of-own.ensures (role_of c.args.above.now)) c.in-Some.ensures.ways (c.requires.passing m),
+    λ m. passing_parts (pairs_of c.args.pairs.now) c.args.node _ (role_of c.widest_of-own.result) (spelled_by c.args.node c.widest_of-own.result c.in-Some.production) (c.widest_of-own.ensures (role_of c.args.above.now)) c.in-Some.ensures.ways (c.requires.passing m),
   ),
 )
 
@@ -143,6 +144,6 @@ visit_at-visit_parts-requires-2 t c = (
   search rules,
   (
     c.in-Some.ensures.chain,
-    λ m. passing_parts c.args.pairs.now.pairs.now c.args.node _ (role_of c.widest_of-own.result) (spelled_by c.args.node c.widest_of-own.result c.in-Some.production) (c.widest_of-own.ensures (role_of c.args.above.now)) c.in-Some.ensures.ways (c.requires.passing m),
+    λ m. passing_parts (pairs_of c.args.pairs.now) c.args.node _ (role_of c.widest_of-own.result) (spelled_by c.args.node c.widest_of-own.result c.in-Some.production) (c.widest_of-own.ensures (role_of c.args.above.now)) c.in-Some.ensures.ways (c.requires.passing m),
   ),
 )

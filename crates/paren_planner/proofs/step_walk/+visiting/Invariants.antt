@@ -5,6 +5,7 @@ use Rattle.spelling_table.specs.Outlines.{role_of}
 use Rattle.spellings.specs.Remaining.{left}
 use Rattle.spellings.specs.Wherever.{spelled_by}
 use Rattle.spellings.specs.Cursors.{left_by}
+use Rattle.paren_planner.specs.Passing.{may_pass, pairs_of}
 use Rattle.paren_planner.proofs.PassedNodes.{Reached}
 use Rattle.paren_planner.proofs.step_walk.+visiting.Given as goal
 
@@ -22,4 +23,4 @@ decreases-visit_parts l = 4 * node_total (node_tree l.node)
 
 abbrev pub invariant-visit_parts-loop-index : goal.invariant-visit_parts-loop-index
 invariant-visit_parts-loop-index l =
-    Reached l.pairs.are_known l.pairs.pairs.now l.node (role_of l.own) (left (spelled_by l.node l.own l.production).slots) (left_by l.slots (list_parts l.parts)) (list_parts l.parts) l.index l.are_free l.fn.steps l.steps
+    Reached (may_pass l.pairs) (pairs_of l.pairs) l.node (role_of l.own) (left (spelled_by l.node l.own l.production).slots) (left_by l.slots (list_parts l.parts)) (list_parts l.parts) l.index l.are_free l.fn.steps l.steps
