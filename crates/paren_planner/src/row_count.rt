@@ -9,7 +9,7 @@ ghost use Rattle.tree.specs.declared.node_use.NodeUse.{NodeUse};
 
 use tree::Node;
 
-/// How many rows there are in a node: its own, if it has one, and those of the nodes below it; where four bytes hold the number.
+/// How many rows there are in a node: its own, if it has one, and those of the nodes below it. Exact where four bytes hold the number.
 #[cycle(counting)]
 #[inline(always)]
 pub(crate) fn row_count(node: Node) -> u32

@@ -41,7 +41,7 @@ impl RowFlags {
         Ok(())
     }
 
-    /// So many rows of nodes that aren't wrapped, and that have none in the table.
+    /// The rows in a node that the walk passes, so many: the table has none of them, and none of their nodes is wrapped.
     fn pass(&mut self, count: u32) -> Result<(), AllocError>
         ensures flags { OnOk result (self.new.flags.items ≡ self.old.flags.items ++ unwrapped count) }
         ensures row { self.new.next_row ≡ self.old.next_row }
