@@ -1,12 +1,23 @@
--- The `(` of each grouping pair stands in the span of the node that is spelled with it.
-use Rattle.std.proofs.Common.{◌≡◌, ℕ, ◌≤◌, ◌<◌, List, [], ◌∷◌, ◌++◌, length, refl, sym, ap, subst, ◌∙◌, arith, ◌⊎◌, inl, inr}
-use Rattle.std.specs.Prelude.{codes, encode_utf8_all}
-use Rattle.tokens.specs.declared.token.TokenClass.TheVariants.{Punctuator}
+-- Between which places the `(` of each grouping pair of a node stands.
+use Rattle.std.proofs.Common.{◌≡◌, ℕ, ◌-◌, ◌≤◌, ◌<◌, Bool, true, false, cond, List, [], ◌∷◌, ◌++◌, length, refl, sym, ap, subst, ◌∙◌, arith, ◌⊎◌, inl, inr}
+use Rattle.std.specs.Prelude.{IsTrue, codes, encode_utf8_all, if◌then◌else◌}
+use Rattle.std.specs.Bool.{beq}
+use Rattle.tokens.specs.Alphabet.{one_of, begins_with}
+use Rattle.tokens.specs.declared.token.Goal.{Goal}
+use Rattle.tokens.specs.declared.token.Goal.TheVariants.{Div, RegExp, TemplateTail}
+use Rattle.tokens.specs.Goals.{allows, is_regexp, is_template_part, reads_regexps, reads_template_parts}
+use Rattle.tokens.specs.declared.token.TokenClass.{TokenClass}
+use Rattle.tokens.specs.declared.token.TokenClass.TheVariants.{IdentifierName, Punctuator}
 use Rattle.tokens.specs.Reading.{any_goal}
 use Rattle.tree.specs.declared.kind.Pair.{Pair}
-use Rattle.tree.specs.Tree.{Tree, Parts, start_of, stop_of, parts_of}
-use Rattle.language.specs.Pieces.{Role, shorthand_key, template_element, script, PieceOf}
+use Rattle.tree.specs.Tree.{Tree, Parts, none, start_of, stop_of, parts_of}
+use Rattle.language.specs.declared.Rank.{Rank}
+use Rattle.language.specs.declared.Rank.TheVariants.{Expression}
+use Rattle.language.specs.declared.Start.{Start}
+use Rattle.language.specs.declared.Start.TheVariants.{Any}
+use Rattle.language.specs.Pieces.{Role, expr, shorthand_key, template_element, script, PieceOf}
 use Rattle.language.specs.Token.{Token, table_text}
+use Rattle.language.specs.Promises.{is_free}
 use Rattle.language.specs.Places.{NextIn, next_in, itself, SpellsIn}
 use Rattle.language.specs.Grammar.{ways}
 use Rattle.language.specs.Derivation.{Among, first, later, pair_of, Reads, Step, token, with_mark, without_mark, one_more, no_more, seen, same_line, explicit, implicit, laid, Placed, placed, direct, grouped, Runs, done, step, opened, closed, within, missing}
@@ -40,18 +51,32 @@ none_opens from to (p ∷ P) h k = absurd (of (k p first))
     of (inl x) = let u = (h p first).0 in omega (arith, u, x)
     of (inr x) = let u = (h p first).1 in omega (arith, u, x)
 
+-- some goal reads each token
+some_goal : (c : TokenClass) (w : List ℕ) → (g : Goal) × IsTrue (allows g c w)
+some_goal c w = go (is_regexp c) (is_template_part c) (begins_with (one_of "/") w) (begins_with (one_of "}") w)
+  where
+    go : (p q x y : Bool) → (g : Goal) × IsTrue (if x then beq p (reads_regexps g) else if y then beq q (reads_template_parts g) else true)
+    go true q true y = (RegExp, refl)
+    go false q true y = (Div, refl)
+    go p true false true = (TemplateTail, refl)
+    go p false false true = (Div, refl)
+    go p q false false = (Div, refl)
+
 module _ (text : List ℕ) where
   abbrev pub RunsIn : ℕ → List (PieceOf Role) → Parts → Token → Token → List Pair → Type 0
   RunsIn o qs ps s e P = Runs ways Token (NextIn text any_goal) itself o qs ps s e P
 
-  next_on : {s t e : Token} → NextIn text any_goal s t e → (s.stop ≤ t.start) × (t.start ≤ t.stop) × (e.stop ≡ t.stop)
+  abbrev pub ReadsIn : TokenClass → List ℕ → Token → Token → Token → Type 0
+  ReadsIn = Reads Token (NextIn text any_goal) itself
+
+  pub next_on : {s t e : Token} → NextIn text any_goal s t e → (s.stop ≤ t.start) × (t.start ≤ t.stop) × (e.stop ≡ t.stop)
   next_on {s} (next_in {t = u} g any x) =
       let a = x.start in
       let b = x.stop in
       (omega arith, omega arith, refl)
 
   -- a parenthesis is no empty token
-  mark_wide : {s t e : Token} → Reads Token (NextIn text any_goal) itself Punctuator (codes "(") s t e → t.start < t.stop
+  pub mark_wide : {s t e : Token} → ReadsIn Punctuator (codes "(") s t e → t.start < t.stop
   mark_wide {s} r = of r.next r.class r.text
     where
       of : {t e : Token} → NextIn text any_goal s t e → t.class ≡ Punctuator → t.text ≡ codes "(" → t.start < t.stop
@@ -62,38 +87,64 @@ module _ (text : List ℕ) where
           let stop = h.stop in
           omega (arith, one, word, stop)
 
-  -- each token that is read at the place starts there or behind it
-  abbrev StartsFrom : ℕ → Token → Type 0
-  StartsFrom f s = (t m : Token) → NextIn text any_goal s t m → f ≤ t.start
+  -- no `(` that is read at the place starts before the number, and no token ends before it
+  pub record From (f : ℕ) (s : Token) : Type 0 where
+    pub opens : {t m : Token} → ReadsIn Punctuator (codes "(") s t m → f ≤ t.start
+    pub ends : {t m : Token} → NextIn text any_goal s t m → f ≤ t.stop
 
-  read_starts : {f : ℕ} {s t e : Token} → NextIn text any_goal s t e → StartsFrom f s → StartsFrom f e
-  read_starts {s = s} {t = t} {e = e} n h t' m' n' =
-      let a = h t e n in
-      let b = next_on n in
-      let c = next_on n' in
-      omega (arith, a, b, c)
+  pub from_place : (f : ℕ) (s : Token) → f ≤ s.stop → From f s
+  from_place f s l = record {
+    opens = λ r. (let a = next_on r.next in omega (arith, l, a));
+    ends = λ n. (let a = next_on n in omega (arith, l, a));
+  }
+
+  -- where the next token starts
+  pub from_start : {s t m : Token} → NextIn text any_goal s t m → From t.start s
+  from_start {s} {t} {m} x = record {
+    opens = λ {t = u} {m = k} r. (let q = (text_determined text).start s t u m k x r.next in omega (arith, q));
+    ends = λ {t = u} {m = k} n. (let q = (text_determined text).start s t u m k x n in let a = next_on n in omega (arith, q, a));
+  }
+
+  only_name : {w : List ℕ} {s e e' t t' : Token} → ReadsIn IdentifierName w s t e → NextIn text any_goal s t' e' → t' ≡ t
+  only_name {s = s} {e = e} {e' = e'} {t = t} {t' = t'} h nx =
+      let det = text_determined text in
+      let g = some_goal t'.class t'.text in
+      (det.same g.0 s t' t e' e nx h.next g.1 (det.free g.0 s t e h.next (ap is_free h.class))).0
+
+  -- where the next token is a name, behind it
+  pub from_name : {w : List ℕ} {s t m : Token} → ReadsIn IdentifierName w s t m → From t.stop s
+  from_name {s = s} {t = t} x = record {
+    opens = λ r. absurd (other (sym x.class ∙ ap (λ (u : Token). u.class) (sym (only_name x r.next)) ∙ r.class));
+    ends = λ n. (let same = ap (λ (u : Token). u.stop) (only_name x n) in omega (arith, same));
+  }
+    where
+      other : IdentifierName ≡ Punctuator → ⊥
+      other h = cc
+
+  read_from : {f : ℕ} {s t e : Token} → NextIn text any_goal s t e → From f s → From f e
+  read_from {f = f} {e = e} n h = let a = h.ends n in let b = next_on n in from_place f e (omega (arith, a, b))
 
   -- from one place to another
-  record Passed (f : ℕ) (s e : Token) : Type 0 where
-    on : s.stop ≤ e.stop
-    starts : StartsFrom f e
+  pub record Passed (f : ℕ) (s e : Token) : Type 0 where
+    pub on : s.stop ≤ e.stop
+    pub from : From f e
 
-  read_passed : {f : ℕ} {s t e : Token} → NextIn text any_goal s t e → StartsFrom f s → Passed f s e
-  read_passed {s = s} {e = e} n h = let a = next_on n in record { on = omega (arith, a); starts = read_starts n h }
+  pub read_passed : {f : ℕ} {s t e : Token} → NextIn text any_goal s t e → From f s → Passed f s e
+  read_passed {s = s} {e = e} n h = let a = next_on n in record { on = omega (arith, a); from = read_from n h }
 
-  stays : {f : ℕ} (s : Token) → StartsFrom f s → Passed f s s
-  stays s h = record { on = omega arith; starts = h }
+  stays : {f : ℕ} (s : Token) → From f s → Passed f s s
+  stays s h = record { on = omega arith; from = h }
 
-  step_passed : {f : ℕ} {q : PieceOf Role} {s e : Token} → Step Token (NextIn text any_goal) itself q s e → StartsFrom f s → Passed f s e
+  pub step_passed : {f : ℕ} {q : PieceOf Role} {s e : Token} → Step Token (NextIn text any_goal) itself q s e → From f s → Passed f s e
   step_passed (token r) h = read_passed r.next h
   step_passed (with_mark r) h = read_passed r.next h
   step_passed (without_mark {s = s}) h = stays s h
   step_passed {s = s} {e = e} (one_more r d) h =
       let u = read_passed r.next h in
-      let v = step_passed d u.starts in
+      let v = step_passed d u.from in
       let a = u.on in
       let b = v.on in
-      record { on = omega (arith, a, b); starts = v.starts }
+      record { on = omega (arith, a, b); from = v.from }
   step_passed (no_more {s = s}) h = stays s h
   step_passed (seen {s = s} r) h = stays s h
   step_passed (same_line {s = s} n k) h = stays s h
@@ -104,20 +155,20 @@ module _ (text : List ℕ) where
   -- from one place to another, with these pairs
   record Held (f : ℕ) (s e : Token) (P : List Pair) : Type 0 where
     on : s.stop ≤ e.stop
-    starts : StartsFrom f e
+    from : From f e
     opens : Opens f e.stop P
 
   behind_passed : {f : ℕ} {s m e : Token} {P : List Pair} → Passed f s m → Held f m e P → Held f s e P
-  behind_passed {s = s} {m = m} {e = e} u v = let a = u.on in let b = v.on in record { on = omega (arith, a, b); starts = v.starts; opens = v.opens }
+  behind_passed {s = s} {m = m} {e = e} u v = let a = u.on in let b = v.on in record { on = omega (arith, a, b); from = v.from; opens = v.opens }
 
   mutual
-    spells_held : {o : ℕ} {a : Role} {n : Tree} {s e : Token} {P : List Pair} → SpellsIn text o a n s e P → (f : ℕ) → StartsFrom f s → Held f s e P
+    spells_held : {o : ℕ} {a : Role} {n : Tree} {s e : Token} {P : List Pair} → SpellsIn text o a n s e P → (f : ℕ) → From f s → Held f s e P
     spells_held (direct qs h pl d) f k = runs_held d f k
     spells_held {s = s} {e = e} (grouped {left = left} {right = right} {m = m} {l = l} {P = P} p d q) f k =
         let u = read_passed p.next k in
-        let v = spells_held d f u.starts in
-        let w = read_passed q.next v.starts in
-        let from = k left m p.next in
+        let v = spells_held d f u.from in
+        let w = read_passed q.next v.from in
+        let at_left = k.opens p in
         let wide = mark_wide p in
         let at = next_on p.next in
         let a = u.on in
@@ -125,38 +176,76 @@ module _ (text : List ℕ) where
         let c = w.on in
         record {
           on = omega (arith, a, b, c);
-          starts = w.starts;
-          opens = opens_first f e.stop (pair_of left right) P from (omega (arith, wide, at, b, c)) (opens_later f l.stop e.stop P c v.opens);
+          from = w.from;
+          opens = opens_first f e.stop (pair_of left right) P at_left (omega (arith, wide, at, b, c)) (opens_later f l.stop e.stop P c v.opens);
         }
 
-    runs_held : {o : ℕ} {qs : List (PieceOf Role)} {ps : Parts} {s e : Token} {P : List Pair} → RunsIn o qs ps s e P → (f : ℕ) → StartsFrom f s → Held f s e P
-    runs_held (done {s = s}) f k = record { on = omega arith; starts = k; opens = λ p i. elim i [ ] }
-    runs_held (step q d) f k = let u = step_passed q k in behind_passed u (runs_held d f u.starts)
-    runs_held (opened p d) f k = let u = read_passed p.next k in behind_passed u (runs_held d f u.starts)
-    runs_held (closed p d) f k = let u = read_passed p.next k in behind_passed u (runs_held d f u.starts)
+    runs_held : {o : ℕ} {qs : List (PieceOf Role)} {ps : Parts} {s e : Token} {P : List Pair} → RunsIn o qs ps s e P → (f : ℕ) → From f s → Held f s e P
+    runs_held (done {s = s}) f k = record { on = omega arith; from = k; opens = λ p i. elim i [ ] }
+    runs_held (step q d) f k = let u = step_passed q k in behind_passed u (runs_held d f u.from)
+    runs_held (opened p d) f k = let u = read_passed p.next k in behind_passed u (runs_held d f u.from)
+    runs_held (closed p d) f k = let u = read_passed p.next k in behind_passed u (runs_held d f u.from)
     runs_held {s = s} {e = e} (within {m = m} {P = P} {Q = Q} p d) f k =
         let u = spells_held p f k in
-        let v = runs_held d f u.starts in
+        let v = runs_held d f u.from in
         let a = u.on in
         let b = v.on in
-        record { on = omega (arith, a, b); starts = v.starts; opens = λ x i. by_side P Q i (λ j. opens_later f m.stop e.stop P b u.opens x j) (λ j. v.opens x j) }
+        record { on = omega (arith, a, b); from = v.from; opens = λ x i. by_side P Q i (λ j. opens_later f m.stop e.stop P b u.opens x j) (λ j. v.opens x j) }
     runs_held (missing d) f k = runs_held d f k
 
-  -- from the first token on
-  from_first : {o : ℕ} {qs : List (PieceOf Role)} {ps : Parts} {t m s e : Token} {P : List Pair} (b c : ℕ) → NextIn text any_goal s t m → ◌≡◌ {A = ℕ × ℕ} (t.start, e.stop) (b, c) → RunsIn o qs ps s e P → IsPairless P b c → P ≡ []
-  from_first {t = t} {m = m} {s = s} {e = e} {P = P} b c nx i d h =
-      let start : t.start ≡ b = ap (λ (x : ℕ × ℕ). x.0) i in
-      let stop : e.stop ≡ c = ap (λ (x : ℕ × ℕ). x.1) i in
-      let v = runs_held d t.start (λ u k n. (let q = (text_determined text).start s t u m k nx n in omega (arith, q))) in
-      none_opens t.start e.stop P v.opens (subst (λ x. IsPairless P x e.stop) (sym start) (subst (λ x. IsPairless P b x) (sym stop) h))
+  -- A node that no pair stands round
 
-  -- a node that no pair stands round, and in whose span none opens, has none
-  pub no_pairs : {o : ℕ} {n : Tree} {s e : Token} {P : List Pair} (a : Role) (qs : List (PieceOf Role)) → Among qs (ways a n) → Placed Token (NextIn text any_goal) itself a n s e → RunsIn o qs (parts_of n) s e P → IsPairless P (start_of n) (stop_of n) → P ≡ []
-  no_pairs {n = n} shorthand_key qs h pl d k = (echo_form Token (NextIn text any_goal) itself (text_determined text) (direct qs h pl d)).pairs
-  no_pairs {n = n} (template_element b l) qs h pl d k = (chunk_told Token (NextIn text any_goal) itself (text_determined text) (direct qs h pl d)).pairs
-  no_pairs {n = n} {e = e} {P = P} script qs h (placed nx i) d k =
-      let start : 0 ≡ start_of n = ap (λ (x : ℕ × ℕ). x.0) i in
-      let stop : e.stop ≡ stop_of n = ap (λ (x : ℕ × ℕ). x.1) i in
-      let v = runs_held d 0 (λ u m n. omega arith) in
-      none_opens 0 e.stop P v.opens (subst (λ x. IsPairless P x e.stop) (sym start) (subst (λ x. IsPairless P (start_of n) x) (sym stop) k))
-  no_pairs {n = n} _ qs h (placed nx i) d k = from_first (start_of n) (stop_of n) nx i d k
+  abbrev PlacedIn : Role → Tree → Token → Token → Type 0
+  PlacedIn = Placed Token (NextIn text any_goal) itself
+
+  -- there is none in it where none opens between where its text may begin and its end
+  pub no_pairs : {o : ℕ} {n : Tree} {s e : Token} {P : List Pair} (a : Role) (qs : List (PieceOf Role)) → Among qs (ways a n) → PlacedIn a n s e → RunsIn o qs (parts_of n) s e P → (f : ℕ) → From f s → IsPairless P f (stop_of n) → P ≡ []
+  no_pairs shorthand_key qs h pl d f k i = (echo_form Token (NextIn text any_goal) itself (text_determined text) (direct qs h pl d)).pairs
+  no_pairs (template_element b l) qs h pl d f k i = (chunk_told Token (NextIn text any_goal) itself (text_determined text) (direct qs h pl d)).pairs
+  no_pairs {n = n} {e = e} {P = P} _ qs h (placed nx at) d f k i =
+      let stop : e.stop ≡ stop_of n = ap (λ (x : ℕ × ℕ). x.1) at in
+      none_opens f e.stop P (runs_held d f k).opens (subst (IsPairless P f) (sym stop) i)
+
+  -- its parts begin at its start, or it has none
+  pub first_part : {o : ℕ} {n : Tree} {s e : Token} {P : List Pair} (a : Role) (qs : List (PieceOf Role)) → Among qs (ways a n) → PlacedIn a n s e → RunsIn o qs (parts_of n) s e P → From (start_of n) s ⊎ (parts_of n ≡ none)
+  first_part shorthand_key qs h pl d = inr (ap parts_of (echo_form Token (NextIn text any_goal) itself (text_determined text) (direct qs h pl d)).tree)
+  first_part (template_element b l) qs h pl d = inr (ap parts_of (chunk_told Token (NextIn text any_goal) itself (text_determined text) (direct qs h pl d)).tree)
+  first_part {n = n} {s = s} script qs h (placed nx at) d = let start : 0 ≡ start_of n = ap (λ (x : ℕ × ℕ). x.0) at in inl (from_place (start_of n) s (omega (arith, start)))
+  first_part {s = s} _ qs h (placed nx at) d = inl (subst (λ x. From x s) (ap (λ (x : ℕ × ℕ). x.0) at) (from_start nx))
+
+  -- Behind a node
+
+  -- an expression ends between the two places
+  expression_ends : {o : ℕ} {y : Rank} {i : Bool} {g : Start} {n : Tree} {s e : Token} {P : List Pair} → SpellsIn text o (expr y i g) n s e P → (s.stop ≤ stop_of n) × (stop_of n ≤ e.stop)
+  expression_ends {n = n} {s = s} {e = e} (direct qs h (placed nx at) d) =
+      let stop : e.stop ≡ stop_of n = ap (λ (x : ℕ × ℕ). x.1) at in
+      let on = (runs_held d 0 (from_place 0 s (omega arith))).on in
+      (omega (arith, stop, on), omega (arith, stop))
+  expression_ends (grouped p d q) =
+      let u = expression_ends d in
+      let a = next_on p.next in
+      let c = next_on q.next in
+      (omega (arith, a, u), omega (arith, c, u))
+
+  -- the `(` of a pair round a node stands before the node's end
+  pub group_opens : {o : ℕ} {n : Tree} {s left m l : Token} {P : List Pair} → ReadsIn Punctuator (codes "(") s left m → SpellsIn text o (expr Expression true Any) n m l P → left.start < stop_of n
+  group_opens p d =
+      let u = expression_ends d in
+      let a = next_on p.next in
+      let b = mark_wide p in
+      omega (arith, a, b, u)
+
+  pub behind_node : {o : ℕ} {n : Tree} {s e : Token} {P : List Pair} (a : Role) → SpellsIn text o a n s e P → From (stop_of n) e
+  behind_node {n = n} {s = s} {e = e} (expr y i g) d = from_place (stop_of n) e (expression_ends d).1
+  behind_node {s = s} {e = e} shorthand_key d =
+      let u = echo_form Token (NextIn text any_goal) itself (text_determined text) d in
+      subst (λ x. From x e) (sym (ap stop_of u.tree)) (subst (From u.sign.stop) u.place (from_name u.reads))
+  behind_node {n = n} {e = e} (template_element b l) d =
+      let u = chunk_told Token (NextIn text any_goal) itself (text_determined text) d in
+      let stop : stop_of n ≡ e.stop - cond l 1 2 = ap stop_of u.tree in
+      from_place (stop_of n) e (shorter l stop)
+    where
+      shorter : {x y : ℕ} (l : Bool) → x ≡ y - cond l 1 2 → x ≤ y
+      shorter true h = omega (arith, h)
+      shorter false h = omega (arith, h)
+  behind_node {n = n} {e = e} _ (direct qs h (placed nx at) d) = let stop : e.stop ≡ stop_of n = ap (λ (x : ℕ × ℕ). x.1) at in from_place (stop_of n) e (omega (arith, stop))

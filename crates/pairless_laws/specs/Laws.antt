@@ -9,9 +9,9 @@ use Rattle.language.specs.Cost.{least, parts_least, cell_position}
 use Rattle.language.specs.Claims.{Derives}
 use Rattle.pairless_laws.specs.Pairless.{PairlessAreFree}
 
--- in a script that some text derives, each node in whose span no pair opens costs no pair
+-- in a script that some text derives, each node costs no pair if none opens from the place where its text may begin up to its end
 abbrev pub PairlessCostNothing : Type 0
-PairlessCostNothing = (text : List ℕ) (n : Tree) (P : List Pair) → Derives text n P → PairlessAreFree P n script
+PairlessCostNothing = (text : List ℕ) (n : Tree) (P : List Pair) → Derives text n P → PairlessAreFree P 0 n script
 
 -- what costs no pair has parts that cost none, each at its own position
 abbrev pub FreePartsAreFree : Type 0

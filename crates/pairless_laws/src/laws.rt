@@ -2,8 +2,9 @@
 
 ghost use Rattle.pairless_laws.specs.Laws.{FreePartsAreFree, PairlessCostNothing};
 
-/// In a script that some text derives, each node in whose span no grouping pair opens costs no pair at its widest position. That is a
-/// statement's own; a pair round an expression opens before it, so the expression costs nothing in a pair.
+/// In a script that some text derives, each node costs no pair at its position if no grouping pair opens from the place where its text
+/// may begin up to its end. That place is the end of the part before it, or the start of the node above: a pair round the node opens
+/// there or behind it.
 pub fn pairless_cost_nothing()
     ensures { PairlessCostNothing }
 {}

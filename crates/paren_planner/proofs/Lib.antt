@@ -23,7 +23,6 @@ pub mod Somewhere
 pub mod LaidTokens
 pub mod AttainedCells
 pub mod ExactPlans
-pub mod RowCounts
 pub mod LinedRows
 pub mod PassedNodes
 pub mod PairlessSpans

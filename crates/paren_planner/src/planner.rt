@@ -62,6 +62,7 @@ pub(crate) fn weigh_by_pairs(
         &above,
         &slot,
         false,
+        0,
         pairs,
         &mut steps,
     )?;

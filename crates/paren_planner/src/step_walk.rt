@@ -2,7 +2,7 @@
 
 ghost use Rattle.std.specs.Prelude.{◌≡◌, true, IfOk};
 ghost use Rattle.tree.specs.Node.{node_tree};
-ghost use Rattle.tree.specs.Tree.{kind_of, parts_of};
+ghost use Rattle.tree.specs.Tree.{kind_of, start_of, parts_of};
 ghost use Rattle.language.specs.Expressions.{has_optional, first_has_optional};
 ghost use Rattle.language.specs.RowPositions.{widest};
 ghost use Rattle.language.specs.Pieces.{Role};
@@ -12,7 +12,7 @@ ghost use Rattle.spellings.specs.Wherever.{spelled_by};
 ghost use Rattle.paren_planner.specs.declared.steps.Step.TheVariants.{Leaf};
 ghost use Rattle.spelling_table.specs.Productions.{outline_of};
 ghost use Rattle.paren_planner.specs.Noted.{IsVisit, Noted, PartsNoted, fixed_outline};
-ghost use Rattle.paren_planner.specs.Passing.{Passing, PassingParts, may_pass, pairs_of};
+ghost use Rattle.paren_planner.specs.Passing.{Passing, PassingBelow, PassingParts, may_pass, pairs_of};
 ghost use Rattle.spellings.specs.Spelled.{settled_roles};
 ghost use Rattle.language.specs.declared.Rank.TheVariants.{Primary};
 ghost use Rattle.paren_planner.specs.Steps.{nowhere};
@@ -30,7 +30,8 @@ use std::alloc::AllocError;
 use tree::{Kind, Node};
 
 /// Notes the steps of a node at a slot of the node above; says whether each is a node that costs nothing. `in_chain`: the node is known to be
-/// part of a chain, with a `?.` in it or below it. Where the text's pairs are known, nodes are passed by them.
+/// part of a chain, with a `?.` in it or below it. Its text comes from the place `from` on; where the text's pairs are known, nodes are
+/// passed by them.
 #[cycle(visiting)]
 #[inline(always)]
 pub(crate) fn visit_node(
@@ -38,17 +39,18 @@ pub(crate) fn visit_node(
     above: &Position,
     slot: &Slot,
     in_chain: bool,
+    from: usize,
     pairs: &TextPairs,
     steps: &mut Steps,
 ) -> Result<bool, AllocError>
     requires chain { in_chain ≡ true → has_optional (node_tree node) ≡ true }
-    requires passing { may_pass pairs.now ≡ true → Passing (pairs_of pairs.now) node (settled_at (role_of above.now) (slot_of slot.now)) }
+    requires passing { may_pass pairs.now ≡ true → Passing (pairs_of pairs.now) from node (settled_at (role_of above.now) (slot_of slot.now)) }
     ensures { IfOk result (λ free. Noted (may_pass pairs.now) (role_of above.now) (slot_of slot.now) (node_tree node.entry) free steps.old steps.new) }
 {
     if may_be_leaf(node.kind()) {
         return visit_atom(node, above, slot, in_chain, pairs, steps);
     }
-    if is_passed(pairs, node, slot) {
+    if is_passed(pairs, node, slot, from) {
         steps.push(Step::Passed(row_count(node)))?;
         return Ok(true);
     }
@@ -67,7 +69,7 @@ fn visit_atom(
     steps: &mut Steps,
 ) -> Result<bool, AllocError>
     requires chain { in_chain ≡ true → has_optional (node_tree node) ≡ true }
-    requires passing { may_pass pairs.now ≡ true → Passing (pairs_of pairs.now) node (settled_at (role_of above.now) (slot_of slot.now)) }
+    requires passing { may_pass pairs.now ≡ true → PassingBelow (pairs_of pairs.now) node (settled_at (role_of above.now) (slot_of slot.now)) }
     ensures { IfOk result (λ free. Noted (may_pass pairs.now) (role_of above.now) (slot_of slot.now) (node_tree node.entry) free steps.old steps.new) }
 {
     if !is_leaf(node, widest_of(slot)) {
@@ -95,7 +97,7 @@ fn visit_at(
     steps: &mut Steps,
 ) -> Result<bool, AllocError>
     requires chain { in_chain ≡ true → has_optional (node_tree node) ≡ true }
-    requires passing { may_pass pairs.now ≡ true → Passing (pairs_of pairs.now) node (settled_at (role_of above.now) (slot_of slot.now)) }
+    requires passing { may_pass pairs.now ≡ true → PassingBelow (pairs_of pairs.now) node (settled_at (role_of above.now) (slot_of slot.now)) }
     ensures { IfOk result (λ free. Noted (may_pass pairs.now) (role_of above.now) (slot_of slot.now) (node_tree node.entry) free steps.old steps.new) }
 {
     let own = widest_of(slot);
@@ -134,13 +136,14 @@ fn visit_parts(
     steps: &mut Steps,
 ) -> Result<bool, AllocError>
     requires chain { (spelled_by node own.now production.now).holds_chain ≡ true → first_has_optional (parts_of (node_tree node)) ≡ true }
-    requires passing { may_pass pairs.now ≡ true → PassingParts (pairs_of pairs.now) node 0 (parts_of (node_tree node)) (settled_roles (role_of own.now) (left (spelled_by node own.now production.now).slots)) }
+    requires passing { may_pass pairs.now ≡ true → PassingParts (pairs_of pairs.now) node 0 (start_of (node_tree node)) (parts_of (node_tree node)) (settled_roles (role_of own.now) (left (spelled_by node own.now production.now).slots)) }
     ensures { IfOk result (λ free. PartsNoted (may_pass pairs.now) (role_of own.now) (left (spelled_by node.entry own.now production.now).slots) (parts_of (node_tree node.entry)) free steps.old steps.new) }
 {
     let is_chain = holds_chain(*own, node.kind(), *production);
     let parts = node.parts();
     let mut slots = SlotCursor::new(*production);
     let mut are_free = true;
+    let mut from = node.span().start;
     for index in 0..parts.len() {
         let Some(part) = node.finished_part(index) else {
             continue;
@@ -150,8 +153,9 @@ fn visit_parts(
             return Ok(false);
         };
         let in_chain = leads_chain(is_chain, index);
-        let is_free = visit_node(part, own, &slot, in_chain, pairs, steps)?;
+        let is_free = visit_node(part, own, &slot, in_chain, from, pairs, steps)?;
         are_free &= is_free;
+        from = part.span().end;
     }
     Ok(are_free)
 }

@@ -13,7 +13,7 @@ use std::alloc::{AllocError, Global};
 use tree::{Pair, Program};
 
 /// Which nodes of a script are wrapped, by the grouping pairs of a text that derives it: of each row, in the order of the rows, whether
-/// its node is wrapped. Where no pair opens in a statement, or in another node whose position hands on nothing, that node costs nothing,
+/// its node is wrapped. A node whose position is the same wherever the node above stands costs nothing if no pair opens in it or round it,
 /// and the walk passes it.
 ///
 /// # Errors

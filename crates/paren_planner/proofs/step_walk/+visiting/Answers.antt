@@ -18,7 +18,7 @@ use Rattle.cost_table.specs.Weighed.{is_plain_outline, slot_free}
 use Rattle.std.specs.Prelude.{set}
 use Rattle.cost_table.proofs.NodeRowNumbers.{chained_at}
 use Rattle.paren_planner.proofs.WalkSteps.{begun_stop, begun_finish, noted_unspelled, noted_alone, noted_around, place_within, noted_free, noted_word, noted_hidden, noted_through, outline_fixed}
-use Rattle.paren_planner.proofs.PassedNodes.{reached_first, reached_skip, reached_part, reached_next, noted_passed, passing_parts}
+use Rattle.paren_planner.proofs.PassedNodes.{reached_first, reached_skip, reached_part, reached_next, noted_passed, passing_below, passing_parts}
 use Rattle.paren_planner.proofs.step_walk.+visiting.Goals as goal
 
 -- the part at a place
@@ -31,11 +31,11 @@ gap_here ps qs i m e h k l = parts_drop-gap ps i (h ∙ ap (λ rs. part_at rs i)
 pub visit_parts-loop-index-init : goal.visit_parts-loop-index-init
 visit_parts-loop-index-init t c =
     let ps = list_parts c.parts-parts.result in
-    reached_first _ _ c.args.node _ _ _ ps c.args.steps.now (λ i. left_by (c.new-slots.ensures i) (c.parts-parts.ensures i)) c.parts-parts.ensures c.requires.passing
+    reached_first _ _ c.args.node _ _ _ ps c.span-from.result.start c.args.steps.now (λ i. left_by (c.new-slots.ensures i) (c.parts-parts.ensures i)) c.parts-parts.ensures c.span-from.ensures.starts c.requires.passing
 
 pub visit_parts-loop-index-preserved-in_default : goal.visit_parts-loop-index-preserved-in_default
 visit_parts-loop-index-preserved-in_default t c =
-    reached_skip _ _ c.args.node _ _ _ _ _ _ _ _ c.loop-index.invariant (gap_here (list_parts c.parts-parts.result) _ c.loop-index.index _ c.parts-parts.ensures c.in_default.ensures.tree c.len-index-end.ensures c.loop-index-test.true)
+    reached_skip _ _ c.args.node _ _ _ _ _ _ _ _ _ c.loop-index.invariant (gap_here (list_parts c.parts-parts.result) _ c.loop-index.index _ c.parts-parts.ensures c.in_default.ensures.tree c.len-index-end.ensures c.loop-index-test.true)
 
 pub visit_parts-returns-in_default-take : goal.visit_parts-returns-in_default-take
 visit_parts-returns-in_default-take t c =
@@ -61,7 +61,7 @@ visit_parts-visit_node-requires t c =
       search rules,
       (
         chained_at n u c.loop-index.index c.holds_chain-is_chain.result c.leads_chain-in_chain.result above at c.leads_chain-in_chain.ensures,
-        reached_part _ _ c.args.node c.in-Some.part _ (slot_of c.in-Some-take.slot) _ (left_by c.loop-index.slots ps) (left_by c.take.new.self ps) ps c.loop-index.index _ _ _ c.loop-index.invariant
+        reached_part _ _ c.args.node c.in-Some.part _ (slot_of c.in-Some-take.slot) _ (left_by c.loop-index.slots ps) (left_by c.take.new.self ps) ps c.loop-index.index _ _ _ _ c.loop-index.invariant
             (here ps _ c.loop-index.index u c.parts-parts.ensures at) c.in-Some-take.ensures c.in-Some.ensures.rows,
       ),
     )
@@ -70,13 +70,31 @@ pub visit_parts-loop-index-preserved : goal.visit_parts-loop-index-preserved
 visit_parts-loop-index-preserved t c =
     let ps = list_parts c.parts-parts.result in
     let u = node_tree c.in-Some.part in
-    reached_next _ _ c.args.node c.in-Some.part _ (slot_of c.in-Some-take.slot) _ (left_by c.loop-index.slots ps) (left_by c.take.new.self ps) ps c.loop-index.index _ _ _ _ _ c.loop-index.invariant
-    (here ps _ c.loop-index.index u c.parts-parts.ensures c.in-Some.ensures.tree) c.in-Some-take.ensures c.in-Some.ensures.rows c.in_ok-is_free.ensures
+    reached_next _ _ c.args.node c.in-Some.part _ (slot_of c.in-Some-take.slot) _ (left_by c.loop-index.slots ps) (left_by c.take.new.self ps) ps c.loop-index.index _ _ _ _ _ _ _ c.loop-index.invariant
+    (here ps _ c.loop-index.index u c.parts-parts.ensures c.in-Some.ensures.tree) c.in-Some-take.ensures c.in-Some.ensures.rows c.span-from-in-loop-index.ensures.ends c.in_ok-is_free.ensures
+
+pub visit_node-visit_atom-requires : goal.visit_node-visit_atom-requires
+visit_node-visit_atom-requires t c = (
+  search rules,
+  (
+    c.requires.chain,
+    λ m. passing_below (pairs_of c.args.pairs.now) c.args.from c.args.node _ (c.requires.passing m),
+  ),
+)
+
+pub visit_node-visit_at-requires : goal.visit_node-visit_at-requires
+visit_node-visit_at-requires t c = (
+  search rules,
+  (
+    c.requires.chain,
+    λ m. passing_below (pairs_of c.args.pairs.now) c.args.from c.args.node _ (c.requires.passing m),
+  ),
+)
 
 pub visit_node-returns-then-is_passed : goal.visit_node-returns-then-is_passed
 visit_node-returns-then-is_passed t c =
-    noted_passed (may_pass c.args.pairs.now) (pairs_of c.args.pairs.now) (role_of c.args.above.now) (slot_of c.args.slot.now) c.args.node c.row_count.result c.args.steps.now c.push.new.self
-    (c.is_passed.ensures.known c.if-is_passed.true) (c.is_passed.ensures.settled c.if-is_passed.true) (c.is_passed.ensures.pairless c.if-is_passed.true) (c.requires.passing (c.is_passed.ensures.known c.if-is_passed.true))
+    noted_passed (may_pass c.args.pairs.now) (pairs_of c.args.pairs.now) (role_of c.args.above.now) (slot_of c.args.slot.now) c.args.from c.args.node c.row_count.result c.args.steps.now c.push.new.self
+    (c.is_passed.ensures.known c.if-is_passed.true) (c.is_passed.ensures.fixed c.if-is_passed.true) (c.is_passed.ensures.pairless c.if-is_passed.true) (c.requires.passing (c.is_passed.ensures.known c.if-is_passed.true))
     c.row_count.ensures c.in_ok-push.ensures.items
 
 pub visit_atom-returns : goal.visit_atom-returns

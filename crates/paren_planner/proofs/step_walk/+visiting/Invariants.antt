@@ -23,4 +23,4 @@ decreases-visit_parts l = 4 * node_total (node_tree l.node)
 
 abbrev pub invariant-visit_parts-loop-index : goal.invariant-visit_parts-loop-index
 invariant-visit_parts-loop-index l =
-    Reached (may_pass l.pairs) (pairs_of l.pairs) l.node (role_of l.own) (left (spelled_by l.node l.own l.production).slots) (left_by l.slots (list_parts l.parts)) (list_parts l.parts) l.index l.are_free l.fn.steps l.steps
+    Reached (may_pass l.pairs) (pairs_of l.pairs) l.node (role_of l.own) (left (spelled_by l.node l.own l.production).slots) (left_by l.slots (list_parts l.parts)) (list_parts l.parts) l.index l.from l.are_free l.fn.steps l.steps
