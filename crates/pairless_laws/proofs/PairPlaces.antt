@@ -213,6 +213,23 @@ module _ (text : List ℕ) where
   first_part {n = n} {s = s} script qs h (placed nx at) d = let start : 0 ≡ start_of n = ap (λ (x : ℕ × ℕ). x.0) at in inl (from_place (start_of n) s (omega (arith, start)))
   first_part {s = s} _ qs h (placed nx at) d = inl (subst (λ x. From x s) (ap (λ (x : ℕ × ℕ). x.0) at) (from_start nx))
 
+  -- what has no parts has no pairs
+  none_held : {o : ℕ} {qs : List (PieceOf Role)} {ps : Parts} {s e : Token} {P : List Pair} → RunsIn o qs ps s e P → ps ≡ none → P ≡ []
+  none_held done z = refl
+  none_held (step q d) z = none_held d z
+  none_held (opened p d) z = none_held d z
+  none_held (closed p d) z = none_held d z
+  none_held (within p d) z = absurd (cc)
+  none_held (missing d) z = absurd (cc)
+
+  -- there is none in it where none opens in its span
+  pub no_pairs_in_span : {o : ℕ} {n : Tree} {s e : Token} {P : List Pair} (a : Role) (qs : List (PieceOf Role)) → Among qs (ways a n) → PlacedIn a n s e → RunsIn o qs (parts_of n) s e P → IsPairless P (start_of n) (stop_of n) → P ≡ []
+  no_pairs_in_span {n = n} {s = s} {P = P} a qs h pl d i = of (first_part a qs h pl d)
+    where
+      of : From (start_of n) s ⊎ (parts_of n ≡ none) → P ≡ []
+      of (inl k) = no_pairs a qs h pl d (start_of n) k i
+      of (inr z) = none_held d z
+
   -- Behind a node
 
   -- an expression ends between the two places

@@ -26,3 +26,17 @@ unfoldable mutual
   PairlessPartsAreFree P place (gap rest) xs = PairlessPartsAreFree P place rest xs
   PairlessPartsAreFree P place (part tree rest) [] = Unit {0}
   PairlessPartsAreFree P place (part tree rest) (a ∷ xs) = PairlessAreFree P place tree a × PairlessPartsAreFree P (stop_of tree) rest xs
+
+unfoldable mutual
+  -- Each node in whose span no pair opens costs no pair at its widest position. Every position but that of an expression, of a part of a
+  -- chain and of a pattern is its own widest. A pair round an expression opens before its span, so of an expression this says what it
+  -- costs in a pair.
+  pub PairlessSpansAreFree : List Pair → Tree → Role → Type 0
+  PairlessSpansAreFree P (node kind text flags from to parts) role =
+      (IsPairless P from to → least (node kind text flags from to parts) (widest role) ≡ Some 0) × PairlessPartSpansAreFree P parts (first_roles (ways (widest role) (node kind text flags from to parts)))
+
+  pub PairlessPartSpansAreFree : List Pair → Parts → List Role → Type 0
+  PairlessPartSpansAreFree P none xs = Unit {0}
+  PairlessPartSpansAreFree P (gap rest) xs = PairlessPartSpansAreFree P rest xs
+  PairlessPartSpansAreFree P (part tree rest) [] = Unit {0}
+  PairlessPartSpansAreFree P (part tree rest) (a ∷ xs) = PairlessSpansAreFree P tree a × PairlessPartSpansAreFree P rest xs
