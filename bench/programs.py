@@ -1,4 +1,5 @@
 """Programs that measure: built outside the repository from copies of its crates, since in it each `.rt` file is one of the gate's."""
+import functools
 import os
 import shutil
 import statistics
@@ -28,6 +29,13 @@ def install():
     if not all(map(os.path.exists, SCRIPTS)) or not all(map(shutil.which, PROGRAMS)):
         subprocess.run(["apt-get", "update"], check=True, stdout=sys.stderr)
         subprocess.run(["apt-get", "install", "-y", "--no-install-recommends", *PACKAGES], check=True, stdout=sys.stderr)
+
+
+@functools.lru_cache(maxsize=None)
+def jslint():
+    """The program that is measured: $JSLINT, or the one that ./jslint runs."""
+    found = os.environ.get("JSLINT") or subprocess.run([os.path.join(TOP, "jslint"), "--program"], check=True, stdout=subprocess.PIPE, text=True).stdout
+    return found.strip()
 
 
 def scripts():
