@@ -34,7 +34,7 @@ impl<'s> Cover<'s> {
     /// The expression; `at` is the place that a refusal names.
     ///
     /// # Errors
-    /// `BoxedNode` where a name in it has a default.
+    /// `Syntax` where a name in it has a default.
     pub fn to_expression(self, at: usize) -> Result<MeasuredNode<'s>, Fault>
         ensures { Becomes self.entry.node self.entry.shape.is_expression at result }
     {
@@ -47,7 +47,7 @@ impl<'s> Cover<'s> {
     /// The simple target: a name or a member, in parentheses or not; `at` is the place that a refusal names.
     ///
     /// # Errors
-    /// `BoxedNode` where it is anything else.
+    /// `Syntax` where it is anything else.
     pub fn to_target(self, at: usize) -> Result<MeasuredNode<'s>, Fault>
         ensures { Becomes (pattern_tree self.entry.node) (is_target self.entry.shape.assigned) at result }
     {
@@ -60,7 +60,7 @@ impl<'s> Cover<'s> {
     /// The simple target or the pattern that is assigned to; `at` is the place that a refusal names.
     ///
     /// # Errors
-    /// `BoxedNode` where it is neither.
+    /// `Syntax` where it is neither.
     pub fn to_pattern(self, at: usize) -> Result<MeasuredNode<'s>, Fault>
         ensures { Becomes (pattern_tree self.entry.node) (is_pattern self.entry.shape.assigned) at result }
     {
@@ -73,7 +73,7 @@ impl<'s> Cover<'s> {
     /// The name or the pattern that is bound; `at` is the place that a refusal names.
     ///
     /// # Errors
-    /// `BoxedNode` where it is neither.
+    /// `Syntax` where it is neither.
     pub fn to_binding(self, at: usize) -> Result<MeasuredNode<'s>, Fault>
         ensures { Becomes (pattern_tree self.entry.node) (self.entry.shape.binds && is_pattern self.entry.shape.assigned) at result }
     {
@@ -108,7 +108,7 @@ fn as_pattern_items<'s>(parts: Vec<Option<BoxedNode<'s>>>) -> Vec<Option<BoxedNo
 /// place that a refusal names.
 ///
 /// # Errors
-/// `BoxedNode` where one is no name and no pattern that is bound, with a default or without.
+/// `Syntax` where one is no name and no pattern that is bound, with a default or without.
 pub fn to_parameters<'s>(
     covers: MeasuredParts<'s>,
     shape: CoverShape,
