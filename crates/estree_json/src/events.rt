@@ -28,7 +28,7 @@ fn keep_error<E: Drop>(found: E, error: &mut E) -> SerializeRefused {
 
 /// Begins an object.
 #[inline(never)]
-pub fn begin_object<S: Serializer>(
+pub(crate) fn begin_object<S: Serializer>(
     out: &mut S,
     error: &mut S::Error,
 ) -> Result<(), SerializeRefused>
@@ -42,7 +42,10 @@ pub fn begin_object<S: Serializer>(
 
 /// Ends an object.
 #[inline(never)]
-pub fn end_object<S: Serializer>(out: &mut S, error: &mut S::Error) -> Result<(), SerializeRefused>
+pub(crate) fn end_object<S: Serializer>(
+    out: &mut S,
+    error: &mut S::Error,
+) -> Result<(), SerializeRefused>
     ensures { OnOk result (Logs (S.written out.old) (S.written out.new) map_ends) }
 {
     match out.end_map() {
@@ -53,7 +56,7 @@ pub fn end_object<S: Serializer>(out: &mut S, error: &mut S::Error) -> Result<()
 
 /// A key of an object.
 #[inline(always)]
-pub fn serialize_key<S: Serializer>(
+pub(crate) fn serialize_key<S: Serializer>(
     out: &mut S,
     error: &mut S::Error,
     name: &str,
@@ -68,7 +71,7 @@ pub fn serialize_key<S: Serializer>(
 
 /// Begins an array of `count` items.
 #[inline(never)]
-pub fn begin_array<S: Serializer>(
+pub(crate) fn begin_array<S: Serializer>(
     out: &mut S,
     error: &mut S::Error,
     count: usize,
@@ -83,7 +86,10 @@ pub fn begin_array<S: Serializer>(
 
 /// Ends an array.
 #[inline(never)]
-pub fn end_array<S: Serializer>(out: &mut S, error: &mut S::Error) -> Result<(), SerializeRefused>
+pub(crate) fn end_array<S: Serializer>(
+    out: &mut S,
+    error: &mut S::Error,
+) -> Result<(), SerializeRefused>
     ensures { OnOk result (Logs (S.written out.old) (S.written out.new) seq_ends) }
 {
     match out.end_seq() {
@@ -94,7 +100,7 @@ pub fn end_array<S: Serializer>(out: &mut S, error: &mut S::Error) -> Result<(),
 
 /// Null.
 #[inline(never)]
-pub fn serialize_null<S: Serializer>(
+pub(crate) fn serialize_null<S: Serializer>(
     out: &mut S,
     error: &mut S::Error,
 ) -> Result<(), SerializeRefused>
@@ -108,7 +114,7 @@ pub fn serialize_null<S: Serializer>(
 
 /// A boolean.
 #[inline(always)]
-pub fn serialize_boolean<S: Serializer>(
+pub(crate) fn serialize_boolean<S: Serializer>(
     out: &mut S,
     error: &mut S::Error,
     value: bool,
@@ -123,7 +129,7 @@ pub fn serialize_boolean<S: Serializer>(
 
 /// A number.
 #[inline(always)]
-pub fn serialize_number<S: Serializer>(
+pub(crate) fn serialize_number<S: Serializer>(
     out: &mut S,
     error: &mut S::Error,
     value: usize,
@@ -138,7 +144,7 @@ pub fn serialize_number<S: Serializer>(
 
 /// A text.
 #[inline(always)]
-pub fn serialize_text<S: Serializer>(
+pub(crate) fn serialize_text<S: Serializer>(
     out: &mut S,
     error: &mut S::Error,
     value: &str,

@@ -11,7 +11,7 @@ use crate::table::FlagSource;
 use tree::{Form, Node};
 
 /// Whether a node is what is asked.
-pub fn is_set(flag: &FlagSource, node: Node) -> bool
+pub(crate) fn is_set(flag: &FlagSource, node: Node) -> bool
     ensures { result ≡ flag_of flag.now (label_of (node_tree node.entry)) }
 {
     let flags = node.flags();
@@ -29,7 +29,7 @@ pub fn is_set(flag: &FlagSource, node: Node) -> bool
 }
 
 /// The text of the first part.
-pub fn first_text<'t>(node: Node<'t, '_>) -> &'t str
+pub(crate) fn first_text<'t>(node: Node<'t, '_>) -> &'t str
     ensures { result.now ≡ text_of_first (parts_of (node_tree node.entry)) }
 {
     match node.part(0) {
@@ -39,7 +39,7 @@ pub fn first_text<'t>(node: Node<'t, '_>) -> &'t str
 }
 
 /// `kind` of a property.
-pub fn property_kind(form: Form) -> &'static str
+pub(crate) fn property_kind(form: Form) -> &'static str
     ensures { result.now ≡ kind_of_property form }
 {
     match form {
@@ -50,7 +50,7 @@ pub fn property_kind(form: Form) -> &'static str
 }
 
 /// `kind` of a method.
-pub fn method_kind(form: Form) -> &'static str
+pub(crate) fn method_kind(form: Form) -> &'static str
     ensures { result.now ≡ kind_of_method form }
 {
     match form {

@@ -24,7 +24,7 @@ use tree::{Kind, Node};
 
 /// A text.
 #[inline(never)]
-pub fn text_member<S: Serializer>(
+pub(crate) fn text_member<S: Serializer>(
     out: &mut S,
     error: &mut S::Error,
     name: &str,
@@ -38,7 +38,7 @@ pub fn text_member<S: Serializer>(
 
 /// A boolean.
 #[inline(never)]
-pub fn boolean_member<S: Serializer>(
+pub(crate) fn boolean_member<S: Serializer>(
     out: &mut S,
     error: &mut S::Error,
     name: &str,
@@ -52,7 +52,7 @@ pub fn boolean_member<S: Serializer>(
 
 /// Null.
 #[inline(never)]
-pub fn null_member<S: Serializer>(
+pub(crate) fn null_member<S: Serializer>(
     out: &mut S,
     error: &mut S::Error,
     name: &str,
@@ -65,7 +65,7 @@ pub fn null_member<S: Serializer>(
 
 /// The node's type.
 #[inline(never)]
-pub fn type_member<S: Serializer>(
+pub(crate) fn type_member<S: Serializer>(
     out: &mut S,
     error: &mut S::Error,
     kind: Kind,
@@ -78,7 +78,7 @@ pub fn type_member<S: Serializer>(
 
 /// Where the node begins.
 #[inline(never)]
-pub fn start_member<S: Serializer>(
+pub(crate) fn start_member<S: Serializer>(
     out: &mut S,
     error: &mut S::Error,
     start: usize,
@@ -91,7 +91,7 @@ pub fn start_member<S: Serializer>(
 
 /// Where the node ends.
 #[inline(never)]
-pub fn end_member<S: Serializer>(
+pub(crate) fn end_member<S: Serializer>(
     out: &mut S,
     error: &mut S::Error,
     end: usize,
@@ -121,7 +121,7 @@ fn primitive_member<S: Serializer>(
 
 /// `value` of a literal, if it is a string in well-formed UTF-16, a boolean or null.
 #[inline(never)]
-pub fn literal_member<S: Serializer>(
+pub(crate) fn literal_member<S: Serializer>(
     out: &mut S,
     error: &mut S::Error,
     alloc: Global,
@@ -135,7 +135,7 @@ pub fn literal_member<S: Serializer>(
 
 /// `regex` of a literal, if it is a regular expression.
 #[inline(never)]
-pub fn regex_member<S: Serializer>(
+pub(crate) fn regex_member<S: Serializer>(
     out: &mut S,
     error: &mut S::Error,
     raw: &str,
@@ -166,7 +166,7 @@ fn regex_object<S: Serializer>(
 
 /// `value` of a template's part, with its cooked and its raw value.
 #[inline(never)]
-pub fn template_member<S: Serializer>(
+pub(crate) fn template_member<S: Serializer>(
     out: &mut S,
     error: &mut S::Error,
     alloc: Global,
@@ -184,7 +184,7 @@ pub fn template_member<S: Serializer>(
 
 /// The text of a directive, if the node is one.
 #[inline(never)]
-pub fn directive_member<S: Serializer>(
+pub(crate) fn directive_member<S: Serializer>(
     out: &mut S,
     error: &mut S::Error,
     node: Node,

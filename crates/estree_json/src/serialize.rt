@@ -25,7 +25,7 @@ use tree::Node;
 
 /// The object of a node; `is_last` says whether it is the last part of the node that it is in.
 #[cycle(send)]
-pub fn serialize_node<S: Serializer>(
+pub(crate) fn serialize_node<S: Serializer>(
     out: &mut S,
     error: &mut S::Error,
     alloc: Global,

@@ -65,7 +65,7 @@ pub enum Member {
 
 impl Member {
     /// The key.
-    pub fn key(&self) -> &'static str
+    pub(crate) fn key(&self) -> &'static str
         ensures { result.now ≡ key_of self.now }
     {
         match self {
@@ -91,7 +91,7 @@ impl Member {
 
 /// The members of a node of a kind: what stands in the text one after the other, and what an object holds once each is put into it.
 #[tactic(auto, unfolding(crate::proofs::Lines::lines_computed))]
-pub fn member_table(kind: Kind) -> &'static [Member]
+pub(crate) fn member_table(kind: Kind) -> &'static [Member]
     ensures in_order { InOrder kind result.now }
     ensures put { PutsAll kind result.now }
 {

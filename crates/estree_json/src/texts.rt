@@ -21,7 +21,7 @@ pub enum Primitive {
 
 impl Primitive {
     /// The same as a value of JSON.
-    pub fn into_value(self) -> Value
+    pub(crate) fn into_value(self) -> Value
         ensures { view result ≡ data_of self }
     {
         match self {
@@ -33,7 +33,7 @@ impl Primitive {
 }
 
 /// `value` of a literal: of strings in well-formed UTF-16, booleans and null.
-pub fn literal_value(alloc: Global, raw: &str) -> Result<Option<Primitive>, AllocError>
+pub(crate) fn literal_value(alloc: Global, raw: &str) -> Result<Option<Primitive>, AllocError>
     ensures { IfOk result (λ o. option_map data_of o ≡ value_of_literal raw.now) }
 {
     if is_quoted(raw) {
@@ -53,7 +53,7 @@ pub fn literal_value(alloc: Global, raw: &str) -> Result<Option<Primitive>, Allo
 }
 
 /// What stands before and behind the last `/`.
-pub fn regex_parts(rest: &str) -> (&str, &str)
+pub(crate) fn regex_parts(rest: &str) -> (&str, &str)
     ensures pattern { result.0.now ≡ before_slash rest.now }
     ensures flags { result.1.now ≡ after_slash rest.now }
 {
@@ -64,7 +64,7 @@ pub fn regex_parts(rest: &str) -> (&str, &str)
 }
 
 /// `cooked` of a template's part: null where an escape is bad, none where it isn't well-formed UTF-16.
-pub fn cooked_value(alloc: Global, raw: &str) -> Result<Option<Primitive>, AllocError>
+pub(crate) fn cooked_value(alloc: Global, raw: &str) -> Result<Option<Primitive>, AllocError>
     ensures { IfOk result (λ o. option_map data_of o ≡ cooked_of_units (units_of_template (chars raw.now))) }
 {
     let (_raw, cooked) = tokens::template_value(alloc, raw)?;
@@ -75,7 +75,7 @@ pub fn cooked_value(alloc: Global, raw: &str) -> Result<Option<Primitive>, Alloc
 }
 
 /// A directive's text, without the quote at its front and the quote at its end.
-pub fn unquoted(text: &str) -> &str
+pub(crate) fn unquoted(text: &str) -> &str
     ensures { result.now ≡ contents_of text.now }
 {
     without_last(without_first(text))

@@ -17,14 +17,14 @@ use std::alloc::{AllocError, Global};
 use tree::Node;
 
 /// A text.
-pub fn text_value(alloc: Global, text: &str) -> Result<Option<Value>, AllocError>
+pub(crate) fn text_value(alloc: Global, text: &str) -> Result<Option<Value>, AllocError>
     ensures { IfOk result (λ o. option_map view o ≡ Some (string text.now)) }
 {
     Ok(Some(Value::String(String::from_str(alloc, text)?)))
 }
 
 /// `value` of a literal: of strings in well-formed UTF-16, booleans and null.
-pub fn literal_value(alloc: Global, raw: &str) -> Result<Option<Value>, AllocError>
+pub(crate) fn literal_value(alloc: Global, raw: &str) -> Result<Option<Value>, AllocError>
     ensures { IfOk result (λ o. option_map view o ≡ value_of_literal raw.now) }
 {
     match crate::texts::literal_value(alloc, raw)? {
@@ -34,7 +34,7 @@ pub fn literal_value(alloc: Global, raw: &str) -> Result<Option<Value>, AllocErr
 }
 
 /// `regex` of a literal, where it is a regular expression.
-pub fn literal_regex(alloc: Global, raw: &str) -> Result<Option<Value>, AllocError>
+pub(crate) fn literal_regex(alloc: Global, raw: &str) -> Result<Option<Value>, AllocError>
     ensures { IfOk result (λ o. option_map view o ≡ regex_of_literal raw.now) }
 {
     match raw.strip_prefix('/') {
@@ -55,7 +55,7 @@ fn regex_value(alloc: Global, rest: &str) -> Result<Value, AllocError>
 }
 
 /// `value` of a template's part, of its raw value.
-pub fn template_value(alloc: Global, raw: &str) -> Result<Option<Value>, AllocError>
+pub(crate) fn template_value(alloc: Global, raw: &str) -> Result<Option<Value>, AllocError>
     ensures { IfOk result (λ o. option_map view o ≡ Some (value_of_template raw.now)) }
 {
     let cooked = cooked_value(alloc, raw)?;
@@ -66,7 +66,7 @@ pub fn template_value(alloc: Global, raw: &str) -> Result<Option<Value>, AllocEr
 }
 
 /// The text of a directive, if the node is one.
-pub fn directive_value(alloc: Global, node: Node) -> Result<Option<Value>, AllocError>
+pub(crate) fn directive_value(alloc: Global, node: Node) -> Result<Option<Value>, AllocError>
     ensures { IfOk result (λ o. option_map view o ≡ directive (label_of (node_tree node.entry))) }
 {
     if !node.flags().directive {

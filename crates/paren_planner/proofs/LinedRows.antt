@@ -21,38 +21,16 @@ use Rattle.language.proofs.lower_bound.Domination.{settled, ways_of}
 use Rattle.row_laws.specs.Agreements.{agrees}
 use Rattle.row_laws.specs.Lined.{leads, lined, parts_lined}
 use Rattle.row_laws.proofs.Walk.{node_rowed}
+use Rattle.row_laws.proofs.WidestRows.{parts_rows-widest, settle-widest}
 
 -- Rows don't depend on a start
-
-rows-widest : (n : Tree) (a : Role) → rows n a ≡ rows n (widest a)
-unfolding rows
-rows-widest (node k w g s e ps) (expr y i f) = refl
-rows-widest (node k w g s e ps) (chain_part f) = refl
-rows-widest (node k w g s e ps) (pattern b f) = refl
-rows-widest (node k w g s e ps) _ = refl
-
-parts_rows-widest : (ps : Parts) (xs : List Role) → parts_rows ps xs ≡ parts_rows ps (map widest xs)
-unfolding rows parts_rows
-parts_rows-widest none xs = refl
-parts_rows-widest (gap ps) xs = parts_rows-widest ps xs
-parts_rows-widest (part n ps) [] = refl
-parts_rows-widest (part n ps) (a ∷ xs) = ap₂ (λ u v. u + v) (rows-widest n a) (parts_rows-widest ps xs)
-
-settled-widest : (f g : Start) (s : Slot) → widest (settle Expression true f s) ≡ widest (settle Expression true g s)
-settled-widest f g (fixed a) = refl
-settled-widest f g (left k) = refl
-settled-widest f g (lead k) = refl
-settled-widest f g (tail k x) = refl
-settled-widest f g callee = refl
-settled-widest f g lead_chain = refl
-settled-widest f g lead_pattern = refl
 
 abbrev roles_from : Start → List Piece → List Role
 roles_from f qs = roles (map (settle_piece Expression true f) qs)
 
 roles-widest : (f g : Start) (qs : List Piece) → map widest (roles_from f qs) ≡ map widest (roles_from g qs)
 roles-widest f g [] = refl
-roles-widest f g (sub s ∷ qs) = ap₂ (λ u v. u ∷ v) (settled-widest f g s) (roles-widest f g qs)
+roles-widest f g (sub s ∷ qs) = ap₂ (λ u v. u ∷ v) (settle-widest Expression Expression true true f g s) (roles-widest f g qs)
 roles-widest f g (_ ∷ qs) = roles-widest f g qs
 
 same_rows : (f g : Start) (ps : Parts) (qs : List Piece) → parts_rows ps (roles_from f qs) ≡ parts_rows ps (roles_from g qs)

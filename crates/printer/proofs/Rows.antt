@@ -21,29 +21,7 @@ use Rattle.spellings.specs.Positions.{outline_at}
 use Rattle.spelling_table.specs.Requirements.{fits_outline}
 use Rattle.spellings.specs.Spelled.{settled_roles, outlined_roles, roles_by, Verdict}
 use Rattle.spellings.proofs.Ways.{position_ways}
-
-pub rows-widest : (n : Tree) (a : Role) → rows n a ≡ rows n (widest a)
-unfolding rows
-rows-widest (node k w g s e ps) (expr y i f) = refl
-rows-widest (node k w g s e ps) (chain_part f) = refl
-rows-widest (node k w g s e ps) (pattern b f) = refl
-rows-widest (node k w g s e ps) _ = refl
-
-parts_rows-widest : (ps : Parts) (xs : List Role) → parts_rows ps xs ≡ parts_rows ps (map widest xs)
-unfolding rows parts_rows
-parts_rows-widest none xs = refl
-parts_rows-widest (gap ps) xs = parts_rows-widest ps xs
-parts_rows-widest (part n ps) [] = refl
-parts_rows-widest (part n ps) (a ∷ xs) = ap₂ (λ u v. u + v) (rows-widest n a) (parts_rows-widest ps xs)
-
-settle-widest : (y z : Rank) (i j : Bool) (f g : Start) (s : Slot) → widest (settle y i f s) ≡ widest (settle z j g s)
-settle-widest y z i j f g (fixed a) = refl
-settle-widest y z i j f g (left k) = refl
-settle-widest y z i j f g (lead k) = refl
-settle-widest y z i j f g (tail k x) = refl
-settle-widest y z i j f g callee = refl
-settle-widest y z i j f g lead_chain = refl
-settle-widest y z i j f g lead_pattern = refl
+use Rattle.row_laws.proofs.WidestRows.{parts_rows-widest, settle-widest}
 
 settled-widest : (a b : Role) (xs : List Slot) → map widest (settled_roles a xs) ≡ map widest (settled_roles b xs)
 settled-widest a b [] = refl

@@ -37,7 +37,8 @@ use Rattle.printer.proofs.WrittenTexts.{leads_then, leads_at}
 use Rattle.language.specs.LayoutFits.{lines_up, parts_fit}
 use Rattle.printer.specs.Printed.{marks_in, chain_marks, front_marks, deep, shape_marks, marks_text, Reads, Printed, Direct, Written, spelled_so, signed_marks}
 use Rattle.printer.proofs.Layouts.{layout_marks}
-use Rattle.printer.proofs.Rows.{rows-widest, rows_inside}
+use Rattle.row_laws.proofs.WidestRows.{rows-widest}
+use Rattle.printer.proofs.Rows.{rows_inside}
 use Rattle.printer.proofs.FirstWayFragments.{Means, counts_up, Shaped, nowhere, one, shaped_ways}
 use Rattle.printer.proofs.PlaceMarks.{places_shaped}
 
