@@ -1,8 +1,9 @@
 -- Where the rows of a derived script start, by the numbers that its nodes hold: where the nodes with rows start, by their positions.
 use Rattle.std.proofs.Common.{◌≡◌, ℕ, zero, suc, ◌≤◌, ◌<◌, Bool, true, false, cond, List, [], ◌∷◌, length, refl, sym, ap, ap₂, ◌∙◌, arith, length-append, Option, Some, None}
-use Rattle.std.specs.Prelude.{map, nat_lt, get_or, replicate, slice_get}
+use Rattle.std.specs.Prelude.{map, nat_eq, nat_lt, get_or, slice_get}
 use Rattle.std.proofs.lemmas.Bool.Decides.{nat_tests}
-use Rattle.std.proofs.lemmas.List.{get_or-set_same, get_or-set_other, length-set, length-replicate}
+use Rattle.std.proofs.lemmas.List.{get_or_past}
+use Rattle.std.proofs.lemmas.List.FromFn.{length-map-range_with_len, get_or-map-range_with_len}
 use Rattle.std.proofs.lemmas.Option.{slice_get_within}
 use Rattle.tree.specs.declared.kind.Pair.{Pair}
 use Rattle.tree.specs.Tree.{Tree, node, Parts, none, part, gap, start_of, node_total, parts_total}
@@ -17,7 +18,7 @@ use Rattle.language.specs.Claims.{row_nodes, parts_row_nodes, Derives}
 use Rattle.row_laws.specs.Laws.{NumbersRows}
 use Rattle.row_laws.proofs.FirstWayRows.{derived_lined}
 use Rattle.row_laws.proofs.RowNumbers.{script_numbers}
-use Rattle.spellings.specs.Groupings.{with_start, with_starts, row_starts, row_after}
+use Rattle.spellings.specs.Groupings.{holds_row, start_among, row_start, row_starts, row_after}
 
 -- Of lists that are alike up to zeros behind them, the same row starts behind a place.
 
@@ -30,37 +31,39 @@ same_row [] (y ∷ ys) k r h = same_row [] ys k (suc r) (λ i. h (suc i)) ∙ sy
 same_row (x ∷ xs) [] k r h = ap (λ z. cond (nat_lt k z) r (row_after xs k (suc r))) (h 0) ∙ ap (λ b. cond b r (row_after xs k (suc r))) (never_before k) ∙ same_row xs [] k (suc r) (λ i. h (suc i))
 same_row (x ∷ xs) (y ∷ ys) k r h = ap₂ (λ z u. cond (nat_lt k z) r u) (h 0) (same_row xs ys k (suc r) (λ i. h (suc i)))
 
--- What the nodes set
+-- Where the row with a number starts among nodes
 
-kept : (ss : List ℕ) (q : Option ℕ) (s r : ℕ) → (Some q ≡ Some (Some (suc r)) → ⊥) → get_or (with_start ss q s) r 0 ≡ get_or ss r 0
-kept ss None s r h = refl
-kept ss (Some zero) s r h = refl
-kept ss (Some (suc k)) s r h = get_or-set_other ss k r s 0 (λ e. h (ap (λ x. Some (Some (suc x))) (sym e)))
+-- a node that doesn't hold it
+other : (q : Option ℕ) (r s t : ℕ) → (Some q ≡ Some (Some (suc r)) → ⊥) → cond (holds_row q (suc r)) s t ≡ t
+other None r s t h = refl
+other (Some k) r s t h = of (nat_eq k (suc r)) refl
+  where
+    of : (b : Bool) → nat_eq k (suc r) ≡ b → cond b s t ≡ t
+    of true e = let same : k ≡ suc r = grind (arith, nat_tests, e) in absurd (h (ap (λ x. Some (Some x)) same))
+    of false e = refl
 
--- where no node has the row
-unset : (ss : List ℕ) (qs : List (Option ℕ)) (ns : List Tree) (r : ℕ) → ((j : ℕ) → slice_get qs j ≡ Some (Some (suc r)) → ⊥) → get_or (with_starts ss qs ns) r 0 ≡ get_or ss r 0
-unset ss [] ns r h = refl
-unset ss (q ∷ qs) [] r h = refl
-unset ss (q ∷ qs) (n ∷ ns) r h = unset (with_start ss q (start_of n)) qs ns r (λ j. h (suc j)) ∙ kept ss q (start_of n) r (h 0)
+-- where no node holds it
+held_by_none : (qs : List (Option ℕ)) (ns : List Tree) (r s : ℕ) → ((j : ℕ) → slice_get qs j ≡ Some (Some (suc r)) → ⊥) → start_among qs ns (suc r) s ≡ s
+held_by_none [] ns r s h = refl
+held_by_none (q ∷ qs) [] r s h = refl
+held_by_none (q ∷ qs) (n ∷ ns) r s h = held_by_none qs ns r (cond (holds_row q (suc r)) (start_of n) s) (λ j. h (suc j)) ∙ other q r (start_of n) s (h 0)
 
-same_length : (ss : List ℕ) (q : Option ℕ) (s : ℕ) → length (with_start ss q s) ≡ length ss
-same_length ss None s = refl
-same_length ss (Some zero) s = refl
-same_length ss (Some (suc k)) s = length-set ss k s
-
--- where one node has it
-set_once : (ss : List ℕ) (qs : List (Option ℕ)) (ns : List Tree) (i r : ℕ) (m : Tree) → r < length ss → slice_get qs i ≡ Some (Some (suc r)) → slice_get ns i ≡ Some m → ((j : ℕ) → slice_get qs j ≡ Some (Some (suc r)) → i ≡ j) →
-    get_or (with_starts ss qs ns) r 0 ≡ start_of m
-set_once ss [] ns i r m l e f u = absurd (cc)
-set_once ss (q ∷ qs) [] i r m l e f u = absurd (cc)
-set_once ss (q ∷ qs) (n ∷ ns) zero r m l e f u =
+-- where one node holds it
+held_by_one : (qs : List (Option ℕ)) (ns : List Tree) (i r s : ℕ) (m : Tree) → slice_get qs i ≡ Some (Some (suc r)) → slice_get ns i ≡ Some m → ((j : ℕ) → slice_get qs j ≡ Some (Some (suc r)) → i ≡ j) →
+    start_among qs ns (suc r) s ≡ start_of m
+held_by_one [] ns i r s m e f u = absurd (cc)
+held_by_one (q ∷ qs) [] i r s m e f u = absurd (cc)
+held_by_one (q ∷ qs) (n ∷ ns) zero r s m e f u =
     let a : q ≡ Some (suc r) = cc in
     let b : n ≡ m = cc in
-    unset (with_start ss q (start_of n)) qs ns r (λ j g. let z = u (suc j) g in omega (arith, z))
-    ∙ ap₂ (λ x y. get_or (with_start ss x (start_of y)) r 0) a b ∙ get_or-set_same ss r (start_of m) 0 l
-set_once ss (q ∷ qs) (n ∷ ns) (suc i) r m l e f u =
-    let c = same_length ss q (start_of n) in
-    set_once (with_start ss q (start_of n)) qs ns i r m (omega (arith, l, c)) e f (λ j g. let z = u (suc j) g in omega (arith, z))
+    let same : nat_eq (suc r) (suc r) ≡ true = grind (arith, nat_tests) in
+    held_by_none qs ns r (cond (holds_row q (suc r)) (start_of n) s) (λ j g. let z = u (suc j) g in omega (arith, z))
+    ∙ ap₂ (λ x y. cond (holds_row x (suc r)) (start_of y) s) a b ∙ ap (λ x. cond x (start_of m) s) same
+held_by_one (q ∷ qs) (n ∷ ns) (suc i) r s m e f u = held_by_one qs ns i r (cond (holds_row q (suc r)) (start_of n) s) m e f (λ j g. let z = u (suc j) g in omega (arith, z))
+
+-- a row's place in the list of all
+listed : (n : Tree) (r : ℕ) → r < node_total n → get_or (row_starts n) r 0 ≡ row_start n (suc r)
+listed n r h = get_or-map-range_with_len (row_start n) 1 (node_total n) r (suc r) 0 h (omega arith)
 
 -- Starts of nodes
 
@@ -73,11 +76,6 @@ no_start : (ns : List Tree) (r : ℕ) → length ns ≤ r → get_or (map start_
 no_start [] r h = refl
 no_start (n ∷ ns) zero h = absurd (omega (arith, h))
 no_start (n ∷ ns) (suc r) h = no_start ns r (omega (arith, h))
-
-zeros : (c r : ℕ) → ◌≡◌ {A = ℕ} (get_or (replicate c 0) r 0) 0
-zeros zero r = refl
-zeros (suc c) zero = refl
-zeros (suc c) (suc r) = zeros c r
 
 -- there are no more rows than nodes
 mutual
@@ -99,6 +97,18 @@ mutual
 
 -- where its rows are numbered
 module _ (n : Tree) (t : NumbersRows n) where
+  -- behind the last row
+  none_listed : (r : ℕ) → length (row_nodes n script) ≤ r → get_or (row_starts n) r 0 ≡ 0
+  none_listed r l = of (nat_lt r (node_total n)) refl
+    where
+      of : (b : Bool) → nat_lt r (node_total n) ≡ b → get_or (row_starts n) r 0 ≡ 0
+      of true h =
+          listed n r (grind (arith, nat_tests))
+          ∙ held_by_none (rows_of n) (post_order n) r 0 (λ j g. let w = t.nodes j (suc r) g in let c = w.2 in let k = slice_get_within (row_nodes n script) w.0 w.1 w.4 in omega (arith, l, c, k))
+      of false h =
+          let m : node_total n ≤ r = grind (arith, nat_tests) in
+          get_or_past (row_starts n) r 0 (omega (arith, m, length-map-range_with_len (row_start n) 1 (node_total n)))
+
   starts_alike : (r : ℕ) → get_or (row_starts n) r 0 ≡ get_or (map start_of (row_nodes n script)) r 0
   starts_alike r = of (nat_lt r (length (row_nodes n script))) refl
     where
@@ -110,14 +120,11 @@ module _ (n : Tree) (t : NumbersRows n) where
           let c = w.2 in
           let q : w.0 ≡ r = omega (arith, c) in
           let k = few_rows n script in
-          let z = length-replicate {A = ℕ} (node_total n) 0 in
-          set_once (replicate (node_total n) 0) (rows_of n) (post_order n) p.0 r w.1 (omega (arith, l, k, z)) p.1 w.3 (λ j g. t.once p.0 j (suc r) p.1 g)
+          listed n r (omega (arith, l, k)) ∙ held_by_one (rows_of n) (post_order n) p.0 r 0 w.1 p.1 w.3 (λ j g. t.once p.0 j (suc r) p.1 g)
           ∙ sym (start_at (row_nodes n script) r w.1 (ap (slice_get (row_nodes n script)) (sym q) ∙ w.4))
       of false h =
           let l : length (row_nodes n script) ≤ r = grind (arith, nat_tests) in
-          unset (replicate (node_total n) 0) (rows_of n) (post_order n) r
-          (λ j g. let w = t.nodes j (suc r) g in let c = w.2 in let k = slice_get_within (row_nodes n script) w.0 w.1 w.4 in omega (arith, l, c, k))
-          ∙ zeros (node_total n) r ∙ sym (no_start (row_nodes n script) r l)
+          none_listed r l ∙ sym (no_start (row_nodes n script) r l)
 
 -- so the first row behind a place is that of the positions
 pub row_by_position : (text : List ℕ) (n : Tree) (P : List Pair) → Derives text n P → (k : ℕ) → row_after (row_starts n) k 1 ≡ row_after (map start_of (row_nodes n script)) k 1

@@ -1,10 +1,10 @@
 -- Examples: the rows of the nodes in the grouping pairs of small scripts.
-use Rattle.std.specs.Prelude.{◌≡◌, ℕ, refl, List, [], ◌∷◌, map}
+use Rattle.std.specs.Prelude.{◌≡◌, ℕ, refl, List, [], ◌∷◌, Some, None, map}
 use Rattle.tree.specs.declared.kind.Kind.TheVariants.{ArrayPattern, AssignmentExpression, BinaryExpression, ChainExpression, MemberExpression, SequenceExpression}
 use Rattle.tree.specs.declared.kind.Pair.{Pair}
 use Rattle.tree.specs.Tree.{Tree}
 use Rattle.language.proofs.examples.Trees.{id, n, one, optional, pair, program, st, t, two}
-use Rattle.spellings.specs.Groupings.{row_starts, row_after, grouping}
+use Rattle.spellings.specs.Groupings.{start_among, row_starts, row_after, grouping}
 
 -- the row of each pair's node
 abbrev rows_of : Tree → List Pair → List ℕ
@@ -29,6 +29,13 @@ chain_in_member = refl
 -- `[(a)] = b;`: the pattern has no row
 pub target_in_pattern : rows_of (program 10 (one (st 0 10 (t AssignmentExpression "=" 0 9 (two (n ArrayPattern 0 5 (one (id "a" 2))) (id "b" 8)))))) (pair 1 3 ∷ []) ≡ 2 ∷ []
 target_in_pattern = refl
+
+-- where two nodes hold a row, the last counts
+pub last_that_holds_it : start_among (Some 1 ∷ None ∷ Some 1 ∷ Some 2 ∷ []) (id "a" 3 ∷ id "b" 4 ∷ id "c" 5 ∷ id "d" 6 ∷ []) 1 0 ≡ 5
+last_that_holds_it = refl
+
+pub none_holds_it : start_among (Some 2 ∷ None ∷ []) (id "a" 3 ∷ id "b" 4 ∷ []) 1 0 ≡ 0
+none_holds_it = refl
 
 -- a row that starts at a place isn't behind it
 pub behind_the_last : row_after (0 ∷ 2 ∷ []) 2 1 ≡ 0

@@ -1,26 +1,30 @@
 -- The row of each grouping pair's node, found by where the nodes with rows start.
-use Rattle.std.specs.Prelude.{◌≡◌, ◌≤◌, ℕ, zero, suc, cond, nat_lt, List, [], ◌∷◌, Option, Some, None, drop, replicate, slice_set}
+use Rattle.std.specs.Prelude.{◌≡◌, ◌≤◌, ℕ, suc, Bool, false, cond, nat_eq, nat_lt, List, [], ◌∷◌, Option, Some, None, map, drop}
+use Rattle.std.specs.List.{range_with_len}
 use Rattle.tree.specs.Tree.{Tree, start_of, node_total}
 use Rattle.tree.specs.Flat.{post_order}
 use Rattle.tree.specs.NodeUses.{rows_of}
 use Rattle.tree.specs.declared.kind.Pair.{Pair}
 use Rattle.spellings.specs.declared.pairs.PairRow.{PairRow}
 
--- the starts of rows, that of a row with this number set; the first row has the number 1
-abbrev pub with_start : List ℕ → Option ℕ → ℕ → List ℕ
-with_start ss None s = ss
-with_start ss (Some zero) s = ss
-with_start ss (Some (suc r)) s = slice_set ss r s
+-- a node holds the row with this number; None: it holds no row
+abbrev pub holds_row : Option ℕ → ℕ → Bool
+holds_row None r = false
+holds_row (Some q) r = nat_eq q r
 
--- those of nodes with these rows set
-abbrev pub with_starts : List ℕ → List (Option ℕ) → List Tree → List ℕ
-with_starts ss [] ns = ss
-with_starts ss (q ∷ qs) [] = ss
-with_starts ss (q ∷ qs) (n ∷ ns) = with_starts (with_start ss q (start_of n)) qs ns
+-- where the last of these nodes that holds the row starts, by the rows that they hold; this place where none of them does
+abbrev pub start_among : List (Option ℕ) → List Tree → ℕ → ℕ → ℕ
+start_among [] ns r s = s
+start_among (q ∷ qs) [] r s = s
+start_among (q ∷ qs) (n ∷ ns) r s = start_among qs ns r (cond (holds_row q r) (start_of n) s)
 
--- where the rows of a script start, by the numbers that its nodes hold; 0, behind no place, where no node has the row
+-- where the row of a script with this number starts; 0, behind no place, where no node holds it
+abbrev pub row_start : Tree → ℕ → ℕ
+row_start n r = start_among (rows_of n) (post_order n) r 0
+
+-- where the rows of a script start: those with the numbers from 1 on, as many as it has nodes
 abbrev pub row_starts : Tree → List ℕ
-row_starts n = with_starts (replicate (node_total n) 0) (rows_of n) (post_order n)
+row_starts n = map (row_start n) (range_with_len 1 (node_total n))
 
 -- the number of the first of these rows that starts behind a place, the first of all having the number r; 0 where there is none
 abbrev pub row_after : List ℕ → ℕ → ℕ → ℕ

@@ -1,7 +1,7 @@
 //! Which node stands in each grouping pair.
 
-ghost use Rattle.std.specs.Prelude.{◌≡◌, length, map, IfOk};
-ghost use Rattle.spellings.specs.Groupings.{grouping, row_starts, with_start, row_after, row_at, Passed};
+ghost use Rattle.std.specs.Prelude.{◌≡◌, ◌<◌, ℕ, suc, cond, length, map, slice_index, IfOk};
+ghost use Rattle.spellings.specs.Groupings.{grouping, holds_row, row_starts, row_after, row_at, Passed};
 
 use std::alloc::{AllocError, Global};
 use tree::{Pair, Program};
@@ -55,7 +55,9 @@ fn starts_by_row(alloc: Global, program: &Program<'_>) -> Result<Vec<usize>, All
 
 /// Sets where a row starts, if a node has one.
 fn set_start(starts: &mut Vec<usize>, row: Option<u32>, start: usize)
-    ensures { starts.new.items ≡ with_start starts.old.items row start }
+    ensures length { length starts.new.items ≡ length starts.old.items }
+    ensures each { (i : ℕ) → i < length starts.old.items →
+        slice_index starts.new.items i ≡ cond (holds_row row (suc i)) start (slice_index starts.old.items i) }
 {
     let Some(row) = row else {
         return;
