@@ -3,8 +3,8 @@
 //! The planner: which expressions are wrapped in a pair of parentheses, and which pairs of a text are extra.
 //! - May touch: a finished tree, which it never changes, and memory for steps and rows.
 //! - Contract: `plan`: no derivation of any text with the same tree has fewer pairs than the plan's total.
-//! - Begin at: `planner.rt`, `plan`; `wraps.rt` for the wrapped nodes alone; the walk in `step_walk.rt`, then `cost_pass.rt` and
-//!   `wrap_pass.rt`; `extra.rt`.
+//! - Begin at: `planner.rt`, `plan`; `wraps.rt` for the wrapped nodes alone, or only their number; the walk in `step_walk.rt`, then
+//!   `cost_pass.rt` and `wrap_pass.rt`; `extra.rt`.
 
 mod cost_pass;
 mod extra;
@@ -22,4 +22,4 @@ mod wraps;
 pub use extra::extra_pairs;
 pub use planner::{plan, plan_if_any};
 pub use wrap_plan::Plan;
-pub use wraps::wraps_by_pairs;
+pub use wraps::{fewest_by_pairs, wraps_by_pairs};

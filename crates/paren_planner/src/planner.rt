@@ -31,7 +31,7 @@ pub(crate) struct Weights {
     /// A row for each node that has one, and that the walk doesn't pass.
     pub(crate) table: CostTable,
     /// The number of pairs of the whole, where some number spells it.
-    total: Option<u32>,
+    pub(crate) total: Option<u32>,
 }
 
 /// The steps of a script, its cost table and its total number of pairs.
@@ -137,7 +137,7 @@ fn is_plannable(total: Option<u32>, row_count: usize) -> bool
 }
 
 /// A number that is given.
-fn number(given: Option<u32>) -> u32
+pub(crate) fn number(given: Option<u32>) -> u32
     ensures { (m : _) → given ≡ Some m → result ≡ m }
 {
     match given {

@@ -1,12 +1,13 @@
-//! Which nodes of a script are wrapped, by the pairs of its text: without a table of costs.
+//! Which nodes of a script are wrapped, and how many, by the pairs of its text: without a table of costs.
 
-ghost use Rattle.std.specs.Prelude.{◌≤◌, true, IfOk};
+ghost use Rattle.std.specs.Prelude.{◌≡◌, ◌≤◌, true, IfOk, Some};
 ghost use Rattle.language.specs.Pieces.{script};
+ghost use Rattle.language.specs.Cost.{least};
 ghost use Rattle.language.specs.RowPositions.{rows};
 ghost use Rattle.paren_planner.specs.Noted.{ScriptSteps};
 ghost use Rattle.paren_planner.specs.Plans.{AreWraps, IsDerived};
 
-use crate::planner::{Weights, weigh_by_pairs};
+use crate::planner::{Weights, number, weigh_by_pairs};
 use crate::text_pairs::TextPairs;
 use crate::wrap_pass::wrap_pass;
 use std::alloc::{AllocError, Global};
@@ -43,4 +44,23 @@ fn weighed_wraps(
     ensures { IfOk result (λ wraps. AreWraps program.now wraps.items) }
 {
     wrap_pass(alloc, &weights.steps, &weights.table, program.node_count())
+}
+
+/// The fewest pairs that any text with the tree of a script has, by the grouping pairs of a text that derives it: the total of its plan,
+/// without one. The walk passes the nodes that `wraps_by_pairs` passes.
+///
+/// # Errors
+///
+/// `AllocError` where memory is refused.
+pub fn fewest_by_pairs(
+    alloc: Global,
+    program: &Program<'_>,
+    pairs: &[Pair],
+) -> Result<u32, AllocError>
+    requires { IsDerived program.now pairs.now }
+    ensures { IfOk result (λ fewest. Some fewest ≡ least program.now script) }
+{
+    let pairs = TextPairs { known: Some(pairs) };
+    let weights = weigh_by_pairs(alloc, program, &pairs)?;
+    Ok(number(weights.total))
 }
