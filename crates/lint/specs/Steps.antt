@@ -21,7 +21,7 @@ use Rattle.cost_table.specs.Tables.{table_of}
 use Rattle.cost_table.specs.declared.table.CostTable.{CostTable}
 use Rattle.cost_certificate.specs.Forms.{short, table_text, IsTable, IsBadLine}
 use Rattle.lint.specs.declared.answer.Answer.{Answer}
-use Rattle.lint.specs.declared.answer.Answer.TheVariants.{Text, Fixed, Table}
+use Rattle.lint.specs.declared.answer.Answer.TheVariants.{Text, Unchanged, Fixed, Table}
 use Rattle.lint.specs.ReadScripts.{IsScript}
 use Rattle.lint.specs.Outputs.{second_limit, IsSecond, IsOutput, CommandRefuses, RefusesSettings, Reports}
 use Rattle.lint.specs.Run.{Seen, NothingWritten, HasOutput, Refuses}
@@ -29,17 +29,20 @@ use Rattle.lint.specs.Run.{Seen, NothingWritten, HasOutput, Refuses}
 -- what an answer writes, and its status
 abbrev pub output_of : Answer → List ℕ
 output_of (Text text status) = string_bytes text
+output_of (Unchanged text) = text.now
 output_of (Fixed parsed wraps) = fixed_text parsed.program
 output_of (Table parsed plan) = table_text short (table_of plan.table.rows.items plan.table.total)
 
 abbrev pub status_of : Answer → ℕ
 status_of (Text text status) = status
+status_of (Unchanged text) = 0
 status_of (Fixed parsed wraps) = 0
 status_of (Table parsed plan) = 0
 
 -- what is made as it is written: a script's text by which nodes are wrapped, and a table that has no more rows than a text may have bytes
 abbrev pub IsWritable : Answer → Type 0
 IsWritable (Text text status) = Unit {0}
+IsWritable (Unchanged text) = Unit {0}
 IsWritable (Fixed parsed wraps) = IsScript parsed.program parsed.pairs.items × AreWraps parsed.program wraps.items
 IsWritable (Table parsed plan) = length plan.table.rows.items ≤ 16777216
 

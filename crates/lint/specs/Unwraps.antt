@@ -1,5 +1,5 @@
 -- What unwrapping a script promises.
-use Rattle.std.specs.Prelude.{◌≡◌, ℕ, List, length}
+use Rattle.std.specs.Prelude.{◌≡◌, ℕ, List, length, Option, Some, None, String, string_bytes}
 use Rattle.std.specs.Str.{IsUtf8}
 use Rattle.source_text.specs.declared.fault.Fault.{Fault}
 use Rattle.source_text.specs.declared.fault.Fault.TheVariants.{TooLong, OutOfMemory, UnwrapFailed}
@@ -26,6 +26,11 @@ pub record Unwraps (text unwrapped : List ℕ) : Type 0 where
   pub fewest : Fewest tree (length pairs_again)
   pub kept : Keeps text tree unwrapped again
   pub untouched : length pairs ≡ length pairs_again → unwrapped ≡ text
+
+-- the unwrapped text: the one that was made, or the text itself where none was
+abbrev pub unwrapped_text : {A : Type 0} → List ℕ → Option (String A) → List ℕ
+unwrapped_text text (Some made) = string_bytes made
+unwrapped_text text None = text
 
 -- unwrapping the unwrapped text gives it again
 abbrev pub IsUnwrapped : List ℕ → Type 0

@@ -15,6 +15,8 @@ use source_text::{DeviceFault, Sink, write_text};
 pub enum Answer<'s> {
     /// A text that is made, and its status.
     Text(String, u8),
+    /// A script's own text, which isn't copied; status 0.
+    Unchanged(&'s str),
     /// The fixed text of a script, which is made as it is written by which nodes are wrapped; status 0.
     Fixed(Parsed<'s>, Vec<bool>),
     /// The text of a script's cost table, which is made as it is written; status 0.
@@ -28,7 +30,7 @@ impl<'s> Answer<'s> {
     {
         match self {
             Answer::Text(_, status) => *status,
-            Answer::Fixed(..) | Answer::Table(..) => 0,
+            Answer::Unchanged(..) | Answer::Fixed(..) | Answer::Table(..) => 0,
         }
     }
 
@@ -44,6 +46,7 @@ impl<'s> Answer<'s> {
     {
         match self {
             Answer::Text(text, _) => write_text(text.as_bytes(), writer),
+            Answer::Unchanged(text) => write_text(text.as_bytes(), writer),
             Answer::Fixed(parsed, wraps) => write_fixed(parsed, wraps, writer),
             Answer::Table(parsed, plan) => match write_table(
                 parsed.program(),

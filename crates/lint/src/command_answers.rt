@@ -59,7 +59,7 @@ fn fixed<'s>(alloc: Global, source: &Source<'_>, parsed: Parsed<'s>) -> Result<A
 /// `OutOfMemory`, `TooLong` and `UnwrapFailed`, as `unwrap_text`.
 fn unwrapped<'s>(
     alloc: Global,
-    source: &Source<'_>,
+    source: &Source<'s>,
     parsed: &Parsed<'_>,
 ) -> Result<Answer<'s>, Fault>
     requires reading { IsReading source.now parsed.now.program parsed.now.pairs.items }
@@ -68,7 +68,8 @@ fn unwrapped<'s>(
     ensures writable { IfOk result IsWritable }
 {
     match unwrap_script(alloc, source, parsed) {
-        Ok(text) => Ok(Answer::Text(text, 0)),
+        Ok(Some(text)) => Ok(Answer::Text(text, 0)),
+        Ok(None) => Ok(Answer::Unchanged(source.text())),
         Err(fault) => Err(fault),
     }
 }

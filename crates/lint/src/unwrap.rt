@@ -1,13 +1,14 @@
 //! Unwrapping a script: its text without its unnecessary pairs, tokens and comments kept.
 
-ghost use Rattle.std.specs.Prelude.{IfErr, IfOk, ◌≡◌, ◌≤◌, true, length, string_bytes};
-ghost use Rattle.paren_planner.specs.Plans.{IsPlan};
+ghost use Rattle.std.specs.Prelude.{IfErr, IfOk, ◌≡◌, ◌≤◌, Some, true, length, string_bytes};
+ghost use Rattle.language.specs.Pieces.{script};
+ghost use Rattle.language.specs.Cost.{least};
 ghost use Rattle.unwrapping.specs.Readings.{IsRead};
 ghost use Rattle.lint.specs.ReadScripts.{IsReading};
-ghost use Rattle.lint.specs.Unwraps.{Unwraps, IsUnwrapped, HasNoRoom, IsUnfit, RefusesUnwrapping, SpellsWith};
+ghost use Rattle.lint.specs.Unwraps.{Unwraps, IsUnwrapped, HasNoRoom, IsUnfit, RefusesUnwrapping, SpellsWith, unwrapped_text};
 
 use crate::script_reader::read_script;
-use paren_planner::{Plan, plan};
+use paren_planner::{Plan, fewest_by_pairs, plan};
 use parser::{Parsed, parse};
 use source_text::{Fault, Source};
 use std::alloc::{AllocError, Global};
@@ -152,28 +153,29 @@ fn unwrap_more(
     }
 }
 
-/// The same by the script's plan.
+/// The same, with a plan first.
 fn unwrap_planned(
     alloc: Global,
     source: &Source<'_>,
     parsed: &Parsed<'_>,
-    plan: &Plan,
-) -> Result<String, Fault>
+) -> Result<Option<String>, Fault>
     requires reading { IsReading source.now parsed.now.program parsed.now.pairs.items }
-    requires plan { IsPlan parsed.now.program plan.now }
-    ensures unwrapped { IfOk result (λ text. Unwraps source.now (string_bytes text)) }
+    requires small { length source.now ≤ 16777216 }
+    requires more { Some (length parsed.now.pairs.items) ≡ least parsed.now.program script → ⊥ }
+    ensures unwrapped { IfOk result (λ made. Unwraps source.now (unwrapped_text source.now made)) }
     ensures refused { IfErr result IsUnfit }
 {
-    if parsed.grouping_pairs().len() == plan.total() as usize {
-        return match String::from_str(alloc, source.text()) {
-            Ok(text) => Ok(text),
-            Err(AllocError) => Err(Fault::OutOfMemory),
-        };
+    match plan(alloc, parsed.program()) {
+        Ok(plan) => match unwrap_more(alloc, source, parsed, &plan) {
+            Ok(text) => Ok(Some(text)),
+            Err(fault) => Err(fault),
+        },
+        Err(AllocError) => Err(Fault::OutOfMemory),
     }
-    unwrap_more(alloc, source, parsed, plan)
 }
 
-/// The text of a script as it stands, without its unnecessary pairs; comments stay.
+/// The text of a script as it stands, without its unnecessary pairs; comments stay. None where the script has no more pairs than the
+/// fewest: its own text is the answer then, and no plan is made.
 ///
 /// # Errors
 ///
@@ -182,14 +184,30 @@ pub(crate) fn unwrap_script(
     alloc: Global,
     source: &Source<'_>,
     parsed: &Parsed<'_>,
-) -> Result<String, Fault>
+) -> Result<Option<String>, Fault>
     requires reading { IsReading source.now parsed.now.program parsed.now.pairs.items }
     requires small { length source.now ≤ 16777216 }
-    ensures unwrapped { IfOk result (λ text. Unwraps source.now (string_bytes text)) }
+    ensures unwrapped { IfOk result (λ made. Unwraps source.now (unwrapped_text source.now made)) }
     ensures refused { IfErr result IsUnfit }
 {
-    match plan(alloc, parsed.program()) {
-        Ok(plan) => unwrap_planned(alloc, source, parsed, &plan),
+    let pairs = parsed.grouping_pairs();
+    match fewest_by_pairs(alloc, parsed.program(), pairs) {
+        Ok(fewest) if pairs.len() == fewest as usize => Ok(None),
+        Ok(_) => unwrap_planned(alloc, source, parsed),
+        Err(AllocError) => Err(Fault::OutOfMemory),
+    }
+}
+
+/// The text that was made, or the script's own where none was.
+fn made_or_own(alloc: Global, source: &Source<'_>, made: Option<String>) -> Result<String, Fault>
+    ensures text { IfOk result (λ text. string_bytes text ≡ unwrapped_text source.now made) }
+    ensures refused { IfErr result IsUnfit }
+{
+    if let Some(text) = made {
+        return Ok(text);
+    }
+    match String::from_str(alloc, source.text()) {
+        Ok(text) => Ok(text),
         Err(AllocError) => Err(Fault::OutOfMemory),
     }
 }
@@ -207,8 +225,12 @@ pub fn unwrap_text(alloc: Global, source: &Source<'_>) -> Result<String, Fault>
     ensures stable { IfOk result (λ text. IsUnwrapped (string_bytes text)) }
     ensures refused { IfErr result (RefusesUnwrapping source.now) }
 {
-    match read_script(alloc, source) {
-        Ok(parsed) => unwrap_script(alloc, source, &parsed),
-        Err(refusal) => Err(refusal),
+    let parsed = match read_script(alloc, source) {
+        Ok(parsed) => parsed,
+        Err(refusal) => return Err(refusal),
+    };
+    match unwrap_script(alloc, source, &parsed) {
+        Ok(made) => made_or_own(alloc, source, made),
+        Err(fault) => Err(fault),
     }
 }

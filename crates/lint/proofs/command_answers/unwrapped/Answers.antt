@@ -1,8 +1,17 @@
-use Rattle.std.proofs.Common.{[], refl, string_bytes}
+use Rattle.std.proofs.Common.{[], refl, sym, subst, string_bytes}
+use Rattle.lint.specs.Unwraps.{Unwraps, unwrapped_text}
 use Rattle.lint.proofs.Unwrapping.{is_unwrapped}
 use Rattle.lint.proofs.command_answers.unwrapped.Goals as goal
 
-pub returns-in-Ok-clause-answer : goal.returns-in-Ok-clause-answer
-returns-in-Ok-clause-answer c =
-    let unwraps = c.in-Ok.ensures.unwrapped in
-    λ finds given. (refl, ([], refl, (unwraps, is_unwrapped c.args.source.now (string_bytes c.in-Ok.text) unwraps, refl)))
+pub returns-in-Ok-Some-clause-answer : goal.returns-in-Ok-Some-clause-answer
+returns-in-Ok-Some-clause-answer c =
+    let text = c.args.source.now in
+    let unwraps : Unwraps text (string_bytes c.in-Ok-Some.text) = subst (λ made. Unwraps text (unwrapped_text text made)) c.in-Ok-Some.field-0-is c.in-Ok-Some.ensures.unwrapped in
+    λ finds given. (refl, ([], refl, (unwraps, is_unwrapped text (string_bytes c.in-Ok-Some.text) unwraps, refl)))
+
+pub returns-in-Ok-None-clause-answer : goal.returns-in-Ok-None-clause-answer
+returns-in-Ok-None-clause-answer c =
+    let text = c.args.source.now in
+    let own : Unwraps text text = subst (λ made. Unwraps text (unwrapped_text text made)) c.in-Ok-None.field-0-is c.in-Ok-None.ensures.unwrapped in
+    let unwraps : Unwraps text c.text.result.now = subst (Unwraps text) (sym c.text.ensures.value) own in
+    λ finds given. (refl, ([], refl, (unwraps, is_unwrapped text c.text.result.now unwraps, refl)))
