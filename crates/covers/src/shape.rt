@@ -1,10 +1,9 @@
 //! What a cover may be.
 
 ghost use Rattle.std.specs.Prelude.{◌≡◌};
-ghost use Rattle.tree.specs.Node.{node_tree};
 ghost use Rattle.covers.specs.Shapes.{is_element, is_pattern, is_target, is_bound, is_either, shape_of, defaulted, simple, grouped, unassigned, initialized, together, with_element, with_rest};
 
-use tree::{Kind, Node};
+use tree::{BoxedNode, Kind};
 
 /// What a cover may be.
 #[derive(Clone, Copy, Debug, PartialEq, Eq)]
@@ -82,8 +81,8 @@ impl CoverShape {
     };
 
     /// Of an expression that is no array, no object and no assignment: a name, a member outside an optional chain, or another.
-    pub fn of(expression: Node<'_, '_>) -> CoverShape
-        ensures { result ≡ shape_of (node_tree expression.entry) }
+    pub fn of(expression: &BoxedNode<'_>) -> CoverShape
+        ensures { result ≡ shape_of expression.now }
     {
         match expression.kind() {
             Kind::Identifier => CoverShape::NAME,

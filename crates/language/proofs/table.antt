@@ -1,16 +1,20 @@
 -- The table of spellings, its views and what holds of each way.
 pub mod Alike
 pub mod BareEdges
+pub mod BeforeIt
 pub mod Beginnings
 pub mod Begins
 pub mod BeginsNodes
+pub mod EachPiece
 pub mod EdgeAsWritten
 pub mod EndTable
 pub mod EndsOf
+pub mod EveryWay
 pub mod FirstTokens
 pub mod FirstWords
 pub mod FixedPieces
 pub mod ForDeclarationWays
+pub mod FormsAreWays
 pub mod ItemTokens
 pub mod KindViews
 pub mod LeftRecursiveWays
@@ -38,6 +42,7 @@ pub mod Reaches
 pub mod RightEdges
 pub mod SearchIsComplete
 pub mod SearchIsSound
+pub mod Shapes
 pub mod ShorthandPieces
 pub mod ShorthandTable
 pub mod Shorthands

@@ -1,7 +1,6 @@
 -- Scripts of the 11th edition of ECMA-262: tokens of that edition, and no logical assignments.
-use Rattle.std.specs.Prelude.{ℕ, Bool, true, false, cond, List, [], ◌∷◌}
+use Rattle.std.specs.Prelude.{ℕ, Bool, false, cond, List, []}
 use Rattle.std.specs.Str.{IsUtf8}
-use Rattle.tree.specs.declared.kind.Kind.{Kind}
 use Rattle.tree.specs.declared.kind.Kind.TheVariants.{AssignmentExpression}
 use Rattle.tree.specs.declared.kind.Pair.{Pair}
 use Rattle.tree.specs.Tree.{Tree, node}

@@ -28,3 +28,5 @@ pub mod Claims
 pub mod ExactCells
 pub mod Laws
 pub mod Earlier
+pub mod Forms
+pub mod Chosen

@@ -263,7 +263,8 @@ pub fn fits_for_head(each: bool, list: &ListBuilder<'_>) -> bool
     }
 }
 
-/// else 0.
+/// How many levels of height the node takes that a list is put into before it gets its place in the statement: 1 for a class body and for the
+/// declaration in the head of a `for`, else 0.
 pub fn list_node_height(listed: ListKind) -> u32
     ensures { result ≡ listed_depth listed }
 {

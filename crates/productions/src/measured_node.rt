@@ -2,7 +2,6 @@
 
 ghost use Rattle.std.specs.Prelude.{◌≡◌, []};
 ghost use Rattle.tree.specs.Tree.{node, none, plain, height, parts_height};
-ghost use Rattle.tree.specs.Node.{node_tree};
 ghost use Rattle.tree.specs.NodeText.{text_bytes};
 ghost use Rattle.productions.specs.Made.{Makes};
 
@@ -10,7 +9,7 @@ use crate::measured_parts::MeasuredParts;
 use source_text::Fault;
 use std::alloc::Global;
 use std::marker::Model;
-use tree::{BoxedNode, Flags, Kind, Node, NodeText, Span};
+use tree::{BoxedNode, Flags, Kind, NodeText, Span};
 
 /// A node with its height, which contracts see as its tree.
 #[derive(Drop)]
@@ -62,10 +61,10 @@ impl<'s> MeasuredNode<'s> {
     }
 
     /// The node by reference.
-    pub fn node(&self) -> Node<'_, 's>
-        ensures { node_tree result ≡ self.now }
+    pub fn node(&self) -> &BoxedNode<'s>
+        ensures { result.now ≡ self.now }
     {
-        self.syntax.node()
+        &self.syntax
     }
 
     /// A node whose height is known.

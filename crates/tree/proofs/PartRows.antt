@@ -19,10 +19,8 @@ use Rattle.tree.specs.declared.flat_list.FlatList.{FlatList}
 use Rattle.tree.specs.Places.{run_parts}
 use Rattle.std.specs.Prelude.{Bool, true, false, is_some}
 use Rattle.tree.specs.declared.node.Node.{Node}
-use Rattle.tree.specs.declared.node.NodeStorage.{NodeStorage}
-use Rattle.tree.specs.declared.node.NodeStorage.TheVariants as shown
-use Rattle.tree.specs.Node.{node_tree, node_row, shown_tree, shown_row}
-use Rattle.tree.specs.HeldRows.{IsNamed, StandsFrom, PlaceHoldsRows, PlaceHoldsRowsFrom, shown_rows, shown_rows_from, HoldsRows, HoldsRowsFrom, use_below, row_below}
+use Rattle.tree.specs.Node.{node_tree, node_row}
+use Rattle.tree.specs.HeldRows.{IsNamed, StandsFrom, PlaceHoldsRows, PlaceHoldsRowsFrom, HoldsRows, HoldsRowsFrom, use_below, row_below}
 use Rattle.tree.proofs.FlatTrees.{Pool}
 use Rattle.tree.proofs.Parents.{length-runs, length-parts_runs}
 
@@ -211,41 +209,11 @@ root_holds f q n w e t m x =
     (m ∙ ap (λ i. get_or f.nodes (i - 1) q.node.now) e ∙ ap (λ (g : FlatTree). get_or g.nodes (length g.nodes - 1) q.node.now) (sym t))
     (x ∙ ap (λ i. tree_at f.parts.items f.nodes (i - 1)) e ∙ ap whole_tree (sym t))
 
--- a node that the parser builds holds no row
-pub boxed_rows : (n : Node) (o : Option Node) (i : ℕ) → ((a : NodeUse) → shown_rows a n.storage → ⊥) → IfSome o (λ q. (a : NodeUse) → HoldsRows a n → HoldsRows (use_below a (node_tree n) i (node_tree q)) q)
-unfolding HoldsRows
-boxed_rows n None i e = tt
-boxed_rows n (Some q) i e = λ a h. absurd (e a h)
-
-pub flat_rows : (n : Node) (p : FlatRef) (o : Option Node) (i : ℕ) → n.storage ≡ shown.Flat p → IfSome o (λ q. (a : NodeUse) → PlaceHoldsRows a p → HoldsRows (use_below a (place_tree p) i (node_tree q)) q) →
-    IfSome o (λ q. (a : NodeUse) → HoldsRows a n → HoldsRows (use_below a (node_tree n) i (node_tree q)) q)
-unfolding HoldsRows node_tree
-flat_rows n p None i e h = tt
-flat_rows n p (Some q) i e h = λ a x. subst (λ (t : Tree). shown_rows (use_below a t i (shown_tree q.storage)) q.storage) (sym (ap shown_tree e)) (h a (subst (λ (s : NodeStorage). shown_rows a s) e x))
-
-pub boxed_rows_from : (n : Node) (o : Option Node) (i : ℕ) → ((a : NodeUse) (r : ℕ) → shown_rows_from a r n.storage → ⊥) →
-    IfSome o (λ q. (a : NodeUse) (r : ℕ) → HoldsRowsFrom a r n → HoldsRowsFrom (use_below a (node_tree n) i (node_tree q)) (row_below a r (node_tree n) i) q)
-unfolding HoldsRowsFrom
-boxed_rows_from n None i e = tt
-boxed_rows_from n (Some q) i e = λ a r h. absurd (e a r h)
-
-pub flat_rows_from : (n : Node) (p : FlatRef) (o : Option Node) (i : ℕ) → n.storage ≡ shown.Flat p →
-    IfSome o (λ q. (a : NodeUse) (r : ℕ) → PlaceHoldsRowsFrom a r p → HoldsRowsFrom (use_below a (place_tree p) i (node_tree q)) (row_below a r (place_tree p) i) q) →
-    IfSome o (λ q. (a : NodeUse) (r : ℕ) → HoldsRowsFrom a r n → HoldsRowsFrom (use_below a (node_tree n) i (node_tree q)) (row_below a r (node_tree n) i) q)
-unfolding HoldsRowsFrom node_tree
-flat_rows_from n p None i e h = tt
-flat_rows_from n p (Some q) i e h = λ a r x.
-    subst (λ (t : Tree). shown_rows_from (use_below a t i (shown_tree q.storage)) (row_below a r t i) q.storage) (sym (ap shown_tree e)) (h a r (subst (λ (s : NodeStorage). shown_rows_from a r s) e x))
-
 -- a node has a row where it is asked
 pub has_its_row : (a : NodeUse) (n : Node) → HoldsRows a n → is_some (node_row n) ≡ has_row a (kind_of (node_tree n))
 unfolding HoldsRows node_tree node_row
-has_its_row a n h = of n.storage h
+has_its_row a n h = ap is_some h.own_row ∙ there (has_row a (kind_of (place_tree n.place))) h.row
   where
     there : (b : Bool) (r : ℕ) → is_some (cond b (Some r) None) ≡ b
     there true r = refl
     there false r = refl
-
-    of : (s : NodeStorage) → shown_rows a s → is_some (shown_row s) ≡ has_row a (kind_of (shown_tree s))
-    of (shown.Boxed s) h = absurd h
-    of (shown.Flat p) h = ap is_some h.own_row ∙ there (has_row a (kind_of (place_tree p))) h.row

@@ -2,41 +2,27 @@
 use Rattle.std.proofs.Common.{◌≡◌, ℕ, zero, suc, ◌+◌, ◌≤◌, cond, Some, None, refl, ap, ◌∙◌, arith, add-one}
 use Rattle.tree.specs.Tree.{Tree, Parts, node, none, part, gap, kind_of, flags_of, parts_of, part_count, part_at, parts_take}
 use Rattle.tree.specs.declared.node.Node.{Node}
-use Rattle.tree.specs.declared.node.NodeStorage.{NodeStorage}
-use Rattle.tree.specs.declared.node.NodeStorage.TheVariants as shown
 use Rattle.tree.specs.declared.node_use.NodeUse.{NodeUse}
 use Rattle.tree.specs.declared.node_use.ParentUse.{ParentUse}
 use Rattle.tree.specs.NodeUses.{has_row, own_rows, rows_in, parts_rows, rows_before, use_in}
-use Rattle.tree.specs.Node.{node_tree, node_row, shown_tree, shown_row}
+use Rattle.tree.specs.Node.{node_tree, node_row}
 use Rattle.tree.specs.Places.{place_tree}
-use Rattle.tree.specs.HeldRows.{shown_rows, shown_rows_from, HoldsRows, HoldsRowsFrom}
+use Rattle.tree.specs.HeldRows.{HoldsRows, HoldsRowsFrom}
 use Rattle.tree.proofs.PartWalk.{parts_drop}
 
 pub holds_rows : (a : NodeUse) (r : ℕ) (n : Node) → HoldsRowsFrom a r n → HoldsRows a n
 unfolding HoldsRows HoldsRowsFrom
-holds_rows a r n h = of n.storage h
-  where
-    of : (s : NodeStorage) → shown_rows_from a r s → shown_rows a s
-    of (shown.Boxed s) h = absurd h
-    of (shown.Flat p) h = h.0
+holds_rows a r n h = h.0
 
 -- the first row in it has some number
 pub holds_rows_from : (a : NodeUse) (n : Node) → HoldsRows a n → (r : ℕ) × HoldsRowsFrom a r n
 unfolding HoldsRows HoldsRowsFrom
-holds_rows_from a n h = of n.storage h
-  where
-    of : (s : NodeStorage) → shown_rows a s → (r : ℕ) × shown_rows_from a r s
-    of (shown.Boxed s) h = absurd h
-    of (shown.Flat p) h = (h.row, (h, refl))
+holds_rows_from a n h = (h.row, (h, refl))
 
 -- the node's own is the first
 pub own_row_number : (a : NodeUse) (r : ℕ) (n : Node) → HoldsRowsFrom a r n → node_row n ≡ cond (has_row a (kind_of (node_tree n))) (Some r) None
 unfolding HoldsRowsFrom node_tree node_row
-own_row_number a r n h = of n.storage h
-  where
-    of : (s : NodeStorage) → shown_rows_from a r s → shown_row s ≡ cond (has_row a (kind_of (shown_tree s))) (Some r) None
-    of (shown.Boxed s) h = absurd h
-    of (shown.Flat p) h = h.0.own_row ∙ ap (λ i. cond (has_row a (kind_of (place_tree p))) (Some i) None) h.1
+own_row_number a r n h = h.0.own_row ∙ ap (λ i. cond (has_row a (kind_of (place_tree n.place))) (Some i) None) h.1
 
 -- The rows before a place
 

@@ -5,8 +5,6 @@ use Rattle.tree.specs.declared.flat_ref.FlatRef.{FlatRef}
 use Rattle.tree.specs.declared.flat_list.FlatList.{FlatList}
 use Rattle.tree.specs.declared.flat_node.NodeNumber.{NodeNumber}
 use Rattle.tree.specs.declared.node.Node.{Node}
-use Rattle.tree.specs.declared.node.NodeStorage.{NodeStorage}
-use Rattle.tree.specs.declared.node.NodeStorage.TheVariants as shown
 use Rattle.tree.specs.declared.node_use.NodeUse.{NodeUse}
 use Rattle.tree.specs.Tree.{Tree, kind_of, flags_of, parts_of, part_count}
 use Rattle.tree.specs.Flat.{numbers_of, runs_of, run_of}
@@ -39,21 +37,13 @@ pub record PlaceHoldsRows (a : NodeUse) (p : FlatRef) : Type 0 where
 abbrev pub PlaceHoldsRowsFrom : NodeUse → ℕ → FlatRef → Type 0
 PlaceHoldsRowsFrom a r p = (held : PlaceHoldsRows a p) × (held.row ≡ r)
 
-abbrev pub shown_rows : NodeUse → NodeStorage → Type 0
-shown_rows a (shown.Boxed s) = ⊥
-shown_rows a (shown.Flat p) = PlaceHoldsRows a p
-
 -- a node of a finished tree that stands so holds the row that it has, and each below it the row that it has
 unfoldable pub HoldsRows : NodeUse → Node → Type 0
-HoldsRows a n = shown_rows a n.storage
-
-abbrev pub shown_rows_from : NodeUse → ℕ → NodeStorage → Type 0
-shown_rows_from a r (shown.Boxed s) = ⊥
-shown_rows_from a r (shown.Flat p) = PlaceHoldsRowsFrom a r p
+HoldsRows a n = PlaceHoldsRows a n.place
 
 -- the same, and the first row in it, if there is one, has this number
 unfoldable pub HoldsRowsFrom : NodeUse → ℕ → Node → Type 0
-HoldsRowsFrom a r n = shown_rows_from a r n.storage
+HoldsRowsFrom a r n = PlaceHoldsRowsFrom a r n.place
 
 -- how a part of a node stands that stands so itself
 abbrev pub use_below : NodeUse → Tree → ℕ → Tree → NodeUse

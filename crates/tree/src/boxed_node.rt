@@ -2,11 +2,9 @@
 
 ghost use Rattle.std.specs.Prelude.{◌≡◌};
 ghost use Rattle.tree.specs.NodeText.{text_bytes};
-ghost use Rattle.tree.specs.Tree.{node, none, plain};
-ghost use Rattle.tree.specs.Node.{node_tree};
+ghost use Rattle.tree.specs.Tree.{node, none, plain, kind_of, flags_of, start_of, stop_of, text_of};
 
 use crate::kind::{Flags, Kind, Span};
-use crate::node::Node;
 use crate::node_text::NodeText;
 use crate::parts::Parts;
 use std::alloc::Global;
@@ -74,11 +72,33 @@ impl<'s> BoxedNode<'s> {
         BoxedNode::new(kind, text, Flags::PLAIN, span, Parts::new(alloc))
     }
 
-    /// The node by reference.
-    pub fn node(&self) -> Node<'_, 's>
-        ensures { node_tree result ≡ self.now }
+    /// What kind of node it is.
+    pub fn kind(&self) -> Kind
+        ensures { result ≡ kind_of self.now }
     {
-        Node::new(self)
+        self.kind
+    }
+
+    /// The yes and no of it.
+    pub fn flags(&self) -> Flags
+        ensures { result ≡ flags_of self.now }
+    {
+        self.flags
+    }
+
+    /// Where it stands, in bytes.
+    pub fn span(&self) -> Span
+        ensures starts { result.start ≡ start_of self.now }
+        ensures ends { result.end ≡ stop_of self.now }
+    {
+        self.span
+    }
+
+    /// The name, the raw text, the operator or the word of a declaration; empty where the kind has none.
+    pub fn text(&self) -> &str
+        ensures { result.now ≡ text_of self.now }
+    {
+        self.text.as_str()
     }
 }
 

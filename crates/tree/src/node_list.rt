@@ -3,22 +3,14 @@
 
 ghost use Rattle.std.specs.Prelude.{◌≡◌, option_map};
 
-use crate::boxed_node::BoxedNode;
 use crate::flat_list::FlatList;
 use crate::node::Node;
-use crate::part_access::{boxed_at, flat_at, skip_parts, take_parts};
+use crate::part_access::flat_at;
 
 /// Parts of a node that stand one behind the other, by reference: a list in it.
 #[derive(Clone, Copy)]
 pub struct NodeList<'t, 's> {
-    storage: ListStorage<'t, 's>,
-}
-
-/// Parts that the parser builds, or those of the finished tree.
-#[derive(Clone, Copy)]
-enum ListStorage<'t, 's> {
-    Boxed(&'t [Option<BoxedNode<'s>>]),
-    Flat(FlatList<'t, 's>),
+    run: FlatList<'t, 's>,
 }
 
 impl<'t, 's> NodeList<'t, 's> {
@@ -28,42 +20,27 @@ impl<'t, 's> NodeList<'t, 's> {
     ghost use Rattle.tree.specs.Places.{run_parts};
     ghost use Rattle.tree.specs.Fields.{last_part, before_last};
 
-    /// The list of a node's parts while a script is read.
-    pub(crate) fn new(parts: &'t [Option<BoxedNode<'s>>]) -> NodeList<'t, 's>
-        ensures { list_parts result ≡ parts_with_gaps parts.now }
-    {
-        NodeList {
-            storage: ListStorage::Boxed(parts),
-        }
-    }
-
     /// The list of a node's parts in a finished tree.
     pub(crate) fn of_run(run: FlatList<'t, 's>) -> NodeList<'t, 's>
         ensures { list_parts result ≡ run_parts run.entry }
     {
-        NodeList {
-            storage: ListStorage::Flat(run),
-        }
+        NodeList { run }
     }
 
     /// How many they are, gaps included.
     pub fn len(self) -> usize
         ensures { result ≡ part_count (list_parts self.entry) }
     {
-        match self.storage {
-            ListStorage::Boxed(parts) => parts.len(),
-            ListStorage::Flat(run) => run.len(),
-        }
+        let run = self.run;
+        run.len()
     }
 
     /// The part at a place, counted from 0 in source order; none for a gap and past the end.
     pub fn get(self, index: usize) -> Option<Node<'t, 's>>
         ensures { option_map node_tree result ≡ part_at (list_parts self.entry) index }
     {
-        match self.storage {
-            ListStorage::Boxed(parts) => boxed_at(parts, index),
-            ListStorage::Flat(run) => flat_at(run, index),
-        }
+        let run = self.run;
+        flat_at(run, index)
     }
 
     /// The part that stands last; none for a gap and where there are none.
@@ -86,19 +63,15 @@ impl<'t, 's> NodeList<'t, 's> {
     pub fn skip(self, count: usize) -> NodeList<'t, 's>
         ensures { list_parts result ≡ parts_drop count (list_parts self.entry) }
     {
-        match self.storage {
-            ListStorage::Boxed(parts) => NodeList::new(skip_parts(parts, count)),
-            ListStorage::Flat(run) => NodeList::of_run(run.skip(count)),
-        }
+        let run = self.run;
+        NodeList::of_run(run.skip(count))
     }
 
     /// The first of them, so many; all where there are no more.
     pub fn take(self, count: usize) -> NodeList<'t, 's>
         ensures { list_parts result ≡ parts_take count (list_parts self.entry) }
     {
-        match self.storage {
-            ListStorage::Boxed(parts) => NodeList::new(take_parts(parts, count)),
-            ListStorage::Flat(run) => NodeList::of_run(run.take(count)),
-        }
+        let run = self.run;
+        NodeList::of_run(run.take(count))
     }
 }

@@ -2,7 +2,7 @@
 #![tactic(auto, using(crate::proofs::PartLemmas::part_lemmas))]
 
 ghost use Rattle.std.specs.Prelude.{◌≡◌, ℕ, option_map};
-ghost use Rattle.tree.specs.Tree.{part_at, parts_drop, parts_take, parts_with_gaps};
+ghost use Rattle.tree.specs.Tree.{part_at};
 ghost use Rattle.tree.specs.Node.{node_tree};
 ghost use Rattle.std.specs.Prelude.{IfSome};
 ghost use Rattle.tree.specs.Tree.{parts_of};
@@ -10,24 +10,9 @@ ghost use Rattle.tree.specs.Places.{run_parts, place_tree};
 ghost use Rattle.tree.specs.HeldRows.{PlaceHoldsRows, PlaceHoldsRowsFrom, HoldsRows, HoldsRowsFrom, use_below, row_below};
 ghost use Rattle.tree.specs.declared.node_use.NodeUse.{NodeUse};
 
-use crate::boxed_node::BoxedNode;
 use crate::flat_list::FlatList;
 use crate::flat_ref::FlatRef;
 use crate::node::Node;
-
-/// The part of the parser's at a place; none for a gap and past the end.
-pub(crate) fn boxed_at<'t, 's>(
-    parts: &'t [Option<BoxedNode<'s>>],
-    index: usize,
-) -> Option<Node<'t, 's>>
-    ensures { option_map node_tree result ≡ part_at (parts_with_gaps parts.now) index }
-{
-    match parts.get(index) {
-        Some(Some(part)) => Some(Node::new(part)),
-        Some(None) => None,
-        None => None,
-    }
-}
 
 /// The same of a part of the finished tree.
 pub(crate) fn flat_at<'t, 's>(run: FlatList<'t, 's>, index: usize) -> Option<Node<'t, 's>>
@@ -49,32 +34,4 @@ pub(crate) fn flat_part<'t, 's>(place: FlatRef<'t, 's>, index: usize) -> Option<
         Some(part) => Some(Node::at(part)),
         None => None,
     }
-}
-
-/// Those from a place on; none where there are no more.
-#[tactic(auto, using(crate::proofs::PartLemmas::run_lemmas))]
-pub(crate) fn skip_parts<'t, 's>(
-    parts: &'t [Option<BoxedNode<'s>>],
-    count: usize,
-) -> &'t [Option<BoxedNode<'s>>]
-    ensures { parts_with_gaps result.now ≡ parts_drop count (parts_with_gaps parts.now) }
-{
-    if count < parts.len() {
-        return &parts[count..];
-    }
-    &parts[parts.len()..]
-}
-
-/// The first of them, so many; all where there are no more.
-#[tactic(auto, using(crate::proofs::PartLemmas::run_lemmas))]
-pub(crate) fn take_parts<'t, 's>(
-    parts: &'t [Option<BoxedNode<'s>>],
-    count: usize,
-) -> &'t [Option<BoxedNode<'s>>]
-    ensures { parts_with_gaps result.now ≡ parts_take count (parts_with_gaps parts.now) }
-{
-    if count < parts.len() {
-        return &parts[..count];
-    }
-    parts
 }

@@ -1,5 +1,5 @@
 -- A leftmost part that is an arrow with one plain parameter.
-use Rattle.std.proofs.Common.{◌≡◌, ℕ, ◌-◌, ◌≤◌, Bool, true, false, cond, List, [], ◌∷◌, ◌++◌, refl, sym, ap, ◌∙◌, subst, arith}
+use Rattle.std.proofs.Common.{◌≡◌, ℕ, Bool, true, false, cond, List, [], ◌∷◌, ◌++◌, refl, sym, ap, ◌∙◌, subst, arith}
 use Rattle.std.specs.Prelude.{IsTrue, Some, codes, not, ◌&&◌, ◌||◌}
 use Rattle.tokens.specs.declared.token.TokenClass.TheVariants.{IdentifierName, Punctuator}
 use Rattle.tokens.specs.declared.token.Goal.{Goal}
@@ -14,7 +14,7 @@ use Rattle.language.specs.declared.Start.TheVariants.{NoBrace}
 use Rattle.language.specs.declared.Edge.TheVariants.{Other}
 use Rattle.tree.specs.declared.kind.Flags.{Flags}
 use Rattle.tree.specs.declared.kind.Pair.{Pair}
-use Rattle.tree.specs.Tree.{Tree, node, Parts, none, part, height, bare, plain}
+use Rattle.tree.specs.Tree.{Tree, node, Parts, none, part, bare, plain}
 use Rattle.tree.specs.Uses.{is_lean, used_flags, has_text}
 use Rattle.tree.proofs.Lean.{lean_flags, lean_text}
 use Rattle.language.specs.Vocabulary.{is, takes, is_reserved, op_arrow}
@@ -24,7 +24,7 @@ use Rattle.language.specs.Edges.{edge, edge_as_written}
 use Rattle.language.specs.Expressions.{arrow_end}
 use Rattle.language.specs.Continuations.{operation, rank_made_by, stops_at, stops}
 use Rattle.language.specs.ExpressionStart.{with_name}
-use Rattle.language.specs.Promises.{IsDetermined, ReadBy, Stops, Found, Absent, AbsentWithin, FoundAt, AbsentAt, AbsentAtWithin}
+use Rattle.language.specs.Promises.{IsDetermined, ReadBy, Stops, Found, Absent, FoundAt, AbsentAt}
 use Rattle.language.specs.Grammar.{ways}
 use Rattle.language.specs.Derivation.{Reads, Spells, Runs, step, within, token, laid, same_line, Placed}
 use Rattle.language.specs.NodeForms.{short_arrow}
@@ -43,7 +43,7 @@ use Rattle.language.proofs.table.Tails.{tails_assign}
 use Rattle.language.proofs.climbing.OperatorLoop.{Climbing, led_on}
 use Rattle.language.proofs.climbing.BinaryTurns.{same_node, replaced, same_places}
 use Rattle.language.proofs.climbing.Conditionals.{same_sign}
-use Rattle.language.proofs.climbing.FirstTurn.{Begun, climb_start, start_absent, start_deep, begun_stops, core_spelled}
+use Rattle.language.proofs.climbing.FirstTurn.{Begun, climb_start, begun_stops, core_spelled}
 use Rattle.language.proofs.climbing.Leaves.{by_name, name_found}
 
 -- the flags of an arrow
@@ -184,30 +184,3 @@ module _ (S : Type 0) (Next : S → Token → S → Type 0) (behind : S → Toke
             subst (λ c. Spells ways S Next behind o (expr h c f) (node ArrowFunctionExpression [] (arrow_flags b) st en (part (node Identifier t.text plain t.start (behind x).stop none) (part u none))) s0 to U) (sym inside)
             (spell S Next behind (at Assignment (put name ∷ arrow_end (arrow_flags b))) (short_arrow refl) (arrow_lean b st en (part (node Identifier t.text plain t.start (behind x).stop none) (part u none))) tk refl (starts_led f (fixed name) _) (replaced S Next behind det places)
             (within name_there.spelled (step (same_line eq.next line) (step laid (step (token eq) (step laid (arrow_runs h found)))))))
-
-    -- no body
-    pub start_arrow_absent : Absent S Next behind Assignment i NoBrace x2 → AbsentAt S Next behind body x2 → Absent S Next behind y i f s0
-    start_arrow_absent no_expression no_body = start_absent S Next behind det (λ o n e P h j m mid Q g. of g (core_of g) (core_of g).flag (core_of g).spelled (core_of g).tree)
-      where
-        of : {o : ℕ} {n : Tree} {e : S} {P : List Pair} {h : Rank} {j : Bool} {m : Tree} {mid : S} {Q : List Pair} → Begun S Next behind det o s0 y i f n e P h j m mid Q → (c : ArrowCore o h j m mid Q) → (d : Bool) → Spells ways S Next behind o (cond d (expr Assignment j NoBrace) body) c.operand x2 mid Q →
-            m ≡ node ArrowFunctionExpression [] (arrow_flags d) c.st c.en (part (node Identifier t.text plain t.start (behind x).stop none) (part c.operand none)) → ⊥
-        of {o} {mid = mid} {Q = Q} g c false p tree = no_body.nothing o mid c.operand Q p
-        of {o} {h = h} {j = j} {mid = mid} {Q = Q} g c true p tree =
-            let inside : j ≡ i = (g.reached.same_in (loose_of h Assignment c.stands refl)).1 in
-            let stopped : Stops S Next behind Assignment j c.operand mid = begun_stops S Next behind det Assignment Assignment j c.operand tails_assign (λ l. omega arith) c.stands (λ k. refl) (ap (λ v. edge_as_written (edge v) (behind mid)) tree) g in
-            no_expression.nothing o mid c.operand Q (subst (λ k. Spells ways S Next behind o (expr Assignment k NoBrace) c.operand x2 mid Q) inside p) (subst (λ k. Stops S Next behind Assignment k c.operand mid) inside stopped)
-
-    -- none within the limits
-    pub start_arrow_deep : {o hi : ℕ} → AbsentWithin S Next behind o (hi - 1) Assignment i NoBrace x2 → AbsentAtWithin S Next behind o (hi - 1) body x2 → AbsentWithin S Next behind o hi y i f s0
-    start_arrow_deep {o} {hi} no_expression no_body = start_deep S Next behind det (λ n e P h j m mid Q g le. of g (core_of g) (core_of g).flag (core_of g).spelled (core_of g).tree le)
-      where
-        of : {n : Tree} {e : S} {P : List Pair} {h : Rank} {j : Bool} {m : Tree} {mid : S} {Q : List Pair} → Begun S Next behind det o s0 y i f n e P h j m mid Q → (c : ArrowCore o h j m mid Q) → (d : Bool) → Spells ways S Next behind o (cond d (expr Assignment j NoBrace) body) c.operand x2 mid Q →
-            m ≡ node ArrowFunctionExpression [] (arrow_flags d) c.st c.en (part (node Identifier t.text plain t.start (behind x).stop none) (part c.operand none)) → height m ≤ hi → ⊥
-        of {m = m} {mid = mid} {Q = Q} g c false p tree le =
-            let high : height m ≡ height (node ArrowFunctionExpression [] (arrow_flags false) c.st c.en (part (node Identifier t.text plain t.start (behind x).stop none) (part c.operand none))) = ap height tree in
-            no_body.nothing mid c.operand Q p (omega arith)
-        of {h = h} {j = j} {m = m} {mid = mid} {Q = Q} g c true p tree le =
-            let high : height m ≡ height (node ArrowFunctionExpression [] (arrow_flags true) c.st c.en (part (node Identifier t.text plain t.start (behind x).stop none) (part c.operand none))) = ap height tree in
-            let inside : j ≡ i = (g.reached.same_in (loose_of h Assignment c.stands refl)).1 in
-            let stopped : Stops S Next behind Assignment j c.operand mid = begun_stops S Next behind det Assignment Assignment j c.operand tails_assign (λ l. omega arith) c.stands (λ k. refl) (ap (λ v. edge_as_written (edge v) (behind mid)) tree) g in
-            no_expression.nothing mid c.operand Q (subst (λ k. Spells ways S Next behind o (expr Assignment k NoBrace) c.operand x2 mid Q) inside p) (subst (λ k. Stops S Next behind Assignment k c.operand mid) inside stopped) (omega arith)

@@ -1,5 +1,5 @@
 -- A turn of the loop at an operator with a left and a right side: a binary or a logical one, `**`, or an assignment.
-use Rattle.std.proofs.Common.{◌≡◌, ℕ, ◌-◌, Bool, true, false, cond, List, ◌++◌, refl, sym, ap, ◌∙◌, subst, arith}
+use Rattle.std.proofs.Common.{◌≡◌, ℕ, Bool, true, false, cond, List, ◌++◌, refl, sym, ap, ◌∙◌, subst, arith}
 use Rattle.std.specs.Prelude.{IsTrue, Some}
 use Rattle.std.proofs.lemmas.Bool.{false≢true}
 use Rattle.tokens.specs.declared.token.TokenClass.TheVariants.{IdentifierName, Punctuator}
@@ -21,7 +21,7 @@ use Rattle.language.specs.Pieces.{Role, expr, PieceOf}
 use Rattle.language.specs.Token.{Token}
 use Rattle.language.specs.Edges.{edge, edge_as_written}
 use Rattle.language.specs.Continuations.{operation, rank_made_by, stops}
-use Rattle.language.specs.Promises.{IsDetermined, ReadBy, Stops, Found, Absent, AbsentWithin}
+use Rattle.language.specs.Promises.{IsDetermined, ReadBy, Stops, Found}
 use Rattle.language.specs.Grammar.{ways}
 use Rattle.language.specs.Derivation.{Reads, Spells, Placed, placed}
 use Rattle.language.proofs.climbing.Spine.{Grows}
@@ -34,7 +34,7 @@ use Rattle.language.proofs.climbing.OperatorNodes.{kind_bare, Here, Whole, binar
 use Rattle.language.proofs.table.Reaches.{is_loose, loose_of, binds_loose, reaches}
 use Rattle.language.proofs.climbing.NoContinuation.{goes_where_not, led_text}
 use Rattle.language.proofs.table.Tails.{Tails, tails_binary, tails_power, tails_assign}
-use Rattle.language.proofs.climbing.OperatorLoop.{goes_on, grows_height, Leads, Climbing, led_on, stops_inside}
+use Rattle.language.proofs.climbing.OperatorLoop.{goes_on, Leads, Climbing, led_on, stops_inside}
 
 -- The operators with two sides: the node's kind, the symbols of its head, of itself and of its right side, and whether that has the
 -- node's own In.
@@ -233,23 +233,3 @@ module _ (S : Type 0) (Next : S → Token → S → Type 0) (behind : S → Toke
               let tree : node K t.text plain w.st w.en (part m (part w.operand none)) ≡ node K t.text plain st en (part m (part u none)) = same_node refl refl refl where_is.0 where_is.1 (ap (λ k. part m (part k none)) same.1) in
               record { h = w.h; j = i; g = w.g; fits = w.stands; spelled = retold tree same.0 (ap (λ k. Q ++ k) same.2) w.spelled; grows = regrown tree same.0 (ap (λ k. Q ++ k) same.2) w.grows };
         }
-
-    -- no right side
-    pub climb_two_absent : {o : ℕ} {f : Start} {c : Rank} {Q : List Pair} → Climbing S Next behind det o y i f c s0 m mid Q → Absent S Next behind q (cond b i true) Any x → Absent S Next behind y i f s0
-    climb_two_absent climb missed = record { nothing = λ o' e' n' P' d stopped. (let w = two_on stopped (climb.leads o' e' n' P' d stopped) in missed.nothing o' w.to w.operand w.right w.side w.stopped) }
-
-    -- none within the limits
-    pub climb_two_deep : {o hi : ℕ} {f : Start} {c : Rank} {Q : List Pair} → Climbing S Next behind det o y i f c s0 m mid Q → AbsentWithin S Next behind o (hi - 1) q (cond b i true) Any x → AbsentWithin S Next behind o hi y i f s0
-    climb_two_deep {o} climb missed = record {
-      nothing = λ e' n' P' d stopped le. let w = two_on stopped (climb.leads o e' n' P' d stopped) in
-          let low = grows_height S Next behind det w.grows in
-          missed.nothing w.to w.operand w.right w.side w.stopped (omega arith);
-    }
-
-    -- what stands so far can't be the left side
-    pub climb_two_unfit : {o : ℕ} {f : Start} {c : Rank} {Q : List Pair} → Climbing S Next behind det o y i f c s0 m mid Q → takes a c ≡ false → Absent S Next behind y i f s0
-    climb_two_unfit climb no_fit = record { nothing = λ o' e' n' P' d stopped. (let w = two_on stopped (climb.leads o' e' n' P' d stopped) in false≢true (sym no_fit ∙ w.fits)) }
-
-    -- nor be assigned to
-    pub climb_no_target : {o : ℕ} {f : Start} {c : Rank} {Q : List Pair} → Climbing S Next behind det o y i f c s0 m mid Q → is_assign_op op ≡ true → is_target (kind_of m) ≡ false → Absent S Next behind y i f s0
-    climb_no_target climb is_assign no_fit = record { nothing = λ o' e' n' P' d stopped. (let w = two_on stopped (climb.leads o' e' n' P' d stopped) in false≢true (sym no_fit ∙ w.target is_assign)) }

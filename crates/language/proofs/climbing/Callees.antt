@@ -1,7 +1,7 @@
 -- What stands behind `new`: how it is read, turn by turn.
-use Rattle.std.proofs.Common.{◌≡◌, ℕ, ◌-◌, ◌≤◌, ◌<◌, Bool, true, false, cond, List, [], ◌∷◌, ◌++◌, refl, sym, ap, ◌∙◌, subst, arith}
+use Rattle.std.proofs.Common.{◌≡◌, ℕ, ◌≤◌, ◌<◌, Bool, true, false, cond, List, [], ◌∷◌, ◌++◌, refl, sym, ap, ◌∙◌, subst, arith}
 use Rattle.std.specs.Prelude.{IsTrue, Some, None, Option, codes, not, ◌&&◌, ◌||◌}
-use Rattle.std.proofs.lemmas.Bool.{and_parts, and_from, false≢true}
+use Rattle.std.proofs.lemmas.Bool.{and_parts, and_from}
 use Rattle.std.proofs.lemmas.Bool.Decides.{nat_tests}
 use Rattle.std.proofs.lemmas.List.{append-nil}
 use Rattle.tokens.specs.declared.token.TokenClass.TheVariants.{Punctuator}
@@ -22,7 +22,7 @@ use Rattle.language.specs.Pieces.{Role, expr, word, tagged_quasi, PieceOf, Piece
 use Rattle.language.specs.Token.{Token}
 use Rattle.language.specs.Edges.{edge, edge_as_written}
 use Rattle.language.specs.Continuations.{operation, rank_made_by, holds, stops_at, stops}
-use Rattle.language.specs.Promises.{IsDetermined, ReadBy, Stops, Found, Absent, AbsentWithin, FoundAt, AbsentAt, AbsentAtWithin, Callee, at_member, at_new, FoundCallee, AbsentCallee, AbsentCalleeWithin}
+use Rattle.language.specs.Promises.{IsDetermined, ReadBy, Stops, Found, FoundAt, Callee, at_member, at_new, AbsentCalleeWithin}
 use Rattle.language.specs.Grammar.{ways, spellings}
 use Rattle.language.specs.Derivation.{Among, Reads, Spells, direct, grouped, Runs, Placed}
 use Rattle.language.proofs.climbing.Spine.{is_led, Grows, whole, grow}
@@ -36,7 +36,7 @@ use Rattle.language.proofs.table.OperatorTokens.{reads_dot, reads_index}
 use Rattle.language.proofs.climbing.OperatorNodes.{dot_grows, index_grows, tag_grows}
 use Rattle.language.proofs.climbing.NoContinuation.{ends_where_stops}
 use Rattle.language.proofs.climbing.BinaryTurns.{replaced, retold, regrown}
-use Rattle.language.proofs.climbing.OperatorLoop.{grows_height, Leads, Climbing, whole_where_stops}
+use Rattle.language.proofs.climbing.OperatorLoop.{grows_height, Leads, Climbing}
 use Rattle.language.proofs.climbing.Conditionals.{same_sign}
 use Rattle.language.proofs.climbing.Suffixes.{rank_is, suffix_rank, suffix_fits, suffix_stands, callee_tight, computed_flags, stands_callee, no_super, dot_on}
 use Rattle.language.proofs.climbing.Calls.{index_on, tag_on}
@@ -189,25 +189,6 @@ module _ (S : Type 0) (Next : S → Token → S → Type 0) (behind : S → Toke
   pub as_callee : {o : ℕ} {r : Rank} {s0 : S} {m : Tree} {mid : S} {Q : List Pair} → Climbing S Next behind det o New true Any r s0 m mid Q → ClimbingCallee o r s0 m mid Q
   as_callee climb = record { low = climb.low; stands = climb.stands; leads = λ o' e' n' P' d st. climb.leads o' e' n' P' (callee_new S Next behind d) st }
 
-  pub absent_callee : {s : S} → Absent S Next behind New true Any s → AbsentCallee S Next behind s
-  absent_callee missed = record { nothing = λ o' e' n' P' d st. missed.nothing o' e' n' P' (callee_new S Next behind d) st }
-
-  pub deep_callee : {o hi : ℕ} {s : S} → AbsentWithin S Next behind o hi New true Any s → AbsentCalleeWithin S Next behind o hi s
-  deep_callee missed = record { nothing = λ e' n' P' d st le. missed.nothing e' n' P' (callee_new S Next behind d) st le }
-
-  -- where nothing can go on, and no `(` follows what stands at New alone, the callee is found
-  pub callee_stop : {o : ℕ} {r : Rank} {s0 : S} {m : Tree} {mid : S} {Q : List Pair} → ClimbingCallee o r s0 m mid Q → Stops S Next behind New true m mid → (takes Member r ≡ false → (t : Token) (k : S) → Reads S Next behind Punctuator (codes "(") mid t k → ⊥) →
-      FoundCallee S Next behind o s0 mid m Q
-  callee_stop {o} {r} {s0} {m} {mid} {Q} c st closed = record {
-    callee = of (takes Member r) refl;
-    stopped = st;
-    only = λ o' e' n' P' d st'. let v = c.leads o' e' n' P' d st' in let u = whole_where_stops S Next behind det v.spelled st v.grows in (u.place, u.tree, u.pairs);
-  }
-    where
-      of : (b : Bool) → takes Member r ≡ b → Callee S Next behind o m s0 mid Q
-      of true e = at_member (c.stands Member true e (λ h. cc))
-      of false e = at_new (c.stands New true c.low (λ h. cc)) (closed e)
-
   -- what stands so far is too high already
   pub callee_high : {o hi : ℕ} {r : Rank} {s0 : S} {m : Tree} {mid : S} {Q : List Pair} → ClimbingCallee o r s0 m mid Q → hi < height m → AbsentCalleeWithin S Next behind o hi s0
   callee_high {o} c over = record { nothing = λ e' n' P' d st le. (let v = c.leads o e' n' P' d st in let low = grows_height S Next behind det v.grows in omega arith) }
@@ -251,22 +232,6 @@ module _ (S : Type 0) (Next : S → Token → S → Type 0) (behind : S → Toke
           let u = begins S Next behind det d st in
           leads_begun u.begun (alone o' New n' e' P' u.h u.j u.m u.mid u.Q u.begun (uncalled_new closed u.begun))
 
-  -- no leftmost part
-  pub callee_absent : {s0 : S} → ((o' : ℕ) (y : Rank) (n : Tree) (e : S) (P : List Pair) (h : Rank) (j : Bool) (m' : Tree) (mid' : S) (Q' : List Pair) → Begun S Next behind det o' s0 y true Any n e P h j m' mid' Q' → Uncalled h m' mid' → ⊥) → AbsentCallee S Next behind s0
-  callee_absent {s0} missed = record { nothing = λ o' e' n' P' d st. of d st }
-    where
-      of : {o' : ℕ} {e' : S} {n' : Tree} {P' : List Pair} → Callee S Next behind o' n' s0 e' P' → Stops S Next behind New true n' e' → ⊥
-      of {o'} {e'} {n'} {P'} (at_member d) st = let u = begins S Next behind det d (member_stops S Next behind n' st) in missed o' Member n' e' P' u.h u.j u.m u.mid u.Q u.begun (uncalled_at (λ k. cc) u.begun)
-      of {o'} {e'} {n'} {P'} (at_new d closed) st = let u = begins S Next behind det d st in missed o' New n' e' P' u.h u.j u.m u.mid u.Q u.begun (uncalled_new closed u.begun)
-
-  -- none within the limits
-  pub callee_deep : {o hi : ℕ} {s0 : S} → ((y : Rank) (n : Tree) (e : S) (P : List Pair) (h : Rank) (j : Bool) (m' : Tree) (mid' : S) (Q' : List Pair) → Begun S Next behind det o s0 y true Any n e P h j m' mid' Q' → Uncalled h m' mid' → height m' ≤ hi → ⊥) → AbsentCalleeWithin S Next behind o hi s0
-  callee_deep {o} {hi} {s0} missed = record { nothing = λ e' n' P' d st le. of d st le }
-    where
-      of : {e' : S} {n' : Tree} {P' : List Pair} → Callee S Next behind o n' s0 e' P' → Stops S Next behind New true n' e' → height n' ≤ hi → ⊥
-      of {e'} {n'} {P'} (at_member d) st le = let u = begins S Next behind det d (member_stops S Next behind n' st) in let low = grows_height S Next behind det u.begun.grows in missed Member n' e' P' u.h u.j u.m u.mid u.Q u.begun (uncalled_at (λ k. cc) u.begun) (omega arith)
-      of {e'} {n'} {P'} (at_new d closed) st le = let u = begins S Next behind det d st in let low = grows_height S Next behind det u.begun.grows in missed New n' e' P' u.h u.j u.m u.mid u.Q u.begun (uncalled_new closed u.begun) (omega arith)
-
   module _ {s0 mid x : S} {m : Tree} {t : Token} (r : ReadBy S Next behind Div mid t x) where
     module _ (is_op : operation t ≡ op_dot) (goes : stops New true (edge m) (behind mid) t ≡ false) where
       -- `.` and a name
@@ -284,36 +249,8 @@ module _ (S : Type 0) (Next : S → Token → S → Type 0) (behind : S → Toke
             w.leads st en u to U same.1 same.0 same.2 places;
       }
 
-      -- what stands before `.` is too loose; no name follows; none within the limits
-      pub callee_dot_unfit : {o : ℕ} {c : Rank} {Q : List Pair} → ClimbingCallee o c s0 m mid Q → takes Call c ≡ false → AbsentCallee S Next behind s0
-      callee_dot_unfit climb no_fit = record { nothing = λ o' e' n' P' d stopped. false≢true (sym no_fit ∙ (dot_on S Next behind det r is_op goes stopped (climb.leads o' e' n' P' d stopped)).fits) }
-
-      pub callee_dot_absent : {o : ℕ} {c : Rank} {Q : List Pair} → ClimbingCallee o c s0 m mid Q → AbsentAt S Next behind word x → AbsentCallee S Next behind s0
-      callee_dot_absent climb missed = record { nothing = λ o' e' n' P' d stopped. (let w = dot_on S Next behind det r is_op goes stopped (climb.leads o' e' n' P' d stopped) in missed.nothing o' w.to w.name w.pairs w.spelled) }
-
-      pub callee_dot_deep : {o hi : ℕ} {c : Rank} {Q : List Pair} → ClimbingCallee o c s0 m mid Q → AbsentAtWithin S Next behind o (hi - 1) word x → AbsentCalleeWithin S Next behind o hi s0
-      callee_dot_deep {o} climb missed = record { nothing = λ e' n' P' d stopped le. (let w = dot_on S Next behind det r is_op goes stopped (climb.leads o e' n' P' d stopped) in let low = w.low in missed.nothing w.to w.name w.pairs w.spelled (omega arith)) }
-
     module _ (is_op : operation t ≡ op_index) (goes : stops New true (edge m) (behind mid) t ≡ false) where
-      -- what stands before `[` is too loose; no expression follows; none within the limits
-      pub callee_index_unfit : {o : ℕ} {c : Rank} {Q : List Pair} → ClimbingCallee o c s0 m mid Q → takes Call c ≡ false → AbsentCallee S Next behind s0
-      callee_index_unfit climb no_fit = record { nothing = λ o' e' n' P' d stopped. false≢true (sym no_fit ∙ (index_on S Next behind det r is_op goes stopped (climb.leads o' e' n' P' d stopped)).fits) }
-
-      pub callee_index_absent : {o : ℕ} {c : Rank} {Q : List Pair} → ClimbingCallee o c s0 m mid Q → Absent S Next behind Expression true Any x → AbsentCallee S Next behind s0
-      callee_index_absent climb missed = record { nothing = λ o' e' n' P' d stopped. (let w = index_on S Next behind det r is_op goes stopped (climb.leads o' e' n' P' d stopped) in missed.nothing o' w.place w.inner w.pairs w.spelled w.stopped) }
-
-      pub callee_index_deep : {o hi : ℕ} {c : Rank} {Q : List Pair} → ClimbingCallee o c s0 m mid Q → AbsentWithin S Next behind o (hi - 1) Expression true Any x → AbsentCalleeWithin S Next behind o hi s0
-      callee_index_deep {o} climb missed = record { nothing = λ e' n' P' d stopped le. (let w = index_on S Next behind det r is_op goes stopped (climb.leads o e' n' P' d stopped) in let low = w.low in missed.nothing w.place w.inner w.pairs w.spelled w.stopped (omega arith)) }
-
       module _ {o1 : ℕ} {u : Tree} {e1 : S} {U : List Pair} (found : Found S Next behind o1 Expression true Any x e1 u U) where
-        -- no `]` behind it
-        pub callee_bracket_absent : {o : ℕ} {c : Rank} {Q : List Pair} → ClimbingCallee o c s0 m mid Q → ((v : Token) (k : S) → Reads S Next behind Punctuator (codes "]") e1 v k → ⊥) → AbsentCallee S Next behind s0
-        callee_bracket_absent climb missing = record {
-          nothing = λ o' e' n' P' d stopped. let w = index_on S Next behind det r is_op goes stopped (climb.leads o' e' n' P' d stopped) in
-              let same = found.only o' w.place w.inner w.pairs w.spelled w.stopped in
-              missing w.closing w.to (subst (λ k. Reads S Next behind Punctuator (codes "]") k w.closing w.to) same.0 w.closes);
-        }
-
         -- `[`, an expression and `]`
         pub callee_index : {c : Rank} {Q : List Pair} {close : Token} {to : S} {st en : ℕ} → ClimbingCallee o1 c s0 m mid Q → IsTrue (takes Call c) → Reads S Next behind Punctuator (codes "]") e1 close to →
             Placed S Next behind (expr New true Any) (node MemberExpression [] computed_flags st en (part m (part u none))) s0 to → ClimbingCallee o1 (suffix_rank c) s0 (node MemberExpression [] computed_flags st en (part m (part u none))) to (Q ++ U)
@@ -345,13 +282,3 @@ module _ (S : Type 0) (Next : S → Token → S → Type 0) (behind : S → Toke
             let same = found.only o' w.to w.template w.pairs w.spelled in
             w.leads st en u to U same.1 same.0 same.2 places;
       }
-
-      -- what stands before the template is too loose; no template; none within the limits
-      pub callee_tag_unfit : {o : ℕ} {c : Rank} {Q : List Pair} → ClimbingCallee o c s0 m mid Q → takes Call c ≡ false → AbsentCallee S Next behind s0
-      callee_tag_unfit climb no_fit = record { nothing = λ o' e' n' P' d stopped. false≢true (sym no_fit ∙ (tag_on S Next behind det r is_op goes stopped (climb.leads o' e' n' P' d stopped)).fits) }
-
-      pub callee_tag_absent : {o : ℕ} {c : Rank} {Q : List Pair} → ClimbingCallee o c s0 m mid Q → AbsentAt S Next behind tagged_quasi mid → AbsentCallee S Next behind s0
-      callee_tag_absent climb missed = record { nothing = λ o' e' n' P' d stopped. (let w = tag_on S Next behind det r is_op goes stopped (climb.leads o' e' n' P' d stopped) in missed.nothing o' w.to w.template w.pairs w.spelled) }
-
-      pub callee_tag_deep : {o hi : ℕ} {c : Rank} {Q : List Pair} → ClimbingCallee o c s0 m mid Q → AbsentAtWithin S Next behind o (hi - 1) tagged_quasi mid → AbsentCalleeWithin S Next behind o hi s0
-      callee_tag_deep {o} climb missed = record { nothing = λ e' n' P' d stopped le. (let w = tag_on S Next behind det r is_op goes stopped (climb.leads o e' n' P' d stopped) in let low = w.low in missed.nothing w.to w.template w.pairs w.spelled (omega arith)) }

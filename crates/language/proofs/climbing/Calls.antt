@@ -1,7 +1,6 @@
 -- Turns of the loop at `[`, at the arguments of a call and at a template behind a tag.
 use Rattle.std.proofs.Common.{◌≡◌, ℕ, ◌-◌, ◌≤◌, Bool, true, false, List, [], ◌∷◌, ◌++◌, refl, sym, ap, ◌∙◌, subst, arith}
 use Rattle.std.specs.Prelude.{IsTrue, codes, max}
-use Rattle.std.proofs.lemmas.Bool.{false≢true}
 use Rattle.std.proofs.lemmas.List.{append-nil}
 use Rattle.tokens.specs.declared.token.TokenClass.TheVariants.{Punctuator}
 use Rattle.tokens.specs.declared.token.Goal.TheVariants.{Div}
@@ -23,7 +22,7 @@ use Rattle.language.specs.Token.{Token}
 use Rattle.language.specs.Edges.{edge}
 use Rattle.language.specs.Expressions.{arguments, after_number}
 use Rattle.language.specs.Continuations.{operation, stops}
-use Rattle.language.specs.Promises.{IsDetermined, ReadBy, Stops, Found, Absent, AbsentWithin, FoundAt, AbsentAt, AbsentAtWithin, FoundParts, AbsentParts, AbsentPartsWithin}
+use Rattle.language.specs.Promises.{IsDetermined, ReadBy, Stops, Found, FoundAt, FoundParts}
 use Rattle.language.specs.Grammar.{ways}
 use Rattle.language.specs.Derivation.{Reads, Spells, Runs, step, token, Placed}
 use Rattle.language.proofs.table.Begins.{retell, goes_to}
@@ -90,31 +89,7 @@ module _ (S : Type 0) (Next : S → Token → S → Type 0) (behind : S → Toke
           leads = λ st en u to' U name place pairs places. leads_on S Next behind det (suffix_rank c) on led.kind text flags (b.parts ∙ ap (λ k. part k none) name) place (b.pairs_are ∙ pairs) places (suffix_fits on.y c head led.stands);
         }
 
-    -- what stands before `[` is too loose
-    pub climb_index_unfit : {o : ℕ} {f : Start} {c : Rank} {Q : List Pair} → Climbing S Next behind det o y i f c s0 m mid Q → takes Call c ≡ false → Absent S Next behind y i f s0
-    climb_index_unfit climb no_fit = record { nothing = λ o' e' n' P' d stopped. false≢true (sym no_fit ∙ (index_on stopped (climb.leads o' e' n' P' d stopped)).fits) }
-
-    -- no expression behind `[`
-    pub climb_index_absent : {o : ℕ} {f : Start} {c : Rank} {Q : List Pair} → Climbing S Next behind det o y i f c s0 m mid Q → Absent S Next behind Expression true Any x → Absent S Next behind y i f s0
-    climb_index_absent climb missed = record { nothing = λ o' e' n' P' d stopped. (let w = index_on stopped (climb.leads o' e' n' P' d stopped) in missed.nothing o' w.place w.inner w.pairs w.spelled w.stopped) }
-
-    -- none within the limits
-    pub climb_index_deep : {o hi : ℕ} {f : Start} {c : Rank} {Q : List Pair} → Climbing S Next behind det o y i f c s0 m mid Q → AbsentWithin S Next behind o (hi - 1) Expression true Any x → AbsentWithin S Next behind o hi y i f s0
-    climb_index_deep {o} climb missed = record {
-      nothing = λ e' n' P' d stopped le. let w = index_on stopped (climb.leads o e' n' P' d stopped) in
-          let low = w.low in
-          missed.nothing w.place w.inner w.pairs w.spelled w.stopped (omega arith);
-    }
-
     module _ {o1 : ℕ} {u : Tree} {e1 : S} {U : List Pair} (found : Found S Next behind o1 Expression true Any x e1 u U) where
-      -- no `]` behind it
-      pub climb_bracket_absent : {o : ℕ} {f : Start} {c : Rank} {Q : List Pair} → Climbing S Next behind det o y i f c s0 m mid Q → ((v : Token) (k : S) → Reads S Next behind Punctuator (codes "]") e1 v k → ⊥) → Absent S Next behind y i f s0
-      climb_bracket_absent climb missing = record {
-        nothing = λ o' e' n' P' d stopped. let w = index_on stopped (climb.leads o' e' n' P' d stopped) in
-            let same = found.only o' w.place w.inner w.pairs w.spelled w.stopped in
-            missing w.closing w.to (subst (λ k. Reads S Next behind Punctuator (codes "]") k w.closing w.to) same.0 w.closes);
-      }
-
       -- `[`, an expression and `]`
       pub climb_index : {f : Start} {c : Rank} {Q : List Pair} {close : Token} {to : S} {st en : ℕ} → Climbing S Next behind det o1 y i f c s0 m mid Q → IsTrue (takes Call c) → Reads S Next behind Punctuator (codes "]") e1 close to →
           Placed S Next behind (expr y i f) (node MemberExpression [] computed_flags st en (part m (part u none))) s0 to → Climbing S Next behind det o1 y i f (suffix_rank c) s0 (node MemberExpression [] computed_flags st en (part m (part u none))) to (Q ++ U)
@@ -173,22 +148,6 @@ module _ (S : Type 0) (Next : S → Token → S → Type 0) (behind : S → Toke
           low = omega arith;
           leads = λ st en ps to' U parts place pairs places. leads_on S Next behind det Call on led.kind text flags parts place pairs places led.stands;
         }
-
-    -- what stands before the arguments is too loose
-    pub climb_call_unfit : {o : ℕ} {f : Start} {c : Rank} {Q : List Pair} → Climbing S Next behind det o y i f c s0 m mid Q → takes Call c ≡ false → Absent S Next behind y i f s0
-    climb_call_unfit climb no_fit = record { nothing = λ o' e' n' P' d stopped. false≢true (sym no_fit ∙ (call_on stopped (climb.leads o' e' n' P' d stopped)).fits) }
-
-    -- no arguments behind `(`
-    pub climb_call_absent : {o : ℕ} {f : Start} {c : Rank} {Q : List Pair} → Climbing S Next behind det o y i f c s0 m mid Q → AbsentParts S Next behind argument_pieces x → Absent S Next behind y i f s0
-    climb_call_absent climb missed = record { nothing = λ o' e' n' P' d stopped. (let w = call_on stopped (climb.leads o' e' n' P' d stopped) in missed.nothing o' w.to w.given w.pairs w.runs) }
-
-    -- none within the limits
-    pub climb_call_deep : {o hi : ℕ} {f : Start} {c : Rank} {Q : List Pair} → Climbing S Next behind det o y i f c s0 m mid Q → AbsentPartsWithin S Next behind o (hi - 1) argument_pieces x → AbsentWithin S Next behind o hi y i f s0
-    climb_call_deep {o} climb missed = record {
-      nothing = λ e' n' P' d stopped le. let w = call_on stopped (climb.leads o e' n' P' d stopped) in
-          let low = w.low in
-          missed.nothing w.to w.given w.pairs w.runs (omega arith);
-    }
 
     -- arguments
     pub climb_call : {o : ℕ} {f : Start} {c : Rank} {Q : List Pair} {ps : Parts} {to : S} {U : List Pair} {st en : ℕ} → Climbing S Next behind det o y i f c s0 m mid Q → IsTrue (takes Call c) → FoundParts S Next behind o argument_pieces x to ps U →
@@ -261,19 +220,3 @@ module _ (S : Type 0) (Next : S → Token → S → Type 0) (behind : S → Toke
               let same = found.only o' w.to w.template w.pairs w.spelled in
               w.leads st en u to U same.1 same.0 same.2 places;
         }
-
-    -- what stands before the template is too loose
-    pub climb_tag_unfit : {o : ℕ} {f : Start} {c : Rank} {Q : List Pair} → Climbing S Next behind det o y i f c s0 m mid Q → takes Call c ≡ false → Absent S Next behind y i f s0
-    climb_tag_unfit climb no_fit = record { nothing = λ o' e' n' P' d stopped. false≢true (sym no_fit ∙ (tag_on stopped (climb.leads o' e' n' P' d stopped)).fits) }
-
-    -- no template
-    pub climb_tag_absent : {o : ℕ} {f : Start} {c : Rank} {Q : List Pair} → Climbing S Next behind det o y i f c s0 m mid Q → AbsentAt S Next behind tagged_quasi mid → Absent S Next behind y i f s0
-    climb_tag_absent climb missed = record { nothing = λ o' e' n' P' d stopped. (let w = tag_on stopped (climb.leads o' e' n' P' d stopped) in missed.nothing o' w.to w.template w.pairs w.spelled) }
-
-    -- none within the limits
-    pub climb_tag_deep : {o hi : ℕ} {f : Start} {c : Rank} {Q : List Pair} → Climbing S Next behind det o y i f c s0 m mid Q → AbsentAtWithin S Next behind o (hi - 1) tagged_quasi mid → AbsentWithin S Next behind o hi y i f s0
-    climb_tag_deep {o} climb missed = record {
-      nothing = λ e' n' P' d stopped le. let w = tag_on stopped (climb.leads o e' n' P' d stopped) in
-          let low = w.low in
-          missed.nothing w.to w.template w.pairs w.spelled (omega arith);
-    }

@@ -1,5 +1,5 @@
 -- The loop over the parts of an optional chain.
-use Rattle.std.proofs.Common.{◌≡◌, ℕ, ◌-◌, ◌≤◌, Bool, true, false, cond, List, [], ◌∷◌, ◌++◌, refl, sym, ap, ◌∙◌, subst, arith}
+use Rattle.std.proofs.Common.{◌≡◌, ℕ, ◌≤◌, Bool, true, false, cond, List, [], ◌∷◌, ◌++◌, refl, sym, ap, ◌∙◌, subst, arith}
 use Rattle.std.specs.Prelude.{IsTrue, Some, codes}
 use Rattle.std.proofs.lemmas.Bool.{false≢true}
 use Rattle.std.proofs.lemmas.Bool.Decides.{nat_tests}
@@ -23,7 +23,7 @@ use Rattle.language.specs.Token.{Token}
 use Rattle.language.specs.Edges.{edge, edge_as_written}
 use Rattle.language.specs.Expressions.{arguments, has_optional}
 use Rattle.language.specs.Continuations.{operation, rank_made_by, stops_at, stops}
-use Rattle.language.specs.Promises.{IsDetermined, ReadBy, Stops, Absent, AbsentWithin}
+use Rattle.language.specs.Promises.{IsDetermined, ReadBy, Stops}
 use Rattle.language.specs.Grammar.{ways, spellings}
 use Rattle.language.specs.Derivation.{Spells, Runs, step, token, Placed, placed}
 use Rattle.language.proofs.climbing.Spine.{Grows, grow, grows_on_spine}
@@ -38,7 +38,7 @@ use Rattle.language.proofs.table.Reaches.{linked_base}
 use Rattle.language.proofs.climbing.NoContinuation.{Ended, stops_none, no_in, no_spine, goes_where_not}
 use Rattle.language.proofs.table.RightEdges.{takes_less}
 use Rattle.language.proofs.table.OperatorTokens.{reads_dot, reads_index, reads_call, reads_chain}
-use Rattle.language.proofs.climbing.OperatorLoop.{goes_on, grows_height, Leads, Climbing}
+use Rattle.language.proofs.climbing.OperatorLoop.{goes_on, Leads, Climbing}
 use Rattle.language.proofs.climbing.Suffixes.{computed_flags, argument_pieces, arguments_fixed}
 use Rattle.language.proofs.climbing.BinaryTurns.{same_node, same_places, replaced, retold, regrown}
 
@@ -85,12 +85,6 @@ symbol_no_in t i select_symbol h = no_in t i h (λ e. cc) (λ e. cc)
 symbol_no_in t i index_symbol h = no_in t i h (λ e. cc) (λ e. cc)
 symbol_no_in t i call_symbol h = no_in t i h (λ e. cc) (λ e. cc)
 symbol_no_in t i chain_symbol h = no_in t i h (λ e. cc) (λ e. cc)
-
-not_none : {z : Operator} {c : Rank} → LinkSymbol z c → z ≡ op_none → ⊥
-not_none select_symbol e = cc
-not_none index_symbol e = cc
-not_none call_symbol e = cc
-not_none chain_symbol e = cc
 
 rank_is : {y z : Rank} {i j : Bool} {f g : Start} → expr y i f ≡ expr z j g → y ≡ z
 rank_is e = cc
@@ -373,18 +367,6 @@ module _ (S : Type 0) (Next : S → Token → S → Type 0) (behind : S → Toke
             leads = λ o' e' n' P' d stopped. spine_leads found places (base_on stopped (climb.leads o' e' n' P' d stopped));
           }
 
-      -- nothing behind `?.`
-      pub chain_first_absent : {o : ℕ} {c : Rank} {Q : List Pair} → Climbing S Next behind det o y i f c s0 m mid Q → AbsentLink op_optional x → Absent S Next behind y i f s0
-      chain_first_absent climb missed = record { nothing = λ o' e' n' P' d stopped. (let w = base_on stopped (climb.leads o' e' n' P' d stopped) in missed.nothing o' w.K w.G w.pieces w.ps w.to w.more w.link w.runs) }
-
-      -- nothing within the limits
-      pub chain_first_deep : {o hi : ℕ} {c : Rank} {Q : List Pair} → Climbing S Next behind det o y i f c s0 m mid Q → AbsentLinkWithin o (hi - 1) op_optional x → AbsentWithin S Next behind o hi y i f s0
-      chain_first_deep {o} climb missed = record {
-        nothing = λ e' n' P' d stopped le. let w = base_on stopped (climb.leads o e' n' P' d stopped) in
-            let low = grows_height S Next behind det w.grows in
-            missed.nothing w.K w.G w.pieces w.ps w.to w.more w.link w.runs (omega arith);
-      }
-
     -- a further part of a chain
     module _ {z : Operator} {c : Rank} (is_link : LinkSymbol z c) (is_op : operation t ≡ z) where
       part_on : {o o' : ℕ} {n : Tree} {e : S} {P Q : List Pair} → Chaining o y i f s0 m mid Q → Spells ways S Next behind o' (expr y i f) n s0 e P → Stops S Next behind y i n e → LinkOn o' s0 y i f n e P m x Q z
@@ -398,18 +380,6 @@ module _ (S : Type 0) (Next : S → Token → S → Type 0) (behind : S → Toke
         in_chain = link_chained m ps st en found.link chain.in_chain;
         spelled = link_sound found.link chain.in_chain r.next is_op chain.spelled found.runs places;
         leads = λ o' e' n' P' d stopped. spine_leads found places (part_on chain d stopped);
-      }
-
-      -- nothing behind its token
-      pub chain_absent : {o : ℕ} {Q : List Pair} → Chaining o y i f s0 m mid Q → AbsentLink z x → Absent S Next behind y i f s0
-      chain_absent chain missed = record { nothing = λ o' e' n' P' d stopped. (let w = part_on chain d stopped in missed.nothing o' w.K w.G w.pieces w.ps w.to w.more w.link w.runs) }
-
-      -- nothing within the limits
-      pub chain_deep : {o hi : ℕ} {Q : List Pair} → Chaining o y i f s0 m mid Q → AbsentLinkWithin o (hi - 1) z x → AbsentWithin S Next behind o hi y i f s0
-      chain_deep chain missed = record {
-        nothing = λ e' n' P' d stopped le. let w = part_on chain d stopped in
-            let low = grows_height S Next behind det w.grows in
-            missed.nothing w.K w.G w.pieces w.ps w.to w.more w.link w.runs (omega arith);
       }
 
   -- How a spine goes on from a part of a chain: by a token with which a chain goes on; or the chain ends there.

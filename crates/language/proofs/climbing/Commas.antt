@@ -1,9 +1,7 @@
 -- The loop over the commas of a sequence, behind its first expression.
-use Rattle.std.proofs.Common.{◌≡◌, ℕ, suc, ◌-◌, ◌≤◌, Bool, true, false, cond, List, [], ◌++◌, refl, sym, ap, ◌∙◌, subst, arith, append_assoc}
-use Rattle.std.specs.Prelude.{IsTrue, Some, max, not, ◌&&◌, ◌||◌}
+use Rattle.std.proofs.Common.{◌≡◌, ℕ, ◌≤◌, Bool, true, false, cond, List, [], ◌++◌, refl, sym, ap, ◌∙◌, subst, arith}
+use Rattle.std.specs.Prelude.{IsTrue, Some, not, ◌&&◌, ◌||◌}
 use Rattle.std.proofs.lemmas.Bool.{false≢true}
-use Rattle.std.proofs.lemmas.List.{append-nil}
-use Rattle.tokens.specs.declared.token.TokenClass.TheVariants.{Punctuator}
 use Rattle.tokens.specs.declared.token.Goal.TheVariants.{Div}
 use Rattle.tree.specs.declared.kind.Kind.{Kind}
 use Rattle.tree.specs.declared.kind.Kind.TheVariants.{SequenceExpression}
@@ -15,10 +13,9 @@ use Rattle.language.specs.declared.Edge.{Edge}
 use Rattle.language.specs.declared.Edge.TheVariants.{Arrow, Postfix, Other, Closed}
 use Rattle.tree.specs.declared.kind.Flags.{Flags}
 use Rattle.tree.specs.declared.kind.Pair.{Pair}
-use Rattle.tree.specs.Tree.{Tree, node, Parts, none, part, gap, height, parts_height, bare, bare_parts, plain, push, join}
+use Rattle.tree.specs.Tree.{Tree, node, Parts, none, part, gap, bare, bare_parts, plain, join}
 use Rattle.tree.specs.Uses.{used_flags, has_text}
 use Rattle.tree.proofs.Lean.{lean_flags, lean_text}
-use Rattle.tree.proofs.Shapes.{join-none, join-push, parts_height-join}
 use Rattle.language.specs.FirstPart.{others}
 use Rattle.language.specs.Vocabulary.{is, takes, precedence, Operator, op_comma}
 use Rattle.language.specs.Pieces.{Role, expr, chain_part, PieceOf, is_none, is_tight}
@@ -26,9 +23,9 @@ use Rattle.language.specs.Token.{Token}
 use Rattle.language.specs.Edges.{edge, last_edge, edge_as_written}
 use Rattle.language.specs.Expressions.{sequence}
 use Rattle.language.specs.Continuations.{operation, rank_made_by, holds, stops_at, stops}
-use Rattle.language.specs.Promises.{IsDetermined, ReadBy, Stops, Found, Absent, AbsentWithin}
+use Rattle.language.specs.Promises.{IsDetermined, ReadBy, Stops}
 use Rattle.language.specs.Grammar.{ways, spellings}
-use Rattle.language.specs.Derivation.{Spells, Runs, done, step, within, token, laid, Placed}
+use Rattle.language.specs.Derivation.{Spells, Runs, done, Placed}
 use Rattle.language.proofs.climbing.Spine.{Grows, whole, grow, grows_on_spine}
 use Rattle.language.proofs.table.ViewIsComplete.{way_of, made}
 use Rattle.language.proofs.table.OperatorFacts.{binding}
@@ -36,11 +33,8 @@ use Rattle.language.proofs.table.Begins.{goes_to, retell}
 use Rattle.language.proofs.table.LeftRecursiveWays.{Led, led_binary, led_power, led_assign, led_postfix, led_sequence, led_conditional, led_dot, led_index, led_call, led_tag, led_chain, led_of, linked_of}
 use Rattle.language.proofs.table.Reaches.{reaches, linked_base}
 use Rattle.language.proofs.table.RightEdges.{edged}
-use Rattle.language.proofs.climbing.OperatorNodes.{sequence_grows}
 use Rattle.language.proofs.climbing.RightOperands.{no_more_runs}
 use Rattle.language.proofs.list_loops.FirstPieces.{run_none, run_token, run_laid, run_never, run_the_part}
-use Rattle.language.proofs.climbing.SpineContinuations.{makes}
-use Rattle.tokens.specs.Goals.{allows}
 use Rattle.language.proofs.climbing.NoContinuation.{Ended, goes_where_not}
 use Rattle.language.proofs.table.Tails.{tails_sequence}
 use Rattle.language.proofs.climbing.OperatorLoop.{Climbing, led_on, stops_inside}
@@ -103,16 +97,6 @@ joined_edge (part n (gap qs)) u = joined_edge qs u
 -- the last part's edge, behind others
 pub last_edge_join : (qs : Parts) (u : Tree) (m : Tree) → last_edge (part m (join qs (part u none))) ≡ edge u
 last_edge_join qs u m = joined_edge (part m qs) u
-
-bare_some : (ps : Parts) → is_none (bare_parts ps) ≡ is_none ps
-bare_some none = refl
-bare_some (part n ps) = refl
-bare_some (gap ps) = refl
-
-push_some : (ps : Parts) (u : Tree) → is_none (push ps u) ≡ false
-push_some none u = refl
-push_some (part n ps) u = refl
-push_some (gap ps) u = refl
 
 module _ (S : Type 0) (Next : S → Token → S → Type 0) (behind : S → Token) (det : IsDetermined S Next behind) where
   -- what stands at Expression is led by nothing further
@@ -262,72 +246,3 @@ module _ (S : Type 0) (Next : S → Token → S → Type 0) (behind : S → Toke
                 (ap (λ c. edge_as_written c (behind e)) (ap edge tree ∙ last_edge_join qs u m)) v.stopped whole)
             item_stops (gap ps) u d tree = absurd (run_never S Next behind d)
             item_stops (part l ps) u d tree = stops_before S Next behind det Assignment i u (run_token S Next behind d).reads refl refl (λ c b. refl)
-
-    -- no expression behind the comma
-    pub seq_absent : {o : ℕ} {mid : S} → Sequencing o i f s0 m mid Q qs k R → Absent S Next behind Assignment i Any x → Absent S Next behind Expression i f s0
-    seq_absent seq missed = record { nothing = λ o' e' n' P' d st. (let w = comma_on (seq.leads o' e' n' P' d st) in missed.nothing o' w.to w.item w.one w.spelled w.stopped) }
-
-    -- none within the limits
-    pub seq_deep : {o hi : ℕ} {mid : S} → Sequencing o i f s0 m mid Q qs k R → AbsentWithin S Next behind o (hi - 1) Assignment i Any x → AbsentWithin S Next behind o hi Expression i f s0
-    seq_deep {o} seq missed = record {
-      nothing = λ e' n' P' d st le. let w = comma_on (seq.leads o e' n' P' d st) in
-          let all : height n' ≡ suc (max (height m) (parts_height (join qs (part w.item w.rest)))) = ap height w.tree in
-          let inner = parts_height-join qs (part w.item w.rest) in
-          missed.nothing w.to w.item w.one w.spelled w.stopped (omega arith);
-    }
-
-    -- one more part
-    pub seq_more : {o : ℕ} {mid : S} {u : Tree} {to : S} {U : List Pair} → Sequencing o i f s0 m mid Q qs k R → Found S Next behind o Assignment i Any x to u U → Sequencing o i f s0 m mid Q (push qs u) to (R ++ U)
-    seq_more {o} {mid} {u} {to} {U} seq found = record {
-      head = seq.head;
-      runs = snoc mid qs seq.runs;
-      leads = λ o' e' n' P' d st.
-          let w = comma_on (seq.leads o' e' n' P' d st) in
-          let same = found.only o' w.to w.item w.one w.spelled w.stopped in
-          record {
-            st = w.st;
-            en = w.en;
-            rest = w.rest;
-            pairs = w.more;
-            runs = subst (λ c. Runs ways S Next behind o' (comma_pieces i f w.rest) w.rest c e' w.more) same.0 w.runs;
-            tree = w.tree ∙ ap (λ v. node SequenceExpression [] plain w.st w.en (part m v)) (ap (λ v. join qs (part v w.rest)) same.1 ∙ sym (join-push qs w.rest u));
-            all = w.all ∙ ap (λ v. Q ++ (R ++ (v ++ w.more))) same.2 ∙ ap (λ v. Q ++ v) (sym (append_assoc R U w.more));
-            places = (seq.leads o' e' n' P' d st).places;
-            spelled = d;
-            stopped = st;
-          };
-    }
-      where
-        item : Runs ways S Next behind o (comma_pieces i f (part u none)) (part u none) k to U
-        item = subst (λ v. Runs ways S Next behind o (comma_pieces i f (part u none)) (part u none) k to v) (append-nil U) (step (token (reads_comma S Next behind r.next op)) (step laid (within found.spelled done)))
-
-        snoc : (a : S) {W : List Pair} (ps : Parts) → Runs ways S Next behind o (comma_pieces i f ps) ps a k W → Runs ways S Next behind o (comma_pieces i f (push ps u)) (push ps u) a to (W ++ U)
-        snoc a none d =
-            let end = run_none S Next behind d in
-            subst (λ v. Runs ways S Next behind o (comma_pieces i f (part u none)) (part u none) a to (v ++ U)) (sym end.pairs) (subst (λ v. Runs ways S Next behind o (comma_pieces i f (part u none)) (part u none) v to U) (sym end.place) item)
-        snoc a (gap ps) d = absurd (run_never S Next behind d)
-        snoc a (part l ps) d =
-            let comma = run_token S Next behind d in
-            let v = run_the_part S Next behind (run_laid S Next behind comma.runs) in
-            subst (λ c. Runs ways S Next behind o (comma_pieces i f (part l (push ps u))) (part l (push ps u)) a to c) (sym (append_assoc v.one v.more U) ∙ ap (λ c. c ++ U) (sym v.pairs)) (step (token comma.reads) (step laid (within v.spelled (snoc v.mid ps v.runs))))
-
-  -- where nothing goes on behind the last part, the sequence is found
-  pub seq_stop : {o : ℕ} {i : Bool} {f : Start} {s0 mid k : S} {m : Tree} {Q R : List Pair} {qs : Parts} {st en : ℕ} → Sequencing o i f s0 m mid Q qs k R → is_none qs ≡ false →
-      Placed S Next behind (expr Expression i f) (node SequenceExpression [] plain st en (part m qs)) s0 k → Stops S Next behind Expression i (node SequenceExpression [] plain st en (part m qs)) k →
-      Found S Next behind o Expression i f s0 k (node SequenceExpression [] plain st en (part m qs)) (Q ++ R)
-  seq_stop {o} {i} {f} {s0} {mid} {k} {m} {Q} {R} {qs} {st} {en} seq some places stopped =
-      let spelled : Spells ways S Next behind o (expr Expression i f) (node SequenceExpression [] plain st en (part m qs)) s0 k (Q ++ R) = sequence_grows S Next behind some refl seq.head seq.runs places in
-      record { spelled = spelled; stopped = stopped; only = λ o' e' n' P' d st'. (let v = seq.leads o' e' n' P' d st' in of spelled v.rest v.runs v.tree v.all v.places) }
-    where
-      of : {o' : ℕ} {n' : Tree} {e' : S} {P' W : List Pair} {st' en' : ℕ} → Spells ways S Next behind o (expr Expression i f) (node SequenceExpression [] plain st en (part m qs)) s0 k (Q ++ R) → (rest : Parts) → Runs ways S Next behind o' (comma_pieces i f rest) rest k e' W →
-          n' ≡ node SequenceExpression [] plain st' en' (part m (join qs rest)) → P' ≡ Q ++ (R ++ W) → Placed S Next behind (expr Expression i f) n' s0 e' → (e' ≡ k) × (n' ≡ node SequenceExpression [] plain st en (part m qs)) × (P' ≡ Q ++ R)
-      of {e' = e'} sp none d tree all places' =
-          let end = run_none S Next behind d in
-          let where_is = same_places S Next behind det (subst (λ c. Placed S Next behind (expr Expression i f) c s0 e') tree places') places (sym end.place) in
-          (sym end.place, tree ∙ same_node refl refl refl where_is.0 where_is.1 (ap (part m) (join-none qs)), all ∙ ap (λ v. Q ++ (R ++ v)) end.pairs ∙ ap (λ v. Q ++ v) (append-nil R))
-      of sp (gap ps) d tree all places' = absurd (run_never S Next behind d)
-      of sp (part u ps) d tree all places' =
-          let comma = run_token S Next behind d in
-          let t = comma.sign in
-          let al : IsTrue (allows Div t.class t.text) = subst (λ v. IsTrue (allows Div v t.text)) (sym comma.reads.class) (subst (λ v. IsTrue (allows Div Punctuator v)) (sym comma.reads.text) refl) in
-          absurd (comma_goes sp stopped (record { next = comma.reads.next; allowed = al }) (makes t comma.reads.class comma.reads.text refl))

@@ -1,7 +1,6 @@
 -- A turn of the loop at the `?` of a conditional.
-use Rattle.std.proofs.Common.{◌≡◌, ℕ, ◌-◌, Bool, true, false, List, [], ◌∷◌, ◌++◌, refl, sym, ap, ◌∙◌, subst, arith}
+use Rattle.std.proofs.Common.{◌≡◌, ℕ, Bool, true, false, List, [], ◌∷◌, ◌++◌, refl, sym, ap, ◌∙◌, subst}
 use Rattle.std.specs.Prelude.{IsTrue, Some, codes}
-use Rattle.std.proofs.lemmas.Bool.{false≢true}
 use Rattle.tokens.specs.declared.token.TokenClass.{TokenClass}
 use Rattle.tokens.specs.declared.token.TokenClass.TheVariants.{Punctuator}
 use Rattle.tokens.specs.declared.token.Goal.TheVariants.{Div}
@@ -23,7 +22,7 @@ use Rattle.language.specs.Pieces.{Role, expr, PieceOf, lay, tok, sub, space}
 use Rattle.language.specs.Token.{Token}
 use Rattle.language.specs.Edges.{edge}
 use Rattle.language.specs.Continuations.{of_class, operation, rank_made_by, stops_at, stops}
-use Rattle.language.specs.Promises.{IsDetermined, ReadBy, Stops, Found, Absent, AbsentWithin}
+use Rattle.language.specs.Promises.{IsDetermined, ReadBy, Stops, Found}
 use Rattle.language.specs.Grammar.{ways}
 use Rattle.language.specs.Derivation.{Reads, Spells, Placed}
 use Rattle.language.proofs.climbing.Spine.{Grows}
@@ -36,7 +35,7 @@ use Rattle.language.proofs.climbing.OperatorNodes.{conditional_grows}
 use Rattle.language.proofs.table.Reaches.{loose_of, reaches}
 use Rattle.language.proofs.climbing.NoContinuation.{goes_where_not}
 use Rattle.language.proofs.table.Tails.{tails_conditional}
-use Rattle.language.proofs.climbing.OperatorLoop.{goes_on, grows_height, Leads, Climbing, led_on, stops_inside}
+use Rattle.language.proofs.climbing.OperatorLoop.{goes_on, Leads, Climbing, led_on, stops_inside}
 use Rattle.language.proofs.climbing.BinaryTurns.{same_node, replaced, same_places, retold, regrown}
 
 rank_is : {y z : Rank} {i j : Bool} {f g : Start} → expr y i f ≡ expr z j g → y ≡ z
@@ -143,31 +142,7 @@ module _ (S : Type 0) (Next : S → Token → S → Type 0) (behind : S → Toke
     other_stops : {o : ℕ} {f : Start} {n : Tree} {e : S} {P Q : List Pair} {c : Rank} → (precedence y ≡ 2 → ⊥) → Stops S Next behind y i n e → (w : AskOn o s0 y i f n e P m x Q c) → Stops S Next behind Assignment i w.alternate w.to
     other_stops is_no st w = stops_inside S Next behind det Conditional Assignment i w.alternate tails_conditional (λ k l. is_no k) w.stands (λ k. refl) refl st w.grows
 
-    -- what stands before `?` can't be a test
-    pub climb_ask_unfit : {o : ℕ} {f : Start} {c : Rank} {Q : List Pair} → Climbing S Next behind det o y i f c s0 m mid Q → takes ShortCircuit c ≡ false → Absent S Next behind y i f s0
-    climb_ask_unfit climb no_fit = record { nothing = λ o' e' n' P' d stopped. (let w = ask_on stopped (climb.leads o' e' n' P' d stopped) in false≢true (sym no_fit ∙ w.fits)) }
-
-    -- nothing behind `?`
-    pub climb_ask_absent : {o : ℕ} {f : Start} {c : Rank} {Q : List Pair} → Climbing S Next behind det o y i f c s0 m mid Q → Absent S Next behind Assignment true Any x → Absent S Next behind y i f s0
-    climb_ask_absent climb missed = record { nothing = λ o' e' n' P' d stopped. (let w = ask_on stopped (climb.leads o' e' n' P' d stopped) in missed.nothing o' w.place w.consequent w.first_pairs w.one w.one_stops) }
-
-    -- nothing behind `?` within the limits
-    pub climb_ask_deep : {o hi : ℕ} {f : Start} {c : Rank} {Q : List Pair} → Climbing S Next behind det o y i f c s0 m mid Q → AbsentWithin S Next behind o (hi - 1) Assignment true Any x → AbsentWithin S Next behind o hi y i f s0
-    climb_ask_deep {o} climb missed = record {
-      nothing = λ e' n' P' d stopped le. let w = ask_on stopped (climb.leads o e' n' P' d stopped) in
-          let low = grows_height S Next behind det w.grows in
-          missed.nothing w.place w.consequent w.first_pairs w.one w.one_stops (omega arith);
-    }
-
     module _ {o1 : ℕ} {u : Tree} {e1 : S} {U : List Pair} (found : Found S Next behind o1 Assignment true Any x e1 u U) where
-      -- no `:` behind that
-      pub climb_colon_absent : {o : ℕ} {f : Start} {c : Rank} {Q : List Pair} → Climbing S Next behind det o y i f c s0 m mid Q → ((v : Token) (k : S) → Reads S Next behind Punctuator (codes ":") e1 v k → ⊥) → Absent S Next behind y i f s0
-      climb_colon_absent climb no_colon = record {
-        nothing = λ o' e' n' P' d stopped. let w = ask_on stopped (climb.leads o' e' n' P' d stopped) in
-            let same = found.only o' w.place w.consequent w.first_pairs w.one w.one_stops in
-            no_colon w.colon w.next_place (subst (λ k. Reads S Next behind Punctuator (codes ":") k w.colon w.next_place) same.0 w.divides);
-      }
-
       module _ {colon : Token} {x2 : S} (divides : Reads S Next behind Punctuator (codes ":") e1 colon x2) where
         -- what stands behind `:` in a derivation does so behind this one
         pub record Past (o : ℕ) (f : Start) (n : Tree) (e : S) (P : List Pair) (Q : List Pair) (c : Rank) (w : AskOn o s0 y i f n e P m x Q c) : Type 0 where
@@ -182,20 +157,6 @@ module _ (S : Type 0) (Next : S → Token → S → Type 0) (behind : S → Toke
             let same = found.only o w.place w.consequent w.first_pairs w.one w.one_stops in
             let sign = same_sign (subst (λ k. Reads S Next behind Punctuator (codes ":") k w.colon w.next_place) same.0 w.divides) divides refl in
             record { place = same.0; tree = same.1; pairs = same.2; other = subst (λ k. Spells ways S Next behind o (expr Assignment i Any) w.alternate k w.to w.more_pairs) sign.1 w.other }
-
-        -- nothing behind `:`
-        pub climb_other_absent : {o : ℕ} {f : Start} {c : Rank} {Q : List Pair} → (precedence y ≡ 2 → ⊥) → Climbing S Next behind det o y i f c s0 m mid Q → Absent S Next behind Assignment i Any x2 → Absent S Next behind y i f s0
-        climb_other_absent is_no climb missed = record {
-          nothing = λ o' e' n' P' d stopped. let w = ask_on stopped (climb.leads o' e' n' P' d stopped) in missed.nothing o' w.to w.alternate w.more_pairs (past w).other (other_stops is_no stopped w);
-        }
-
-        -- nothing behind `:` within the limits
-        pub climb_other_deep : {o hi : ℕ} {f : Start} {c : Rank} {Q : List Pair} → (precedence y ≡ 2 → ⊥) → Climbing S Next behind det o y i f c s0 m mid Q → AbsentWithin S Next behind o (hi - 1) Assignment i Any x2 → AbsentWithin S Next behind o hi y i f s0
-        climb_other_deep {o} is_no climb missed = record {
-          nothing = λ e' n' P' d stopped le. let w = ask_on stopped (climb.leads o e' n' P' d stopped) in
-              let low = grows_height S Next behind det w.grows in
-              missed.nothing w.to w.alternate w.more_pairs (past w).other (other_stops is_no stopped w) (omega arith);
-        }
 
         -- the conditional
         pub climb_conditional : {f : Start} {c : Rank} {Q : List Pair} {v : Tree} {to : S} {V : List Pair} {st en : ℕ} → (precedence y ≡ 2 → ⊥) → Climbing S Next behind det o1 y i f c s0 m mid Q → IsTrue (takes ShortCircuit c) →

@@ -1,5 +1,5 @@
 -- Before the first turn of the loop: the leftmost part of all derivations at a position.
-use Rattle.std.proofs.Common.{◌≡◌, ℕ, ◌≤◌, Bool, true, List, refl, sym, ap, ◌∙◌, subst, arith}
+use Rattle.std.proofs.Common.{◌≡◌, ℕ, Bool, true, List, refl, sym, ap, ◌∙◌, subst}
 use Rattle.std.specs.Prelude.{IsTrue}
 use Rattle.std.proofs.lemmas.Bool.{false≢true}
 use Rattle.tree.specs.declared.kind.Kind.{Kind}
@@ -8,12 +8,12 @@ use Rattle.language.specs.declared.Rank.TheVariants.{Relational}
 use Rattle.language.specs.declared.Start.{Start}
 use Rattle.tree.specs.declared.kind.Flags.{Flags}
 use Rattle.tree.specs.declared.kind.Pair.{Pair}
-use Rattle.tree.specs.Tree.{Tree, node, Parts, height}
+use Rattle.tree.specs.Tree.{Tree, node, Parts}
 use Rattle.language.specs.Vocabulary.{takes, precedence, Operator}
 use Rattle.language.specs.Pieces.{Role, expr, chain_part, PieceOf}
 use Rattle.language.specs.Token.{Token}
 use Rattle.language.specs.Edges.{edge, edge_as_written}
-use Rattle.language.specs.Promises.{IsDetermined, Stops, Absent, AbsentWithin}
+use Rattle.language.specs.Promises.{IsDetermined, Stops, Absent}
 use Rattle.language.specs.Grammar.{ways, spellings, own_start}
 use Rattle.language.specs.Derivation.{Spells, direct, grouped, Runs}
 use Rattle.language.proofs.climbing.Spine.{Core, group, plain, Grows, whole, grow, on_spine, grows_on_spine, spine_of}
@@ -22,7 +22,7 @@ use Rattle.language.proofs.table.LeftRecursiveWays.{Led, led_binary, led_power, 
 use Rattle.language.proofs.climbing.LeftmostParts.{no_spine_core}
 use Rattle.language.proofs.table.Reaches.{is_loose, Reaches, reaches}
 use Rattle.language.proofs.table.Tails.{Tails}
-use Rattle.language.proofs.climbing.OperatorLoop.{grows_height, Climbing, stops_inside}
+use Rattle.language.proofs.climbing.OperatorLoop.{Climbing, stops_inside}
 
 -- the head of a way keeps the start of its node
 led_start : {y : Rank} {i : Bool} {f : Start} {k : Kind} {w : List ℕ} {g : Flags} {ps : Parts} {b : Role} {rest : List (PieceOf Role)} {x : Operator} → Led y i f k w g ps b rest x → own_start b ≡ f
@@ -128,10 +128,6 @@ module _ (S : Type 0) (Next : S → Token → S → Type 0) (behind : S → Toke
     -- no leftmost part
     pub start_absent : ((o' : ℕ) (n : Tree) (e : S) (P : List Pair) (h : Rank) (j : Bool) (m : Tree) (mid : S) (Q : List Pair) → Begun o' s0 y i f n e P h j m mid Q → ⊥) → Absent S Next behind y i f s0
     start_absent missed = record { nothing = λ o' e' n' P' d st. (let u = begins d st in missed o' n' e' P' u.h u.j u.m u.mid u.Q u.begun) }
-
-    -- none within the limits
-    pub start_deep : {o hi : ℕ} → ((n : Tree) (e : S) (P : List Pair) (h : Rank) (j : Bool) (m : Tree) (mid : S) (Q : List Pair) → Begun o s0 y i f n e P h j m mid Q → height m ≤ hi → ⊥) → AbsentWithin S Next behind o hi y i f s0
-    start_deep missed = record { nothing = λ e' n' P' d st le. (let u = begins d st in let low = grows_height S Next behind det u.begun.grows in missed n' e' P' u.h u.j u.m u.mid u.Q u.begun (omega arith)) }
 
   -- nothing goes on behind the last part of a leftmost part either
   pub begun_stops : {o : ℕ} {s0 e : S} {y : Rank} {i : Bool} {f : Start} {n : Tree} {P : List Pair} {h : Rank} {j : Bool} {m : Tree} {mid : S} {Q : List Pair} (z q : Rank) (i' : Bool) (u : Tree) → Tails z q →

@@ -1,5 +1,5 @@
 -- A leftmost part that begins with `(`: a group, or an arrow with its parameters in parentheses.
-use Rattle.std.proofs.Common.{◌≡◌, ℕ, suc, ◌-◌, ◌≤◌, Bool, true, false, cond, List, [], ◌∷◌, ◌++◌, refl, sym, ap, ◌∙◌, subst, arith}
+use Rattle.std.proofs.Common.{◌≡◌, ℕ, suc, Bool, true, false, cond, List, [], ◌∷◌, ◌++◌, refl, sym, ap, ◌∙◌, subst, arith}
 use Rattle.std.specs.Prelude.{IsTrue, codes}
 use Rattle.tokens.specs.declared.token.TokenClass.TheVariants.{Punctuator}
 use Rattle.tokens.specs.declared.token.Goal.{Goal}
@@ -14,10 +14,9 @@ use Rattle.language.specs.declared.Edge.{Edge}
 use Rattle.language.specs.declared.Edge.TheVariants.{Arrow, Postfix, Other, Closed}
 use Rattle.tree.specs.declared.kind.Flags.{Flags}
 use Rattle.tree.specs.declared.kind.Pair.{Pair}
-use Rattle.tree.specs.Tree.{Tree, node, Parts, none, part, gap, height, parts_height, bare, bare_parts, join}
+use Rattle.tree.specs.Tree.{Tree, node, Parts, none, part, gap, bare, bare_parts, join}
 use Rattle.tree.specs.Uses.{is_lean, used_flags, has_text}
 use Rattle.tree.proofs.Lean.{lean_flags, lean_text}
-use Rattle.tree.proofs.Shapes.{parts_height-join}
 use Rattle.language.specs.Vocabulary.{is, takes, op_arrow}
 use Rattle.language.specs.Pieces.{Role, expr, body, PieceOf, Piece, sub, tail, put, at, open_parameters, close_parameters, parameters}
 use Rattle.language.specs.Token.{Token}
@@ -25,7 +24,7 @@ use Rattle.language.specs.Edges.{edge, last_edge, edge_as_written}
 use Rattle.language.specs.Expressions.{arrow_end}
 use Rattle.language.specs.Continuations.{rank_made_by}
 use Rattle.language.specs.ExpressionStart.{with_parenthesis}
-use Rattle.language.specs.Promises.{IsDetermined, ReadBy, Stops, Found, Absent, AbsentWithin, AbsentAt, AbsentAtWithin, FoundParts, AbsentParts, AbsentPartsWithin}
+use Rattle.language.specs.Promises.{IsDetermined, ReadBy, Stops, Found, FoundParts}
 use Rattle.language.specs.Grammar.{ways, starts}
 use Rattle.language.specs.Derivation.{pair_of, Reads, Spells, grouped, Runs, step, opened, closed, token, laid, same_line, Placed}
 use Rattle.language.specs.NodeForms.{arrow}
@@ -44,7 +43,7 @@ use Rattle.language.proofs.climbing.Commas.{last_edge_join}
 use Rattle.language.proofs.climbing.BinaryTurns.{same_node, replaced, same_places}
 use Rattle.language.proofs.climbing.OperatorLoop.{Climbing}
 use Rattle.language.proofs.climbing.Conditionals.{stops_before, same_sign}
-use Rattle.language.proofs.climbing.FirstTurn.{Begun, climb_start, start_absent, start_deep, begun_stops}
+use Rattle.language.proofs.climbing.FirstTurn.{Begun, climb_start, begun_stops}
 use Rattle.language.proofs.list_loops.ParameterLists.{parameter_list, Closer, parameters_split, parameters_join}
 use Rattle.language.proofs.climbing.Arrows.{arrow_flags, ArrowBody, as_expression, as_block}
 use Rattle.language.proofs.climbing.Targets.{led_behind, PartsEndAt}
@@ -76,12 +75,6 @@ takes_group Member = refl
 takes_group Primary = refl
 takes_group Grouped = refl
 
-same_less : {a b : ℕ} → suc a ≡ suc b → a ≡ b
-same_less e = omega arith
-
-none_less : {a : ℕ} → ◌≡◌ {A = ℕ} 0 (suc a) → ⊥
-none_less e = omega arith
-
 arrow_lean : (b : Bool) (st en : ℕ) (ps : Parts) → is_lean (bare (node ArrowFunctionExpression [] (arrow_flags b) st en ps)) ≡ true
 arrow_lean true st en ps = refl
 arrow_lean false st en ps = refl
@@ -95,31 +88,14 @@ starts_parameters Any qs = refl
 starts_parameters NoBrace qs = refl
 starts_parameters Statement qs = refl
 
-bare_join : (ps qs : Parts) → bare_parts (join ps qs) ≡ join (bare_parts ps) (bare_parts qs)
-bare_join none qs = refl
-bare_join (part n ps) qs = ap (part (bare n)) (bare_join ps qs)
-bare_join (gap ps) qs = ap gap (bare_join ps qs)
-
 module _ (S : Type 0) (Next : S → Token → S → Type 0) (behind : S → Token) where
   -- no parameters here have `=>` behind them on their line; none within the limits
   abbrev pub Unarrowed : S → Type 0
   Unarrowed x = (o' : ℕ) (e' : S) (ps' : Parts) (P' : List Pair) (v : Token) (k : S) → Runs ways S Next behind o' (parameter_list ps') ps' x e' P' → Reads S Next behind Punctuator (codes "=>") e' v k → v.after_break ≡ false → ⊥
 
-  abbrev pub UnarrowedWithin : ℕ → ℕ → S → Type 0
-  UnarrowedWithin o hi x = (e' : S) (ps' : Parts) (P' : List Pair) (v : Token) (k : S) → Runs ways S Next behind o (parameter_list ps') ps' x e' P' → Reads S Next behind Punctuator (codes "=>") e' v k → v.after_break ≡ false → parts_height ps' ≤ hi → ⊥
-
   -- by the place where they end, and by their absence
   pub unarrowed_end : {x e : S} → PartsEndAt S Next behind parameter_list x e → ((v : Token) (k : S) → Reads S Next behind Punctuator (codes "=>") e v k → v.after_break ≡ false → ⊥) → Unarrowed x
   unarrowed_end ends no_sign o' e' ps' P' v k d h line = no_sign v k (subst (λ c. Reads S Next behind Punctuator (codes "=>") c v k) (ends o' e' ps' P' d) h) line
-
-  pub unarrowed_absent : {x : S} → AbsentParts S Next behind parameter_list x → Unarrowed x
-  unarrowed_absent missed o' e' ps' P' v k d h line = missed.nothing o' e' ps' P' d
-
-  pub unarrowed_within : {o hi : ℕ} {x : S} → AbsentPartsWithin S Next behind o hi parameter_list x → UnarrowedWithin o hi x
-  unarrowed_within missed e' ps' P' v k d h line low = missed.nothing e' ps' P' d low
-
-  pub unarrowed_any : {o hi : ℕ} {x : S} → Unarrowed x → UnarrowedWithin o hi x
-  unarrowed_any {o} none_there e' ps' P' v k d h line low = none_there o e' ps' P' v k d h line
 
   -- whatever parentheses group here ends at one place
   abbrev pub GroupEnds : S → S → Type 0
@@ -133,15 +109,6 @@ module _ (S : Type 0) (Next : S → Token → S → Type 0) (behind : S → Toke
   -- nothing goes on before the closing parenthesis
   group_stops : (m : Tree) {place mid : S} {right : Token} → Reads S Next behind Punctuator (codes ")") place right mid → Stops S Next behind Expression true m place
   group_stops m closes = stops_before S Next behind det Expression true m closes refl refl (λ k u. refl)
-
-  -- by what is found in the parentheses; and where nothing is
-  pub group_ends_found : {o : ℕ} {x e1 mid : S} {u : Tree} {U : List Pair} {right : Token} → Found S Next behind o Expression true Any x e1 u U → Reads S Next behind Punctuator (codes ")") e1 right mid → GroupEnds S Next behind x mid
-  group_ends_found found closes o' e' n' P' v k d h =
-      let same = found.only o' e' n' P' d (group_stops n' h) in
-      (same_sign S Next behind det (subst (λ c. Reads S Next behind Punctuator (codes ")") c v k) same.0 h) closes refl).1
-
-  pub group_ends_absent : {x mid : S} → Absent S Next behind Expression true Any x → GroupEnds S Next behind x mid
-  group_ends_absent missed o' e' n' P' v k d h = absurd (missed.nothing o' e' n' P' d (group_stops n' h))
 
   -- the right edge of a group
   group_standing : {o : ℕ} {y : Rank} {i : Bool} {f : Start} {m : Tree} {x place mid : S} {P : List Pair} {right : Token} → Spells ways S Next behind o (expr y i f) m x place P → Reads S Next behind Punctuator (codes ")") place right mid → edge_as_written (edge m) (behind mid) ≡ Other
@@ -196,44 +163,7 @@ module _ (S : Type 0) (Next : S → Token → S → Type 0) (behind : S → Toke
     core_of : {o : ℕ} {y h : Rank} {i j : Bool} {n m : Tree} {e mid : S} {P Q : List Pair} → Begun S Next behind det o s0 y i f n e P h j m mid Q → ParenCore o h j f m s0 x mid Q t
     core_of b = paren_core opens_it (core_by S Next behind det (read_opening opens_it) (opens t opens_it.class opens_it.text refl) b.core)
 
-    -- nothing in the parentheses
-    pub start_group_absent : {y : Rank} {i : Bool} → Absent S Next behind Expression true Any x → (IsTrue (takes y Assignment) → Unarrowed S Next behind x) → Absent S Next behind y i f s0
-    start_group_absent {y} {i} missed unarrowed = start_absent S Next behind det (λ o n e P h j m mid Q b. of b (core_of b))
-      where
-        of : {o : ℕ} {n : Tree} {e : S} {P : List Pair} {h : Rank} {j : Bool} {m : Tree} {mid : S} {Q : List Pair} → Begun S Next behind det o s0 y i f n e P h j m mid Q → ParenCore o h j f m s0 x mid Q t → ⊥
-        of {m = m} b (as_group {less = less} {place = place} {inner = inner} o d closes q) = missed.nothing less place m inner d (group_stops m closes)
-        of b (as_arrow {less = less} {ps = ps} {place = place} {x2 = x2} {v = v} {R = R} o tree tk pl d eq line u q) = unarrowed (b.reached.taken Assignment tk) less place ps R v x2 d eq line
-
-    -- nothing within the limits
-    pub start_group_deep : {o hi : ℕ} {y : Rank} {i : Bool} → AbsentWithin S Next behind o hi Expression true Any x → (IsTrue (takes y Assignment) → UnarrowedWithin S Next behind o (hi - 1) x) → AbsentWithin S Next behind (suc o) hi y i f s0
-    start_group_deep {o} {hi} {y} {i} missed unarrowed = start_deep S Next behind det (λ n e P h j m mid Q b le. of b (core_of b) le)
-      where
-        of : {n : Tree} {e : S} {P : List Pair} {h : Rank} {j : Bool} {m : Tree} {mid : S} {Q : List Pair} → Begun S Next behind det (suc o) s0 y i f n e P h j m mid Q → ParenCore (suc o) h j f m s0 x mid Q t → height m ≤ hi → ⊥
-        of {m = m} b (as_group {less = less} {place = place} {inner = inner} more d closes q) le = missed.nothing place m inner (subst (λ k. Spells ways S Next behind k (expr Expression true Any) m x place inner) (sym (same_less more)) d) (group_stops m closes) le
-        of {m = m} b (as_arrow {less = less} {st = st} {en = en} {flag = flag} {ps = ps} {u = u'} {place = place} {x2 = x2} {v = v} {R = R} more tree tk pl d eq line u q) le =
-            let high : height m ≡ height (node ArrowFunctionExpression [] (arrow_flags flag) st en (join ps (part u' none))) = ap height tree in
-            let inner = parts_height-join ps (part u' none) in
-            unarrowed (b.reached.taken Assignment tk) place ps R v x2 (subst (λ k. Runs ways S Next behind k (parameter_list ps) ps x place R) (sym (same_less more)) d) eq line (omega arith)
-
-    -- no parenthesis may be opened
-    pub start_group_none : {hi : ℕ} {y : Rank} {i : Bool} → AbsentWithin S Next behind 0 hi y i f s0
-    start_group_none = start_deep S Next behind det (λ n e P h j m mid Q b le. of (core_of b))
-      where
-        of : {h : Rank} {j : Bool} {m : Tree} {mid : S} {Q : List Pair} → ParenCore 0 h j f m s0 x mid Q t → ⊥
-        of (as_group more d closes q) = none_less more
-        of (as_arrow more tree tk pl d eq line u q) = none_less more
-
     module _ {o : ℕ} {u : Tree} {e1 : S} {U : List Pair} (found : Found S Next behind o Expression true Any x e1 u U) where
-      -- no `)` behind it
-      pub start_group_open : {y : Rank} {i : Bool} → (IsTrue (takes y Assignment) → Unarrowed S Next behind x) → ((v : Token) (k : S) → Reads S Next behind Punctuator (codes ")") e1 v k → ⊥) → Absent S Next behind y i f s0
-      start_group_open {y} {i} unarrowed missing = start_absent S Next behind det (λ o' n e P h j m mid Q b. of b (core_of b))
-        where
-          of : {o' : ℕ} {n : Tree} {e : S} {P : List Pair} {h : Rank} {j : Bool} {m : Tree} {mid : S} {Q : List Pair} → Begun S Next behind det o' s0 y i f n e P h j m mid Q → ParenCore o' h j f m s0 x mid Q t → ⊥
-          of {m = m} {mid = mid} b (as_group {less = less} {right = right} {place = place} {inner = inner} more d closes q) =
-              let same = found.only less place m inner d (group_stops m closes) in
-              missing right mid (subst (λ k. Reads S Next behind Punctuator (codes ")") k right mid) same.0 closes)
-          of b (as_arrow {less = less} {ps = ps} {place = place} {x2 = x2} {v = v} {R = R} more tree tk pl d eq line u q) = unarrowed (b.reached.taken Assignment tk) less place ps R v x2 d eq line
-
       -- a group
       pub climb_group : {y : Rank} {i : Bool} {right : Token} {to : S} → (IsTrue (takes y Assignment) → Unarrowed S Next behind x) → Reads S Next behind Punctuator (codes ")") e1 right to → Climbing S Next behind det (suc o) y i f Grouped s0 u to (pair_of t right ∷ U)
       climb_group {y} {i} {right} {to} unarrowed closes = climb_start S Next behind det (takes_group y)
@@ -268,59 +198,6 @@ module _ (S : Type 0) (Next : S → Token → S → Type 0) (behind : S → Toke
 
       inside : {o : ℕ} {n : Tree} {e : S} {P : List Pair} {h : Rank} {j : Bool} {m : Tree} {mid' : S} {Q : List Pair} → Begun S Next behind det o s0 y i f n e P h j m mid' Q → IsTrue (takes h Assignment) → j ≡ i
       inside {h = h} b tk = (b.reached.same_in (loose_of h Assignment tk refl)).1
-
-      -- and no parameters
-      pub start_unarrowed : Unarrowed S Next behind x → Absent S Next behind y i f s0
-      start_unarrowed unarrowed = start_absent S Next behind det (λ o n e P h j m mid' Q b. of b (core_of b))
-        where
-          of : {o : ℕ} {n : Tree} {e : S} {P : List Pair} {h : Rank} {j : Bool} {m : Tree} {mid' : S} {Q : List Pair} → Begun S Next behind det o s0 y i f n e P h j m mid' Q → ParenCore o h j f m s0 x mid' Q t → ⊥
-          of b (as_group more d closes q) = no_group b d closes
-          of b (as_arrow {less = less} {ps = ps} {place = place} {x2 = x3} {v = v'} {R = R} more tree tk pl d eq' line' u q) = unarrowed less place ps R v' x3 d eq' line'
-
-      -- none within the limits
-      pub start_unarrowed_deep : {o hi : ℕ} → UnarrowedWithin S Next behind o (hi - 1) x → AbsentWithin S Next behind (suc o) hi y i f s0
-      start_unarrowed_deep {o} {hi} unarrowed = start_deep S Next behind det (λ n e P h j m mid' Q b le. of b (core_of b) le)
-        where
-          of : {n : Tree} {e : S} {P : List Pair} {h : Rank} {j : Bool} {m : Tree} {mid' : S} {Q : List Pair} → Begun S Next behind det (suc o) s0 y i f n e P h j m mid' Q → ParenCore (suc o) h j f m s0 x mid' Q t → height m ≤ hi → ⊥
-          of b (as_group more d closes q) le = no_group b d closes
-          of {m = m} b (as_arrow {less = less} {st = st} {en = en} {flag = flag} {ps = ps} {u = u'} {place = place} {x2 = x3} {v = v'} {R = R} more tree tk pl d eq' line' u q) le =
-              let high : height m ≡ height (node ArrowFunctionExpression [] (arrow_flags flag) st en (join ps (part u' none))) = ap height tree in
-              let inner = parts_height-join ps (part u' none) in
-              unarrowed place ps R v' x3 (subst (λ k. Runs ways S Next behind k (parameter_list ps) ps x place R) (sym (same_less more)) d) eq' line' (omega arith)
-
-      module _ (given_end : PartsEndAt S Next behind parameter_list x mid) where
-        -- no body
-        pub start_paren_arrow_absent : Absent S Next behind Assignment i NoBrace x2 → AbsentAt S Next behind body x2 → Absent S Next behind y i f s0
-        start_paren_arrow_absent no_expression no_body = start_absent S Next behind det (λ o n e P h j m mid' Q b. of b (core_of b))
-          where
-            by_flag : {o st en : ℕ} {n : Tree} {e : S} {P : List Pair} {h : Rank} {j : Bool} {m u : Tree} {mid' : S} {Q V : List Pair} {less : ℕ} (ps : Parts) (flag : Bool) → Begun S Next behind det o s0 y i f n e P h j m mid' Q → m ≡ node ArrowFunctionExpression [] (arrow_flags flag) st en (join ps (part u none)) →
-                IsTrue (takes h Assignment) → Spells ways S Next behind (suc less) (cond flag (expr Assignment j NoBrace) body) u x2 mid' V → ⊥
-            by_flag {u = u} {mid' = mid'} {V = V} {less = less} ps true b tree tk p =
-                let same = inside b tk in
-                no_expression.nothing (suc less) mid' u V (subst (λ k. Spells ways S Next behind (suc less) (expr Assignment k NoBrace) u x2 mid' V) same p) (subst (λ k. Stops S Next behind Assignment k u mid') same (body_stops ps u b tree tk))
-            by_flag {u = u} {mid' = mid'} {V = V} {less = less} ps false b tree tk p = no_body.nothing (suc less) mid' u V p
-
-            of : {o : ℕ} {n : Tree} {e : S} {P : List Pair} {h : Rank} {j : Bool} {m : Tree} {mid' : S} {Q : List Pair} → Begun S Next behind det o s0 y i f n e P h j m mid' Q → ParenCore o h j f m s0 x mid' Q t → ⊥
-            of b (as_group more d closes q) = no_group b d closes
-            of b (as_arrow {flag = flag} {ps = ps} more tree tk pl d eq' line' u q) = by_flag ps flag b tree tk (behind_sign given_end eq d eq' u)
-
-        -- none within the limits
-        pub start_paren_arrow_deep : {o hi : ℕ} → AbsentWithin S Next behind (suc o) (hi - 1) Assignment i NoBrace x2 → AbsentAtWithin S Next behind (suc o) (hi - 1) body x2 → AbsentWithin S Next behind (suc o) hi y i f s0
-        start_paren_arrow_deep {o} {hi} no_expression no_body = start_deep S Next behind det (λ n e P h j m mid' Q b le. of b (core_of b) le)
-          where
-            by_flag : {st en : ℕ} {n : Tree} {e : S} {P : List Pair} {h : Rank} {j : Bool} {m u : Tree} {mid' : S} {Q V : List Pair} (ps : Parts) (flag : Bool) → Begun S Next behind det (suc o) s0 y i f n e P h j m mid' Q → m ≡ node ArrowFunctionExpression [] (arrow_flags flag) st en (join ps (part u none)) →
-                IsTrue (takes h Assignment) → Spells ways S Next behind (suc o) (cond flag (expr Assignment j NoBrace) body) u x2 mid' V → height u ≤ hi - 1 → ⊥
-            by_flag {u = u} {mid' = mid'} {V = V} ps true b tree tk p le =
-                let same = inside b tk in
-                no_expression.nothing mid' u V (subst (λ k. Spells ways S Next behind (suc o) (expr Assignment k NoBrace) u x2 mid' V) same p) (subst (λ k. Stops S Next behind Assignment k u mid') same (body_stops ps u b tree tk)) le
-            by_flag {u = u} {mid' = mid'} {V = V} ps false b tree tk p le = no_body.nothing mid' u V p le
-
-            of : {n : Tree} {e : S} {P : List Pair} {h : Rank} {j : Bool} {m : Tree} {mid' : S} {Q : List Pair} → Begun S Next behind det (suc o) s0 y i f n e P h j m mid' Q → ParenCore (suc o) h j f m s0 x mid' Q t → height m ≤ hi → ⊥
-            of b (as_group more d closes q) le = no_group b d closes
-            of {j = j} {m = m} {mid' = mid'} b (as_arrow {less = less} {st = st} {en = en} {flag = flag} {ps = ps} {u = u'} {V = V} more tree tk pl d eq' line' u q) le =
-                let high : height m ≡ height (node ArrowFunctionExpression [] (arrow_flags flag) st en (join ps (part u' none))) = ap height tree in
-                let inner = parts_height-join ps (part u' none) in
-                by_flag ps flag b tree tk (subst (λ k. Spells ways S Next behind (suc k) (cond flag (expr Assignment j NoBrace) body) u' x2 mid' V) (sym (same_less more)) (behind_sign given_end eq d eq' u)) (omega arith)
 
       -- an arrow with its parameters in parentheses
       pub climb_paren_arrow : {o : ℕ} {ps : Parts} {u : Tree} {to : S} {R U : List Pair} {st en : ℕ} {b : Bool} → FoundParts S Next behind o parameter_list x mid ps R → ArrowBody S Next behind det (suc o) i x2 to u U b →

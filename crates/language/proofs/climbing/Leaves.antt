@@ -10,7 +10,7 @@ use Rattle.tokens.specs.declared.token.Goal.TheVariants.{Div}
 use Rattle.tokens.specs.Goals.{allows}
 use Rattle.tokens.specs.Alphabet.{one_of, begins_with}
 use Rattle.tree.specs.declared.kind.Kind.{Kind}
-use Rattle.tree.specs.declared.kind.Kind.TheVariants.{Identifier, Literal, ThisExpression}
+use Rattle.tree.specs.declared.kind.Kind.TheVariants.{Identifier, Literal}
 use Rattle.language.specs.declared.Rank.{Rank}
 use Rattle.language.specs.declared.Rank.TheVariants.{Assignment, Primary}
 use Rattle.language.specs.declared.Start.{Start}
@@ -18,22 +18,22 @@ use Rattle.language.specs.declared.Start.TheVariants.{Any, NoBrace, Statement}
 use Rattle.tree.specs.declared.kind.Flags.{Flags}
 use Rattle.tree.specs.declared.kind.Pair.{Pair}
 use Rattle.tree.specs.Tree.{Tree, node, Parts, none, bare, plain, start_of, stop_of}
-use Rattle.tree.specs.Uses.{is_lean, used_flags, has_text}
-use Rattle.tree.proofs.Lean.{lean_flags, lean_text}
+use Rattle.tree.specs.Uses.{is_lean, used_flags}
+use Rattle.tree.proofs.Lean.{lean_flags}
 use Rattle.language.specs.Vocabulary.{is, among, takes, takes_number, precedence, is_reserved, is_name, literal_class}
 use Rattle.language.specs.Pieces.{expr, name, word, tok, at, Spelling}
 use Rattle.language.specs.Token.{Token}
-use Rattle.language.specs.ExpressionStart.{with_name, with_literal, with_this, with_parenthesis, expression_start}
+use Rattle.language.specs.ExpressionStart.{with_name, with_literal, with_parenthesis, expression_start}
 use Rattle.language.specs.Promises.{is_free, IsDetermined, ReadBy, FoundAt}
 use Rattle.language.specs.Grammar.{ways, spellings, starts}
 use Rattle.language.specs.Derivation.{first, Reads, Spells, direct, Runs, done, step, token, Placed, placed}
-use Rattle.language.specs.NodeForms.{Made, literal, this, identifier, binary, logical}
+use Rattle.language.specs.NodeForms.{Made, literal, identifier, binary, logical}
 use Rattle.language.proofs.table.ViewIsComplete.{way_of, made, one, unless}
 use Rattle.language.proofs.table.OperatorFacts.{binding}
 use Rattle.language.proofs.climbing.Spine.{Core, group, plain as plain_core}
 use Rattle.language.proofs.table.Productions.{spell, way_from, in_false}
 use Rattle.language.proofs.table.Begins.{among_by, retell}
-use Rattle.language.proofs.table.TokenFirstWays.{head_identifier, head_literal, head_this, head_short_arrow, either_class, opens, identifier_opens}
+use Rattle.language.proofs.table.TokenFirstWays.{head_identifier, head_literal, head_short_arrow, either_class, opens, identifier_opens}
 use Rattle.language.proofs.climbing.LeftmostParts.{Cored, in_way, core_by}
 use Rattle.language.proofs.list_loops.FirstPieces.{run_none, run_token, run_laid, run_unbroken, run_part}
 use Rattle.language.proofs.climbing.OperatorLoop.{Climbing}
@@ -189,24 +189,6 @@ module _ (S : Type 0) (Next : S → Token → S → Type 0) (behind : S → Toke
       below (precedence h) (precedence v.spelling.rank) (and_parts _ _ (and_parts _ _ v.fit).0).0 (made_rank (made k v.listed))
 
   module _ {y : Rank} {i : Bool} {f : Start} {s0 x : S} {t : Token} (r : ReadBy S Next behind Goal.RegExp s0 t x) (low : IsTrue (takes y Primary)) where
-    -- `this`
-    pub climb_this : {o : ℕ} → t.class ≡ IdentifierName → t.text ≡ codes "this" → Climbing S Next behind det o y i f Primary s0 (node ThisExpression [] plain t.start (behind x).stop none) x []
-    climb_this class text = climb_start S Next behind det low
-        (λ h j tk lo. spell S Next behind (at Primary (tok IdentifierName (codes "this") ∷ [])) this refl tk refl (starts_this f) (placed r.next refl) (step (token (record { next = r.next; class = class; text = text })) done))
-        (λ o' n e P h j m mid Q b. let op = opens t class text refl in only (core_by S Next behind det r op b.core) (core_primary b.core r (λ q. (let z = sym q ∙ op in cc))))
-      where
-        starts_this : (f : Start) → starts f (tok IdentifierName (codes "this") ∷ []) ≡ true
-        starts_this Any = refl
-        starts_this NoBrace = refl
-        starts_this Statement = refl
-
-        only : {o' : ℕ} {h : Rank} {j : Bool} {m : Tree} {mid : S} {Q : List Pair} → Cored S Next behind det o' h j f m s0 mid Q with_this → IsTrue (takes h Primary) →
-            (mid ≡ x) × (m ≡ node ThisExpression [] plain t.start (behind x).stop none) × (Q ≡ []) × IsTrue (takes h Primary)
-        only {m = m} (in_way {w = w} {g = g} {st = st} {en = en} {ps = ps} is (head_this k q) lean pl d) tk =
-            let bares : is_lean (bare (node _ w g st en ps)) ≡ true = ap (λ v. is_lean (bare v)) (sym is) ∙ lean in
-            let u = leaf_same is k (lean_text (bare (node _ w g st en ps)) bares (ap has_text k)) (lean_flags (bare (node _ w g st en ps)) bares ∙ ap (λ v. used_flags v g) k) pl (retell S Next behind q d) (by_name r) in
-            (u.0, u.1, u.2, tk)
-
     -- a literal
     pub climb_literal : {o : ℕ} → t.class ≡ literal_class t.text → (is_name (literal_class t.text) && not (among t.text ("true" ∷ "false" ∷ "null" ∷ []))) ≡ false → expression_start t ≡ with_literal →
         Climbing S Next behind det o y i f Primary s0 (node Literal t.text plain t.start (behind x).stop none) x []

@@ -1,8 +1,8 @@
 -- A leftmost part that begins with `new`: with arguments or without, or `new.target`. At the position behind another `new` each has a
 -- form of its own, since a `new` without arguments isn't a callee before `(`.
-use Rattle.std.proofs.Common.{◌≡◌, ℕ, ◌-◌, ◌≤◌, Bool, true, false, List, [], ◌∷◌, ◌++◌, refl, sym, ap, ◌∙◌, subst, arith}
+use Rattle.std.proofs.Common.{◌≡◌, ℕ, Bool, true, false, List, [], ◌∷◌, ◌++◌, refl, sym, ap, ◌∙◌, subst, arith}
 use Rattle.std.specs.Prelude.{IsTrue, codes, ◌&&◌}
-use Rattle.std.proofs.lemmas.Bool.{and_parts, false≢true}
+use Rattle.std.proofs.lemmas.Bool.{and_parts}
 use Rattle.std.proofs.lemmas.Slice.Eq.{bytes_eq-Decides}
 use Rattle.tokens.specs.declared.token.TokenClass.TheVariants.{IdentifierName, Punctuator}
 use Rattle.tokens.specs.declared.token.Goal.{Goal}
@@ -15,7 +15,7 @@ use Rattle.language.specs.declared.Start.{Start}
 use Rattle.language.specs.declared.Start.TheVariants.{Any, NoBrace, Statement}
 use Rattle.tree.specs.declared.kind.Flags.{Flags}
 use Rattle.tree.specs.declared.kind.Pair.{Pair}
-use Rattle.tree.specs.Tree.{Tree, node, Parts, none, part, height, text_of, bare, bare_parts, plain}
+use Rattle.tree.specs.Tree.{Tree, node, Parts, none, part, text_of, bare, bare_parts, plain}
 use Rattle.tree.specs.Uses.{is_lean, used_flags, has_text}
 use Rattle.tree.proofs.Lean.{lean_flags, lean_text}
 use Rattle.language.specs.FirstPart.{others}
@@ -25,7 +25,7 @@ use Rattle.language.specs.Token.{Token}
 use Rattle.language.specs.Edges.{edge, edge_as_written}
 use Rattle.language.specs.Expressions.{arguments, lead_is}
 use Rattle.language.specs.ExpressionStart.{with_new, expression_start}
-use Rattle.language.specs.Promises.{IsDetermined, ReadBy, Stops, Absent, AbsentWithin, FoundParts, AbsentParts, AbsentPartsWithin, Callee, at_member, at_new, FoundCallee, AbsentCallee, AbsentCalleeWithin}
+use Rattle.language.specs.Promises.{IsDetermined, ReadBy, Stops, FoundParts, Callee, at_member, at_new, FoundCallee}
 use Rattle.language.specs.Grammar.{ways, starts}
 use Rattle.language.specs.Derivation.{Reads, Spells, Runs, done, step, within, token, laid, Placed}
 use Rattle.language.specs.NodeForms.{new_with, new_without, new_target}
@@ -43,10 +43,10 @@ use Rattle.language.proofs.climbing.BinaryTurns.{same_node, replaced, same_place
 use Rattle.language.proofs.climbing.OperatorLoop.{Climbing}
 use Rattle.language.proofs.climbing.Conditionals.{stops_before, same_sign}
 use Rattle.language.proofs.climbing.Suffixes.{argument_pieces, arguments_fixed}
-use Rattle.language.proofs.climbing.FirstTurn.{Begun, climb_start, start_absent, start_deep, begun_stops}
+use Rattle.language.proofs.climbing.FirstTurn.{Begun, climb_start, begun_stops}
 use Rattle.language.proofs.climbing.Leaves.{by_name, word_form, word_found}
 use Rattle.language.proofs.climbing.Supers.{none_begins}
-use Rattle.language.proofs.climbing.Callees.{callee_new, standing_tight, ClimbingCallee, Uncalled, uncalled_at, callee_start, callee_absent, callee_deep}
+use Rattle.language.proofs.climbing.Callees.{callee_new, standing_tight, ClimbingCallee, Uncalled, uncalled_at, callee_start}
 
 starts_new : (f : Start) (qs : List Piece) → IsTrue (starts f (term "new" ∷ qs))
 starts_new Any qs = refl
@@ -153,50 +153,6 @@ module _ (S : Type 0) (Next : S → Token → S → Type 0) (behind : S → Toke
           (λ h j tk lo. target_spells h j class text reads tk (replaced S Next behind det places))
           (λ o' n e P h j m mid Q b. target_alone class text reads places (new_core b.core))
 
-      target_given : {o : ℕ} {h : Rank} {j : Bool} {f : Start} {m : Tree} {mid : S} {Q : List Pair} → NewCore o h j f m mid Q → (u : Tree) × (e : S) × (U : List Pair) × Spells ways S Next behind o word u x2 e U × (text_of u ≡ codes "target") × IsTrue (takes h Member)
-      target_given {o} {mid = mid} (as_target {u = u} {v = v'} {U = U} tree tk pl d eq p said q) = (u, mid, U, subst (λ c. Spells ways S Next behind o word u c mid U) (same_sign S Next behind det eq dotted_by refl).1 p, said, tk)
-      target_given (as_given tree tk pl d eq p q) = absurd (undotted d dotted_by)
-      target_given (as_bare tree tk pl d) = absurd (undotted d dotted_by)
-
-      -- no `target` behind the `.`
-      pub start_new_target_absent : {y : Rank} {i : Bool} {f : Start} → ((v : Token) (k : S) → Reads S Next behind IdentifierName (codes "target") x2 v k → ⊥) → Absent S Next behind y i f s0
-      start_new_target_absent missing = start_absent S Next behind det (λ o' n e P h j m mid Q b.
-          let u = target_given (new_core b.core) in
-          let w = word_form S Next behind det u.3 in
-          missing w.sign u.1 (subst (λ c. Reads S Next behind IdentifierName c x2 w.sign u.1) (sym (ap text_of w.tree) ∙ u.4) w.reads))
-
-      -- the position doesn't take it
-      pub start_new_target_unfit : {y : Rank} {i : Bool} {f : Start} → takes y Member ≡ false → Absent S Next behind y i f s0
-      start_new_target_unfit no_fit = start_absent S Next behind det (λ o' n e P h j m mid Q b. false≢true (sym no_fit ∙ b.reached.taken Member (target_given (new_core b.core)).5))
-
-    -- behind `new` no callee
-    module _ (no_dot : (v : Token) (k : S) → Reads S Next behind Punctuator (codes ".") x v k → ⊥) where
-      no_callee : {o : ℕ} {y : Rank} {i : Bool} {f : Start} {n : Tree} {e : S} {P : List Pair} {h : Rank} {j : Bool} {m : Tree} {mid : S} {Q : List Pair} → AbsentCallee S Next behind x → Begun S Next behind det o s0 y i f n e P h j m mid Q → Uncalled S Next behind det h m mid → NewCore o h j f m mid Q → ⊥
-      no_callee missed b closed (as_target {x2 = x2} {v = v} tree tk pl d eq p said q) = no_dot v x2 eq
-      no_callee {o} missed b closed (as_given {n = n} {place = place} {A = A} tree tk pl d eq p q) = missed.nothing o place n A (at_member d) (given_stops n eq)
-      no_callee {o} {mid = mid} {Q = Q} missed b closed (as_bare {n = n} tree tk pl d) = missed.nothing o mid n Q (at_new d (closed tk (ap edge tree))) (bare_stops n b tree tk d)
-
-      deep_call : {o hi : ℕ} {y : Rank} {i : Bool} {f : Start} {n : Tree} {e : S} {P : List Pair} {h : Rank} {j : Bool} {m : Tree} {mid : S} {Q : List Pair} → AbsentCalleeWithin S Next behind o (hi - 1) x → Begun S Next behind det o s0 y i f n e P h j m mid Q → Uncalled S Next behind det h m mid → NewCore o h j f m mid Q →
-          height m ≤ hi → ⊥
-      deep_call missed b closed (as_target {x2 = x2} {v = v} tree tk pl d eq p said q) le = no_dot v x2 eq
-      deep_call {m = m} missed b closed (as_given {st = st} {en = en} {n = n} {ps = ps} {place = place} {A = A} tree tk pl d eq p q) le =
-          let high : height m ≡ height (node NewExpression [] plain st en (part n ps)) = ap height tree in missed.nothing place n A (at_member d) (given_stops n eq) (omega arith)
-      deep_call {m = m} {mid = mid} {Q = Q} missed b closed (as_bare {st = st} {en = en} {n = n} tree tk pl d) le =
-          let high : height m ≡ height (node NewExpression [] plain st en (part n none)) = ap height tree in missed.nothing mid n Q (at_new d (closed tk (ap edge tree))) (bare_stops n b tree tk d) (omega arith)
-
-      pub start_new_absent : {y : Rank} {i : Bool} {f : Start} → (y ≡ New → ⊥) → AbsentCallee S Next behind x → Absent S Next behind y i f s0
-      start_new_absent other missed = start_absent S Next behind det (λ o' n e P h j m mid Q b. no_callee missed b (uncalled_at S Next behind det other b) (new_core b.core))
-
-      pub callee_new_absent : AbsentCallee S Next behind x → AbsentCallee S Next behind s0
-      callee_new_absent missed = callee_absent S Next behind det (λ o' y n e P h j m mid Q b closed. no_callee missed b closed (new_core b.core))
-
-      -- none within the limits
-      pub start_new_deep : {o hi : ℕ} {y : Rank} {i : Bool} {f : Start} → (y ≡ New → ⊥) → AbsentCalleeWithin S Next behind o (hi - 1) x → AbsentWithin S Next behind o hi y i f s0
-      start_new_deep other missed = start_deep S Next behind det (λ n e P h j m mid Q b le. deep_call missed b (uncalled_at S Next behind det other b) (new_core b.core) le)
-
-      pub callee_new_deep : {o hi : ℕ} → AbsentCalleeWithin S Next behind o (hi - 1) x → AbsentCalleeWithin S Next behind o hi s0
-      callee_new_deep missed = callee_deep S Next behind det (λ y n e P h j m mid Q b closed le. deep_call missed b closed (new_core b.core) le)
-
     -- a callee is found
     module _ {o : ℕ} {u : Tree} {e1 : S} {A : List Pair} (found : FoundCallee S Next behind o x e1 u A) where
       same_given : {o' : ℕ} {n : Tree} {place x2 : S} {v : Token} {B : List Pair} → Spells ways S Next behind o' (expr Member true Any) n x place B → Reads S Next behind Punctuator (codes "(") place v x2 → (place ≡ e1) × (n ≡ u) × (B ≡ A)
@@ -256,30 +212,6 @@ module _ (S : Type 0) (Next : S → Token → S → Type 0) (behind : S → Toke
             (λ h j tk lo. given_spells h j class text tk arguments_found.runs (replaced S Next behind det places))
             (λ o' y n e P h j m mid Q b closed. given_alone arguments_found places b closed)
 
-        -- no arguments behind `(`
-        pub start_new_given_absent : {y : Rank} {i : Bool} {f : Start} → (y ≡ New → ⊥) → AbsentParts S Next behind argument_pieces x2 → Absent S Next behind y i f s0
-        start_new_given_absent other missed = start_absent S Next behind det (λ o' n e P h j m mid Q b. (let w = given_runs b (uncalled_at S Next behind det other b) (new_core b.core) in missed.nothing o' mid w.2 w.3 w.6))
-
-        pub callee_new_given_absent : AbsentParts S Next behind argument_pieces x2 → AbsentCallee S Next behind s0
-        callee_new_given_absent missed = callee_absent S Next behind det (λ o' y n e P h j m mid Q b closed. (let w = given_runs b closed (new_core b.core) in missed.nothing o' mid w.2 w.3 w.6))
-
-        -- none within the limits
-        pub start_new_given_deep : {o' hi : ℕ} {y : Rank} {i : Bool} {f : Start} → (y ≡ New → ⊥) → AbsentPartsWithin S Next behind o' (hi - 1) argument_pieces x2 → AbsentWithin S Next behind o' hi y i f s0
-        start_new_given_deep {o'} other missed = start_deep S Next behind det (λ n e P h j m mid Q b le.
-            let w = given_runs b (uncalled_at S Next behind det other b) (new_core b.core) in
-            let high : height m ≡ height (node NewExpression [] plain w.0 w.1 (part u w.2)) = ap height w.4 in
-            missed.nothing mid w.2 w.3 w.6 (omega arith))
-
-        pub callee_new_given_deep : {o' hi : ℕ} → AbsentPartsWithin S Next behind o' (hi - 1) argument_pieces x2 → AbsentCalleeWithin S Next behind o' hi s0
-        callee_new_given_deep {o'} missed = callee_deep S Next behind det (λ y n e P h j m mid Q b closed le.
-            let w = given_runs b closed (new_core b.core) in
-            let high : height m ≡ height (node NewExpression [] plain w.0 w.1 (part u w.2)) = ap height w.4 in
-            missed.nothing mid w.2 w.3 w.6 (omega arith))
-
-        -- the position doesn't take it
-        pub start_new_given_unfit : {y : Rank} {i : Bool} {f : Start} → (y ≡ New → ⊥) → takes y Member ≡ false → Absent S Next behind y i f s0
-        start_new_given_unfit other no_fit = start_absent S Next behind det (λ o' n e P h j m mid Q b. (let w = given_runs b (uncalled_at S Next behind det other b) (new_core b.core) in false≢true (sym no_fit ∙ b.reached.taken Member w.8)))
-
       -- no `(` follows
       module _ (alone_there : (v : Token) (k : S) → Reads S Next behind Punctuator (codes "(") e1 v k → ⊥) where
         bare_alone : {o' : ℕ} {y y' : Rank} {i i' : Bool} {f : Start} {n : Tree} {e : S} {P : List Pair} {h : Rank} {j : Bool} {m : Tree} {mid : S} {Q : List Pair} {st en : ℕ} → Placed S Next behind (expr y' i' f) (node NewExpression [] plain st en (part u none)) s0 e1 → Begun S Next behind det o' s0 y i f n e P h j m mid Q →
@@ -307,12 +239,3 @@ module _ (S : Type 0) (Next : S → Token → S → Type 0) (behind : S → Toke
         callee_new_bare class text places = callee_start S Next behind det refl
             (λ h j tk lo. bare_spells h j class text tk (replaced S Next behind det places))
             (λ o' y n e P h j m mid Q b closed. bare_alone places b closed (new_core b.core))
-
-        -- the position doesn't take it
-        pub start_new_bare_unfit : {y : Rank} {i : Bool} {f : Start} → takes y New ≡ false → Absent S Next behind y i f s0
-        start_new_bare_unfit {y} {i} {f} no_fit = start_absent S Next behind det (λ o' n e P h j m mid Q b. of b (new_core b.core))
-          where
-            of : {o' : ℕ} {n : Tree} {e : S} {P : List Pair} {h : Rank} {j : Bool} {m : Tree} {mid : S} {Q : List Pair} → Begun S Next behind det o' s0 y i f n e P h j m mid Q → NewCore o' h j f m mid Q → ⊥
-            of b (as_target tree tk pl d eq p said q) = undotted (callee_new S Next behind found.callee) eq
-            of b (as_given {x2 = x3} {v = v'} tree tk pl d eq p q) = let same = same_given d eq in alone_there v' x3 (subst (λ c. Reads S Next behind Punctuator (codes "(") c v' x3) same.0 eq)
-            of b (as_bare tree tk pl d) = false≢true (sym no_fit ∙ b.reached.taken New tk)

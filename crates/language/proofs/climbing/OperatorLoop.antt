@@ -1,5 +1,5 @@
 -- The loop over the operators: what is known of all derivations at a position before each turn, and behind the last.
-use Rattle.std.proofs.Common.{◌≡◌, ℕ, ◌≤◌, ◌<◌, Bool, true, false, List, ◌++◌, refl, sym, ap, ◌∙◌, subst, arith}
+use Rattle.std.proofs.Common.{◌≡◌, ℕ, ◌≤◌, Bool, true, false, List, ◌++◌, refl, sym, ap, ◌∙◌, subst, arith}
 use Rattle.std.specs.Prelude.{IsTrue, Some, None, Option, not, ◌&&◌, ◌||◌, max, codes}
 use Rattle.std.proofs.lemmas.Bool.{false≢true}
 use Rattle.std.proofs.lemmas.Slice.Eq.{bytes_eq-Decides}
@@ -20,7 +20,7 @@ use Rattle.language.specs.Pieces.{Role, expr, chain_part, PieceOf}
 use Rattle.language.specs.Token.{Token}
 use Rattle.language.specs.Edges.{edge, edge_as_written}
 use Rattle.language.specs.Continuations.{of_class, operation, rank_made_by, holds, stops_at, stops}
-use Rattle.language.specs.Promises.{IsDetermined, ReadBy, Stops, Found, AbsentWithin}
+use Rattle.language.specs.Promises.{IsDetermined, ReadBy, Stops, Found}
 use Rattle.language.specs.Grammar.{ways, spellings}
 use Rattle.language.specs.Derivation.{Spells, Runs, Placed}
 use Rattle.language.proofs.climbing.Spine.{Grows, whole, grow, grows_on_spine}
@@ -169,10 +169,6 @@ module _ (S : Type 0) (Next : S → Token → S → Type 0) (behind : S → Toke
     stopped = st;
     only = λ o' e' n' P' d st'. let v = c.leads o' e' n' P' d st' in let u = whole_where_stops v.spelled st v.grows in (u.place, u.tree, u.pairs);
   }
-
-  -- what stands so far is too high already
-  pub climb_high : {o hi : ℕ} {y : Rank} {i : Bool} {f : Start} {r : Rank} {s0 : S} {m : Tree} {mid : S} {Q : List Pair} → Climbing o y i f r s0 m mid Q → hi < height m → AbsentWithin S Next behind o hi y i f s0
-  climb_high {o} c over = record { nothing = λ e' n' P' d st le. (let v = c.leads o e' n' P' d st in let low = grows_height v.grows in omega arith) }
 
   -- The way that goes on from what stands so far, and how the spine goes on from it
   pub record LedOn (o : ℕ) (s0 : S) (a : Role) (n : Tree) (e : S) (P : List Pair) (h : Rank) (j : Bool) (f' : Start) (m : Tree) (mid : S) (Q : List Pair) (x : Operator) : Type 0 where

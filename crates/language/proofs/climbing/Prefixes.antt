@@ -1,7 +1,6 @@
 -- A leftmost part that begins with an operator: a unary one, `++` or `--`.
-use Rattle.std.proofs.Common.{◌≡◌, ℕ, ◌-◌, Bool, true, false, cond, List, [], ◌∷◌, ◌++◌, refl, sym, ap, ◌∙◌, subst, arith}
+use Rattle.std.proofs.Common.{◌≡◌, ℕ, Bool, true, false, cond, List, [], ◌∷◌, ◌++◌, refl, sym, ap, ◌∙◌, subst, arith}
 use Rattle.std.specs.Prelude.{IsTrue, not}
-use Rattle.std.proofs.lemmas.Bool.{false≢true}
 use Rattle.tokens.specs.declared.token.TokenClass.TheVariants.{IdentifierName, Punctuator}
 use Rattle.tokens.specs.declared.token.Goal.{Goal}
 use Rattle.tokens.specs.Goals.{allows}
@@ -14,7 +13,7 @@ use Rattle.language.specs.declared.Start.TheVariants.{Any, NoBrace, Statement}
 use Rattle.language.specs.declared.Edge.TheVariants.{Other}
 use Rattle.tree.specs.declared.kind.Flags.{Flags}
 use Rattle.tree.specs.declared.kind.Pair.{Pair}
-use Rattle.tree.specs.Tree.{Tree, node, Parts, none, part, height, bare, bare_parts, kind_of, plain}
+use Rattle.tree.specs.Tree.{Tree, node, Parts, none, part, bare, bare_parts, kind_of, plain}
 use Rattle.tree.specs.Uses.{is_lean, used_flags}
 use Rattle.tree.proofs.Lean.{lean_flags}
 use Rattle.language.specs.FirstPart.{lead as lead_kind}
@@ -23,7 +22,7 @@ use Rattle.language.specs.Pieces.{expr, Piece, tok, lay, apart, sp, put, at}
 use Rattle.language.specs.Token.{Token}
 use Rattle.language.specs.Edges.{edge, edge_as_written}
 use Rattle.language.specs.ExpressionStart.{ExpressionStart, with_word, with_sign, with_step, expression_start}
-use Rattle.language.specs.Promises.{IsDetermined, ReadBy, Stops, Found, Absent, AbsentWithin}
+use Rattle.language.specs.Promises.{IsDetermined, ReadBy, Stops, Found}
 use Rattle.language.specs.Grammar.{ways, starts}
 use Rattle.language.specs.Derivation.{Reads, Spells, Runs, step, token, laid, Placed}
 use Rattle.language.specs.NodeForms.{prefix, unary_word, unary_sign}
@@ -38,7 +37,7 @@ use Rattle.language.proofs.climbing.OperatorNodes.{kind_bare, last_runs, lay_run
 use Rattle.language.proofs.table.Tails.{Tails, tails_unary, tails_step}
 use Rattle.language.proofs.climbing.OperatorLoop.{Climbing}
 use Rattle.language.proofs.climbing.BinaryTurns.{same_node, replaced, same_places}
-use Rattle.language.proofs.climbing.FirstTurn.{Begun, climb_start, start_absent, start_deep, begun_stops}
+use Rattle.language.proofs.climbing.FirstTurn.{Begun, climb_start, begun_stops}
 use Rattle.language.proofs.climbing.Leaves.{by_name}
 
 abbrev pub prefix_flags : Flags
@@ -179,17 +178,6 @@ module _ (S : Type 0) (Next : S → Token → S → Type 0) (behind : S → Toke
     prefix_stops : {o : ℕ} {y : Rank} {i : Bool} {f : Start} {n : Tree} {e : S} {P : List Pair} {h : Rank} {j : Bool} {m : Tree} {mid : S} {Q : List Pair} → Begun S Next behind det o s0 y i f n e P h j m mid Q → (c : PrefixCore o h j f m s0 x mid Q t.text K z q G) → Stops S Next behind q true c.operand mid
     prefix_stops {mid = mid} b c = begun_stops S Next behind det z q true c.operand (tails_of p) (no_conditional p) c.stands (no_relation p) (ap (λ v. edge_as_written (edge v) (behind mid)) c.tree ∙ ap (λ v. edge_as_written v (behind mid)) (prefix_edge t.text c.st c.en c.operand p c.target)) b
 
-    -- no operand
-    pub start_prefix_absent : {y : Rank} {i : Bool} {f : Start} → Absent S Next behind q true Any x → Absent S Next behind y i f s0
-    start_prefix_absent missed = start_absent S Next behind det (λ o' n e P h j m mid Q b. (let c = prefix_core p r (core_by S Next behind det r (opening_is p) b.core) in missed.nothing o' mid c.operand Q c.spelled (prefix_stops b c)))
-
-    -- none within the limits
-    pub start_prefix_deep : {o hi : ℕ} {y : Rank} {i : Bool} {f : Start} → AbsentWithin S Next behind o (hi - 1) q true Any x → AbsentWithin S Next behind o hi y i f s0
-    start_prefix_deep {o} missed = start_deep S Next behind det (λ n e P h j m mid Q b le.
-        let c = prefix_core p r (core_by S Next behind det r (opening_is p) b.core) in
-        let high : height m ≡ height (node K t.text G c.st c.en (part c.operand none)) = ap height c.tree in
-        missed.nothing mid c.operand Q c.spelled (prefix_stops b c) (omega arith))
-
     -- the node, with its operand
     pub climb_prefix : {o : ℕ} {y : Rank} {i : Bool} {f : Start} {u : Tree} {to : S} {U : List Pair} {st en : ℕ} → IsTrue (takes y z) → Steps q u → Found S Next behind o q true Any x to u U →
         Placed S Next behind (expr y i f) (node K t.text G st en (part u none)) s0 to → Climbing S Next behind det o y i f z s0 (node K t.text G st en (part u none)) to U
@@ -200,14 +188,3 @@ module _ (S : Type 0) (Next : S → Token → S → Type 0) (behind : S → Toke
         let same = found.only o' mid c.operand Q c.spelled (prefix_stops b c) in
         let where_is = same_places S Next behind det (subst (λ v. Placed S Next behind (expr h j f) v s0 mid) c.tree c.places) places same.0 in
         (same.0, c.tree ∙ same_node refl refl refl where_is.0 where_is.1 (ap (λ v. part v none) same.1), same.2, c.stands))
-
-    -- the position doesn't take its symbol
-    pub start_prefix_unfit : {y : Rank} {i : Bool} {f : Start} → takes y z ≡ false → Absent S Next behind y i f s0
-    start_prefix_unfit no_fit = start_absent S Next behind det (λ o' n e P h j m mid Q b. (let c = prefix_core p r (core_by S Next behind det r (opening_is p) b.core) in false≢true (sym no_fit ∙ b.reached.taken z c.stands)))
-
-    -- what `++` would step is neither an identifier nor a member
-    pub start_step_no_target : {o : ℕ} {y : Rank} {i : Bool} {f : Start} {u : Tree} {to : S} {U : List Pair} → Found S Next behind o q true Any x to u U → (Steps q u → ⊥) → Absent S Next behind y i f s0
-    start_step_no_target found no_target = start_absent S Next behind det (λ o' n e P h j m mid Q b.
-        let c = prefix_core p r (core_by S Next behind det r (opening_is p) b.core) in
-        let same = found.only o' mid c.operand Q c.spelled (prefix_stops b c) in
-        no_target (subst (λ v. Steps q v) same.1 c.target))

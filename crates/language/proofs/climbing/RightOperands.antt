@@ -12,7 +12,7 @@ use Rattle.tree.specs.declared.kind.Flags.{Flags}
 use Rattle.tree.specs.declared.kind.Pair.{Pair}
 use Rattle.tree.specs.Tree.{Tree, Parts, none, part}
 use Rattle.language.specs.Vocabulary.{is_word_operator}
-use Rattle.language.specs.Pieces.{Role, expr, word, tagged_quasi, tok, lay, sub, unbroken, space}
+use Rattle.language.specs.Pieces.{Role, expr, word, tok, lay, sub, unbroken, space}
 use Rattle.language.specs.Token.{Token}
 use Rattle.language.specs.Promises.{IsDetermined, ReadBy}
 use Rattle.language.specs.Grammar.{ways}
@@ -20,7 +20,6 @@ use Rattle.language.specs.Expressions.{arguments, after_number}
 use Rattle.language.specs.Derivation.{Reads, Spells, Runs, done, step, within, token, laid}
 use Rattle.language.proofs.table.Begins.{behind_first, goes_to, number_laid, laid_first, laid_behind, div_allows, taken, retell}
 use Rattle.language.proofs.table.LeftRecursiveWays.{between, bracketed, dotted}
-use Rattle.language.proofs.list_loops.FirstPieces.{run_token}
 
 module _ (S : Type 0) (Next : S → Token → S → Type 0) (behind : S → Token) (det : IsDetermined S Next behind) where
   -- one part and nothing behind it
@@ -126,40 +125,14 @@ module _ (S : Type 0) (Next : S → Token → S → Type 0) (behind : S → Toke
       Runs ways S Next behind o (behind_first (goes_to y i f (arguments qs))) ps m e R
   called y i f qs d r = (taken S Next behind det Div (goes_to y i f (arguments qs)) refl refl d r).runs
 
-  -- behind a part of a chain, `.`: a name
-  pub link_selected : {o : ℕ} {ps : Parts} {s m e : S} {R : List Pair} {t : Token} → Runs ways S Next behind o dotted ps s e R → ReadBy S Next behind Div s t m → OnePart o word ps m e R
-  link_selected d r = one_part (taken S Next behind det Div dotted refl refl d r).runs
-
-  -- `[`: an expression, and `]`
-  pub link_indexed : {o : ℕ} {ps : Parts} {s m e : S} {R : List Pair} {t : Token} → Runs ways S Next behind o bracketed ps s e R → ReadBy S Next behind Div s t m → Bracketed o ps m e R
-  link_indexed d r = in_bracket (taken S Next behind det Div bracketed refl refl d r).runs
-
-  -- `?.`: a name; or `[`, an expression and `]`; or arguments
-  pub chained_selected : {o : ℕ} {ps : Parts} {s m e : S} {R : List Pair} {t : Token} → Runs ways S Next behind o (tok Punctuator (codes "?.") ∷ sub word ∷ []) ps s e R → ReadBy S Next behind Div s t m → OnePart o word ps m e R
-  chained_selected d r = one_part (taken S Next behind det Div (tok Punctuator (codes "?.") ∷ sub word ∷ []) refl refl d r).runs
-
   pub record ChainedIndex (o : ℕ) (ps : Parts) (m e : S) (R : List Pair) : Type 0 where
     pub opening : Token
     pub within : S
     pub opens : Reads S Next behind Punctuator (codes "[") m opening within
     pub inside : Bracketed o ps within e R
 
-  -- what runs behind `?.` where `[` follows
-  pub chained_indexed : {o : ℕ} {ps : Parts} {s m e : S} {R : List Pair} {t : Token} → Runs ways S Next behind o (tok Punctuator (codes "?.") ∷ bracketed) ps s e R → ReadBy S Next behind Div s t m → ChainedIndex o ps m e R
-  chained_indexed d r = let c = run_token S Next behind (taken S Next behind det Div (tok Punctuator (codes "?.") ∷ bracketed) refl refl d r).runs in record { opening = c.sign; within = c.mid; opens = c.reads; inside = in_bracket c.runs }
-
   pub record ChainedCall (o : ℕ) (f : Start) (qs ps : Parts) (m e : S) (R : List Pair) : Type 0 where
     pub opening : Token
     pub within : S
     pub opens : Reads S Next behind Punctuator (codes "(") m opening within
     pub inside : Runs ways S Next behind o (behind_first (goes_to Expression true f (arguments qs))) ps within e R
-
-  -- what runs behind `?.` where arguments follow
-  pub chained_called : {o : ℕ} (f : Start) (qs : Parts) {ps : Parts} {s m e : S} {R : List Pair} {t : Token} → Runs ways S Next behind o (tok Punctuator (codes "?.") ∷ goes_to Expression true f (arguments qs)) ps s e R → ReadBy S Next behind Div s t m → ChainedCall o f qs ps m e R
-  chained_called f qs d r =
-      let c = run_token S Next behind (taken S Next behind det Div (tok Punctuator (codes "?.") ∷ goes_to Expression true f (arguments qs)) refl refl d r).runs in
-      record { opening = c.sign; within = c.mid; opens = c.reads; inside = c.runs }
-
-  -- a template behind a tag
-  pub tagged_by : {o : ℕ} {ps : Parts} {s e : S} {R : List Pair} → Runs ways S Next behind o (sub tagged_quasi ∷ []) ps s e R → OnePart o tagged_quasi ps s e R
-  tagged_by d = one_part d

@@ -1,6 +1,6 @@
 -- A sequence in one turn of the loop: its parts behind the first comma, one by one, and the turn with them.
-use Rattle.std.proofs.Common.{◌≡◌, ℕ, suc, ◌-◌, Bool, true, false, cond, List, [], ◌∷◌, ◌++◌, refl, sym, ap, ◌∙◌, subst, arith, append_assoc}
-use Rattle.std.specs.Prelude.{IsTrue, Option, Some, None, codes, max, not, ◌&&◌, ◌||◌}
+use Rattle.std.proofs.Common.{◌≡◌, ℕ, Bool, true, false, cond, List, [], ◌∷◌, ◌++◌, refl, sym, ap, ◌∙◌, subst, arith, append_assoc}
+use Rattle.std.specs.Prelude.{IsTrue, Option, Some, None, codes, not, ◌&&◌, ◌||◌}
 use Rattle.std.proofs.lemmas.Bool.{false≢true}
 use Rattle.std.proofs.lemmas.Bool.Decides.{nat_tests}
 use Rattle.std.proofs.lemmas.List.{append-nil}
@@ -15,15 +15,15 @@ use Rattle.language.specs.declared.Start.TheVariants.{Any}
 use Rattle.language.specs.declared.Edge.{Edge}
 use Rattle.language.specs.declared.Edge.TheVariants.{Arrow, Postfix, Other, Closed}
 use Rattle.tree.specs.declared.kind.Pair.{Pair}
-use Rattle.tree.specs.Tree.{Tree, node, Parts, none, part, gap, height, parts_height, bare_parts, plain, push, join}
-use Rattle.tree.proofs.Shapes.{join-none, join-push, parts_height-join}
+use Rattle.tree.specs.Tree.{Tree, node, Parts, none, part, gap, bare_parts, plain, push, join}
+use Rattle.tree.proofs.Shapes.{join-none, join-push}
 use Rattle.language.specs.Vocabulary.{is, takes, takes_number, precedence, Operator, op_binary, op_power, op_assign, op_update, op_comma, op_question, op_dot, op_call, op_index, op_optional, op_arrow, op_template, op_none}
 use Rattle.language.specs.Pieces.{Role, expr, PieceOf, sub, is_none}
 use Rattle.language.specs.Token.{Token}
 use Rattle.language.specs.Edges.{edge, last_edge, edge_as_written}
 use Rattle.language.specs.Expressions.{sequence}
 use Rattle.language.specs.Continuations.{operation, rank_made_by, holds, stops_at, stops}
-use Rattle.language.specs.Promises.{IsDetermined, ReadBy, Stops, Found, Absent, AbsentWithin, later_parts, LaterStop, FoundLater, AbsentLater, AbsentLaterWithin}
+use Rattle.language.specs.Promises.{IsDetermined, ReadBy, Stops, Found, Absent, later_parts, LaterStop, FoundLater}
 use Rattle.language.specs.Grammar.{ways}
 use Rattle.language.specs.Derivation.{Reads, Spells, Runs, done, step, within, token, laid, Placed}
 use Rattle.language.proofs.climbing.Spine.{whole}
@@ -204,17 +204,6 @@ module _ (S : Type 0) (Next : S → Token → S → Type 0) (behind : S → Toke
         };
   }
 
-  -- no first item; none within the limits
-  pub later_absent : {i : Bool} {s : S} → Absent S Next behind Assignment i Any s → AbsentLater S Next behind i s
-  later_absent missed = record { nothing = λ o' e' ps' P' d st. (let w = first_item ps' d st in missed.nothing o' w.mid w.item w.one w.spelled w.stopped) }
-
-  pub later_deep : {o hi : ℕ} {i : Bool} {s : S} → AbsentWithin S Next behind o hi Assignment i Any s → AbsentLaterWithin S Next behind o hi i s
-  later_deep missed = record {
-    nothing = λ e' ps' P' d st le. let w = first_item ps' d st in
-        let high : parts_height ps' ≡ max (height w.item) (parts_height w.rest) = ap parts_height w.parts in
-        missed.nothing w.mid w.item w.one w.spelled w.stopped (omega arith);
-  }
-
   -- the next item, behind a comma that is read
   record NextItem (o : ℕ) (i : Bool) (x e : S) (ps : Parts) (P : List Pair) (qs : Parts) (R : List Pair) : Type 0 where
     item : Tree
@@ -304,18 +293,6 @@ module _ (S : Type 0) (Next : S → Token → S → Type 0) (behind : S → Toke
             let v = run_the_part S Next behind d in
             subst (λ c. Runs ways S Next behind o (later_parts i (part l (push ps u))) (part l (push ps u)) s to c) (sym (append_assoc v.one v.more U) ∙ ap (λ c. c ++ U) (sym v.pairs)) (within v.spelled (behind_items ps v.runs))
 
-    -- no item behind the comma; none within the limits
-    pub listing_absent : {o : ℕ} → Listing o i s qs k R → Absent S Next behind Assignment i Any x → AbsentLater S Next behind i s
-    listing_absent listing missed = record { nothing = λ o' e' ps' P' d st. (let w = next_item listing st (listing.leads o' e' ps' P' d st) in missed.nothing o' w.to w.item w.one w.spelled w.stopped) }
-
-    pub listing_deep : {o hi : ℕ} → Listing o i s qs k R → AbsentWithin S Next behind o hi Assignment i Any x → AbsentLaterWithin S Next behind o hi i s
-    listing_deep {o} listing missed = record {
-      nothing = λ e' ps' P' d st le. let w = next_item listing st (listing.leads o e' ps' P' d st) in
-          let high : parts_height ps' ≡ parts_height (join qs (part w.item w.rest)) = ap parts_height w.parts in
-          let inner = parts_height-join qs (part w.item w.rest) in
-          missed.nothing w.to w.item w.one w.spelled w.stopped (omega arith);
-    }
-
   -- where no comma follows, the parts are found
   pub listing_stop : {o : ℕ} {i : Bool} {s k : S} {qs : Parts} {R : List Pair} → Listing o i s qs k R → ((t : Token) (x : S) → ReadBy S Next behind Div k t x → operation t ≡ op_comma → ⊥) → FoundLater S Next behind o i s k qs R
   listing_stop {o} {i} {s} {k} {qs} {R} listing no_comma = record {
@@ -372,17 +349,6 @@ module _ (S : Type 0) (Next : S → Token → S → Type 0) (behind : S → Toke
 
     pub climb_comma_unfit : {o : ℕ} → Climbing S Next behind det o Expression i f c s0 m mid Q → takes Assignment c ≡ false → Absent S Next behind Expression i f s0
     climb_comma_unfit climb no_fit = record { nothing = λ o' e' n' P' d st. false≢true (sym no_fit ∙ unfit_led (climb.leads o' e' n' P' d st) st) }
-
-    -- no parts behind the comma; none within the limits
-    pub climb_comma_absent : {o : ℕ} → Climbing S Next behind det o Expression i f c s0 m mid Q → IsTrue (takes Assignment c) → AbsentLater S Next behind i x → Absent S Next behind Expression i f s0
-    climb_comma_absent climb fits missed = record { nothing = λ o' e' n' P' d st. (let w = later_on climb fits d st in missed.nothing o' e' w.later w.pairs w.runs w.stopped) }
-
-    pub climb_comma_deep : {o hi : ℕ} → Climbing S Next behind det o Expression i f c s0 m mid Q → IsTrue (takes Assignment c) → AbsentLaterWithin S Next behind o (hi - 1) i x → AbsentWithin S Next behind o hi Expression i f s0
-    climb_comma_deep {o} climb fits missed = record {
-      nothing = λ e' n' P' d st le. let w = later_on climb fits d st in
-          let high : height n' ≡ suc (max (height m) (parts_height w.later)) = ap height w.tree in
-          missed.nothing e' w.later w.pairs w.runs w.stopped (omega arith);
-    }
 
     -- a sequence
     pub climb_comma : {o : ℕ} {qs : Parts} {to : S} {U : List Pair} {st en : ℕ} → Climbing S Next behind det o Expression i f c s0 m mid Q → IsTrue (takes Assignment c) → FoundLater S Next behind o i x to qs U →

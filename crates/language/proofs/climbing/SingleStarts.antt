@@ -1,7 +1,6 @@
 -- Leftmost parts that one production alone makes of their first token: functions, classes, templates, and the call of `import`.
-use Rattle.std.proofs.Common.{◌≡◌, ℕ, ◌-◌, Bool, true, false, List, [], ◌∷◌, ◌++◌, refl, sym, ap, ◌∙◌, subst, arith}
+use Rattle.std.proofs.Common.{◌≡◌, ℕ, Bool, true, false, List, [], ◌∷◌, ◌++◌, refl, sym, ap, ◌∙◌, subst}
 use Rattle.std.specs.Prelude.{IsTrue, codes}
-use Rattle.std.proofs.lemmas.Bool.{false≢true}
 use Rattle.tokens.specs.declared.token.TokenClass.TheVariants.{IdentifierName, Punctuator}
 use Rattle.tokens.specs.declared.token.Goal.{Goal}
 use Rattle.tree.specs.declared.kind.Kind.{Kind}
@@ -12,7 +11,7 @@ use Rattle.language.specs.declared.Start.{Start}
 use Rattle.language.specs.declared.Start.TheVariants.{Any, NoBrace, Statement}
 use Rattle.tree.specs.declared.kind.Flags.{Flags}
 use Rattle.tree.specs.declared.kind.Pair.{Pair}
-use Rattle.tree.specs.Tree.{Tree, node, Parts, none, part, gap, height, bare, bare_parts, plain}
+use Rattle.tree.specs.Tree.{Tree, node, Parts, none, part, gap, bare, bare_parts, plain}
 use Rattle.tree.specs.Uses.{is_lean, used_flags, has_text}
 use Rattle.tree.proofs.Lean.{lean_flags, lean_text}
 use Rattle.language.specs.FirstPart.{others}
@@ -21,7 +20,7 @@ use Rattle.language.specs.Pieces.{Role, expr, body, PieceOf, Piece, tok, sub, pu
 use Rattle.language.specs.Token.{Token}
 use Rattle.language.specs.Expressions.{function_pieces, class_pieces, template_elements}
 use Rattle.language.specs.ExpressionStart.{ExpressionStart, with_function, with_class, with_template, with_import, with_parenthesis, expression_start}
-use Rattle.language.specs.Promises.{IsDetermined, ReadBy, Absent, AbsentWithin, FoundParts, AbsentParts, AbsentPartsWithin}
+use Rattle.language.specs.Promises.{IsDetermined, ReadBy, FoundParts}
 use Rattle.language.specs.Grammar.{ways, starts}
 use Rattle.language.specs.Derivation.{Spells, Runs, Placed}
 use Rattle.language.specs.NodeForms.{function, class, template, import_call}
@@ -34,7 +33,7 @@ use Rattle.language.proofs.climbing.LeftmostParts.{Cored, in_group, in_way, core
 use Rattle.language.proofs.list_loops.FirstItems.{chunk_pieces}
 use Rattle.language.proofs.climbing.BinaryTurns.{same_node, replaced, same_places}
 use Rattle.language.proofs.climbing.OperatorLoop.{Climbing}
-use Rattle.language.proofs.climbing.FirstTurn.{climb_start, start_absent, start_deep}
+use Rattle.language.proofs.climbing.FirstTurn.{climb_start}
 use Rattle.language.proofs.climbing.Leaves.{core_primary}
 
 -- the pieces of a function and of a class, at any position
@@ -157,21 +156,6 @@ module _ (S : Type 0) (Next : S → Token → S → Type 0) (behind : S → Toke
         let where_is = same_places S Next behind det c.places places same.0 in
         (same.0, c.tree ∙ same_node refl refl refl where_is.0 where_is.1 same.1, same.2, c.stands))
 
-    -- there are none
-    pub start_sole_absent : {y : Rank} {i : Bool} → AbsentParts S Next behind pieces s0 → Absent S Next behind y i f s0
-    start_sole_absent missed = start_absent S Next behind det (λ o' n e P h j m mid Q b. (let c = sole_core b.core in missed.nothing o' mid c.parts Q c.runs))
-
-    -- none within the limits
-    pub start_sole_deep : {o hi : ℕ} {y : Rank} {i : Bool} → AbsentPartsWithin S Next behind o (hi - 1) pieces s0 → AbsentWithin S Next behind o hi y i f s0
-    start_sole_deep {o} missed = start_deep S Next behind det (λ n e P h j m mid Q b le.
-        let c = sole_core b.core in
-        let high : height m ≡ height (node K [] plain c.st c.en c.parts) = ap height c.tree in
-        missed.nothing mid c.parts Q c.runs (omega arith))
-
-    -- the position doesn't take its symbol
-    pub start_sole_unfit : {y : Rank} {i : Bool} → takes y z ≡ false → Absent S Next behind y i f s0
-    start_sole_unfit no_fit = start_absent S Next behind det (λ o' n e P h j m mid Q b. (let c = sole_core b.core in false≢true (sym no_fit ∙ b.reached.taken z c.stands)))
-
   -- a function
   pub function_production : (f : Start) → IsTrue (starts f (term "function" ∷ [])) → Production with_function FunctionExpression Primary f function_parts
   function_production f begins = record {
@@ -223,16 +207,3 @@ module _ (S : Type 0) (Next : S → Token → S → Type 0) (behind : S → Toke
     where
       of : (h : Rank) (j : Bool) {k : Kind} {w : List ℕ} {g : Flags} (ps : Parts) {qs : List (PieceOf Role)} → Headed h j f k w g (bare_parts ps) qs with_import → (k ≡ ImportExpression) × IsTrue (takes h Call) × (qs ≡ import_parts ps)
       of h j ps (head_import k tk q) = (k, tk, q)
-
-  -- a function or a class begins no expression at the start of a statement
-  pub start_function_unfit : {y : Rank} {i : Bool} {f : Start} {s0 m0 : S} {t : Token} → ReadBy S Next behind Goal.RegExp s0 t m0 → expression_start t ≡ with_function → starts f (term "function" ∷ []) ≡ false → Absent S Next behind y i f s0
-  start_function_unfit {f = f} {s0 = s0} r op no_fit = start_absent S Next behind det (λ o' n e P h j m mid Q b. of (core_by S Next behind det r op b.core))
-    where
-      of : {o : ℕ} {h : Rank} {j : Bool} {m : Tree} {mid : S} {Q : List Pair} → Cored S Next behind det o h j f m s0 mid Q with_function → ⊥
-      of (in_way is (head_function k b q) lean pl d) = false≢true (sym no_fit ∙ b)
-
-  pub start_class_unfit : {y : Rank} {i : Bool} {f : Start} {s0 m0 : S} {t : Token} → ReadBy S Next behind Goal.RegExp s0 t m0 → expression_start t ≡ with_class → starts f (term "class" ∷ []) ≡ false → Absent S Next behind y i f s0
-  start_class_unfit {f = f} {s0 = s0} r op no_fit = start_absent S Next behind det (λ o' n e P h j m mid Q b. of (core_by S Next behind det r op b.core))
-    where
-      of : {o : ℕ} {h : Rank} {j : Bool} {m : Tree} {mid : S} {Q : List Pair} → Cored S Next behind det o h j f m s0 mid Q with_class → ⊥
-      of (in_way is (head_class k b q) lean pl d) = false≢true (sym no_fit ∙ b)

@@ -23,7 +23,7 @@ use Rattle.language.specs.Token.{Token}
 use Rattle.language.specs.Edges.{edge}
 use Rattle.language.specs.Expressions.{expressions, after_number}
 use Rattle.language.specs.Continuations.{operation, rank_made_by, stops}
-use Rattle.language.specs.Promises.{IsDetermined, ReadBy, Stops, Absent, FoundAt, AbsentAt}
+use Rattle.language.specs.Promises.{IsDetermined, ReadBy, Stops, Absent, FoundAt}
 use Rattle.language.specs.Grammar.{ways, spellings}
 use Rattle.language.specs.Derivation.{Among, Spells, direct, grouped, Placed}
 use Rattle.language.proofs.table.Begins.{retell, goes_to}
@@ -269,11 +269,3 @@ module _ (S : Type 0) (Next : S → Token → S → Type 0) (behind : S → Toke
               let same = found.only o' w.to w.name w.pairs w.spelled in
               w.leads st en u to U same.1 same.0 same.2 places;
         }
-
-    -- what stands before `.` is too loose
-    pub climb_dot_unfit : {o : ℕ} {f : Start} {c : Rank} {Q : List Pair} → Climbing S Next behind det o y i f c s0 m mid Q → takes Call c ≡ false → Absent S Next behind y i f s0
-    climb_dot_unfit climb no_fit = record { nothing = λ o' e' n' P' d stopped. false≢true (sym no_fit ∙ (dot_on stopped (climb.leads o' e' n' P' d stopped)).fits) }
-
-    -- no name behind `.`
-    pub climb_dot_absent : {o : ℕ} {f : Start} {c : Rank} {Q : List Pair} → Climbing S Next behind det o y i f c s0 m mid Q → AbsentAt S Next behind word x → Absent S Next behind y i f s0
-    climb_dot_absent climb missed = record { nothing = λ o' e' n' P' d stopped. (let w = dot_on stopped (climb.leads o' e' n' P' d stopped) in missed.nothing o' w.to w.name w.pairs w.spelled) }

@@ -1,5 +1,5 @@
 -- A leftmost part that begins with `super`: a member or a call; and where no expression begins.
-use Rattle.std.proofs.Common.{◌≡◌, ℕ, ◌-◌, Bool, true, false, cond, List, [], ◌∷◌, ◌++◌, refl, sym, ap, ◌∙◌, subst, arith}
+use Rattle.std.proofs.Common.{◌≡◌, ℕ, Bool, true, false, cond, List, [], ◌∷◌, ◌++◌, refl, sym, ap, ◌∙◌, subst}
 use Rattle.std.specs.Prelude.{IsTrue, codes}
 use Rattle.std.proofs.lemmas.Bool.{false≢true}
 use Rattle.tokens.specs.declared.token.TokenClass.TheVariants.{IdentifierName, Punctuator}
@@ -13,7 +13,7 @@ use Rattle.language.specs.declared.Rank.TheVariants.{Call, Member, Primary}
 use Rattle.language.specs.declared.Start.{Start}
 use Rattle.tree.specs.declared.kind.Flags.{Flags}
 use Rattle.tree.specs.declared.kind.Pair.{Pair}
-use Rattle.tree.specs.Tree.{Tree, node, Parts, none, part, height, bare, bare_parts, plain}
+use Rattle.tree.specs.Tree.{Tree, node, Parts, none, part, bare, bare_parts, plain}
 use Rattle.tree.specs.Uses.{is_lean, used_flags, has_text}
 use Rattle.tree.proofs.Lean.{lean_flags, lean_text}
 use Rattle.language.specs.FirstPart.{others}
@@ -23,7 +23,7 @@ use Rattle.language.specs.Token.{Token}
 use Rattle.language.specs.Expressions.{arguments, selector}
 use Rattle.language.specs.Continuations.{of_class, operation}
 use Rattle.language.specs.ExpressionStart.{with_super, no_start, expression_start}
-use Rattle.language.specs.Promises.{IsDetermined, ReadBy, Absent, AbsentWithin}
+use Rattle.language.specs.Promises.{IsDetermined, ReadBy}
 use Rattle.language.specs.Grammar.{ways, spellings}
 use Rattle.language.specs.Derivation.{first, Reads, Spells, direct, Runs, done, step, within, token, Placed, placed}
 use Rattle.language.specs.NodeForms.{super_member, super_call}
@@ -33,14 +33,14 @@ use Rattle.language.proofs.table.Productions.{spell, starts_led, way_from}
 use Rattle.language.proofs.table.Begins.{goes_to, retell}
 use Rattle.language.proofs.climbing.SpineContinuations.{makes}
 use Rattle.language.proofs.table.TokenFirstWays.{head_super_member, head_super_call}
-use Rattle.language.proofs.climbing.LeftmostParts.{Cored, in_way, core_by, operand_begins, no_spine_core}
+use Rattle.language.proofs.climbing.LeftmostParts.{Cored, in_way, core_by, no_spine_core}
 use Rattle.language.proofs.list_loops.FirstPieces.{run_token, run_none, run_part}
 use Rattle.language.proofs.table.OperatorTokens.{reads_dot, reads_index, reads_call}
 use Rattle.language.proofs.climbing.BinaryTurns.{same_node, replaced, same_places}
 use Rattle.language.proofs.climbing.OperatorLoop.{Climbing}
 use Rattle.language.proofs.climbing.Suffixes.{computed_flags, arguments_fixed, member_flags, call_flags}
-use Rattle.language.proofs.climbing.Chains.{Link, on_dot, on_index, on_call, FoundLink, AbsentLink, AbsentLinkWithin}
-use Rattle.language.proofs.climbing.FirstTurn.{climb_start, start_absent, start_deep}
+use Rattle.language.proofs.climbing.Chains.{Link, on_dot, on_index, on_call, FoundLink}
+use Rattle.language.proofs.climbing.FirstTurn.{climb_start}
 use Rattle.language.proofs.climbing.Leaves.{by_name}
 
 -- what follows `super`, and the symbol of the node
@@ -173,10 +173,6 @@ module _ (S : Type 0) (Next : S → Token → S → Type 0) (behind : S → Toke
     super_reads : t.class ≡ IdentifierName → t.text ≡ codes "super" → Reads S Next behind IdentifierName (codes "super") s0 t x0
     super_reads class text = record { next = r.next; class = class; text = text }
 
-    -- nothing that may follow it does
-    pub start_super_alone : {y : Rank} {i : Bool} {f : Start} → ((v : Token) (k : S) (z : Operator) (c : Rank) → ReadBy S Next behind Div x0 v k → operation v ≡ z → SuperLink z c → IsTrue (takes y c) → ⊥) → Absent S Next behind y i f s0
-    start_super_alone missed = start_absent S Next behind det (λ o' n e P h j m mid Q b. (let u = super_core (core_by S Next behind det r opening b.core) in missed u.sign u.behind_sign u.z u.c u.read u.makes_it u.link (b.reached.taken u.c u.stands)))
-
     module _ {x1 : S} {v : Token} {z : Operator} {c : Rank} (link : SuperLink z c) (read : ReadBy S Next behind Div x0 v x1) (is_op : operation v ≡ z) where
       record SuperOn (o : ℕ) (h : Rank) (j : Bool) (f : Start) (m : Tree) (mid : S) (Q : List Pair) : Type 0 where
         K : Kind
@@ -210,21 +206,6 @@ module _ (S : Type 0) (Next : S → Token → S → Type 0) (behind : S → Toke
             runs = subst (λ k. Runs ways S Next behind o (u.pieces u.ps) u.ps k mid Q) same.1 u.runs;
           }
 
-      -- no part is found behind the sign
-      pub start_super_absent : {y : Rank} {i : Bool} {f : Start} → AbsentLink S Next behind det z x1 → Absent S Next behind y i f s0
-      start_super_absent missed = start_absent S Next behind det (λ o' n e P h j m mid Q b. (let u = super_on b.core in missed.nothing o' u.K u.G u.pieces u.ps mid Q u.is_link u.runs))
-
-      -- none within the limits
-      pub start_super_deep : {o hi : ℕ} {y : Rank} {i : Bool} {f : Start} → AbsentLinkWithin S Next behind det o (hi - 1) z x1 → AbsentWithin S Next behind o hi y i f s0
-      start_super_deep {o} missed = start_deep S Next behind det (λ n e P h j m mid Q b le.
-          let u = super_on b.core in
-          let high : height m ≡ height (node u.K [] u.G u.st u.en (part (super_node t x0) u.ps)) = ap height u.tree in
-          missed.nothing u.K u.G u.pieces u.ps mid Q u.is_link u.runs (omega arith))
-
-      -- the position doesn't take its symbol
-      pub start_super_unfit : {y : Rank} {i : Bool} {f : Start} → takes y c ≡ false → Absent S Next behind y i f s0
-      start_super_unfit no_fit = start_absent S Next behind det (λ o' n e P h j m mid Q b. (let u = super_on b.core in false≢true (sym no_fit ∙ b.reached.taken c u.stands)))
-
       -- a member of `super`, or its call
       pub climb_super : {o : ℕ} {y : Rank} {i : Bool} {f : Start} {K : Kind} {G : Flags} {pieces : Parts → List (PieceOf Role)} {ps : Parts} {to : S} {U : List Pair} {st en : ℕ} → t.class ≡ IdentifierName → t.text ≡ codes "super" → IsTrue (takes y c) →
           FoundLink S Next behind det o z x1 to K G pieces ps U → Placed S Next behind (expr y i f) (node K [] G st en (part (super_node t x0) ps)) s0 to → Climbing S Next behind det o y i f c s0 (node K [] G st en (part (super_node t x0) ps)) to U
@@ -247,9 +228,3 @@ module _ (S : Type 0) (Next : S → Token → S → Type 0) (behind : S → Toke
       of (expr h j g) on c = unopened (core_by S Next behind det r op c)
       of (chain_part g) on c = no_spine_core S Next behind det c
       of _ on c = false≢true on
-
-  pub start_none : {y : Rank} {i : Bool} {f : Start} {s m : S} {t : Token} → ReadBy S Next behind Goal.RegExp s t m → expression_start t ≡ no_start → Absent S Next behind y i f s
-  start_none r op = record { nothing = λ o' e' n' P' d st. none_begins r op d }
-
-  pub start_unread : {y : Rank} {i : Bool} {f : Start} {s : S} → ((t : Token) (m : S) → ReadBy S Next behind Goal.RegExp s t m → ⊥) → Absent S Next behind y i f s
-  start_unread missed = record { nothing = λ o' e' n' P' d st. (let u = (operand_begins S Next behind det d).begins in missed u.token u.mid u.read) }

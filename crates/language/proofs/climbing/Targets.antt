@@ -1,5 +1,5 @@
 -- A leftmost part that begins with `[` or `{`: an array or an object, or an assignment to such a pattern.
-use Rattle.std.proofs.Common.{◌≡◌, ℕ, ◌-◌, ◌≤◌, Bool, true, false, List, [], ◌∷◌, ◌++◌, refl, sym, ap, ◌∙◌, subst, arith}
+use Rattle.std.proofs.Common.{◌≡◌, ℕ, Bool, true, false, List, [], ◌∷◌, ◌++◌, refl, sym, ap, ◌∙◌, subst, arith}
 use Rattle.std.specs.Prelude.{IsTrue, Some, codes, not, ◌&&◌, ◌||◌}
 use Rattle.std.proofs.lemmas.Bool.{and_parts, false≢true}
 use Rattle.std.proofs.lemmas.Slice.Eq.{bytes_eq-Decides}
@@ -16,7 +16,7 @@ use Rattle.language.specs.declared.Start.TheVariants.{Any, NoBrace, Statement}
 use Rattle.language.specs.declared.Edge.TheVariants.{Other}
 use Rattle.tree.specs.declared.kind.Flags.{Flags}
 use Rattle.tree.specs.declared.kind.Pair.{Pair}
-use Rattle.tree.specs.Tree.{Tree, node, Parts, none, part, height, kind_of, bare, bare_parts, plain}
+use Rattle.tree.specs.Tree.{Tree, node, Parts, none, part, kind_of, bare, bare_parts, plain}
 use Rattle.tree.specs.Uses.{is_lean, used_flags, has_text}
 use Rattle.tree.proofs.Lean.{lean_flags, lean_text}
 use Rattle.language.specs.FirstPart.{lead as lead_kind}
@@ -27,7 +27,7 @@ use Rattle.language.specs.Edges.{edge, edge_as_written}
 use Rattle.language.specs.Expressions.{object_part, infix_pieces}
 use Rattle.language.specs.Continuations.{of_class, operation, rank_made_by, stops_at, stops}
 use Rattle.language.specs.ExpressionStart.{ExpressionStart, with_bracket, with_brace, with_parenthesis, expression_start}
-use Rattle.language.specs.Promises.{IsDetermined, ReadBy, Stops, Found, Absent, AbsentWithin, FoundAt, AbsentAt, AbsentAtWithin, FoundParts, AbsentParts, AbsentPartsWithin}
+use Rattle.language.specs.Promises.{IsDetermined, ReadBy, Stops, Found, Absent, FoundAt, FoundParts}
 use Rattle.language.specs.Grammar.{ways, spellings, starts}
 use Rattle.language.specs.Derivation.{Reads, Spells, direct, Runs, step, within, token, laid, Placed}
 use Rattle.language.specs.NodeForms.{array, object, assign_pattern}
@@ -50,7 +50,7 @@ use Rattle.language.proofs.table.Tails.{tails_assign}
 use Rattle.language.proofs.climbing.BinaryTurns.{same_node, replaced, same_places}
 use Rattle.language.proofs.climbing.Conditionals.{same_sign}
 use Rattle.language.proofs.climbing.OperatorLoop.{Climbing, LedOn, led_on}
-use Rattle.language.proofs.climbing.FirstTurn.{Begun, climb_start, start_absent, start_deep, begun_stops, core_spelled}
+use Rattle.language.proofs.climbing.FirstTurn.{Begun, climb_start, start_absent, begun_stops, core_spelled}
 use Rattle.language.proofs.climbing.Leaves.{core_primary}
 
 -- the pieces of an array and of an object
@@ -121,34 +121,9 @@ module _ (S : Type 0) (Next : S → Token → S → Type 0) (behind : S → Toke
   pub found_ends : {o : ℕ} {a : Role} {s e : S} {n : Tree} {P : List Pair} → FoundAt S Next behind o a s e n P → EndsAt a s e
   found_ends found o' e' n' P' d = (found.only o' e' n' P' d).0
 
-  pub absent_ends : {a : Role} {s e : S} → AbsentAt S Next behind a s → EndsAt a s e
-  absent_ends missed o' e' n' P' d = absurd (missed.nothing o' e' n' P' d)
-
-  pub parts_found_end : {o : ℕ} {pieces : Parts → List (PieceOf Role)} {s e : S} {ps : Parts} {P : List Pair} → FoundParts S Next behind o pieces s e ps P → PartsEndAt pieces s e
-  parts_found_end found o' e' ps' P' d = (found.only o' e' ps' P' d).0
-
-  pub parts_absent_end : {pieces : Parts → List (PieceOf Role)} {s e : S} → AbsentParts S Next behind pieces s → PartsEndAt pieces s e
-  parts_absent_end missed o' e' ps' P' d = absurd (missed.nothing o' e' ps' P' d)
-
   -- no pattern here has `=` behind it; none within the limits
   abbrev pub Unassigned : Start → S → Type 0
   Unassigned f s = (o' : ℕ) (e' : S) (n' : Tree) (P' : List Pair) (v : Token) (k : S) → Spells ways S Next behind o' (pattern false f) n' s e' P' → Reads S Next behind Punctuator (codes "=") e' v k → ⊥
-
-  abbrev pub UnassignedWithin : ℕ → ℕ → Start → S → Type 0
-  UnassignedWithin o hi f s = (e' : S) (n' : Tree) (P' : List Pair) (v : Token) (k : S) → Spells ways S Next behind o (pattern false f) n' s e' P' → Reads S Next behind Punctuator (codes "=") e' v k → height n' ≤ hi → ⊥
-
-  -- by the place where it ends, and by its absence
-  pub unassigned_end : {f : Start} {s e : S} → EndsAt (pattern false f) s e → ((v : Token) (k : S) → Reads S Next behind Punctuator (codes "=") e v k → ⊥) → Unassigned f s
-  unassigned_end ends no_sign o' e' n' P' v k d h = no_sign v k (subst (λ c. Reads S Next behind Punctuator (codes "=") c v k) (ends o' e' n' P' d) h)
-
-  pub unassigned_absent : {f : Start} {s : S} → AbsentAt S Next behind (pattern false f) s → Unassigned f s
-  unassigned_absent missed o' e' n' P' v k d h = missed.nothing o' e' n' P' d
-
-  pub unassigned_within : {o hi : ℕ} {f : Start} {s : S} → AbsentAtWithin S Next behind o hi (pattern false f) s → UnassignedWithin o hi f s
-  unassigned_within missed e' n' P' v k d h low = missed.nothing e' n' P' d low
-
-  pub unassigned_any : {o hi : ℕ} {f : Start} {s : S} → Unassigned f s → UnassignedWithin o hi f s
-  unassigned_any {o} none_there e' n' P' v k d h low = none_there o e' n' P' v k d h
 
   -- a pattern is an array or an object pattern
   pub pattern_is : {o : ℕ} {b : Bool} {f : Start} {n : Tree} {s e : S} {P : List Pair} → Spells ways S Next behind o (pattern b f) n s e P → is_pattern (kind_of n) ≡ true
@@ -265,69 +240,12 @@ module _ (S : Type 0) (Next : S → Token → S → Type 0) (behind : S → Toke
             (same.0, tree ∙ same_node refl refl refl where_is.0 where_is.1 same.1, same.2, tk)
         alone {o'} b (as_assigned {p = p} {place = place} {x = x2} {v = v} {R = R} tree tk' pl d eq u q) tk = absurd (unassigned (b.reached.taken Assignment tk') o' place p R v x2 d eq)
 
-    -- neither
-    pub start_bracket_absent : {y : Rank} {i : Bool} → AbsentParts S Next behind pieces s0 → (IsTrue (takes y Assignment) → Unassigned S Next behind f s0) → Absent S Next behind y i f s0
-    start_bracket_absent {y} {i} missed unassigned = start_absent S Next behind det (λ o' n e P h j m mid Q b. of b (bracket_core b.core))
-      where
-        of : {o' : ℕ} {n : Tree} {e : S} {P : List Pair} {h : Rank} {j : Bool} {m : Tree} {mid : S} {Q : List Pair} → Begun S Next behind det o' s0 y i f n e P h j m mid Q → BracketCore o' h j f m s0 mid Q K pieces → ⊥
-        of {o'} {mid = mid} {Q = Q} b (as_list {ps = ps'} tree pl d) = missed.nothing o' mid ps' Q d
-        of {o'} b (as_assigned {p = p} {place = place} {x = x2} {v = v} {R = R} tree tk pl d eq u q) = unassigned (b.reached.taken Assignment tk) o' place p R v x2 d eq
-
-    -- neither within the limits
-    pub start_bracket_deep : {o hi : ℕ} {y : Rank} {i : Bool} → AbsentPartsWithin S Next behind o (hi - 1) pieces s0 → (IsTrue (takes y Assignment) → UnassignedWithin S Next behind o (hi - 1) f s0) → AbsentWithin S Next behind o hi y i f s0
-    start_bracket_deep {o} {hi} {y} {i} missed unassigned = start_deep S Next behind det (λ n e P h j m mid Q b low. of b (bracket_core b.core) low)
-      where
-        of : {n : Tree} {e : S} {P : List Pair} {h : Rank} {j : Bool} {m : Tree} {mid : S} {Q : List Pair} → Begun S Next behind det o s0 y i f n e P h j m mid Q → BracketCore o h j f m s0 mid Q K pieces → height m ≤ hi → ⊥
-        of {m = m} {mid = mid} {Q = Q} b (as_list {st = st'} {en = en'} {ps = ps'} tree pl d) low =
-            let high : height m ≡ height (node K [] plain st' en' ps') = ap height tree in
-            missed.nothing mid ps' Q d (omega arith)
-        of {m = m} b (as_assigned {st = st'} {en = en'} {p = p} {u = u'} {place = place} {x = x2} {v = v} {R = R} tree tk pl d eq u q) low =
-            let high : height m ≡ height (node AssignmentExpression (codes "=") plain st' en' (part p (part u' none))) = ap height tree in
-            unassigned (b.reached.taken Assignment tk) place p R v x2 d eq (omega arith)
-
     -- `=` follows what ends there
     module _ {mid x2 : S} {v : Token} (ends : PartsEndAt S Next behind pieces s0 mid) (reads : Reads S Next behind Punctuator (codes "=") mid v x2) {y : Rank} (low : IsTrue (takes y Assignment)) where
-      -- and it is no pattern
-      pub start_unassigned : {i : Bool} → Unassigned S Next behind f s0 → Absent S Next behind y i f s0
-      start_unassigned {i} unassigned = start_absent S Next behind det (λ o' n e P h j m mid' Q b. of b (bracket_core b.core))
-        where
-          of : {o' : ℕ} {n : Tree} {e : S} {P : List Pair} {h : Rank} {j : Bool} {m : Tree} {mid' : S} {Q : List Pair} → Begun S Next behind det o' s0 y i f n e P h j m mid' Q → BracketCore o' h j f m s0 mid' Q K pieces → ⊥
-          of b (as_list tree pl d) = not_assigned ends reads low b tree d
-          of {o'} b (as_assigned {p = p} {place = place} {x = x3} {v = v'} {R = R} tree tk pl d eq u q) = unassigned o' place p R v' x3 d eq
-
-      pub start_unassigned_deep : {o hi : ℕ} {i : Bool} → UnassignedWithin S Next behind o (hi - 1) f s0 → AbsentWithin S Next behind o hi y i f s0
-      start_unassigned_deep {o} {hi} {i} unassigned = start_deep S Next behind det (λ n e P h j m mid' Q b le. of b (bracket_core b.core) le)
-        where
-          of : {n : Tree} {e : S} {P : List Pair} {h : Rank} {j : Bool} {m : Tree} {mid' : S} {Q : List Pair} → Begun S Next behind det o s0 y i f n e P h j m mid' Q → BracketCore o h j f m s0 mid' Q K pieces → height m ≤ hi → ⊥
-          of b (as_list tree pl d) le = not_assigned ends reads low b tree d
-          of {m = m} b (as_assigned {st = st'} {en = en'} {p = p} {u = u'} {place = place} {x = x3} {v = v'} {R = R} tree tk pl d eq u q) le =
-              let high : height m ≡ height (node AssignmentExpression (codes "=") plain st' en' (part p (part u' none))) = ap height tree in
-              unassigned place p R v' x3 d eq (omega arith)
-
       -- or it is one, with no right side
       module _ (pattern_ends : EndsAt S Next behind (pattern false f) s0 mid) where
         inside : {o : ℕ} {i : Bool} {n : Tree} {e : S} {P : List Pair} {h : Rank} {j : Bool} {m : Tree} {mid' : S} {Q : List Pair} → Begun S Next behind det o s0 y i f n e P h j m mid' Q → IsTrue (takes h Assignment) → j ≡ i
         inside {h = h} b tk = (b.reached.same_in (loose_of h Assignment tk refl)).1
-
-        pub start_assigned_absent : {i : Bool} → Absent S Next behind Assignment i Any x2 → Absent S Next behind y i f s0
-        start_assigned_absent {i} missed = start_absent S Next behind det (λ o' n e P h j m mid' Q b. of b (bracket_core b.core))
-          where
-            of : {o' : ℕ} {n : Tree} {e : S} {P : List Pair} {h : Rank} {j : Bool} {m : Tree} {mid' : S} {Q : List Pair} → Begun S Next behind det o' s0 y i f n e P h j m mid' Q → BracketCore o' h j f m s0 mid' Q K pieces → ⊥
-            of b (as_list tree pl d) = not_assigned ends reads low b tree d
-            of {o'} {mid' = mid'} b (as_assigned {u = u'} {V = V} tree tk pl d eq u q) =
-                let same = inside b tk in
-                missed.nothing o' mid' u' V (subst (λ k. Spells ways S Next behind o' (expr Assignment k Any) u' x2 mid' V) same (behind_sign reads pattern_ends d eq u)) (subst (λ k. Stops S Next behind Assignment k u' mid') same (right_stops b tree tk))
-
-        -- none within the limits
-        pub start_assigned_deep : {o hi : ℕ} {i : Bool} → AbsentWithin S Next behind o (hi - 1) Assignment i Any x2 → AbsentWithin S Next behind o hi y i f s0
-        start_assigned_deep {o} {hi} {i} missed = start_deep S Next behind det (λ n e P h j m mid' Q b le. of b (bracket_core b.core) le)
-          where
-            of : {n : Tree} {e : S} {P : List Pair} {h : Rank} {j : Bool} {m : Tree} {mid' : S} {Q : List Pair} → Begun S Next behind det o s0 y i f n e P h j m mid' Q → BracketCore o h j f m s0 mid' Q K pieces → height m ≤ hi → ⊥
-            of b (as_list tree pl d) le = not_assigned ends reads low b tree d
-            of {m = m} {mid' = mid'} b (as_assigned {st = st'} {en = en'} {p = p} {u = u'} {V = V} tree tk pl d eq u q) le =
-                let same = inside b tk in
-                let high : height m ≡ height (node AssignmentExpression (codes "=") plain st' en' (part p (part u' none))) = ap height tree in
-                missed.nothing mid' u' V (subst (λ k. Spells ways S Next behind o (expr Assignment k Any) u' x2 mid' V) same (behind_sign reads pattern_ends d eq u)) (subst (λ k. Stops S Next behind Assignment k u' mid') same (right_stops b tree tk)) (omega arith)
 
       -- an assignment to a pattern
       pub climb_assigned : {o : ℕ} {i : Bool} {p u : Tree} {to : S} {R U : List Pair} {st en : ℕ} → FoundAt S Next behind o (pattern false f) s0 mid p R → Found S Next behind o Assignment i Any x2 to u U →

@@ -1,5 +1,5 @@
 -- Further forms of the turns of the loop: at `.` within the limits, at `=>` behind what is no arrow's parameters; and limits that nothing meets.
-use Rattle.std.proofs.Common.{◌≡◌, ℕ, ◌-◌, ◌≤◌, Bool, false, List, refl, ap, arith}
+use Rattle.std.proofs.Common.{◌≡◌, ℕ, ◌≤◌, Bool, false, List, refl, ap, arith}
 use Rattle.tokens.specs.declared.token.Goal.TheVariants.{Div}
 use Rattle.tree.specs.declared.kind.Kind.{Kind}
 use Rattle.language.specs.declared.Rank.{Rank}
@@ -8,18 +8,17 @@ use Rattle.language.specs.declared.Start.{Start}
 use Rattle.tree.specs.declared.kind.Flags.{Flags}
 use Rattle.tree.specs.declared.kind.Pair.{Pair}
 use Rattle.tree.specs.Tree.{Tree, node, Parts, height}
-use Rattle.language.specs.Vocabulary.{precedence, Operator, op_dot, op_arrow, operator_of}
-use Rattle.language.specs.Pieces.{Role, word, PieceOf}
+use Rattle.language.specs.Vocabulary.{precedence, Operator, op_arrow, operator_of}
+use Rattle.language.specs.Pieces.{Role, PieceOf}
 use Rattle.language.specs.Token.{Token}
 use Rattle.language.specs.Edges.{edge}
 use Rattle.language.specs.Continuations.{operation, stops}
-use Rattle.language.specs.Promises.{IsDetermined, ReadBy, Absent, AbsentWithin, AbsentAt, AbsentAtWithin, AbsentParts, AbsentPartsWithin, AbsentCallee, AbsentCalleeWithin}
+use Rattle.language.specs.Promises.{IsDetermined, ReadBy, Absent, AbsentWithin, AbsentAt, AbsentAtWithin, AbsentParts, AbsentPartsWithin}
 use Rattle.language.proofs.table.OperatorFacts.{binding}
 use Rattle.language.proofs.table.LeftRecursiveWays.{Led}
 use Rattle.language.proofs.climbing.NoContinuation.{goes_where_not}
 use Rattle.language.proofs.climbing.OperatorLoop.{Climbing, led_on}
 use Rattle.language.proofs.climbing.BinaryTurns.{TwoSided, two_binds, two_powers, two_assigns}
-use Rattle.language.proofs.climbing.Suffixes.{dot_on}
 
 -- nothing is led by what stands before `=>`
 none_led : {y : Rank} {i : Bool} {f : Start} {k : Kind} {w : List ℕ} {g : Flags} {ps : Parts} {b : Role} {rest : List (PieceOf Role)} → Led y i f k w g ps b rest op_arrow → ⊥
@@ -57,39 +56,11 @@ module _ (S : Type 0) (Next : S → Token → S → Type 0) (behind : S → Toke
   pub parts_within : {o hi : ℕ} {pieces : Parts → List (PieceOf Role)} {s : S} → AbsentParts S Next behind pieces s → AbsentPartsWithin S Next behind o hi pieces s
   parts_within {o} missed = record { nothing = λ e' ps' P' d le. missed.nothing o e' ps' P' d }
 
-  pub callee_within : {o hi : ℕ} {s : S} → AbsentCallee S Next behind s → AbsentCalleeWithin S Next behind o hi s
-  callee_within {o} missed = record { nothing = λ e' n' P' d st le. missed.nothing o e' n' P' d st }
-
-  -- and what is absent within a height is so within a lower one
-  pub within_lower : {o hi lo : ℕ} {y : Rank} {i : Bool} {f : Start} {s : S} → lo ≤ hi → AbsentWithin S Next behind o hi y i f s → AbsentWithin S Next behind o lo y i f s
-  within_lower low missed = record { nothing = λ e' n' P' d st le. missed.nothing e' n' P' d st (omega arith) }
-
-  pub at_within_lower : {o hi lo : ℕ} {a : Role} {s : S} → lo ≤ hi → AbsentAtWithin S Next behind o hi a s → AbsentAtWithin S Next behind o lo a s
-  at_within_lower low missed = record { nothing = λ e' n' P' d le. missed.nothing e' n' P' d (omega arith) }
-
-  pub parts_within_lower : {o hi lo : ℕ} {pieces : Parts → List (PieceOf Role)} {s : S} → lo ≤ hi → AbsentPartsWithin S Next behind o hi pieces s → AbsentPartsWithin S Next behind o lo pieces s
-  parts_within_lower low missed = record { nothing = λ e' ps' P' d le. missed.nothing e' ps' P' d (omega arith) }
-
   -- no node has no height
   pub no_height : {o : ℕ} {y : Rank} {i : Bool} {f : Start} {s : S} → AbsentWithin S Next behind o 0 y i f s
   no_height = record { nothing = λ e' n' P' d st le. (let some = some_height n' in omega arith) }
 
-  pub no_height_at : {o : ℕ} {a : Role} {s : S} → AbsentAtWithin S Next behind o 0 a s
-  no_height_at = record { nothing = λ e' n' P' d le. (let some = some_height n' in omega arith) }
-
-  pub no_height_callee : {o : ℕ} {s : S} → AbsentCalleeWithin S Next behind o 0 s
-  no_height_callee = record { nothing = λ e' n' P' d st le. (let some = some_height n' in omega arith) }
-
 module _ (S : Type 0) (Next : S → Token → S → Type 0) (behind : S → Token) (det : IsDetermined S Next behind) where
-  -- `.`, and no name within the limits
-  pub climb_dot_deep : {o hi : ℕ} {y : Rank} {i : Bool} {f : Start} {c : Rank} {s0 mid x : S} {m : Tree} {Q : List Pair} {t : Token} → ReadBy S Next behind Div mid t x → operation t ≡ op_dot → stops y i (edge m) (behind mid) t ≡ false → Climbing S Next behind det o y i f c s0 m mid Q →
-      AbsentAtWithin S Next behind o (hi - 1) word x → AbsentWithin S Next behind o hi y i f s0
-  climb_dot_deep {o} r is_op goes climb missed = record {
-    nothing = λ e' n' P' d stopped le. let w = dot_on S Next behind det r is_op goes stopped (climb.leads o e' n' P' d stopped) in
-        let low = w.low in
-        missed.nothing w.to w.name w.pairs w.spelled (omega arith);
-  }
-
   -- `=>` behind what is no arrow's parameters
   pub climb_arrows : {o : ℕ} {y : Rank} {i : Bool} {f : Start} {c : Rank} {s0 mid x : S} {m : Tree} {Q : List Pair} {t : Token} → ReadBy S Next behind Div mid t x → operation t ≡ op_arrow → stops y i (edge m) (behind mid) t ≡ false → Climbing S Next behind det o y i f c s0 m mid Q → Absent S Next behind y i f s0
   climb_arrows {y = y} {i = i} r is_op goes climb = record {

@@ -1,27 +1,26 @@
 -- The one fact about a property of an object, from what was read: a value, a shorthand with a default or without, a method, a spread.
-use Rattle.std.proofs.Common.{◌≡◌, ℕ, ◌-◌, Bool, true, false, List, [], ◌++◌, refl, sym, ap, subst}
+use Rattle.std.proofs.Common.{◌≡◌, ℕ, Bool, true, false, List, [], ◌++◌, refl, sym, ap, subst}
 use Rattle.std.specs.Prelude.{Some, codes}
 use Rattle.std.proofs.lemmas.Bool.{false≢true}
-use Rattle.tokens.specs.declared.token.TokenClass.TheVariants.{IdentifierName, Punctuator}
-use Rattle.tree.specs.declared.kind.Kind.TheVariants.{Identifier, Property, AssignmentExpression, AssignmentPattern}
-use Rattle.tree.specs.declared.kind.Form.TheVariants.{Init, Shorthand}
+use Rattle.tokens.specs.declared.token.TokenClass.TheVariants.{Punctuator}
+use Rattle.tree.specs.declared.kind.Kind.TheVariants.{Property}
+use Rattle.tree.specs.declared.kind.Form.TheVariants.{Init}
 use Rattle.tree.specs.declared.kind.Pair.{Pair}
-use Rattle.tree.specs.Tree.{Tree, node, none, part, plain}
+use Rattle.tree.specs.Tree.{Tree, node, none, part}
 use Rattle.language.specs.declared.Rank.{Rank}
 use Rattle.language.specs.declared.Rank.TheVariants.{Expression, Assignment}
 use Rattle.language.specs.declared.Start.TheVariants.{Any}
-use Rattle.language.specs.Vocabulary.{is, takes, is_reserved}
-use Rattle.language.specs.Pieces.{Role, expr, element, pattern_property, with_default}
+use Rattle.language.specs.Vocabulary.{is, takes}
+use Rattle.language.specs.Pieces.{Role, expr}
 use Rattle.language.specs.Token.{Token}
-use Rattle.language.specs.Covers.{Reading, as_expression, as_pattern, shaped, property_as, pattern_of, FoundItem, AbsentItem, AbsentItemWithin, Decided, it_fits, no_fit, Cover, NoCover, NoCoverWithin}
-use Rattle.language.specs.Promises.{IsDetermined, Stops, Found, Absent, AbsentWithin}
+use Rattle.language.specs.Covers.{Reading, as_expression, as_pattern, property_as, FoundItem, AbsentItem, Decided, it_fits, no_fit}
+use Rattle.language.specs.Promises.{IsDetermined, Stops, Found, Absent}
 use Rattle.language.specs.Grammar.{ways}
 use Rattle.language.specs.Derivation.{Reads, Spells, Placed}
 use Rattle.language.proofs.covers.CoverReadings.{ReadAs, read, not_read}
-use Rattle.language.proofs.covers.CoverTrees.{pattern_name, pattern_assignment, pattern_property_of}
 use Rattle.language.proofs.covers.CoverProperties.{flags_as, KeyAt, to_expression, PatternPropertyAt, with_value, with_name, with_element}
 use Rattle.language.proofs.covers.CoverKeys.{KeyFound, key_at_sign}
-use Rattle.language.proofs.covers.CoverObjects.{value_as, property_role, Mark, pair_found, pair_absent, pair_deep, shorthand_found, initialized_no_expression, initialized_found, initialized_absent, initialized_deep, FormAs, form_as, short_ends, default_ends}
+use Rattle.language.proofs.covers.CoverObjects.{value_as, property_role, Mark, pair_found, pair_absent, shorthand_found, initialized_found, FormAs, form_as, short_ends, default_ends}
 
 call_colon : codes "(" ≡ codes ":" → ⊥
 call_colon e = false≢true (sym (ap (λ w. is w "(") e))
@@ -50,38 +49,12 @@ module _ (S : Type 0) (Next : S → Token → S → Type 0) (behind : S → Toke
       role_of : {a b : Role} → Some a ≡ Some b → a ≡ b
       role_of e = cc
 
-  expression_deep : {o h : ℕ} {x : S} → AbsentWithin S Next behind o h Assignment true Any x → AbsentItemWithin S Next behind Ends to_expression o h x
-  expression_deep {o} {x = x} missed = record { nothing = λ a e' n' P' h d ends low. missed.nothing e' n' P' (subst (λ c. Spells ways S Next behind o c n' x e' P') (sym (role_of h)) d) (stops Assignment n' e' refl ends) low }
-    where
-      role_of : {a b : Role} → Some a ≡ Some b → a ≡ b
-      role_of e = cc
-
   module _ {s : S} (no_dots : (t : Token) (k : S) → Reads S Next behind Punctuator (codes "...") s t k → ⊥) {c : Bool} {o : ℕ} {k : S} {nk : Tree} {PK : List Pair} (found : KeyFound S Next behind det c o s k nk PK) where
     -- a value behind `:`: what the value is, the property is
     module _ {v : Token} {x : S} (colon : Reads S Next behind Punctuator (codes ":") k v x) {e : S} (n : Tree) {P : List Pair} {st en : ℕ} (places : (a : Reading) (m : Tree) → Placed S Next behind (property_role a) (node Property [] (flags_as c Init) st en (part nk (part m none))) s e) where
       value_read : {z : Bool} → ReadAs S Next behind det o x e n P z → Decided S Next behind Ends (property_as as_expression) o s e (Some (node Property [] (flags_as c Init) st en (part nk (part n none)))) (PK ++ P) z
       value_read (read f) = it_fits refl (pair_found S Next behind det no_dots Ends marks found colon as_expression (expression_value f) (places as_expression n))
       value_read (not_read missed) = no_fit (pair_absent S Next behind det no_dots Ends marks found colon as_expression (expression_missing missed))
-
-      value_element : (b : Bool) {z : Bool} → Decided S Next behind Ends (with_default b) o x e (pattern_of n) P z → Decided S Next behind Ends (property_as (as_pattern b)) o s e (pattern_of (node Property [] (flags_as c Init) st en (part nk (part n none)))) (PK ++ P) z
-      value_element b (it_fits {m = m} tree f) = it_fits (pattern_property_of n refl tree) (pair_found S Next behind det no_dots Ends marks found colon (as_pattern b) f (places (as_pattern b) m))
-      value_element b (no_fit missed) = no_fit (pair_absent S Next behind det no_dots Ends marks found colon (as_pattern b) missed)
-
-      pub pair_cover : {z y1 y2 : Bool} → ReadAs S Next behind det o x e n P z → Decided S Next behind Ends (with_default false) o x e (pattern_of n) P y1 → Decided S Next behind Ends (with_default true) o x e (pattern_of n) P y2 →
-          Cover S Next behind Ends property_as (shaped z y1 y2) o s e (node Property [] (flags_as c Init) st en (part nk (part n none))) (PK ++ P)
-      pair_cover r y1 y2 as_expression = value_read r
-      pair_cover r y1 y2 (as_pattern false) = value_element false y1
-      pair_cover r y1 y2 (as_pattern true) = value_element true y2
-
-    -- without a value there: nothing
-    module _ {v : Token} {x : S} (colon : Reads S Next behind Punctuator (codes ":") k v x) where
-      pub no_pair : Absent S Next behind Assignment true Any x → ((b : Bool) → AbsentItem S Next behind Ends (with_default b) x) → NoCover S Next behind Ends property_as s
-      no_pair missed items as_expression = pair_absent S Next behind det no_dots Ends marks found colon as_expression (expression_missing missed)
-      no_pair missed items (as_pattern b) = pair_absent S Next behind det no_dots Ends marks found colon (as_pattern b) (items b)
-
-      pub no_pair_within : {o' h : ℕ} → AbsentWithin S Next behind o' (h - 1) Assignment true Any x → ((b : Bool) → AbsentItemWithin S Next behind Ends (with_default b) o' (h - 1) x) → NoCoverWithin S Next behind Ends property_as o' h s
-      no_pair_within missed items as_expression = pair_deep S Next behind det no_dots Ends marks found colon as_expression (expression_deep missed)
-      no_pair_within missed items (as_pattern b) = pair_deep S Next behind det no_dots Ends marks found colon (as_pattern b) (items b)
 
     -- a method, getter or setter is in no pattern: behind the key stands `(`, or another key
     pub method_no_pattern : (b : Bool) {v : Token} {x : S} → Reads S Next behind Punctuator (codes "(") k v x → AbsentItem S Next behind Ends (property_as (as_pattern b)) s
@@ -99,33 +72,3 @@ module _ (S : Type 0) (Next : S → Token → S → Type 0) (behind : S → Toke
         of {o'} (with_value u) ends = key_at_sign S Next behind det refl refl colon_bracket key (subst (λ z. Reads S Next behind Punctuator (codes ":") z u.sign u.x) (found.only u.computed o' u.mid u.name u.one u.key).1 u.reads)
         of (with_name u) ends = let m = marks k (subst Ends (short_ends S Next behind det no_dots Ends marks found u) ends) in key_at_sign S Next behind det m.operand m.allowed m.no_bracket key m.reads
         of (with_element u) ends = let w = default_ends S Next behind det no_dots Ends marks found u in key_at_sign S Next behind det refl refl equals_bracket key w.reads
-
-  -- a name that is key and value
-  module _ {s : S} (no_dots : (t : Token) (k : S) → Reads S Next behind Punctuator (codes "...") s t k → ⊥) {ok : ℕ} {k : S} {w : List ℕ} {t : Token} (word : Reads S Next behind IdentifierName w s t k) (free : is_reserved w ≡ false)
-      (found : KeyFound S Next behind det false ok s k (node Identifier w plain t.start (behind k).stop none) []) where
-    pub shorthand_cover : {o : ℕ} {st en : ℕ} → Ends k → ((a : Reading) → Placed S Next behind (property_role a) (node Property [] (flags_as false Shorthand) st en (part (node Identifier w plain t.start t.stop none) (part (node Identifier w plain t.start (behind k).stop none) none))) s k) →
-        Cover S Next behind Ends property_as (shaped true true true) o s k (node Property [] (flags_as false Shorthand) st en (part (node Identifier w plain t.start t.stop none) (part (node Identifier w plain t.start (behind k).stop none) none))) []
-    shorthand_cover ends places as_expression = it_fits refl (shorthand_found S Next behind det no_dots Ends marks word free found as_expression ends (places as_expression))
-    shorthand_cover ends places (as_pattern true) = it_fits (pattern_property_of (node Identifier w plain t.start (behind k).stop none) refl (pattern_name w plain t.start (behind k).stop none)) (shorthand_found S Next behind det no_dots Ends marks word free found (as_pattern true) ends (places (as_pattern true)))
-    shorthand_cover ends places (as_pattern false) = it_fits (pattern_property_of (node Identifier w plain t.start (behind k).stop none) refl (pattern_name w plain t.start (behind k).stop none)) (shorthand_found S Next behind det no_dots Ends marks word free found (as_pattern false) ends (places (as_pattern false)))
-
-    -- with a default (CoverInitializedName, 12.2.6)
-    pub initialized_cover : {o : ℕ} {u : Tree} {e x : S} {v : Token} {V : List Pair} {st en st1 en1 : ℕ} → Reads S Next behind Punctuator (codes "=") k v x → Found S Next behind o Assignment true Any x e u V →
-        ((b : Bool) → Placed S Next behind (pattern_property b) (node Property [] (flags_as false Shorthand) st en (part (node Identifier w plain t.start t.stop none) (part (node AssignmentPattern [] plain st1 en1 (part (node Identifier w plain t.start (behind k).stop none) (part u none))) none))) s e) →
-        Placed S Next behind (element true) (node AssignmentPattern [] plain st1 en1 (part (node Identifier w plain t.start (behind k).stop none) (part u none))) s e →
-        Cover S Next behind Ends property_as (shaped false true true) o s e (node Property [] (flags_as false Shorthand) st en (part (node Identifier w plain t.start t.stop none) (part (node AssignmentExpression (codes "=") plain st1 en1 (part (node Identifier w plain t.start (behind k).stop none) (part u none))) none))) V
-    initialized_cover equals f places inside as_expression = no_fit (initialized_no_expression S Next behind det no_dots Ends marks word free found equals)
-    initialized_cover {u = u} {st1 = st1} {en1 = en1} equals f places inside (as_pattern true) =
-        it_fits (pattern_property_of (node AssignmentExpression (codes "=") plain st1 en1 (part (node Identifier w plain t.start (behind k).stop none) (part u none))) refl (pattern_assignment st1 en1 (part (node Identifier w plain t.start (behind k).stop none) (part u none))))
-        (initialized_found S Next behind det no_dots Ends marks word free found equals true (expression_value f) (places true) inside)
-    initialized_cover {u = u} {st1 = st1} {en1 = en1} equals f places inside (as_pattern false) =
-        it_fits (pattern_property_of (node AssignmentExpression (codes "=") plain st1 en1 (part (node Identifier w plain t.start (behind k).stop none) (part u none))) refl (pattern_assignment st1 en1 (part (node Identifier w plain t.start (behind k).stop none) (part u none))))
-        (initialized_found S Next behind det no_dots Ends marks word free found equals false (expression_value f) (places false) inside)
-
-    pub no_initialized : {x : S} {v : Token} → Reads S Next behind Punctuator (codes "=") k v x → Absent S Next behind Assignment true Any x → NoCover S Next behind Ends property_as s
-    no_initialized equals missed as_expression = initialized_no_expression S Next behind det no_dots Ends marks word free found equals
-    no_initialized equals missed (as_pattern b) = initialized_absent S Next behind det no_dots Ends marks word free found equals b (expression_missing missed)
-
-    pub no_initialized_within : {o' h : ℕ} {x : S} {v : Token} → Reads S Next behind Punctuator (codes "=") k v x → AbsentWithin S Next behind o' (h - 2) Assignment true Any x → NoCoverWithin S Next behind Ends property_as o' h s
-    no_initialized_within {o'} equals missed as_expression = record { nothing = λ r e' n' P' i d ends low. (initialized_no_expression S Next behind det no_dots Ends marks word free found equals).nothing o' r e' n' P' i d ends }
-    no_initialized_within equals missed (as_pattern b) = initialized_deep S Next behind det no_dots Ends marks word free found equals b (expression_deep missed)

@@ -1,5 +1,5 @@
 -- An element of a pattern where an expression was read: found or absent, by what was found there as an expression and as a bare pattern.
-use Rattle.std.proofs.Common.{◌≡◌, ℕ, ◌-◌, ◌≤◌, Bool, true, false, List, [], ◌++◌, refl, sym, ap, ◌∙◌, subst, arith}
+use Rattle.std.proofs.Common.{◌≡◌, ℕ, ◌≤◌, Bool, true, false, List, [], ◌++◌, refl, sym, ap, ◌∙◌, subst}
 use Rattle.std.specs.Prelude.{Some, codes, ◌&&◌, ◌||◌}
 use Rattle.std.proofs.lemmas.Bool.{false≢true}
 use Rattle.tokens.specs.declared.token.TokenClass.TheVariants.{Punctuator}
@@ -14,13 +14,12 @@ use Rattle.language.specs.FirstPart.{lead}
 use Rattle.language.specs.Vocabulary.{takes, is_target}
 use Rattle.language.specs.Pieces.{Role, expr, name, pattern, element, with_default, bound}
 use Rattle.language.specs.Token.{Token}
-use Rattle.language.specs.Covers.{is_default, FoundItem, AbsentItem, AbsentItemWithin}
-use Rattle.language.specs.Promises.{IsDetermined, Stops, Found, Absent, AbsentWithin, FoundAt, AbsentAt, AbsentAtWithin}
+use Rattle.language.specs.Covers.{is_default, FoundItem, AbsentItemWithin}
+use Rattle.language.specs.Promises.{IsDetermined, Stops, Found, AbsentWithin, FoundAt, AbsentAt}
 use Rattle.language.specs.Grammar.{ways}
 use Rattle.language.specs.Derivation.{Reads, Spells, Placed, placed}
 use Rattle.language.proofs.climbing.BinaryTurns.{same_node}
-use Rattle.language.proofs.climbing.Conditionals.{stops_before, same_sign}
-use Rattle.language.proofs.climbing.Targets.{EndsAt}
+use Rattle.language.proofs.climbing.Conditionals.{same_sign}
 use Rattle.language.proofs.covers.CoverElements.{is_simple, simple_target, bound_defaults, target_moves, Simple, a_name, a_target, simple_role, pattern_role, simple_left, simple_expression, Defaulted, ElementForm, bare_pattern, bare_simple, pattern_default, simple_default, element_form, default_spells, default_expression}
 
 -- the node or its left side is such a target
@@ -57,23 +56,10 @@ module _ (S : Type 0) (Next : S → Token → S → Type 0) (behind : S → Toke
   pub absent_assigned : {b : Bool} {s : S} → AbsentAt S Next behind (pattern b Any) s → NotAssigned b s
   absent_assigned missed o' e' n' P' v k d h = missed.nothing o' e' n' P' d
 
-  pub ends_alone : {b : Bool} {s mid : S} → EndsAt S Next behind (pattern b Any) s mid → (Ends mid → ⊥) → NotAlone b s
-  ends_alone there goes o' e' n' P' d ends = goes (subst Ends (there o' e' n' P' d) ends)
-
-  pub ends_assigned : {b : Bool} {s mid : S} → EndsAt S Next behind (pattern b Any) s mid → ((v : Token) (k : S) → Reads S Next behind Punctuator (codes "=") mid v k → ⊥) → NotAssigned b s
-  ends_assigned there no_sign o' e' n' P' v k d h = no_sign v k (subst (λ c. Reads S Next behind Punctuator (codes "=") c v k) (there o' e' n' P' d) h)
-
 module _ (S : Type 0) (Next : S → Token → S → Type 0) (behind : S → Token) (det : IsDetermined S Next behind) (Ends : S → Type 0)
     (stops : (y : Rank) (n : Tree) (e : S) → takes y Expression ≡ false → Ends e → Stops S Next behind y true n e) (quiet : (e : S) (v : Token) (k : S) → Ends e → Reads S Next behind Punctuator (codes "=") e v k → ⊥) where
   abbrev Item : Bool → ℕ → S → S → Tree → List Pair → Type 0
   Item b = FoundItem S Next behind Ends (with_default b)
-
-  -- by what is found as an expression, and where none is
-  pub unlike_found : (b : Bool) {o : ℕ} {s e : S} {n : Tree} {P : List Pair} → Found S Next behind o Assignment true Any s e n P → simply b n ≡ false → Unlike S Next behind Ends b s
-  unlike_found b found other o' e' n' P' d ends = ap (simply b) (found.only o' e' n' P' d (stops Assignment n' e' refl ends)).1 ∙ other
-
-  pub unlike_absent : (b : Bool) {s : S} → Absent S Next behind Assignment true Any s → Unlike S Next behind Ends b s
-  unlike_absent b missed o' e' n' P' d ends = absurd (missed.nothing o' e' n' P' d (stops Assignment n' e' refl ends))
 
   unlike_simple : {b : Bool} {o : ℕ} {n : Tree} {s e : S} {P : List Pair} → Unlike S Next behind Ends b s → Simple S Next behind det b o n s e P → Ends e → ⊥
   unlike_simple {b} {o} {n} {s} {e} {P} other u ends =
@@ -82,16 +68,6 @@ module _ (S : Type 0) (Next : S → Token → S → Type 0) (behind : S → Toke
   unlike_default : {b : Bool} {o : ℕ} {n : Tree} {s e : S} {P : List Pair} → Unlike S Next behind Ends b s → Defaulted S Next behind det (Simple S Next behind det b) o n s e P → Ends e → ⊥
   unlike_default {b} {o} {n} {s} {e} {P} other u ends =
       false≢true (sym (other o e (node AssignmentExpression (codes "=") plain u.st u.en (part u.left (part u.right none))) P (default_expression S Next behind det b u) ends) ∙ assigned_simply b (kind_of u.left) (simple_left S Next behind det b u.stands).0)
-
-  -- an expression of another kind, and no pattern: no element
-  pub element_absent : {b : Bool} {s : S} → Unlike S Next behind Ends b s → NotAlone S Next behind Ends b s → NotAssigned S Next behind Ends b s → AbsentItem S Next behind Ends (with_default b) s
-  element_absent {b} {s} other alone assigned = record { nothing = λ o' a e' n' P' h d ends. of (element_form S Next behind det b n' h d) ends }
-    where
-      of : {o' : ℕ} {e' : S} {n' : Tree} {P' : List Pair} → ElementForm S Next behind det b o' n' s e' P' → Ends e' → ⊥
-      of {o'} {e'} {n'} {P'} (bare_pattern d) ends = alone o' e' n' P' d ends
-      of (bare_simple u) ends = unlike_simple other u ends
-      of {o'} (pattern_default u) ends = assigned o' u.mid u.left u.one u.sign u.x u.stands u.reads
-      of (simple_default u) ends = unlike_default other u ends
 
   -- a bare pattern
   pub element_pattern : {b : Bool} {o : ℕ} {s e : S} {m : Tree} {P : List Pair} → Unlike S Next behind Ends b s → FoundAt S Next behind o (pattern b Any) s e m P → Ends e → Item b o s e m P
@@ -136,39 +112,6 @@ module _ (S : Type 0) (Next : S → Token → S → Type 0) (behind : S → Toke
       of {o'} (pattern_default u) ends = absurd (assigned o' u.mid u.left u.one u.sign u.x u.stands u.reads)
       of (simple_default u) ends = absurd (quiet e u.sign u.x at_end (subst (λ c. Reads S Next behind Punctuator (codes "=") c u.sign u.x) (there u.stands).0 u.reads))
 
-  -- where no name stands, none is bound
-  pub element_unnamed : {s : S} → AbsentAt S Next behind name s → NotAlone S Next behind Ends true s → NotAssigned S Next behind Ends true s → AbsentItem S Next behind Ends (with_default true) s
-  element_unnamed {s} missed alone assigned = record { nothing = λ o' a e' n' P' h d ends. of (element_form S Next behind det true n' h d) ends }
-    where
-      nowhere : {o' : ℕ} {e' : S} {n' : Tree} {P' : List Pair} → Simple S Next behind det true o' n' s e' P' → ⊥
-      nowhere {o'} {e'} {n'} {P'} (a_name h d) = missed.nothing o' e' n' P' d
-      nowhere (a_target h t d) = cc
-
-      of : {o' : ℕ} {e' : S} {n' : Tree} {P' : List Pair} → ElementForm S Next behind det true o' n' s e' P' → Ends e' → ⊥
-      of {o'} {e'} {n'} {P'} (bare_pattern d) ends = alone o' e' n' P' d ends
-      of (bare_simple u) ends = nowhere u
-      of {o'} (pattern_default u) ends = assigned o' u.mid u.left u.one u.sign u.x u.stands u.reads
-      of (simple_default u) ends = nowhere u.stands
-
-  -- what stands in parentheses and is no simple target
-  pub element_grouped : {o : ℕ} {s e : S} {n : Tree} {P : List Pair} → Found S Next behind o LeftHandSide true Any s e n P → is_target (kind_of n) ≡ false → Ends e → NotAlone S Next behind Ends false s → NotAssigned S Next behind Ends false s → AbsentItem S Next behind Ends (with_default false) s
-  element_grouped {o} {s} {e} {n} found no_target at_end alone assigned = record { nothing = λ o' a e' n' P' h d ends. of (element_form S Next behind det false n' h d) ends }
-    where
-      bare : {o' : ℕ} {e' : S} {n' : Tree} {P' : List Pair} → Simple S Next behind det false o' n' s e' P' → Ends e' → ⊥
-      bare (a_name h d) ends = cc
-      bare {o'} {e'} {n'} {P'} (a_target h t d) ends = no_clash (ap kind_of (found.only o' e' n' P' d (stops LeftHandSide n' e' refl ends)).1) t no_target
-
-      before : {o' : ℕ} {e' : S} {n' : Tree} {P' : List Pair} {v : Token} {k : S} → Simple S Next behind det false o' n' s e' P' → Reads S Next behind Punctuator (codes "=") e' v k → ⊥
-      before (a_name h d) eq = cc
-      before {o'} {e'} {n'} {P'} {v} {k} (a_target h t d) eq =
-          quiet e v k at_end (subst (λ c. Reads S Next behind Punctuator (codes "=") c v k) (found.only o' e' n' P' d (stops_before S Next behind det LeftHandSide true n' eq refl refl (λ c u. refl))).0 eq)
-
-      of : {o' : ℕ} {e' : S} {n' : Tree} {P' : List Pair} → ElementForm S Next behind det false o' n' s e' P' → Ends e' → ⊥
-      of {o'} {e'} {n'} {P'} (bare_pattern d) ends = alone o' e' n' P' d ends
-      of (bare_simple u) ends = bare u ends
-      of {o'} (pattern_default u) ends = assigned o' u.mid u.left u.one u.sign u.x u.stands u.reads
-      of (simple_default u) ends = before u.stands u.reads
-
   -- What stands so far, `=` and what was read behind it: of an assignment to a name or a simple target the element with that default.
   module _ {b : Bool} {o : ℕ} {l u : Tree} {st en : ℕ} {s mid x e : S} {v : Token} {R V : List Pair} (reads : Reads S Next behind Punctuator (codes "=") mid v x) (places : Placed S Next behind (element b) (node AssignmentPattern [] plain st en (part l (part u none))) s e) where
     element_with : {a : Role} → bound b (kind_of l) ≡ Some a → Spells ways S Next behind o a l s mid R → Spells ways S Next behind o (expr Assignment true Any) u x e V → Spells ways S Next behind o (element b) (node AssignmentPattern [] plain st en (part l (part u none))) s e (R ++ V)
@@ -211,18 +154,6 @@ module _ (S : Type 0) (Next : S → Token → S → Type 0) (behind : S → Toke
             (same.0, w.tree ∙ same_node refl refl refl where_is.0 where_is.1 (λ k. part (before.1 k) (part (same.1 k) none)), w.pairs ∙ (λ k. before.2 k ++ same.2 k))
         of (simple_default w) ends = absurd (unlike_default other w ends)
 
-  -- behind `=` nothing is found: no element
-  pub element_right_absent : {b : Bool} {s mid x : S} {v : Token} → EndsAt S Next behind (pattern b Any) s mid → Reads S Next behind Punctuator (codes "=") mid v x → Absent S Next behind Assignment true Any x → Unlike S Next behind Ends b s → AbsentItem S Next behind Ends (with_default b) s
-  element_right_absent {b} {s} {mid} {x} {v} there reads missed other = record { nothing = λ o' a e' n' P' h d ends. of (element_form S Next behind det b n' h d) ends }
-    where
-      of : {o' : ℕ} {e' : S} {n' : Tree} {P' : List Pair} → ElementForm S Next behind det b o' n' s e' P' → Ends e' → ⊥
-      of {o'} {e'} {n'} {P'} (bare_pattern d) ends = quiet e' v x ends (subst (λ c. Reads S Next behind Punctuator (codes "=") c v x) (sym (there o' e' n' P' d)) reads)
-      of (bare_simple w) ends = unlike_simple other w ends
-      of {o'} {e'} (pattern_default w) ends =
-          let sign = same_sign S Next behind det (subst (λ c. Reads S Next behind Punctuator (codes "=") c w.sign w.x) (there o' w.mid w.left w.one w.stands) w.reads) reads refl in
-          missed.nothing o' e' w.right w.more (subst (λ c. Spells ways S Next behind o' (expr Assignment true Any) w.right c e' w.more) sign.1 w.value) (stops Assignment w.right e' refl ends)
-      of (simple_default w) ends = unlike_default other w ends
-
   -- Within the limits: no expression, and no pattern alone or before `=` and what was read behind it.
   pub element_deep : {b : Bool} {o h : ℕ} {s : S} → AbsentWithin S Next behind o h Assignment true Any s → ((e' : S) (n' : Tree) (P' : List Pair) → Spells ways S Next behind o (pattern b Any) n' s e' P' → Ends e' → height n' ≤ h → ⊥) →
       ((e' : S) (n' : Tree) (P' : List Pair) → Defaulted S Next behind det (λ o' l s' e' P'. Spells ways S Next behind o' (pattern b Any) l s' e' P') o n' s e' P' → Ends e' → height n' ≤ h → ⊥) → AbsentItemWithin S Next behind Ends (with_default b) o h s
@@ -236,17 +167,3 @@ module _ (S : Type 0) (Next : S → Token → S → Type 0) (behind : S → Toke
           let m = node AssignmentExpression (codes "=") plain w.st w.en (part w.left (part w.right none)) in
           let high : height n' ≡ height m = ap height w.tree in
           missed.nothing e' m P' (default_expression S Next behind det b w) (stops Assignment m e' refl ends) (subst (λ c. c ≤ h) high low)
-
-  -- no pattern within the limits
-  pub defaulted_deep : {b : Bool} {o h : ℕ} {s : S} → AbsentAtWithin S Next behind o (h - 1) (pattern b Any) s → (e' : S) (n' : Tree) (P' : List Pair) → Defaulted S Next behind det (λ o' l s' e' P'. Spells ways S Next behind o' (pattern b Any) l s' e' P') o n' s e' P' → Ends e' → height n' ≤ h → ⊥
-  defaulted_deep missed e' n' P' w ends low =
-      let high : height n' ≡ height (node AssignmentPattern [] plain w.st w.en (part w.left (part w.right none))) = ap height w.tree in
-      missed.nothing w.mid w.left w.one w.stands (omega arith)
-
-  -- no right side within the limits
-  pub defaulted_right_deep : {b : Bool} {o h : ℕ} {s mid x : S} {v : Token} → EndsAt S Next behind (pattern b Any) s mid → Reads S Next behind Punctuator (codes "=") mid v x → AbsentWithin S Next behind o (h - 1) Assignment true Any x →
-      (e' : S) (n' : Tree) (P' : List Pair) → Defaulted S Next behind det (λ o' l s' e' P'. Spells ways S Next behind o' (pattern b Any) l s' e' P') o n' s e' P' → Ends e' → height n' ≤ h → ⊥
-  defaulted_right_deep {o = o} there reads missed e' n' P' w ends low =
-      let high : height n' ≡ height (node AssignmentPattern [] plain w.st w.en (part w.left (part w.right none))) = ap height w.tree in
-      let sign = same_sign S Next behind det (subst (λ c. Reads S Next behind Punctuator (codes "=") c w.sign w.x) (there o w.mid w.left w.one w.stands) w.reads) reads refl in
-      missed.nothing e' w.right w.more (subst (λ c. Spells ways S Next behind o (expr Assignment true Any) w.right c e' w.more) sign.1 w.value) (stops Assignment w.right e' refl ends) (omega arith)

@@ -1,26 +1,25 @@
 -- The items of a list in brackets or parentheses, each reading by what was read there: with `...` before it and without.
-use Rattle.std.proofs.Common.{◌≡◌, ℕ, ◌-◌, ◌≤◌, Bool, true, false, cond, List, [], refl, sym, ap, ◌∙◌, subst, arith}
+use Rattle.std.proofs.Common.{◌≡◌, ℕ, Bool, true, false, cond, List, [], refl, sym, ap, ◌∙◌, subst}
 use Rattle.std.specs.Prelude.{Option, Some, codes}
-use Rattle.std.proofs.lemmas.Bool.{false≢true}
 use Rattle.tokens.specs.declared.token.TokenClass.TheVariants.{Punctuator}
 use Rattle.tree.specs.declared.kind.Kind.{Kind}
 use Rattle.tree.specs.declared.kind.Kind.TheVariants.{SpreadElement, RestElement}
 use Rattle.tree.specs.declared.kind.Pair.{Pair}
-use Rattle.tree.specs.Tree.{Tree, node, none, part, kind_of, height, plain}
+use Rattle.tree.specs.Tree.{Tree, node, none, part, kind_of, plain}
 use Rattle.language.specs.declared.Rank.{Rank}
 use Rattle.language.specs.declared.Rank.TheVariants.{Expression, Assignment}
 use Rattle.language.specs.declared.Start.TheVariants.{Any}
 use Rattle.language.specs.Vocabulary.{takes, is_spread, is_rest}
 use Rattle.language.specs.Pieces.{Role, expr, rest, spread, bound, with_default}
 use Rattle.language.specs.Token.{Token}
-use Rattle.language.specs.Covers.{FoundItem, AbsentItem, AbsentItemWithin, element_as, as_expression, as_pattern}
-use Rattle.language.specs.Promises.{IsDetermined, Stops, Found, Absent, AbsentWithin}
+use Rattle.language.specs.Covers.{FoundItem, AbsentItem, element_as, as_expression, as_pattern}
+use Rattle.language.specs.Promises.{IsDetermined, Stops, Found}
 use Rattle.language.specs.Grammar.{ways}
 use Rattle.language.specs.Derivation.{Reads, Spells}
 use Rattle.language.proofs.climbing.BinaryTurns.{same_node}
 use Rattle.language.proofs.climbing.Conditionals.{same_sign}
 use Rattle.language.proofs.covers.CoverElements.{bound_defaults, element_form}
-use Rattle.language.proofs.covers.CoverSpreads.{has_default, plain_bound, bound_plain, default_no_rest, Dotted, spread_form, spread_spells, rest_form, rest_spells, expression_kind, no_element, no_plain_expression}
+use Rattle.language.proofs.covers.CoverSpreads.{has_default, plain_bound, default_no_rest, Dotted, spread_form, spread_spells, rest_form, rest_spells, expression_kind, no_element, no_plain_expression}
 
 some_same : {a b : Role} → Some a ≡ Some b → a ≡ b
 some_same e = cc
@@ -63,20 +62,6 @@ module _ (S : Type 0) (Next : S → Token → S → Type 0) (behind : S → Toke
         of {o'} {e'} {n'} {P'} (argued d) ends = found.only o' e' n' P' d (stops Assignment n' e' refl ends)
         of (spreaded u) ends = absurd (no_dots u.sign u.x u.reads)
 
-    pub argument_absent : Absent S Next behind Assignment true Any s → AbsentItem S Next behind Ends (element_as as_expression) s
-    argument_absent missed = record { nothing = λ o' a e' n' P' h d ends. of (argument_form n' h d) ends }
-      where
-        of : {o' : ℕ} {e' : S} {n' : Tree} {P' : List Pair} → Argued o' n' s e' P' → Ends e' → ⊥
-        of {o'} {e'} {n'} {P'} (argued d) ends = missed.nothing o' e' n' P' d (stops Assignment n' e' refl ends)
-        of (spreaded u) ends = no_dots u.sign u.x u.reads
-
-    pub argument_deep : {o h : ℕ} → AbsentWithin S Next behind o h Assignment true Any s → AbsentItemWithin S Next behind Ends (element_as as_expression) o h s
-    argument_deep {o} {h} missed = record { nothing = λ a e' n' P' i d ends low. of (argument_form n' i d) ends low }
-      where
-        of : {e' : S} {n' : Tree} {P' : List Pair} → Argued o n' s e' P' → Ends e' → height n' ≤ h → ⊥
-        of {e'} {n'} {P'} (argued d) ends low = missed.nothing e' n' P' d (stops Assignment n' e' refl ends) low
-        of (spreaded u) ends low = no_dots u.sign u.x u.reads
-
     no_rest : (b : Bool) {o : ℕ} {a : Role} (n : Tree) {e : S} {P : List Pair} → element_as (as_pattern b) (kind_of n) ≡ Some a → Spells ways S Next behind o a n s e P → is_rest (kind_of n) ≡ false
     no_rest b {o} {a} n {e} {P} h d = of (is_rest (kind_of n)) refl h
       where
@@ -95,9 +80,6 @@ module _ (S : Type 0) (Next : S → Token → S → Type 0) (behind : S → Toke
 
     pub element_missing : {b : Bool} → AbsentItem S Next behind Ends (with_default b) s → AbsentItem S Next behind Ends (element_as (as_pattern b)) s
     element_missing {b} missed = record { nothing = λ o' a e' n' P' h d ends. missed.nothing o' a e' n' P' (plainly b (is_rest (kind_of n')) (kind_of n') (no_rest b n' h d) h) d ends }
-
-    pub element_missing_within : {b : Bool} {o h : ℕ} → AbsentItemWithin S Next behind Ends (with_default b) o h s → AbsentItemWithin S Next behind Ends (element_as (as_pattern b)) o h s
-    element_missing_within {b} missed = record { nothing = λ a e' n' P' h d ends low. missed.nothing a e' n' P' (plainly b (is_rest (kind_of n')) (kind_of n') (no_rest b n' h d) h) d ends low }
 
   -- where `...` is read, and behind it at x
   module _ {s x : S} {t : Token} (dots : Reads S Next behind Punctuator (codes "...") s t x) where
@@ -127,19 +109,6 @@ module _ (S : Type 0) (Next : S → Token → S → Type 0) (behind : S → Toke
           (same.0, dotted_same u.0 same.0 same.1, same.2);
     }
 
-    pub spread_absent : Absent S Next behind Assignment true Any x → AbsentItem S Next behind Ends (element_as as_expression) s
-    spread_absent missed = record {
-      nothing = λ o' a e' n' P' h d ends. let u = spread_at n' h d in
-          missed.nothing o' e' u.0.inner P' (subst (λ c. Spells ways S Next behind o' c u.0.inner x e' P') u.1 (moved u.0.reads u.0.value)) (stops Assignment u.0.inner e' refl ends);
-    }
-
-    pub spread_deep : {o hi : ℕ} → AbsentWithin S Next behind o (hi - 1) Assignment true Any x → AbsentItemWithin S Next behind Ends (element_as as_expression) o hi s
-    spread_deep {o} {hi} missed = record {
-      nothing = λ a e' n' P' h d ends low. let u = spread_at n' h d in
-          let high : height n' ≡ height (node SpreadElement [] plain u.0.st u.0.en (part u.0.inner none)) = ap height u.0.tree in
-          missed.nothing e' u.0.inner P' (subst (λ c. Spells ways S Next behind o c u.0.inner x e' P') u.1 (moved u.0.reads u.0.value)) (stops Assignment u.0.inner e' refl ends) (omega arith);
-    }
-
     -- a rest, as an item of an array's or a parameter list's pattern
     record Rested (b : Bool) (o : ℕ) (n : Tree) (e : S) (P : List Pair) : Type 0 where
       dotted : Dotted S Next behind det RestElement o n s e P
@@ -163,22 +132,4 @@ module _ (S : Type 0) (Next : S → Token → S → Type 0) (behind : S → Toke
           let u = rest_at n' h d in
           let same = found.only o' u.dotted.role e' u.dotted.inner P' (bound_defaults b (kind_of u.dotted.inner) u.it_is) u.value ends in
           (same.0, dotted_same u.dotted same.0 same.1, same.2);
-    }
-
-    -- nothing is bound behind `...`, or with a default
-    pub rest_absent : {b : Bool} → AbsentItem S Next behind Ends (with_default b) x → AbsentItem S Next behind Ends (element_as (as_pattern b)) s
-    rest_absent {b} missed = record { nothing = λ o' a e' n' P' h d ends. (let u = rest_at n' h d in missed.nothing o' u.dotted.role e' u.dotted.inner P' (bound_defaults b (kind_of u.dotted.inner) u.it_is) u.value ends) }
-
-    pub rest_defaulted : {b : Bool} {o : ℕ} {e : S} {n : Tree} {P : List Pair} → FoundItem S Next behind Ends (with_default b) o x e n P → has_default (kind_of n) ≡ true → AbsentItem S Next behind Ends (element_as (as_pattern b)) s
-    rest_defaulted {b} found default = record {
-      nothing = λ o' a e' n' P' h d ends. let u = rest_at n' h d in
-          let same = found.only o' u.dotted.role e' u.dotted.inner P' (bound_defaults b (kind_of u.dotted.inner) u.it_is) u.value ends in
-          false≢true (sym (bound_plain b (kind_of u.dotted.inner) u.it_is) ∙ ap (λ c. has_default (kind_of c)) same.1 ∙ default);
-    }
-
-    pub rest_deep : {b : Bool} {o hi : ℕ} → AbsentItemWithin S Next behind Ends (with_default b) o (hi - 1) x → AbsentItemWithin S Next behind Ends (element_as (as_pattern b)) o hi s
-    rest_deep {b} {o} {hi} missed = record {
-      nothing = λ a e' n' P' h d ends low. let u = rest_at n' h d in
-          let high : height n' ≡ height (node RestElement [] plain u.dotted.st u.dotted.en (part u.dotted.inner none)) = ap height u.dotted.tree in
-          missed.nothing u.dotted.role e' u.dotted.inner P' (bound_defaults b (kind_of u.dotted.inner) u.it_is) u.value ends (omega arith);
     }

@@ -1,27 +1,19 @@
 -- A list of covers, as a loop reads it: each reading of the list is right so far, or nothing runs over it; an item keeps it where it fits.
-use Rattle.std.proofs.Common.{◌≡◌, ℕ, Bool, true, false, List, [], ◌∷◌, ◌++◌, refl, sym, ap, ◌∙◌}
+use Rattle.std.proofs.Common.{◌≡◌, ℕ, Bool, true, false, List, [], refl, sym, ap, ◌∙◌}
 use Rattle.std.specs.Prelude.{IsTrue, Option, Some, None, codes, not, ◌&&◌}
-use Rattle.tokens.specs.declared.token.TokenClass.TheVariants.{Punctuator}
-use Rattle.tokens.specs.declared.token.Goal.TheVariants.{Div}
-use Rattle.tokens.specs.Goals.{allows}
 use Rattle.tree.specs.declared.kind.Kind.{Kind}
 use Rattle.tree.specs.declared.kind.Kind.TheVariants.{Identifier, MemberExpression, ArrayExpression, ObjectExpression, AssignmentExpression, SpreadElement, Property, ArrayPattern, ObjectPattern, RestElement}
 use Rattle.tree.specs.declared.kind.Flags.{Flags}
 use Rattle.tree.specs.declared.kind.Pair.{Pair}
-use Rattle.tree.specs.Tree.{Tree, node, Parts, none, part, gap, kind_of}
+use Rattle.tree.specs.Tree.{Tree, node, Parts, part, gap, kind_of}
 use Rattle.language.specs.Vocabulary.{is, is_rest, is_spread}
-use Rattle.language.specs.Pieces.{Role, PieceOf, tok}
+use Rattle.language.specs.Pieces.{Role, PieceOf}
 use Rattle.language.specs.Token.{Token}
 use Rattle.language.specs.Covers.{Reading, as_expression, as_pattern, is_default, has_value, with_parts, refined, pattern_of, patterns_of, values_of, tree_as, parts_as}
-use Rattle.language.specs.Promises.{IsDetermined, FoundParts, AbsentParts, AbsentPartsWithin}
-use Rattle.language.specs.Following.{AbsentPartsWhere, AbsentPartsWhereWithin}
-use Rattle.language.specs.Grammar.{ways}
-use Rattle.language.specs.Derivation.{Reads, Runs, done, step, token}
-use Rattle.language.proofs.list_loops.FirstPieces.{run_none, run_token}
-use Rattle.language.proofs.climbing.Conditionals.{same_sign}
-use Rattle.language.proofs.list_loops.StatementLists.{closed_by, lines_close}
-use Rattle.language.proofs.covers.CoverTrees.{patterns_part, patterns_gap, patterns_none}
-use Rattle.language.proofs.list_loops.PiecesSoFar.{Sofar, at_first, and_then, refused, too_deep}
+use Rattle.language.specs.Promises.{IsDetermined, FoundParts, AbsentParts}
+use Rattle.language.specs.Following.{AbsentPartsWhere}
+use Rattle.language.proofs.covers.CoverTrees.{patterns_part, patterns_gap}
+use Rattle.language.proofs.list_loops.PiecesSoFar.{Sofar, at_first, refused}
 
 some_trees : {m n : Tree} → Some m ≡ Some n → m ≡ n
 some_trees e = cc
@@ -80,10 +72,6 @@ pub parts_gap : (a : Reading) (ps : Parts) {qs : Parts} → parts_as a ps ≡ So
 parts_gap as_expression ps k = some_gap k
 parts_gap (as_pattern b) ps k = patterns_gap ps k
 
-parts_none : (a : Reading) → parts_as a none ≡ Some none
-parts_none as_expression = refl
-parts_none (as_pattern b) = patterns_none
-
 module _ (S : Type 0) (Next : S → Token → S → Type 0) (behind : S → Token) (det : IsDetermined S Next behind) where
   -- One reading of a list so far: what was read is right, with the trees of this reading, and that is left; or nothing runs over the whole.
   pub data SofarAs (a : Reading) (o : ℕ) (all left : Parts → List (PieceOf Role)) (s mid : S) (items : Parts → Parts) (P : List Pair) : Bool → Type 0 where
@@ -99,30 +87,7 @@ module _ (S : Type 0) (Next : S → Token → S → Type 0) (behind : S → Toke
   pub begun : {a : Reading} {o : ℕ} {all : Parts → List (PieceOf Role)} {s : S} → SofarAs a o all all s s (λ ps. ps) [] true
   begun = so_far (λ ps qs h. h) (at_first S Next behind det)
 
-  -- a step more: both are right, or the whole is gone
-  pub and_on : {a : Reading} {o : ℕ} {all left last : Parts → List (PieceOf Role)} {s mid k : S} {f g : Parts → Parts} {P Q : List Pair} {x y : Bool} → SofarAs a o all left s mid f P x → SofarAs a o left last mid k g Q y → SofarAs a o all last s k (λ ps. f (g ps)) (P ++ Q) (x && y)
-  and_on {g = g} (so_far h u) (so_far {built = built} i v) = so_far (λ ps qs j. h (g ps) (built qs) (i ps qs j)) (and_then S Next behind det u v)
-  and_on (so_far h u) (gone missed) = gone (refused S Next behind det u missed)
-  and_on (gone missed) v = gone missed
-
   -- nothing runs over what is left
   pub none_left : {a : Reading} {o : ℕ} {all left : Parts → List (PieceOf Role)} {s mid : S} {items : Parts → Parts} {P : List Pair} {x : Bool} → SofarAs a o all left s mid items P x → AbsentPartsWhere S Next behind (λ ps e. Unit {0}) left mid → AbsentParts S Next behind all s
   none_left (so_far h u) missed = let v = refused S Next behind det u missed in record { nothing = λ o' e' ps' P' d. v.nothing o' e' ps' P' d tt }
   none_left (gone v) missed = record { nothing = λ o' e' ps' P' d. v.nothing o' e' ps' P' d tt }
-
-  -- nothing within the limits
-  pub none_left_within : {a : Reading} {o hi : ℕ} {all left : Parts → List (PieceOf Role)} {s mid : S} {items : Parts → Parts} {P : List Pair} {x : Bool} → SofarAs a o all left s mid items P x → AbsentPartsWhereWithin S Next behind (λ ps e. Unit {0}) o hi left mid →
-      AbsentPartsWithin S Next behind o hi all s
-  none_left_within (so_far h u) missed = let v = too_deep S Next behind det u missed in record { nothing = λ e' ps' P' d le. v.nothing e' ps' P' d tt le }
-  none_left_within {o = o} (gone v) missed = record { nothing = λ e' ps' P' d le. v.nothing o e' ps' P' d tt }
-
-  -- the closing token
-  pub closed_as : {a : Reading} {o : ℕ} {all : Parts → List (PieceOf Role)} {w : List ℕ} {s mid e : S} {t : Token} {items : Parts → Parts} {P : List Pair} {x : Bool} → IsTrue (allows Div Punctuator w) → Reads S Next behind Punctuator w mid t e →
-      SofarAs a o all (closed_by (tok Punctuator w ∷ [])) s mid items P x → PartsAs a o all s e (items none) P x
-  closed_as {a} {w = w} {mid = mid} {e = e} al h (so_far trees u) =
-      let v = lines_close S Next behind det u (step (token h) done) only in
-      parts_found (trees none none (parts_none a)) (record { runs = v.runs; only = λ o' e' ps' P' d. v.only o' e' ps' P' d tt })
-    where
-      only : (o' : ℕ) (e' : S) (P' : List Pair) → Runs ways S Next behind o' (tok Punctuator w ∷ []) none mid e' P' → Unit {0} → (e' ≡ e) × (P' ≡ [])
-      only o' e' P' d fine = let c = run_token S Next behind d in let z = run_none S Next behind c.runs in (sym z.place ∙ (same_sign S Next behind det c.reads h al).1, z.pairs)
-  closed_as al h (gone v) = parts_gone (record { nothing = λ o' e' ps' P' d. v.nothing o' e' ps' P' d tt })

@@ -16,7 +16,7 @@ use Rattle.language.specs.Vocabulary.{is, takes}
 use Rattle.language.specs.Pieces.{property, method, Spelling, tok, sp, at, put}
 use Rattle.language.specs.Token.{Token}
 use Rattle.language.specs.Expressions.{properties}
-use Rattle.language.specs.Covers.{as_expression, as_pattern, shaped, property_as, FoundItem, it_fits, no_fit, Cover, NoCover, NoCoverWithin}
+use Rattle.language.specs.Covers.{as_expression, as_pattern, property_as, FoundItem, NoCover, NoCoverWithin}
 use Rattle.language.specs.Promises.{is_free, IsDetermined, Stops, FoundAt, AbsentAt, AbsentAtWithin}
 use Rattle.language.specs.Grammar.{ways, spellings, can_run}
 use Rattle.language.specs.Derivation.{Among, first, Reads, Spells, direct, step, token, laid, Placed, placed}
@@ -109,12 +109,6 @@ module _ (S : Type 0) (Next : S → Token → S → Type 0) (behind : S → Toke
           (same.0, u.tree ∙ same_node refl refl (ap (λ z. flags_as z Method) key.0) where_is.0 where_is.1 (λ i. part (key.2 i) (part (same.1 i) none)), u.pairs ∙ (λ i. key.3 i ++ same.2 i));
     }
 
-    pub method_cover : {e : S} {u : Tree} {P : List Pair} {st en : ℕ} → FoundAt S Next behind o (method Method) k e u P → Placed S Next behind property (node Property [] (flags_as c Method) st en (part nk (part u none))) s e →
-        Cover S Next behind Ends property_as (shaped true false false) o s e (node Property [] (flags_as c Method) st en (part nk (part u none))) (PK ++ P)
-    method_cover function places as_expression = it_fits refl (method_found function places)
-    method_cover function places (as_pattern true) = no_fit (method_no_pattern S Next behind det Ends stops marks no_dots found true (method_begins S Next behind det Method function.spelled).reads)
-    method_cover function places (as_pattern false) = no_fit (method_no_pattern S Next behind det Ends stops marks no_dots found false (method_begins S Next behind det Method function.spelled).reads)
-
     module _ {v : Token} {x : S} (call : Reads S Next behind Punctuator (codes "(") k v x) where
       -- without a function there: nothing
       pub no_method : AbsentAt S Next behind (method Method) k → NoCover S Next behind Ends property_as s
@@ -173,17 +167,6 @@ module _ (S : Type 0) (Next : S → Token → S → Type 0) (behind : S → Toke
           let where_is = span u.next u.starts u.stops same.0 places in
           (same.0, u.tree ∙ same_node refl refl (ap (λ y. flags_as y f) key.0) where_is.0 where_is.1 (λ i. part (key.2 i) (part (same.1 i) none)), u.pairs ∙ (λ i. key.3 i ++ same.2 i));
     }
-
-    pub accessor_cover : {e : S} {u : Tree} {P : List Pair} {st en : ℕ} → FoundAt S Next behind o (method f) k e u P → Placed S Next behind property (node Property [] (flags_as c f) st en (part nk (part u none))) s e →
-        Cover S Next behind Ends property_as (shaped true false false) o s e (node Property [] (flags_as c f) st en (part nk (part u none))) (PK ++ P)
-    accessor_cover function places as_expression = it_fits refl (accessor_found function places)
-    accessor_cover function places (as_pattern true) = no_fit (accessor_no_pattern S Next behind det Ends stops marks no_dots word_found true found.spelled)
-    accessor_cover function places (as_pattern false) = no_fit (accessor_no_pattern S Next behind det Ends stops marks no_dots word_found false found.spelled)
-
-    -- without a function behind the key: nothing
-    pub no_accessor : AbsentAt S Next behind (method f) k → NoCover S Next behind Ends property_as s
-    no_accessor missed as_expression = record { nothing = λ o' r e' n' P' h d ends. (let u = accessor_by (form_as S Next behind det no_dots as_expression n' h d) ends in missed.nothing o' e' u.function u.more (accessor_function u)) }
-    no_accessor missed (as_pattern b) = accessor_no_pattern S Next behind det Ends stops marks no_dots word_found b found.spelled
 
     pub no_accessor_within : {o' h : ℕ} → AbsentAtWithin S Next behind o' (h - 1) (method f) k → NoCoverWithin S Next behind Ends property_as o' h s
     no_accessor_within {o'} {h} missed as_expression = record {

@@ -1,5 +1,5 @@
 -- The properties of an object, each reading by what stands behind the key: a value, nothing, or a default (ECMA-262 12.2.6, 12.15.5, 13.3.3).
-use Rattle.std.proofs.Common.{◌≡◌, ℕ, ◌-◌, Bool, true, false, List, [], ◌∷◌, ◌++◌, refl, sym, ap, ◌∙◌, subst, arith}
+use Rattle.std.proofs.Common.{◌≡◌, ℕ, Bool, true, false, List, [], ◌∷◌, ◌++◌, refl, sym, ap, ◌∙◌, subst}
 use Rattle.std.specs.Prelude.{IsTrue, Option, Some, codes}
 use Rattle.std.proofs.lemmas.Bool.{false≢true}
 use Rattle.tokens.specs.declared.token.TokenClass.TheVariants.{IdentifierName, Punctuator}
@@ -17,7 +17,7 @@ use Rattle.language.specs.Vocabulary.{is, is_reserved}
 use Rattle.language.specs.Pieces.{Role, expr, name, element, property, pattern_property, Spelling, sign, sp, put, put_at, at, only, with_default}
 use Rattle.language.specs.Token.{Token}
 use Rattle.language.specs.Expressions.{assignment, keyed, properties, pattern_properties}
-use Rattle.language.specs.Covers.{Reading, as_expression, as_pattern, property_as, FoundItem, AbsentItem, AbsentItemWithin}
+use Rattle.language.specs.Covers.{Reading, as_expression, as_pattern, property_as, FoundItem, AbsentItem}
 use Rattle.language.specs.Promises.{is_free, IsDetermined}
 use Rattle.language.specs.Grammar.{ways, spellings}
 use Rattle.language.specs.Derivation.{Among, first, Reads, Spells, direct, Runs, step, within, token, laid, Placed, placed}
@@ -44,9 +44,6 @@ colon_bracket e = false≢true (sym (ap (λ w. is w ":") e))
 
 colon_equals : codes ":" ≡ codes "=" → ⊥
 colon_equals e = false≢true (sym (ap (λ w. is w ":") e))
-
-equals_call : codes "=" ≡ codes "(" → ⊥
-equals_call e = false≢true (sym (ap (λ w. is w "=") e))
 
 equals_bracket : codes "=" ≡ codes "[" → ⊥
 equals_bracket e = false≢true (sym (ap (λ w. is w "=") e))
@@ -218,14 +215,6 @@ module _ (S : Type 0) (Next : S → Token → S → Type 0) (behind : S → Toke
         pub pair_absent : (a : Reading) → AbsentItem S Next behind Ends (value_as a) x → AbsentItem S Next behind Ends (property_as a) s
         pair_absent a missed = record { nothing = λ o' r e' n' P' h d ends. (let u = valued_by colon refl refl a refl (form_as a n' h d) ends in missed.nothing o' u.role e' u.value u.more u.it_is (same_value a u) ends) }
 
-        pub pair_deep : (a : Reading) {o' h : ℕ} → AbsentItemWithin S Next behind Ends (value_as a) o' (h - 1) x → AbsentItemWithin S Next behind Ends (property_as a) o' h s
-        pair_deep a {o'} {h} missed = record {
-          nothing = λ r e' n' P' i d ends low.
-              let u = valued_by colon refl refl a refl (form_as a n' i d) ends in
-              let high : height n' ≡ height (node Property [] (flags_as u.computed Init) u.st u.en (part u.name (part u.value none))) = ap height u.tree in
-              missed.nothing u.role e' u.value u.more u.it_is (same_value a u) ends (omega arith);
-        }
-
     -- a name that is key and value, with a default or without
     module _ (Ends : S → Type 0) (marks : (e : S) → Ends e → Mark e) {ok : ℕ} {k : S} {w : List ℕ} {t : Token} (word : Reads S Next behind IdentifierName w s t k) (free : is_reserved w ≡ false)
         (found : KeyFound S Next behind det false ok s k (node Identifier w plain t.start (behind k).stop none) []) where
@@ -290,15 +279,6 @@ module _ (S : Type 0) (Next : S → Token → S → Type 0) (behind : S → Toke
       module _ {v : Token} {x : S} (equals : Reads S Next behind Punctuator (codes "=") k v x) where
         no_mark : {A : Type 0} {e' : S} → Ends e' → e' ≡ k → A
         no_mark ends there = let m = mark_is Ends marks found equals refl refl ends there in absurd (m.0.no_equals (sym m.1))
-
-        pub initialized_no_expression : AbsentItem S Next behind Ends (property_as as_expression) s
-        initialized_no_expression = record { nothing = λ o' r e' n' P' h d ends. of (form_as as_expression n' h d) ends }
-          where
-            of : {o' : ℕ} {n' : Tree} {e' : S} {P' : List Pair} → PropertyAt S Next behind det o' n' s e' P' → Ends e' → ⊥
-            of (by_value u) ends = colon_equals (sym (colon_is Ends marks found equals refl refl u.key u.reads))
-            of (by_name u) ends = no_mark ends (short_ends Ends marks found u)
-            of (by_method u) ends = equals_call (call_is Ends marks found equals refl refl u.key u.reads)
-            of (by_accessor f h before u) ends = accessor_is Ends marks found equals refl refl equals_bracket before u.key
 
         -- the default that stands there, of a pattern's property
         initial : (b : Bool) {o' : ℕ} {n' : Tree} {e' : S} {P' : List Pair} → PatternPropertyAt S Next behind det b o' n' s e' P' → Ends e' → Short S Next behind det (element true) o' n' s e' P'
@@ -379,15 +359,4 @@ module _ (S : Type 0) (Next : S → Token → S → Type 0) (behind : S → Toke
               let outer = same_span z.next z.starts z.stops same.0 (λ t l. refl) places in
               let inner = same_span z.next1 z.starts1 z.stops1 same.0 (λ t l. refl) inside in
               (same.0, z.tree ∙ same_node refl refl refl outer.0 outer.1 (λ i. part (node Identifier w plain t.start t.stop none) (part (node AssignmentPattern [] plain (inner.0 i) (inner.1 i) (part (node Identifier w plain t.start (behind k).stop none) (part (same.1 i) none))) none)), z.pairs ∙ same.2);
-        }
-
-        pub initialized_absent : (b : Bool) → AbsentItem S Next behind Ends to_expression x → AbsentItem S Next behind Ends (property_as (as_pattern b)) s
-        initialized_absent b missed = record { nothing = λ o' r e' n' P' h d ends. (let z = initial_parts (initial b (form_as (as_pattern b) n' h d) ends) in missed.nothing o' (expr Assignment true Any) e' z.value z.more refl z.spelled ends) }
-
-        pub initialized_deep : (b : Bool) {o' h : ℕ} → AbsentItemWithin S Next behind Ends to_expression o' (h - 2) x → AbsentItemWithin S Next behind Ends (property_as (as_pattern b)) o' h s
-        initialized_deep b {o'} {h} missed = record {
-          nothing = λ r e' n' P' i d ends low.
-              let z = initial_parts (initial b (form_as (as_pattern b) n' i d) ends) in
-              let high : height n' ≡ height (node Property [] (flags_as false Shorthand) z.st z.en (part (node Identifier w plain t.start t.stop none) (part (node AssignmentPattern [] plain z.st1 z.en1 (part (node Identifier w plain t.start (behind k).stop none) (part z.value none))) none))) = ap height z.tree in
-              missed.nothing (expr Assignment true Any) e' z.value z.more refl z.spelled ends (omega arith);
         }

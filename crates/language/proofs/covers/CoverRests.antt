@@ -1,11 +1,10 @@
 -- What stands behind `...` in an object: a spread of an expression; a rest, which is no pattern (ECMA-262 12.2.6, 12.15.5, 13.3.3).
 use Rattle.std.proofs.Common.{◌≡◌, ℕ, ◌-◌, Bool, true, false, cond, List, [], refl, sym, ap, ◌∙◌, subst, arith}
-use Rattle.std.specs.Prelude.{Option, Some, None, codes, ◌&&◌, not}
+use Rattle.std.specs.Prelude.{Option, Some, None, codes}
 use Rattle.std.proofs.lemmas.Bool.{false≢true}
-use Rattle.std.proofs.lemmas.Option.{none-some}
 use Rattle.tokens.specs.declared.token.TokenClass.TheVariants.{Punctuator}
 use Rattle.tree.specs.declared.kind.Kind.{Kind}
-use Rattle.tree.specs.declared.kind.Kind.TheVariants.{Identifier, MemberExpression, ArrayExpression, ObjectExpression, AssignmentExpression, SpreadElement, Property, ArrayPattern, ObjectPattern, RestElement}
+use Rattle.tree.specs.declared.kind.Kind.TheVariants.{ArrayExpression, ObjectExpression, SpreadElement, Property, RestElement}
 use Rattle.tree.specs.declared.kind.Flags.{Flags}
 use Rattle.tree.specs.declared.kind.Pair.{Pair}
 use Rattle.tree.specs.Tree.{Tree, node, Parts, none, part, kind_of, height, plain}
@@ -13,18 +12,17 @@ use Rattle.language.specs.declared.Rank.{Rank}
 use Rattle.language.specs.declared.Rank.TheVariants.{Expression, Assignment}
 use Rattle.language.specs.declared.Start.TheVariants.{Any}
 use Rattle.language.specs.Vocabulary.{is, takes, is_pattern}
-use Rattle.language.specs.Pieces.{Role, expr, rest, spread, bound, with_default}
+use Rattle.language.specs.Pieces.{Role, expr, spread, bound, with_default}
 use Rattle.language.specs.Token.{Token}
-use Rattle.language.specs.Covers.{Reading, as_expression, as_pattern, shaped, is_default, has_value, with_parts, refined, pattern_of, patterns_of, property_as, FoundItem, AbsentItem, AbsentItemWithin, Decided, it_fits, no_fit, Cover, NoCover, NoCoverWithin}
+use Rattle.language.specs.Covers.{as_expression, as_pattern, with_parts, property_as, AbsentItem, AbsentItemWithin, Decided, it_fits, no_fit, NoCover, NoCoverWithin}
 use Rattle.language.specs.Promises.{IsDetermined, Stops, Absent, AbsentWithin}
 use Rattle.language.specs.Grammar.{ways}
 use Rattle.language.specs.Derivation.{Reads, Spells}
 use Rattle.language.proofs.climbing.BinaryTurns.{same_node}
 use Rattle.language.proofs.climbing.Conditionals.{same_sign}
 use Rattle.language.proofs.covers.CoverElements.{bound_defaults}
-use Rattle.language.proofs.covers.CoverSpreads.{has_default, plain_bound, bound_plain, Dotted, spread_form, spread_spells, rest_form, rest_spells}
-use Rattle.language.proofs.covers.CoverTrees.{pattern_rest}
-use Rattle.language.proofs.covers.CoverReadings.{name_or_sign, pattern_default_kind, ReadAs, read, not_read}
+use Rattle.language.proofs.covers.CoverSpreads.{Dotted, spread_form, spread_spells, rest_form}
+use Rattle.language.proofs.covers.CoverReadings.{name_or_sign, ReadAs, read, not_read}
 use Rattle.language.proofs.covers.CoverProperties.{KeyAt, PropertyAt, by_value, by_name, by_method, by_accessor, PatternPropertyAt, with_value, with_name, with_element, property_at, pattern_property_at}
 use Rattle.language.proofs.covers.CoverKeys.{key_at_sign, echo_form}
 use Rattle.language.proofs.table.KindViews.{InObject, a_spread, a_property, in_object, InPattern, a_rest, a_property_there, in_pattern}
@@ -55,21 +53,6 @@ unless_so false h = cc
 unless_not : {x : Option Tree} {m : Tree} (b : Bool) → cond b None x ≡ Some m → x ≡ Some m
 unless_not true h = cc
 unless_not false h = h
-
-pattern_kept : (k : Kind) (w : List ℕ) (g : Flags) (st en : ℕ) (ps : Parts) (qs vs : Option Parts) {m : Tree} → refined k w g st en ps qs vs ≡ Some m → is_pattern (kind_of m) ≡ is_literal k
-pattern_kept Identifier w g st en ps qs vs h = ap (λ c. is_pattern (kind_of c)) (sym (some_trees h))
-pattern_kept MemberExpression w g st en ps qs vs h = ap (λ c. is_pattern (kind_of c)) (sym (some_trees (unless_not g.optional h)))
-pattern_kept ArrayExpression w g st en ps qs vs h = kept ArrayPattern w g st en true qs refl h
-pattern_kept ObjectExpression w g st en ps qs vs h = kept ObjectPattern w g st en true qs refl h
-pattern_kept AssignmentExpression w g st en ps qs vs h = ap (λ c. is_pattern (kind_of c)) (sym (some_trees (unless_so (is w "=") h)))
-pattern_kept SpreadElement w g st en ps qs vs h = kept RestElement w g st en false qs refl (unless_not (is_default (Rattle.language.specs.FirstPart.lead ps)) h)
-pattern_kept Property w g st en ps qs vs h = kept Property w g st en false vs refl (unless_so (has_value g.form) h)
-pattern_kept _ w g st en ps qs vs h = absurd (none-some _ h)
-
--- the pattern's tree is that of a pattern where the cover's is that of an array or an object
-pub pattern_literal_kind : (n : Tree) {m : Tree} → pattern_of n ≡ Some m → is_pattern (kind_of m) ≡ is_literal (kind_of n)
-unfolding pattern_of
-pattern_literal_kind (node k w g s e ps) h = pattern_kept k w g s e ps (patterns_of ps) (Rattle.language.specs.Covers.values_of ps) h
 
 module _ (S : Type 0) (Next : S → Token → S → Type 0) (behind : S → Token) (det : IsDetermined S Next behind) (Ends : S → Type 0)
     (stops : (y : Rank) (n : Tree) (e : S) → takes y Expression ≡ false → Ends e → Stops S Next behind y true n e) {s x : S} {t : Token} (dots : Reads S Next behind Punctuator (codes "...") s t x) where
@@ -128,39 +111,6 @@ module _ (S : Type 0) (Next : S → Token → S → Type 0) (behind : S → Toke
     nothing = λ o' a e' n' P' h d ends. let u = spread_at n' h d in
         missed.nothing o' e' u.0.inner P' (subst (λ c. Spells ways S Next behind o' c u.0.inner x e' P') u.1 (moved u.0.reads u.0.value)) (stops Assignment u.0.inner e' refl ends);
   })
-
-  rest_read : (b : Bool) {o : ℕ} {e : S} (n : Tree) {P : List Pair} {u : Bool} → Decided S Next behind Ends (with_default b) o x e (pattern_of n) P u →
-      Decided S Next behind Ends (property_as (as_pattern b)) o s e (pattern_of (node SpreadElement [] plain t.start (behind e).stop (part n none))) P (u && (not (is_default (kind_of n)) && not (is_literal (kind_of n))))
-  rest_read b {o} {e} n {P} (it_fits {m = m} tree found) = of (is_default (kind_of n)) (is_literal (kind_of n)) refl refl
-    where
-      of : (d l : Bool) → is_default (kind_of n) ≡ d → is_literal (kind_of n) ≡ l → Decided S Next behind Ends (property_as (as_pattern b)) o s e (pattern_of (node SpreadElement [] plain t.start (behind e).stop (part n none))) P (not d && not l)
-      of true l h k = no_fit (record {
-        nothing = λ o' a e' n' P' i d ends. let u = rest_at b n' i d in
-            let same = found.only o' u.dotted.role e' u.dotted.inner P' (bound_defaults b (kind_of u.dotted.inner) u.it_is) u.value ends in
-            false≢true (sym (bound_plain b (kind_of u.dotted.inner) u.it_is) ∙ ap (λ c. has_default (kind_of c)) same.1 ∙ pattern_default_kind n tree ∙ h);
-      })
-      of false true h k = no_fit (record {
-        nothing = λ o' a e' n' P' i d ends. let u = rest_at b n' i d in
-            let same = found.only o' u.dotted.role e' u.dotted.inner P' (bound_defaults b (kind_of u.dotted.inner) u.it_is) u.value ends in
-            false≢true (sym u.simple ∙ ap (λ c. is_pattern (kind_of c)) same.1 ∙ pattern_literal_kind n tree ∙ k);
-      })
-      of false false h k = it_fits (pattern_rest n h tree) (record {
-        role = rest b true;
-        it_is = refl;
-        spelled = rest_spells S Next behind det b true (plain_bound b (kind_of m) (pattern_default_kind n tree ∙ h) found.it_is) (pattern_literal_kind n tree ∙ k) dots found.spelled;
-        only = λ o' a e' n' P' i d ends.
-            let u = rest_at b n' i d in
-            let same = found.only o' u.dotted.role e' u.dotted.inner P' (bound_defaults b (kind_of u.dotted.inner) u.it_is) u.value ends in
-            (same.0, dotted_same u.dotted same.0 same.1, same.2);
-      })
-  rest_read b n (no_fit missed) = no_fit (record { nothing = λ o' a e' n' P' h d ends. (let u = rest_at b n' h d in missed.nothing o' u.dotted.role e' u.dotted.inner P' (bound_defaults b (kind_of u.dotted.inner) u.it_is) u.value ends) })
-
-  -- the one fact about what stands behind `...`
-  pub object_spread_cover : {o : ℕ} {e : S} {n : Tree} {P : List Pair} {c u v : Bool} → ReadAs S Next behind det o x e n P c → Decided S Next behind Ends (with_default false) o x e (pattern_of n) P u → Decided S Next behind Ends (with_default true) o x e (pattern_of n) P v →
-      Cover S Next behind Ends property_as (shaped c (u && (not (is_default (kind_of n)) && not (is_literal (kind_of n)))) (v && (not (is_default (kind_of n)) && not (is_literal (kind_of n))))) o s e (node SpreadElement [] plain t.start (behind e).stop (part n none)) P
-  object_spread_cover r u v as_expression = spread_read r
-  object_spread_cover {n = n} r u v (as_pattern false) = rest_read false n u
-  object_spread_cover {n = n} r u v (as_pattern true) = rest_read true n v
 
   pub no_object_spread : Absent S Next behind Assignment true Any x → ((b : Bool) → AbsentItem S Next behind Ends (with_default b) x) → NoCover S Next behind Ends property_as s
   no_object_spread missed items as_expression = record {

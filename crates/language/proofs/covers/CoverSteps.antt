@@ -17,10 +17,10 @@ use Rattle.language.specs.Following.{AbsentPartsWhere}
 use Rattle.language.specs.Grammar.{ways}
 use Rattle.language.specs.Derivation.{Reads, Spells}
 use Rattle.language.proofs.table.ForDeclarationWays.{two_signs}
-use Rattle.language.proofs.list_loops.FirstItems.{list_pieces, element_pieces}
+use Rattle.language.proofs.list_loops.FirstItems.{element_pieces}
 use Rattle.language.proofs.list_loops.StatementLists.{closed_by}
-use Rattle.language.proofs.list_loops.CommaLists.{Separated, behind_item, item_on, comma_on, close_on, list_closed, item_missing, unseparated, rest_unclosed}
-use Rattle.language.proofs.list_loops.HoleLists.{behind_element, element_on, hole_on, comma_elements, close_elements, elements_closed, element_missing, elements_unseparated, rest_elements}
+use Rattle.language.proofs.list_loops.CommaLists.{Separated}
+use Rattle.language.proofs.list_loops.HoleLists.{behind_element, element_on, hole_on, comma_elements, close_elements, element_missing, elements_unseparated, rest_elements}
 use Rattle.language.proofs.list_loops.PiecesSoFar.{Sofar, and_then, refused}
 use Rattle.language.proofs.covers.CoverListsSoFar.{comma_fits, fits_kind, parts_item, parts_gap, SofarAs, so_far, gone}
 
@@ -53,46 +53,6 @@ module _ (S : Type 0) (Next : S → Token → S → Type 0) (behind : S → Toke
         of (it_fits tree found) = either tree (items.on (at a) found) (comma_fits a n) refl
         of (no_fit missed) = gone (items.missing (at a) missed)
 
-    -- an item and the closing token
-    with_closing : {x : S} {t : Token} → Reads S Next behind Punctuator w k t x → SofarAs S Next behind det a o (pieces (at a)) (closed_by (tok Punctuator w ∷ [])) mid k (part n) A c
-    with_closing {x} {t} closing = of item
-      where
-        of : {c : Bool} → Decided S Next behind (Separated S Next behind det w) (at a) o mid k (tree_as a n) A c → SofarAs S Next behind det a o (pieces (at a)) (closed_by (tok Punctuator w ∷ [])) mid k (part n) A c
-        of (it_fits {m = m} tree found) =
-            let u = and_then S Next behind det (items.on (at a) found) (items.close (at a) (kind_of m) closing) in
-            so_far (λ ps qs j. parts_item a n ps tree j) (subst (λ P. Sofar S Next behind det (λ ps e. Unit {0}) o (pieces (at a)) mid (closed_by (tok Punctuator w ∷ [])) k (part m) P) (append-nil A) u)
-        of (no_fit missed) = gone (items.missing (at a) missed)
-
-    -- an item, and neither behind it
-    with_neither : (Separated S Next behind det w k → ⊥) → AbsentPartsWhere S Next behind (λ ps e. Unit {0}) (pieces (at a)) mid
-    with_neither neither = of item
-      where
-        of : {c : Bool} → Decided S Next behind (Separated S Next behind det w) (at a) o mid k (tree_as a n) A c → AbsentPartsWhere S Next behind (λ ps e. Unit {0}) (pieces (at a)) mid
-        of (it_fits {m = m} tree found) = refused S Next behind det (items.on (at a) found) (items.alone (at a) (kind_of m) neither)
-        of (no_fit missed) = items.missing (at a) missed
-
-  -- lists without holes
-  module _ {mid : S} (not_closed : (t : Token) (m : S) → Reads S Next behind Punctuator w mid t m → ⊥) where
-    listed_items : Items (λ r. list_pieces r w) (λ r. behind_item r w) mid
-    listed_items = record {
-      on = λ r {o} {k} {n} {A} found. item_on S Next behind det r not_closed found;
-      missing = λ r missed. item_missing S Next behind det r missed not_closed;
-      comma = λ r {o} {k} {x} {t} c f h. comma_on S Next behind det r c f other al h;
-      no_comma = λ r {k} c f h. rest_unclosed S Next behind det r c f h;
-      close = λ r {o} {k} {x} {t} c h. close_on S Next behind det r c other al h;
-      alone = λ r {k} c h. unseparated S Next behind det r c h;
-    }
-
-    module _ (a : Reading) {o : ℕ} {k : S} (n : Tree) {A : List Pair} {c : Bool} (item : Decided S Next behind (Separated S Next behind det w) (at a) o mid k (tree_as a n) A c) where
-      pub item_and_comma : {x : S} {t : Token} → is_rest (kind_of n) ≡ false → Reads S Next behind Punctuator (codes ",") k t x → SofarAs S Next behind det a o (list_pieces (at a) w) (list_pieces (at a) w) mid x (part n) A (c && comma_fits a n)
-      item_and_comma plain comma = with_comma listed_items a n item plain comma
-
-      pub item_and_closing : {x : S} {t : Token} → Reads S Next behind Punctuator w k t x → SofarAs S Next behind det a o (list_pieces (at a) w) (closed_by (tok Punctuator w ∷ [])) mid k (part n) A c
-      item_and_closing closing = with_closing listed_items a n item closing
-
-      pub item_unseparated : (Separated S Next behind det w k → ⊥) → AbsentPartsWhere S Next behind (λ ps e. Unit {0}) (list_pieces (at a) w) mid
-      item_unseparated neither = with_neither listed_items a n item neither
-
   -- lists with holes
   module _ {mid : S} (not_closed : (t : Token) (m : S) → Reads S Next behind Punctuator w mid t m → ⊥) (no_hole : (t : Token) (m : S) → Reads S Next behind Punctuator (codes ",") mid t m → ⊥) where
     element_items : Items (λ r. element_pieces r w) (λ r. behind_element r w) mid
@@ -105,23 +65,7 @@ module _ (S : Type 0) (Next : S → Token → S → Type 0) (behind : S → Toke
       alone = λ r {k} c h. elements_unseparated S Next behind det r c h;
     }
 
-    module _ (a : Reading) {o : ℕ} {k : S} (n : Tree) {A : List Pair} {c : Bool} (item : Decided S Next behind (Separated S Next behind det w) (at a) o mid k (tree_as a n) A c) where
-      pub element_and_comma : {x : S} {t : Token} → is_rest (kind_of n) ≡ false → Reads S Next behind Punctuator (codes ",") k t x → SofarAs S Next behind det a o (element_pieces (at a) w) (element_pieces (at a) w) mid x (part n) A (c && comma_fits a n)
-      element_and_comma plain comma = with_comma element_items a n item plain comma
-
-      pub element_and_closing : {x : S} {t : Token} → Reads S Next behind Punctuator w k t x → SofarAs S Next behind det a o (element_pieces (at a) w) (closed_by (tok Punctuator w ∷ [])) mid k (part n) A c
-      element_and_closing closing = with_closing element_items a n item closing
-
-      pub element_unseparated : (Separated S Next behind det w k → ⊥) → AbsentPartsWhere S Next behind (λ ps e. Unit {0}) (element_pieces (at a) w) mid
-      element_unseparated neither = with_neither element_items a n item neither
-
   -- a hole, and the closing token where no item stands, where none begins with these tokens
   module _ (a : Reading) {o : ℕ} {mid : S} (no_item : (o' : ℕ) (b : Role) (e' : S) (n' : Tree) (P' : List Pair) → at a (kind_of n') ≡ Some b → Spells ways S Next behind o' b n' mid e' P' → ⊥) where
     pub hole_as : {x : S} {t : Token} → Reads S Next behind Punctuator (codes ",") mid t x → SofarAs S Next behind det a o (element_pieces (at a) w) (element_pieces (at a) w) mid x gap [] true
     hole_as comma = so_far (λ ps qs j. parts_gap a ps j) (hole_on S Next behind det (at a) other al comma no_item)
-
-    pub no_element_left : {x : S} {t : Token} → Reads S Next behind Punctuator w mid t x → SofarAs S Next behind det a o (element_pieces (at a) w) (closed_by (tok Punctuator w ∷ [])) mid mid (λ ps. ps) [] true
-    no_element_left closing = so_far (λ ps qs j. j) (elements_closed S Next behind det (at a) other al closing no_item)
-
-    pub no_item_left : SofarAs S Next behind det a o (list_pieces (at a) w) (closed_by (tok Punctuator w ∷ [])) mid mid (λ ps. ps) [] true
-    no_item_left = so_far (λ ps qs j. j) (list_closed S Next behind det (at a) no_item)

@@ -1,10 +1,10 @@
 -- The tree of a pattern from the trees of its parts.
 use Rattle.std.proofs.Common.{◌≡◌, ℕ, suc, Bool, true, false, cond, List, [], refl, sym, ap, ◌∙◌}
-use Rattle.std.specs.Prelude.{Option, Some, None, codes, max}
+use Rattle.std.specs.Prelude.{Option, Some, None, max}
 use Rattle.tree.specs.declared.kind.Kind.{Kind}
-use Rattle.tree.specs.declared.kind.Kind.TheVariants.{Identifier, MemberExpression, ArrayExpression, ObjectExpression, AssignmentExpression, SpreadElement, Property, ArrayPattern, ObjectPattern, AssignmentPattern, RestElement}
+use Rattle.tree.specs.declared.kind.Kind.TheVariants.{Identifier, MemberExpression, ArrayExpression, ObjectExpression, AssignmentExpression, SpreadElement, Property, ArrayPattern, ObjectPattern, RestElement}
 use Rattle.tree.specs.declared.kind.Flags.{Flags}
-use Rattle.tree.specs.Tree.{Tree, node, Parts, none, part, gap, kind_of, height, parts_height, join, plain}
+use Rattle.tree.specs.Tree.{Tree, node, Parts, none, part, gap, height, parts_height, plain}
 use Rattle.language.specs.Vocabulary.{is}
 use Rattle.language.specs.Covers.{with_parts, and_then, and_gap, has_value, is_default, refined, pattern_of, patterns_of, values_of}
 
@@ -17,33 +17,9 @@ pub pattern_object : {st en : ℕ} (ps : Parts) {qs : Parts} → patterns_of ps 
 unfolding pattern_of
 pattern_object {st} {en} ps h = ap (with_parts ObjectPattern [] plain st en) h
 
--- a name, and a member
-pub pattern_name : (w : List ℕ) (g : Flags) (st en : ℕ) (ps : Parts) → pattern_of (node Identifier w g st en ps) ≡ Some (node Identifier w g st en ps)
-unfolding pattern_of
-pattern_name w g st en ps = refl
-
-pub pattern_member : (w : List ℕ) (g : Flags) (st en : ℕ) (ps : Parts) → g.optional ≡ false → pattern_of (node MemberExpression w g st en ps) ≡ Some (node MemberExpression w g st en ps)
-unfolding pattern_of
-pattern_member w g st en ps h = ap (λ c. cond c None (Some (node MemberExpression w g st en ps))) h
-
--- an assignment
-pub pattern_assignment : (st en : ℕ) (ps : Parts) → pattern_of (node AssignmentExpression (codes "=") plain st en ps) ≡ Some (node AssignmentPattern [] plain st en ps)
-unfolding pattern_of
-pattern_assignment st en ps = refl
-
 one_part : (u : Tree) {v : Tree} → pattern_of u ≡ Some v → patterns_of (part u none) ≡ Some (part v none)
 unfolding patterns_of
 one_part u h = ap (λ c. and_then c (Some none)) h
-
--- what stands behind `...`, which is no assignment
-pub pattern_rest : {st en : ℕ} (u : Tree) {v : Tree} → is_default (kind_of u) ≡ false → pattern_of u ≡ Some v → pattern_of (node SpreadElement [] plain st en (part u none)) ≡ Some (node RestElement [] plain st en (part v none))
-unfolding pattern_of
-pattern_rest {st} {en} u f h = ap (λ c. cond c None (with_parts RestElement [] plain st en (patterns_of (part u none)))) f ∙ ap (with_parts RestElement [] plain st en) (one_part u h)
-
--- a property with a value: behind a key; a name that is key and value, with a default or without
-pub pattern_property_of : {g : Flags} {st en : ℕ} {k : Tree} (u : Tree) {v : Tree} → has_value g.form ≡ true → pattern_of u ≡ Some v → pattern_of (node Property [] g st en (part k (part u none))) ≡ Some (node Property [] g st en (part k (part v none)))
-unfolding pattern_of
-pattern_property_of {g} {st} {en} {k} u f h = ap (λ c. cond c (with_parts Property [] g st en (values_of (part k (part u none)))) None) f ∙ ap (λ c. with_parts Property [] g st en (and_then (Some k) c)) (one_part u h)
 
 -- parts one behind the other: a part, a gap, and more parts
 pub patterns_part : (u : Tree) {v : Tree} (ps : Parts) {qs : Parts} → pattern_of u ≡ Some v → patterns_of ps ≡ Some qs → patterns_of (part u ps) ≡ Some (part v qs)
@@ -53,10 +29,6 @@ patterns_part u ps h k = ap (λ c. and_then c (patterns_of ps)) h ∙ ap (and_th
 pub patterns_gap : (ps : Parts) {qs : Parts} → patterns_of ps ≡ Some qs → patterns_of (gap ps) ≡ Some (gap qs)
 unfolding patterns_of
 patterns_gap ps h = ap and_gap h
-
-pub patterns_none : patterns_of none ≡ Some none
-unfolding patterns_of
-patterns_none = refl
 
 -- parts of a part, and of what follows it
 record Apart (u : Tree) (ps qs : Parts) : Type 0 where
@@ -92,12 +64,6 @@ gap_parts ps {qs} h = of (patterns_of ps) refl h
 no_parts : {qs : Parts} → patterns_of none ≡ Some qs → qs ≡ none
 unfolding patterns_of
 no_parts h = sym (some_parts h)
-
--- more parts behind parts
-pub patterns_join : (ps qs : Parts) {rs us : Parts} → patterns_of ps ≡ Some rs → patterns_of qs ≡ Some us → patterns_of (join ps qs) ≡ Some (join rs us)
-patterns_join none qs {us = us} h k = k ∙ ap (λ c. Some (join c us)) (sym (no_parts h))
-patterns_join (part u ps) qs {us = us} h k = let a = apart u ps h in patterns_part u (join ps qs) a.is_first (patterns_join ps qs a.are_others k) ∙ ap (λ c. Some (join c us)) (sym a.all)
-patterns_join (gap ps) qs {us = us} h k = let a = gap_parts ps h in patterns_gap (join ps qs) (patterns_join ps qs a.1 k) ∙ ap (λ c. Some (join c us)) (sym a.2)
 
 -- The pattern is as high as the cover.
 kept_height : (k : Kind) (w : List ℕ) (g : Flags) (st en : ℕ) {m : Tree} (ps : Parts) (x : Option Parts) → ((qs : Parts) → x ≡ Some qs → parts_height qs ≡ parts_height ps) → with_parts k w g st en x ≡ Some m → height m ≡ suc (parts_height ps)

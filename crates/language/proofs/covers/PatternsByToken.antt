@@ -1,5 +1,5 @@
 -- Patterns by their first token, and the template behind a tag, from their parts.
-use Rattle.std.proofs.Common.{◌≡◌, ℕ, ◌-◌, ◌≤◌, Bool, true, false, List, [], ◌∷◌, ◌++◌, refl, sym, ap, ◌∙◌, subst, arith}
+use Rattle.std.proofs.Common.{◌≡◌, ℕ, Bool, true, false, List, [], ◌∷◌, ◌++◌, refl, sym, ap, ◌∙◌, subst}
 use Rattle.std.specs.Prelude.{IsTrue, codes}
 use Rattle.std.proofs.lemmas.Bool.{and_from, false≢true}
 use Rattle.tokens.specs.declared.token.TokenClass.TheVariants.{Punctuator}
@@ -12,14 +12,14 @@ use Rattle.language.specs.declared.Start.{Start}
 use Rattle.language.specs.declared.Start.TheVariants.{Any, NoBrace, Statement}
 use Rattle.tree.specs.declared.kind.Flags.{Flags}
 use Rattle.tree.specs.declared.kind.Pair.{Pair}
-use Rattle.tree.specs.Tree.{Tree, node, Parts, height, kind_of, bare, bare_parts, plain}
+use Rattle.tree.specs.Tree.{Tree, node, Parts, kind_of, bare, bare_parts, plain}
 use Rattle.tree.specs.Uses.{is_lean, used_flags, has_text}
 use Rattle.tree.proofs.Lean.{lean_flags, lean_text}
 use Rattle.language.specs.Vocabulary.{is}
 use Rattle.language.specs.Pieces.{Role, pattern, tagged_quasi, PieceOf, Piece, tok, sign, at, elements, listed, pattern_element, Spelling}
 use Rattle.language.specs.Token.{Token}
 use Rattle.language.specs.Expressions.{object_pattern_part, template_elements}
-use Rattle.language.specs.Promises.{IsDetermined, FoundAt, AbsentAt, AbsentAtWithin, FoundParts, AbsentParts, AbsentPartsWithin}
+use Rattle.language.specs.Promises.{IsDetermined, FoundAt, AbsentAt, FoundParts}
 use Rattle.language.specs.Grammar.{ways, spellings, starts}
 use Rattle.language.specs.Derivation.{first, Reads, Spells, direct, Runs, Placed, placed}
 use Rattle.language.proofs.lower_bound.Domination.{settled}
@@ -133,22 +133,6 @@ module _ (S : Type 0) (Next : S → Token → S → Type 0) (behind : S → Toke
               (same.0, tree ∙ same_node refl refl refl span.0 span.1 same.1, same.2)
           of (as_object tree begins pl d) = absurd (two_marks reads (run_token S Next behind d).reads)
 
-      pub array_pattern_absent : AbsentParts S Next behind (array_pattern_parts b) s → AbsentAt S Next behind (pattern b f) s
-      array_pattern_absent missed = record { nothing = λ o' e' n' P' d. of (pattern_core d) }
-        where
-          of : {o' : ℕ} {e' : S} {n' : Tree} {P' : List Pair} → PatternCore o' b f n' s e' P' → ⊥
-          of {o'} {e'} {P' = P'} (as_array {ps = qs} tree pl d) = missed.nothing o' e' qs P' d
-          of (as_object tree begins pl d) = two_marks reads (run_token S Next behind d).reads
-
-      pub array_pattern_deep : {o hi : ℕ} → AbsentPartsWithin S Next behind o (hi - 1) (array_pattern_parts b) s → AbsentAtWithin S Next behind o hi (pattern b f) s
-      array_pattern_deep {o} {hi} missed = record { nothing = λ e' n' P' d le. of (pattern_core d) le }
-        where
-          of : {e' : S} {n' : Tree} {P' : List Pair} → PatternCore o b f n' s e' P' → height n' ≤ hi → ⊥
-          of {e'} {n'} {P'} (as_array {st = st} {en = en} {ps = qs} tree pl d) le =
-              let high : height n' ≡ height (node ArrayPattern [] plain st en qs) = ap height tree in
-              missed.nothing e' qs P' d (omega arith)
-          of (as_object tree begins pl d) le = two_marks reads (run_token S Next behind d).reads
-
     -- `{` is read
     module _ {t : Token} {m : S} (reads : Reads S Next behind Punctuator (codes "{") s t m) where
       pub object_pattern_found : {o : ℕ} {ps : Parts} {e : S} {P : List Pair} {st en : ℕ} → IsTrue (starts f (sign "{" ∷ [])) → FoundParts S Next behind o (object_pattern_parts b) s e ps P → Placed S Next behind (pattern b f) (node ObjectPattern [] plain st en ps) s e →
@@ -161,30 +145,6 @@ module _ (S : Type 0) (Next : S → Token → S → Type 0) (behind : S → Toke
               let span = same_span (λ t l. refl) pl places same.0 in
               (same.0, tree ∙ same_node refl refl refl span.0 span.1 same.1, same.2)
           of (as_array tree pl d) = absurd (two_marks (run_token S Next behind d).reads reads)
-
-      pub object_pattern_absent : AbsentParts S Next behind (object_pattern_parts b) s → AbsentAt S Next behind (pattern b f) s
-      object_pattern_absent missed = record { nothing = λ o' e' n' P' d. of (pattern_core d) }
-        where
-          of : {o' : ℕ} {e' : S} {n' : Tree} {P' : List Pair} → PatternCore o' b f n' s e' P' → ⊥
-          of {o'} {e'} {P' = P'} (as_object {ps = qs} tree begins pl d) = missed.nothing o' e' qs P' d
-          of (as_array tree pl d) = two_marks (run_token S Next behind d).reads reads
-
-      pub object_pattern_deep : {o hi : ℕ} → AbsentPartsWithin S Next behind o (hi - 1) (object_pattern_parts b) s → AbsentAtWithin S Next behind o hi (pattern b f) s
-      object_pattern_deep {o} {hi} missed = record { nothing = λ e' n' P' d le. of (pattern_core d) le }
-        where
-          of : {e' : S} {n' : Tree} {P' : List Pair} → PatternCore o b f n' s e' P' → height n' ≤ hi → ⊥
-          of {e'} {n'} {P'} (as_object {st = st} {en = en} {ps = qs} tree begins pl d) le =
-              let high : height n' ≡ height (node ObjectPattern [] plain st en qs) = ap height tree in
-              missed.nothing e' qs P' d (omega arith)
-          of (as_array tree pl d) le = two_marks (run_token S Next behind d).reads reads
-
-      -- where it may not stand
-      pub object_pattern_unfit : starts f (sign "{" ∷ []) ≡ false → AbsentAt S Next behind (pattern b f) s
-      object_pattern_unfit no_fit = record { nothing = λ o' e' n' P' d. of (pattern_core d) }
-        where
-          of : {o' : ℕ} {e' : S} {n' : Tree} {P' : List Pair} → PatternCore o' b f n' s e' P' → ⊥
-          of (as_object tree begins pl d) = false≢true (sym no_fit ∙ begins)
-          of (as_array tree pl d) = two_marks (run_token S Next behind d).reads reads
 
   -- The template behind a tag.
   record QuasiCore (o : ℕ) (n : Tree) (s e : S) (P : List Pair) : Type 0 where
@@ -216,14 +176,4 @@ module _ (S : Type 0) (Next : S → Token → S → Type 0) (behind : S → Toke
         let same = found.only o' e' u.parts P' u.runs in
         let span = same_span (λ t l. refl) u.places places same.0 in
         (same.0, u.tree ∙ same_node refl refl refl span.0 span.1 same.1, same.2);
-  }
-
-  pub quasi_absent : {s : S} → AbsentParts S Next behind (chunk_pieces true) s → AbsentAt S Next behind tagged_quasi s
-  quasi_absent missed = record { nothing = λ o' e' n' P' d. (let u = quasi_core d in missed.nothing o' e' u.parts P' u.runs) }
-
-  pub quasi_deep : {o hi : ℕ} {s : S} → AbsentPartsWithin S Next behind o (hi - 1) (chunk_pieces true) s → AbsentAtWithin S Next behind o hi tagged_quasi s
-  quasi_deep missed = record {
-    nothing = λ e' n' P' d le. let u = quasi_core d in
-        let high : height n' ≡ height (node TemplateLiteral [] plain u.st u.en u.parts) = ap height u.tree in
-        missed.nothing e' u.parts P' u.runs (omega arith);
   }

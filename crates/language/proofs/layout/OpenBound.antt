@@ -135,10 +135,6 @@ lead_bound (absent ∷ qs) o k m h r f = f o h
 lead_bound (never ∷ qs) o k m h r f = absurd (false≢true r)
 lead_bound (lay x ∷ qs) o k m h r f = lead_bound qs o k m h r f
 
-room_more : (b : Bool) (k m n : ℕ) → k ≤ room b m → m ≤ n → k ≤ room b n
-room_more true k m n h l = omega (arith, h, l)
-room_more false k m n h l = omega (arith, h, l)
-
 room_least : (b : Bool) (m : ℕ) → m ≤ room b m
 room_least true m = omega arith
 room_least false m = omega arith

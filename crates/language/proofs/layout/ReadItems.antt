@@ -1,9 +1,9 @@
 -- Items that stand apart are read, one after the other.
-use Rattle.std.proofs.Common.{◌≡◌, ℕ, ◌+◌, ◌≤◌, Bool, true, false, not, ◌&&◌, ◌||◌, List, [], ◌∷◌, ◌++◌, length, drop, refl, sym, ap, ◌∙◌, subst, arith, IsTrue, append_assoc, append-nil, length-append, length-drop}
+use Rattle.std.proofs.Common.{◌≡◌, ℕ, ◌+◌, ◌≤◌, Bool, true, false, not, ◌||◌, List, [], ◌∷◌, ◌++◌, length, drop, refl, sym, ap, ◌∙◌, subst, arith, IsTrue, append_assoc, append-nil, length-append, length-drop}
 use Rattle.std.specs.List.{list_any, list_all}
-use Rattle.std.specs.Str.{chars, IsUtf8, is_utf8}
+use Rattle.std.specs.Str.{chars, IsUtf8}
 use Rattle.std.proofs.lemmas.Slice.Eq.{bytes_eq-Decides}
-use Rattle.std.proofs.lemmas.Str.{IsUtf8-from_is_utf8, chars-append, chars-nil, encodes-chars, IsUtf8-nil, IsUtf8-append}
+use Rattle.std.proofs.lemmas.Str.{chars-append, chars-nil, encodes-chars, IsUtf8-nil, IsUtf8-append}
 use Rattle.std.proofs.lemmas.List.{drop_at, drop-drop}
 use Rattle.std.proofs.lemmas.Bool.{and_parts, and_from, false≢true}
 use Rattle.source_text.specs.Lines.{is_line_terminator}
@@ -20,7 +20,7 @@ use Rattle.language.specs.Token.{Token, as_read, table_text}
 use Rattle.language.specs.Derivation.{Reads}
 use Rattle.language.specs.Cursor.{beginning}
 use Rattle.language.specs.Places.{NextIn, next_in, itself}
-use Rattle.language.specs.Readable.{is_blank, breaks, on_this_line, joins_none, may_precede, goal_of, stands, is_name_next, stand_apart}
+use Rattle.language.specs.Readable.{is_blank, breaks, on_this_line, joins_none, may_precede, is_name_next}
 use Rattle.language.specs.Printed.{Item, word, blank, name_ahead, joined, items_text, Follows, over, reads, passes, sees, stays, GoesOn}
 
 -- a word of a class in front of a rest, with which it makes no longer token
@@ -224,14 +224,6 @@ text_is_read is r =
 
 -- What the test says
 
-stands_apart : (c : TokenClass) (w rest : List ℕ) → stands c w rest ≡ true → Apart c w rest
-stands_apart c w rest h =
-    let a = and_parts (is_utf8 w) _ h in
-    let b = and_parts (is_token c (chars w) (chars rest)) _ a.1 in
-    let d = and_parts (not (begins_comment (chars w ++ chars rest))) _ b.1 in
-    let e = and_parts (allows (goal_of c) c (chars w)) _ d.1 in
-    record { utf8 = IsUtf8-from_is_utf8 w a.0; longest = b.0; no_comment = d.0; goal = goal_of c; allowed = e.0; kept = (bytes_eq-Decides (table_text c w) w).0 e.1 }
-
 name_next : (w : List ℕ) (is : List Item) → is_name_next w is ≡ true → Readable is → Readable (name_ahead w ∷ is)
 name_next w (word IdentifierName v ∷ is) h r = subst (λ x. Readable (name_ahead x ∷ word IdentifierName v ∷ is)) ((bytes_eq-Decides v w).0 h) (a_name r)
 name_next w [] h r = absurd (false≢true h)
@@ -239,14 +231,3 @@ name_next w (word _ v ∷ is) h r = absurd (false≢true h)
 name_next w (blank v ∷ is) h r = absurd (false≢true h)
 name_next w (name_ahead v ∷ is) h r = absurd (false≢true h)
 name_next w (joined ∷ is) h r = absurd (false≢true h)
-
-pub tested_readable : (is : List Item) → stand_apart is ≡ true → Readable is
-tested_readable [] h = ends
-tested_readable (word c w ∷ is) h = let a = and_parts (stands c w (items_text is)) _ h in a_word (stands_apart c w (items_text is) a.0) (tested_readable is a.1)
-tested_readable (blank w ∷ is) h =
-    let a = and_parts (is_utf8 w && (list_all is_blank (chars w) && may_precede w is)) _ h in
-    let b = and_parts (is_utf8 w) _ a.0 in
-    let d = and_parts (list_all is_blank (chars w)) _ b.1 in
-    a_gap (record { utf8 = IsUtf8-from_is_utf8 w b.0; blank = d.0 }) d.1 (tested_readable is a.1)
-tested_readable (name_ahead w ∷ is) h = let a = and_parts (is_name_next w is) _ h in name_next w is a.0 (tested_readable is a.1)
-tested_readable (joined ∷ is) h = let a = and_parts (on_this_line is) _ h in a_line a.0 (tested_readable is a.1)

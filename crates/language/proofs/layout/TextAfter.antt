@@ -64,19 +64,6 @@ closes_any (c ∷ cs) h = go (is_closer c) (is_sign_closer c) h
     go true b h = refl
     go false b h = absurd (false≢true h)
 
-pub closes_undotted : (t : List ℕ) → closes t ≡ true → Undotted t
-closes_undotted [] h = absurd (false≢true h)
-closes_undotted (c ∷ cs) h = undotted_code c cs (low c h) (point c h) (digit c h)
-  where
-    low : (c : ℕ) → is_closer c ≡ true → c < 128
-    low c h = grind (arith, nat_tests)
-
-    point : (c : ℕ) → is_closer c ≡ true → (c == 46) ≡ false
-    point c h = grind (arith, nat_tests)
-
-    digit : (c : ℕ) → is_closer c ≡ true → is_decimal_digit c ≡ false
-    digit c h = grind (arith, nat_tests)
-
 -- A sign, by what it touches
 
 one_word : (w v : List ℕ) → (bytes_eq w v || false) ≡ true → w ≡ v

@@ -1,20 +1,20 @@
 -- The members of a class, as a loop reads them, with `;` in any number between them (ECMA-262 14.6).
-use Rattle.std.proofs.Common.{◌≡◌, ℕ, ◌≤◌, Bool, true, false, List, [], ◌∷◌, ◌++◌, refl, sym, ap, ◌∙◌, subst, arith, append_assoc, ◌⊎◌, inl, inr}
+use Rattle.std.proofs.Common.{◌≡◌, ℕ, Bool, true, false, List, [], ◌∷◌, ◌++◌, refl, sym, ap, ◌∙◌, subst, arith, append_assoc, ◌⊎◌, inl, inr}
 use Rattle.std.specs.Prelude.{IsTrue, codes}
 use Rattle.std.proofs.lemmas.Bool.{false≢true}
 use Rattle.tokens.specs.declared.token.TokenClass.TheVariants.{IdentifierName, Punctuator}
 use Rattle.tokens.specs.declared.token.Goal.TheVariants.{Div}
 use Rattle.tokens.specs.Goals.{allows}
 use Rattle.tree.specs.declared.kind.Pair.{Pair}
-use Rattle.tree.specs.Tree.{Tree, Parts, none, part, gap, parts_height, bare_parts}
+use Rattle.tree.specs.Tree.{Tree, Parts, none, part, gap, bare_parts}
 use Rattle.language.specs.declared.Rank.TheVariants.{Expression}
 use Rattle.language.specs.declared.Start.TheVariants.{Any}
 use Rattle.language.specs.Vocabulary.{is}
 use Rattle.language.specs.Pieces.{Role, member, Piece, PieceOf, many, lay, line, shallower, sub, sign, never}
 use Rattle.language.specs.Statements.{member_lines}
 use Rattle.language.specs.Token.{Token}
-use Rattle.language.specs.Promises.{IsDetermined, FoundAt, AbsentAt, AbsentAtWithin}
-use Rattle.language.specs.Following.{AbsentPartsWhere, AbsentPartsWhereWithin}
+use Rattle.language.specs.Promises.{IsDetermined, FoundAt, AbsentAt}
+use Rattle.language.specs.Following.{AbsentPartsWhere}
 use Rattle.language.specs.Grammar.{ways}
 use Rattle.language.specs.Derivation.{Reads, Spells, Runs, step, within, Step, one_more, no_more, laid}
 use Rattle.language.proofs.table.Begins.{goes_to, retell}
@@ -180,11 +180,3 @@ module _ (S : Type 0) (Next : S → Token → S → Type 0) (behind : S → Toke
         of (a_semicolon {t = t} {m = m} r d) = no_semicolon t m r
         of {o'} (a_member {n = n} {m = j} {A = B} same all p d) = missed.nothing o' j n B p
         of (a_brace same d) = let c = run_token S Next behind d in no_brace c.sign c.mid c.reads
-
-    pub member_deep : {o hi : ℕ} → AbsentAtWithin S Next behind o hi member mid → AbsentPartsWhereWithin S Next behind Fine o hi (plain_members closing_brace) mid
-    member_deep {o} {hi} missed = record { nothing = λ e ps P d fine low. of (ahead_of ps d) low }
-      where
-        of : {ps : Parts} {e : S} {P : List Pair} → Ahead o ps mid e P → parts_height ps ≤ hi → ⊥
-        of (a_semicolon {t = t} {m = m} r d) low = no_semicolon t m r
-        of {ps} (a_member {n = n} {qs = qs} {m = j} {A = B} same all p d) low = let high : parts_height ps ≡ parts_height (part n qs) = ap parts_height same in missed.nothing j n B p (omega arith)
-        of (a_brace same d) low = let c = run_token S Next behind d in no_brace c.sign c.mid c.reads

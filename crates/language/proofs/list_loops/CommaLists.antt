@@ -1,29 +1,27 @@
 -- Lists with commas, as a loop reads them: before an item; behind one, where a comma or the closing token stands.
-use Rattle.std.proofs.Common.{◌≡◌, ℕ, ◌≤◌, Bool, true, false, cond, List, [], ◌∷◌, ◌++◌, refl, sym, ap, ◌∙◌, subst, arith}
+use Rattle.std.proofs.Common.{◌≡◌, ℕ, Bool, true, false, cond, List, [], ◌∷◌, ◌++◌, refl, sym, ap, ◌∙◌, subst, arith}
 use Rattle.std.specs.Prelude.{IsTrue, Option, Some, None, codes}
 use Rattle.tokens.specs.declared.token.TokenClass.TheVariants.{Punctuator}
 use Rattle.tokens.specs.declared.token.Goal.TheVariants.{Div}
 use Rattle.tokens.specs.Goals.{allows}
 use Rattle.tree.specs.declared.kind.Kind.{Kind}
 use Rattle.tree.specs.declared.kind.Pair.{Pair}
-use Rattle.tree.specs.Tree.{Tree, node, Parts, none, part, gap, kind_of, parts_height, bare_parts}
+use Rattle.tree.specs.Tree.{Tree, node, Parts, none, part, gap, kind_of, bare_parts}
 use Rattle.language.specs.declared.Rank.TheVariants.{Expression}
 use Rattle.language.specs.declared.Start.TheVariants.{Any}
 use Rattle.language.specs.Vocabulary.{is_rest}
-use Rattle.language.specs.Pieces.{Role, Piece, PieceOf, tok, may, sign, sp, put_at, nothing, is_none, separator, listed, settle_piece}
+use Rattle.language.specs.Pieces.{Role, PieceOf, tok, may, sign, sp, put_at, nothing, is_none, separator, listed, settle_piece}
 use Rattle.language.specs.Token.{Token}
 use Rattle.language.specs.Covers.{FoundItem, AbsentItem, AbsentItemWithin}
 use Rattle.language.specs.Promises.{IsDetermined}
-use Rattle.language.specs.Following.{AbsentPartsWhere, AbsentPartsWhereWithin}
 use Rattle.language.specs.Grammar.{ways}
-use Rattle.language.specs.Derivation.{Reads, Spells, Runs, step, within, token, with_mark, without_mark, laid}
+use Rattle.language.specs.Derivation.{Reads, Spells, Runs, step, within, token, with_mark, laid}
 use Rattle.language.proofs.table.Begins.{goes_to, retell}
 use Rattle.language.proofs.list_loops.FirstPieces.{ATrailing, with_it, without_it, run_token, run_laid, run_may, run_never, run_the_part}
 use Rattle.language.proofs.climbing.Conditionals.{same_sign}
 use Rattle.language.proofs.table.ForDeclarationWays.{two_signs}
 use Rattle.language.proofs.list_loops.FirstItems.{item_piece, list_pieces}
-use Rattle.language.proofs.list_loops.StatementLists.{closed_by}
-use Rattle.language.proofs.list_loops.PiecesSoFar.{Rest, Sofar, turned}
+use Rattle.language.proofs.list_loops.PiecesSoFar.{Rest, Sofar}
 
 -- what stands behind an item of this kind: a comma and the rest, perhaps a trailing one, and the closing token
 abbrev pub behind_item : (Kind → Option Role) → List ℕ → Kind → Parts → List (PieceOf Role)
@@ -141,90 +139,3 @@ module _ (S : Type 0) (Next : S → Token → S → Type 0) (behind : S → Toke
         of o' none e P d = trail (run_may S Next behind (there none d))
         of o' (gap ps) e P d = let u = run_token S Next behind (there (gap ps) d) in absurd (run_never S Next behind (run_laid S Next behind u.runs))
         of o' (part n ps) e P d = let u = run_token S Next behind (there (part n ps) d) in moved u.reads (run_laid S Next behind u.runs)
-
-    -- the closing token behind an item
-    pub close_on : {k : S} {t : Token} (c : Kind) → (codes "," ≡ w → ⊥) → IsTrue (allows Div Punctuator w) → Reads S Next behind Punctuator w mid t k → Sofar S Next behind det Fine o (behind_item r w c) mid (closed_by (tok Punctuator w ∷ [])) mid (λ ps. ps) []
-    close_on {k} {t} c other al closing = turned S Next behind det there back
-      where
-        no_comma : {A : Type 0} {u : Token} {m : S} → Reads S Next behind Punctuator (codes ",") mid u m → A
-        no_comma h = absurd (other (two_signs S Next behind det refl al h closing).0)
-
-        trail : {o : ℕ} {e : S} {P : List Pair} → ATrailing S Next behind o (codes ",") (tok Punctuator w ∷ []) none mid e P → Runs ways S Next behind o (tok Punctuator w ∷ []) none mid e P
-        trail (with_it x d) = no_comma x
-        trail (without_it d) = d
-
-        last : {o : ℕ} {e : S} {P : List Pair} (b : Bool) → Runs ways S Next behind o (goes_to Expression true Any ((cond b [] (may (codes ",") ∷ []) ++ []) ++ tok Punctuator w ∷ [])) none mid e P → Runs ways S Next behind o (tok Punctuator w ∷ []) none mid e P
-        last true d = d
-        last false d = trail (run_may S Next behind d)
-
-        tsal : {o : ℕ} {e : S} {P : List Pair} (b : Bool) → Runs ways S Next behind o (tok Punctuator w ∷ []) none mid e P → Runs ways S Next behind o (goes_to Expression true Any ((cond b [] (may (codes ",") ∷ []) ++ []) ++ tok Punctuator w ∷ [])) none mid e P
-        tsal true d = d
-        tsal false d = step without_mark d
-
-        more : {o : ℕ} {A : Type 0} {ps : Parts} {e : S} {P : List Pair} (b : Bool) (qs : List Piece) → Runs ways S Next behind o (goes_to Expression true Any ((cond b nothing (sign "," ∷ sp ∷ []) ++ qs) ++ tok Punctuator w ∷ [])) ps mid e P → A
-        more true qs d = absurd (run_never S Next behind d)
-        more false qs d = no_comma (run_token S Next behind d).reads
-
-        there : (o' : ℕ) (ps : Parts) (e : S) (P : List Pair) → Runs ways S Next behind o' (behind_item r w c ps) ps mid e P → Runs ways S Next behind o' (closed_by (tok Punctuator w ∷ []) ps) ps mid e P
-        there o' none e P d = last (is_rest c) d
-        there o' (part n ps) e P d = more (is_rest c) (listed (item_piece r) (bare_parts (part n ps))) d
-        there o' (gap ps) e P d = more (is_rest c) (listed (item_piece r) (bare_parts (gap ps))) d
-
-        back : (o' : ℕ) (ps : Parts) (e : S) (P : List Pair) → Runs ways S Next behind o' (closed_by (tok Punctuator w ∷ []) ps) ps mid e P → Runs ways S Next behind o' (behind_item r w c ps) ps mid e P
-        back o' none e P d = tsal (is_rest c) d
-        back o' (part n ps) e P d = absurd (run_never S Next behind d)
-        back o' (gap ps) e P d = absurd (run_never S Next behind d)
-
-    -- the closing token where no item begins with it
-    pub list_closed : ((o' : ℕ) (a : Role) (e' : S) (n' : Tree) (P' : List Pair) → r (kind_of n') ≡ Some a → Spells ways S Next behind o' a n' mid e' P' → ⊥) → Sofar S Next behind det Fine o (list_pieces r w) mid (closed_by (tok Punctuator w ∷ [])) mid (λ ps. ps) []
-    list_closed no_item = turned S Next behind det there back
-      where
-        there : (o' : ℕ) (ps : Parts) (e : S) (P : List Pair) → Runs ways S Next behind o' (list_pieces r w ps) ps mid e P → Runs ways S Next behind o' (closed_by (tok Punctuator w ∷ []) ps) ps mid e P
-        there o' none e P d = d
-        there o' (gap ps) e P d = absurd (run_never S Next behind d)
-        there o' (part (node c v g st en qs) ps) e P d = let u = an_item (r c) d in absurd (no_item o' u.role u.mid (node c v g st en qs) u.one u.it_is u.spelled)
-
-        back : (o' : ℕ) (ps : Parts) (e : S) (P : List Pair) → Runs ways S Next behind o' (closed_by (tok Punctuator w ∷ []) ps) ps mid e P → Runs ways S Next behind o' (list_pieces r w ps) ps mid e P
-        back o' none e P d = d
-        back o' (part n ps) e P d = absurd (run_never S Next behind d)
-        back o' (gap ps) e P d = absurd (run_never S Next behind d)
-
-    -- none within the limits
-    pub item_deep : {hi : ℕ} → ItemAbsentWithin r w o hi mid → ((t : Token) (m : S) → Reads S Next behind Punctuator w mid t m → ⊥) → AbsentPartsWhereWithin S Next behind Fine o hi (list_pieces r w) mid
-    item_deep {hi} missed not_closed = record { nothing = λ e ps P d fine le. of e ps P d le }
-      where
-        of : (e : S) (ps : Parts) (P : List Pair) → Runs ways S Next behind o (list_pieces r w ps) ps mid e P → parts_height ps ≤ hi → ⊥
-        of e none P d le = let c = run_token S Next behind d in not_closed c.sign c.mid c.reads
-        of e (gap ps) P d le = run_never S Next behind d
-        of e (part (node c v g st en qs) ps) P d le = let u = an_item (r c) d in missed.nothing u.role u.mid (node c v g st en qs) u.one u.it_is u.spelled (separated r w c ps u.runs) (omega arith)
-
-  module _ {Fine : Parts → S → Type 0} (r : Kind → Option Role) {w : List ℕ} {mid : S} where
-    -- neither an item nor the closing token
-    pub item_missing : ItemAbsent r w mid → ((t : Token) (m : S) → Reads S Next behind Punctuator w mid t m → ⊥) → AbsentPartsWhere S Next behind Fine (list_pieces r w) mid
-    item_missing missed not_closed = record { nothing = λ o' e ps P d fine. of o' e ps P d }
-      where
-        of : (o' : ℕ) (e : S) (ps : Parts) (P : List Pair) → Runs ways S Next behind o' (list_pieces r w ps) ps mid e P → ⊥
-        of o' e none P d = let c = run_token S Next behind d in not_closed c.sign c.mid c.reads
-        of o' e (gap ps) P d = run_never S Next behind d
-        of o' e (part (node c v g st en qs) ps) P d = let u = an_item (r c) d in missed.nothing o' u.role u.mid (node c v g st en qs) u.one u.it_is u.spelled (separated r w c ps u.runs)
-
-    -- behind an item neither a comma nor the closing token; behind a rest a comma
-    pub unseparated : (c : Kind) → (Separated w mid → ⊥) → AbsentPartsWhere S Next behind Fine (behind_item r w c) mid
-    unseparated c missed = record { nothing = λ o' e ps P d fine. missed (separated r w c ps d) }
-
-    -- nothing but the closing token stands behind a rest
-    pub rest_unclosed : (c : Kind) → is_rest c ≡ true → ((t : Token) (m : S) → Reads S Next behind Punctuator w mid t m → ⊥) → AbsentPartsWhere S Next behind Fine (behind_item r w c) mid
-    rest_unclosed c a_rest not_closed = record { nothing = λ o' e ps P d fine. of o' ps (is_rest c) a_rest (retell S Next behind (told c ps) d) }
-      where
-        separator_is : (k : Kind) (x : Bool) → separator k x ≡ cond x (cond (is_rest k) [] (may (codes ",") ∷ [])) (cond (is_rest k) nothing (sign "," ∷ sp ∷ []))
-        separator_is k true = refl
-        separator_is k false = refl
-
-        told : (k : Kind) (ps : Parts) → behind_item r w k ps ≡ goes_to Expression true Any ((cond (is_none (bare_parts ps)) (cond (is_rest k) [] (may (codes ",") ∷ [])) (cond (is_rest k) nothing (sign "," ∷ sp ∷ [])) ++ listed (item_piece r) (bare_parts ps)) ++ tok Punctuator w ∷ [])
-        told k ps = ap (λ x. goes_to Expression true Any ((x ++ listed (item_piece r) (bare_parts ps)) ++ tok Punctuator w ∷ [])) (separator_is k (is_none (bare_parts ps)))
-
-        of : (o : ℕ) {e : S} {P : List Pair} (ps : Parts) (b : Bool) → b ≡ true → Runs ways S Next behind o (goes_to Expression true Any ((cond (is_none (bare_parts ps)) (cond b [] (may (codes ",") ∷ [])) (cond b nothing (sign "," ∷ sp ∷ [])) ++ listed (item_piece r) (bare_parts ps)) ++ tok Punctuator w ∷ [])) ps mid e P → ⊥
-        of o none true h d = let u = run_token S Next behind d in not_closed u.sign u.mid u.reads
-        of o (part n ps) true h d = run_never S Next behind d
-        of o (gap ps) true h d = run_never S Next behind d
-        of o ps false h d = cc

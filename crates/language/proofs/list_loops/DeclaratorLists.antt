@@ -1,12 +1,12 @@
 -- Declarators with commas between them, as a loop reads them, and what stands behind the last (ECMA-262 13.3).
-use Rattle.std.proofs.Common.{◌≡◌, ℕ, ◌≤◌, Bool, true, false, List, [], ◌∷◌, ◌++◌, refl, sym, ap, ◌∙◌, subst, arith}
+use Rattle.std.proofs.Common.{◌≡◌, ℕ, Bool, true, false, List, [], ◌∷◌, ◌++◌, refl, sym, ap, ◌∙◌, subst, arith}
 use Rattle.std.specs.Prelude.{IsTrue, codes}
 use Rattle.std.proofs.lemmas.Bool.{false≢true}
 use Rattle.tokens.specs.declared.token.TokenClass.TheVariants.{Punctuator}
 use Rattle.tokens.specs.declared.token.Goal.{Goal}
 use Rattle.tokens.specs.Goals.{allows}
 use Rattle.tree.specs.declared.kind.Pair.{Pair}
-use Rattle.tree.specs.Tree.{Tree, Parts, none, part, gap, parts_height, bare_parts}
+use Rattle.tree.specs.Tree.{Tree, Parts, none, part, gap, bare_parts}
 use Rattle.language.specs.declared.Rank.TheVariants.{Expression, Assignment}
 use Rattle.language.specs.declared.Start.TheVariants.{Any}
 use Rattle.language.specs.declared.Edge.{Edge}
@@ -16,7 +16,7 @@ use Rattle.language.specs.Pieces.{Role, declarator, Piece, PieceOf, tok, lay, sp
 use Rattle.language.specs.Statements.{declarators, end_of}
 use Rattle.language.specs.Token.{Token}
 use Rattle.language.specs.Promises.{IsDetermined}
-use Rattle.language.specs.Following.{IsAlike, Followed, may_follow, Declared, FoundWhere, AbsentWhere, AbsentWhereWithin, AbsentPartsWhere, AbsentPartsWhereWithin}
+use Rattle.language.specs.Following.{IsAlike, Followed, may_follow, Declared, FoundWhere}
 use Rattle.language.specs.Grammar.{ways}
 use Rattle.language.specs.Derivation.{Reads, Spells, Runs, step, within, token, laid, Step, explicit, implicit}
 use Rattle.language.proofs.table.Begins.{goes_to, retell}
@@ -134,24 +134,6 @@ module _ (S : Type 0) (Next : S → Token → S → Type 0) (behind : S → Toke
           back o' none e P d = d
           back o' (gap ps) e P d = absurd (run_never S Next behind d)
           back o' (part m ps) e P d = absurd (run_never S Next behind d)
-
-    -- no declarator
-    pub declarator_missing : {mid : S} → AbsentWhere S Next behind (Declared S Next behind i) (declarator i b) mid → AbsentPartsWhere S Next behind (λ ps e. End e) (before_declarator (declarator i b) after) mid
-    declarator_missing {mid} missed = record { nothing = λ o' e ps P d fine. of o' e ps P d fine }
-      where
-        of : (o' : ℕ) (e : S) (ps : Parts) (P : List Pair) → Runs ways S Next behind o' (before_declarator (declarator i b) after ps) ps mid e P → End e → ⊥
-        of o' e none P d fine = run_never S Next behind d
-        of o' e (gap ps) P d fine = run_never S Next behind d
-        of o' e (part m ps) P d fine = let u = first_of m ps d in missed.nothing o' u.mid m u.one u.spelled (fits m ps u.runs fine)
-
-    -- none within the limits
-    pub declarator_too_deep : {o hi : ℕ} {mid : S} → AbsentWhereWithin S Next behind (Declared S Next behind i) o hi (declarator i b) mid → AbsentPartsWhereWithin S Next behind (λ ps e. End e) o hi (before_declarator (declarator i b) after) mid
-    declarator_too_deep {o} {hi} {mid} missed = record { nothing = λ e ps P d fine low. of e ps P d fine low }
-      where
-        of : (e : S) (ps : Parts) (P : List Pair) → Runs ways S Next behind o (before_declarator (declarator i b) after ps) ps mid e P → End e → parts_height ps ≤ hi → ⊥
-        of e none P d fine low = run_never S Next behind d
-        of e (gap ps) P d fine low = run_never S Next behind d
-        of e (part m ps) P d fine low = let u = first_of m ps d in missed.nothing u.mid m u.one u.spelled (fits m ps u.runs fine) (omega arith)
 
 -- a declarator can't go on before the end of its declaration
 module _ (S : Type 0) (Next : S → Token → S → Type 0) (behind : S → Token) (det : IsDetermined S Next behind) (alike : IsAlike S Next behind) where

@@ -16,7 +16,7 @@ use Rattle.language.specs.Pieces.{Role, expr, spread, property, pattern_property
 use Rattle.language.specs.Token.{Token}
 use Rattle.language.specs.Expressions.{object_part, object_pattern_part, template_elements}
 use Rattle.language.specs.Grammar.{ways}
-use Rattle.language.specs.Derivation.{Reads, Spells, Runs, done, step, within, missing, token, with_mark, without_mark, laid}
+use Rattle.language.specs.Derivation.{Reads, Spells, Runs, done, step, within, token, with_mark, without_mark, laid}
 use Rattle.language.proofs.table.Begins.{goes_to, retell}
 use Rattle.language.proofs.list_loops.FirstPieces.{ATrailing, run_none, run_token, run_laid, run_may, with_it, without_it, run_never, run_the_part, run_the_gap}
 use Rattle.language.proofs.climbing.Commas.{comma_pieces}
@@ -216,10 +216,6 @@ module _ (S : Type 0) (Next : S → Token → S → Type 0) (behind : S → Toke
   hole_laid true xs ys d = d
   hole_laid false xs ys d = run_laid S Next behind d
 
-  laid_hole : {o : ℕ} (b : Bool) (xs ys : List Piece) {ps : Parts} {s e : S} {P : List Pair} → Runs ways S Next behind o (goes_to Expression true Any (xs ++ ys)) ps s e P → Runs ways S Next behind o (goes_to Expression true Any ((cond b [] (sp ∷ []) ++ xs) ++ ys)) ps s e P
-  laid_hole true xs ys d = d
-  laid_hole false xs ys d = step laid d
-
   -- what runs over the pieces of a list with holes is one of these
   pub element_form : {o : ℕ} {r : Kind → Option Role} {w : List ℕ} {s e : S} {P : List Pair} (ps : Parts) → Runs ways S Next behind o (element_pieces r w ps) ps s e P → ElementForm o r w s e P ps
   element_form none d = let c = closes d in no_element c.reads c.pairs
@@ -237,21 +233,6 @@ module _ (S : Type 0) (Next : S → Token → S → Type 0) (behind : S → Toke
       let p = item_of Expression true Any r (node k v g st en qs) (r k) refl d in
       let b = behind_item Expression true Any (is_rest k) (elements (item_piece r) (bare_parts (part m ps)) ++ tok Punctuator w ∷ []) (joined (separator k false) (elements (item_piece r) (bare_parts (part m ps))) (tok Punctuator w ∷ []) p.runs) in
       more_elements p.is b.no_rest refl p.spelled b.comma b.runs p.pairs
-
-  -- and each of them runs
-  pub element_runs : {o : ℕ} {r : Kind → Option Role} {w : List ℕ} {s e : S} {P : List Pair} {ps : Parts} → ElementForm o r w s e P ps → Runs ways S Next behind o (element_pieces r w ps) ps s e P
-  element_runs {o} {r} {w} {s} {e} (no_element x z) = subst (λ v. Runs ways S Next behind o (tok Punctuator w ∷ []) none s e v) (sym z) (closing x)
-  element_runs {o} {r} {w} {s} {e} (a_hole {ps = ps} c d) = missing (step (token c) (laid_hole (is_none (bare_parts ps)) (elements (item_piece r) (bare_parts ps)) (tok Punctuator w ∷ []) d))
-  element_runs {o} {r} {w} {s} {e} {P} (last_element {n = node k v g st en qs} h p b z) =
-      subst (λ q. Runs ways S Next behind o (element_pieces r w (part (node k v g st en qs) none)) (part (node k v g st en qs) none) s e q) (sym z)
-      (item_runs Expression true Any (r k) h p (unjoined (separator k true) [] (tok Punctuator w ∷ []) (last_behind Expression true Any (is_rest k) (tok Punctuator w ∷ []) b)))
-  element_runs (more_elements {n = node k v g st en qs} {ps = none} h b i p c d z) = cc
-  element_runs {o} {r} {w} {s} {e} {P} (more_elements {n = node k v g st en qs} {ps = gap ps} h b i p c d z) =
-      subst (λ q. Runs ways S Next behind o (element_pieces r w (part (node k v g st en qs) (gap ps))) (part (node k v g st en qs) (gap ps)) s e q) (sym z)
-      (item_runs Expression true Any (r k) h p (unjoined (separator k false) (elements (item_piece r) (bare_parts (gap ps))) (tok Punctuator w ∷ []) (item_behind Expression true Any (is_rest k) (elements (item_piece r) (bare_parts (gap ps)) ++ tok Punctuator w ∷ []) b c d)))
-  element_runs {o} {r} {w} {s} {e} {P} (more_elements {n = node k v g st en qs} {ps = part m ps} h b i p c d z) =
-      subst (λ q. Runs ways S Next behind o (element_pieces r w (part (node k v g st en qs) (part m ps))) (part (node k v g st en qs) (part m ps)) s e q) (sym z)
-      (item_runs Expression true Any (r k) h p (unjoined (separator k false) (elements (item_piece r) (bare_parts (part m ps))) (tok Punctuator w ∷ []) (item_behind Expression true Any (is_rest k) (elements (item_piece r) (bare_parts (part m ps)) ++ tok Punctuator w ∷ []) b c d)))
 
   -- Parameters: what closes them and the body, which is the last part; or a parameter and the rest.
   pub data ParameterForm (o : ℕ) (y : Rank) (i : Bool) (f : Start) (after : List Piece) (s e : S) (P : List Pair) : Parts → Type 0 where
@@ -312,11 +293,6 @@ module _ (S : Type 0) (Next : S → Token → S → Type 0) (behind : S → Toke
       let p = run_the_part S Next behind d in
       let u = run_the_part S Next behind p.runs in
       more_chunks p.spelled u.spelled u.runs (p.pairs ∙ ap (λ v. p.one ++ v) u.pairs)
-
-  -- and each of them runs
-  pub chunk_runs : {o : ℕ} {b : Bool} {s e : S} {P : List Pair} {ps : Parts} → ChunkForm o b s e P ps → Runs ways S Next behind o (chunk_pieces b ps) ps s e P
-  chunk_runs {o} {b} {s} {e} {P} (last_chunk {q = q} p) = subst (λ v. Runs ways S Next behind o (chunk_pieces b (part q none)) (part q none) s e v) (append-nil P) (within p done)
-  chunk_runs {o} {b} {s} {e} {P} (more_chunks {q = q} {n = n} {ps = ps} p u d z) = subst (λ v. Runs ways S Next behind o (chunk_pieces b (part q (part n ps))) (part q (part n ps)) s e v) (sym z) (within p (within u d))
 
   -- The parts of a sequence behind its first: nothing; or a comma, an expression and the rest.
   pub data CommaForm (o : ℕ) (i : Bool) (f : Start) (s e : S) (P : List Pair) : Parts → Type 0 where

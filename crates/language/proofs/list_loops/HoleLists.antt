@@ -164,20 +164,6 @@ module _ (S : Type 0) (Next : S → Token → S → Type 0) (behind : S → Toke
         back o' (part n ps) e P d = absurd (run_never S Next behind d)
         back o' (gap ps) e P d = absurd (run_never S Next behind d)
 
-    -- the closing token where no item begins with it
-    pub elements_closed : {k : S} {t : Token} → (codes "," ≡ w → ⊥) → IsTrue (allows Div Punctuator w) → Reads S Next behind Punctuator w mid t k → ((o' : ℕ) (a : Role) (e' : S) (n' : Tree) (P' : List Pair) → r (kind_of n') ≡ Some a → Spells ways S Next behind o' a n' mid e' P' → ⊥) → Sofar S Next behind det Fine o (element_pieces r w) mid (closed_by (tok Punctuator w ∷ [])) mid (λ ps. ps) []
-    elements_closed {k} {t} other al closing no_item = turned S Next behind det there back
-      where
-        there : (o' : ℕ) (ps : Parts) (e : S) (P : List Pair) → Runs ways S Next behind o' (element_pieces r w ps) ps mid e P → Runs ways S Next behind o' (closed_by (tok Punctuator w ∷ []) ps) ps mid e P
-        there o' none e P d = d
-        there o' (gap ps) e P d = let c = run_token S Next behind (run_the_gap S Next behind d) in absurd (other (two_signs S Next behind det refl al c.reads closing).0)
-        there o' (part (node c v g st en qs) ps) e P d = let u = an_item S Next behind det (r c) d in absurd (no_item o' u.role u.mid (node c v g st en qs) u.one u.it_is u.spelled)
-
-        back : (o' : ℕ) (ps : Parts) (e : S) (P : List Pair) → Runs ways S Next behind o' (closed_by (tok Punctuator w ∷ []) ps) ps mid e P → Runs ways S Next behind o' (element_pieces r w ps) ps mid e P
-        back o' none e P d = d
-        back o' (part n ps) e P d = absurd (run_never S Next behind d)
-        back o' (gap ps) e P d = absurd (run_never S Next behind d)
-
     -- none within the limits
     pub element_deep : {hi : ℕ} → ItemAbsentWithin S Next behind det r w o hi mid → ((t : Token) (m : S) → Reads S Next behind Punctuator w mid t m → ⊥) → ((t : Token) (m : S) → Reads S Next behind Punctuator (codes ",") mid t m → ⊥) → AbsentPartsWhereWithin S Next behind Fine o hi (element_pieces r w) mid
     element_deep {hi} missed not_closed no_hole = record { nothing = λ e ps P d fine le. of e ps P d le }

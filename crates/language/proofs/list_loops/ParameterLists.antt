@@ -1,5 +1,5 @@
 -- The parameters of a function or an arrow, apart from the body, which is the last part beside them: a list with its closing token, and what follows it.
-use Rattle.std.proofs.Common.{◌≡◌, ℕ, Bool, true, false, List, [], ◌∷◌, ◌++◌, refl, sym, ap, ◌∙◌, subst, arith, append_assoc}
+use Rattle.std.proofs.Common.{◌≡◌, ℕ, Bool, true, false, List, [], ◌∷◌, ◌++◌, refl, sym, ap, ◌∙◌, subst, append_assoc}
 use Rattle.std.specs.Prelude.{Some, codes}
 use Rattle.std.proofs.lemmas.Bool.{false≢true}
 use Rattle.tokens.specs.declared.token.TokenClass.TheVariants.{Punctuator}
@@ -8,12 +8,11 @@ use Rattle.language.specs.declared.Rank.TheVariants.{Expression}
 use Rattle.language.specs.declared.Start.{Start}
 use Rattle.language.specs.declared.Start.TheVariants.{Any}
 use Rattle.tree.specs.declared.kind.Pair.{Pair}
-use Rattle.tree.specs.Tree.{Tree, Parts, none, part, gap, parts_height, kind_of, join}
-use Rattle.tree.proofs.Shapes.{parts_height-join}
+use Rattle.tree.specs.Tree.{Tree, Parts, none, part, gap, kind_of, join}
 use Rattle.language.specs.Vocabulary.{is_rest}
 use Rattle.language.specs.Pieces.{Role, body, Piece, PieceOf, sp, sign, put, is_none, settle_piece}
 use Rattle.language.specs.Token.{Token}
-use Rattle.language.specs.Promises.{IsDetermined, FoundAt, AbsentAt, AbsentAtWithin, FoundParts, AbsentParts, AbsentPartsWithin}
+use Rattle.language.specs.Promises.{IsDetermined, FoundAt, FoundParts}
 use Rattle.language.specs.Grammar.{ways}
 use Rattle.language.specs.Derivation.{Reads, Spells, Runs, step, token, laid}
 use Rattle.language.proofs.table.Begins.{goes_to}
@@ -159,32 +158,3 @@ module _ (S : Type 0) (Next : S → Token → S → Type 0) (behind : S → Toke
         let end = last.only o' e' w.last w.more (subst (λ c. Spells ways S Next behind o' body w.last c e' w.more) same.0 w.spelled) in
         (end.0, w.parts ∙ (λ k. join (same.1 k) (part (end.1 k) none)), w.pairs ∙ (λ k. same.2 k ++ end.2 k));
   }
-
-  -- no parameters, or no body behind them; none within the limits
-  pub parameters_absent : {s : S} → AbsentParts S Next behind parameter_list s → AbsentParts S Next behind parameters_and_body s
-  parameters_absent missed = record { nothing = λ o' e' ps' P' d. (let w = bodied ps' d in missed.nothing o' w.mid w.given w.one w.list) }
-
-  pub parameters_deep : {o hi : ℕ} {s : S} → AbsentPartsWithin S Next behind o hi parameter_list s → AbsentPartsWithin S Next behind o hi parameters_and_body s
-  parameters_deep missed = record {
-    nothing = λ e' ps' P' d le. let w = bodied ps' d in
-        let high : parts_height ps' ≡ parts_height (join w.given (part w.last none)) = ap parts_height w.parts in
-        let inner = parts_height-join w.given (part w.last none) in
-        missed.nothing w.mid w.given w.one w.list (omega arith);
-  }
-
-  module _ {o1 : ℕ} {s m : S} {ps : Parts} {A : List Pair} (list : FoundParts S Next behind o1 parameter_list s m ps A) where
-    pub bodied_absent : AbsentAt S Next behind body m → AbsentParts S Next behind parameters_and_body s
-    bodied_absent missed = record {
-      nothing = λ o' e' ps' P' d. let w = bodied ps' d in
-          let same = list.only o' w.mid w.given w.one w.list in
-          missed.nothing o' e' w.last w.more (subst (λ c. Spells ways S Next behind o' body w.last c e' w.more) same.0 w.spelled);
-    }
-
-    pub bodied_deep : {o hi : ℕ} → AbsentAtWithin S Next behind o hi body m → AbsentPartsWithin S Next behind o hi parameters_and_body s
-    bodied_deep {o} missed = record {
-      nothing = λ e' ps' P' d le. let w = bodied ps' d in
-          let same = list.only o w.mid w.given w.one w.list in
-          let high : parts_height ps' ≡ parts_height (join w.given (part w.last none)) = ap parts_height w.parts in
-          let inner = parts_height-join w.given (part w.last none) in
-          missed.nothing e' w.last w.more (subst (λ c. Spells ways S Next behind o body w.last c e' w.more) same.0 w.spelled) (omega arith);
-    }

@@ -11,7 +11,7 @@ use Rattle.tree.specs.Tree.{Tree, Parts, none, part, gap, parts_height}
 use Rattle.language.specs.Pieces.{Role, PieceOf, Hint, Ending, tok, ending, lay, sub, absent}
 use Rattle.language.specs.Token.{Token}
 use Rattle.language.specs.Promises.{IsDetermined}
-use Rattle.language.specs.Following.{FoundWhere, AbsentWhere, AbsentWhereWithin, FoundPartsWhere, AbsentPartsWhere, AbsentPartsWhereWithin}
+use Rattle.language.specs.Following.{FoundWhere, AbsentWhere, FoundPartsWhere, AbsentPartsWhere, AbsentPartsWhereWithin}
 use Rattle.language.specs.Grammar.{ways}
 use Rattle.language.specs.Derivation.{Reads, Spells, Runs, done, step, opened, closed, within, missing, Step, token, laid}
 use Rattle.language.proofs.table.Begins.{retell}
@@ -153,13 +153,6 @@ module _ (S : Type 0) (Next : S → Token → S → Type 0) (behind : S → Toke
       of : {b : S} → Step S Next behind (tok c w) mid b → b ≡ k
       of {b} (token {t = u} r) = (det.same g mid u t b k r.next h.next (allowed u r.class r.text) (allowed t h.class h.text)).1
 
-  -- no such token
-  pub token_missing : {Fine : Parts → S → Type 0} {c : TokenClass} {w : List ℕ} {last : Parts → List (PieceOf Role)} {mid : S} → ((t : Token) (k : S) → Reads S Next behind c w mid t k → ⊥) → AbsentPartsWhere S Next behind Fine (λ ps. tok c w ∷ last ps) mid
-  token_missing {c = c} {w = w} {mid = mid} missed = record { nothing = λ o' e' ps' P' d fine. of d }
-    where
-      of : {o : ℕ} {qs : List (PieceOf Role)} {ps : Parts} {e : S} {P : List Pair} → Runs ways S Next behind o (tok c w ∷ qs) ps mid e P → ⊥
-      of (step (token {t = t} {e = k} h) d) = missed t k h
-
   -- what follows a part, once it is fine, is fine for the part
   abbrev pub Fits : (Fine : Parts → S → Type 0) (FineNode : Tree → S → Type 0) (a : Role) (after : Parts → List (PieceOf Role)) (mid : S) → Type 0
   Fits Fine FineNode a after mid =
@@ -189,15 +182,6 @@ module _ (S : Type 0) (Next : S → Token → S → Type 0) (behind : S → Toke
   part_missing {Fine} {after = after} missed fits = record {
     nothing = λ o' e ps P d fine. let u = run_part S Next behind d in
         missed.nothing o' u.mid u.item u.one u.spelled (fits o' u.item u.rest u.mid e u.one u.more u.spelled (retell S Next behind (ap after u.parts) u.runs) (subst (λ w. Fine w e) u.parts fine));
-  }
-
-  -- none within the limits
-  pub part_deep : {Fine : Parts → S → Type 0} {FineNode : Tree → S → Type 0} {o hi : ℕ} {a : Role} {after : Parts → List (PieceOf Role)} {mid : S} → AbsentWhereWithin S Next behind FineNode o hi a mid → Fits Fine FineNode a after mid →
-      AbsentPartsWhereWithin S Next behind Fine o hi (λ ps. sub a ∷ after ps) mid
-  part_deep {Fine} {o = o} {after = after} missed fits = record {
-    nothing = λ e ps P d fine le. let u = run_part S Next behind d in
-        let h = ap parts_height u.parts in
-        missed.nothing u.mid u.item u.one u.spelled (fits o u.item u.rest u.mid e u.one u.more u.spelled (retell S Next behind (ap after u.parts) u.runs) (subst (λ w. Fine w e) u.parts fine)) (omega arith);
   }
 
   -- a part whose own pieces decide what follows it: these are the pieces where it is next

@@ -1,16 +1,16 @@
 -- The items of a script or a body, of which the first may be directives: a loop reads them as it reads other lists of statements.
-use Rattle.std.proofs.Common.{◌≡◌, ℕ, ◌≤◌, Bool, true, false, cond, List, [], ◌∷◌, ◌++◌, refl, sym, ap, subst, append_assoc, arith}
+use Rattle.std.proofs.Common.{◌≡◌, ℕ, Bool, true, false, cond, List, [], ◌∷◌, ◌++◌, refl, sym, ap, subst, append_assoc}
 use Rattle.std.specs.Prelude.{◌&&◌}
 use Rattle.tokens.specs.declared.token.TokenClass.TheVariants.{End}
 use Rattle.tree.specs.declared.kind.Pair.{Pair}
-use Rattle.tree.specs.Tree.{Tree, node, Parts, none, part, gap, parts_height, bare, bare_parts}
+use Rattle.tree.specs.Tree.{Tree, node, Parts, none, part, gap, bare, bare_parts}
 use Rattle.language.specs.declared.Rank.TheVariants.{Expression}
 use Rattle.language.specs.declared.Start.TheVariants.{Any}
 use Rattle.language.specs.Pieces.{Role, item, opening, Piece, PieceOf, tok, sub, never, lay, line, feed, shallower, sign}
 use Rattle.language.specs.Statements.{prologue, is_directive}
 use Rattle.language.specs.Token.{Token}
 use Rattle.language.specs.Promises.{IsDetermined}
-use Rattle.language.specs.Following.{Followed, Finished, FoundWhere, AbsentWhere, AbsentWhereWithin, AbsentPartsWhere, AbsentPartsWhereWithin}
+use Rattle.language.specs.Following.{Followed, Finished, FoundWhere}
 use Rattle.language.specs.Grammar.{ways}
 use Rattle.language.specs.Derivation.{Runs, step, within, laid}
 use Rattle.language.proofs.table.Begins.{goes_to, retell}
@@ -115,26 +115,6 @@ module _ (S : Type 0) (Next : S → Token → S → Type 0) (behind : S → Toke
     prologue_more {o} {mid} r b found = part_is S Next behind det {last = λ m ps. plain_prologue r (b && is_directive m) zs ps} (λ m ps. refl)
         (λ o' e P d end. closing.no_item d end (item_starts S Next behind det (stands_first r b) found.spelled)) (λ o' ps e P d end. absurd (run_never S Next behind d)) found
         (λ o' m ps k' e A' P sp d end. prologue_follows r (b && is_directive m) o' ps k' e P d end)
-
-    -- no item and no end
-    pub prologue_absent : {mid : S} (r b : Bool) → AbsentWhere S Next behind (Finished S Next behind) (cond b (opening r) (item r)) mid → ((o : ℕ) (e : S) (P : List Pair) → Runs ways S Next behind o zs none mid e P → End e → ⊥) →
-        AbsentPartsWhere S Next behind (λ ps e. End e) (plain_prologue r b zs) mid
-    prologue_absent {mid} r b missed open_end = record { nothing = of }
-      where
-        of : (o : ℕ) (e : S) (ps : Parts) (P : List Pair) → Runs ways S Next behind o (plain_prologue r b zs ps) ps mid e P → End e → ⊥
-        of o e none P d end = open_end o e P d end
-        of o e (gap ps) P d end = run_never S Next behind d
-        of o e (part m ps) P d end = let u = run_the_part S Next behind d in missed.nothing o u.mid m u.one u.spelled (prologue_follows r (b && is_directive m) o ps u.mid e u.more u.runs end)
-
-    -- none within the limits
-    pub prologue_deep : {o hi : ℕ} {mid : S} (r b : Bool) → AbsentWhereWithin S Next behind (Finished S Next behind) o hi (cond b (opening r) (item r)) mid → ((e : S) (P : List Pair) → Runs ways S Next behind o zs none mid e P → End e → ⊥) →
-        AbsentPartsWhereWithin S Next behind (λ ps e. End e) o hi (plain_prologue r b zs) mid
-    prologue_deep {o} {hi} {mid} r b missed open_end = record { nothing = of }
-      where
-        of : (e : S) (ps : Parts) (P : List Pair) → Runs ways S Next behind o (plain_prologue r b zs ps) ps mid e P → End e → parts_height ps ≤ hi → ⊥
-        of e none P d end le = open_end e P d end
-        of e (gap ps) P d end le = run_never S Next behind d
-        of e (part m ps) P d end le = let u = run_the_part S Next behind d in missed.nothing u.mid m u.one u.spelled (prologue_follows r (b && is_directive m) o ps u.mid e u.more u.runs end) (omega arith)
 
     -- where no item begins, the list is at its end
     pub prologue_end : {o : ℕ} {mid : S} (r b : Bool) → (Started S Next behind det mid → ⊥) → Sofar S Next behind det (λ ps e. End e) o (plain_prologue r b zs) mid (λ ps. closed_by zs ps) mid (λ ps. ps) []

@@ -1,5 +1,5 @@
 -- Lists of statements: a loop reads an item, as long as the next token doesn't end the list.
-use Rattle.std.proofs.Common.{◌≡◌, ℕ, Bool, true, false, List, [], ◌∷◌, ◌++◌, refl, sym, ap, ◌∙◌, subst, append_assoc, arith, ◌≤◌}
+use Rattle.std.proofs.Common.{◌≡◌, ℕ, Bool, true, false, List, [], ◌∷◌, ◌++◌, refl, sym, ap, ◌∙◌, subst, append_assoc}
 use Rattle.std.specs.Prelude.{IsTrue, codes, ◌||◌}
 use Rattle.std.proofs.lemmas.Bool.{false≢true}
 use Rattle.tokens.specs.declared.token.TokenClass.{TokenClass}
@@ -7,7 +7,7 @@ use Rattle.tokens.specs.declared.token.TokenClass.TheVariants.{IdentifierName, P
 use Rattle.tokens.specs.declared.token.Goal.{Goal}
 use Rattle.tokens.specs.Goals.{allows}
 use Rattle.tree.specs.declared.kind.Pair.{Pair}
-use Rattle.tree.specs.Tree.{Tree, Parts, none, part, gap, parts_height, bare_parts}
+use Rattle.tree.specs.Tree.{Tree, Parts, none, part, gap, bare_parts}
 use Rattle.language.specs.declared.Rank.TheVariants.{Expression}
 use Rattle.language.specs.declared.Start.TheVariants.{Any}
 use Rattle.language.specs.Vocabulary.{among, is_reserved}
@@ -15,18 +15,17 @@ use Rattle.language.specs.Pieces.{Role, Piece, PieceOf, tok, sub, never, lay, li
 use Rattle.language.specs.Statements.{lines}
 use Rattle.language.specs.Token.{Token}
 use Rattle.language.specs.StatementStart.{begins_item}
-use Rattle.language.specs.Promises.{IsDetermined, FoundParts}
-use Rattle.language.specs.Following.{Followed, ListEnds, Finished, ends_list, may_follow, FoundWhere, AbsentWhere, AbsentWhereWithin, FoundPartsWhere, AbsentPartsWhere, AbsentPartsWhereWithin}
+use Rattle.language.specs.Promises.{IsDetermined}
+use Rattle.language.specs.Following.{Followed, ListEnds, Finished, ends_list, may_follow, FoundWhere, FoundPartsWhere}
 use Rattle.language.specs.Grammar.{ways}
-use Rattle.language.specs.Derivation.{Reads, Runs, done, step, within, token, laid}
+use Rattle.language.specs.Derivation.{Reads, Runs, step, within, laid}
 use Rattle.language.proofs.table.Begins.{among_by, goes_to, retell}
-use Rattle.language.proofs.climbing.Conditionals.{same_sign}
 use Rattle.std.proofs.lemmas.List.{append-nil}
 use Rattle.language.proofs.list_loops.FirstPieces.{run_none, run_token, run_laid, run_never, run_the_part}
 use Rattle.language.proofs.table.StatementWays.{behind_brace, Stands}
 use Rattle.language.proofs.table.ItemTokens.{Started, item_starts}
 use Rattle.language.proofs.statements.StatementFollow.{token_follows}
-use Rattle.language.proofs.list_loops.PiecesSoFar.{Sofar, and_then, turned, part_is}
+use Rattle.language.proofs.list_loops.PiecesSoFar.{Sofar, turned, part_is}
 
 -- items one behind the other, and what closes the list
 abbrev pub plain_lines : Role → List (PieceOf Role) → Parts → List (PieceOf Role)
@@ -159,24 +158,6 @@ module _ (S : Type 0) (Next : S → Token → S → Type 0) (behind : S → Toke
           (λ o' e P d end. closing.no_item d end (item_starts S Next behind det stands found.spelled)) (λ o' ps e P d end. absurd (run_never S Next behind d)) found
           (λ o' m ps k' e A' P sp d end. lines_follow stands o' ps k' e P d end)
 
-      -- no item and no end
-      pub line_absent : {mid : S} → AbsentWhere S Next behind (Finished S Next behind) a mid → ((o : ℕ) (e : S) (P : List Pair) → Runs ways S Next behind o zs none mid e P → End e → ⊥) → AbsentPartsWhere S Next behind (λ ps e. End e) (plain_lines a zs) mid
-      line_absent {mid} missed open_end = record { nothing = of }
-        where
-          of : (o : ℕ) (e : S) (ps : Parts) (P : List Pair) → Runs ways S Next behind o (plain_lines a zs ps) ps mid e P → End e → ⊥
-          of o e none P d end = open_end o e P d end
-          of o e (gap ps) P d end = run_never S Next behind d
-          of o e (part m ps) P d end = let u = run_the_part S Next behind d in missed.nothing o u.mid m u.one u.spelled (lines_follow stands o ps u.mid e u.more u.runs end)
-
-      -- none within the limits
-      pub line_deep : {o hi : ℕ} {mid : S} → AbsentWhereWithin S Next behind (Finished S Next behind) o hi a mid → ((e : S) (P : List Pair) → Runs ways S Next behind o zs none mid e P → End e → ⊥) → AbsentPartsWhereWithin S Next behind (λ ps e. End e) o hi (plain_lines a zs) mid
-      line_deep {o} {hi} {mid} missed open_end = record { nothing = of }
-        where
-          of : (e : S) (ps : Parts) (P : List Pair) → Runs ways S Next behind o (plain_lines a zs ps) ps mid e P → End e → parts_height ps ≤ hi → ⊥
-          of e none P d end le = open_end e P d end
-          of e (gap ps) P d end le = run_never S Next behind d
-          of e (part m ps) P d end le = let u = run_the_part S Next behind d in missed.nothing u.mid m u.one u.spelled (lines_follow stands o ps u.mid e u.more u.runs end) (omega arith)
-
       -- where no item begins, the list is at its end
       pub line_end : {o : ℕ} {mid : S} → (Started S Next behind det mid → ⊥) → Sofar S Next behind det (λ ps e. End e) o (plain_lines a zs) mid (λ ps. closed_by zs ps) mid (λ ps. ps) []
       line_end {o} {mid} no_more = turned S Next behind det there back
@@ -234,14 +215,3 @@ module _ (S : Type 0) (Next : S → Token → S → Type 0) (behind : S → Toke
       of o' e' none more d fine p q = let v = only o' e' more d fine in (v.0, p, q ∙ ap (λ w. Q ++ w) v.1 ∙ append-nil Q)
       of o' e' (part n ps) more d fine p q = absurd (run_never S Next behind d)
       of o' e' (gap ps) more d fine p q = absurd (run_never S Next behind d)
-
-  -- so a list of items up to its `}`
-  pub brace_found : {o : ℕ} {all : Parts → List (PieceOf Role)} {p d r : Bool} {a : Role} {s mid e : S} {t : Token} {f : Parts → Parts} {Q : List Pair} → Stands a p d r → Sofar S Next behind det (λ ps e. Unit {0}) o all s (plain_lines a closing_brace) mid f Q → Reads S Next behind Punctuator (codes "}") mid t e →
-      FoundParts S Next behind o all s e (f none) Q
-  brace_found {o} {all} {s = s} {mid = mid} {e = e} {f = f} {Q = Q} stands sofar h =
-      let ended = and_then S Next behind det sofar (line_end brace_closes stands (no_start refl refl h)) in
-      let u = lines_close (subst (λ v. Sofar S Next behind det (λ ps e. Unit {0}) o all s (closed_by closing_brace) mid f v) (append-nil Q) ended) (step (token h) done) only in
-      record { runs = u.runs; only = λ o' e' ps' P' d. u.only o' e' ps' P' d tt }
-    where
-      only : (o' : ℕ) (e' : S) (P' : List Pair) → Runs ways S Next behind o' closing_brace none mid e' P' → Unit {0} → (e' ≡ e) × (P' ≡ [])
-      only o' e' P' d fine = let c = run_token S Next behind d in let z = run_none S Next behind c.runs in (sym z.place ∙ (same_sign S Next behind det c.reads h refl).1, z.pairs)

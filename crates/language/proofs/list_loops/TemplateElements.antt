@@ -1,5 +1,5 @@
 -- The parts of a template (ECMA-262 12.2.9), as a loop reads them: the last, or one with an expression behind it.
-use Rattle.std.proofs.Common.{◌≡◌, ℕ, ◌+◌, ◌-◌, Bool, true, false, cond, List, [], ◌∷◌, ◌++◌, refl, sym, ap, ◌∙◌, subst, arith}
+use Rattle.std.proofs.Common.{◌≡◌, ℕ, ◌+◌, ◌-◌, Bool, true, false, cond, List, [], ◌∷◌, ◌++◌, refl, sym, ap, ◌∙◌, subst}
 use Rattle.std.specs.Prelude.{IsTrue, codes, not, ◌&&◌, ◌||◌, nat_eq, slice_index_or, if◌then◌else◌}
 use Rattle.std.specs.Bool.{beq}
 use Prim.Native.String.{String}
@@ -17,16 +17,15 @@ use Rattle.tree.specs.declared.kind.Pair.{Pair}
 use Rattle.tree.specs.Tree.{Tree, node, Parts, none, part, gap, bare, plain}
 use Rattle.tree.proofs.Lean.{lean_flags}
 use Rattle.language.specs.declared.Rank.TheVariants.{Expression, Primary}
-use Rattle.language.specs.declared.Start.TheVariants.{Any}
 use Rattle.language.specs.Vocabulary.{is, among, is_word_operator, Operator, op_none, operators, operator_of}
 use Rattle.language.specs.Edges.{edge, edge_as_written}
 use Rattle.language.specs.Continuations.{of_class, operation, rank_made_by, stops_at}
-use Rattle.language.specs.Pieces.{Role, expr, template_element, PieceOf, Spelling, tok, sub, never, at}
+use Rattle.language.specs.Pieces.{template_element, Spelling, tok, at}
 use Rattle.language.specs.Token.{Token}
-use Rattle.language.specs.Promises.{IsDetermined, Stops, Found, FoundAt, AbsentAt}
+use Rattle.language.specs.Promises.{IsDetermined, Stops, FoundAt, AbsentAt}
 use Rattle.language.specs.Following.{IsAlike}
 use Rattle.language.specs.Grammar.{ways, spellings}
-use Rattle.language.specs.Derivation.{first, Reads, Spells, direct, Runs, done, step, within, token, placed}
+use Rattle.language.specs.Derivation.{first, Reads, Spells, direct, Runs, done, step, token, placed}
 use Rattle.language.proofs.lower_bound.Domination.{settled}
 use Rattle.language.proofs.table.ViewIsComplete.{way_of, one}
 use Rattle.language.proofs.table.Productions.{way_from}
@@ -36,9 +35,6 @@ use Rattle.language.proofs.statements.MissingSemicolons.{slash_or_brace}
 use Rattle.language.proofs.list_loops.FirstPieces.{run_none, run_token, run_never, run_the_part}
 use Rattle.language.proofs.climbing.BinaryTurns.{same_node}
 use Rattle.language.proofs.list_loops.FirstItems.{chunk_pieces}
-use Rattle.language.proofs.list_loops.StatementLists.{closed_by}
-use Rattle.language.proofs.statements.StatementFollow.{CannotGoOn, found_whole}
-use Rattle.language.proofs.list_loops.PiecesSoFar.{Rest, Sofar, part_is}
 
 -- the text of a part's token: the first begins with a backtick, the last ends with one
 abbrev pub chunk_text : Bool → Bool → List ℕ → List ℕ
@@ -144,12 +140,6 @@ brace_class Template w h al = of (begins_with (one_of "/") w) (begins_with (one_
     of false false k e al = cc
 brace_class _ w h al = refl
 
--- behind a part that isn't the last: an expression and the rest
-abbrev pub behind_chunk : Parts → List (PieceOf Role)
-behind_chunk none = never ∷ []
-behind_chunk (gap ps) = never ∷ []
-behind_chunk (part n ps) = sub (expr Expression true Any) ∷ chunk_pieces false ps
-
 module _ (S : Type 0) (Next : S → Token → S → Type 0) (behind : S → Token) (det : IsDetermined S Next behind) where
   -- what spells a part of a template
   pub record ChunkForm (b l : Bool) (o : ℕ) (n : Tree) (s e : S) (P : List Pair) : Type 0 where
@@ -202,49 +192,6 @@ module _ (S : Type 0) (Next : S → Token → S → Type 0) (behind : S → Toke
   pub chunk_last_one : {b : Bool} (w : List ℕ) {s e : S} {t : Token} → Reads S Next behind Template (chunk_text b true w) s t e → AbsentAt S Next behind (template_element b false) s
   chunk_last_one {b} w h = record { nothing = λ o' e' n' P' d. (let u = chunk_told d in not_both b w u.text (sym (same_chunk b true false w u.text h u.reads).2)) }
 
-  -- no part
-  pub chunk_absent : {b : Bool} (l : Bool) {s : S} → ((w : List ℕ) (t : Token) (e : S) → Reads S Next behind Template (chunk_text b l w) s t e → ⊥) → AbsentAt S Next behind (template_element b l) s
-  chunk_absent l missed = record { nothing = λ o' e' n' P' d. (let u = chunk_told d in missed u.text u.sign e' u.reads) }
-
-  module _ {Fine : Parts → S → Type 0} {b : Bool} {o : ℕ} {mid : S} where
-    -- the last part
-    pub last_chunk_on : {k : S} {n : Tree} {A : List Pair} → FoundAt S Next behind o (template_element b true) mid k n A → AbsentAt S Next behind (template_element b false) mid → Sofar S Next behind det Fine o (chunk_pieces b) mid (closed_by []) k (part n) A
-    last_chunk_on {k} {n} {A} found other = record { runs = λ {ps} {e} {R} d. back ps d; leads = λ {o'} {ps} {e} {P} d fine. of ps d; higher = λ ps. omega arith }
-      where
-        back : {e : S} {R : List Pair} (ps : Parts) → Runs ways S Next behind o (closed_by [] ps) ps k e R → Runs ways S Next behind o (chunk_pieces b (part n ps)) (part n ps) mid e (A ++ R)
-        back none d = within found.spelled d
-        back (gap ps) d = absurd (run_never S Next behind d)
-        back (part m ps) d = absurd (run_never S Next behind d)
-
-        of : {o' : ℕ} {e : S} {P : List Pair} (ps : Parts) → Runs ways S Next behind o' (chunk_pieces b ps) ps mid e P → Rest S Next behind det o' (closed_by []) k (part n) A ps e P
-        of none d = absurd (run_never S Next behind d)
-        of (gap ps) d = absurd (run_never S Next behind d)
-        of (part m (gap ps)) d = absurd (run_never S Next behind d)
-        of {o'} (part m (part x ps)) d = let u = run_the_part S Next behind d in absurd (other.nothing o' u.mid m u.one u.spelled)
-        of {o'} {e} (part m none) d =
-            let u = run_the_part S Next behind d in
-            let same = found.only o' u.mid m u.one u.spelled in
-            record { rest = none; more = u.more; parts = ap (λ x. part x none) same.1; pairs = u.pairs ∙ ap (λ x. x ++ u.more) same.2; runs = subst (λ x. Runs ways S Next behind o' [] none x e u.more) same.0 u.runs }
-
-    -- one with an expression behind it
-    pub chunk_on : {k : S} {n : Tree} {A : List Pair} → FoundAt S Next behind o (template_element b false) mid k n A → AbsentAt S Next behind (template_element b true) mid → Sofar S Next behind det Fine o (chunk_pieces b) mid behind_chunk k (part n) A
-    chunk_on {k} {n} {A} found other = record { runs = λ {ps} {e} {R} d. back ps d; leads = λ {o'} {ps} {e} {P} d fine. of ps d; higher = λ ps. omega arith }
-      where
-        back : {e : S} {R : List Pair} (ps : Parts) → Runs ways S Next behind o (behind_chunk ps) ps k e R → Runs ways S Next behind o (chunk_pieces b (part n ps)) (part n ps) mid e (A ++ R)
-        back none d = absurd (run_never S Next behind d)
-        back (gap ps) d = absurd (run_never S Next behind d)
-        back (part m ps) d = within found.spelled d
-
-        of : {o' : ℕ} {e : S} {P : List Pair} (ps : Parts) → Runs ways S Next behind o' (chunk_pieces b ps) ps mid e P → Rest S Next behind det o' behind_chunk k (part n) A ps e P
-        of none d = absurd (run_never S Next behind d)
-        of (gap ps) d = absurd (run_never S Next behind d)
-        of (part m (gap ps)) d = absurd (run_never S Next behind d)
-        of {o'} (part m none) d = let u = run_the_part S Next behind d in absurd (other.nothing o' u.mid m u.one u.spelled)
-        of {o'} {e} (part m (part x ps)) d =
-            let u = run_the_part S Next behind d in
-            let same = found.only o' u.mid m u.one u.spelled in
-            record { rest = part x ps; more = u.more; parts = ap (λ y. part y (part x ps)) same.1; pairs = u.pairs ∙ ap (λ y. y ++ u.more) same.2; runs = subst (λ y. Runs ways S Next behind o' (behind_chunk (part x ps)) (part x ps) y e u.more) same.0 u.runs }
-
   -- a part begins with `}` but for the first
   later_begins : {o : ℕ} (ps : Parts) {s e : S} {P : List Pair} → Runs ways S Next behind o (chunk_pieces false ps) ps s e P → (t : Token) × (m : S) × Next s t m × (begins_with (one_of "}") t.text ≡ true)
   later_begins none d = absurd (run_never S Next behind d)
@@ -260,7 +207,3 @@ module _ (S : Type 0) (Next : S → Token → S → Type 0) (behind : S → Toke
         let v = later_begins ps d in
         let none_made : operation u ≡ op_none = brace_class u.class u.text (alike.brace k u v.0 j v.1 r.next v.2 ∙ v.3) r.allowed in
         ap (λ x. stops_at Expression true (edge_as_written (edge m) (behind k)) u (rank_made_by x u.after_break)) none_made
-
-    pub between_chunks : {Fine : Parts → S → Type 0} {o : ℕ} {mid k : S} {n : Tree} {A : List Pair} → Found S Next behind o Expression true Any mid k n A → Sofar S Next behind det Fine o behind_chunk mid (chunk_pieces false) k (part n) A
-    between_chunks found = part_is S Next behind det {FineNode = CannotGoOn S Next behind det Expression true} {last = λ m ps. chunk_pieces false ps} (λ m ps. refl) (λ o' e P d fine. run_never S Next behind d) (λ o' ps e P d fine. run_never S Next behind d)
-        (found_whole S Next behind det found) (λ o' m ps k' e A' P d r fine. before_chunk m ps r)

@@ -126,9 +126,6 @@ pub data Tidy : Bool → List Spelling → Type 0 where
   one_way : {t : Bool} {x : Spelling} → NotNew x → Tidy t (x ∷ [])
   two_ways : {x y : Spelling} → NotNew x → Covers x y → AlikeAnywhere x y → Tidy true (x ∷ y ∷ [])
 
-pub Covers-self : (x : Spelling) → NotNew x → Covers x x
-Covers-self x n a c l h = (fits-looser x n l h, roles-looser x.pieces l)
-
 abbrev pub ways_of : Role → List Spelling → List (List (PieceOf Role))
 ways_of a xs = map (settled a) (filter (fits a) xs)
 

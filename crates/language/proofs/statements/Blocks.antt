@@ -2,7 +2,7 @@
 use Rattle.std.proofs.Common.{◌≡◌, ℕ, Bool, true, false, cond, List, [], ◌∷◌, ◌++◌, refl}
 use Rattle.std.specs.Prelude.{Option, Some, None, codes, ◌&&◌}
 use Rattle.tree.specs.declared.kind.Kind.{Kind}
-use Rattle.tree.specs.declared.kind.Kind.TheVariants.{SpreadElement, RestElement, FunctionExpression, BlockStatement, ClassBody, CatchClause, SwitchCase, VariableDeclarator, AssignmentPattern, ArrayPattern, ObjectPattern}
+use Rattle.tree.specs.declared.kind.Kind.TheVariants.{RestElement, FunctionExpression, BlockStatement, ClassBody, CatchClause, SwitchCase, VariableDeclarator, AssignmentPattern, ArrayPattern, ObjectPattern}
 use Rattle.tree.specs.declared.kind.Flags.{Flags}
 use Rattle.tree.specs.declared.kind.Form.{Form}
 use Rattle.tree.specs.declared.kind.Form.TheVariants.{Init, Get, Set, Method, Shorthand, Constructor}
@@ -11,7 +11,7 @@ use Rattle.language.specs.declared.Rank.TheVariants.{Assignment, Primary}
 use Rattle.language.specs.declared.Start.TheVariants.{Any}
 use Rattle.language.specs.FirstPart.{lead}
 use Rattle.language.specs.Vocabulary.{is_rest, is_pattern}
-use Rattle.language.specs.Pieces.{Role, expr, spread, rest, method, body, block, declarator, switch_case, handler, class_body, element, item, Piece, many, absent, lay, line, deeper, shallower, Spelling, at, only, only_at, put, put_at, sign, term, sp, nothing, bound, with_default, parameters}
+use Rattle.language.specs.Pieces.{Role, expr, method, body, block, declarator, switch_case, handler, class_body, element, item, Piece, many, absent, lay, line, deeper, shallower, Spelling, at, only, only_at, put, put_at, sign, term, sp, nothing, bound, with_default, parameters}
 use Rattle.language.specs.Statements.{lines, prologue, member_lines, whole, declarator_ways}
 use Rattle.language.specs.Expressions.{assignment, methods}
 use Rattle.language.specs.Grammar.{spellings, rests, can_run}
@@ -202,22 +202,6 @@ one_class_body = record {
     only_one ClassBody w g ps x h = (refl, pieces_of_one h)
     only_one _ w g ps x h = elim h [ ]
 
--- a spread
-pub one_spread : OneKind (spread) SpreadElement (spread_pieces)
-unfolding spellings
-one_spread = record {
-  position = record { spans = λ t l. refl; settles = λ x. refl; fitting = λ x. refl; ungrouped = λ y i f e. cc };
-  only = only_one;
-  there = λ ps h. first;
-  textless = refl;
-  flagless = λ g. refl;
-  lean = λ ps. refl;
-}
-  where
-    only_one : (k' : Kind) (w : List ℕ) (g : Flags) (ps : Parts) (x : Spelling) → Among x (spellings (spread) (node k' w g 0 0 ps)) → (k' ≡ SpreadElement) × (x.pieces ≡ spread_pieces ps)
-    only_one SpreadElement w g ps x h = (refl, pieces_of_one h)
-    only_one _ w g ps x h = elim h [ ]
-
 -- an element with a default
 pub one_element : (b : Bool) → OneKind (element b) AssignmentPattern (element_pieces b)
 unfolding spellings
@@ -294,22 +278,6 @@ one_method f = record {
   where
     only_one : (k' : Kind) (w : List ℕ) (g : Flags) (ps : Parts) (x : Spelling) → Among x (spellings (method f) (node k' w g 0 0 ps)) → (k' ≡ FunctionExpression) × (x.pieces ≡ method_pieces f ps)
     only_one FunctionExpression w g ps x h = (refl, method_way f ps h)
-    only_one _ w g ps x h = elim h [ ]
-
--- a rest
-pub one_rest : (b o : Bool) → OneKind (rest b o) RestElement (rest_pieces b o)
-unfolding spellings
-one_rest b o = record {
-  position = record { spans = λ t l. refl; settles = λ x. refl; fitting = λ x. refl; ungrouped = λ y i f e. cc };
-  only = only_one;
-  there = λ ps h. rest_there b o ps h;
-  textless = refl;
-  flagless = λ g. refl;
-  lean = λ ps. refl;
-}
-  where
-    only_one : (k' : Kind) (w : List ℕ) (g : Flags) (ps : Parts) (x : Spelling) → Among x (spellings (rest b o) (node k' w g 0 0 ps)) → (k' ≡ RestElement) × (x.pieces ≡ rest_pieces b o ps)
-    only_one RestElement w g ps x h = (refl, rest_way b o g w ps h)
     only_one _ w g ps x h = elim h [ ]
 
 -- a declarator

@@ -8,8 +8,8 @@ use Rattle.language.specs.declared.Start.TheVariants.{Any}
 use Rattle.language.specs.Vocabulary.{is_pattern, is_identifier}
 use Rattle.language.specs.Pieces.{Role, name, pattern, bound}
 use Rattle.language.specs.Token.{Token}
-use Rattle.language.specs.Covers.{FoundItem, AbsentItem, AbsentItemWithin}
-use Rattle.language.specs.Promises.{IsDetermined, FoundAt, AbsentAt, AbsentAtWithin}
+use Rattle.language.specs.Covers.{FoundItem}
+use Rattle.language.specs.Promises.{IsDetermined, FoundAt, AbsentAt}
 use Rattle.language.specs.Grammar.{ways}
 use Rattle.language.specs.Derivation.{Spells}
 use Rattle.language.proofs.climbing.Leaves.{name_form}
@@ -56,9 +56,3 @@ module _ (S : Type 0) (Next : S → Token → S → Type 0) (behind : S → Toke
     spelled = found.spelled;
     only = λ o' a e' n' P' h d ends. by_role n' h d (λ p. found.only o' e' n' P' p) (λ p. absurd (unnamed.nothing o' e' n' P' p));
   }
-
-  pub unbound : AbsentAt S Next behind (pattern true Any) s → AbsentAt S Next behind name s → AbsentItem S Next behind Ends (bound true) s
-  unbound missed unnamed = record { nothing = λ o' a e' n' P' h d ends. by_role n' h d (λ p. missed.nothing o' e' n' P' p) (λ p. unnamed.nothing o' e' n' P' p) }
-
-  pub unbound_within : {o h : ℕ} → AbsentAtWithin S Next behind o h (pattern true Any) s → AbsentAt S Next behind name s → AbsentItemWithin S Next behind Ends (bound true) o h s
-  unbound_within {o} missed unnamed = record { nothing = λ a e' n' P' h d ends low. by_role n' h d (λ p. missed.nothing e' n' P' p low) (λ p. unnamed.nothing o e' n' P' p) }

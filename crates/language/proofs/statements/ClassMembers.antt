@@ -1,5 +1,5 @@
 -- A member of a class (ECMA-262 14.6): from the words before its key, the key and the function to the node, and when there is none.
-use Rattle.std.proofs.Common.{◌≡◌, ℕ, ◌-◌, Bool, true, false, List, [], ◌∷◌, ◌++◌, refl, sym, ap, ◌∙◌, subst, arith}
+use Rattle.std.proofs.Common.{◌≡◌, ℕ, Bool, true, false, List, [], ◌∷◌, ◌++◌, refl, sym, ap, ◌∙◌, subst}
 use Rattle.std.specs.Prelude.{codes, not}
 use Rattle.std.proofs.lemmas.Bool.{false≢true}
 use Rattle.tokens.specs.declared.token.TokenClass.TheVariants.{IdentifierName, Punctuator}
@@ -8,15 +8,15 @@ use Rattle.tree.specs.declared.kind.Kind.TheVariants.{Identifier, MethodDefiniti
 use Rattle.tree.specs.declared.kind.Form.{Form}
 use Rattle.tree.specs.declared.kind.Form.TheVariants.{Init, Get, Set, Method, Shorthand, Constructor}
 use Rattle.tree.specs.declared.kind.Pair.{Pair}
-use Rattle.tree.specs.Tree.{Tree, node, Parts, none, part, height, bare, bare_parts, plain}
+use Rattle.tree.specs.Tree.{Tree, node, Parts, none, part, bare, bare_parts, plain}
 use Rattle.tree.specs.Uses.{is_lean}
 use Rattle.language.specs.declared.Rank.TheVariants.{Expression, Primary}
 use Rattle.language.specs.declared.Start.TheVariants.{Any}
 use Rattle.language.specs.Vocabulary.{is}
-use Rattle.language.specs.Pieces.{member, method, Piece, Spelling, at, put}
+use Rattle.language.specs.Pieces.{member, method, Spelling, at, put}
 use Rattle.language.specs.Statements.{class_members}
 use Rattle.language.specs.Token.{Token}
-use Rattle.language.specs.Promises.{is_free, IsDetermined, FoundAt, AbsentAt, AbsentAtWithin}
+use Rattle.language.specs.Promises.{is_free, IsDetermined, FoundAt}
 use Rattle.language.specs.Grammar.{ways, spellings, can_run}
 use Rattle.language.specs.Derivation.{Among, first, Reads, Spells, direct, Runs, step, token, laid, Placed}
 use Rattle.language.proofs.lower_bound.Domination.{settled}
@@ -26,7 +26,7 @@ use Rattle.language.proofs.table.Begins.{goes_to}
 use Rattle.language.proofs.list_loops.FirstPieces.{run_token, run_laid}
 use Rattle.language.proofs.climbing.RightOperands.{one_part}
 use Rattle.language.proofs.climbing.BinaryTurns.{same_node}
-use Rattle.language.proofs.table.PropertyWays.{form_pieces, form_fits, member_pieces, member_flags, is_constructor, member_form}
+use Rattle.language.proofs.table.PropertyWays.{form_fits, member_pieces, member_flags, is_constructor, member_form}
 use Rattle.language.proofs.table.PropertyNameWays.{is_accessor, name_key_found}
 use Rattle.language.proofs.table.SoleWays.{same_span}
 use Rattle.language.proofs.covers.CoverReadings.{name_or_sign}
@@ -208,10 +208,6 @@ module _ (S : Type 0) (Next : S → Token → S → Type 0) (behind : S → Toke
     z : S
     words : Prefix s b f z
     rest : Behind (function_form f) c o ps z e P
-
-  key_told : (c : Bool) (after : List Piece) {o : ℕ} {ps : Parts} {z e : S} {P : List Pair} → Runs ways S Next behind o (goes_to Expression true Any (Rattle.language.proofs.table.PropertyWays.keyed_pieces [] c after)) ps z e P → Runs ways S Next behind o (goes_to Expression true Any (key_pieces c after)) ps z e P
-  key_told true after d = d
-  key_told false after d = d
 
   worded_by : {o : ℕ} (f : Form) (b c : Bool) {ps : Parts} {s e : S} {P : List Pair} → form_fits c b f (bare_parts ps) ≡ true → Runs ways S Next behind o (goes_to Expression true Any (member_pieces c b f)) ps s e P → Worded f b c o ps s e P
   worded_by Get true true h d = let u = run_token S Next behind d in let v = run_token S Next behind (run_laid S Next behind u.runs) in record { z = v.mid; words = both_words refl u.reads v.reads; rest = key_behind Get true (run_laid S Next behind v.runs) }
@@ -395,19 +391,3 @@ module _ (S : Type 0) (Next : S → Token → S → Type 0) (behind : S → Toke
           let span = same_span S Next behind det (λ t l. refl) (subst (λ a. Placed S Next behind member a s e') w.tree at.places) places same.0 in
           (same.0, w.tree ∙ same_node refl refl refl span.0 span.1 (ap (λ a. part nk (part a none)) same.1), w.pairs ∙ ap (λ a. A ++ a) same.2);
     }
-
-    -- without a function behind the key there is none
-    pub no_member : AbsentAt S Next behind (method (function_form f)) k → AbsentAt S Next behind member s
-    no_member missed = record { nothing = λ o' e' n' P' d. (let w = same_member (member_at d) in missed.nothing o' e' w.function w.more w.spelled) }
-
-    pub no_member_within : {o' h : ℕ} → AbsentAtWithin S Next behind o' (h - 1) (method (function_form f)) k → AbsentAtWithin S Next behind o' h member s
-    no_member_within {o'} {h} missed = record {
-      nothing = λ e' n' P' d low.
-          let w = same_member (member_at d) in
-          let high : height n' ≡ height (node MethodDefinition [] (member_flags c b f) w.st w.en (part nk (part w.function none))) = ap height w.tree in
-          missed.nothing e' w.function w.more w.spelled (omega arith);
-    }
-
-  -- without a key behind such words, with a `(` behind it, there is none
-  pub unmembered : {s : S} → ((b : Bool) (f : Form) (z : S) (c : Bool) (o : ℕ) (n : Tree) (m x : S) (P : List Pair) (t : Token) → Prefix s b f z → KeyAt S Next behind det o n z m P c → Reads S Next behind Punctuator (codes "(") m t x → ⊥) → AbsentAt S Next behind member s
-  unmembered missed = record { nothing = λ o' e' n' P' d. (let u = member_at d in missed u.is_static u.form u.z u.computed o' u.name u.mid u.x u.one u.sign u.words u.key u.reads) }

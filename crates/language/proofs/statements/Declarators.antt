@@ -1,12 +1,11 @@
 -- A declarator (ECMA-262 13.3.1, 13.3.2): from its target and its value to the declarator; without a value, where none may follow.
-use Rattle.std.proofs.Common.{◌≡◌, ℕ, ◌-◌, ◌≤◌, Bool, true, false, cond, List, [], ◌∷◌, ◌++◌, refl, sym, ap, ◌∙◌, subst, arith}
+use Rattle.std.proofs.Common.{◌≡◌, ℕ, Bool, true, false, cond, List, [], ◌∷◌, ◌++◌, refl, sym, ap, ◌∙◌, subst}
 use Rattle.std.specs.Prelude.{IsTrue, Option, Some, codes, ◌&&◌}
-use Rattle.std.proofs.lemmas.Bool.{false≢true}
 use Rattle.std.proofs.lemmas.List.{append-nil}
 use Rattle.tokens.specs.declared.token.TokenClass.TheVariants.{Punctuator}
 use Rattle.tree.specs.declared.kind.Kind.TheVariants.{VariableDeclarator}
 use Rattle.tree.specs.declared.kind.Pair.{Pair}
-use Rattle.tree.specs.Tree.{Tree, node, Parts, none, part, gap, kind_of, height, bare_parts, plain}
+use Rattle.tree.specs.Tree.{Tree, node, Parts, none, part, gap, kind_of, bare_parts, plain}
 use Rattle.language.specs.declared.Rank.TheVariants.{Expression, Assignment}
 use Rattle.language.specs.declared.Start.TheVariants.{Any}
 use Rattle.language.specs.Vocabulary.{is_pattern}
@@ -14,9 +13,9 @@ use Rattle.language.specs.Edges.{edge}
 use Rattle.language.specs.Continuations.{stops}
 use Rattle.language.specs.Pieces.{Role, expr, declarator, bound, put, put_at, absent, sign, sp, nothing}
 use Rattle.language.specs.Token.{Token}
-use Rattle.language.specs.Covers.{FoundItem, AbsentItem, AbsentItemWithin}
-use Rattle.language.specs.Promises.{IsDetermined, Stops, Found, Absent, AbsentWithin}
-use Rattle.language.specs.Following.{Declared, FoundWhere, AbsentWhere, AbsentWhereWithin}
+use Rattle.language.specs.Covers.{FoundItem}
+use Rattle.language.specs.Promises.{IsDetermined, Stops, Found}
+use Rattle.language.specs.Following.{Declared, FoundWhere}
 use Rattle.language.specs.Grammar.{ways}
 use Rattle.language.specs.Derivation.{Reads, Spells, Runs, done, step, missing, token, laid, Placed}
 use Rattle.language.proofs.table.Begins.{goes_to, retell}
@@ -115,30 +114,6 @@ module _ (S : Type 0) (Next : S → Token → S → Type 0) (behind : S → Toke
       no_more : {e' : S} {n' : Tree} {o' : ℕ} {m' : Tree} {P' : List Pair} → Target o' s e' m' P' → Declared S Next behind i n' e' → ⊥
       no_more u fine = fine.no_value t x (subst (λ c. Reads S Next behind Punctuator (codes "=") c t x) (sym (same_target u).0) equals)
 
-      pub declarator_absent : Absent S Next behind Assignment i Any x → AbsentWhere S Next behind (Declared S Next behind i) (declarator i b) s
-      declarator_absent missed = record { nothing = λ o' e' n' P' d fine. of (declarator_form d) fine }
-        where
-          of : {o' : ℕ} {n' : Tree} {e' : S} {P' : List Pair} → DeclaratorForm i b o' n' s e' P' → Declared S Next behind i n' e' → ⊥
-          of {o'} {e' = e'} (with_value {value = v} {V = V} on tree u r d p pl) fine = missed.nothing o' e' v V (moved (same_target u).0 r d) (its_stop tree fine)
-          of (alone h tree u pl) fine = no_more u fine
-
-      pub declarator_deep : {o' hi : ℕ} → AbsentWithin S Next behind o' (hi - 1) Assignment i Any x → AbsentWhereWithin S Next behind (Declared S Next behind i) o' hi (declarator i b) s
-      declarator_deep {o'} {hi} missed = record { nothing = λ e' n' P' d fine low. of (declarator_form d) fine low }
-        where
-          of : {n' : Tree} {e' : S} {P' : List Pair} → DeclaratorForm i b o' n' s e' P' → Declared S Next behind i n' e' → height n' ≤ hi → ⊥
-          of {n'} {e'} (with_value {st} {en} {target = w} {value = v} {V = V} on tree u r d p pl) fine low =
-              let high : height n' ≡ height (node VariableDeclarator [] plain st en (part w (part v none))) = ap height tree in
-              missed.nothing e' v V (moved (same_target u).0 r d) (its_stop tree fine) (omega arith)
-          of (alone h tree u pl) fine low = no_more u fine
-
-      -- where none may have a value
-      pub declarator_unfit : b ≡ false → AbsentWhere S Next behind (Declared S Next behind i) (declarator i b) s
-      declarator_unfit off = record { nothing = λ o' e' n' P' d fine. of (declarator_form d) fine }
-        where
-          of : {o' : ℕ} {n' : Tree} {e' : S} {P' : List Pair} → DeclaratorForm i b o' n' s e' P' → Declared S Next behind i n' e' → ⊥
-          of (with_value on tree u r d p pl) fine = false≢true (sym off ∙ on)
-          of (alone h tree u pl) fine = no_more u fine
-
     -- no `=` behind the target
     module _ (no_value : (t : Token) (x : S) → Reads S Next behind Punctuator (codes "=") k t x → ⊥) where
       pub declarator_alone : {st en : ℕ} → (b && is_pattern (kind_of target)) ≡ false → Placed S Next behind (declarator i b) (node VariableDeclarator [] plain st en (part target (gap none))) s k →
@@ -151,14 +126,6 @@ module _ (S : Type 0) (Next : S → Token → S → Type 0) (behind : S → Toke
               let same = same_target u in
               let span = same_span S Next behind det (λ t l. refl) pl places same.0 in
               (same.0, tree ∙ same_node refl refl refl span.0 span.1 (ap (λ c. part c (gap none)) same.1), same.2)
-
-      -- a pattern wants a value
-      pub declarator_bare : (b && is_pattern (kind_of target)) ≡ true → AbsentWhere S Next behind (Declared S Next behind i) (declarator i b) s
-      declarator_bare wants = record { nothing = λ o' e' n' P' d fine. of (declarator_form d) }
-        where
-          of : {o' : ℕ} {n' : Tree} {e' : S} {P' : List Pair} → DeclaratorForm i b o' n' s e' P' → ⊥
-          of (with_value {x = x} {t = t} on tree u r d p pl) = no_value t x (subst (λ c. Reads S Next behind Punctuator (codes "=") c t x) (same_target u).0 r)
-          of (alone h tree u pl) = false≢true (sym h ∙ ap (λ c. b && is_pattern (kind_of c)) (same_target u).1 ∙ wants)
 
   -- with its value
   pub declarator_found : {i : Bool} {o st en : ℕ} {s k x e : S} {target v : Tree} {t : Token} {A V : List Pair} → TargetFound o s k target A → Reads S Next behind Punctuator (codes "=") k t x → Found S Next behind o Assignment i Any x e v V →
@@ -175,22 +142,3 @@ module _ (S : Type 0) (Next : S → Token → S → Type 0) (behind : S → Toke
           let span = same_span S Next behind det (λ t l. refl) pl places same.0 in
           (same.0, tree ∙ same_node refl refl refl span.0 span.1 (λ j. part (first.1 j) (part (same.1 j) none)), p ∙ (λ j. first.2 j ++ same.2 j))
       of (alone h tree u pl) fine = absurd (no_more i true found equals u fine)
-
-  -- without a target there is none
-  pub declarator_untargeted : {i b : Bool} {s : S} → AbsentItem S Next behind (λ e. Unit {0}) (bound true) s → AbsentWhere S Next behind (Declared S Next behind i) (declarator i b) s
-  declarator_untargeted {i} {b} {s} missed = record { nothing = λ o' e' n' P' d fine. of (declarator_form d) }
-    where
-      of : {o' : ℕ} {n' : Tree} {e' : S} {P' : List Pair} → DeclaratorForm i b o' n' s e' P' → ⊥
-      of {o'} (with_value {target = w} {k = k} {A = A} on tree u r d p pl) = missed.nothing o' u.role k w A u.it_is u.spelled tt
-      of {o'} {e' = e'} {P' = P'} (alone {target = w} h tree u pl) = missed.nothing o' u.role e' w P' u.it_is u.spelled tt
-
-  pub declarator_target_deep : {i b : Bool} {o hi : ℕ} {s : S} → AbsentItemWithin S Next behind (λ e. Unit {0}) (bound true) o (hi - 1) s → AbsentWhereWithin S Next behind (Declared S Next behind i) o hi (declarator i b) s
-  declarator_target_deep {i} {b} {o} {hi} {s} missed = record { nothing = λ e' n' P' d fine low. of (declarator_form d) low }
-    where
-      of : {n' : Tree} {e' : S} {P' : List Pair} → DeclaratorForm i b o n' s e' P' → height n' ≤ hi → ⊥
-      of {n'} (with_value {st} {en} {target = w} {value = v} {k = k} {A = A} on tree u r d p pl) low =
-          let high : height n' ≡ height (node VariableDeclarator [] plain st en (part w (part v none))) = ap height tree in
-          missed.nothing u.role k w A u.it_is u.spelled tt (omega arith)
-      of {n'} {e'} {P'} (alone {st} {en} {target = w} h tree u pl) low =
-          let high : height n' ≡ height (node VariableDeclarator [] plain st en (part w (gap none))) = ap height tree in
-          missed.nothing u.role e' w P' u.it_is u.spelled tt (omega arith)

@@ -1,5 +1,5 @@
 -- Statements that begin with an expression: from the expression that is found to the statement, where what may follow follows.
-use Rattle.std.proofs.Common.{◌≡◌, ℕ, ◌-◌, ◌≤◌, Bool, true, false, List, [], ◌∷◌, ◌++◌, refl, sym, ap, ◌∙◌, subst, arith}
+use Rattle.std.proofs.Common.{◌≡◌, ℕ, Bool, true, false, List, [], ◌∷◌, ◌++◌, refl, sym, ap, ◌∙◌, subst}
 use Rattle.std.specs.Prelude.{IsTrue, codes}
 use Rattle.std.proofs.lemmas.Bool.{and_parts, false≢true}
 use Rattle.std.proofs.lemmas.List.{append-nil}
@@ -11,7 +11,7 @@ use Rattle.tokens.specs.Goals.{allows}
 use Rattle.tree.specs.declared.kind.Kind.TheVariants.{Literal, ExpressionStatement, LabeledStatement}
 use Rattle.tree.specs.declared.kind.Flags.{Flags}
 use Rattle.tree.specs.declared.kind.Pair.{Pair}
-use Rattle.tree.specs.Tree.{Tree, node, Parts, none, part, kind_of, text_of, bare, bare_parts, plain, height}
+use Rattle.tree.specs.Tree.{Tree, node, Parts, none, part, kind_of, text_of, bare, bare_parts, plain}
 use Rattle.tree.specs.Uses.{is_lean}
 use Rattle.language.specs.declared.Rank.TheVariants.{Expression, Grouped, Primary}
 use Rattle.language.specs.declared.Start.TheVariants.{Any, Statement}
@@ -24,8 +24,8 @@ use Rattle.language.specs.Statements.{first_is_string, is_string_literal, end_of
 use Rattle.language.specs.Token.{Token}
 use Rattle.language.specs.StatementStart.{an_expression, statement_start}
 use Rattle.language.specs.Continuations.{of_class, operation, rank_made_by, stops_at}
-use Rattle.language.specs.Promises.{is_free, IsDetermined, ReadBy, Stops, Found, Absent, AbsentWithin, FoundAt}
-use Rattle.language.specs.Following.{IsAlike, Followed, Finished, may_follow, FoundWhere, AbsentWhere, AbsentWhereWithin}
+use Rattle.language.specs.Promises.{is_free, IsDetermined, ReadBy, Stops, Found, Absent, FoundAt}
+use Rattle.language.specs.Following.{IsAlike, Followed, Finished, may_follow, FoundWhere, AbsentWhere}
 use Rattle.language.specs.Grammar.{ways, spellings}
 use Rattle.language.specs.Derivation.{first, Reads, Spells, direct, grouped, Runs, done, step, within, Step, token, laid, explicit, implicit, Placed, placed}
 use Rattle.language.specs.NodeForms.{Made, literal}
@@ -152,14 +152,6 @@ module _ (S : Type 0) (Next : S → Token → S → Type 0) (behind : S → Toke
         of {o'} (seen_label {x = x} {mid = mid} {Q = Q} tree pl u c d1 all) = missed.nothing o' mid x Q (name_expression S Next behind det u) (colon_stops x c)
         of {o'} {P' = P'} (seen_expression {x = x} {mid = mid} tree pl u st end sort) = missed.nothing o' mid x P' u st
 
-    -- none within the limits
-    pub deep_expression : {o hi : ℕ} → AbsentWithin S Next behind o (hi - 1) Expression true Statement s → AbsentWhereWithin S Next behind (Finished S Next behind) o hi a s
-    deep_expression {o} {hi} missed = record { nothing = λ e' n' P' d1 fine le. of le (look d1 fine) }
-      where
-        of : {e' : S} {n' : Tree} {P' : List Pair} → height n' ≤ hi → Seen p r o a n' s e' P' → ⊥
-        of le (seen_label {x = x} {rest = rest} {mid = mid} {Q = Q} tree pl u c d1 all) = let h = ap height tree in missed.nothing mid x Q (name_expression S Next behind det u) (colon_stops x c) (omega arith)
-        of {P' = P'} le (seen_expression {x = x} {mid = mid} tree pl u st end sort) = let h = ap height tree in missed.nothing mid x P' u st (omega arith)
-
     module _ {o : ℕ} {x : Tree} {e0 : S} {P : List Pair} (found : Found S Next behind o Expression true Statement s e0 x P)
         (no_label : (o' : ℕ) (n' : Tree) (P' : List Pair) (v : Token) (k : S) → Spells ways S Next behind o' name n' s e0 P' → Reads S Next behind Punctuator (codes ":") e0 v k → ⊥) where
       -- what such a statement is, where its expression is found and no label
@@ -189,10 +181,6 @@ module _ (S : Type 0) (Next : S → Token → S → Type 0) (behind : S → Toke
             sort = subst (λ w. Sort p o' x s w P' g) same.0 (subst (λ w. Sort p o' w s mid P' g) same.1 sort);
             pairs = same.2;
           }
-
-      -- no end behind the expression, so no statement
-      pub no_end_found : ((e : S) → Step S Next behind (end_behind (edge x)) e0 e → ⊥) → AbsentWhere S Next behind (Finished S Next behind) a s
-      no_end_found missed = record { nothing = λ o' e' n' P' d1 fine. (let u = known (look d1 fine) in missed e' u.ends) }
 
       -- with its end, where these are the flags of all such statements
       statement_found : {st en : ℕ} {e : S} (g : Flags) → ((o' : ℕ) (P' : List Pair) (g' : Flags) → Sort p o' x s e0 P' g' → g' ≡ g) → ((e' : S) → Step S Next behind (end_behind (edge x)) e0 e' → e' ≡ e) →
@@ -364,16 +352,4 @@ module _ (S : Type 0) (Next : S → Token → S → Type 0) (behind : S → Toke
           let same = inner.only o' e' u.inner P' u.spelled u.fine in
           let span = same_span S Next behind det (statement_spans stands) (subst (λ h. Placed S Next behind a h s e') u.tree u.placed) pl same.0 in
           (same.0, u.tree ∙ same_node refl refl refl span.0 span.1 (ap (λ h. part l (part h none)) same.1), same.2);
-    }
-
-    -- without
-    pub label_absent : AbsentWhere S Next behind (Finished S Next behind) (statement r) k → AbsentWhere S Next behind (Finished S Next behind) a s
-    label_absent missed = record { nothing = λ o' e' n' P' d1 fine. (let u = labelled fine (look stands read begun d1 fine) in missed.nothing o' e' u.inner P' u.spelled u.fine) }
-
-    -- none within the limits
-    pub label_deep : {hi : ℕ} → AbsentWhereWithin S Next behind (Finished S Next behind) o (hi - 1) (statement r) k → AbsentWhereWithin S Next behind (Finished S Next behind) o hi a s
-    label_deep missed = record {
-      nothing = λ e' n' P' d1 fine le. let u = labelled fine (look stands read begun d1 fine) in
-          let h = ap height u.tree in
-          missed.nothing e' u.inner P' u.spelled u.fine (omega arith);
     }

@@ -16,9 +16,9 @@ use Rattle.language.specs.ExpressionStart.{no_start, expression_start_by}
 use Rattle.language.specs.Pieces.{Role, expr, head, pattern, bound}
 use Rattle.language.specs.Statements.{is_declaration}
 use Rattle.language.specs.Token.{Token}
-use Rattle.language.specs.Covers.{FoundItem, AbsentItem, AbsentItemWithin}
-use Rattle.language.specs.Promises.{is_free, IsDetermined, Stops, Found, Absent, AbsentWithin, FoundAt}
-use Rattle.language.specs.Following.{FoundWhere, AbsentWhere}
+use Rattle.language.specs.Covers.{FoundItem}
+use Rattle.language.specs.Promises.{is_free, IsDetermined, Stops, Found, FoundAt}
+use Rattle.language.specs.Following.{FoundWhere}
 use Rattle.language.specs.Grammar.{ways, spellings}
 use Rattle.language.specs.Derivation.{Reads, Spells, direct, grouped}
 use Rattle.language.proofs.table.ViewIsComplete.{way_of}
@@ -105,9 +105,6 @@ module _ (S : Type 0) (Next : S → Token → S → Type 0) (behind : S → Toke
         only = λ o' a e' n' P' h d ends. first_by n' h d (λ p. found.only o' e' n' P' p ends) (λ p. absurd (no_expression word p));
       }
 
-      pub first_undeclared : AWord s → AbsentWhere S Next behind (λ n e. Ends e) (head true) s → AbsentItem S Next behind Ends first_role s
-      first_undeclared word missed = record { nothing = λ o' a e' n' P' h d ends. first_by n' h d (λ p. missed.nothing o' e' n' P' p ends) (λ p. no_expression word p) }
-
       pub first_expression : {o : ℕ} {k : S} {n : Tree} {A : List Pair} → NoWord s → Found S Next behind o Expression false Any s k n A → FoundItem S Next behind Ends first_role o s k n A
       first_expression none_there found = record {
         role = expr Expression false Any;
@@ -115,12 +112,6 @@ module _ (S : Type 0) (Next : S → Token → S → Type 0) (behind : S → Toke
         spelled = found.spelled;
         only = λ o' a e' n' P' h d ends. first_by n' h d (λ p. absurd (no_declaration none_there p)) (λ p. found.only o' e' n' P' p (stops n' e' ends));
       }
-
-      pub first_absent : NoWord s → Absent S Next behind Expression false Any s → AbsentItem S Next behind Ends first_role s
-      first_absent none_there missed = record { nothing = λ o' a e' n' P' h d ends. first_by n' h d (λ p. no_declaration none_there p) (λ p. missed.nothing o' e' n' P' p (stops n' e' ends)) }
-
-      pub first_deep : {o h : ℕ} → NoWord s → AbsentWithin S Next behind o h Expression false Any s → AbsentItemWithin S Next behind Ends first_role o h s
-      first_deep {o} none_there missed = record { nothing = λ a e' n' P' h d ends low. first_by n' h d (λ p. no_declaration none_there p) (λ p. missed.nothing e' n' P' p (stops n' e' ends) low) }
 
       -- the left side of one with `in` or `of`
       left_by : {A : Type 0} {a : Role} {o : ℕ} (n : Tree) {e : S} {P : List Pair} → left_role (kind_of n) ≡ Some a → Spells ways S Next behind o a n s e P → (Spells ways S Next behind o (head false) n s e P → A) → (Spells ways S Next behind o (pattern false Any) n s e P → A) →
@@ -136,15 +127,6 @@ module _ (S : Type 0) (Next : S → Token → S → Type 0) (behind : S → Toke
           of true k = on_head (subst (λ c. Spells ways S Next behind o c n s e P) (sym (some_same k)) d)
           of false k = bound_by (bound_form S Next behind det false n k d)
 
-      pub untargeted_found : {o : ℕ} {k : S} {n : Tree} {A : List Pair} → Found S Next behind o Expression false Any s k n A → is_target (kind_of n) ≡ false → Untargeted s
-      untargeted_found found other o' e' n' P' d ends = ap (λ c. is_target (kind_of c)) (found.only o' e' n' P' d (stops n' e' ends)).1 ∙ other
-
-      pub untargeted_elsewhere : {o : ℕ} {k : S} {n : Tree} {A : List Pair} → Found S Next behind o Expression false Any s k n A → (Ends k → ⊥) → Untargeted s
-      untargeted_elsewhere found goes o' e' n' P' d ends = absurd (goes (subst Ends (found.only o' e' n' P' d (stops n' e' ends)).0 ends))
-
-      pub untargeted_absent : Absent S Next behind Expression false Any s → Untargeted s
-      untargeted_absent missed o' e' n' P' d ends = absurd (missed.nothing o' e' n' P' d (stops n' e' ends))
-
       no_target : {o : ℕ} {n : Tree} {e : S} {P : List Pair} → Untargeted s → is_target (kind_of n) ≡ true → Spells ways S Next behind o (expr Expression false Any) n s e P → Ends e → ⊥
       no_target {o} {n} {e} {P} other t d ends = false≢true (sym (other o e n P d ends) ∙ t)
 
@@ -154,11 +136,6 @@ module _ (S : Type 0) (Next : S → Token → S → Type 0) (behind : S → Toke
         it_is = ap left_role (head_kind found.spelled);
         spelled = found.spelled;
         only = λ o' a e' n' P' h d ends. left_by n' h d (λ p. found.only o' e' n' P' p ends) (λ p. absurd ((named_unbracketed S Next behind det word.reads).nothing o' e' n' P' p)) (λ t p. absurd (no_expression word p));
-      }
-
-      pub left_undeclared : AWord s → AbsentWhere S Next behind (λ n e. Ends e) (head false) s → AbsentItem S Next behind Ends left_role s
-      left_undeclared word missed = record {
-        nothing = λ o' a e' n' P' h d ends. left_by n' h d (λ p. missed.nothing o' e' n' P' p ends) (λ p. (named_unbracketed S Next behind det word.reads).nothing o' e' n' P' p) (λ t p. no_expression word p);
       }
 
       pub left_target : {o : ℕ} {k : S} {n : Tree} {A : List Pair} → NoWord s → Found S Next behind o Expression false Any s k n A → is_target (kind_of n) ≡ true → NotAlone S Next behind Ends false s → FoundItem S Next behind Ends left_role o s k n A
@@ -180,8 +157,3 @@ module _ (S : Type 0) (Next : S → Token → S → Type 0) (behind : S → Toke
             spelled = r.spelled;
             only = λ o' a e' n' P' h d ends. left_by n' h d (λ p. absurd (no_declaration none_there p)) (λ p. found.only o' e' n' P' p) (λ t p. absurd (no_target other t p ends));
           }
-
-      pub left_absent : NoWord s → NotAlone S Next behind Ends false s → Untargeted s → AbsentItem S Next behind Ends left_role s
-      left_absent none_there alone other = record {
-        nothing = λ o' a e' n' P' h d ends. left_by n' h d (λ p. no_declaration none_there p) (λ p. alone o' e' n' P' p ends) (λ t p. no_target other t p ends);
-      }

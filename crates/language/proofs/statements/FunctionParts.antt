@@ -14,7 +14,6 @@ use Rattle.language.specs.Pieces.{Role, expr, name, body, class_body, Piece, Pie
 use Rattle.language.specs.Expressions.{given, named}
 use Rattle.language.specs.Token.{Token}
 use Rattle.language.specs.Promises.{IsDetermined, is_free, FoundAt, AbsentAt}
-use Rattle.language.specs.Following.{AbsentPartsWhere}
 use Rattle.language.specs.Grammar.{ways}
 use Rattle.language.specs.Derivation.{Reads, Spells, Runs}
 use Rattle.language.proofs.table.Begins.{goes_to}
@@ -168,23 +167,6 @@ module _ (S : Type 0) (Next : S → Token → S → Type 0) (behind : S → Toke
     pub not_extending : ((t : Token) (k : S) → Reads S Next behind IdentifierName (codes "extends") mid t k → ⊥) → Sofar S Next behind det Fine o heritage_and_body mid body_alone mid gap []
     not_extending missed = gap_is S Next behind det (λ ps. refl) (λ o' e P d fine. run_never S Next behind d)
         (λ o' m ps e P d fine. (let u = run_token S Next behind d in missed u.sign u.mid u.reads))
-
-  -- a declaration without a name
-  pub undeclared_function : {Fine : Parts → S → Type 0} {mid : S} → AbsentAt S Next behind name mid → AbsentPartsWhere S Next behind Fine declared_function mid
-  undeclared_function {mid = mid} missed = record { nothing = λ o' e ps P d fine. of o' e ps P d }
-    where
-      of : (o' : ℕ) (e : S) (ps : Parts) (P : List Pair) → Runs ways S Next behind o' (declared_function ps) ps mid e P → ⊥
-      of o' e none P d = run_never S Next behind d
-      of o' e (gap ps) P d = run_never S Next behind d
-      of o' e (part m ps) P d = let u = run_the_part S Next behind d in missed.nothing o' u.mid m u.one u.spelled
-
-  pub undeclared_class : {Fine : Parts → S → Type 0} {mid : S} → AbsentAt S Next behind name mid → AbsentPartsWhere S Next behind Fine declared_class mid
-  undeclared_class {mid = mid} missed = record { nothing = λ o' e ps P d fine. of o' e ps P d }
-    where
-      of : (o' : ℕ) (e : S) (ps : Parts) (P : List Pair) → Runs ways S Next behind o' (declared_class ps) ps mid e P → ⊥
-      of o' e none P d = run_never S Next behind d
-      of o' e (gap ps) P d = run_never S Next behind d
-      of o' e (part m ps) P d = let u = run_the_part S Next behind d in missed.nothing o' u.mid m u.one u.spelled
 
   -- a superclass fits before the class body
   pub before_class_body : (Fine : Parts → S → Type 0) {mid : S} → Fits S Next behind det Fine (CannotGoOn S Next behind det LeftHandSide true) (expr LeftHandSide true Any) (λ ps. lay space ∷ sub class_body ∷ []) mid

@@ -1,16 +1,16 @@
 -- A script from its items (ECMA-262 15.1): it spans the text from its start on.
-use Rattle.std.proofs.Common.{◌≡◌, ℕ, suc, ◌-◌, true, false, List, [], ◌∷◌, ◌++◌, refl, sym, ap, ◌∙◌, arith}
+use Rattle.std.proofs.Common.{◌≡◌, ℕ, true, false, List, [], ◌∷◌, ◌++◌, refl, sym, ap, ◌∙◌}
 use Rattle.tokens.specs.declared.token.TokenClass.TheVariants.{End}
 use Rattle.tree.specs.declared.kind.Kind.TheVariants.{Program}
 use Rattle.tree.specs.declared.kind.Pair.{Pair}
-use Rattle.tree.specs.Tree.{Tree, node, Parts, height, parts_height, bare, bare_parts, plain}
+use Rattle.tree.specs.Tree.{Tree, node, Parts, bare, bare_parts, plain}
 use Rattle.tree.proofs.Lean.{lean_flags, lean_text}
 use Rattle.language.specs.declared.Rank.TheVariants.{Expression, Primary}
 use Rattle.language.specs.declared.Start.TheVariants.{Any}
 use Rattle.language.specs.Pieces.{script, PieceOf, Role, Spelling, tok, lay, feed, at}
 use Rattle.language.specs.Statements.{prologue}
 use Rattle.language.specs.Token.{Token}
-use Rattle.language.specs.Promises.{FoundAt, AbsentAt, AbsentAtWithin, FoundParts, AbsentParts, AbsentPartsWithin}
+use Rattle.language.specs.Promises.{FoundAt, FoundParts}
 use Rattle.language.specs.Grammar.{ways, spellings}
 use Rattle.language.specs.Derivation.{first, Spells, direct, Runs, placed}
 use Rattle.language.proofs.lower_bound.Domination.{settled}
@@ -53,14 +53,3 @@ module _ (S : Type 0) (Next : S → Token → S → Type 0) (behind : S → Toke
             let same = found.only o' e' u.parts P' u.runs in
             (same.0, u.tree ∙ (λ i. node Program [] plain 0 (behind (same.0 i)).stop (same.1 i)), same.2);
       }
-
-  pub script_absent : {s : S} → AbsentParts S Next behind script_pieces s → AbsentAt S Next behind script s
-  script_absent missed = record { nothing = λ o' e' n' P' d. (let u = script_form d in missed.nothing o' e' u.parts P' u.runs) }
-
-  pub script_deep : {o h : ℕ} {s : S} → AbsentPartsWithin S Next behind o (h - 1) script_pieces s → AbsentAtWithin S Next behind o h script s
-  script_deep missed = record {
-    nothing = λ e' n' P' d low.
-        let u = script_form d in
-        let high : height n' ≡ suc (parts_height u.parts) = ap height u.tree in
-        missed.nothing e' u.parts P' u.runs (omega arith);
-  }

@@ -16,8 +16,8 @@ use Rattle.language.specs.Edges.{edge, last_edge, ends_in_if, edge_as_written}
 use Rattle.language.specs.Pieces.{Role, expr, statement, PieceOf, tok, ending, sub, lay, space}
 use Rattle.language.specs.Token.{Token}
 use Rattle.language.specs.Continuations.{of_class, rank_made_by, stops_at}
-use Rattle.language.specs.Promises.{IsDetermined, Stops, Found, Absent, AbsentWithin}
-use Rattle.language.specs.Following.{IsAlike, Followed, Finished, may_follow, FoundWhere, AbsentWhere, AbsentWhereWithin}
+use Rattle.language.specs.Promises.{IsDetermined, Stops, Found}
+use Rattle.language.specs.Following.{IsAlike, Followed, Finished, may_follow, FoundWhere}
 use Rattle.language.specs.Grammar.{ways}
 use Rattle.language.specs.Derivation.{Reads, Runs, Step}
 use Rattle.language.proofs.list_loops.FirstPieces.{run_none, run_token, run_laid}
@@ -38,12 +38,6 @@ module _ (S : Type 0) (Next : S → Token → S → Type 0) (behind : S → Toke
   pub found_whole : {o : ℕ} {y : Rank} {i : Bool} {f : Start} {s e : S} {n : Tree} {P : List Pair} → Found S Next behind o y i f s e n P → FoundWhere S Next behind (CannotGoOn y i) o (expr y i f) s e n P
   found_whole u = record { spelled = u.spelled; only = u.only }
 
-  pub absent_whole : {y : Rank} {i : Bool} {f : Start} {s : S} → Absent S Next behind y i f s → AbsentWhere S Next behind (CannotGoOn y i) (expr y i f) s
-  absent_whole u = record { nothing = u.nothing }
-
-  pub deep_whole : {o hi : ℕ} {y : Rank} {i : Bool} {f : Start} {s : S} → AbsentWithin S Next behind o hi y i f s → AbsentWhereWithin S Next behind (CannotGoOn y i) o hi (expr y i f) s
-  deep_whole u = record { nothing = u.nothing }
-
   -- before such a token nothing goes on
   pub idle_stops : (y : Rank) (i : Bool) (n : Tree) {c : TokenClass} {w : List ℕ} {e k : S} {t : Token} → IsTrue (allows Div c w) → Idle y i c w → Reads S Next behind c w e t k → Stops S Next behind y i n e
   idle_stops y i n {c} {w} {e} {k} {t} al idle h u m r =
@@ -58,10 +52,6 @@ module _ (S : Type 0) (Next : S → Token → S → Type 0) (behind : S → Toke
   -- so an expression fits before it
   pub before_token : (Fine : Parts → S → Type 0) {a : Role} (y : Rank) (i : Bool) {c : TokenClass} {w : List ℕ} (after : Parts → List (PieceOf Role)) {mid : S} → IsTrue (allows Div c w) → Idle y i c w → Fits S Next behind det Fine (CannotGoOn y i) a (λ ps. tok c w ∷ after ps) mid
   before_token Fine y i after al idle o m ps k e A P d runs fine = idle_stops y i m al idle (run_token S Next behind runs).reads
-
-  -- the same with a space between them
-  pub before_space : (Fine : Parts → S → Type 0) {a : Role} (y : Rank) (i : Bool) {c : TokenClass} {w : List ℕ} (after : Parts → List (PieceOf Role)) {mid : S} → IsTrue (allows Div c w) → Idle y i c w → Fits S Next behind det Fine (CannotGoOn y i) a (λ ps. lay space ∷ tok c w ∷ after ps) mid
-  before_space Fine y i after al idle o m ps k e A P d runs fine = idle_stops y i m al idle (run_token S Next behind (run_laid S Next behind runs)).reads
 
   -- a token that may follow a statement whatever it ends in, but for an `if` without `else` where it is that word
   pub token_follows : {b : Bool} {c : TokenClass} {w : List ℕ} {e k : S} {t : Token} → IsTrue (allows Goal.RegExp c w) → may_follow b (record { class = c; text = w; start = 0; stop = 0; after_break = false }) ≡ true → Reads S Next behind c w e t k → Followed S Next behind b e

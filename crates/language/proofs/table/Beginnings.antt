@@ -114,24 +114,7 @@ own_node_text _ g st en ps h l e = absurd (false≢true h)
 
 own_flags : (k : Kind) (g : Flags) → is_own (begins_as k) ≡ true → used_flags k g ≡ plain
 own_flags BlockStatement g h = refl
-own_flags EmptyStatement g h = refl
-own_flags VariableDeclaration g h = refl
-own_flags IfStatement g h = refl
-own_flags DoWhileStatement g h = refl
-own_flags WhileStatement g h = refl
-own_flags ForStatement g h = refl
-own_flags ForInStatement g h = refl
-own_flags ForOfStatement g h = refl
-own_flags ContinueStatement g h = refl
-own_flags BreakStatement g h = refl
-own_flags ReturnStatement g h = refl
-own_flags ThrowStatement g h = refl
-own_flags SwitchStatement g h = refl
-own_flags TryStatement g h = refl
-own_flags DebuggerStatement g h = refl
-own_flags FunctionDeclaration g h = refl
-own_flags ClassDeclaration g h = refl
-own_flags _ g h = absurd (false≢true h)
+own_flags _ g h = cc
 
 -- the flags of a directive
 abbrev pub directive_flags : Flags

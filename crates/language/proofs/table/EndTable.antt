@@ -156,9 +156,6 @@ shut_parameters (part n (part m ps)) h =
     joined_end (pattern_element true n ∷ Rattle.language.specs.Pieces.separator (kind_of n) (is_none ps)) (parameters body_pieces (part m ps))
     (shut_parameters (part m ps) (run_behind (pattern_element true n ∷ Rattle.language.specs.Pieces.separator (kind_of n) (is_none ps)) (parameters body_pieces (part m ps)) h))
 
-abbrev function_front : Parts → List Piece
-function_front ps = (term "function" ∷ sp ∷ Rattle.language.specs.Expressions.named ps) ++ sign "(" ∷ []
-
 shut_chunks : (first : Bool) (ps : Parts) → can_run (template_elements first ps) ≡ true → ends_shut (template_elements first ps) ≡ true
 shut_chunks first none h = absurd (false≢true h)
 shut_chunks first (gap ps) h = absurd (false≢true h)

@@ -1,20 +1,19 @@
 -- The declaration in the head of a `for`, and patterns, by their first token.
-use Rattle.std.proofs.Common.{◌≡◌, ℕ, Bool, true, false, cond, List, [], ◌∷◌, ◌++◌, refl, sym, ap, ◌∙◌, subst}
-use Rattle.std.specs.Prelude.{IsTrue, codes, ◌&&◌, ◌||◌}
-use Rattle.std.proofs.lemmas.Bool.{and_parts, and_from, false≢true}
+use Rattle.std.proofs.Common.{◌≡◌, ℕ, Bool, true, false, cond, List, [], ◌∷◌, refl, sym, ap, ◌∙◌, subst}
+use Rattle.std.specs.Prelude.{IsTrue, ◌&&◌, ◌||◌}
+use Rattle.std.proofs.lemmas.Bool.{and_parts, and_from}
 use Rattle.tokens.specs.declared.token.TokenClass.TheVariants.{IdentifierName, Punctuator}
 use Rattle.tokens.specs.declared.token.Goal.TheVariants.{Div}
 use Rattle.tokens.specs.Goals.{allows}
-use Rattle.tree.specs.declared.kind.Kind.TheVariants.{VariableDeclaration, ArrayPattern, ObjectPattern}
+use Rattle.tree.specs.declared.kind.Kind.TheVariants.{VariableDeclaration}
 use Rattle.tree.specs.declared.kind.Pair.{Pair}
 use Rattle.tree.specs.Tree.{Tree, node, Parts, bare, bare_parts, plain}
-use Rattle.tree.proofs.Lean.{lean_flags, lean_text}
+use Rattle.tree.proofs.Lean.{lean_flags}
 use Rattle.language.specs.declared.Rank.TheVariants.{Expression, Primary}
 use Rattle.language.specs.declared.Start.TheVariants.{Any}
-use Rattle.language.specs.Vocabulary.{is, among}
-use Rattle.language.specs.Pieces.{head, declarator, pattern, Piece, tok, Spelling, at, sign, sp, nothing, elements, listed, pattern_element}
+use Rattle.language.specs.Vocabulary.{among}
+use Rattle.language.specs.Pieces.{head, declarator, Piece, tok, Spelling, at, sp, nothing}
 use Rattle.language.specs.Statements.{declarators, is_one}
-use Rattle.language.specs.Expressions.{object_pattern_part}
 use Rattle.language.specs.Token.{Token}
 use Rattle.language.specs.Promises.{is_free, IsDetermined}
 use Rattle.language.specs.Following.{AbsentWhere}
@@ -27,7 +26,7 @@ use Rattle.language.proofs.table.Begins.{goes_to, retell}
 use Rattle.language.proofs.list_loops.FirstPieces.{run_token}
 use Rattle.language.proofs.climbing.BinaryTurns.{same_node}
 use Rattle.language.proofs.table.StatementWays.{pieces_of_one}
-use Rattle.language.proofs.table.SoleWays.{Told, Sole}
+use Rattle.language.proofs.table.SoleWays.{Sole}
 
 -- the words of declarations
 abbrev pub is_declaration_word : List ℕ → Bool
@@ -36,13 +35,6 @@ is_declaration_word w = among w ("var" ∷ "let" ∷ "const" ∷ [])
 -- behind such a word
 abbrev pub behind_head : Bool → Parts → List Piece
 behind_head b ps = cond (b || is_one ps) (sp ∷ declarators (declarator false b) ps) nothing
-
--- behind the bracket of a pattern
-abbrev pub behind_bracket : Bool → Parts → List Piece
-behind_bracket b ps = elements (pattern_element b) ps ++ sign "]" ∷ []
-
-abbrev pub behind_pattern_brace : Bool → Parts → List Piece
-behind_pattern_brace b ps = listed (object_pattern_part b) ps ++ sign "}" ∷ []
 
 cond_true : (c : Bool) (qs : List Piece) → c ≡ true → qs ≡ cond c qs nothing
 cond_true true qs h = refl
@@ -125,69 +117,3 @@ module _ (S : Type 0) (Next : S → Token → S → Type 0) (behind : S → Toke
   two_signs {v} {w} {s} {m} {k} {t} {u} al al' a b =
       let same = det.same Div s t u m k a.next b.next (subst (λ x. IsTrue (allows Div x t.text)) (sym a.class) (subst (λ x. IsTrue (allows Div Punctuator x)) (sym a.text) al)) (subst (λ x. IsTrue (allows Div x u.text)) (sym b.class) (subst (λ x. IsTrue (allows Div Punctuator x)) (sym b.text) al')) in
       (sym a.text ∙ ap (λ (x : Token). x.text) same.0 ∙ b.text, same.1)
-
-  array_told : {o : ℕ} {s m e : S} {t : Token} {P : List Pair} (b : Bool) → Reads S Next behind Punctuator (codes "[") s t m → (n : Tree) → Spells ways S Next behind o (pattern b Any) n s e P →
-      Told S Next behind det o (pattern b Any) ArrayPattern [] plain m (λ ps. goes_to Expression true Any (behind_bracket b (bare_parts ps))) n s e P
-  unfolding spellings
-  array_told {o} {e = e} {P = P} b read (node ArrayPattern w g st en ps) (direct qs h pl d) =
-      let v = way_of h in
-      let u = run_token S Next behind (retell S Next behind (v.is ∙ ap (goes_to Expression true Any) (pieces_of_one v.listed)) d) in
-      record {
-        st = st;
-        en = en;
-        parts = ps;
-        tree = same_node refl (lean_text (bare (node ArrayPattern w g st en ps)) v.lean refl) (lean_flags (bare (node ArrayPattern w g st en ps)) v.lean) refl refl refl;
-        placed = pl;
-        runs = subst (λ x. Runs ways S Next behind o (goes_to Expression true Any (behind_bracket b (bare_parts ps))) ps x e P) (two_signs refl refl u.reads read).1 u.runs;
-      }
-  array_told b read (node ObjectPattern w g st en ps) (direct qs h pl d) =
-      let v = way_of h in
-      let u = run_token S Next behind (retell S Next behind (v.is ∙ ap (goes_to Expression true Any) (pieces_of_one v.listed)) d) in
-      absurd (false≢true (ap (λ x. is x "[") (two_signs refl refl u.reads read).0))
-  array_told b read (node _ w g st en ps) (direct qs h pl d) = elim ((way_of h).listed) [ ]
-
-  -- an array pattern is the only one that begins with `[`
-  pub array_pattern_sole : {Fine : Tree → S → Type 0} {s m : S} {t : Token} (b : Bool) → Reads S Next behind Punctuator (codes "[") s t m →
-      Sole S Next behind det Fine (pattern b Any) ArrayPattern [] plain s m (λ ps. goes_to Expression true Any (behind_bracket b (bare_parts ps)))
-  unfolding spellings
-  array_pattern_sole {s = s} {m = m} {t = t} b read = record {
-    spans = λ t l. refl;
-    told = λ {o} {n} {e} {P} d fine. array_told b read n d;
-    spells = λ {o} {st} {en} {ps} {e} {P} pl d.
-        let x : Spelling = at Primary (sign "[" ∷ behind_bracket b (bare_parts ps)) in
-        let run : Runs ways S Next behind o (goes_to Expression true Any x.pieces) ps s e P = step (token read) d in
-        direct (settled (pattern b Any) x) (way_from (pattern b Any) (node ArrayPattern [] plain st en ps) x refl first (runs_can S Next behind Expression true Any x.pieces run)) pl run;
-  }
-
-  -- an object pattern the only one that begins with `{`
-  object_told : {o : ℕ} {s m e : S} {t : Token} {P : List Pair} (b : Bool) → Reads S Next behind Punctuator (codes "{") s t m → (n : Tree) → Spells ways S Next behind o (pattern b Any) n s e P →
-      Told S Next behind det o (pattern b Any) ObjectPattern [] plain m (λ ps. goes_to Expression true Any (behind_pattern_brace b (bare_parts ps))) n s e P
-  unfolding spellings
-  object_told {o} {e = e} {P = P} b read (node ObjectPattern w g st en ps) (direct qs h pl d) =
-      let v = way_of h in
-      let u = run_token S Next behind (retell S Next behind (v.is ∙ ap (goes_to Expression true Any) (pieces_of_one v.listed)) d) in
-      record {
-        st = st;
-        en = en;
-        parts = ps;
-        tree = same_node refl (lean_text (bare (node ObjectPattern w g st en ps)) v.lean refl) (lean_flags (bare (node ObjectPattern w g st en ps)) v.lean) refl refl refl;
-        placed = pl;
-        runs = subst (λ x. Runs ways S Next behind o (goes_to Expression true Any (behind_pattern_brace b (bare_parts ps))) ps x e P) (two_signs refl refl u.reads read).1 u.runs;
-      }
-  object_told b read (node ArrayPattern w g st en ps) (direct qs h pl d) =
-      let v = way_of h in
-      let u = run_token S Next behind (retell S Next behind (v.is ∙ ap (goes_to Expression true Any) (pieces_of_one v.listed)) d) in
-      absurd (false≢true (ap (λ x. is x "{") (two_signs refl refl u.reads read).0))
-  object_told b read (node _ w g st en ps) (direct qs h pl d) = elim ((way_of h).listed) [ ]
-
-  pub object_pattern_sole : {Fine : Tree → S → Type 0} {s m : S} {t : Token} (b : Bool) → Reads S Next behind Punctuator (codes "{") s t m →
-      Sole S Next behind det Fine (pattern b Any) ObjectPattern [] plain s m (λ ps. goes_to Expression true Any (behind_pattern_brace b (bare_parts ps)))
-  unfolding spellings
-  object_pattern_sole {s = s} {m = m} {t = t} b read = record {
-    spans = λ t l. refl;
-    told = λ {o} {n} {e} {P} d fine. object_told b read n d;
-    spells = λ {o} {st} {en} {ps} {e} {P} pl d.
-        let x : Spelling = at Primary (sign "{" ∷ behind_pattern_brace b (bare_parts ps)) in
-        let run : Runs ways S Next behind o (goes_to Expression true Any x.pieces) ps s e P = step (token read) d in
-        direct (settled (pattern b Any) x) (way_from (pattern b Any) (node ObjectPattern [] plain st en ps) x refl first (runs_can S Next behind Expression true Any x.pieces run)) pl run;
-  }

@@ -1,14 +1,13 @@
 -- What touches what in a spelling: a test of pieces, from left to right, and that lists of parts pass it.
-use Rattle.std.proofs.Common.{◌≡◌, ℕ, Bool, true, false, cond, not, ◌&&◌, ◌||◌, nat_eq, List, [], ◌∷◌, ◌++◌, refl, ap, ◌∙◌}
+use Rattle.std.proofs.Common.{◌≡◌, ℕ, Bool, true, false, cond, not, ◌&&◌, ◌||◌, nat_eq, List, [], ◌∷◌, refl, ap}
 use Rattle.std.specs.Prelude.{nat_le, slice_index_or, codes}
 use Rattle.std.proofs.lemmas.Bool.{and_from, false≢true}
 use Rattle.tokens.specs.declared.token.TokenClass.{TokenClass}
 use Rattle.tokens.specs.declared.token.TokenClass.TheVariants.{IdentifierName, Punctuator, Template}
 use Rattle.tokens.specs.Lexical.{is_one_of_words}
-use Rattle.tree.specs.declared.kind.Kind.{Kind}
 use Rattle.language.specs.declared.Rank.{Rank}
-use Rattle.language.specs.Vocabulary.{precedence, is_rest}
-use Rattle.language.specs.Pieces.{Role, expr, chain_part, name, word, shorthand_key, base, tagged_quasi, template_element, pattern, method, body, block, class_body, script, Slot, fixed, left, lead, tail, callee, lead_chain, lead_pattern, Piece, PieceOf, tok, may, many, ahead, unbroken, ending, open_parameters, close_parameters, sub, absent, never, lay, space, line, feed, deeper, shallower, apart, loose, separator}
+use Rattle.language.specs.Vocabulary.{precedence}
+use Rattle.language.specs.Pieces.{Role, expr, chain_part, name, word, shorthand_key, base, tagged_quasi, template_element, pattern, method, body, block, class_body, script, Slot, fixed, left, lead, tail, callee, lead_chain, lead_pattern, Piece, PieceOf, tok, may, many, ahead, unbroken, ending, open_parameters, close_parameters, sub, absent, never, lay, space, line, feed, deeper, shallower, apart, loose}
 use Rattle.language.proofs.layout.PunctuatorsApart.{closed_signs}
 use Rattle.language.proofs.layout.WordsApart.{is_closer, is_sign_closer}
 
@@ -261,19 +260,6 @@ is_free apart_from = true
 is_free solid = true
 is_free _ = false
 
-free_item : (s : Touch) → is_free s ≡ true → is_item_touch s ≡ true
-free_item apart_from h = refl
-free_item solid h = refl
-free_item fresh h = h
-free_item named h = refl
-free_item valued h = refl
-free_item stated h = refl
-free_item closed h = refl
-free_item dotted h = h
-free_item signed h = h
-free_item echoed h = h
-free_item broken h = h
-
 -- a part that is an item
 abbrev pub is_item_sort : Sort → Bool
 is_item_sort an_echo = false
@@ -339,19 +325,6 @@ neat_item b o s close_parameters ys h k f = absurd (false≢true k)
 neat_item b o s absent ys h k f = absurd (false≢true k)
 neat_item b o s (lay x) ys h k f = absurd (false≢true k)
 
-pub item_comma : (s : Touch) → is_item_touch s ≡ true → takes_sign s (codes ",") ≡ true
-item_comma apart_from h = refl
-item_comma solid h = refl
-item_comma named h = refl
-item_comma valued h = refl
-item_comma stated h = refl
-item_comma closed h = refl
-item_comma fresh h = refl
-item_comma dotted h = absurd (false≢true h)
-item_comma signed h = absurd (false≢true h)
-item_comma echoed h = absurd (false≢true h)
-item_comma broken h = absurd (false≢true h)
-
 pub token_comma : (s : Touch) → is_item_touch s ≡ true → takes_token s Punctuator (codes ",") ≡ true
 token_comma apart_from h = refl
 token_comma fresh h = refl
@@ -364,19 +337,6 @@ token_comma dotted h = absurd (false≢true h)
 token_comma signed h = absurd (false≢true h)
 token_comma echoed h = absurd (false≢true h)
 token_comma broken h = absurd (false≢true h)
-
--- a separator, before what is neat at an item and behind one
-pub neat_separator : (o : Bool) (k : Kind) (t : Bool) (ys : List Piece) → NeatBehind o ys → NeatBehind o (separator k t ++ ys)
-neat_separator o k true ys f b s h = of (is_rest k)
-  where
-    of : (c : Bool) → neat b o s (cond c [] (may (codes ",") ∷ []) ++ ys) ≡ true
-    of true = f b s h
-    of false = f b s h
-neat_separator o k false ys f b s h = of (is_rest k)
-  where
-    of : (c : Bool) → neat b o s (cond c (never ∷ []) (tok Punctuator (codes ",") ∷ lay space ∷ []) ++ ys) ≡ true
-    of true = refl
-    of false = ap (λ t. t && neat b o apart_from ys) (token_comma s h) ∙ f b apart_from refl
 
 -- the same on a line of its own
 pub line_item : (b o : Bool) (q : Piece) (ys : List Piece) → is_item_piece q ≡ true → NeatBehind o ys → neat b o broken (q ∷ ys) ≡ true

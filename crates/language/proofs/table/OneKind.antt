@@ -1,9 +1,5 @@
 -- Positions at which only nodes of one kind stand, with one way each: from the table to what is found there.
-use Rattle.std.proofs.Common.{◌≡◌, ℕ, Bool, true, false, List, [], ◌∷◌, refl, sym, ap, ◌∙◌, subst}
-use Rattle.std.specs.Prelude.{IsTrue}
-use Rattle.tokens.specs.declared.token.TokenClass.{TokenClass}
-use Rattle.tokens.specs.declared.token.Goal.{Goal}
-use Rattle.tokens.specs.Goals.{allows}
+use Rattle.std.proofs.Common.{◌≡◌, ℕ, Bool, true, false, List, [], refl, sym, ap, ◌∙◌}
 use Rattle.tree.specs.declared.kind.Kind.{Kind}
 use Rattle.tree.specs.declared.kind.Flags.{Flags}
 use Rattle.tree.specs.declared.kind.Pair.{Pair}
@@ -14,16 +10,15 @@ use Rattle.language.specs.declared.Rank.{Rank}
 use Rattle.language.specs.declared.Rank.TheVariants.{Expression, Primary}
 use Rattle.language.specs.declared.Start.{Start}
 use Rattle.language.specs.declared.Start.TheVariants.{Any}
-use Rattle.language.specs.Pieces.{Role, expr, Piece, PieceOf, tok, Spelling, at}
+use Rattle.language.specs.Pieces.{Role, expr, Piece, PieceOf, Spelling, at}
 use Rattle.language.specs.Token.{Token}
 use Rattle.language.specs.Promises.{IsDetermined}
 use Rattle.language.specs.Grammar.{ways, spellings, can_run}
-use Rattle.language.specs.Derivation.{Among, Reads, Spells, direct, grouped, Runs, step, token, Placed, place}
+use Rattle.language.specs.Derivation.{Among, Spells, direct, grouped, Runs, Placed, place}
 use Rattle.language.proofs.lower_bound.Domination.{settled, fits}
 use Rattle.language.proofs.table.ViewIsComplete.{way_of}
 use Rattle.language.proofs.table.Productions.{way_from, runs_can}
 use Rattle.language.proofs.table.Begins.{goes_to, retell}
-use Rattle.language.proofs.list_loops.FirstPieces.{run_token}
 use Rattle.language.proofs.climbing.BinaryTurns.{same_node}
 use Rattle.language.proofs.table.SoleWays.{Told, Sole}
 
@@ -78,27 +73,4 @@ module _ (S : Type 0) (Next : S → Token → S → Type 0) (behind : S → Toke
         let x : Spelling = at Primary (pieces (bare_parts ps)) in
         let can = runs_can S Next behind Expression true Any (pieces (bare_parts ps)) d in
         direct (settled a x) (way_from a (node k [] plain st en ps) x (u.lean (bare_parts ps)) (u.there (bare_parts ps) can) (u.position.fitting x ∙ can)) pl (retell S Next behind (sym (u.position.settles x)) d);
-  }
-
-  -- behind its first token
-  pub token_told : {Fine : Tree → S → Type 0} {a : Role} {k : Kind} {w : List ℕ} {g : Flags} {s m : S} {t : Token} {c : TokenClass} {v : List ℕ} {pieces tail : Parts → List (PieceOf Role)} (h : Goal) → IsTrue (allows h c v) → Reads S Next behind c v s t m →
-      ((ps : Parts) → pieces ps ≡ tok c v ∷ tail ps) → Sole S Next behind det Fine a k w g s s pieces → Sole S Next behind det Fine a k w g s m tail
-  token_told {s = s} {m = m} {t = t} {c = c} {v = v} {tail = tail} h al read begins u = record {
-    spans = u.spans;
-    told = λ {o} {n} {e} {P} d fine.
-        let x = u.told d fine in
-        let y = run_token S Next behind (retell S Next behind (begins x.parts) x.runs) in
-        let same = det.same h s y.sign t y.mid m y.reads.next read.next (allowed y.sign y.reads.class y.reads.text) (allowed t read.class read.text) in
-        record { st = x.st; en = x.en; parts = x.parts; tree = x.tree; placed = x.placed; runs = subst (λ z. Runs ways S Next behind o (tail x.parts) x.parts z e P) same.1 y.runs };
-    spells = λ {o} {st} {en} {ps} {e} {P} pl d. u.spells pl (retell S Next behind (sym (begins ps)) (step (token read) d));
-  }
-    where
-      allowed : (u : Token) → u.class ≡ c → u.text ≡ v → IsTrue (allows h u.class u.text)
-      allowed u p q = subst (λ x. IsTrue (allows h x u.text)) (sym p) (subst (λ x. IsTrue (allows h c x)) (sym q) al)
-
-  -- without it nothing is spelled
-  pub token_untold : {Fine : Tree → S → Type 0} {a : Role} {k : Kind} {w : List ℕ} {g : Flags} {s : S} {c : TokenClass} {v : List ℕ} {pieces tail : Parts → List (PieceOf Role)} → ((ps : Parts) → pieces ps ≡ tok c v ∷ tail ps) →
-      ((t : Token) (m : S) → Reads S Next behind c v s t m → ⊥) → Sole S Next behind det Fine a k w g s s pieces → Rattle.language.specs.Following.AbsentWhere S Next behind Fine a s
-  token_untold begins missed u = record {
-    nothing = λ o' e' n' P' d fine. let x = u.told d fine in let y = run_token S Next behind (retell S Next behind (begins x.parts) x.runs) in missed y.sign y.mid y.reads;
   }

@@ -1,6 +1,5 @@
 -- A statement or declaration whose first token is its own: from what stands behind that token to the statement.
 use Rattle.std.proofs.Common.{◌≡◌, ℕ, Bool, true, false, cond, List, [], ◌∷◌, ◌++◌, refl, sym, ap, ◌∙◌, subst, ◌⊎◌, inl, inr}
-use Rattle.std.proofs.lemmas.Bool.{false≢true}
 use Prim.Native.String.{String}
 use Rattle.tokens.specs.declared.token.TokenClass.{TokenClass}
 use Rattle.tokens.specs.declared.token.TokenClass.TheVariants.{IdentifierName, Punctuator}
@@ -49,25 +48,9 @@ kind_as a_class = ClassDeclaration
 kind_as an_expression = ExpressionStatement
 
 only_kind : (k : Kind) → is_own (begins_as k) ≡ true → (begins_as k ≡ a_for → ⊥) → k ≡ kind_as (begins_as k)
-only_kind BlockStatement h f = refl
-only_kind EmptyStatement h f = refl
-only_kind VariableDeclaration h f = refl
-only_kind IfStatement h f = refl
-only_kind DoWhileStatement h f = refl
-only_kind WhileStatement h f = refl
-only_kind ForStatement h f = refl
 only_kind ForInStatement h f = absurd (f refl)
 only_kind ForOfStatement h f = absurd (f refl)
-only_kind ContinueStatement h f = refl
-only_kind BreakStatement h f = refl
-only_kind ReturnStatement h f = refl
-only_kind ThrowStatement h f = refl
-only_kind SwitchStatement h f = refl
-only_kind TryStatement h f = refl
-only_kind DebuggerStatement h f = refl
-only_kind FunctionDeclaration h f = refl
-only_kind ClassDeclaration h f = refl
-only_kind _ h f = absurd (false≢true h)
+only_kind _ h f = cc
 
 kind_again : (b : StatementStart) → is_own b ≡ true → begins_as (kind_as b) ≡ b
 kind_again a_block h = refl
@@ -236,24 +219,7 @@ same_loop j k h i = of (loop_kind j h) (loop_kind k i)
 
 own_lean : (k : Kind) (w : List ℕ) (st en : ℕ) (ps : Parts) → is_own (begins_as k) ≡ true → is_lean (bare (node k (text_as (begins_as k) w) plain st en ps)) ≡ true
 own_lean BlockStatement w st en ps h = refl
-own_lean EmptyStatement w st en ps h = refl
-own_lean VariableDeclaration w st en ps h = refl
-own_lean IfStatement w st en ps h = refl
-own_lean DoWhileStatement w st en ps h = refl
-own_lean WhileStatement w st en ps h = refl
-own_lean ForStatement w st en ps h = refl
-own_lean ForInStatement w st en ps h = refl
-own_lean ForOfStatement w st en ps h = refl
-own_lean ContinueStatement w st en ps h = refl
-own_lean BreakStatement w st en ps h = refl
-own_lean ReturnStatement w st en ps h = refl
-own_lean ThrowStatement w st en ps h = refl
-own_lean SwitchStatement w st en ps h = refl
-own_lean TryStatement w st en ps h = refl
-own_lean DebuggerStatement w st en ps h = refl
-own_lean FunctionDeclaration w st en ps h = refl
-own_lean ClassDeclaration w st en ps h = refl
-own_lean _ w st en ps h = absurd (false≢true h)
+own_lean _ w st en ps h = cc
 
 -- a statement has the span of its tokens
 pub statement_spans : {a : Role} {p d r : Bool} → Stands a p d r → (t l : Token) → place a t l ≡ (t.start, l.stop)

@@ -17,7 +17,7 @@ use Rattle.tree.proofs.Lean.{lean_flags}
 use Rattle.language.specs.declared.Rank.TheVariants.{Expression, Primary}
 use Rattle.language.specs.declared.Start.TheVariants.{Any}
 use Rattle.language.specs.Vocabulary.{literal_class, is_name}
-use Rattle.language.specs.Pieces.{Role, key, shorthand_key, property, PieceOf, tok, ahead, sub, Spelling, at, term, sp}
+use Rattle.language.specs.Pieces.{Role, key, shorthand_key, PieceOf, tok, ahead, sub, Spelling, at, term, sp}
 use Rattle.language.specs.Token.{Token}
 use Rattle.language.specs.Promises.{is_free, IsDetermined, ReadBy, FoundAt}
 use Rattle.language.specs.Grammar.{ways, spellings, keys}
@@ -30,7 +30,7 @@ use Rattle.language.proofs.list_loops.FirstPieces.{run_none, run_token, run_part
 use Rattle.language.proofs.climbing.BinaryTurns.{same_node}
 use Rattle.language.proofs.climbing.Leaves.{OneToken}
 use Rattle.language.proofs.table.StatementWays.{pieces_of_one}
-use Rattle.language.proofs.table.PropertyWays.{property_pieces, form_pieces, PropertyForm, MemberForm}
+use Rattle.language.proofs.table.PropertyWays.{property_pieces, form_pieces, MemberForm}
 use Rattle.language.proofs.climbing.Conditionals.{read_there}
 use Rattle.tokens.specs.Goals.{allows}
 
@@ -223,10 +223,6 @@ module _ (S : Type 0) (Next : S → Token → S → Type 0) (behind : S → Toke
   first_by true Shorthand d = absurd (run_never S Next behind d)
   first_by false Shorthand d = first_key refl (echo_read d)
   first_by c Constructor d = absurd (run_never S Next behind d)
-
-  -- by its first token, what a property is
-  pub property_first : {o : ℕ} {n : Tree} {e : S} {P : List Pair} (u : PropertyForm S Next behind det o property (λ c f ps. property_pieces c f) n s e P) → FirstOf t u.computed u.form
-  property_first u = first_by u.computed u.form u.runs
 
   form_first : {o : ℕ} {ps : Parts} {e : S} {P : List Pair} (c : Bool) (f : Form) → Runs ways S Next behind o (goes_to Expression true Any (form_pieces [] c f)) ps s e P → FirstOf t c f
   form_first true Init d = let u = sign_read refl d in first_bracket refl u.0 u.1

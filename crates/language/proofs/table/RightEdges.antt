@@ -177,9 +177,6 @@ pub view_of : {y : Rank} {i : Bool} {f : Start} {k : Kind} {w : List ℕ} {g : F
 unfolding spellings
 view_of {k = k} st en h = let v = way_of h in record { spelling = v.spelling; made = made k v.listed; fit = v.fit; is = v.is }
 
-is_nought : (a : ℕ) → nat_eq a 0 ≡ true → a ≡ 0
-is_nought a h = grind (arith, nat_tests)
-
 -- only the end of nothing stands so
 pub standing_closed : (x : Edge) (last : Token) → edge_as_written x last ≡ Closed → x ≡ Closed
 standing_closed Closed last e = refl

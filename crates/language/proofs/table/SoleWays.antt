@@ -1,13 +1,13 @@
 -- Where only one way is possible at a place: from what is found of its parts to what is found of the node.
-use Rattle.std.proofs.Common.{◌≡◌, ℕ, suc, ◌-◌, List, refl, sym, ap, ◌∙◌, subst, arith}
+use Rattle.std.proofs.Common.{◌≡◌, ℕ, List, refl, sym, ap, ◌∙◌, subst}
 use Rattle.tree.specs.declared.kind.Kind.{Kind}
 use Rattle.tree.specs.declared.kind.Flags.{Flags}
 use Rattle.tree.specs.declared.kind.Pair.{Pair}
-use Rattle.tree.specs.Tree.{Tree, node, Parts, height, parts_height}
+use Rattle.tree.specs.Tree.{Tree, node, Parts}
 use Rattle.language.specs.Pieces.{Role, PieceOf}
 use Rattle.language.specs.Token.{Token}
-use Rattle.language.specs.Promises.{IsDetermined, FoundAt, AbsentAt, AbsentAtWithin, FoundParts, AbsentParts, AbsentPartsWithin}
-use Rattle.language.specs.Following.{FoundWhere, AbsentWhere, AbsentWhereWithin, FoundPartsWhere, AbsentPartsWhere, AbsentPartsWhereWithin}
+use Rattle.language.specs.Promises.{IsDetermined, FoundAt, FoundParts}
+use Rattle.language.specs.Following.{FoundWhere, FoundPartsWhere}
 use Rattle.language.specs.Grammar.{ways}
 use Rattle.language.specs.Derivation.{Spells, Runs, Placed, placed, place}
 use Rattle.language.proofs.climbing.BinaryTurns.{same_node}
@@ -58,47 +58,16 @@ module _ (S : Type 0) (Next : S → Token → S → Type 0) (behind : S → Toke
           (same.0, u.tree ∙ same_node refl refl refl span.0 span.1 same.1, same.2);
     }
 
-    -- where they are absent, it is
-    pub sole_absent : {FineParts : Parts → S → Type 0} → ((st en : ℕ) (ps : Parts) (e : S) → Fine (node k w g st en ps) e → FineParts ps e) → AbsentPartsWhere S Next behind FineParts tail m → AbsentWhere S Next behind Fine a s
-    sole_absent turn missed = record { nothing = λ o' e' n' P' d fine. (let u = sole.told d fine in missed.nothing o' e' u.parts P' u.runs (turn u.st u.en u.parts e' (subst (λ v. Fine v e') u.tree fine))) }
-
-    -- none within the limits
-    pub sole_deep : {FineParts : Parts → S → Type 0} {o hi : ℕ} → ((st en : ℕ) (ps : Parts) (e : S) → Fine (node k w g st en ps) e → FineParts ps e) → AbsentPartsWhereWithin S Next behind FineParts o (hi - 1) tail m →
-        AbsentWhereWithin S Next behind Fine o hi a s
-    sole_deep turn missed = record {
-      nothing = λ e' n' P' d fine le. let u = sole.told d fine in
-          let h : height n' ≡ suc (parts_height u.parts) = ap height u.tree in
-          missed.nothing e' u.parts P' u.runs (turn u.st u.en u.parts e' (subst (λ v. Fine v e') u.tree fine)) (omega arith);
-    }
-
   -- whatever may follow, less may follow
   module _ {Fine : Tree → S → Type 0} {a : Role} {s : S} where
     pub found_where : {o : ℕ} {e : S} {n : Tree} {P : List Pair} → FoundAt S Next behind o a s e n P → FoundWhere S Next behind Fine o a s e n P
     found_where u = record { spelled = u.spelled; only = λ o' e' n' P' d fine. u.only o' e' n' P' d }
 
-    pub absent_where : AbsentAt S Next behind a s → AbsentWhere S Next behind Fine a s
-    absent_where u = record { nothing = λ o' e' n' P' d fine. u.nothing o' e' n' P' d }
-
-    pub deep_where : {o hi : ℕ} → AbsentAtWithin S Next behind o hi a s → AbsentWhereWithin S Next behind Fine o hi a s
-    deep_where u = record { nothing = λ e' n' P' d fine le. u.nothing e' n' P' d le }
-
   module _ {Fine : Parts → S → Type 0} {pieces : Parts → List (PieceOf Role)} {s : S} where
     pub parts_where : {o : ℕ} {e : S} {ps : Parts} {P : List Pair} → FoundParts S Next behind o pieces s e ps P → FoundPartsWhere S Next behind Fine o pieces s e ps P
     parts_where u = record { runs = u.runs; only = λ o' e' ps' P' d fine. u.only o' e' ps' P' d }
-
-    pub absent_parts_where : AbsentParts S Next behind pieces s → AbsentPartsWhere S Next behind Fine pieces s
-    absent_parts_where u = record { nothing = λ o' e' ps' P' d fine. u.nothing o' e' ps' P' d }
-
-    pub deep_parts_where : {o hi : ℕ} → AbsentPartsWithin S Next behind o hi pieces s → AbsentPartsWhereWithin S Next behind Fine o hi pieces s
-    deep_parts_where u = record { nothing = λ e' ps' P' d fine le. u.nothing e' ps' P' d le }
 
   -- where only one way is possible whatever follows
   module _ {a : Role} {k : Kind} {w : List ℕ} {g : Flags} {s m : S} {tail : Parts → List (PieceOf Role)} (sole : Sole Anyhow a k w g s m tail) where
     pub sole_found_at : {o st en : ℕ} {ps : Parts} {e : S} {P : List Pair} → FoundParts S Next behind o tail m e ps P → Placed S Next behind a (node k w g st en ps) s e → FoundAt S Next behind o a s e (node k w g st en ps) P
     sole_found_at found pl = let u = sole_found sole {FineParts = Anyhow} (λ st en ps e h. tt) (parts_where found) pl in record { spelled = u.spelled; only = λ o' e' n' P' d. u.only o' e' n' P' d tt }
-
-    pub sole_absent_at : AbsentParts S Next behind tail m → AbsentAt S Next behind a s
-    sole_absent_at missed = let u = sole_absent sole {FineParts = Anyhow} (λ st en ps e h. tt) (absent_parts_where missed) in record { nothing = λ o' e' n' P' d. u.nothing o' e' n' P' d tt }
-
-    pub sole_deep_at : {o hi : ℕ} → AbsentPartsWithin S Next behind o (hi - 1) tail m → AbsentAtWithin S Next behind o hi a s
-    sole_deep_at missed = let u = sole_deep sole {FineParts = Anyhow} (λ st en ps e h. tt) (deep_parts_where missed) in record { nothing = λ e' n' P' d le. u.nothing e' n' P' d tt le }

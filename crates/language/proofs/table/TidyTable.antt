@@ -79,15 +79,6 @@ bare_arrow g = put name ∷ arrow_end g
 abbrev pub closed_arrow : Flags → Piece → List Piece
 closed_arrow g q = open_parameters ∷ put name ∷ q ∷ close_parameters ∷ arrow_end g
 
-pub arrow-same : (c : Role) (g : Flags) → IsTrue (fits c (at Assignment (closed_arrow g (Rattle.language.specs.Pieces.may [])))) → IsTrue (fits c (at Assignment (bare_arrow g)))
-arrow-same (expr y i Any) g h = h
-arrow-same (expr y i NoBrace) g h = h
-arrow-same (expr y i Statement) g h = h
-arrow-same (pattern b Any) g h = h
-arrow-same (pattern b NoBrace) g h = h
-arrow-same (pattern b Statement) g h = h
-arrow-same _ g h = h
-
 abbrev pub comma : Piece
 comma = Rattle.language.specs.Pieces.may (Rattle.std.specs.Prelude.codes ",")
 

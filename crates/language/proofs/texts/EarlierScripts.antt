@@ -1,21 +1,20 @@
 -- A text that derived before the 12th edition derives the same tree now: no earlier derivation has `&&`, `||` or `??` directly before `=`,
 -- since an operand stands behind them, and none begins with `=`.
-use Rattle.std.proofs.Common.{◌≡◌, ℕ, ◌+◌, ◌-◌, Bool, true, false, cond, not, ◌&&◌, ◌||◌, List, [], ◌∷◌, ◌++◌, refl, sym, ap, ◌∙◌, subst, arith, IsTrue, IsFalse, append_assoc, codes}
+use Rattle.std.proofs.Common.{◌≡◌, ℕ, ◌+◌, ◌-◌, Bool, true, false, cond, not, ◌&&◌, ◌||◌, List, [], ◌∷◌, ◌++◌, refl, sym, ap, ◌∙◌, subst, arith, IsTrue, append_assoc, codes}
 use Rattle.std.specs.Prelude.{encode_utf8_all}
 use Rattle.std.specs.Char.{encode_utf8}
-use Rattle.std.specs.Str.{chars, IsUtf8, IsCharBoundary}
+use Rattle.std.specs.Str.{IsUtf8}
 use Rattle.std.proofs.lemmas.Bool.Decides.{nat_tests}
 use Rattle.std.proofs.lemmas.Str.{IsCharBoundary-from_drop}
 use Rattle.std.proofs.lemmas.Bool.{false≢true, and_parts}
 use Rattle.tokens.specs.Alphabet.{one_of, begins_with}
-use Rattle.tokens.specs.Comments.{is_comment, begins_comment, Separators, nothing}
+use Rattle.tokens.specs.Comments.{begins_comment, nothing}
 use Rattle.tokens.specs.declared.token.TokenClass.{TokenClass}
-use Rattle.tokens.specs.declared.token.TokenClass.TheVariants.{IdentifierName, Punctuator, NumericLiteral, StringLiteral, Template, RegularExpressionLiteral, End}
-use Rattle.tokens.specs.declared.token.Goal.{Goal}
+use Rattle.tokens.specs.declared.token.TokenClass.TheVariants.{IdentifierName, Punctuator}
 use Rattle.tokens.specs.declared.token.Goal.TheVariants.{Div}
 use Rattle.tokens.specs.TokenStarts.{class_of}
-use Rattle.tokens.specs.Lexical.{is_of, is_token}
-use Rattle.tokens.specs.Tokens.{LexicalToken, IsTokenAt}
+use Rattle.tokens.specs.Lexical.{is_of}
+use Rattle.tokens.specs.Tokens.{LexicalToken}
 use Rattle.tokens.specs.Reading.{behind, any_goal}
 use Rattle.tokens.specs.Scanned.{IsSolid}
 use Rattle.tokens.proofs.Beginnings.{true_false}
@@ -26,7 +25,7 @@ use Rattle.tree.specs.declared.kind.Kind.{Kind}
 use Rattle.tree.specs.declared.kind.Kind.TheVariants as kind
 use Rattle.tree.specs.declared.kind.Flags.{Flags}
 use Rattle.tree.specs.declared.kind.Pair.{Pair}
-use Rattle.tree.specs.Tree.{Tree, node, Parts, start_of, stop_of, parts_of}
+use Rattle.tree.specs.Tree.{Tree, node, Parts}
 use Rattle.language.specs.declared.Rank.{Rank}
 use Rattle.language.specs.declared.Start.{Start}
 use Rattle.language.specs.declared.Edge.{Edge}
@@ -41,7 +40,6 @@ use Rattle.language.specs.Grammar.{ways, spellings}
 use Rattle.language.specs.Places.{NextIn, next_in, itself}
 use Rattle.language.specs.Promises.{is_free, IsDetermined}
 use Rattle.language.specs.Derivation.{Among, Reads, Step, token, with_mark, without_mark, one_more, no_more, seen, same_line, explicit, implicit, laid, Placed, placed, place, Spells, direct, grouped, Runs, done, step, opened, closed, within, missing}
-use Rattle.language.specs.Cursor.{beginning}
 use Rattle.language.specs.Claims.{DerivesOpen}
 use Rattle.language.specs.Earlier.{EarlierNextIn, earlier_next_in, is_new_node, earlier_ways, EarlierDerivesOpen}
 use Rattle.language.proofs.table.Begins.{among_by, div_allows}

@@ -1,8 +1,8 @@
 -- What an earlier token is today: itself, or the beginning of a logical assignment.
-use Rattle.std.proofs.Common.{◌≡◌, ℕ, ◌+◌, Bool, true, false, not, ◌&&◌, ◌||◌, List, [], ◌∷◌, ◌++◌, length, refl, sym, ap, ◌∙◌, subst, arith, IsTrue, IsFalse, append_assoc, length-append, codes}
+use Rattle.std.proofs.Common.{◌≡◌, ℕ, ◌+◌, Bool, true, false, not, ◌&&◌, List, [], ◌∷◌, ◌++◌, length, refl, sym, ap, ◌∙◌, subst, arith, IsTrue, IsFalse, append_assoc, length-append}
 use Rattle.std.specs.Prelude.{encode_utf8_all}
 use Rattle.std.specs.Char.{encode_utf8}
-use Rattle.std.specs.Str.{chars, IsUtf8, IsCharBoundary}
+use Rattle.std.specs.Str.{IsUtf8, IsCharBoundary}
 use Rattle.std.proofs.lemmas.Str.{encodes-append}
 use Rattle.std.proofs.lemmas.Bool.{false≢true, and_parts}
 use Rattle.tokens.specs.Alphabet.{one_of, begins_with}
@@ -12,9 +12,9 @@ use Rattle.tokens.specs.declared.token.TokenClass.TheVariants.{IdentifierName, P
 use Rattle.tokens.specs.declared.token.Goal.{Goal}
 use Rattle.tokens.specs.Goals.{allows}
 use Rattle.tokens.specs.Lexical.{is_one_of_words, is_at, is_token}
-use Rattle.tokens.specs.Tokens.{LexicalToken, IsTokenAt, size}
+use Rattle.tokens.specs.Tokens.{LexicalToken, size}
 use Rattle.tokens.specs.Reading.{behind, any_goal}
-use Rattle.tokens.specs.Earlier.{EarlierTokenAt, earlier_is_token}
+use Rattle.tokens.specs.Earlier.{EarlierTokenAt}
 use Rattle.tokens.proofs.Classes.{words_all, all_words}
 use Rattle.tokens.proofs.Beginnings.{true_false}
 use Rattle.tokens.proofs.Longest.{none_is_longer}

@@ -72,9 +72,6 @@ stays_read text u _ t e (ahead p (last goal r h)) Cursor.next = over
 stays_read text u _ t e (ahead {b = b} p (more {rest = rest} {token = k} {tokens = ts} goal r h d)) Cursor.next =
     let q = past_token text goal b.stop k rest u p r in ahead q.1 (subst (λ x. IsReading k.stop x ts) q.0 d)
 
-kept_before : (s : List Token) (t : Token) (e : List Token) → Cursor.Next s t e → itself (Cursor.behind s) ≡ Cursor.behind s
-kept_before s t e h = refl
-
 carried : (text : List ℕ) → IsUtf8 text → Carries (List Token) Cursor.Next Cursor.behind Token (NextIn text any_goal) itself Cursor.behind (IsRead text)
 carried text u = record {
   next = next_read text u;

@@ -1,4 +1,3 @@
-use Rattle.std.proofs.Common.{refl}
 use Rattle.language.proofs.layout.SameLayouts.{same_wrapped, same_layout}
 use Rattle.language.proofs.laws.places_change_no_layout.Goals as goal
 
