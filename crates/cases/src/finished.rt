@@ -1,6 +1,6 @@
 //! The finished tree beside the nodes that it is made of, and its nodes one by one.
 
-use crate::print::{show, word};
+use crate::print::{show, show_boxed, word};
 use crate::sketch::parts;
 use parser::parse;
 use source_text::{Fault, Source};
@@ -11,7 +11,7 @@ use tree::{BoxedNode, Node, NodeText, Parts, Program, Span};
 fn push_boxed(parts: &[Option<BoxedNode>], out: &mut String) -> Result<(), AllocError> {
     for part in parts {
         match part {
-            Some(part) => show(part.node(), out)?,
+            Some(part) => show_boxed(part, out)?,
             None => out.push_str("_")?,
         }
     }

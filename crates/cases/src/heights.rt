@@ -1,7 +1,7 @@
 //! Parts that are put together, and taken apart.
 
 use crate::case::Case;
-use crate::print::show;
+use crate::print::show_boxed;
 use crate::refusals::push_fault;
 use crate::sketch::parts;
 use productions::{MeasuredNode, MeasuredParts, finish_plain};
@@ -24,7 +24,7 @@ fn joined<'s>(alloc: Global, row: &'s Case) -> Result<MeasuredNode<'s>, Fault> {
 /// Its line.
 pub(crate) fn push_joined(alloc: Global, row: &Case, out: &mut String) -> Result<(), AllocError> {
     match joined(alloc, row) {
-        Ok(array) => show(array.node(), out),
+        Ok(array) => show_boxed(array.node(), out),
         Err(fault) => push_fault(fault, out),
     }
 }

@@ -1,10 +1,8 @@
-pub mod TailPieces
 pub mod TailTable
 pub mod Peeks
 pub mod Walk
 pub mod ReadingDerivations
 pub mod TreeReadings
-pub mod DivPieces
 pub mod DivTable
 pub mod OneTokenWays
 pub mod TokensOfNodes

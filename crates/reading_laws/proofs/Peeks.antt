@@ -28,7 +28,7 @@ use Rattle.language.specs.Edges.{may_omit_semicolon, goes_on, edge_as_written}
 use Rattle.language.specs.Places.{NextIn, next_in}
 use Rattle.language.proofs.texts.TextOffsets.{begins_same, turned_same, text_determined}
 use Rattle.language.proofs.texts.TextAlike.{word_begins, same_rest, text_alike}
-use Rattle.reading_laws.proofs.TailPieces.{is_template_tail}
+use Rattle.reading_laws.proofs.TailTable.{is_template_tail}
 
 -- what one goal reads begins with `/` where what another reads does
 

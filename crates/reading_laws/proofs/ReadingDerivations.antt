@@ -29,7 +29,7 @@ use Rattle.language.proofs.table.ViewIsComplete.{way_of, one}
 use Rattle.language.proofs.table.Begins.{retell, goes_to}
 use Rattle.language.proofs.texts.Readings.{derived_by_reading}
 use Rattle.reading_laws.specs.Laws.{SpelledByReading, DerivationsAreReadings, DerivesByReadings, AcceptsByReadings}
-use Rattle.reading_laws.proofs.TailPieces.{is_template_tail, fit_settled, free_fits, free_prologue}
+use Rattle.reading_laws.proofs.TailTable.{is_template_tail, fit_settled, script_fits}
 use Rattle.reading_laws.proofs.Walk.{no_tail_first, ReadOn, at_last, and_more, reads_on, placed_on, ran_on}
 
 -- the end of the text is behind everything
@@ -118,7 +118,7 @@ listed o text (node Program w g st en ps) P final (direct qs h p d) =
     let same : qs ≡ goes_to Expression true Any (items ps) ++ tok End [] ∷ [] = v.is ∙ ap (settled script) (one v.listed) ∙ split_end (items ps) in
     let u = parted Token (NextIn text any_goal) itself (goes_to Expression true Any (items ps)) (retell Token (NextIn text any_goal) itself same d) in
     let on = ended u.reads in
-    let r = ran_on text false false (u.sign ∷ []) (fit_settled Expression true Any false false (items ps) (free_fits false (items ps) (free_prologue false true [] (lay feed ∷ []) (bare_parts ps) refl refl))) on (λ e. end_no_tail u.reads) u.runs in
+    let r = ran_on text false false (u.sign ∷ []) (fit_settled Expression true Any false false (items ps) (script_fits w g (bare_parts ps))) on (λ e. end_no_tail u.reads) u.runs in
     let all = joined (List Token) Cursor.Next Cursor.behind r.runs (reads_on text [] u.reads) in
     let whole : Spells ways (List Token) Cursor.Next Cursor.behind o script (node Program w g st en ps) (Cursor.beginning ∷ r.tokens) (final ∷ []) P =
     direct qs h (placed_on text r.tokens [] r.read (λ t m a f x y e. absurd (false≢true e)) p) (retell (List Token) Cursor.Next Cursor.behind (sym same) all) in

@@ -19,8 +19,7 @@ use Rattle.language.specs.Grammar.{ways}
 use Rattle.language.specs.Cursor as Cursor
 use Rattle.language.specs.Derivation.{Among, Reads, Spells, direct, grouped, Runs, done, step, opened, closed, within, missing, Step, token, with_mark, without_mark, one_more, no_more, seen, same_line, explicit, implicit, laid, Placed, placed}
 use Rattle.language.proofs.table.Begins.{retell}
-use Rattle.reading_laws.proofs.DivPieces.{is_div_class, is_div_piece, are_div}
-use Rattle.reading_laws.proofs.DivTable.{may_need_goal, way_div}
+use Rattle.reading_laws.proofs.DivTable.{is_div_class, is_div_piece, are_div, may_need_goal, way_div}
 use Rattle.reading_laws.proofs.OneTokenWays.{OneToken, literal_way, element_way}
 
 -- The two tests say the same of a token and of the Literal or the TemplateElement that it spells. No node of another kind passes, and no token of

@@ -25,8 +25,7 @@ use Rattle.language.specs.Vocabulary.{literal_class}
 use Rattle.language.specs.Token.{Token, as_read}
 use Rattle.reading_laws.specs.TreeReadings.{is_regexp_at, is_element_after, tree_goal, IsTreeReading, last, more}
 use Rattle.reading_laws.specs.Laws.{SpelledReadingsAreTreeReadings, ReadingsOfOneTreeAreEqual, DerivedTextsHaveOneTreeReading}
-use Rattle.reading_laws.proofs.DivPieces.{is_div_class}
-use Rattle.reading_laws.proofs.DivTable.{may_need_goal}
+use Rattle.reading_laws.proofs.DivTable.{is_div_class, may_need_goal}
 use Rattle.reading_laws.proofs.TokensOfNodes.{Agrees, spelled}
 use Rattle.reading_laws.proofs.TreeReadings.{one_tree_reading}
 use Rattle.reading_laws.proofs.ReadingDerivations.{derivations_listed}

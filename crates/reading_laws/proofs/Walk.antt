@@ -21,8 +21,7 @@ use Rattle.language.specs.Derivation.{Among, Reads, Spells, direct, grouped, Run
 use Rattle.language.proofs.lower_bound.Domination.{settled}
 use Rattle.language.proofs.table.ViewIsComplete.{way_of, one}
 use Rattle.language.proofs.table.Begins.{retell}
-use Rattle.reading_laws.proofs.TailPieces.{is_template_tail, is_closed, is_later_part, is_script, barred, tails_fit_at}
-use Rattle.reading_laws.proofs.TailTable.{way_fits}
+use Rattle.reading_laws.proofs.TailTable.{is_template_tail, is_closed, is_later_part, is_script, barred, tails_fit_at, way_fits}
 use Rattle.reading_laws.proofs.Peeks.{same_break, same_start, name_same, may_keep}
 
 -- the list begins with no TemplateMiddle or TemplateTail
