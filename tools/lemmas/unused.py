@@ -1,0 +1,256 @@
+"""Refuses definitions and lemmas that nothing cites, and runs of lines that stand twice: in a crate, or in a crate and one that it stands on.
+
+    python3 tools/lemmas/unused.py            # what allowed.txt doesn't allow: status 1 where there is any
+    python3 tools/lemmas/unused.py --all      # also what it allows
+
+A declaration is cited if its name is reached, by imports and names, from a source (contracts, `using(..)`), from the answers at the goals of a function,
+from an example (a statement without variables is one), or from a document or tool that names it. Of a type its constructors and fields count too. What cites only one another is cited by
+nothing. So a name that another declaration of the same file also has may hide one that is dead, and none is called dead that is needed.
+
+Twins are runs of at least MOST lines that are equal but for blanks at their ends; comments, imports and empty lines aren't counted.
+
+`tools/lemmas/allowed.txt` lists what is allowed, with the reason: `dead FILE NAME ..: reason`, and for the twins of two files, whose lines are added up,
+`twin FILE FILE LINES: reason`. A line there that allows more than there is is refused too, so the list only gets shorter.
+"""
+import collections
+import pathlib
+import re
+import sys
+
+from lemmas import ANSWERS, TOP, crates_in_order, has_examples
+
+# The lines of a run that is called a twin.
+MOST = 8
+ALLOWED = 'tools/lemmas/allowed.txt'
+NAME = re.compile(r'[^\s(){}\[\],;.@"]+')
+IMPORT = re.compile(r'^\s*(pub )?(?:ghost )?use ([^\s;{]+?)(?:\.?\{([^}]*)\})?(?: as ([^\s;]+))?;?\s*$')
+CONTAINER = re.compile(r'(?:module\b.*|(?:abbrev )?mutual)')
+HEAD = re.compile(r'(?:(?:pub|abbrev|unfoldable) )*(data|record|ruleset) (\S+)')
+SIGNATURE = re.compile(r'(?:(?:pub|abbrev|unfoldable) )*(\S+) : ')
+MEMBER = re.compile(r'\s+(?:pub )?((?:[^\s:(){}]+ )+): ')
+
+
+class Module:
+    """A file of definitions or lemmas: its declarations by name, what they cite, and what it imports."""
+
+    def __init__(self, path):
+        self.path, self.text = path, path.read_text(encoding='utf-8')
+        self.imports, self.aliases, self.exports, self.members = {}, [], {}, {}
+        self.cites, self.types, self.examples = collections.defaultdict(set), set(), set()
+        self.read()
+
+    def read(self):
+        current, level, headers = None, 0, []
+        for line in self.text.split('\n'):
+            if line.strip().startswith('--') or not line.strip():
+                continue
+            found = IMPORT.match(line)
+            if found and ' : ' not in line:
+                self.add_import(*found.groups())
+                continue
+            indent = len(line) - len(line.lstrip())
+            headers = [it for it in headers if it[0] < indent]
+            level = headers[-1][0] + 2 if headers else 0
+            if indent == level and CONTAINER.fullmatch(line.strip()):
+                headers.append((indent, set(NAME.findall(line))))
+                current = None
+                continue
+            if indent == level:
+                current = self.declared(line.strip()) or current
+            if current:
+                self.cites[current].update(NAME.findall(line), *[it[1] for it in headers])
+                member = MEMBER.match(line) if indent > level and current in self.types else None
+                self.members.update({it: current for it in member[1].split()} if member else {})
+
+    def declared(self, line):
+        head, signature = HEAD.match(line), SIGNATURE.match(line)
+        if head:
+            self.types.add(head[2])
+            return head[2]
+        if signature:
+            if '≡' in line and '→' not in line:
+                self.examples.add(signature[1])
+            return signature[1]
+        first = NAME.match(line)
+        return first[0] if first and first[0] in self.cites else None
+
+    def add_import(self, is_pub, place, names, alias):
+        if names is None:
+            self.aliases.append(place)
+            return
+        for it in filter(None, map(str.strip, names.split(','))):
+            name, _, other = it.partition(' as ')
+            (self.exports if is_pub else self.imports)[other or name] = (place, name)
+            self.imports[other or name] = (place, name)
+
+
+class Repository:
+    def __init__(self):
+        self.crates = crates_in_order()
+        self.modules = {}
+        for crate in self.crates:
+            for part in ('specs', 'proofs'):
+                top = TOP / 'crates' / crate / part
+                for path in sorted(top.glob('**/*.antt')):
+                    if path.name != 'Lib.antt':
+                        inner = '.'.join(path.relative_to(top).with_suffix('').parts)
+                        self.modules[f'Rattle.{crate}.{part}.{inner}'] = Module(path)
+        self.by_name = collections.defaultdict(list)
+        for place, module in self.modules.items():
+            for it in [*module.cites, *module.members]:
+                self.by_name[it].append(place)
+        self.live, self.waiting = set(), []
+
+    def reach(self, place, name):
+        """The declaration of this name in the module, or that it hands on, is cited."""
+        module = self.modules.get(place)
+        if module is None:
+            return
+        found = name if name in module.cites else module.members.get(name)
+        if found and (place, found) not in self.live:
+            self.live.add((place, found))
+            self.waiting.append((place, found))
+        if name in module.exports:
+            self.reach(*module.exports[name])
+
+    def reach_all(self, place, names):
+        """What these words of a module mean."""
+        module = self.modules[place]
+        wholes = [it for it in module.aliases if it in self.modules]
+        for it in names:
+            if it in module.imports:
+                self.reach(*module.imports[it])
+            self.reach(place, it)
+            for whole in wholes:
+                self.reach(whole, it)
+        for it in module.aliases:
+            above, _, name = it.rpartition('.')
+            if name in names:
+                self.reach(above, name)
+
+    def reach_by_name(self, names, parts=('specs', 'proofs')):
+        for name in names:
+            for place in self.by_name.get(name, []):
+                if place.split('.')[2] in parts:
+                    self.reach(place, name)
+
+    def add_roots(self):
+        for place, module in self.modules.items():
+            if module.path.name in ANSWERS or place.split('.')[2] == 'proofs' and has_examples(module.path):
+                for name in module.cites:
+                    self.reach(place, name)
+                # (what stands beside the declarations of such a file)
+                self.reach_all(place, set(NAME.findall(module.text)))
+            for name in module.examples:
+                self.reach(place, name)
+        for path in (TOP / 'crates').glob('*/src/**/*.rt'):
+            self.reach_from_source(path)
+        for path in [TOP / 'README.md', *(TOP / 'docs').glob('**/*.md')]:
+            self.reach_by_name({word for span in re.findall(r'`([^`\n]+)`', path.read_text(encoding='utf-8')) for word in NAME.findall(span)})
+        for path in (TOP / 'tools').glob('**/*.js'):
+            self.reach_by_name(set(re.findall(r"[\w-]+", path.read_text(encoding='utf-8', errors='replace'))), ('specs',))
+
+    def reach_from_source(self, path):
+        """What a source names: by its imports, by whole paths, and of rulesets by `crate::proofs::Module::name`."""
+        text, crate = path.read_text(encoding='utf-8'), path.relative_to(TOP / 'crates').parts[0]
+        code = re.sub(r'^ *(?:ghost |pub )?use [^;]*;|//[^\n]*', '', text, flags=re.M)
+        words = set(re.findall(r'[^\s(){}\[\],;.@"&]+', code))
+        for place, names, alias in re.findall(r'ghost use ([\w.+-]+?)(?:\.?\{([^}]*)\})?(?: as (\S+))?;', text):
+            for it in filter(None, map(str.strip, names.split(','))):
+                name, _, other = it.partition(' as ')
+                if (other or name) in words:
+                    self.reach(place, name)
+            for it in words if not names else ():
+                self.reach(place, it)
+        for of, part, inner in re.findall(r'(\w+)::(specs|proofs)::([\w:+◌≡-]+)', code):
+            place, _, name = f'Rattle.{crate if of == "crate" else of}.{part}.{inner.replace("::", ".")}'.rpartition('.')
+            self.reach(place, name)
+        for place, name in re.findall(r'(Rattle\.[\w.+-]+)\.([^\s.(){}]+)', code):
+            self.reach(place, name)
+
+    def dead(self):
+        """The declarations that nothing cites: the file and the name of each."""
+        self.add_roots()
+        while self.waiting:
+            place, name = self.waiting.pop()
+            self.reach_all(place, self.modules[place].cites[name])
+        for place, module in self.modules.items():
+            for name in module.cites:
+                if (place, name) not in self.live:
+                    yield str(module.path.relative_to(TOP)), name
+
+
+def lines_of(path):
+    """The lines of a file that count, each with its number."""
+    mark = '--' if path.suffix == '.antt' else '//'
+    with open(path, encoding='utf-8') as file:
+        for number, line in enumerate(file, 1):
+            line = line.strip()
+            if line and not line.startswith(mark) and not IMPORT.match(line) and not re.match(r'(?:pub )?mod ', line):
+                yield number, line
+
+
+def stands_on(crates):
+    """Of each crate those that it stands on, itself included."""
+    below = {line.partition(':')[0]: line.partition(':')[2].split() for line in (TOP / 'crates.txt').read_text().splitlines()}
+    found = {}
+    for crate in crates:
+        found[crate] = {crate}.union(*(found[it] for it in below[crate] if it in found))
+    return found
+
+
+def twins(crates):
+    """The runs that stand twice: both files with the line where each begins, and how many lines it has."""
+    files = [(crate, path) for crate in crates for part in ('src', 'specs', 'proofs') for path in sorted((TOP / 'crates' / crate / part).glob('**/*')) if path.suffix in ('.rt', '.antt') and path.name != 'Lib.antt']
+    lines, below = [list(lines_of(path)) for _, path in files], stands_on(crates)
+    numbers, windows = {}, collections.defaultdict(list)
+    codes = [[numbers.setdefault(it, len(numbers)) for _, it in found] for found in lines]
+    for one, code in enumerate(codes):
+        for at in range(len(code) - MOST + 1):
+            windows[tuple(code[at:at + MOST])].append((one, at))
+    for places in windows.values():
+        for second in range(1, len(places)):
+            for first in range(second):
+                (one, i), (two, j) = places[first], places[second]
+                related = files[one][0] in below[files[two][0]]
+                begins = i == 0 or j == 0 or codes[one][i - 1] != codes[two][j - 1]
+                if related and begins and not (one == two and j - i < MOST):
+                    much = 0
+                    while i + much < len(codes[one]) and j + much < len(codes[two]) and codes[one][i + much] == codes[two][j + much]:
+                        much += 1
+                    yield str(files[one][1].relative_to(TOP)), lines[one][i][0], str(files[two][1].relative_to(TOP)), lines[two][j][0], much
+
+
+def allowed():
+    """What the list allows: of dead names a file and a name, of twins two files with their lines."""
+    dead, pairs = set(), {}
+    for line in (TOP / ALLOWED).read_text(encoding='utf-8').splitlines():
+        sort, *words = line.partition(': ')[0].split() or ['']
+        if sort == 'dead':
+            dead.update((words[0], name) for name in words[1:])
+        elif sort == 'twin':
+            pairs[(words[0], words[1])] = int(words[2])
+    return dead, pairs
+
+
+def main(words):
+    if set(words) - {'--all'}:
+        print(__doc__, file=sys.stderr)
+        return 2
+    repository, is_all = Repository(), '--all' in words
+    dead, runs = list(repository.dead()), sorted(twins(repository.crates))
+    much = collections.Counter()
+    for first, _, second, _, lines in runs:
+        much[(first, second)] += lines
+    allowed_dead, allowed_twins = allowed()
+    found = [f'{path}: nothing cites `{name}`' for path, name in dead if is_all or (path, name) not in allowed_dead]
+    found += [f'{first}:{i} and {second}:{j}: {lines} lines are the same' for first, i, second, j, lines in runs if is_all or much[(first, second)] > allowed_twins.get((first, second), 0)]
+    stale = [f'{ALLOWED}: {path} has no such name, or something cites it: {name}' for path, name in sorted(allowed_dead - {*dead})]
+    stale += [f'{ALLOWED}: {first} and {second} have no {lines} lines in common' for (first, second), lines in allowed_twins.items() if much[(first, second)] < lines]
+    print('\n'.join([*found, *stale, f'{len(dead)} names that nothing cites; {len(runs)} twins of {MOST} lines and more, {sum(much.values())} lines, in {len(much)} pairs of files']))
+    is_well = not stale and {*dead} <= allowed_dead and all(lines <= allowed_twins.get(it, 0) for it, lines in much.items())
+    return 0 if is_well else 1
+
+
+if __name__ == '__main__':
+    sys.exit(main(sys.argv[1:]))
