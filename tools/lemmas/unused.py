@@ -4,8 +4,8 @@
     python3 tools/lemmas/unused.py --all      # also what it allows
 
 A declaration is cited if its name is reached, by imports and names, from a source (contracts, `using(..)`), from the answers at the goals of a function,
-from an example (a statement without variables is one), or from a document or tool that names it. Of a type its constructors and fields count too. What cites only one another is cited by
-nothing. So a name that another declaration of the same file also has may hide one that is dead, and none is called dead that is needed.
+from an example (a statement without variables is one), or from a document or tool that names it. Of a type its constructors and fields count too. What
+only cites itself is cited by nothing. Names that a file has twice may hide one that is dead; none is called dead that is needed.
 
 Twins are runs of at least MOST lines that are equal but for blanks at their ends; comments, imports and empty lines aren't counted.
 
@@ -13,7 +13,7 @@ Twins are runs of at least MOST lines that are equal but for blanks at their end
 `twin FILE FILE LINES: reason`. A line there that allows more than there is is refused too, so the list only gets shorter.
 """
 import collections
-import pathlib
+import itertools
 import re
 import sys
 
@@ -190,6 +190,12 @@ def lines_of(path):
                 yield number, line
 
 
+def sources_of(crate):
+    """The crate's files that twins are looked for in."""
+    found = [it for part in ('src', 'specs', 'proofs') for it in sorted((TOP / 'crates' / crate / part).glob('**/*'))]
+    return [it for it in found if it.suffix in ('.rt', '.antt') and it.name != 'Lib.antt']
+
+
 def stands_on(crates):
     """Of each crate those that it stands on, itself included."""
     below = {line.partition(':')[0]: line.partition(':')[2].split() for line in (TOP / 'crates.txt').read_text().splitlines()}
@@ -199,26 +205,45 @@ def stands_on(crates):
     return found
 
 
-def twins(crates):
-    """The runs that stand twice: both files with the line where each begins, and how many lines it has."""
-    files = [(crate, path) for crate in crates for part in ('src', 'specs', 'proofs') for path in sorted((TOP / 'crates' / crate / part).glob('**/*')) if path.suffix in ('.rt', '.antt') and path.name != 'Lib.antt']
-    lines, below = [list(lines_of(path)) for _, path in files], stands_on(crates)
-    numbers, windows = {}, collections.defaultdict(list)
-    codes = [[numbers.setdefault(it, len(numbers)) for _, it in found] for found in lines]
-    for one, code in enumerate(codes):
-        for at in range(len(code) - MOST + 1):
-            windows[tuple(code[at:at + MOST])].append((one, at))
-    for places in windows.values():
-        for second in range(1, len(places)):
-            for first in range(second):
-                (one, i), (two, j) = places[first], places[second]
-                related = files[one][0] in below[files[two][0]]
-                begins = i == 0 or j == 0 or codes[one][i - 1] != codes[two][j - 1]
-                if related and begins and not (one == two and j - i < MOST):
-                    much = 0
-                    while i + much < len(codes[one]) and j + much < len(codes[two]) and codes[one][i + much] == codes[two][j + much]:
-                        much += 1
-                    yield str(files[one][1].relative_to(TOP)), lines[one][i][0], str(files[two][1].relative_to(TOP)), lines[two][j][0], much
+class Twins:
+    """The runs of lines that stand twice."""
+
+    def __init__(self, crates):
+        self.below = stands_on(crates)
+        self.files = [(crate, path) for crate in crates for path in sources_of(crate)]
+        self.lines = [list(lines_of(path)) for _, path in self.files]
+        numbers = {}
+        self.codes = [[numbers.setdefault(line, len(numbers)) for _, line in lines] for lines in self.lines]
+
+    def windows(self):
+        """Of each run of MOST lines the places where it stands: file and line, by their numbers."""
+        found = collections.defaultdict(list)
+        for file, codes in enumerate(self.codes):
+            for at in range(len(codes) - MOST + 1):
+                found[tuple(codes[at:at + MOST])].append((file, at))
+        return found.values()
+
+    def begins(self, first, second):
+        """Whether a twin begins at these two places: the lines before them differ, it doesn't overlap itself, and one crate sees the other."""
+        (one, i), (two, j) = first, second
+        differ = i == 0 or j == 0 or self.codes[one][i - 1] != self.codes[two][j - 1]
+        return differ and not (one == two and j - i < MOST) and self.files[one][0] in self.below[self.files[two][0]]
+
+    def length(self, first, second):
+        (one, i), (two, j) = first, second
+        pairs = zip(self.codes[one][i:], self.codes[two][j:])
+        return next((at for at, (a, b) in enumerate(pairs) if a != b), min(len(self.codes[one]) - i, len(self.codes[two]) - j))
+
+    def place(self, place):
+        file, at = place
+        return str(self.files[file][1].relative_to(TOP)), self.lines[file][at][0]
+
+    def all(self):
+        """Both files, each with the line where the run begins, and how many lines it has."""
+        for places in self.windows():
+            for first, second in itertools.combinations(places, 2):
+                if self.begins(first, second):
+                    yield *self.place(first), *self.place(second), self.length(first, second)
 
 
 def allowed():
@@ -238,7 +263,7 @@ def main(words):
         print(__doc__, file=sys.stderr)
         return 2
     repository, is_all = Repository(), '--all' in words
-    dead, runs = list(repository.dead()), sorted(twins(repository.crates))
+    dead, runs = list(repository.dead()), sorted(Twins(repository.crates).all())
     much = collections.Counter()
     for first, _, second, _, lines in runs:
         much[(first, second)] += lines
