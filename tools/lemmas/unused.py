@@ -4,8 +4,8 @@
     python3 tools/lemmas/unused.py --all      # also what it allows
 
 A declaration is cited if its name is reached, by imports and names, from a source (contracts, `using(..)`), from the answers at the goals of a function,
-from an example (a statement without variables is one), or from a document or tool that names it. Of a type its constructors and fields count too. What
-only cites itself is cited by nothing. Names that a file has twice may hide one that is dead; none is called dead that is needed.
+from an example (a statement without variables is one), or from a document or tool that names it. Of a type its constructors count too, of a record not its
+fields. What only cites itself is cited by nothing. Names that a file has twice may hide one that is dead; none is called dead that is needed.
 
 Twins are runs of at least MOST lines that are equal but for blanks at their ends; comments, imports and empty lines aren't counted.
 
@@ -65,7 +65,7 @@ class Module:
     def declared(self, line):
         head, signature = HEAD.match(line), SIGNATURE.match(line)
         if head:
-            self.types.add(head[2])
+            self.types.update([head[2]] if head[1] == 'data' else [])
             return head[2]
         if signature:
             if '≡' in line and '→' not in line:
