@@ -24,9 +24,9 @@ MOST = 8
 ALLOWED = 'tools/lemmas/allowed.txt'
 NAME = re.compile(r'[^\s(){}\[\],;.@"]+')
 IMPORT = re.compile(r'^\s*(pub )?(?:ghost )?use ([^\s;{]+?)(?:\.?\{([^}]*)\})?(?: as ([^\s;]+))?;?\s*$')
-CONTAINER = re.compile(r'(?:module\b.*|(?:abbrev )?mutual)')
+CONTAINER = re.compile(r'(?:module\b.*|(?:(?:abbrev|unfoldable) )?mutual)')
 HEAD = re.compile(r'(?:(?:pub|abbrev|unfoldable) )*(data|record|ruleset) (\S+)')
-SIGNATURE = re.compile(r'(?:(?:pub|abbrev|unfoldable) )*(\S+) : ')
+SIGNATURE = re.compile(r'(?:(?:pub|abbrev|unfoldable) )*(\S+)(?: \{[^}]*\})* : ')
 MEMBER = re.compile(r'\s+(?:pub )?((?:[^\s:(){}]+ )+): ')
 
 
