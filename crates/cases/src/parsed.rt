@@ -167,8 +167,8 @@ fn push_shown(
         "extra" => push_extra(alloc, program, parsed.grouping_pairs(), out),
         "rules" | "refused rule" | "rule on nodes" => push_rules(alloc, row, parsed, out),
         "alike" => push_alike(alloc, program, row.text(2), out),
-        "kept" => push_kept(alloc, program, row.text(1), row.text(2), out),
-        "reading" => push_reading(alloc, program, row.text(1), out),
+        "kept" => push_kept(alloc, parsed, row.text(1), row.text(2), out),
+        "reading" => push_reading(alloc, parsed, row.text(1), out),
         _ => push_printed(alloc, row, parsed, out),
     }
 }

@@ -36,7 +36,7 @@ use Rattle.rules.specs.Lines.{report_lines, report_status}
 use Rattle.cost_certificate.specs.Forms.{IsTable, IsBadLine, short, table_text}
 use Rattle.cost_certificate.specs.Faults.{first_fault}
 use Rattle.lint.specs.Fixes.{Fixes}
-use Rattle.lint.specs.Unwraps.{Unwraps, IsUnwrapped}
+use Rattle.lint.specs.Unwraps.{Unwraps, IsUnwrapped, RefusesScript}
 
 -- ---- check
 
@@ -130,10 +130,10 @@ IsOutput finds Unwrap text n P second output status = Unwraps text output × IsU
 IsOutput finds Cost text n P second output status = Costs n output × (status ≡ 0)
 IsOutput finds Verify text n P second output status = Verifies n P second output × (status ≡ 0)
 
--- why a command refuses a script that was read: its second file is refused, or the unwrapped text has no room or doesn't compare
-abbrev pub CommandRefuses : Command → SyntaxTree → List ℕ → Fault → Type 0
-CommandRefuses command n second BadSettings = (command ≡ Check) × RefusesSettings second
-CommandRefuses command n second (BadTable row why) = (command ≡ Verify) × RefusesTable n second row why
-CommandRefuses command n second TooLong = command ≡ Unwrap
-CommandRefuses command n second UnwrapFailed = command ≡ Unwrap
-CommandRefuses command n second fault = ⊥
+-- why a command refuses a script that was read: its second file is refused, or it isn't unwrapped
+abbrev pub CommandRefuses : Command → List ℕ → SyntaxTree → List Pair → List ℕ → Fault → Type 0
+CommandRefuses command text n P second BadSettings = (command ≡ Check) × RefusesSettings second
+CommandRefuses command text n P second (BadTable row why) = (command ≡ Verify) × RefusesTable n second row why
+CommandRefuses command text n P second TooLong = (command ≡ Unwrap) × RefusesScript text n P TooLong
+CommandRefuses command text n P second UnwrapFailed = (command ≡ Unwrap) × RefusesScript text n P UnwrapFailed
+CommandRefuses command text n P second fault = ⊥

@@ -89,7 +89,7 @@ FailsToRead command seen =
 
 -- a script that was read is refused by its command, for its second file or for what it would write
 abbrev pub RefusesAfter : Command → Seen → Fault → Type 0
-RefusesAfter command seen fault = (read : ReadsBoth command seen.given seen.second) × CommandRefuses command read.script.tree read.second fault
+RefusesAfter command seen fault = (read : ReadsBoth command seen.given seen.second) × CommandRefuses command read.script.text read.script.tree read.script.pairs read.second fault
 
 -- the text of the first file is refused, at this place
 abbrev pub RefusesFirst : Seen → Fault → ℕ × ℕ → Type 0

@@ -81,7 +81,7 @@ Answers finds command text n P given (Ok answer) failed =
     (failed ≡ false) × ((second : List ℕ) × IsSecond command given second × IsOutput finds command text n P second (output_of answer) (status_of answer))
 Answers finds command text n P given (Err ReadFailed) failed = (failed ≡ true) × IsSome (second_limit command)
 Answers finds command text n P given (Err OutOfMemory) failed = failed ≡ false
-Answers finds command text n P given (Err fault) failed = (failed ≡ false) × ((second : List ℕ) × IsSecond command given second × CommandRefuses command n second fault)
+Answers finds command text n P given (Err fault) failed = (failed ≡ false) × ((second : List ℕ) × IsSecond command given second × CommandRefuses command text n P second fault)
 
 -- the same of a command that reads no second file
 abbrev pub AnswersAlone : Command → List ℕ → SyntaxTree → List Pair → Result Answer Fault → Type 0

@@ -1,18 +1,21 @@
 -- What unwrapping a script promises.
-use Rattle.std.specs.Prelude.{◌≡◌, ℕ, List, length, Option, Some, None, String, string_bytes}
+use Rattle.std.specs.Prelude.{◌≡◌, ◌<◌, ◌+◌, ◌*◌, ℕ, List, length, Option, Some, None, String, string_bytes}
 use Rattle.std.specs.Str.{IsUtf8}
+use Rattle.source_text.specs.Source.{max_bytes}
 use Rattle.source_text.specs.declared.fault.Fault.{Fault}
 use Rattle.source_text.specs.declared.fault.Fault.TheVariants.{TooLong, OutOfMemory, UnwrapFailed}
 use Rattle.tree.specs.Tree.{Tree, SameTree}
 use Rattle.tree.specs.declared.kind.Pair.{Pair}
+use Rattle.language.specs.Pieces.{script}
+use Rattle.language.specs.Cost.{least}
 use Rattle.language.specs.Claims.{WithinLimits, Fewest}
 use Rattle.early_errors.specs.Accepted.{Accepted}
 use Rattle.unwrapping.specs.Keeps.{Keeps}
 use Rattle.lint.specs.ReadScripts.{IsOnly, RefusesReading}
 
 -- The text is accepted with a tree, and derives no other. So is the unwrapped text, with the same tree, places aside; no text that derives
--- that tree has fewer grouping pairs. It keeps the comments and the tokens of the text, but for parentheses. Where the text has no more
--- pairs, the unwrapped text is the text itself.
+-- that tree has fewer grouping pairs. It keeps the tokens of the text but for grouping parentheses, each with the comments before it, and the
+-- bytes between tokens where no parenthesis goes or comes. Where the text has no more pairs, the unwrapped text is the text itself.
 pub record Unwraps (text unwrapped : List ℕ) : Type 0 where
   pub tree : Tree
   pub pairs : List Pair
@@ -24,7 +27,7 @@ pub record Unwraps (text unwrapped : List ℕ) : Type 0 where
   pub accepted_again : Accepted unwrapped again pairs_again
   pub only_again : IsOnly unwrapped again pairs_again
   pub fewest : Fewest tree (length pairs_again)
-  pub kept : Keeps text tree unwrapped again
+  pub kept : Keeps text tree pairs unwrapped again pairs_again
   pub untouched : length pairs ≡ length pairs_again → unwrapped ≡ text
 
 -- the unwrapped text: the one that was made, or the text itself where none was
@@ -36,34 +39,48 @@ unwrapped_text text None = text
 abbrev pub IsUnwrapped : List ℕ → Type 0
 IsUnwrapped unwrapped = (again : List ℕ) → Unwraps unwrapped again → again ≡ unwrapped
 
--- an unwrapped text within the limits has the tree of a text, places aside, so many grouping pairs, and keeps the text's tokens and comments
-pub record SpellsWith (text unwrapped : List ℕ) (n : Tree) (count : ℕ) : Type 0 where
+-- an unwrapped text within the limits has the tree of a text, places aside, and so many grouping pairs, and keeps the text's tokens and what stands
+-- between them
+pub record SpellsWith (text unwrapped : List ℕ) (n : Tree) (P : List Pair) (count : ℕ) : Type 0 where
   pub again : Tree
   pub pairs : List Pair
   pub source : IsUtf8 unwrapped
   pub derived : WithinLimits unwrapped again pairs
-  pub kept : Keeps text n unwrapped again
+  pub kept : Keeps text n P unwrapped again pairs
   pub same : SameTree again n
   pub counted : length pairs ≡ count
 
--- some tree is accepted
-abbrev pub IsAccepted : List ℕ → Type 0
-IsAccepted text = (n : Tree) × (P : List Pair) × Accepted text n P
+-- the script has more grouping pairs than the fewest
+abbrev pub HasMorePairs : Tree → List Pair → Type 0
+HasMorePairs n P = Some (length P) ≡ least n script → ⊥
 
--- there is no room for a text: no memory, or it is longer than a source text may be
-abbrev pub HasNoRoom : Fault → Type 0
-HasNoRoom TooLong = Unit {0}
-HasNoRoom OutOfMemory = Unit {0}
-HasNoRoom _ = ⊥
+-- The text is so long, and has so many grouping pairs, that the unwrapped text may be longer than a source text may be: where a pair goes, a
+-- comment may move to a line of its own, with the indentation of another line before it.
+abbrev pub MayOutgrow : List ℕ → List Pair → Type 0
+MayOutgrow text P = max_bytes < length text * (length P + 6)
 
--- there is no room for the unwrapped text, or it doesn't compare
-abbrev pub IsUnfit : Fault → Type 0
-IsUnfit UnwrapFailed = Unit {0}
-IsUnfit fault = HasNoRoom fault
+-- why no unwrapped text was made: it is too long, there is no memory, or what was made doesn't compare
+abbrev pub IsUnfit : List ℕ → List Pair → Fault → Type 0
+IsUnfit text P TooLong = MayOutgrow text P
+IsUnfit text P UnwrapFailed = Unit {0}
+IsUnfit text P OutOfMemory = Unit {0}
+IsUnfit text P _ = ⊥
 
--- A text that is refused is no script, as when it is read. A script is refused where memory is refused, where the unwrapped text is too
--- long, or where what was made of it isn't the same script with the fewest pairs: that this never happens is tested, not proved.
+-- why a script isn't unwrapped
+abbrev pub RefusesScript : List ℕ → Tree → List Pair → Fault → Type 0
+RefusesScript text n P TooLong = HasMorePairs n P × MayOutgrow text P
+RefusesScript text n P UnwrapFailed = HasMorePairs n P
+RefusesScript text n P OutOfMemory = Unit {0}
+RefusesScript text n P _ = ⊥
+
+-- a script is refused, with its tree and its pairs
+abbrev pub RefusesAccepted : List ℕ → Fault → Type 0
+RefusesAccepted text fault = (n : Tree) × (P : List Pair) × Accepted text n P × RefusesScript text n P fault
+
+-- A text that is refused is no script, as when it is read. A script is refused where memory is refused; or it has more pairs than the fewest, and
+-- its unwrapped text is too long, or what was made of it isn't the same script with the fewest pairs: that this never happens is tested, not
+-- proved.
 abbrev pub RefusesUnwrapping : List ℕ → Fault → Type 0
-RefusesUnwrapping text TooLong = IsAccepted text
-RefusesUnwrapping text UnwrapFailed = IsAccepted text
+RefusesUnwrapping text TooLong = RefusesAccepted text TooLong
+RefusesUnwrapping text UnwrapFailed = RefusesAccepted text UnwrapFailed
 RefusesUnwrapping text fault = RefusesReading text fault

@@ -1,18 +1,16 @@
 //! Unwrapping a script: its text without its unnecessary pairs, tokens and comments kept.
 
-ghost use Rattle.std.specs.Prelude.{IfErr, IfOk, ◌≡◌, ◌≤◌, Some, true, length, string_bytes};
-ghost use Rattle.language.specs.Pieces.{script};
-ghost use Rattle.language.specs.Cost.{least};
+ghost use Rattle.std.specs.Prelude.{IfErr, IfOk, ◌≡◌, ◌≤◌, true, length, string_bytes};
 ghost use Rattle.unwrapping.specs.Readings.{IsRead};
 ghost use Rattle.lint.specs.ReadScripts.{IsReading};
-ghost use Rattle.lint.specs.Unwraps.{Unwraps, IsUnwrapped, HasNoRoom, IsUnfit, RefusesUnwrapping, SpellsWith, unwrapped_text};
+ghost use Rattle.lint.specs.Unwraps.{Unwraps, IsUnwrapped, IsUnfit, MayOutgrow, RefusesScript, RefusesUnwrapping, SpellsWith, unwrapped_text};
 
 use crate::script_reader::read_script;
 use paren_planner::{Plan, fewest_by_pairs, plan};
 use parser::{Parsed, parse};
-use source_text::{Fault, Source};
+use source_text::{Fault, MAX_BYTES, Source};
 use std::alloc::{AllocError, Global};
-use tree::{Program, same_tree};
+use tree::{Pair, Program, same_tree};
 use unwrapping::{PlannedScript, TreeReading, keeps, tree_reading, unwrapped};
 
 /// What a script's unwrapped text is compared with.
@@ -21,23 +19,42 @@ struct Original<'o, 's> {
     source: &'o Source<'s>,
     reading: &'o TreeReading,
     program: &'o Program<'s>,
+    pairs: &'o [Pair],
     /// The fewest pairs.
     count: usize,
+}
+
+/// Whether a script has so many bytes and pairs that its unwrapped text may be longer than a source text may be.
+fn may_outgrow(source: &Source<'_>, pairs: &[Pair]) -> bool
+    ensures { result ≡ true → MayOutgrow source.now pairs.now }
+{
+    let bytes = source.bytes().len();
+    bytes.saturating_mul(pairs.len().saturating_add(6)) > MAX_BYTES
+}
+
+/// Why a text that is longer than a source text may be can't be the unwrapped text.
+fn too_long(source: &Source<'_>, pairs: &[Pair]) -> Fault
+    ensures { IsUnfit source.now pairs.now result }
+{
+    match may_outgrow(source, pairs) {
+        true => Fault::TooLong,
+        false => Fault::UnwrapFailed,
+    }
 }
 
 /// Whether bytes are a script within the limits with the same tree and so many pairs, which keeps the tokens and the comments.
 ///
 /// # Errors
 ///
-/// `TooLong` and `OutOfMemory`.
+/// `TooLong` and `UnwrapFailed` where the bytes are longer than a source text may be; `OutOfMemory`.
 fn spells(alloc: Global, bytes: &[u8], original: Original<'_, '_>) -> Result<bool, Fault>
-    requires { IsRead original.source.now original.program.now original.reading.now }
-    ensures spells { IfOk result (λ spells. spells ≡ true → SpellsWith original.entry.source.now bytes.now original.entry.program.now original.entry.count) }
-    ensures room { IfErr result HasNoRoom }
+    requires { IsRead original.source.now original.program.now original.pairs.now original.reading.now }
+    ensures spells { IfOk result (λ spells. spells ≡ true → SpellsWith original.entry.source.now bytes.now original.entry.program.now original.entry.pairs.now original.entry.count) }
+    ensures refused { IfErr result (IsUnfit original.entry.source.now original.entry.pairs.now) }
 {
     let source = match Source::new(bytes) {
         Ok(source) => source,
-        Err(Fault::TooLong) => return Err(Fault::TooLong),
+        Err(Fault::TooLong) => return Err(too_long(original.source, original.pairs)),
         Err(_) => return Ok(false),
     };
     let again = match parse(alloc, &source) {
@@ -56,6 +73,7 @@ fn spells(alloc: Global, bytes: &[u8], original: Original<'_, '_>) -> Result<boo
         original.reading,
         &source,
         again.program(),
+        again.grouping_pairs(),
     ) {
         Ok(keeps) => Ok(keeps),
         Err(AllocError) => Err(Fault::OutOfMemory),
@@ -69,9 +87,9 @@ fn spells(alloc: Global, bytes: &[u8], original: Original<'_, '_>) -> Result<boo
 ///
 /// `UnwrapFailed` where they aren't; `TooLong` and `OutOfMemory`.
 fn validated(alloc: Global, bytes: Vec<u8>, original: Original<'_, '_>) -> Result<String, Fault>
-    requires { IsRead original.source.now original.program.now original.reading.now }
-    ensures spells { IfOk result (λ text. SpellsWith original.entry.source.now (string_bytes text) original.entry.program.now original.entry.count) }
-    ensures refused { IfErr result IsUnfit }
+    requires { IsRead original.source.now original.program.now original.pairs.now original.reading.now }
+    ensures spells { IfOk result (λ text. SpellsWith original.entry.source.now (string_bytes text) original.entry.program.now original.entry.pairs.now original.entry.count) }
+    ensures refused { IfErr result (IsUnfit original.entry.source.now original.entry.pairs.now) }
 {
     match spells(alloc, &bytes, original) {
         Ok(true) => {}
@@ -92,12 +110,12 @@ fn validated(alloc: Global, bytes: Vec<u8>, original: Original<'_, '_>) -> Resul
 fn read_by_tree(
     alloc: Global,
     source: &Source<'_>,
-    program: &Program<'_>,
+    parsed: &Parsed<'_>,
 ) -> Result<TreeReading, Fault>
-    ensures read { IfOk result (IsRead source.now program.now) }
-    ensures refused { IfErr result IsUnfit }
+    ensures read { IfOk result (IsRead source.now parsed.now.program parsed.now.pairs.items) }
+    ensures refused { IfErr result (IsUnfit source.now parsed.now.pairs.items) }
 {
-    match tree_reading(alloc, source, program) {
+    match tree_reading(alloc, source, parsed.program(), parsed.grouping_pairs()) {
         Ok(Some(reading)) => Ok(reading),
         Ok(None) => Err(Fault::UnwrapFailed),
         Err(AllocError) => Err(Fault::OutOfMemory),
@@ -112,23 +130,25 @@ fn unwrap_read(
     parsed: &Parsed<'_>,
     plan: &Plan,
 ) -> Result<String, Fault>
-    requires { IsRead source.now parsed.now.program reading.now }
-    ensures spells { IfOk result (λ text. SpellsWith source.now (string_bytes text) parsed.now.program plan.now.table.total) }
-    ensures refused { IfErr result IsUnfit }
+    requires { IsRead source.now parsed.now.program parsed.now.pairs.items reading.now }
+    ensures spells { IfOk result (λ text. SpellsWith source.now (string_bytes text) parsed.now.program parsed.now.pairs.items plan.now.table.total) }
+    ensures refused { IfErr result (IsUnfit source.now parsed.now.pairs.items) }
 {
     let program = parsed.program();
+    let pairs = parsed.grouping_pairs();
     let count = plan.total() as usize;
     let original = Original {
         source,
         reading,
         program,
+        pairs,
         count,
     };
     let script = PlannedScript {
         source,
         reading,
         program,
-        pairs: parsed.grouping_pairs(),
+        pairs,
         table: plan.table(),
     };
     match unwrapped(alloc, script) {
@@ -138,39 +158,18 @@ fn unwrap_read(
 }
 
 /// The same, with what is read of the text first.
-fn unwrap_more(
+fn unwrap_planned(
     alloc: Global,
     source: &Source<'_>,
     parsed: &Parsed<'_>,
     plan: &Plan,
 ) -> Result<String, Fault>
-    ensures spells { IfOk result (λ text. SpellsWith source.now (string_bytes text) parsed.now.program plan.now.table.total) }
-    ensures refused { IfErr result IsUnfit }
+    ensures spells { IfOk result (λ text. SpellsWith source.now (string_bytes text) parsed.now.program parsed.now.pairs.items plan.now.table.total) }
+    ensures refused { IfErr result (IsUnfit source.now parsed.now.pairs.items) }
 {
-    match read_by_tree(alloc, source, parsed.program()) {
+    match read_by_tree(alloc, source, parsed) {
         Ok(reading) => unwrap_read(alloc, source, &reading, parsed, plan),
         Err(fault) => Err(fault),
-    }
-}
-
-/// The same, with a plan first.
-fn unwrap_planned(
-    alloc: Global,
-    source: &Source<'_>,
-    parsed: &Parsed<'_>,
-) -> Result<Option<String>, Fault>
-    requires reading { IsReading source.now parsed.now.program parsed.now.pairs.items }
-    requires small { length source.now ≤ 16777216 }
-    requires more { Some (length parsed.now.pairs.items) ≡ least parsed.now.program script → ⊥ }
-    ensures unwrapped { IfOk result (λ made. Unwraps source.now (unwrapped_text source.now made)) }
-    ensures refused { IfErr result IsUnfit }
-{
-    match plan(alloc, parsed.program()) {
-        Ok(plan) => match unwrap_more(alloc, source, parsed, &plan) {
-            Ok(text) => Ok(Some(text)),
-            Err(fault) => Err(fault),
-        },
-        Err(AllocError) => Err(Fault::OutOfMemory),
     }
 }
 
@@ -188,38 +187,50 @@ pub(crate) fn unwrap_script(
     requires reading { IsReading source.now parsed.now.program parsed.now.pairs.items }
     requires small { length source.now ≤ 16777216 }
     ensures unwrapped { IfOk result (λ made. Unwraps source.now (unwrapped_text source.now made)) }
-    ensures refused { IfErr result IsUnfit }
+    ensures refused { IfErr result (RefusesScript source.now parsed.now.program parsed.now.pairs.items) }
 {
     let pairs = parsed.grouping_pairs();
-    match fewest_by_pairs(alloc, parsed.program(), pairs) {
-        Ok(fewest) if pairs.len() == fewest as usize => Ok(None),
-        Ok(_) => unwrap_planned(alloc, source, parsed),
-        Err(AllocError) => Err(Fault::OutOfMemory),
+    let fewest = match fewest_by_pairs(alloc, parsed.program(), pairs) {
+        Ok(fewest) => fewest,
+        Err(AllocError) => return Err(Fault::OutOfMemory),
+    };
+    if pairs.len() == fewest as usize {
+        return Ok(None);
+    }
+    let plan = match plan(alloc, parsed.program()) {
+        Ok(plan) => plan,
+        Err(AllocError) => return Err(Fault::OutOfMemory),
+    };
+    match unwrap_planned(alloc, source, parsed, &plan) {
+        Ok(text) => Ok(Some(text)),
+        Err(fault) => Err(fault),
     }
 }
 
 /// The text that was made, or the script's own where none was.
-fn made_or_own(alloc: Global, source: &Source<'_>, made: Option<String>) -> Result<String, Fault>
-    ensures text { IfOk result (λ text. string_bytes text ≡ unwrapped_text source.now made) }
-    ensures refused { IfErr result IsUnfit }
+fn made_or_own(
+    alloc: Global,
+    source: &Source<'_>,
+    made: Option<String>,
+) -> Result<String, AllocError>
+    ensures { IfOk result (λ text. string_bytes text ≡ unwrapped_text source.now made) }
 {
     if let Some(text) = made {
         return Ok(text);
     }
-    match String::from_str(alloc, source.text()) {
-        Ok(text) => Ok(text),
-        Err(AllocError) => Err(Fault::OutOfMemory),
-    }
+    String::from_str(alloc, source.text())
 }
 
-/// The text of a script as it stands, without its unnecessary pairs; comments stay. What is made of the text is read again before it is
-/// answered, and compared: it has the same tree, and as few pairs as any text with that tree, and each comment and each token
-/// that is no parenthesis, in order. A text that has no more pairs is answered as it is.
+/// The text of a script as it stands, without its unnecessary pairs. What is made of the text is read again before it is answered, and
+/// compared: it has the same tree, and as few pairs as any text with that tree, and each token but grouping parentheses, in order, with the
+/// same comments before it. Where no parenthesis goes or comes the bytes between tokens stay. A text that has no more pairs is answered as
+/// it is.
 ///
 /// # Errors
 ///
-/// What `read_script` answers of a text that is no script; `OutOfMemory`; `TooLong` where the unwrapped text is longer than a source text
-/// may be; and `UnwrapFailed` where it doesn't compare: no such text is known.
+/// What `read_script` answers of a text that is no script; `OutOfMemory`. Of a script with more pairs than the fewest: `TooLong` where the
+/// unwrapped text is longer than a source text may be, and its bytes, multiplied by its pairs and six, are more than that; and
+/// `UnwrapFailed` where it doesn't compare: no such text is known.
 pub fn unwrap_text(alloc: Global, source: &Source<'_>) -> Result<String, Fault>
     ensures unwrapped { IfOk result (λ text. Unwraps source.now (string_bytes text)) }
     ensures stable { IfOk result (λ text. IsUnwrapped (string_bytes text)) }
@@ -229,8 +240,12 @@ pub fn unwrap_text(alloc: Global, source: &Source<'_>) -> Result<String, Fault>
         Ok(parsed) => parsed,
         Err(refusal) => return Err(refusal),
     };
-    match unwrap_script(alloc, source, &parsed) {
-        Ok(made) => made_or_own(alloc, source, made),
-        Err(fault) => Err(fault),
+    let made = match unwrap_script(alloc, source, &parsed) {
+        Ok(made) => made,
+        Err(fault) => return Err(fault),
+    };
+    match made_or_own(alloc, source, made) {
+        Ok(text) => Ok(text),
+        Err(AllocError) => Err(Fault::OutOfMemory),
     }
 }

@@ -2,6 +2,6 @@ pub mod OneReading
 pub mod CommentSteps
 pub mod NoteSteps
 pub mod ReadSteps
-pub mod KeptSteps
+pub mod CompareSteps
 pub mod FirstRows
 mod KeepsExamples

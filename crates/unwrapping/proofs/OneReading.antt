@@ -1,6 +1,7 @@
--- A text has at most one reading by the goals of a tree, with the same comments between its tokens.
+-- A text has at most one reading by the goals of a tree, with the same bytes and comments between its tokens.
 use Rattle.std.proofs.Common.{◌≡◌, ℕ, ◌+◌, Bool, true, false, not, ◌||◌, List, [], ◌∷◌, ◌++◌, IsTrue, refl, sym, ap, ◌∙◌, subst, append_assoc}
 use Rattle.std.specs.Prelude.{encode_utf8_all}
+use Rattle.std.specs.List.{list_any}
 use Rattle.std.proofs.lemmas.Bool.{false≢true}
 use Rattle.std.proofs.lemmas.List.{append_cancel_left}
 use Rattle.source_text.specs.Lines.{is_line_terminator}
@@ -13,7 +14,7 @@ use Rattle.tokens.proofs.TriviaSteps.{begins_slash}
 use Rattle.tokens.proofs.TokenUniqueness.{comment_same, gap_same, token_solid, determined}
 use Rattle.tree.specs.Tree.{Tree}
 use Rattle.reading_laws.specs.TreeReadings.{tree_goal, IsTreeReading, last, more}
-use Rattle.unwrapping.specs.Keeps.{comments, all_comments}
+use Rattle.unwrapping.specs.Keeps.{comments, SpacedToken, spaced_tokens}
 
 nil_cons : (c : ℕ) (cs : List ℕ) → [] ≡ c ∷ cs → ⊥
 nil_cons c cs e = cc
@@ -50,7 +51,7 @@ comments_same {r = r} {s = s} (comment body behind q x t) (comment other followi
     let bodies : body ≡ other = comment_same body other (behind ++ r) (following ++ s) x y whole in
     let rests : behind ≡ following = append_cancel_left body behind following (gaps ∙ ap (λ w. w ++ following) (sym bodies)) in
     let others = comments_same t u rests f in
-    (λ i. encode_utf8_all (bodies i) ∷ others i)
+    (λ i. record { bytes = encode_utf8_all (bodies i); has_line_end = list_any is_line_terminator (bodies i) } ∷ others i)
 
 -- two tokens that are read from one place on: the gap before both is the same, and what stands after it
 pub record SameFront {g h : Goal} {at bt : ℕ} {cs ds ra rb : List ℕ} {a b : LexicalToken} (x : IsTokenAt g at cs a ra) (y : IsTokenAt h bt ds b rb) : Type 0 where
@@ -78,11 +79,11 @@ both true h k = false≢true k
 both false h k = false≢true h
 
 -- two readings of one text by one tree
-pub same_readings : (n : Tree) {at bt : ℕ} {cs ds : List ℕ} {a b : List LexicalToken} (r : IsTreeReading n at cs a) (s : IsTreeReading n bt ds b) → at ≡ bt → cs ≡ ds →
-    (a ≡ b) × (all_comments r ≡ all_comments s)
+pub same_readings : (n : Tree) {at bt : ℕ} {cs ds : List ℕ} {a b : List LexicalToken} (r : IsTreeReading n at cs a) (s : IsTreeReading n bt ds b) → at ≡ bt → cs ≡ ds → spaced_tokens r ≡ spaced_tokens s
 same_readings n (last x e) (last y f) p q =
     let front = same_front x y p q in
-    (ap (λ t. t ∷ []) (one_token n x y front.start p q).0, front.comments)
+    let same = (one_token n x y front.start p q).0 in
+    (λ i. record { token = same i; gap = encode_utf8_all (front.gaps i); comments = front.comments i } ∷ [])
 same_readings n (last {token = a} x e) (more {token = b} y f d) p q =
     absurd (both (is_end b.class) (subst (λ t. IsTrue (is_end t.class)) (one_token n x y (same_front x y p q).start p q).0 e) f)
 same_readings n (more {token = a} x e c) (last {token = b} y f) p q =
@@ -92,4 +93,4 @@ same_readings n (more {token = a} x e c) (more {token = b} y f d) p q =
     let same = one_token n x y front.start p q in
     let stop : a.stop ≡ b.stop = ap (λ (t : LexicalToken). t.stop) same.0 in
     let others = same_readings n c d stop same.1 in
-    ((λ i. same.0 i ∷ others.0 i), (λ i. front.comments i ++ others.1 i))
+    (λ i. record { token = same.0 i; gap = encode_utf8_all (front.gaps i); comments = front.comments i } ∷ others i)

@@ -1,6 +1,6 @@
 -- The turns of the loop that reads a text by its tree.
 use Rattle.std.proofs.Common.{◌≡◌, ℕ, ◌+◌, ◌<◌, ◌≤◌, Bool, true, false, not, ◌&&◌, List, [], ◌∷◌, ◌++◌, length, map, drop, IsTrue, refl, sym, ap, ◌∙◌, subst, append_assoc, append-nil, arith}
-use Rattle.std.specs.Prelude.{encode_utf8_all}
+use Rattle.std.specs.Prelude.{encode_utf8_all, slice_range}
 use Rattle.std.specs.Str.{chars, IsUtf8}
 use Rattle.std.specs.Char.{encode_utf8, len_utf8}
 use Rattle.std.proofs.lemmas.Bool.Decides.{nat_tests}
@@ -16,15 +16,16 @@ use Rattle.tokens.specs.Lexical.{is_of, may_stand, none_longer, ends_well, is_to
 use Rattle.tokens.specs.Tokens.{LexicalToken, IsTokenAt, is_end, size}
 use Rattle.tokens.specs.Reading.{behind, Reads}
 use Rattle.tokens.specs.Scanned.{Passed}
-use Rattle.tokens.proofs.PassedCharacters.{size_append, size_one, passed_none, passed_on, pass_char}
+use Rattle.tokens.proofs.PassedCharacters.{size_append, size_one, passed_none, passed_on, passed_slice, pass_char}
 use Rattle.tokens.proofs.TriviaSteps.{nil_only}
 use Rattle.tree.specs.Tree.{Tree}
+use Rattle.tree.specs.declared.kind.Pair.{Pair}
 use Rattle.reading_laws.specs.TreeReadings.{tree_goal, IsTreeReading, last, more}
-use Rattle.unwrapping.specs.declared.reading.ByteSpan.{ByteSpan}
+use Rattle.unwrapping.specs.declared.comment.CommentRow.{CommentRow}
 use Rattle.unwrapping.specs.declared.reading.TokenRow.{TokenRow}
 use Rattle.unwrapping.specs.declared.reading.TreeReading.{TreeReading}
-use Rattle.unwrapping.specs.Keeps.{comments, all_comments}
-use Rattle.unwrapping.specs.Readings.{bytes_in, IsRow, AreRows, none, one, IsRead}
+use Rattle.unwrapping.specs.Keeps.{comments, SpacedToken, spaced_tokens, is_grouping}
+use Rattle.unwrapping.specs.Readings.{bytes_in, comments_in, SaysComments, IsRow, AreRows, none, one, IsRead}
 use Rattle.unwrapping.proofs.OneReading.{comments_same}
 use Rattle.unwrapping.proofs.CommentSteps.{size_cons}
 
@@ -50,54 +51,60 @@ pub after_gap : (text : List ℕ) (goal : Goal) (at : ℕ) (t : LexicalToken) (r
 after_gap text goal at t rest u p x =
     append_cancel_left x.gap (x.word ++ rest) (behind text t.start) (sym (append_assoc x.gap x.word rest) ∙ sym x.split ∙ (gap_passed text goal at t rest u p x).split)
 
--- whatever separators stand between two places, these are their comments
-abbrev pub SaysComments : List ℕ → ℕ → ℕ → List ByteSpan → List ByteSpan → Type 0
-SaysComments text at stop old new = (gap : List ℕ) → Passed text at stop gap → (separated : Separators gap (behind text stop)) → map (bytes_in text) new ≡ map (bytes_in text) old ++ comments separated
+-- a token, with what stands before it
+abbrev pub spaced : {goal : Goal} {at : ℕ} {cs rest : List ℕ} (t : LexicalToken) → IsTokenAt goal at cs t rest → SpacedToken
+spaced t x = record { token = t; gap = encode_utf8_all x.gap; comments = comments x.separated }
 
-pub token_comments : (text : List ℕ) (goal : Goal) (at : ℕ) (t : LexicalToken) (rest : List ℕ) (old new : List ByteSpan) → IsUtf8 text → IsPlace text at → (x : IsTokenAt goal at (behind text at) t rest) →
-    SaysComments text at t.start old new → map (bytes_in text) new ≡ map (bytes_in text) old ++ comments x.separated
+token_comments : (text : List ℕ) (goal : Goal) (at : ℕ) (t : LexicalToken) (rest : List ℕ) (old new : List CommentRow) → IsUtf8 text → IsPlace text at → (x : IsTokenAt goal at (behind text at) t rest) →
+    SaysComments text at t.start old new → comments_in text new ≡ comments_in text old ++ comments x.separated
 token_comments text goal at t rest old new u p x says =
     let e = after_gap text goal at t rest u p x in
     let there : Separators x.gap (behind text t.start) = subst (Separators x.gap) e x.separated in
-    says x.gap (gap_passed text goal at t rest u p x) there ∙ ap (λ c. map (bytes_in text) old ++ c) (comments_same there x.separated refl (sym e))
+    says x.gap (gap_passed text goal at t rest u p x) there ∙ ap (λ c. comments_in text old ++ c) (comments_same there x.separated refl (sym e))
+
+-- the row of a token that is read from a place on
+pub row_of_token : (text : List ℕ) (pairs : List Pair) (goal : Goal) (at : ℕ) (t : LexicalToken) (rest : List ℕ) (row : TokenRow) → IsUtf8 text → IsPlace text at → (x : IsTokenAt goal at (behind text at) t rest) →
+    row.class ≡ t.class → t.text ≡ bytes_in text row.span → row.span.start ≡ t.start → (row.is_grouping ≡ true → IsTrue (is_grouping pairs t)) → IsRow text pairs at row (spaced t x)
+row_of_token text pairs goal at t rest row u p x class bytes start grouping =
+    record {
+      class = class;
+      bytes = bytes;
+      grouping = grouping;
+      gap = passed_slice text at t.start x.gap u p (gap_passed text goal at t rest u p x) ∙ ap (λ i. slice_range text at i) (sym start);
+      comments = λ old new says. token_comments text goal at t rest old new u p x (subst (λ i. SaysComments text at i old new) start says);
+    }
 
 -- ---- the reading so far
 
-pub record IsWhole (n : Tree) (text : List ℕ) (tokens others : List LexicalToken) (said rest : List (List ℕ)) : Type 0 where
-  pub all : List LexicalToken
-  pub same : all ≡ tokens ++ others
-  pub reading : IsTreeReading n 0 (chars text) all
-  pub comments : all_comments reading ≡ said ++ rest
-
--- rows have the tokens up to a place, and spans the comments: with whatever is read from there on they are the reading of the tree
-pub record IsReadTo (text : List ℕ) (n : Tree) (at : ℕ) (rows : List TokenRow) (spans : List ByteSpan) : Type 0 where
+pub record IsWhole (n : Tree) (text : List ℕ) (before after : List SpacedToken) : Type 0 where
   pub tokens : List LexicalToken
-  pub hold : AreRows text rows tokens
-  pub goes_on : (others : List LexicalToken) (r : IsTreeReading n at (behind text at) others) → IsWhole n text tokens others (map (bytes_in text) spans) (all_comments r)
+  pub reading : IsTreeReading n 0 (chars text) tokens
+  pub same : spaced_tokens reading ≡ before ++ after
 
-pub begins_reading : (text : List ℕ) (n : Tree) → IsReadTo text n 0 [] []
-begins_reading text n = record { tokens = []; hold = none; goes_on = λ others r. record { all = others; same = refl; reading = r; comments = refl } }
+-- rows have the tokens up to a place: with whatever is read from there on they are the reading of the tree
+pub record IsReadTo (text : List ℕ) (n : Tree) (pairs : List Pair) (at : ℕ) (rows : List TokenRow) : Type 0 where
+  pub tokens : List SpacedToken
+  pub hold : AreRows text pairs 0 rows tokens at
+  pub goes_on : (others : List LexicalToken) (r : IsTreeReading n at (behind text at) others) → IsWhole n text tokens (spaced_tokens r)
 
-rows_on : (text : List ℕ) (rows : List TokenRow) (tokens : List LexicalToken) (row : TokenRow) (token : LexicalToken) → AreRows text rows tokens → IsRow text row token → AreRows text (rows ++ row ∷ []) (tokens ++ token ∷ [])
-rows_on text rows tokens row token none is = one is none
-rows_on text rows tokens row token (one h others) is = one h (rows_on text _ _ row token others is)
+pub begins_reading : (text : List ℕ) (n : Tree) (pairs : List Pair) → IsReadTo text n pairs 0 []
+begins_reading text n pairs = record { tokens = []; hold = none; goes_on = λ others r. record { tokens = others; reading = r; same = refl } }
+
+rows_on : (text : List ℕ) (pairs : List Pair) {at stop : ℕ} (rows : List TokenRow) (ss : List SpacedToken) (row : TokenRow) (s : SpacedToken) → AreRows text pairs at rows ss stop → IsRow text pairs stop row s →
+    AreRows text pairs at (rows ++ row ∷ []) (ss ++ s ∷ []) row.span.end
+rows_on text pairs rows ss row s none is = one is none
+rows_on text pairs rows ss row s (one h others) is = one h (rows_on text pairs _ _ row s others is)
 
 -- one token more
-pub reads_on : (text : List ℕ) (n : Tree) (at : ℕ) (rows : List TokenRow) (old new : List ByteSpan) (row : TokenRow) (t : LexicalToken) → IsUtf8 text → IsPlace text at → IsReadTo text n at rows old →
-    Reads text (tree_goal n t.start) at t → IsRow text row t → IsTrue (not (is_end t.class)) → SaysComments text at t.start old new → IsReadTo text n t.stop (rows ++ row ∷ []) new
-reads_on text n at rows old new row t u p h read is goes says =
+pub reads_on : (text : List ℕ) (n : Tree) (pairs : List Pair) (at : ℕ) (rows : List TokenRow) (row : TokenRow) (t : LexicalToken) → IsReadTo text n pairs at rows →
+    (read : Reads text (tree_goal n t.start) at t) → IsRow text pairs at row (spaced t read) → row.span.end ≡ t.stop → IsTrue (not (is_end t.class)) → IsReadTo text n pairs t.stop (rows ++ row ∷ [])
+reads_on text n pairs at rows row t h read is stop goes =
     record {
-      tokens = h.tokens ++ t ∷ [];
-      hold = rows_on text rows h.tokens row t h.hold is;
+      tokens = h.tokens ++ spaced t read ∷ [];
+      hold = subst (AreRows text pairs 0 (rows ++ row ∷ []) (h.tokens ++ spaced t read ∷ [])) stop (rows_on text pairs rows h.tokens row (spaced t read) h.hold is);
       goes_on = λ others r.
           let w = h.goes_on (t ∷ others) (more read goes r) in
-          record {
-            all = w.all;
-            same = w.same ∙ sym (append_assoc h.tokens (t ∷ []) others);
-            reading = w.reading;
-            comments = w.comments ∙ sym (append_assoc (map (bytes_in text) old) (comments read.separated) (all_comments r))
-                ∙ ap (λ c. c ++ all_comments r) (sym (token_comments text (tree_goal n t.start) at t (behind text t.stop) old new u p read says));
-          };
+          record { tokens = w.tokens; reading = w.reading; same = w.same ∙ sym (append_assoc h.tokens (spaced t read ∷ []) (spaced_tokens r)) };
     }
 
 -- nothing stands after the end
@@ -107,17 +114,18 @@ ends_text class word rest e h = nil_only rest (second (is_of End word) (is_empty
   second a b d e h = grind (arith, nat_tests)
 
 -- the end of the text
-pub reads_end : (text : List ℕ) (n : Tree) (at : ℕ) (rows : List TokenRow) (old : List ByteSpan) (row : TokenRow) (t : LexicalToken) (read : TreeReading) → IsUtf8 text → IsPlace text at → IsReadTo text n at rows old →
-    Reads text (tree_goal n t.start) at t → IsRow text row t → t.class ≡ End → SaysComments text at t.start old read.comments.items → read.tokens.items ≡ rows ++ row ∷ [] → IsRead text n read
-reads_end text n at rows old row t read u p h reads is ends says same =
+pub reads_end : (text : List ℕ) (n : Tree) (pairs : List Pair) (at : ℕ) (rows : List TokenRow) (row : TokenRow) (t : LexicalToken) (read : TreeReading) → IsReadTo text n pairs at rows →
+    ((rest : List ℕ) (x : IsTokenAt (tree_goal n t.start) at (behind text at) t rest) → IsRow text pairs at row (spaced t x)) → Reads text (tree_goal n t.start) at t → t.class ≡ End → read.tokens.items ≡ rows ++ row ∷ [] → IsRead text n pairs read
+reads_end text n pairs at rows row t read h is reads ends same =
     let nothing_more = ends_text t.class reads.word (behind text t.stop) ends reads.longest in
     let at_end : IsTokenAt (tree_goal n t.start) at (behind text at) t [] = subst (λ r. IsTokenAt (tree_goal n t.start) at (behind text at) t r) nothing_more reads in
     let w = h.goes_on (t ∷ []) (last at_end (subst (λ c. IsTrue (is_end c)) (sym ends) refl)) in
     record {
-      tokens = w.all;
+      tokens = w.tokens;
       reading = w.reading;
-      rows = subst (AreRows text read.tokens.items) (sym w.same) (subst (λ rs. AreRows text rs (h.tokens ++ t ∷ [])) (sym same) (rows_on text rows h.tokens row t h.hold is));
-      comments = token_comments text (tree_goal n t.start) at t [] old read.comments.items u p at_end says ∙ sym w.comments;
+      stop = row.span.end;
+      rows = subst (λ ss. AreRows text pairs 0 read.tokens.items ss row.span.end) (sym w.same)
+          (subst (λ rs. AreRows text pairs 0 rs (h.tokens ++ spaced t at_end ∷ []) row.span.end) (sym same) (rows_on text pairs rows h.tokens row (spaced t at_end) h.hold (is [] at_end)));
     }
 
 pub no_end : (class : TokenClass) → (class ≡ End → ⊥) → IsTrue (not (is_end class))

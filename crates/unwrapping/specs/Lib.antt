@@ -1,3 +1,4 @@
 pub mod Ties
 pub mod Keeps
 pub mod Readings
+pub mod Comparing

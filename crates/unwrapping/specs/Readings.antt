@@ -1,42 +1,62 @@
 -- The program's own rows for the tokens and comments of a text, and its notes of the places where the tree decides how a token is read.
-use Rattle.std.specs.Prelude.{◌≡◌, ℕ, ◌≤◌, Bool, true, false, ◌&&◌, ◌==◌, ◌+◌, nat_le, List, [], ◌∷◌, map, slice_range, IsTrue}
+use Rattle.std.specs.Prelude.{◌≡◌, ℕ, ◌≤◌, Bool, true, false, ◌&&◌, ◌==◌, ◌+◌, nat_le, List, [], ◌∷◌, ◌++◌, map, slice_range, IsTrue}
 use Rattle.std.specs.List.{list_any}
 use Rattle.std.specs.Str.{chars}
+use Rattle.tokens.specs.Comments.{Separators}
 use Rattle.tokens.specs.declared.token.Goal.{Goal}
 use Rattle.tokens.specs.declared.token.Goal.TheVariants.{Div, RegExp, TemplateTail}
+use Rattle.tokens.specs.Reading.{behind}
+use Rattle.tokens.specs.Scanned.{Passed}
 use Rattle.tokens.specs.Tokens.{LexicalToken}
 use Rattle.tree.specs.Tree.{Tree}
+use Rattle.tree.specs.declared.kind.Pair.{Pair}
 use Rattle.tree.specs.Flat.{post_order}
 use Rattle.reading_laws.specs.TreeReadings.{is_regexp_at, is_element_after, IsTreeReading}
 use Rattle.unwrapping.specs.declared.note.Reading.{Reading}
 use Rattle.unwrapping.specs.declared.note.Reading.TheVariants.{RegularExpression, TemplatePart, Postfix}
 use Rattle.unwrapping.specs.declared.note.Note.{Note}
+use Rattle.unwrapping.specs.declared.comment.CommentRow.{CommentRow}
 use Rattle.unwrapping.specs.declared.reading.ByteSpan.{ByteSpan}
 use Rattle.unwrapping.specs.declared.reading.TokenRow.{TokenRow}
 use Rattle.unwrapping.specs.declared.reading.TreeReading.{TreeReading}
-use Rattle.unwrapping.specs.Keeps.{AreKept, all_comments}
+use Rattle.unwrapping.specs.Keeps.{Comment, comments, SpacedToken, spaced_tokens, is_grouping}
 
 -- the bytes of a text in a span
 abbrev pub bytes_in : List ℕ → ByteSpan → List ℕ
 bytes_in text span = slice_range text span.start span.end
 
--- a row has a token of a text
-pub record IsRow (text : List ℕ) (row : TokenRow) (token : LexicalToken) : Type 0 where
-  pub class : row.class ≡ token.class
-  pub bytes : token.text ≡ bytes_in text row.span
+-- the comment of a row
+abbrev pub comment_in : List ℕ → CommentRow → Comment
+comment_in text row = record { bytes = bytes_in text row.span; has_line_end = row.has_line_end }
 
--- rows have the tokens, one each
-pub data AreRows (text : List ℕ) : List TokenRow → List LexicalToken → Type 0 where
-  none : AreRows text [] []
-  one : {row : TokenRow} {rows : List TokenRow} {token : LexicalToken} {tokens : List LexicalToken} → IsRow text row token → AreRows text rows tokens →
-      AreRows text (row ∷ rows) (token ∷ tokens)
+abbrev pub comments_in : List ℕ → List CommentRow → List Comment
+comments_in text rows = map (comment_in text) rows
 
--- what was read of a text is the reading of a tree, with its tokens and its comments
-pub record IsRead (text : List ℕ) (n : Tree) (read : TreeReading) : Type 0 where
+-- whatever separators stand between two places, their comments are those that were added
+abbrev pub SaysComments : List ℕ → ℕ → ℕ → List CommentRow → List CommentRow → Type 0
+SaysComments text at stop old new =
+    (gap : List ℕ) → Passed text at stop gap → (separated : Separators gap (behind text stop)) → comments_in text new ≡ comments_in text old ++ comments separated
+
+-- a row has a token of a text, and what stands before it, from a place on
+pub record IsRow (text : List ℕ) (pairs : List Pair) (at : ℕ) (row : TokenRow) (s : SpacedToken) : Type 0 where
+  pub class : row.class ≡ s.token.class
+  pub bytes : s.token.text ≡ bytes_in text row.span
+  pub grouping : row.is_grouping ≡ true → IsTrue (is_grouping pairs s.token)
+  pub gap : s.gap ≡ slice_range text at row.span.start
+  pub comments : (old new : List CommentRow) → SaysComments text at row.span.start old new → comments_in text new ≡ comments_in text old ++ s.comments
+
+-- rows have the tokens from a place on, one each, up to another
+pub data AreRows (text : List ℕ) (pairs : List Pair) : ℕ → List TokenRow → List SpacedToken → ℕ → Type 0 where
+  none : {at : ℕ} → AreRows text pairs at [] [] at
+  one : {at stop : ℕ} {row : TokenRow} {rows : List TokenRow} {s : SpacedToken} {ss : List SpacedToken} → IsRow text pairs at row s → AreRows text pairs row.span.end rows ss stop →
+      AreRows text pairs at (row ∷ rows) (s ∷ ss) stop
+
+-- what was read of a text is the reading of a tree
+pub record IsRead (text : List ℕ) (n : Tree) (pairs : List Pair) (read : TreeReading) : Type 0 where
   pub tokens : List LexicalToken
   pub reading : IsTreeReading n 0 (chars text) tokens
-  pub rows : AreRows text read.tokens.items tokens
-  pub comments : map (bytes_in text) read.comments.items ≡ all_comments reading
+  pub stop : ℕ
+  pub rows : AreRows text pairs 0 read.tokens.items (spaced_tokens reading) stop
 
 abbrev pub is_regexp : Reading → Bool
 is_regexp RegularExpression = true
@@ -75,21 +95,3 @@ goal_of Postfix = Div
 pub record AreNoted (nodes : List Tree) (low : ℕ) (notes : List Note) : Type 0 where
   pub regexps : (at : ℕ) → low ≤ at → list_any (is_regexp_at at) nodes ≡ list_any (is_regexp_note at) notes
   pub elements : (at : ℕ) → low ≤ at → list_any (is_element_after at) nodes ≡ list_any (is_part_note at) notes
-
--- rows have the rest of some tokens, parentheses in front left out: what is kept of the rest is kept of them
-pub record HasTokens (text : List ℕ) (rest : List TokenRow) (tokens : List LexicalToken) : Type 0 where
-  pub others : List LexicalToken
-  pub rows : AreRows text rest others
-  pub before : (updated : Bool) (after : List LexicalToken) → AreKept updated others after → AreKept updated tokens after
-  pub after : (updated : Bool) (before : List LexicalToken) → AreKept updated before others → AreKept updated before tokens
-
-abbrev pub PassesParentheses : List ℕ → List TokenRow → List TokenRow → Type 0
-PassesParentheses text rows rest = (tokens : List LexicalToken) → AreRows text rows tokens → HasTokens text rest tokens
-
--- rows begin with one that has the class and the bytes of another
-pub record BeginsAlike (text : List ℕ) (rows : List TokenRow) (unwrapped : List ℕ) (other : TokenRow) : Type 0 where
-  pub row : TokenRow
-  pub rest : List TokenRow
-  pub split : rows ≡ row ∷ rest
-  pub class : row.class ≡ other.class
-  pub same : bytes_in text row.span ≡ bytes_in unwrapped other.span

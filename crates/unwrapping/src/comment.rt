@@ -1,34 +1,41 @@
 //! The comments in a gap (ECMA-262 11.4).
 
-ghost use Rattle.std.specs.Prelude.{◌≡◌, ◌≤◌, ◌++◌, length, true, map, List, ℕ, IfOk};
-ghost use Rattle.source_text.specs.Source.{IsPlace};
-ghost use Rattle.tokens.specs.Comments.{Separators};
-ghost use Rattle.tokens.specs.Reading.{behind};
-ghost use Rattle.tokens.specs.Scanned.{Passed};
-ghost use Rattle.unwrapping.specs.Keeps.{comments};
-ghost use Rattle.unwrapping.specs.Readings.{bytes_in};
+ghost use Rattle.std.specs.Prelude.{◌≡◌, ◌++◌, true, IfOk};
+ghost use Rattle.unwrapping.specs.Keeps.{ends_line};
+ghost use Rattle.unwrapping.specs.Readings.{comment_in, comments_in, SaysComments};
 
 use crate::reading::ByteSpan;
+use source_text::Source;
 use std::alloc::AllocError;
 use tokens::{char_at, comment};
 
-/// Adds the comments between two places, and says whether all that stands there was passed.
+/// A comment of a text.
+#[derive(Clone, Copy)]
+pub struct CommentRow {
+    pub span: ByteSpan,
+    /// Whether a line terminator is in it.
+    pub has_line_end: bool,
+}
+
+/// Adds the comments between two places of a text, in bytes, and says whether all that stands there was passed.
 ///
 /// # Errors
 ///
 /// `AllocError` where memory is refused.
-pub(crate) fn push_comments(
-    text: &str,
-    at: usize,
-    stop: usize,
-    spans: &mut Vec<ByteSpan>,
+pub fn push_comments(
+    source: &Source<'_>,
+    at: u32,
+    stop: u32,
+    comments: &mut Vec<CommentRow>,
 ) -> Result<bool, AllocError>
-    requires place { IsPlace text.now at }
-    requires short { length text.now ≤ 16777216 }
-    ensures { IfOk result (λ passed. passed ≡ true → (gap : List ℕ) (between : Passed text.now at stop gap) (separated : Separators gap (behind text.now stop)) →
-        map (bytes_in text.now) spans.new.items ≡ map (bytes_in text.now) spans.old.items ++ comments separated) }
+    ensures { IfOk result (λ passed. passed ≡ true → SaysComments source.now at stop comments.old.items comments.new.items) }
 {
-    let mut place = at;
+    let text = source.text();
+    let stop = stop as usize;
+    let mut place = at as usize;
+    if !text.is_char_boundary(place) {
+        return Ok(false);
+    }
     while place < stop {
         let Some(step) = char_at(text, place) else {
             return Ok(false);
@@ -40,11 +47,24 @@ pub(crate) fn push_comments(
         let Some(comment) = comment(text, step.end) else {
             return Ok(false);
         };
-        spans.push(ByteSpan::of(place, comment.end))?;
+        comments.push(CommentRow {
+            span: ByteSpan::of(place, comment.end),
+            has_line_end: comment.has_line_break,
+        })?;
         place = comment.end;
     }
     if place != stop {
         return Ok(false);
     }
     Ok(true)
+}
+
+/// Whether a line ends in a comment or right after it.
+pub(crate) fn ends_line(text: &[u8], comment: CommentRow) -> bool
+    ensures { result ≡ true → ends_line (comment_in text.now comment) ≡ true }
+{
+    if comment.has_line_end {
+        return true;
+    }
+    matches!(comment.span.bytes_in(text), Some([b'/', b'/', ..]))
 }

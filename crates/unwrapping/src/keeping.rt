@@ -1,27 +1,80 @@
-//! Whether an unwrapped text keeps the comments and the tokens of a text.
+//! Whether an unwrapped text keeps the tokens of a text, and what stands between them.
 
-ghost use Rattle.std.specs.Prelude.{◌≡◌, ◌<◌, ◌≤◌, true, false, Bool, ℕ, List, length, map, slice_range, IfOk, IfSome, IsTrue};
-ghost use Rattle.tokens.specs.Tokens.{LexicalToken};
+ghost use Rattle.std.specs.Prelude.{◌≡◌, ◌≤◌, true, false, [], ◌∷◌, ℕ, List, length, take, IfOk, IfSome, IsTrue};
+ghost use Rattle.tokens.specs.Lexical.{is_one_of_words};
 ghost use Rattle.tree.specs.Tree.{Tree};
-ghost use Rattle.unwrapping.specs.Keeps.{AreKept, Keeps, is_parenthesis, is_semicolon, is_update};
-ghost use Rattle.unwrapping.specs.Readings.{bytes_in, AreRows, IsRow, IsRead, PassesParentheses, BeginsAlike};
+ghost use Rattle.tree.specs.declared.kind.Pair.{Pair};
+ghost use Rattle.unwrapping.specs.Keeps.{Keeps, first_ends_line, last_ends_line};
+ghost use Rattle.unwrapping.specs.Readings.{bytes_in, comments_in, IsRead};
+ghost use Rattle.unwrapping.specs.Comparing.{AreSameRows, BeginsWith, Cancels, IsSameRest, IsShorter, KeepsRows, Leads, PassesRow, Settles, begins_call, next_is, next_is_grouping};
 
+use crate::comment::{CommentRow, ends_line, push_comments};
 use crate::reading::{ByteSpan, TokenRow, TreeReading, tree_reading};
 use source_text::Source;
 use std::alloc::{AllocError, Global};
-use tree::Program;
+use tree::{Pair, Program};
 
-/// The bytes of a text in a span, if it is within the text.
-#[inline]
-fn bytes_in(text: &[u8], span: ByteSpan) -> Option<&[u8]>
-    ensures { IfSome result (λ bytes. bytes.now ≡ bytes_in text.now span) }
-{
-    let start = span.start as usize;
-    let end = span.end as usize;
-    if start <= end && end <= text.len() {
-        return Some(&text[start..end]);
+/// What is left of one of two texts that are compared.
+#[derive(Drop)]
+pub(crate) struct Rest<'t> {
+    /// The rows of its tokens.
+    rows: &'t [TokenRow],
+    /// Where the token before them ends, in bytes.
+    at: u32,
+    /// The comments before it that weren't found in the other text yet.
+    passed: Vec<CommentRow>,
+}
+
+impl<'t> Rest<'t> {
+    /// All of a text; no memory.
+    fn all(alloc: Global, rows: &'t [TokenRow]) -> Rest<'t>
+        ensures rows { result.rows.now ≡ rows.now }
+        ensures at { result.at ≡ 0 }
+        ensures passed { result.passed.items ≡ [] }
+    {
+        Rest {
+            rows,
+            at: 0,
+            passed: Vec::new(alloc),
+        }
     }
-    None
+
+    /// Passes a token with the comments before it, and says whether there is one, and nothing but blanks and comments before it.
+    fn pass(&mut self, source: &Source<'_>) -> Result<bool, AllocError>
+        ensures { IfOk result (λ passed. passed ≡ true → PassesRow source.now self.old self.new) }
+    {
+        let Some(row) = self.rows.first() else {
+            return Ok(false);
+        };
+        let span = row.span;
+        let passed = push_comments(source, self.at, span.start, &mut self.passed)?;
+        if passed {
+            self.at = span.end;
+            self.rows = &self.rows[1..];
+        }
+        Ok(passed)
+    }
+
+    /// The gap before a token.
+    fn gap(&self, row: TokenRow) -> ByteSpan
+        ensures start { result.start ≡ self.now.at }
+        ensures end { result.end ≡ row.span.start }
+    {
+        ByteSpan {
+            start: self.at,
+            end: row.span.start,
+        }
+    }
+
+    /// Whether a grouping parenthesis comes next.
+    fn is_grouping(&self) -> bool
+        ensures { result ≡ next_is_grouping self.now.rows.now }
+    {
+        match self.rows.first() {
+            Some(row) => row.is_grouping,
+            None => false,
+        }
+    }
 }
 
 /// Whether the same bytes are in two spans.
@@ -29,10 +82,10 @@ fn bytes_in(text: &[u8], span: ByteSpan) -> Option<&[u8]>
 fn are_same(text: &[u8], span: ByteSpan, other: &[u8], other_span: ByteSpan) -> bool
     ensures { result ≡ true → bytes_in text.now span ≡ bytes_in other.now other_span }
 {
-    let Some(bytes) = bytes_in(text, span) else {
+    let Some(bytes) = span.bytes_in(text) else {
         return false;
     };
-    let Some(others) = bytes_in(other, other_span) else {
+    let Some(others) = other_span.bytes_in(other) else {
         return false;
     };
     bytes == others
@@ -41,8 +94,7 @@ fn are_same(text: &[u8], span: ByteSpan, other: &[u8], other_span: ByteSpan) -> 
 /// Whether two tokens are of one class and have the same characters.
 #[inline]
 fn are_same_tokens(text: &[u8], row: TokenRow, other: &[u8], other_row: TokenRow) -> bool
-    ensures class { result ≡ true → row.class ≡ other_row.class }
-    ensures text { result ≡ true → bytes_in text.now row.span ≡ bytes_in other.now other_row.span }
+    ensures { result ≡ true → AreSameRows text.now row other.now other_row }
 {
     if row.class != other_row.class {
         return false;
@@ -50,22 +102,31 @@ fn are_same_tokens(text: &[u8], row: TokenRow, other: &[u8], other_row: TokenRow
     are_same(text, row.span, other, other_row.span)
 }
 
-/// Whether a token is `(` or `)`.
-#[inline]
-fn is_parenthesis(text: &[u8], row: TokenRow) -> bool
-    ensures { result ≡ true → (token : LexicalToken) → IsRow text.now row token → IsTrue (is_parenthesis token) }
+/// Whether a token is `(`.
+fn is_opening(text: &[u8], row: TokenRow) -> bool
+    ensures { result ≡ true → IsTrue (is_one_of_words ("(" ∷ []) (bytes_in text.now row.span)) }
 {
-    match bytes_in(text, row.span) {
-        Some([b'(' | b')']) => true,
+    match row.span.bytes_in(text) {
+        Some([b'(']) => true,
+        _ => false,
+    }
+}
+
+/// Whether a token is `)`.
+fn is_closing(text: &[u8], row: TokenRow) -> bool
+    ensures { result ≡ true → IsTrue (is_one_of_words (")" ∷ []) (bytes_in text.now row.span)) }
+{
+    match row.span.bytes_in(text) {
+        Some([b')']) => true,
         _ => false,
     }
 }
 
 /// Whether a token is `;`.
 fn is_semicolon(text: &[u8], row: TokenRow) -> bool
-    ensures { result ≡ true → (token : LexicalToken) → IsRow text.now row token → IsTrue (is_semicolon token) }
+    ensures { result ≡ true → IsTrue (is_one_of_words (";" ∷ []) (bytes_in text.now row.span)) }
 {
-    match bytes_in(text, row.span) {
+    match row.span.bytes_in(text) {
         Some([b';']) => true,
         _ => false,
     }
@@ -74,93 +135,357 @@ fn is_semicolon(text: &[u8], row: TokenRow) -> bool
 /// Whether a token is `++` or `--`.
 #[inline]
 fn is_update(text: &[u8], row: TokenRow) -> bool
-    ensures { result ≡ true → (token : LexicalToken) → IsRow text.now row token → IsTrue (is_update token) }
+    ensures { result ≡ true → IsTrue (is_one_of_words ("++" ∷ "--" ∷ []) (bytes_in text.now row.span)) }
 {
-    match bytes_in(text, row.span) {
+    match row.span.bytes_in(text) {
         Some([b'+', b'+'] | [b'-', b'-']) => true,
         _ => false,
     }
 }
 
-/// Rows without the parentheses at their front.
-fn after_parentheses<'r>(text: &[u8], rows: &'r [TokenRow]) -> &'r [TokenRow]
-    ensures passed { PassesParentheses text.now rows.now result.now }
-    ensures fewer { length result.now ≤ length rows.now }
+/// Whether no line may end after a token.
+fn binds_next(text: &[u8], row: TokenRow) -> bool
+    ensures { result ≡ true → IsTrue (is_one_of_words ("return" ∷ "throw" ∷ []) (bytes_in text.now row.span)) }
 {
-    let mut rest = rows;
-    while let Some(row) = rest.first() {
-        if !is_parenthesis(text, *row) {
-            return rest;
-        }
-        rest = &rest[1..];
-    }
-    rest
-}
-
-/// Whether the tokens of a text are kept in another.
-fn are_tokens_kept(text: &[u8], rows: &[TokenRow], unwrapped: &[u8], others: &[TokenRow]) -> bool
-    ensures { result ≡ true → (tokens : List LexicalToken) (after : List LexicalToken) → AreRows text.now rows.now tokens → AreRows unwrapped.now others.now after → AreKept false tokens after }
-{
-    let mut before = rows;
-    let mut after = others;
-    let mut updated = false;
-    loop {
-        before = after_parentheses(text, before);
-        after = after_parentheses(unwrapped, after);
-        let Some(other) = after.first() else {
-            return before.is_empty();
-        };
-        let other = *other;
-        if begins_alike(text, before, unwrapped, other) {
-            updated = is_update(unwrapped, other);
-            before = &before[1..];
-            after = &after[1..];
-            continue;
-        }
-        if !updated {
-            return false;
-        }
-        if !is_semicolon(unwrapped, other) {
-            return false;
-        }
-        updated = false;
-        after = &after[1..];
-    }
-}
-
-/// Whether rows begin with a token of one class and with the same characters as another.
-#[inline]
-fn begins_alike(text: &[u8], rows: &[TokenRow], unwrapped: &[u8], other: TokenRow) -> bool
-    ensures { result ≡ true → BeginsAlike text.now rows.now unwrapped.now other }
-{
-    let Some(row) = rows.first() else {
+    let Some(bytes) = row.span.bytes_in(text) else {
         return false;
     };
-    are_same_tokens(text, *row, unwrapped, other)
+    if bytes == b"return".as_slice() {
+        return true;
+    }
+    bytes == b"throw".as_slice()
 }
 
-/// Whether the comments of a text are those of another.
-fn are_comments_kept(
-    text: &[u8],
-    comments: &[ByteSpan],
-    unwrapped: &[u8],
-    others: &[ByteSpan],
-) -> bool
-    ensures { result ≡ true → map (bytes_in text.now) comments.now ≡ map (bytes_in unwrapped.now) others.now }
+/// Whether no line may end before a token, or none ends there in the usual layout.
+fn binds_last(text: &[u8], row: TokenRow) -> bool
+    ensures { result ≡ true → IsTrue (is_one_of_words ("++" ∷ "--" ∷ ";" ∷ "," ∷ []) (bytes_in text.now row.span)) }
 {
-    if comments.len() != others.len() {
-        return false;
+    match row.span.bytes_in(text) {
+        Some([b'+', b'+'] | [b'-', b'-'] | [b';'] | [b',']) => true,
+        _ => false,
     }
-    for index in 0..comments.len() {
-        if !are_same(text, comments[index], unwrapped, others[index]) {
+}
+
+/// Whether the first comments of a list are those of another, which isn't longer.
+fn begin_alike(text: &[u8], comments: &[CommentRow], other: &[u8], others: &[CommentRow]) -> bool
+    requires { length others.now ≤ length comments.now }
+    ensures { result ≡ true → comments_in text.now (take (length others.now) comments.now) ≡ comments_in other.now others.now }
+{
+    for index in 0..others.len() {
+        let (comment, like) = (comments[index], others[index]);
+        if comment.has_line_end != like.has_line_end {
+            return false;
+        }
+        if !are_same(text, comment.span, other, like.span) {
             return false;
         }
     }
     true
 }
 
-/// Whether an unwrapped text keeps each comment of a text, and each token that is no parenthesis, in order. `reading` is what was read of
-/// the text, and `program` the script of the unwrapped text. Steps and memory grow with both texts and the tree.
+/// Takes the comments of a list from the front of another, which isn't shorter, and says whether they are there.
+fn cancel_front(
+    text: &[u8],
+    comments: &mut Vec<CommentRow>,
+    other: &[u8],
+    others: &mut Vec<CommentRow>,
+) -> Result<bool, AllocError>
+    requires { length others.old.items ≤ length comments.old.items }
+    ensures { IfOk result (λ are. are ≡ true → Cancels text.now comments.old.items comments.new.items other.now others.old.items others.new.items) }
+{
+    if !begin_alike(text, comments, other, others) {
+        return Ok(false);
+    }
+    let left = comments.split_off(others.len())?;
+    *comments = left;
+    others.clear();
+    Ok(true)
+}
+
+/// What is left of a text and of its unwrapped text.
+#[derive(Drop)]
+pub(crate) struct Comparison<'t> {
+    text: Rest<'t>,
+    unwrapped: Rest<'t>,
+    /// Whether the last token that was kept is `++` or `--`.
+    updated: bool,
+    /// Whether nothing has gone, come or moved since.
+    alike: bool,
+}
+
+impl<'t> Comparison<'t> {
+    /// Whether all was compared, and each comment found.
+    fn is_done(&self) -> bool
+        ensures rows { result ≡ true → self.now.text.rows.now ≡ [] }
+        ensures others { result ≡ true → self.now.unwrapped.rows.now ≡ [] }
+        ensures passed { result ≡ true → self.now.text.passed.items ≡ [] }
+        ensures passed_again { result ≡ true → self.now.unwrapped.passed.items ≡ [] }
+    {
+        self.text.rows.is_empty()
+            && self.unwrapped.rows.is_empty()
+            && self.text.passed.is_empty()
+            && self.unwrapped.passed.is_empty()
+    }
+
+    /// Whether `()` comes next in the unwrapped text, and not in the text.
+    fn is_called(&self, text: &[u8], unwrapped: &[u8]) -> bool
+        ensures { result ≡ true → begins_call unwrapped.now self.now.unwrapped.rows.now ≡ true }
+    {
+        begins_call(unwrapped, self.unwrapped.rows) && !begins_call(text, self.text.rows)
+    }
+
+    /// Whether a `;` comes next in the unwrapped text, and may.
+    fn is_ended(&self, unwrapped: &[u8]) -> bool
+        ensures updated { result ≡ true → self.now.updated ≡ true }
+        ensures semicolon { result ≡ true → next_is (";" ∷ []) unwrapped.now self.now.unwrapped.rows.now ≡ true }
+    {
+        self.updated
+            && match self.unwrapped.rows.first() {
+                Some(row) => is_semicolon(unwrapped, *row),
+                None => false,
+            }
+    }
+
+    /// The rows that come next, if they have the same token.
+    fn next_alike(&self, text: &[u8], unwrapped: &[u8]) -> Option<(TokenRow, TokenRow)>
+        ensures row { IfSome result (λ found. BeginsWith self.now.text.rows.now found.0) }
+        ensures other { IfSome result (λ found. BeginsWith self.now.unwrapped.rows.now found.1) }
+        ensures same { IfSome result (λ found. AreSameRows text.now found.0 unwrapped.now found.1) }
+    {
+        let Some(row) = self.text.rows.first() else {
+            return None;
+        };
+        let Some(other) = self.unwrapped.rows.first() else {
+            return None;
+        };
+        if !are_same_tokens(text, *row, unwrapped, *other) {
+            return None;
+        }
+        Some((*row, *other))
+    }
+
+    /// One turn: a grouping parenthesis goes or comes, or `()` or a `;` comes, or a token is kept. Says whether one of these may be.
+    ///
+    /// # Errors
+    ///
+    /// `AllocError` where memory is refused.
+    fn turn(&mut self, source: &Source<'_>, unwrapped: &Source<'_>) -> Result<bool, AllocError>
+        ensures leads { IfOk result (λ is. is ≡ true → Leads source.now unwrapped.now self.old self.new) }
+        ensures fewer { IfOk result (λ is. is ≡ true → IsShorter self.old self.new) }
+    {
+        if self.text.is_grouping() {
+            self.alike = false;
+            return self.text.pass(source);
+        }
+        if self.unwrapped.is_grouping() {
+            self.alike = false;
+            return self.unwrapped.pass(unwrapped);
+        }
+        if self.is_called(source.bytes(), unwrapped.bytes()) {
+            return self.call(unwrapped);
+        }
+        if let Some((row, other)) = self.next_alike(source.bytes(), unwrapped.bytes()) {
+            return self.keep(source, row, unwrapped, other);
+        }
+        if self.is_ended(unwrapped.bytes()) {
+            return self.end(unwrapped);
+        }
+        Ok(false)
+    }
+
+    /// A `;` comes.
+    fn end(&mut self, unwrapped: &Source<'_>) -> Result<bool, AllocError>
+        requires updated { self.old.updated ≡ true }
+        requires semicolon { next_is (";" ∷ []) unwrapped.now self.old.unwrapped.rows.now ≡ true }
+        ensures leads { IfOk result (λ is. is ≡ true → (text : List ℕ) → Leads text unwrapped.now self.old self.new) }
+        ensures fewer { IfOk result (λ is. is ≡ true → IsShorter self.old self.new) }
+    {
+        self.alike = false;
+        self.updated = false;
+        self.unwrapped.pass(unwrapped)
+    }
+
+    /// `()` comes.
+    fn call(&mut self, unwrapped: &Source<'_>) -> Result<bool, AllocError>
+        requires { begins_call unwrapped.now self.old.unwrapped.rows.now ≡ true }
+        ensures leads { IfOk result (λ is. is ≡ true → (text : List ℕ) → Leads text unwrapped.now self.old self.new) }
+        ensures fewer { IfOk result (λ is. is ≡ true → IsShorter self.old self.new) }
+    {
+        self.alike = false;
+        self.updated = false;
+        let opened = self.unwrapped.pass(unwrapped)?;
+        if !opened {
+            return Ok(false);
+        }
+        self.unwrapped.pass(unwrapped)
+    }
+
+    /// A token is kept, with the comments before it.
+    fn keep(
+        &mut self,
+        source: &Source<'_>,
+        row: TokenRow,
+        unwrapped: &Source<'_>,
+        other: TokenRow,
+    ) -> Result<bool, AllocError>
+        requires row { BeginsWith self.old.text.rows.now row }
+        requires other { BeginsWith self.old.unwrapped.rows.now other }
+        requires same { AreSameRows source.now row unwrapped.now other }
+        ensures leads { IfOk result (λ is. is ≡ true → Leads source.now unwrapped.now self.old self.new) }
+        ensures fewer { IfOk result (λ is. is ≡ true → IsShorter self.old self.new) }
+    {
+        let text = source.bytes();
+        let again = unwrapped.bytes();
+        let stays = self.stays(text, row, again, other);
+        let may_follow = self.may_follow(text, row);
+        let passed = self.text.pass(source)?;
+        let passed_again = self.unwrapped.pass(unwrapped)?;
+        if !passed || !passed_again {
+            return Ok(false);
+        }
+        self.updated = is_update(again, other);
+        let may_lead = self.may_lead(text, row);
+        self.settle(text, again, stays, may_lead, may_follow)
+    }
+
+    /// Whether the bytes before a token stay, if they have to.
+    fn stays(&self, text: &[u8], row: TokenRow, unwrapped: &[u8], other: TokenRow) -> bool
+        ensures { result ≡ true → self.now.alike ≡ true → bytes_in text.now (record { start = self.now.text.at; end = row.span.start }) ≡ bytes_in unwrapped.now (record { start = self.now.unwrapped.at; end = other.span.start }) }
+    {
+        if !self.alike {
+            return true;
+        }
+        are_same(
+            text,
+            self.text.gap(row),
+            unwrapped,
+            self.unwrapped.gap(other),
+        )
+    }
+
+    /// Whether comments that stand before a token may move after it.
+    fn may_follow(&self, text: &[u8], row: TokenRow) -> bool
+        ensures alike { result ≡ true → self.now.alike ≡ false }
+        ensures word { result ≡ true → IsTrue (is_one_of_words ("++" ∷ "--" ∷ ";" ∷ "," ∷ []) (bytes_in text.now row.span)) }
+    {
+        if self.alike {
+            return false;
+        }
+        binds_last(text, row)
+    }
+
+    /// Whether comments that stand after a token, which was passed, may move before it.
+    fn may_lead(&self, text: &[u8], row: TokenRow) -> bool
+        ensures word { result ≡ true → IsTrue (is_one_of_words ("return" ∷ "throw" ∷ []) (bytes_in text.now row.span)) }
+        ensures next { result ≡ true → next_is_grouping self.now.text.rows.now ≡ true }
+    {
+        if !binds_next(text, row) {
+            return false;
+        }
+        self.text.is_grouping()
+    }
+
+    /// Takes the comments that both texts have off their lists, and says whether those that are left may move over the token that was
+    /// passed: before it or after it.
+    fn settle(
+        &mut self,
+        text: &[u8],
+        unwrapped: &[u8],
+        stays: bool,
+        may_lead: bool,
+        may_follow: bool,
+    ) -> Result<bool, AllocError>
+        ensures settles { IfOk result (λ is. is ≡ true → Settles stays may_lead may_follow (comments_in text.now self.old.text.passed.items) (comments_in unwrapped.now self.old.unwrapped.passed.items)
+            (comments_in text.now self.new.text.passed.items) (comments_in unwrapped.now self.new.unwrapped.passed.items) self.new.alike) }
+        ensures rest { IfOk result (λ is. is ≡ true → IsSameRest self.old self.new) }
+    {
+        let is_front = self.text.passed.len() < self.unwrapped.passed.len();
+        let are_found = match is_front {
+            true => cancel_front(
+                unwrapped,
+                &mut self.unwrapped.passed,
+                text,
+                &mut self.text.passed,
+            )?,
+            false => cancel_front(
+                text,
+                &mut self.text.passed,
+                unwrapped,
+                &mut self.unwrapped.passed,
+            )?,
+        };
+        if !are_found {
+            return Ok(false);
+        }
+        self.alike = false;
+        if is_front {
+            return Ok(may_lead && last_ends_line(unwrapped, &self.unwrapped.passed));
+        }
+        if !self.text.passed.is_empty() {
+            return Ok(may_follow && first_ends_line(text, &self.text.passed));
+        }
+        self.alike = true;
+        Ok(stays)
+    }
+}
+
+/// Whether a line ends with the first comment of a list.
+fn first_ends_line(text: &[u8], comments: &[CommentRow]) -> bool
+    ensures { result ≡ true → first_ends_line (comments_in text.now comments.now) ≡ true }
+{
+    match comments.first() {
+        Some(comment) => ends_line(text, *comment),
+        None => false,
+    }
+}
+
+/// Whether a line ends with the last comment of a list.
+fn last_ends_line(text: &[u8], comments: &[CommentRow]) -> bool
+    ensures { result ≡ true → last_ends_line (comments_in text.now comments.now) ≡ true }
+{
+    match comments.last() {
+        Some(comment) => ends_line(text, *comment),
+        None => false,
+    }
+}
+
+/// Whether `()` comes next.
+fn begins_call(text: &[u8], rows: &[TokenRow]) -> bool
+    ensures { result ≡ true → begins_call text.now rows.now ≡ true }
+{
+    match rows {
+        [opening, closing, ..] => is_opening(text, *opening) && is_closing(text, *closing),
+        _ => false,
+    }
+}
+
+/// Whether the tokens of a text are kept in another, and what stands between them.
+fn are_kept(
+    alloc: Global,
+    source: &Source<'_>,
+    rows: &[TokenRow],
+    unwrapped: &Source<'_>,
+    others: &[TokenRow],
+) -> Result<bool, AllocError>
+    ensures { IfOk result (λ are. are ≡ true → KeepsRows source.now rows.now unwrapped.now others.now) }
+{
+    let mut left = Comparison {
+        text: Rest::all(alloc, rows),
+        unwrapped: Rest::all(alloc, others),
+        updated: false,
+        alike: true,
+    };
+    while !left.is_done() {
+        if !left.turn(source, unwrapped)? {
+            return Ok(false);
+        }
+    }
+    Ok(true)
+}
+
+/// Whether an unwrapped text keeps the tokens of a text, and the comments and bytes between them. `reading` is what was read of the text,
+/// whose grouping pairs are `pairs`; `program` is the script of the unwrapped text, and `pairs_again` are its grouping pairs. Steps and
+/// memory grow with both texts and the tree.
 ///
 /// # Errors
 ///
@@ -171,17 +496,12 @@ pub fn keeps(
     reading: &TreeReading,
     unwrapped: &Source<'_>,
     program: &Program<'_>,
+    pairs_again: &[Pair],
 ) -> Result<bool, AllocError>
-    ensures { IfOk result (λ keeps. keeps ≡ true → (n : Tree) → IsRead source.now n reading.now → Keeps source.now n unwrapped.now program.now) }
+    ensures { IfOk result (λ keeps. keeps ≡ true → (n : Tree) (pairs : List Pair) → IsRead source.now n pairs reading.now → Keeps source.now n pairs unwrapped.now program.now pairs_again.now) }
 {
-    let read = tree_reading(alloc, unwrapped, program)?;
-    let Some(again) = read else {
-        return Ok(false);
-    };
-    let text = source.bytes();
-    let bytes = unwrapped.bytes();
-    if !are_tokens_kept(text, &reading.tokens, bytes, &again.tokens) {
-        return Ok(false);
+    match tree_reading(alloc, unwrapped, program, pairs_again)? {
+        Some(again) => are_kept(alloc, source, &reading.tokens, unwrapped, &again.tokens),
+        None => Ok(false),
     }
-    Ok(are_comments_kept(text, &reading.comments, bytes, &again.comments))
 }

@@ -1,4 +1,4 @@
-//! The tokens and the comments of a script, as its tree reads them.
+//! The tokens of a script, as its tree reads them.
 
 ghost use Rattle.std.specs.Prelude.{◌≡◌, ◌≢◌, ◌≤◌, ◌<◌, ◌↔◌, ℕ, true, length, slice_range, List, IfOk, IfSome, IsTrue};
 ghost use Rattle.source_text.specs.Source.{IsPlace};
@@ -9,14 +9,14 @@ ghost use Rattle.tokens.specs.declared.token.TokenClass.TheVariants.{End};
 ghost use Rattle.tree.specs.Tree.{Tree};
 ghost use Rattle.tree.specs.Flat.{post_order};
 ghost use Rattle.reading_laws.specs.TreeReadings.{tree_goal};
-ghost use Rattle.unwrapping.specs.Readings.{IsRead, AreNoted, InOrder, goal_of};
+ghost use Rattle.unwrapping.specs.Readings.{IsRead, AreNoted, InOrder, goal_of, bytes_in};
 
-use crate::comment::push_comments;
 use crate::note::{Note, Reading, are_ascending, notes};
+use crate::pair_walk::PairWalk;
 use source_text::Source;
 use std::alloc::{AllocError, Global};
 use tokens::{Goal, Token, TokenClass, scan};
-use tree::Program;
+use tree::{Pair, Program};
 
 /// A part of a text, in bytes, four bytes for each end.
 #[derive(Clone, Copy)]
@@ -38,6 +38,19 @@ impl ByteSpan {
             end: end as u32,
         }
     }
+
+    /// The bytes of a text in the span, if it is within the text.
+    #[inline]
+    pub(crate) fn bytes_in(self, text: &[u8]) -> Option<&[u8]>
+        ensures { IfSome result (λ bytes. bytes.now ≡ bytes_in text.now self) }
+    {
+        let start = self.start as usize;
+        let end = self.end as usize;
+        if start <= end && end <= text.len() {
+            return Some(&text[start..end]);
+        }
+        None
+    }
 }
 
 /// A token of a text.
@@ -47,13 +60,14 @@ pub struct TokenRow {
     pub class: TokenClass,
     /// It is `++` or `--` after its operand.
     pub is_postfix: bool,
+    /// It is a parenthesis of a grouping pair.
+    pub is_grouping: bool,
 }
 
-/// The tokens of a text, up to its end, and the comments between them, each in order.
+/// The tokens of a text, in order, up to its end.
 #[derive(Drop)]
 pub struct TreeReading {
     pub tokens: Vec<TokenRow>,
-    pub comments: Vec<ByteSpan>,
 }
 
 /// The next token, and the notes after it.
@@ -149,13 +163,15 @@ fn read(
     alloc: Global,
     source: &Source<'_>,
     notes: &[Note],
+    pairs: &[Pair],
 ) -> Result<Option<TreeReading>, AllocError>
     requires { InOrder notes.now }
-    ensures { IfOk result (λ found. IfSome found (λ read. (n : Tree) → AreNoted (post_order n) 0 notes.now → IsRead source.now n read)) }
+    ensures { IfOk result (λ found. IfSome found (λ read. (n : Tree) → AreNoted (post_order n) 0 notes.now → IsRead source.now n pairs.now read)) }
 {
-    let text = source.text();
+    // (a text is short, and so is each place in it)
+    let _text = source.text();
     let mut tokens = Vec::new(alloc);
-    let mut comments = Vec::new(alloc);
+    let mut walk = PairWalk::new(alloc, pairs);
     let mut rest = notes;
     let mut at = 0;
     loop {
@@ -163,25 +179,22 @@ fn read(
             return Ok(None);
         };
         let token = step.token;
-        let passed = push_comments(text, at, token.start, &mut comments)?;
-        if !passed {
-            return Ok(None);
-        }
         tokens.push(TokenRow {
             span: ByteSpan::of(token.start, token.end),
             class: token.class,
             is_postfix: step.is_postfix,
+            is_grouping: walk.takes(token.text, token.start)?,
         })?;
         if is_end(token.class) {
-            return Ok(Some(TreeReading { tokens, comments }));
+            return Ok(Some(TreeReading { tokens }));
         }
         rest = step.notes;
         at = token.end;
     }
 }
 
-/// The tokens and the comments of a script, as its tree reads them; nothing where the tree's own places aren't in order, or don't tell
-/// how a token is read. Steps and memory grow with the text and the tree.
+/// The tokens of a script with these grouping pairs, in order of their `(`, as its tree reads them; nothing where the tree's own places
+/// aren't in order, or don't tell how a token is read. Steps and memory grow with the text and the tree.
 ///
 /// # Errors
 ///
@@ -190,12 +203,13 @@ pub fn tree_reading(
     alloc: Global,
     source: &Source<'_>,
     program: &Program<'_>,
+    pairs: &[Pair],
 ) -> Result<Option<TreeReading>, AllocError>
-    ensures { IfOk result (λ found. IfSome found (IsRead source.now program.now)) }
+    ensures { IfOk result (λ found. IfSome found (IsRead source.now program.now pairs.now)) }
 {
     let notes = notes(alloc, program)?;
     if !are_ascending(&notes) {
         return Ok(None);
     }
-    read(alloc, source, &notes)
+    read(alloc, source, &notes, pairs)
 }

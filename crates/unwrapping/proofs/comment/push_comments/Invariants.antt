@@ -3,7 +3,7 @@ use Rattle.unwrapping.proofs.CommentSteps.{IsPassing}
 use Rattle.unwrapping.proofs.comment.push_comments.Given as goal
 
 abbrev pub invariant-loop-place : goal.invariant-loop-place
-invariant-loop-place l = IsPassing l.text l.at l.place l.stop l.fn.spans.items l.spans.items
+invariant-loop-place l = IsPassing l.source l.at l.place l.stop l.fn.comments.items l.comments.items
 
 abbrev pub decreases-loop-place : goal.decreases-loop-place
 decreases-loop-place l = l.stop - l.place

@@ -1,24 +1,19 @@
-use Rattle.std.proofs.Common.{◌≡◌, ◌∙◌, false, List, map, sym, ap, subst}
+use Rattle.std.proofs.Common.{◌≡◌, List, subst}
 use Rattle.std.specs.Prelude.{Option, IfSome}
-use Rattle.tokens.specs.Tokens.{LexicalToken}
-use Rattle.unwrapping.specs.declared.reading.ByteSpan.{ByteSpan}
-use Rattle.unwrapping.specs.Keeps.{AreKept}
+use Rattle.unwrapping.specs.declared.reading.TokenRow.{TokenRow}
 use Rattle.unwrapping.specs.declared.reading.TreeReading.{TreeReading}
-use Rattle.unwrapping.specs.Readings.{AreRows, bytes_in, IsRead}
-use Rattle.unwrapping.proofs.KeptSteps.{keeps_read}
+use Rattle.unwrapping.specs.Readings.{IsRead}
+use Rattle.unwrapping.specs.Comparing.{KeepsRows}
+use Rattle.unwrapping.proofs.CompareSteps.{each_ok, keeps_read}
 use Rattle.unwrapping.proofs.keeping.keeps.Goals as goal
 
-pub returns : goal.returns
-returns c = λ same n read.
+pub returns-in-Some : goal.returns-in-Some
+returns-in-Some c =
     let text = c.args.source.now in
-    let other = c.args.unwrapped.now in
-    let reading = c.args.reading.now in
-    let again = c.in-Some.again in
-    let tokens : (ts later : List LexicalToken) → AreRows text reading.tokens.items ts → AreRows other again.tokens.items later → AreKept false ts later =
-    λ ts later h t. c.are_tokens_kept.ensures c.if-not-are_tokens_kept.false ts later
-    (subst (λ x. AreRows x c.deref.result.now ts) (sym c.bytes-text.ensures.value) (subst (λ x. AreRows text x ts) (sym c.deref.ensures.value) h))
-    (subst (λ x. AreRows x c.deref-2.result.now later) (sym c.bytes-bytes.ensures.value) (subst (λ x. AreRows other x later) (sym c.deref-2.ensures.value) t)) in
-    let comments : map (bytes_in text) reading.comments.items ≡ map (bytes_in other) again.comments.items =
-    (λ i. map (bytes_in (sym c.bytes-text.ensures.value i)) (sym c.deref-3.ensures.value i)) ∙ c.are_comments_kept.ensures same ∙ (λ i. map (bytes_in (c.bytes-bytes.ensures.value i)) (c.deref-4.ensures.value i)) in
-    let is = subst (λ (o : Option TreeReading). IfSome o (IsRead other c.args.program.now)) c.in-Some.is c.in_ok-read.ensures in
-    keeps_read text n other c.args.program.now reading again read is tokens comments
+    let unwrapped = c.args.unwrapped.now in
+    let read = subst (λ (found : Option TreeReading). IfSome found (IsRead unwrapped c.args.program.now c.args.pairs_again.now)) c.in-Some.is c.in_ok-again.ensures in
+    each_ok c.are_kept.result
+    (λ kept n pairs is. keeps_read text n pairs unwrapped c.args.program.now c.args.pairs_again.now c.args.reading.now c.in-Some.again is read
+    (subst (λ (rows : List TokenRow). KeepsRows text rows unwrapped c.in-Some.again.tokens.items) c.deref.ensures.value
+    (subst (λ (rows : List TokenRow). KeepsRows text c.deref.result.now unwrapped rows) c.deref-in-Some.ensures.value kept)))
+    c.are_kept.ensures

@@ -1,12 +1,12 @@
-use Rattle.std.proofs.Common.{◌≡◌, List, [], ◌∷◌, ◌++◌, ◌∙◌, refl, sym, ap, subst}
+use Rattle.std.proofs.Common.{◌≡◌, true, List, [], ◌∷◌, ◌++◌, ◌∙◌, refl, sym, ap, subst}
 use Rattle.std.specs.Prelude.{slice_range}
 use Rattle.std.proofs.lemmas.Str.{IsCharBoundary-start}
+use Rattle.tree.specs.declared.kind.Pair.{Pair}
 use Rattle.tokens.proofs.Beginnings.{true_false}
 use Rattle.tokens.specs.Scanned.{token_of}
-use Rattle.unwrapping.specs.declared.reading.ByteSpan.{ByteSpan}
 use Rattle.unwrapping.specs.declared.reading.TokenRow.{TokenRow}
-use Rattle.unwrapping.specs.Readings.{IsRow}
-use Rattle.unwrapping.proofs.ReadSteps.{SaysComments, IsReadTo, begins_reading, reads_on, reads_end, no_end}
+use Rattle.unwrapping.specs.Keeps.{is_grouping}
+use Rattle.unwrapping.proofs.ReadSteps.{IsReadTo, begins_reading, reads_on, reads_end, row_of_token, no_end}
 use Rattle.unwrapping.proofs.reading.read.Goals as goal
 
 pub loop-step-init : goal.loop-step-init
@@ -15,31 +15,36 @@ loop-step-init c =
     record {
       here = IsCharBoundary-start text c.text-text.ensures.utf8;
       order = c.requires;
+      pairs = c.new-walk.ensures;
       noted = λ n a. a;
-      read = λ n a. subst (λ (rs : List TokenRow). IsReadTo text n 0 rs c.new-comments.result.items) (sym c.new-tokens.ensures.items)
-          (subst (λ (ss : List ByteSpan). IsReadTo text n 0 [] ss) (sym c.new-comments.ensures.items) (begins_reading text n));
+      read = λ n a. subst (λ (rs : List TokenRow). IsReadTo text n c.args.pairs.now 0 rs) (sym c.new-tokens.ensures.items) (begins_reading text n c.args.pairs.now);
     }
 
 pub returns-then-is_end : goal.returns-then-is_end
 returns-then-is_end c = λ n a.
     let text = c.args.source.now in
+    let pairs = c.args.pairs.now in
     let t = c.in-Some.step.token in
-    let says = subst (λ x. SaysComments x c.loop-step.at t.start c.loop-step.comments.items c.push_comments.new.spans.items) c.text-text.ensures.value (c.in_ok-passed.ensures c.if-not-passed.false) in
     let bytes = c.in-Some.ensures.slice ∙ (λ i. slice_range text (sym c.of.ensures.start i) (sym c.of.ensures.end i)) in
-    reads_end text n c.loop-step.at c.loop-step.tokens.items c.loop-step.comments.items _ (token_of t) _ c.text-text.ensures.utf8 c.loop-step.invariant.here (c.loop-step.invariant.read n a)
-    (c.in-Some.ensures.read n (c.loop-step.invariant.noted n a)) (record { class = refl; bytes = bytes }) (c.is_end.ensures.0 c.if-is_end.true) says c.in_ok-push.ensures.items
+    reads_end text n pairs c.loop-step.at c.loop-step.tokens.items _ (token_of t) _ (c.loop-step.invariant.read n a)
+    (λ rest x. row_of_token text pairs _ c.loop-step.at (token_of t) rest _ c.text-text.ensures.utf8 c.loop-step.invariant.here x refl bytes c.of.ensures.start (λ h. subst (λ (ps : List Pair). is_grouping ps (token_of t) ≡ true) c.loop-step.invariant.pairs (c.in_ok-takes.ensures.grouping h)))
+    (c.in-Some.ensures.read n (c.loop-step.invariant.noted n a)) (c.is_end.ensures.0 c.if-is_end.true) c.in_ok-push.ensures.items
 
 pub loop-step-preserved : goal.loop-step-preserved
 loop-step-preserved c =
     let text = c.args.source.now in
+    let pairs = c.args.pairs.now in
     let t = c.in-Some.step.token in
-    let says = subst (λ x. SaysComments x c.loop-step.at t.start c.loop-step.comments.items c.push_comments.new.spans.items) c.text-text.ensures.value (c.in_ok-passed.ensures c.if-not-passed.false) in
     let bytes = c.in-Some.ensures.slice ∙ (λ i. slice_range text (sym c.of.ensures.start i) (sym c.of.ensures.end i)) in
     record {
       here = c.in-Some.ensures.within.2;
       order = c.in-Some.ensures.order;
+      pairs = c.in_ok-takes.ensures.pairs ∙ c.loop-step.invariant.pairs;
       noted = λ n a. c.in-Some.ensures.noted n (c.loop-step.invariant.noted n a);
-      read = λ n a. subst (λ (rs : List TokenRow). IsReadTo text n t.end rs c.push_comments.new.spans.items) (sym c.in_ok-push.ensures.items)
-          (reads_on text n c.loop-step.at c.loop-step.tokens.items c.loop-step.comments.items c.push_comments.new.spans.items _ (token_of t) c.text-text.ensures.utf8 c.loop-step.invariant.here
-          (c.loop-step.invariant.read n a) (c.in-Some.ensures.read n (c.loop-step.invariant.noted n a)) (record { class = refl; bytes = bytes }) (no_end t.class (λ e. true_false c.is_end.result (c.is_end.ensures.1 e) c.if-is_end.false)) says);
+      read = λ n a.
+          let reads = c.in-Some.ensures.read n (c.loop-step.invariant.noted n a) in
+          subst (λ (rs : List TokenRow). IsReadTo text n pairs t.end rs) (sym c.in_ok-push.ensures.items)
+          (reads_on text n pairs c.loop-step.at c.loop-step.tokens.items _ (token_of t) (c.loop-step.invariant.read n a) reads
+          (row_of_token text pairs _ c.loop-step.at (token_of t) _ _ c.text-text.ensures.utf8 c.loop-step.invariant.here reads refl bytes c.of.ensures.start (λ h. subst (λ (ps : List Pair). is_grouping ps (token_of t) ≡ true) c.loop-step.invariant.pairs (c.in_ok-takes.ensures.grouping h)))
+          c.of.ensures.end (no_end t.class (λ e. true_false c.is_end.result (c.is_end.ensures.1 e) c.if-is_end.false)));
     }

@@ -1,4 +1,4 @@
-use Rattle.std.proofs.Common.{◌-◌, length}
+use Rattle.std.proofs.Common.{◌≡◌, ◌-◌, length}
 use Rattle.source_text.specs.Source.{IsPlace}
 use Rattle.tree.specs.Tree.{Tree}
 use Rattle.tree.specs.Flat.{post_order}
@@ -10,8 +10,9 @@ abbrev pub invariant-loop-step : goal.invariant-loop-step
 invariant-loop-step l = record {
   here : IsPlace l.source l.at;
   order : InOrder l.rest;
+  pairs : l.walk.pairs.now ≡ l.pairs;
   noted : (n : Tree) → AreNoted (post_order n) 0 l.notes → AreNoted (post_order n) l.at l.rest;
-  read : (n : Tree) → AreNoted (post_order n) 0 l.notes → IsReadTo l.source n l.at l.tokens.items l.comments.items;
+  read : (n : Tree) → AreNoted (post_order n) 0 l.notes → IsReadTo l.source n l.pairs l.at l.tokens.items;
 }
 
 abbrev pub decreases-loop-step : goal.decreases-loop-step

@@ -1,0 +1,296 @@
+-- The turns of the loop over the tokens of two texts.
+use Rattle.std.proofs.Common.{◌≡◌, ℕ, zero, suc, ◌+◌, ◌-◌, Bool, true, false, ◌&&◌, List, [], ◌∷◌, ◌++◌, length, IsTrue, Some, None, Ok, Err, refl, sym, ap, ◌∙◌, subst, arith}
+use Rattle.std.proofs.lemmas.Bool.{and_parts, and_from}
+use Prim.Native.String.{String}
+use Rattle.std.specs.Prelude.{Result, slice_range}
+use Rattle.std.specs.List.{slice_get}
+use Rattle.std.specs.Result.{IfOk}
+use Rattle.tokens.specs.Lexical.{is_one_of_words}
+use Rattle.tokens.specs.Tokens.{LexicalToken}
+use Rattle.tree.specs.Tree.{Tree}
+use Rattle.tree.specs.declared.kind.Pair.{Pair}
+use Rattle.reading_laws.specs.TreeReadings.{IsTreeReading}
+use Rattle.unwrapping.specs.declared.comment.CommentRow.{CommentRow}
+use Rattle.unwrapping.specs.declared.keeping.Rest.{Rest}
+use Rattle.unwrapping.specs.declared.keeping.Comparison.{Comparison}
+use Rattle.unwrapping.specs.declared.reading.TokenRow.{TokenRow}
+use Rattle.unwrapping.specs.declared.reading.TreeReading.{TreeReading}
+use Rattle.unwrapping.specs.Keeps.{Comment, SpacedToken, spaced_tokens, AreKept, all, kept, moved_before, moved_after, gone, put, called, ended, IsSameToken, is_grouping, begins_grouped, is_semicolon, is_update, is_opening, is_closing, binds_next, binds_last, ends_line, first_ends_line, last_ends_line, Keeps}
+use Rattle.unwrapping.specs.Readings.{bytes_in, comment_in, comments_in, IsRow, AreRows, none, one, IsRead}
+use Rattle.unwrapping.specs.Comparing.{next_is, next_is_grouping, begins_call, AreSameRows, PassesRow, Settles, BeginsWith, IsSameRest, IsLeft, IsKept, IsReduced, Leads, KeepsRows}
+use Rattle.unwrapping.specs.Comparing as settles
+use Rattle.unwrapping.proofs.OneReading.{same_readings}
+
+module _ {pairs pairs_again : List Pair} where
+  -- the same, said of equal things
+  kept_by : {u v a b : Bool} {p q x y : List Comment} {ss ts : List SpacedToken} → u ≡ v → a ≡ b → p ≡ q → x ≡ y → AreKept pairs pairs_again u a p x ss ts → AreKept pairs pairs_again v b q y ss ts
+  kept_by {u} {v} {a} {b} {p} {q} {x} {y} {ss} {ts} e f g h k =
+      subst (λ z. AreKept pairs pairs_again v b q z ss ts) h (subst (λ z. AreKept pairs pairs_again v b z x ss ts) g (subst (λ z. AreKept pairs pairs_again v z p x ss ts) f (subst (λ z. AreKept pairs pairs_again z a p x ss ts) e k)))
+
+  weaker : {updated alike : Bool} {p q : List Comment} {ss ts : List SpacedToken} → AreKept pairs pairs_again false alike p q ss ts → AreKept pairs pairs_again updated alike p q ss ts
+  weaker all = all
+  weaker (kept s g e k) = kept s g e k
+  weaker (moved_before s h e k) = moved_before s h e k
+  weaker (moved_after s h e k) = moved_after s h e k
+  weaker (gone h k) = gone h (weaker k)
+  weaker (put h k) = put h (weaker k)
+  weaker (called h k) = called h k
+
+  -- whether the last token is noted as `++` or `--` only if it is
+  noted : (b : Bool) (u : LexicalToken) {alike : Bool} {p q : List Comment} {ss ts : List SpacedToken} → (b ≡ true → IsTrue (is_update u)) → AreKept pairs pairs_again b alike p q ss ts → AreKept pairs pairs_again (is_update u) alike p q ss ts
+  noted true u {alike} {p} {q} {ss} {ts} h k = subst (λ x. AreKept pairs pairs_again x alike p q ss ts) (sym (h refl)) k
+  noted false u h k = weaker k
+
+rows_by : {text : List ℕ} {pairs : List Pair} {at bt stop : ℕ} {xs ys : List TokenRow} {ss : List SpacedToken} → at ≡ bt → xs ≡ ys → AreRows text pairs at xs ss stop → AreRows text pairs bt ys ss stop
+rows_by {text} {pairs} {at} {bt} {stop} {xs} {ys} {ss} e f h = subst (λ zs. AreRows text pairs bt zs ss stop) f (subst (λ z. AreRows text pairs z xs ss stop) e h)
+
+-- the row that was passed, with its token
+record IsFirst (text : List ℕ) (pairs : List Pair) (at : ℕ) (row : TokenRow) (rest : List TokenRow) (ss : List SpacedToken) (stop : ℕ) : Type 0 where
+  s : SpacedToken
+  others : List SpacedToken
+  is : ss ≡ s ∷ others
+  row_is : IsRow text pairs at row s
+  rows : AreRows text pairs row.span.end rest others stop
+
+first_of : {text : List ℕ} {pairs : List Pair} {at : ℕ} {row : TokenRow} {rest : List TokenRow} {ss : List SpacedToken} {stop : ℕ} → AreRows text pairs at (row ∷ rest) ss stop → IsFirst text pairs at row rest ss stop
+first_of (one {s = s} {ss = others} h hs) = record { s = s; others = others; is = refl; row_is = h; rows = hs }
+
+-- a grouping parenthesis comes first
+begins_with_grouping : {text : List ℕ} {pairs : List Pair} {at : ℕ} {rows : List TokenRow} {ss : List SpacedToken} {stop : ℕ} → AreRows text pairs at rows ss stop → next_is_grouping rows ≡ true → begins_grouped pairs ss ≡ true
+begins_with_grouping none h = h
+begins_with_grouping (one is hs) h = is.grouping h
+
+-- ---- results and lists
+
+-- what a call that answers true makes true
+pub each_ok : {E : Type 0} {P Q : Type 0} (r : Result Bool E) → (P → Q) → IfOk r (λ is. is ≡ true → P) → IfOk r (λ is. is ≡ true → Q)
+each_ok (Ok is) f h = λ e. f (h e)
+each_ok (Err fault) f h = tt
+
+pub both_ok : {E : Type 0} {P R Q : Type 0} (r : Result Bool E) → (P → R → Q) → IfOk r (λ is. is ≡ true → P) → IfOk r (λ is. is ≡ true → R) → IfOk r (λ is. is ≡ true → Q)
+both_ok (Ok is) f h k = λ e. f (h e) (k e)
+both_ok (Err fault) f h k = tt
+
+no_some : {X : Type 0} (x : X) → Some x ≡ None → ⊥
+no_some x e = cc
+
+last_at : (text : List ℕ) (rows : List CommentRow) (row : CommentRow) (i : ℕ) → Some row ≡ slice_get rows i → i + 1 ≡ length rows → ends_line (comment_in text row) ≡ true → last_ends_line (comments_in text rows) ≡ true
+last_at text [] row i e l h = absurd (no_some row e)
+last_at text (r ∷ []) row zero e l h = let same : row ≡ r = cc in subst (λ x. ends_line (comment_in text x) ≡ true) same h
+last_at text (r ∷ q ∷ rows) row zero e l h = absurd (omega arith)
+last_at text (r ∷ []) row (suc i) e l h = absurd (omega arith)
+last_at text (r ∷ q ∷ rows) row (suc i) e l h = last_at text (q ∷ rows) row i e (omega arith) h
+
+pub last_some : (text : List ℕ) (rows : List CommentRow) (row : CommentRow) → Some row ≡ slice_get rows (length rows - 1) → ends_line (comment_in text row) ≡ true → last_ends_line (comments_in text rows) ≡ true
+last_some text [] row e h = absurd (no_some row e)
+last_some text (r ∷ rows) row e h = last_at text (r ∷ rows) row (length (r ∷ rows) - 1) e (omega arith) h
+
+-- the same, said of equal texts
+pub settles_by : {stays before after alike : Bool} {t text u unwrapped : List ℕ} (old old_again new new_again : List CommentRow) → t ≡ text → u ≡ unwrapped →
+    Settles stays before after (comments_in t old) (comments_in u old_again) (comments_in t new) (comments_in u new_again) alike →
+    Settles stays before after (comments_in text old) (comments_in unwrapped old_again) (comments_in text new) (comments_in unwrapped new_again) alike
+settles_by {stays} {before} {after} {alike} {t} {text} {u} {unwrapped} old old_again new new_again e f h =
+    subst (λ x. Settles stays before after (comments_in text old) (comments_in x old_again) (comments_in text new) (comments_in x new_again) alike) f
+    (subst (λ x. Settles stays before after (comments_in x old) (comments_in u old_again) (comments_in x new) (comments_in u new_again) alike) e h)
+
+-- ---- turns
+
+module _ {text unwrapped : List ℕ} (old new : Comparison) where
+  -- a grouping parenthesis goes
+  pub leads_gone : next_is_grouping old.text.rows.now ≡ true → PassesRow text old.text new.text → new.unwrapped ≡ old.unwrapped → new.updated ≡ old.updated → new.alike ≡ false → Leads text unwrapped old new
+  leads_gone next passes other updated alike pairs pairs_again ss ts l =
+      let f = first_of (rows_by refl passes.split l.rows) in
+      let grouping = f.row_is.grouping (sym (ap next_is_grouping passes.split) ∙ next) in
+      record {
+        here = f.others;
+        there = ts;
+        left = record {
+          stop = l.stop;
+          stop_again = l.stop_again;
+          rows = rows_by (sym passes.at) refl f.rows;
+          rows_again = rows_by (ap (λ (r : Rest). r.at) (sym other)) (ap (λ (r : Rest). r.rows.now) (sym other)) l.rows_again;
+        };
+        kept = λ k. subst (λ zs. IsKept text pairs unwrapped pairs_again old zs ts) (sym f.is)
+            (gone grouping (kept_by updated alike (f.row_is.comments _ _ passes.comments) (ap (λ (r : Rest). comments_in unwrapped r.passed.items) other) k));
+      }
+
+  -- a grouping parenthesis comes
+  pub leads_put : next_is_grouping old.unwrapped.rows.now ≡ true → PassesRow unwrapped old.unwrapped new.unwrapped → new.text ≡ old.text → new.updated ≡ old.updated → new.alike ≡ false → Leads text unwrapped old new
+  leads_put next passes other updated alike pairs pairs_again ss ts l =
+      let f = first_of (rows_by refl passes.split l.rows_again) in
+      let grouping = f.row_is.grouping (sym (ap next_is_grouping passes.split) ∙ next) in
+      record {
+        here = ss;
+        there = f.others;
+        left = record {
+          stop = l.stop;
+          stop_again = l.stop_again;
+          rows = rows_by (ap (λ (r : Rest). r.at) (sym other)) (ap (λ (r : Rest). r.rows.now) (sym other)) l.rows;
+          rows_again = rows_by (sym passes.at) refl f.rows;
+        };
+        kept = λ k. subst (λ zs. IsKept text pairs unwrapped pairs_again old ss zs) (sym f.is)
+            (put grouping (kept_by updated alike (ap (λ (r : Rest). comments_in text r.passed.items) other) (f.row_is.comments _ _ passes.comments) k));
+      }
+
+  -- a `;` comes
+  pub leads_ended : old.updated ≡ true → next_is (";" ∷ []) unwrapped old.unwrapped.rows.now ≡ true → PassesRow unwrapped old.unwrapped new.unwrapped → new.text ≡ old.text → new.updated ≡ false → new.alike ≡ false → Leads text unwrapped old new
+  leads_ended was next passes other updated alike pairs pairs_again ss ts l =
+      let f = first_of (rows_by refl passes.split l.rows_again) in
+      let semicolon : IsTrue (is_semicolon f.s.token) = ap (is_one_of_words (";" ∷ [])) f.row_is.bytes ∙ sym (ap (next_is (";" ∷ []) unwrapped) passes.split) ∙ next in
+      record {
+        here = ss;
+        there = f.others;
+        left = record {
+          stop = l.stop;
+          stop_again = l.stop_again;
+          rows = rows_by (ap (λ (r : Rest). r.at) (sym other)) (ap (λ (r : Rest). r.rows.now) (sym other)) l.rows;
+          rows_again = rows_by (sym passes.at) refl f.rows;
+        };
+        kept = λ k. subst (λ zs. IsKept text pairs unwrapped pairs_again old ss zs) (sym f.is)
+            (subst (λ u. AreKept pairs pairs_again u old.alike (comments_in text old.text.passed.items) (comments_in unwrapped old.unwrapped.passed.items) ss (f.s ∷ f.others)) (sym was)
+            (ended semicolon (kept_by updated alike (ap (λ (r : Rest). comments_in text r.passed.items) other) (f.row_is.comments _ _ passes.comments) k)));
+      }
+
+  -- `()` comes
+  pub leads_called : (mid : Rest) → begins_call unwrapped old.unwrapped.rows.now ≡ true → PassesRow unwrapped old.unwrapped mid → PassesRow unwrapped mid new.unwrapped → new.text ≡ old.text → new.updated ≡ false → new.alike ≡ false → Leads text unwrapped old new
+  leads_called mid next opens closes other updated alike pairs pairs_again ss ts l =
+      let f = first_of (rows_by refl opens.split l.rows_again) in
+      let g = first_of (rows_by (sym opens.at) closes.split f.rows) in
+      let words = and_parts _ _ (sym (ap (begins_call unwrapped) (opens.split ∙ ap (λ zs. opens.row ∷ zs) closes.split)) ∙ next) in
+      let opening : is_opening f.s.token ≡ true = ap (is_one_of_words ("(" ∷ [])) f.row_is.bytes ∙ words.0 in
+      let closing : is_closing g.s.token ≡ true = ap (is_one_of_words (")" ∷ [])) g.row_is.bytes ∙ words.1 in
+      let said = g.row_is.comments _ _ closes.comments ∙ ap (λ x. x ++ g.s.comments) (f.row_is.comments _ _ opens.comments) in
+      record {
+        here = ss;
+        there = g.others;
+        left = record {
+          stop = l.stop;
+          stop_again = l.stop_again;
+          rows = rows_by (ap (λ (r : Rest). r.at) (sym other)) (ap (λ (r : Rest). r.rows.now) (sym other)) l.rows;
+          rows_again = rows_by (sym closes.at) refl g.rows;
+        };
+        kept = λ k. subst (λ zs. IsKept text pairs unwrapped pairs_again old ss zs) (sym (f.is ∙ ap (λ zs. f.s ∷ zs) g.is))
+            (called (and_from _ _ opening closing) (kept_by updated alike (ap (λ (r : Rest). comments_in text r.passed.items) other) said k));
+      }
+
+  -- a token is kept; the lists of comments are `mid` before those that both have are taken off
+  pub leads_kept : (mid mid_again : Rest) (row other : TokenRow) (stays before after : Bool) → BeginsWith old.text.rows.now row → BeginsWith old.unwrapped.rows.now other → AreSameRows text row unwrapped other →
+      (stays ≡ true → old.alike ≡ true → bytes_in text (record { start = old.text.at; end = row.span.start }) ≡ bytes_in unwrapped (record { start = old.unwrapped.at; end = other.span.start })) →
+      (before ≡ true → IsTrue (is_one_of_words ("return" ∷ "throw" ∷ []) (bytes_in text row.span) && next_is_grouping mid.rows.now)) →
+      (after ≡ true → (old.alike ≡ false) × IsTrue (is_one_of_words ("++" ∷ "--" ∷ ";" ∷ "," ∷ []) (bytes_in text row.span))) →
+      (new.updated ≡ true → IsTrue (is_one_of_words ("++" ∷ "--" ∷ []) (bytes_in unwrapped other.span))) →
+      PassesRow text old.text mid → PassesRow unwrapped old.unwrapped mid_again →
+      Settles stays before after (comments_in text mid.passed.items) (comments_in unwrapped mid_again.passed.items) (comments_in text new.text.passed.items) (comments_in unwrapped new.unwrapped.passed.items) new.alike →
+      new.text.rows.now ≡ mid.rows.now → new.text.at ≡ mid.at → new.unwrapped.rows.now ≡ mid_again.rows.now → new.unwrapped.at ≡ mid_again.at → Leads text unwrapped old new
+  leads_kept mid mid_again row other stays before after begins begins_again same gaps leads follows is passes passes_again settled rows at rows_again at_again pairs pairs_again ss ts l =
+      let f = first_of (rows_by refl passes.split l.rows) in
+      let g = first_of (rows_by refl passes_again.split l.rows_again) in
+      let here : passes.row ≡ row = first_row (sym passes.split ∙ begins.1) in
+      let there : passes_again.row ≡ other = first_row (sym passes_again.split ∙ begins_again.1) in
+      let left : IsLeft text pairs unwrapped pairs_again new f.others g.others = record {
+        stop = l.stop;
+        stop_again = l.stop_again;
+        rows = rows_by (sym passes.at ∙ sym at) (sym rows) f.rows;
+        rows_again = rows_by (sym passes_again.at ∙ sym at_again) (sym rows_again) g.rows;
+      } in
+      let token : IsSameToken f.s g.s = record {
+        class = sym f.row_is.class ∙ ap (λ (r : TokenRow). r.class) here ∙ same.class ∙ sym (ap (λ (r : TokenRow). r.class) there) ∙ g.row_is.class;
+        text = f.row_is.bytes ∙ ap (λ (r : TokenRow). bytes_in text r.span) here ∙ same.bytes ∙ sym (ap (λ (r : TokenRow). bytes_in unwrapped r.span) there) ∙ sym g.row_is.bytes;
+      } in
+      let word : f.s.token.text ≡ bytes_in text row.span = f.row_is.bytes ∙ ap (λ (r : TokenRow). bytes_in text r.span) here in
+      let word_again : g.s.token.text ≡ bytes_in unwrapped other.span = g.row_is.bytes ∙ ap (λ (r : TokenRow). bytes_in unwrapped r.span) there in
+      let said = f.row_is.comments _ _ passes.comments in
+      let said_again = g.row_is.comments _ _ passes_again.comments in
+      record {
+        here = f.others;
+        there = g.others;
+        left = left;
+        kept = λ k.
+            let is_word : (words : List String) → IsTrue (is_one_of_words words (bytes_in text row.span)) → IsTrue (is_one_of_words words f.s.token.text) = λ words h. ap (is_one_of_words words) word ∙ h in
+            let k_noted = noted new.updated g.s.token (λ u. ap (is_one_of_words ("++" ∷ "--" ∷ [])) word_again ∙ is u) k in
+            subst (λ zs. IsKept text pairs unwrapped pairs_again old zs ts) (sym f.is) (subst (λ zs. IsKept text pairs unwrapped pairs_again old (f.s ∷ f.others) zs) (sym g.is)
+            (settle f.s g.s f.others g.others token
+            (λ st a. f.row_is.gap ∙ ap (λ (r : TokenRow). slice_range text old.text.at r.span.start) here ∙ gaps st a ∙ sym (ap (λ (r : TokenRow). slice_range unwrapped old.unwrapped.at r.span.start) there) ∙ sym g.row_is.gap)
+            (λ b. let u = and_parts _ _ (leads b) in and_from _ _ (is_word ("return" ∷ "throw" ∷ []) u.0) (begins_with_grouping f.rows u.1))
+            (λ b. ((follows b).0, is_word ("++" ∷ "--" ∷ ";" ∷ "," ∷ []) (follows b).1))
+            said said_again settled k_noted));
+      }
+    where
+      first_row : {x y : TokenRow} {xs ys : List TokenRow} → x ∷ xs ≡ y ∷ ys → x ≡ y
+      first_row e = cc
+
+      settle : {pairs pairs_again : List Pair} (s t : SpacedToken) (ss ts : List SpacedToken) → IsSameToken s t → (stays ≡ true → old.alike ≡ true → s.gap ≡ t.gap) →
+          (before ≡ true → IsTrue (binds_next s.token && begins_grouped pairs ss)) → (after ≡ true → (old.alike ≡ false) × IsTrue (binds_last s.token)) →
+          comments_in text mid.passed.items ≡ comments_in text old.text.passed.items ++ s.comments → comments_in unwrapped mid_again.passed.items ≡ comments_in unwrapped old.unwrapped.passed.items ++ t.comments →
+          Settles stays before after (comments_in text mid.passed.items) (comments_in unwrapped mid_again.passed.items) (comments_in text new.text.passed.items) (comments_in unwrapped new.unwrapped.passed.items) new.alike →
+          AreKept pairs pairs_again (is_update t.token) new.alike (comments_in text new.text.passed.items) (comments_in unwrapped new.unwrapped.passed.items) ss ts →
+          AreKept pairs pairs_again old.updated old.alike (comments_in text old.text.passed.items) (comments_in unwrapped old.unwrapped.passed.items) (s ∷ ss) (t ∷ ts)
+      settle s t ss ts token gap leads follows said said_again (settles.all_found st e nil nil_again alike) k = kept token (gap st) (sym said ∙ e ∙ said_again) (kept_by refl alike nil nil_again k)
+      settle s t ss ts token gap leads follows said said_again (settles.moved_before b h e nil alike) k =
+          moved_before token (and_from _ _ (leads b) h) (sym (ap (λ x. x ++ comments_in unwrapped new.unwrapped.passed.items) said) ∙ e ∙ said_again) (kept_by refl alike nil refl k)
+      settle {pairs} {pairs_again} s t ss ts token gap leads follows said said_again (settles.moved_after b h e nil alike) k =
+          subst (λ z. AreKept pairs pairs_again old.updated z (comments_in text old.text.passed.items) (comments_in unwrapped old.unwrapped.passed.items) (s ∷ ss) (t ∷ ts)) (sym (follows b).0)
+          (moved_after token (and_from _ _ (follows b).1 h) (sym said ∙ e ∙ ap (λ x. x ++ comments_in text new.text.passed.items) said_again) (kept_by refl alike refl nil k))
+
+-- ---- the whole comparison
+
+-- rows of two texts: if what is left is kept, all is
+pub record IsRest (text : List ℕ) (pairs : List Pair) (unwrapped : List ℕ) (pairs_again : List Pair) (left : Comparison) (ss ts : List SpacedToken) : Type 0 where
+  pub here : List SpacedToken
+  pub there : List SpacedToken
+  pub is_left : IsLeft text pairs unwrapped pairs_again left here there
+  pub kept : IsKept text pairs unwrapped pairs_again left here there → AreKept pairs pairs_again false true [] [] ss ts
+
+abbrev pub Compares : List ℕ → List TokenRow → List ℕ → List TokenRow → Comparison → Type 0
+Compares text rows unwrapped others left =
+    (pairs pairs_again : List Pair) (ss ts : List SpacedToken) (stop stop_again : ℕ) → AreRows text pairs 0 rows ss stop → AreRows unwrapped pairs_again 0 others ts stop_again →
+    IsRest text pairs unwrapped pairs_again left ss ts
+
+pub begins_comparing : (text : List ℕ) (rows : List TokenRow) (unwrapped : List ℕ) (others : List TokenRow) (left : Comparison) → left.text.rows.now ≡ rows → left.text.at ≡ 0 → left.text.passed.items ≡ [] →
+    left.unwrapped.rows.now ≡ others → left.unwrapped.at ≡ 0 → left.unwrapped.passed.items ≡ [] → left.updated ≡ false → left.alike ≡ true → Compares text rows unwrapped others left
+begins_comparing text rows unwrapped others left e f g e_again f_again g_again updated alike pairs pairs_again ss ts stop stop_again h h_again =
+    record {
+      here = ss;
+      there = ts;
+      is_left = record { stop = stop; stop_again = stop_again; rows = rows_by (sym f) (sym e) h; rows_again = rows_by (sym f_again) (sym e_again) h_again };
+      kept = λ k. kept_by updated alike (ap (comments_in text) g) (ap (comments_in unwrapped) g_again) k;
+    }
+
+pub compares_on : (text : List ℕ) (rows : List TokenRow) (unwrapped : List ℕ) (others : List TokenRow) (old new : Comparison) → Compares text rows unwrapped others old → Leads text unwrapped old new → Compares text rows unwrapped others new
+compares_on text rows unwrapped others old new compares leads pairs pairs_again ss ts stop stop_again h h_again =
+    let l = compares pairs pairs_again ss ts stop stop_again h h_again in
+    let m = leads pairs pairs_again l.here l.there l.is_left in
+    record { here = m.here; there = m.there; is_left = m.left; kept = λ k. l.kept (m.kept k) }
+
+-- where nothing is left, all is kept
+pub ends_comparing : (text : List ℕ) (rows : List TokenRow) (unwrapped : List ℕ) (others : List TokenRow) (left : Comparison) → Compares text rows unwrapped others left → left.text.rows.now ≡ [] → left.unwrapped.rows.now ≡ [] →
+    left.text.passed.items ≡ [] → left.unwrapped.passed.items ≡ [] → KeepsRows text rows unwrapped others
+ends_comparing text rows unwrapped others left compares e e_again g g_again pairs pairs_again ss ts stop stop_again h h_again =
+    let l = compares pairs pairs_again ss ts stop stop_again h h_again in
+    l.kept (ended_by l.here l.there (no_token (rows_by refl e l.is_left.rows)) (no_token (rows_by refl e_again l.is_left.rows_again)))
+  where
+    no_token : {text : List ℕ} {pairs : List Pair} {at stop : ℕ} {zs : List SpacedToken} → AreRows text pairs at [] zs stop → zs ≡ []
+    no_token none = refl
+
+    ended_by : {pairs pairs_again : List Pair} (here there : List SpacedToken) → here ≡ [] → there ≡ [] → IsKept text pairs unwrapped pairs_again left here there
+    ended_by {pairs} {pairs_again} here there x y =
+        subst (λ zs. IsKept text pairs unwrapped pairs_again left zs there) (sym x) (subst (λ zs. IsKept text pairs unwrapped pairs_again left [] zs) (sym y)
+        (kept_by {u = left.updated} {a = left.alike} refl refl (sym (ap (comments_in text) g)) (sym (ap (comments_in unwrapped) g_again)) all))
+
+-- what holds of what was read of both texts holds of all readings by their trees
+pub keeps_read : (text : List ℕ) (n : Tree) (pairs : List Pair) (unwrapped : List ℕ) (again : Tree) (pairs_again : List Pair) (read read_again : TreeReading) → IsRead text n pairs read → IsRead unwrapped again pairs_again read_again →
+    KeepsRows text read.tokens.items unwrapped read_again.tokens.items → Keeps text n pairs unwrapped again pairs_again
+keeps_read text n pairs unwrapped again pairs_again read read_again r s keeps before after reading reading_again =
+    let here = same_readings n r.reading reading refl refl in
+    let there = same_readings again s.reading reading_again refl refl in
+    subst (λ x. AreKept pairs pairs_again false true [] [] x (spaced_tokens reading_again)) here
+    (subst (λ x. AreKept pairs pairs_again false true [] [] (spaced_tokens r.reading) x) there (keeps pairs pairs_again _ _ r.stop s.stop r.rows s.rows))
+
+-- a text keeps what it has
+pub keeps_itself : (text : List ℕ) (n : Tree) (pairs : List Pair) → Keeps text n pairs text n pairs
+keeps_itself text n pairs before after reading reading_again =
+    let same = same_readings n reading reading_again refl refl in
+    subst (AreKept pairs pairs false true [] [] (spaced_tokens reading)) same (all_kept false (spaced_tokens reading)) where
+      all_kept : (updated : Bool) (ss : List SpacedToken) → AreKept pairs pairs updated true [] [] ss ss
+      all_kept updated [] = all
+      all_kept updated (s ∷ ss) = kept (record { class = refl; text = refl }) (λ a. refl) refl (all_kept (is_update s.token) ss)

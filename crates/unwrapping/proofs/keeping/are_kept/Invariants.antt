@@ -1,0 +1,9 @@
+use Rattle.unwrapping.specs.Comparing.{row_count}
+use Rattle.unwrapping.proofs.CompareSteps.{Compares}
+use Rattle.unwrapping.proofs.keeping.are_kept.Given as goal
+
+abbrev pub invariant-loop-left : goal.invariant-loop-left
+invariant-loop-left l = Compares l.source l.rows l.unwrapped l.others l.left
+
+abbrev pub decreases-loop-left : goal.decreases-loop-left
+decreases-loop-left l = row_count l.left
