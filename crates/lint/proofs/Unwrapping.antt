@@ -3,6 +3,7 @@ use Rattle.std.proofs.Common.{◌≡◌, ℕ, List, refl, sym, ap, subst, ◌∙
 use Rattle.std.specs.Result.{IfOk}
 use Rattle.std.specs.Prelude.{String}
 use Rattle.source_text.specs.declared.fault.Fault.{Fault}
+use Rattle.source_text.specs.declared.fault.Fault.TheVariants.{TooLong, OutOfMemory, UnwrapFailed}
 use Rattle.tree.specs.Tree.{Tree, SameTree, bare}
 use Rattle.tree.specs.declared.kind.Pair.{Pair}
 use Rattle.early_errors.specs.Accepted.{Accepted}
@@ -12,8 +13,8 @@ use Rattle.language.specs.Pieces.{script}
 use Rattle.language.specs.Cost.{least}
 use Rattle.paren_planner.proofs.Totals.{wrapped_count}
 use Rattle.lint.specs.ReadScripts.{IsOnly}
-use Rattle.lint.specs.Unwraps.{Unwraps, IsUnwrapped, SpellsWith, unwrapped_text}
-use Rattle.unwrapping.proofs.KeptSteps.{keeps_itself}
+use Rattle.lint.specs.Unwraps.{Unwraps, IsUnwrapped, SpellsWith, HasMorePairs, IsUnfit, RefusesScript, RefusesUnwrapping, unwrapped_text}
+use Rattle.unwrapping.proofs.CompareSteps.{keeps_itself}
 use Rattle.lint.proofs.FixAnswers.{fewest}
 use Rattle.lint.proofs.OneScript.{only_script}
 
@@ -38,12 +39,12 @@ unwraps_itself text n P is only count = record {
   accepted_again = is;
   only_again = only;
   fewest = are_fewest n n text P refl (max_open, is.derived.1) count;
-  kept = keeps_itself text n;
+  kept = keeps_itself text n P;
   untouched = λ _. refl;
 }
 
 -- a text with more is unwrapped to one that spells its tree with the fewest
-pub unwraps_to : (text out : List ℕ) (n : Tree) (P : List Pair) (k : ℕ) → Accepted text n P → IsOnly text n P → Some k ≡ least n script → (Some (length P) ≡ least n script → ⊥) → SpellsWith text out n k → Unwraps text out
+pub unwraps_to : (text out : List ℕ) (n : Tree) (P : List Pair) (k : ℕ) → Accepted text n P → IsOnly text n P → Some k ≡ least n script → HasMorePairs n P → SpellsWith text out n P k → Unwraps text out
 unwraps_to text out n P k is only total more spells =
     let count : Some (length spells.pairs) ≡ least n script = ap (λ m. Some m) spells.counted ∙ total in
     record {
@@ -81,3 +82,17 @@ unwraps_made text made (Err fault) unwraps same = tt
 pub unwrapped_each : {A : Type 0} (text : List ℕ) (answer : Result (String A) Fault) → IfOk answer (λ t. Unwraps text (string_bytes t)) → IfOk answer (λ t. IsUnwrapped (string_bytes t))
 unwrapped_each text (Ok t) unwraps = is_unwrapped text (string_bytes t) unwraps
 unwrapped_each text (Err fault) unwraps = tt
+
+-- a script with more pairs than the fewest isn't unwrapped for these reasons
+pub refuses_more : (text : List ℕ) (n : Tree) (P : List Pair) (fault : Fault) → HasMorePairs n P → IsUnfit text P fault → RefusesScript text n P fault
+refuses_more text n P TooLong more unfit = (more, unfit)
+refuses_more text n P UnwrapFailed more unfit = more
+refuses_more text n P OutOfMemory more unfit = tt
+refuses_more text n P _ more unfit = absurd unfit
+
+-- so the text is refused
+pub refuses_text : (text : List ℕ) (n : Tree) (P : List Pair) (fault : Fault) → Accepted text n P → RefusesScript text n P fault → RefusesUnwrapping text fault
+refuses_text text n P TooLong is refuses = (n, P, is, refuses)
+refuses_text text n P UnwrapFailed is refuses = (n, P, is, refuses)
+refuses_text text n P OutOfMemory is refuses = tt
+refuses_text text n P _ is refuses = absurd refuses

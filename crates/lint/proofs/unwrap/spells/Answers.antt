@@ -10,6 +10,7 @@ pub returns-in-Ok-keeps-clause-spells : goal.returns-in-Ok-keeps-clause-spells
 returns-in-Ok-keeps-clause-spells c held =
     let text = c.args.original.source.now in
     let n = c.args.original.program.now in
+    let P = c.args.original.pairs.now in
     let again = c.in-Ok-parse.again.program in
     let pairs = c.in-Ok-parse.again.pairs.items in
     record {
@@ -17,8 +18,9 @@ returns-in-Ok-keeps-clause-spells c held =
       pairs = pairs;
       source = subst IsUtf8 c.in-Ok.ensures.ok.0 c.in-Ok-parse.ensures.source.0;
       derived = subst (λ (t : List ℕ). WithinLimits t again pairs) c.in-Ok.ensures.ok.0 c.in-Ok-parse.ensures.derived;
-      kept = subst (λ (t : List ℕ). Keeps text n t again) c.in-Ok.ensures.ok.0
-          (subst (λ (m : Tree). Keeps text n c.in-Ok.source m) c.program-2.ensures (c.in-Ok-keeps.ensures held n c.requires));
+      kept = subst (λ (t : List ℕ). Keeps text n P t again pairs) c.in-Ok.ensures.ok.0
+          (subst (λ (m : Tree). Keeps text n P c.in-Ok.source m pairs) c.program-2.ensures
+          (subst (λ (ps : List Pair). Keeps text n P c.in-Ok.source c.program-2.result.now ps) c.grouping_pairs-2.ensures (c.in-Ok-keeps.ensures held n P c.requires)));
       same = subst (λ (m : Tree). SameTree m n) c.program.ensures (c.if-not-same_tree.ensures.0 refl);
       counted = ap (λ (ps : List Pair). length ps) (sym c.grouping_pairs.ensures) ∙ c.if-grouping_pairs-original.false;
     }

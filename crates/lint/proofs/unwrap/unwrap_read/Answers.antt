@@ -1,14 +1,18 @@
-use Rattle.std.proofs.Common.{ℕ, sym, subst, string_bytes}
+use Rattle.std.proofs.Common.{ℕ, List, sym, subst, string_bytes}
 use Rattle.std.specs.Result.{IfOk}
 use Rattle.tree.specs.Tree.{Tree}
+use Rattle.tree.specs.declared.kind.Pair.{Pair}
 use Rattle.unwrapping.specs.Readings.{IsRead}
 use Rattle.lint.specs.Unwraps.{SpellsWith}
 use Rattle.lint.proofs.unwrap.unwrap_read.Goals as goal
 
 pub validated-requires : goal.validated-requires
-validated-requires c = subst (λ (m : Tree). IsRead c.args.source.now m c.args.reading.now) (sym c.program-program.ensures) c.requires
+validated-requires c =
+    subst (λ (ps : List Pair). IsRead c.args.source.now c.program-program.result.now ps c.args.reading.now) (sym c.grouping_pairs-pairs.ensures)
+    (subst (λ (m : Tree). IsRead c.args.source.now m c.args.parsed.now.pairs.items c.args.reading.now) (sym c.program-program.ensures) c.requires)
 
 pub returns-in-Ok-clause-spells : goal.returns-in-Ok-clause-spells
 returns-in-Ok-clause-spells c =
-    subst (λ (k : ℕ). IfOk c.validated.result (λ t. SpellsWith c.args.source.now (string_bytes t) c.args.parsed.now.program k)) c.total-count.ensures
-    (subst (λ (m : Tree). IfOk c.validated.result (λ t. SpellsWith c.args.source.now (string_bytes t) m c.total-count.result)) c.program-program.ensures c.validated.ensures.spells)
+    subst (λ (k : ℕ). IfOk c.validated.result (λ t. SpellsWith c.args.source.now (string_bytes t) c.args.parsed.now.program c.args.parsed.now.pairs.items k)) c.total-count.ensures
+    (subst (λ (ps : List Pair). IfOk c.validated.result (λ t. SpellsWith c.args.source.now (string_bytes t) c.args.parsed.now.program ps c.total-count.result)) c.grouping_pairs-pairs.ensures
+    (subst (λ (m : Tree). IfOk c.validated.result (λ t. SpellsWith c.args.source.now (string_bytes t) m c.grouping_pairs-pairs.result.now c.total-count.result)) c.program-program.ensures c.validated.ensures.spells))
