@@ -1,10 +1,11 @@
 """Wrong bodies that the prover must refuse, beside those few of the gate: `CRATE/NAME.edit` is one, in the form of `crates/CRATE/must-fail/NAME.edit`.
+And bodies that mean the same as the crate's own, which it must accept: `CRATE/accepted/NAME.edit`.
 
-    run.py [--built] [--anew] [CRATE | CRATE/NAME.edit ..]
+    run.py [--built] [--anew] [CRATE | CRATE/NAME.edit | CRATE/accepted/NAME.edit ..]
 
-Tries those that are named, or all, and says of each why it was refused. The exit status is 0 where each is.
+Tries those that are named, or all, and says of each why it was refused, or that it was accepted. The exit status is 0 where each is what it must be.
 
-An edit that an earlier run on this machine saw refused isn't tried again, where nothing that its try read has changed: the edit, the crate, the
+An edit whose try ended as it must in an earlier run on this machine isn't tried again, where nothing that its try read has changed: the edit, the crate, the
 libraries below it, the kit, and this file. Where `rt ci` keeps what it passed, that is in its folder, for runs with `--built`; a kit that keeps nothing
 has it in a folder of this program's own (`~/.cache/jslint/edits`), under a sum of the sources. `--anew` tries all.
 
@@ -13,6 +14,10 @@ contracts of what it calls, never their bodies, so no wrong body can break or me
 whether it is proved. Functions that call one another have one proof, so of those one has a wrong body in a check. What counts is an error at a goal of
 the function itself: one that only waits for the proof of what it calls, or that has another wrong body in this check, is tried in the next. An edit outside functions, one that none of these checks refuses, and all of a
 check that refuses a function with no wrong body, are tried alone, as `rt must-fail` does.
+
+The bodies of a crate that mean the same share one check, each of another function, and each of these functions must be proved in it. So a refusal is the
+contract's doing, and not that of an answer that fits only the text as it stands. One that changes a constant or a definition names the function that it
+is for in a line of its own: `function: MODULE::NAME`.
 
 A crate is proved beside its wrong bodies, so it takes what its check takes; kept work of `rt check` is taken where there is any, from a copy. With
 `--built` the libraries are those that a gate left in the working tree a moment ago, and nothing else is taken.
@@ -44,6 +49,9 @@ FUNCTION = re.compile(r'^( *)(?:#\[(?:(?!\]\n).|\n(?!\n))*\]\n\1)*(?:pub(?:\([^)
 IMPL = re.compile(r'^impl\b(.*?)\{', re.M | re.S)
 
 CYCLE = re.compile(r'#\[cycle\((\w+)\)\]')
+STATE = re.compile(r'^fn (\S+): (.*)', re.M)
+# The line of an edit outside functions that names the one which it is for.
+NAMED = re.compile(r'^function: (\S+)$', re.M)
 
 Edit = collections.namedtuple('Edit', 'name file pairs function cycle')
 
@@ -128,12 +136,12 @@ def edit_of(crate, file):
     functions = {function_at(crate, path, text, text.find(old)) if text.count(old) == 1 else None for path, text, old in texts}
     function = functions.pop() if len(functions) == 1 else None
     cycle = CYCLE.search(head_at(texts[0][1], texts[0][1].find(texts[0][2]))[0]) if function else None
-    return Edit(os.path.basename(file), file, pairs, function, cycle and cycle[1])
+    return Edit(os.path.relpath(file, f'{HERE}/{crate.name}'), file, pairs, function, cycle and cycle[1])
 
 
-def edits_of(crate, words):
-    """The crate's edits here, or those that are named."""
-    files = sorted(glob.glob(f'{HERE}/{crate.name}/*.edit'))
+def edits_of(crate, words, folder='.'):
+    """The crate's edits in that folder of its own here, or those of them that are named."""
+    files = sorted(os.path.normpath(it) for it in glob.glob(f'{HERE}/{crate.name}/{folder}/*.edit'))
     return [edit_of(crate, it) for it in files if not words or {crate.name, os.path.relpath(it, HERE)} & {*words}]
 
 
@@ -182,7 +190,7 @@ def own_notes(crate, name, texts, said):
 def refusals(crate, texts, said):
     """Functions that the prover refuses for a goal of their own, and why; what each that isn't proved waits for; and the names of all."""
     refused, waits = {}, {}
-    states = re.findall(r'^fn (\S+): (.*)', said, re.M)
+    states = STATE.findall(said)
     paths = {'/'.join(name.split('::')[1:]) for name, _ in states}
     for name, state in states:
         if state == 'proved':
@@ -228,7 +236,7 @@ def tried(crate, words, kept, earlier):
         why, waits, names = tried_together(crate, group, names, kept)
         for edit in group:
             if edit.function in why:
-                earlier.keep(edit.file, why[edit.function])
+                earlier.keep(edit, why[edit.function])
                 yield edit.name, True, why[edit.function]
         done = [it for it in group if it.function in why]
         alone += [] if done else group
@@ -237,27 +245,76 @@ def tried(crate, words, kept, earlier):
         came_to, said = RT.must_fail(crate, edit.file, ONE_JOB, kept)
         well, why = came_to in REFUSED and 'only because a proof file' not in said, said.partition(': ')[2]
         if well:
-            earlier.keep(edit.file, why)
+            earlier.keep(edit, why)
         yield edit.name, well, why
 
 
+def of_named(crate, edit):
+    """The edit as one of the function that it names, if it names one."""
+    with open(edit.file, encoding='utf-8') as file:
+        named = NAMED.search(file.read())
+    return edit._replace(function=f'{crate.name}::{named[1]}') if named else edit
+
+
+def why_open(crate, edit, texts, said):
+    """Why the function of the edit isn't proved, or nothing where it is."""
+    states = STATE.findall(said)
+    paths = {'/'.join(name.split('::')[1:]) for name, _ in states}
+    own = [(name, state) for name, state in states if re.fullmatch(edit.function, name)]
+    for name, state in own:
+        if state != 'proved':
+            return next(iter([*own_errors(name, said, paths), *own_notes(crate, name, texts, said)]), state)
+    return None if own else f'nothing is said of {edit.function}: {said[-160:]}'
+
+
+def tried_to_accept(crate, edits, kept):
+    """Why each of the edits isn't accepted, in their order, or nothing for one that is: all in one check, in which each has to be of another function."""
+    if None in [it.function for it in edits] or len({it.function for it in edits}) < len(edits):
+        return ['one of these edits is of no function, or two are of one'] * len(edits)
+    texts = edited(crate, edits)
+    only = [it for name in names_of(edits, []) for it in ('--only', name.partition('::')[2])]
+    ran = RT.checked(crate, texts, ONE_JOB + only, kept)
+    why = [why_open(crate, it, texts, ran.stdout) for it in edits]
+    # (another function may not be proved, where a constant or a definition has changed)
+    is_alone = ran.returncode and not any(why)
+    return [f'the check ended with status {ran.returncode}: {ran.stdout[-160:]}'] * len(edits) if is_alone else why
+
+
+def accepted(crate, words, kept, earlier):
+    """Of each body of the crate that means the same its name, whether it was accepted, and why not."""
+    edits = [of_named(crate, it) for it in edits_of(crate, words, 'accepted')]
+    left = [it for it in edits if earlier.why(it) is None]
+    for edit in edits:
+        if edit not in left:
+            yield edit.name, True, '(by an earlier run)'
+    for edit, why in zip(left, tried_to_accept(crate, left, kept) if left else []):
+        if not why:
+            earlier.keep(edit, '')
+        yield edit.name, not why, why or ''
+
+
 class Earlier:
-    """What runs on this machine saw refused of a crate's edits, each under a sum of all that its try read."""
+    """What runs on this machine saw refused, or accepted, of a crate's edits, each under a sum of all that its try read."""
 
     def __init__(self, kept, crate):
         self.kept, self.crate, self.used = kept, crate, 0
         self.sum = repr((sum_of_file(os.path.abspath(__file__)), kept.key(crate))) if kept else None
 
+    def name(self, edit):
+        """What the edit's end is kept under: with its folder, since the same text must be refused in one and accepted in the other."""
+        return self.kept.of_edit(edit.file, self.sum + os.path.dirname(edit.name))
+
     def why(self, edit):
-        """Why an earlier run saw the edit refused, if one did."""
-        found = self.kept and self.kept.tried(self.kept.of_edit(edit.file, self.sum))
+        """What an earlier run said of the edit, if one saw it end as it must."""
+        found = self.kept and self.kept.tried(self.name(edit))
         self.used += bool(found)
         return found[1] if found else None
 
-    def keep(self, file, why):
-        """Keeps why an edit was refused, unless a file of the crate or of one below it was touched since the run began."""
+    def keep(self, edit, why):
+        """Keeps that an edit ended as it must, unless a file of the crate or of one below it was touched since the run began. (The kit has a word for
+        what it keeps only of refused ones.)"""
         if self.kept and all(self.kept.is_untouched(it) for it in [self.crate, *self.crate.below()]):
-            self.kept.keep_tried(self.kept.of_edit(file, self.sum), getattr(RT, 'REFUSED', 'refused'), why)
+            self.kept.keep_tried(self.name(edit), getattr(RT, 'REFUSED', 'refused'), why)
 
 
 class KeptHere:
@@ -312,20 +369,21 @@ def earlier_of(crates, is_built, is_anew):
 
 
 def tried_crate(crate, words, is_built, kept_by_runs):
-    """Tries the crate's edits, over a copy of what its check kept, if it may be taken, and prints each. How many are refused, how many of these by earlier runs,
-    and a line for each that isn't."""
+    """Tries the crate's edits, over a copy of what its check kept, if it may be taken, and prints each. How many ended as they must, of wrong bodies and of
+    those that mean the same; a line for each that didn't; and how many ended in earlier runs."""
     earlier = Earlier(kept_by_runs, crate)
     with tempfile.TemporaryDirectory(prefix='jslint-edits-') as room:
         kept = f'{room}/kept'
         if os.path.isdir(f'{crate.folder}/out/incremental') and not is_built:
             shutil.copytree(f'{crate.folder}/out/incremental', kept)
-        refused, not_refused = 0, []
-        for name, well, why in tried(crate, words, kept, earlier):
-            line = f'{crate.name}/{name}: {"refused" if well else "NOT REFUSED"}: {why[:160]}'
-            print(line, flush=True)
-            refused += well
-            not_refused += [] if well else [line]
-    return refused, earlier.used, not_refused
+        ended, lines = collections.Counter(), {'refused': [], 'accepted': []}
+        for word, all_of in ('refused', tried), ('accepted', accepted):
+            for name, well, why in all_of(crate, words, kept, earlier):
+                line = f'{crate.name}/{name}: {word if well else f"NOT {word.upper()}"}: {why[:160]}'.removesuffix(': ')
+                print(line, flush=True)
+                ended[word] += well
+                lines[word] += [] if well else [line]
+    return ended, lines, earlier.used
 
 
 def main(words):
@@ -343,12 +401,13 @@ def main(words):
     crates.sort(key=lambda it: -it.count(b'\n'))
     with concurrent.futures.ThreadPoolExecutor(int(os.environ.get('RT_JOBS') or RT.processors())) as pool:
         found = list(pool.map(lambda it: tried_crate(it, words, is_built, kept), crates))
-    not_refused = [line for *_, lines in found for line in lines]
-    used = sum(it for _, it, _ in found)
+    used = sum(it for *_, it in found)
+    others = {word: [line for _, lines, _ in found for line in lines[word]] for word in ('accepted', 'refused')}
     # (once more at the end, where a log that was cut short still has them)
-    print(*not_refused, *[f'{used} were refused by earlier runs of the same files on this machine'] * bool(used), sep='\n')
-    print(f'{sum(it for it, *_ in found)} refused, {len(not_refused)} not')
-    return 1 if not_refused else 0
+    print(*others['accepted'], *others['refused'], *[f'{used} ended so in earlier runs of the same files on this machine'] * bool(used), sep='\n')
+    for word, lines in others.items():
+        print(f'{sum(ended[word] for ended, *_ in found)} {word}, {len(lines)} not')
+    return 1 if any(others.values()) else 0
 
 
 if __name__ == '__main__':
