@@ -1,7 +1,7 @@
 """Wrong bodies that the prover must refuse, beside those few of the gate: `CRATE/NAME.edit` is one, in the form of `crates/CRATE/must-fail/NAME.edit`.
 And bodies that mean the same as the crate's own, which it must accept: `CRATE/accepted/NAME.edit`.
 
-    run.py [--built] [--anew] [CRATE | CRATE/NAME.edit | CRATE/accepted/NAME.edit ..]
+    run.py [--built] [--anew] [CRATE | CRATE/NAME.edit | CRATE/accepted | CRATE/accepted/NAME.edit ..]
 
 Tries those that are named, or all, and says of each why it was refused, or that it was accepted. The exit status is 0 where each is what it must be.
 
@@ -24,6 +24,8 @@ A crate is proved beside its wrong bodies, so it takes what its check takes; kep
 """
 import collections
 import concurrent.futures
+import contextlib
+import copy
 import glob
 import hashlib
 import importlib.machinery
@@ -38,6 +40,11 @@ import tempfile
 HERE = os.path.dirname(os.path.abspath(__file__))
 ROOT = os.path.dirname(HERE)
 ONE_JOB = ['--jobs', '1']
+# Crates whose cycle of calls costs half an hour, so that their edits are tried with the cycle cut.
+DEAR_CYCLES = ['recursive_descent']
+# How many bodies that mean the same each crate with edits has at least.
+LEAST_ACCEPTED = 3
+CUTTER = f'{ROOT}/tools/measure/stub.py'
 # What a try of one edit comes to where the prover refuses it: a word, and in older kits whether it does.
 REFUSED = ('refused', 'limit', True)
 
@@ -116,17 +123,26 @@ def head_at(text, at):
     return begun[-1] if begun and f'\n{begun[-1][1]}}}\n' not in text[begun[-1].start():at] else None
 
 
+def declaring(crate, path, text, name):
+    """The path of the file that declares the type: that one, if it does."""
+    declares = re.compile(rf'^(?:pub(?:\([^)]*\))? )?(?:struct|enum) {name}\b', re.M)
+    others = [] if declares.search(text) else sorted(glob.glob('src/**/*.rt', root_dir=crate.folder, recursive=True))
+    return next((it for it in others if declares.search(text_of(crate, it))), path)
+
+
 def function_at(crate, path, text, at):
     """A pattern of the prover's name for that function."""
     head = head_at(text, at)
     if not path.startswith('src/') or not head:
         return None
-    module = path[len('src/'):-len('.rt')].replace('/', '::')
-    name = ''.join(f'{it}::' for it in (crate.name, module) if it not in ('lib', 'main'))
+    owner = ''
     if head[1]:
         owner, is_whole = of_impl([it for it in IMPL.finditer(text) if it.start() < at][-1][1])
-        name += f'{owner}{"" if is_whole else "[A-Za-z0-9]*"}::'
-    return name + head[2]
+        # (methods stand where their type does, also where another file has their `impl`)
+        path = declaring(crate, path, text, owner) if is_whole else path
+        owner += '::' if is_whole else '[A-Za-z0-9]*::'
+    module = path[len('src/'):-len('.rt')].replace('/', '::')
+    return ''.join(f'{it}::' for it in (crate.name, module) if it not in ('lib', 'main')) + owner + head[2]
 
 
 def edit_of(crate, file):
@@ -142,7 +158,7 @@ def edit_of(crate, file):
 def edits_of(crate, words, folder='.'):
     """The crate's edits in that folder of its own here, or those of them that are named."""
     files = sorted(os.path.normpath(it) for it in glob.glob(f'{HERE}/{crate.name}/{folder}/*.edit'))
-    return [edit_of(crate, it) for it in files if not words or {crate.name, os.path.relpath(it, HERE)} & {*words}]
+    return [edit_of(crate, it) for it in files if not words or {crate.name, f'{crate.name}/{folder}', os.path.relpath(it, HERE)} & {*words}]
 
 
 def edited(crate, edits):
@@ -202,6 +218,20 @@ def refusals(crate, texts, said):
     return refused, waits, [name for name, _ in states]
 
 
+@contextlib.contextmanager
+def with_cut_cycle(crate, edits):
+    """The crate, or where its cycle is dear a copy in which each function of the cycle that has none of the edits only refuses."""
+    if crate.name not in DEAR_CYCLES:
+        yield crate
+        return
+    with tempfile.TemporaryDirectory(prefix='jslint-edits-') as room:
+        os.mkdir(f'{room}/src')
+        subprocess.run([sys.executable, CUTTER, crate.folder, room, *[it.function.rpartition('::')[2] for it in edits if it.cycle]], check=True)
+        cut = copy.copy(crate)
+        cut.folder = room
+        yield cut
+
+
 def names_of(group, names):
     """The names of the functions that the edits are in, so that only those are proved, and what they call: none where one isn't known."""
     found = [[edit.function] if '[' not in edit.function else [name for name in names if re.fullmatch(edit.function, name)] for edit in group]
@@ -211,16 +241,26 @@ def names_of(group, names):
 def tried_together(crate, group, names, kept):
     """Why each of the edits was refused, and what each of the others waits for, by function: nothing where a function with no edit was refused too.
     And names of the crate's functions."""
-    texts = edited(crate, group)
     only = [it for name in names_of(group, names) for it in ('--only', name.partition('::')[2])]
-    said = RT.checked(crate, texts, ONE_JOB + only, kept).stdout
-    refused, waits, found = refusals(crate, texts, said)
+    with with_cut_cycle(crate, group) as read:
+        texts = edited(read, group)
+        said = RT.checked(read, texts, ONE_JOB + only, kept).stdout
+        refused, waits, found = refusals(read, texts, said)
     others = [name for name in refused if not any(re.fullmatch(edit.function, name) for edit in group)]
     if others or RT.rtlib.STALE.search(said):
         print(f'{crate.name}: refused with no edit of their own, so each is tried alone: {" ".join(others)}', flush=True)
         refused, waits = {}, {}
     of_edits = [{edit.function: it for edit in group for name, it in all.items() if re.fullmatch(edit.function, name)} for all in (refused, waits)]
     return *of_edits, names or found
+
+
+def tried_alone(crate, edit, kept):
+    """Whether a check of its own refuses the edit, and why."""
+    if crate.name in DEAR_CYCLES:
+        # (with its cycle cut the crate as a whole needn't be proved)
+        return False, 'no goal of its function refuses it'
+    came_to, said = RT.must_fail(crate, edit.file, ONE_JOB, kept)
+    return came_to in REFUSED and 'only because a proof file' not in said, said.partition(': ')[2]
 
 
 def tried(crate, words, kept, earlier):
@@ -242,8 +282,7 @@ def tried(crate, words, kept, earlier):
         alone += [] if done else group
         left = [it for it in left if it not in (done or group)]
     for edit in alone:
-        came_to, said = RT.must_fail(crate, edit.file, ONE_JOB, kept)
-        well, why = came_to in REFUSED and 'only because a proof file' not in said, said.partition(': ')[2]
+        well, why = tried_alone(crate, edit, kept)
         if well:
             earlier.keep(edit, why)
         yield edit.name, well, why
@@ -271,10 +310,11 @@ def tried_to_accept(crate, edits, kept):
     """Why each of the edits isn't accepted, in their order, or nothing for one that is: all in one check, in which each has to be of another function."""
     if None in [it.function for it in edits] or len({it.function for it in edits}) < len(edits):
         return ['one of these edits is of no function, or two are of one'] * len(edits)
-    texts = edited(crate, edits)
     only = [it for name in names_of(edits, []) for it in ('--only', name.partition('::')[2])]
-    ran = RT.checked(crate, texts, ONE_JOB + only, kept)
-    why = [why_open(crate, it, texts, ran.stdout) for it in edits]
+    with with_cut_cycle(crate, edits) as read:
+        texts = edited(read, edits)
+        ran = RT.checked(read, texts, ONE_JOB + only, kept)
+        why = [why_open(read, it, texts, ran.stdout) for it in edits]
     # (another function may not be proved, where a constant or a definition has changed)
     is_alone = ran.returncode and not any(why)
     return [f'the check ended with status {ran.returncode}: {ran.stdout[-160:]}'] * len(edits) if is_alone else why
@@ -298,7 +338,7 @@ class Earlier:
 
     def __init__(self, kept, crate):
         self.kept, self.crate, self.used = kept, crate, 0
-        self.sum = repr((sum_of_file(os.path.abspath(__file__)), kept.key(crate))) if kept else None
+        self.sum = repr((sum_of_file(os.path.abspath(__file__)), sum_of_file(CUTTER), kept.key(crate))) if kept else None
 
     def name(self, edit):
         """What the edit's end is kept under: with its folder, since the same text must be refused in one and accepted in the other."""
@@ -397,6 +437,9 @@ def main(words):
     for crate in crates if not is_built else []:
         if any(it.build_rlib(ONE_JOB, anew=False) for it in crate.below()):
             sys.exit(f'{crate.name}: a library below it is not proved')
+    few = [it.name for it in crates if not words and len(edits_of(it, [], 'accepted')) < LEAST_ACCEPTED]
+    if few:
+        sys.exit(f'fewer than {LEAST_ACCEPTED} bodies that mean the same, in accepted/ of: {" ".join(few)}')
     kept = earlier_of(RT.rtlib.crates_below(ROOT), is_built, is_anew)
     crates.sort(key=lambda it: -it.count(b'\n'))
     with concurrent.futures.ThreadPoolExecutor(int(os.environ.get('RT_JOBS') or RT.processors())) as pool:
@@ -405,6 +448,8 @@ def main(words):
     others = {word: [line for _, lines, _ in found for line in lines[word]] for word in ('accepted', 'refused')}
     # (once more at the end, where a log that was cut short still has them)
     print(*others['accepted'], *others['refused'], *[f'{used} ended so in earlier runs of the same files on this machine'] * bool(used), sep='\n')
+    if not sum(used for *_, used in found) and not any(ended for ended, *_ in found) and not any(others.values()):
+        sys.exit(f'no such edits: {words}')
     for word, lines in others.items():
         print(f'{sum(ended[word] for ended, *_ in found)} {word}, {len(lines)} not')
     return 1 if any(others.values()) else 0
