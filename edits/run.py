@@ -289,10 +289,11 @@ def tried(crate, words, kept, earlier):
 
 
 def of_named(crate, edit):
-    """The edit as one of the function that it names, if it names one."""
+    """The edit as one of the function that it names, if it names one and its texts stand once each."""
     with open(edit.file, encoding='utf-8') as file:
         named = NAMED.search(file.read())
-    return edit._replace(function=f'{crate.name}::{named[1]}') if named else edit
+    is_found = all(text_of(crate, path).count(old) == 1 for path, old, _ in edit.pairs)
+    return edit._replace(function=f'{crate.name}::{named[1]}') if named and is_found else edit
 
 
 def why_open(crate, edit, texts, said):
@@ -302,14 +303,15 @@ def why_open(crate, edit, texts, said):
     own = [(name, state) for name, state in states if re.fullmatch(edit.function, name)]
     for name, state in own:
         if state != 'proved':
-            return next(iter([*own_errors(name, said, paths), *own_notes(crate, name, texts, said)]), state)
+            why = [*own_errors(name, said, paths), *own_notes(crate, name, texts, said), state]
+            return next((it for it in why if 'that depends on' not in it), state)
     return None if own else f'nothing is said of {edit.function}: {said[-160:]}'
 
 
 def tried_to_accept(crate, edits, kept):
     """Why each of the edits isn't accepted, in their order, or nothing for one that is: all in one check, in which each has to be of another function."""
     if None in [it.function for it in edits] or len({it.function for it in edits}) < len(edits):
-        return ['one of these edits is of no function, or two are of one'] * len(edits)
+        return [f'its function is {it.function or "not known"}, and each has to be of another' for it in edits]
     only = [it for name in names_of(edits, []) for it in ('--only', name.partition('::')[2])]
     with with_cut_cycle(crate, edits) as read:
         texts = edited(read, edits)
