@@ -15,9 +15,12 @@ whether it is proved. Functions that call one another have one proof, so of thos
 the function itself: one that only waits for the proof of what it calls, or that has another wrong body in this check, is tried in the next. An edit outside functions, one that none of these checks refuses, and all of a
 check that refuses a function with no wrong body, are tried alone, as `rt must-fail` does.
 
-The bodies of a crate that mean the same share one check, each of another function, and each of these functions must be proved in it. So a refusal is the
-contract's doing, and not that of an answer that fits only the text as it stands. One that changes a constant or a definition names the function that it
-is for in a line of its own: `function: MODULE::NAME`.
+The bodies of a crate that mean the same share one check, each of another function, and each of these functions must be proved in it: a refusal says
+something only where not each changed text is refused. One that changes a constant or a statement names the function that it is for in a line of its own:
+`function: MODULE::NAME`.
+
+The functions of `recursive_descent` that call one another are proved together in half an hour. Its edits are tried over a copy in which each other
+function of that cycle only refuses, where the function has the same goals.
 
 A crate is proved beside its wrong bodies, so it takes what its check takes; kept work of `rt check` is taken where there is any, from a copy. With
 `--built` the libraries are those that a gate left in the working tree a moment ago, and nothing else is taken.
