@@ -1,10 +1,11 @@
 """Wrong bodies that the prover must refuse, beside those few of the gate: `CRATE/NAME.edit` is one, in the form of `crates/CRATE/must-fail/NAME.edit`.
+And bodies that mean the same as the crate's own, which it must accept: `CRATE/accepted/NAME.edit`.
 
-    run.py [--built] [--anew] [CRATE | CRATE/NAME.edit ..]
+    run.py [--built] [--anew] [CRATE | CRATE/NAME.edit | CRATE/accepted | CRATE/accepted/NAME.edit ..]
 
-Tries those that are named, or all, and says of each why it was refused. The exit status is 0 where each is.
+Tries those that are named, or all, and says of each why it was refused, or that it was accepted. The exit status is 0 where each is what it must be.
 
-An edit that an earlier run on this machine saw refused isn't tried again, where nothing that its try read has changed: the edit, the crate, the
+An edit whose try ended as it must in an earlier run on this machine isn't tried again, where nothing that its try read has changed: the edit, the crate, the
 libraries below it, the kit, and this file. Where `rt ci` keeps what it passed, that is in its folder, for runs with `--built`; a kit that keeps nothing
 has it in a folder of this program's own (`~/.cache/jslint/edits`), under a sum of the sources. `--anew` tries all.
 
@@ -14,11 +15,20 @@ whether it is proved. Functions that call one another have one proof, so of thos
 the function itself: one that only waits for the proof of what it calls, or that has another wrong body in this check, is tried in the next. An edit outside functions, one that none of these checks refuses, and all of a
 check that refuses a function with no wrong body, are tried alone, as `rt must-fail` does.
 
+The bodies of a crate that mean the same share one check, each of another function, and each of these functions must be proved in it: a refusal says
+something only where not each changed text is refused. One that changes a constant or a statement names the function that it is for in a line of its own:
+`function: MODULE::NAME`.
+
+The functions of `recursive_descent` that call one another are proved together in half an hour. Its edits are tried over a copy in which each other
+function of that cycle only refuses, where the function has the same goals.
+
 A crate is proved beside its wrong bodies, so it takes what its check takes; kept work of `rt check` is taken where there is any, from a copy. With
 `--built` the libraries are those that a gate left in the working tree a moment ago, and nothing else is taken.
 """
 import collections
 import concurrent.futures
+import contextlib
+import copy
 import glob
 import hashlib
 import importlib.machinery
@@ -33,6 +43,11 @@ import tempfile
 HERE = os.path.dirname(os.path.abspath(__file__))
 ROOT = os.path.dirname(HERE)
 ONE_JOB = ['--jobs', '1']
+# Crates whose cycle of calls costs half an hour, so that their edits are tried with the cycle cut.
+DEAR_CYCLES = ['recursive_descent']
+# How many bodies that mean the same each crate with edits has at least.
+LEAST_ACCEPTED = 3
+CUTTER = f'{ROOT}/tools/measure/stub.py'
 # What a try of one edit comes to where the prover refuses it: a word, and in older kits whether it does.
 REFUSED = ('refused', 'limit', True)
 
@@ -44,6 +59,9 @@ FUNCTION = re.compile(r'^( *)(?:#\[(?:(?!\]\n).|\n(?!\n))*\]\n\1)*(?:pub(?:\([^)
 IMPL = re.compile(r'^impl\b(.*?)\{', re.M | re.S)
 
 CYCLE = re.compile(r'#\[cycle\((\w+)\)\]')
+STATE = re.compile(r'^fn (\S+): (.*)', re.M)
+# The line of an edit outside functions that names the one which it is for.
+NAMED = re.compile(r'^function: (\S+)$', re.M)
 
 Edit = collections.namedtuple('Edit', 'name file pairs function cycle')
 
@@ -108,17 +126,26 @@ def head_at(text, at):
     return begun[-1] if begun and f'\n{begun[-1][1]}}}\n' not in text[begun[-1].start():at] else None
 
 
+def declaring(crate, path, text, name):
+    """The path of the file that declares the type: that one, if it does."""
+    declares = re.compile(rf'^(?:pub(?:\([^)]*\))? )?(?:struct|enum) {name}\b', re.M)
+    others = [] if declares.search(text) else sorted(glob.glob('src/**/*.rt', root_dir=crate.folder, recursive=True))
+    return next((it for it in others if declares.search(text_of(crate, it))), path)
+
+
 def function_at(crate, path, text, at):
     """A pattern of the prover's name for that function."""
     head = head_at(text, at)
     if not path.startswith('src/') or not head:
         return None
-    module = path[len('src/'):-len('.rt')].replace('/', '::')
-    name = ''.join(f'{it}::' for it in (crate.name, module) if it not in ('lib', 'main'))
+    owner = ''
     if head[1]:
         owner, is_whole = of_impl([it for it in IMPL.finditer(text) if it.start() < at][-1][1])
-        name += f'{owner}{"" if is_whole else "[A-Za-z0-9]*"}::'
-    return name + head[2]
+        # (methods stand where their type does, also where another file has their `impl`)
+        path = declaring(crate, path, text, owner) if is_whole else path
+        owner += '::' if is_whole else '[A-Za-z0-9]*::'
+    module = path[len('src/'):-len('.rt')].replace('/', '::')
+    return ''.join(f'{it}::' for it in (crate.name, module) if it not in ('lib', 'main')) + owner + head[2]
 
 
 def edit_of(crate, file):
@@ -128,13 +155,13 @@ def edit_of(crate, file):
     functions = {function_at(crate, path, text, text.find(old)) if text.count(old) == 1 else None for path, text, old in texts}
     function = functions.pop() if len(functions) == 1 else None
     cycle = CYCLE.search(head_at(texts[0][1], texts[0][1].find(texts[0][2]))[0]) if function else None
-    return Edit(os.path.basename(file), file, pairs, function, cycle and cycle[1])
+    return Edit(os.path.relpath(file, f'{HERE}/{crate.name}'), file, pairs, function, cycle and cycle[1])
 
 
-def edits_of(crate, words):
-    """The crate's edits here, or those that are named."""
-    files = sorted(glob.glob(f'{HERE}/{crate.name}/*.edit'))
-    return [edit_of(crate, it) for it in files if not words or {crate.name, os.path.relpath(it, HERE)} & {*words}]
+def edits_of(crate, words, folder='.'):
+    """The crate's edits in that folder of its own here, or those of them that are named."""
+    files = sorted(os.path.normpath(it) for it in glob.glob(f'{HERE}/{crate.name}/{folder}/*.edit'))
+    return [edit_of(crate, it) for it in files if not words or {crate.name, f'{crate.name}/{folder}', os.path.relpath(it, HERE)} & {*words}]
 
 
 def edited(crate, edits):
@@ -182,7 +209,7 @@ def own_notes(crate, name, texts, said):
 def refusals(crate, texts, said):
     """Functions that the prover refuses for a goal of their own, and why; what each that isn't proved waits for; and the names of all."""
     refused, waits = {}, {}
-    states = re.findall(r'^fn (\S+): (.*)', said, re.M)
+    states = STATE.findall(said)
     paths = {'/'.join(name.split('::')[1:]) for name, _ in states}
     for name, state in states:
         if state == 'proved':
@@ -194,6 +221,20 @@ def refusals(crate, texts, said):
     return refused, waits, [name for name, _ in states]
 
 
+@contextlib.contextmanager
+def with_cut_cycle(crate, edits):
+    """The crate, or where its cycle is dear a copy in which each function of the cycle that has none of the edits only refuses."""
+    if crate.name not in DEAR_CYCLES:
+        yield crate
+        return
+    with tempfile.TemporaryDirectory(prefix='jslint-edits-') as room:
+        os.mkdir(f'{room}/src')
+        subprocess.run([sys.executable, CUTTER, crate.folder, room, *[it.function.rpartition('::')[2] for it in edits if it.cycle]], check=True)
+        cut = copy.copy(crate)
+        cut.folder = room
+        yield cut
+
+
 def names_of(group, names):
     """The names of the functions that the edits are in, so that only those are proved, and what they call: none where one isn't known."""
     found = [[edit.function] if '[' not in edit.function else [name for name in names if re.fullmatch(edit.function, name)] for edit in group]
@@ -203,16 +244,26 @@ def names_of(group, names):
 def tried_together(crate, group, names, kept):
     """Why each of the edits was refused, and what each of the others waits for, by function: nothing where a function with no edit was refused too.
     And names of the crate's functions."""
-    texts = edited(crate, group)
     only = [it for name in names_of(group, names) for it in ('--only', name.partition('::')[2])]
-    said = RT.checked(crate, texts, ONE_JOB + only, kept).stdout
-    refused, waits, found = refusals(crate, texts, said)
+    with with_cut_cycle(crate, group) as read:
+        texts = edited(read, group)
+        said = RT.checked(read, texts, ONE_JOB + only, kept).stdout
+        refused, waits, found = refusals(read, texts, said)
     others = [name for name in refused if not any(re.fullmatch(edit.function, name) for edit in group)]
     if others or RT.rtlib.STALE.search(said):
         print(f'{crate.name}: refused with no edit of their own, so each is tried alone: {" ".join(others)}', flush=True)
         refused, waits = {}, {}
     of_edits = [{edit.function: it for edit in group for name, it in all.items() if re.fullmatch(edit.function, name)} for all in (refused, waits)]
     return *of_edits, names or found
+
+
+def tried_alone(crate, edit, kept):
+    """Whether a check of its own refuses the edit, and why."""
+    if crate.name in DEAR_CYCLES:
+        # (with its cycle cut the crate as a whole needn't be proved)
+        return False, 'no goal of its function refuses it'
+    came_to, said = RT.must_fail(crate, edit.file, ONE_JOB, kept)
+    return came_to in REFUSED and 'only because a proof file' not in said, said.partition(': ')[2]
 
 
 def tried(crate, words, kept, earlier):
@@ -228,36 +279,87 @@ def tried(crate, words, kept, earlier):
         why, waits, names = tried_together(crate, group, names, kept)
         for edit in group:
             if edit.function in why:
-                earlier.keep(edit.file, why[edit.function])
+                earlier.keep(edit, why[edit.function])
                 yield edit.name, True, why[edit.function]
         done = [it for it in group if it.function in why]
         alone += [] if done else group
         left = [it for it in left if it not in (done or group)]
     for edit in alone:
-        came_to, said = RT.must_fail(crate, edit.file, ONE_JOB, kept)
-        well, why = came_to in REFUSED and 'only because a proof file' not in said, said.partition(': ')[2]
+        well, why = tried_alone(crate, edit, kept)
         if well:
-            earlier.keep(edit.file, why)
+            earlier.keep(edit, why)
         yield edit.name, well, why
 
 
+def of_named(crate, edit):
+    """The edit as one of the function that it names, if it names one and its texts stand once each."""
+    with open(edit.file, encoding='utf-8') as file:
+        named = NAMED.search(file.read())
+    is_found = all(text_of(crate, path).count(old) == 1 for path, old, _ in edit.pairs)
+    return edit._replace(function=f'{crate.name}::{named[1]}') if named and is_found else edit
+
+
+def why_open(crate, edit, texts, said):
+    """Why the function of the edit isn't proved, or nothing where it is."""
+    states = STATE.findall(said)
+    paths = {'/'.join(name.split('::')[1:]) for name, _ in states}
+    own = [(name, state) for name, state in states if re.fullmatch(edit.function, name)]
+    for name, state in own:
+        if state != 'proved':
+            why = [*own_errors(name, said, paths), *own_notes(crate, name, texts, said), state]
+            return next((it for it in why if 'that depends on' not in it), state)
+    return None if own else f'nothing is said of {edit.function}: {said[-160:]}'
+
+
+def tried_to_accept(crate, edits, kept):
+    """Why each of the edits isn't accepted, in their order, or nothing for one that is: all in one check, in which each has to be of another function."""
+    if None in [it.function for it in edits] or len({it.function for it in edits}) < len(edits):
+        return [f'its function is {it.function or "not known"}, and each has to be of another' for it in edits]
+    only = [it for name in names_of(edits, []) for it in ('--only', name.partition('::')[2])]
+    with with_cut_cycle(crate, edits) as read:
+        texts = edited(read, edits)
+        ran = RT.checked(read, texts, ONE_JOB + only, kept)
+        why = [why_open(read, it, texts, ran.stdout) for it in edits]
+    # (another function may not be proved, where a constant or a definition has changed)
+    is_alone = ran.returncode and not any(why)
+    return [f'the check ended with status {ran.returncode}: {ran.stdout[-160:]}'] * len(edits) if is_alone else why
+
+
+def accepted(crate, words, kept, earlier):
+    """Of each body of the crate that means the same its name, whether it was accepted, and why not."""
+    edits = [of_named(crate, it) for it in edits_of(crate, words, 'accepted')]
+    left = [it for it in edits if earlier.why(it) is None]
+    for edit in edits:
+        if edit not in left:
+            yield edit.name, True, '(by an earlier run)'
+    for edit, why in zip(left, tried_to_accept(crate, left, kept) if left else []):
+        if not why:
+            earlier.keep(edit, '')
+        yield edit.name, not why, why or ''
+
+
 class Earlier:
-    """What runs on this machine saw refused of a crate's edits, each under a sum of all that its try read."""
+    """What runs on this machine saw refused, or accepted, of a crate's edits, each under a sum of all that its try read."""
 
     def __init__(self, kept, crate):
         self.kept, self.crate, self.used = kept, crate, 0
-        self.sum = repr((sum_of_file(os.path.abspath(__file__)), kept.key(crate))) if kept else None
+        self.sum = repr((sum_of_file(os.path.abspath(__file__)), sum_of_file(CUTTER), kept.key(crate))) if kept else None
+
+    def name(self, edit):
+        """What the edit's end is kept under: with its folder, since the same text must be refused in one and accepted in the other."""
+        return self.kept.of_edit(edit.file, self.sum + os.path.dirname(edit.name))
 
     def why(self, edit):
-        """Why an earlier run saw the edit refused, if one did."""
-        found = self.kept and self.kept.tried(self.kept.of_edit(edit.file, self.sum))
+        """What an earlier run said of the edit, if one saw it end as it must."""
+        found = self.kept and self.kept.tried(self.name(edit))
         self.used += bool(found)
         return found[1] if found else None
 
-    def keep(self, file, why):
-        """Keeps why an edit was refused, unless a file of the crate or of one below it was touched since the run began."""
+    def keep(self, edit, why):
+        """Keeps that an edit ended as it must, unless a file of the crate or of one below it was touched since the run began. (The kit has a word for
+        what it keeps only of refused ones.)"""
         if self.kept and all(self.kept.is_untouched(it) for it in [self.crate, *self.crate.below()]):
-            self.kept.keep_tried(self.kept.of_edit(file, self.sum), getattr(RT, 'REFUSED', 'refused'), why)
+            self.kept.keep_tried(self.name(edit), getattr(RT, 'REFUSED', 'refused'), why)
 
 
 class KeptHere:
@@ -312,20 +414,21 @@ def earlier_of(crates, is_built, is_anew):
 
 
 def tried_crate(crate, words, is_built, kept_by_runs):
-    """Tries the crate's edits, over a copy of what its check kept, if it may be taken, and prints each. How many are refused, how many of these by earlier runs,
-    and a line for each that isn't."""
+    """Tries the crate's edits, over a copy of what its check kept, if it may be taken, and prints each. How many ended as they must, of wrong bodies and of
+    those that mean the same; a line for each that didn't; and how many ended in earlier runs."""
     earlier = Earlier(kept_by_runs, crate)
     with tempfile.TemporaryDirectory(prefix='jslint-edits-') as room:
         kept = f'{room}/kept'
         if os.path.isdir(f'{crate.folder}/out/incremental') and not is_built:
             shutil.copytree(f'{crate.folder}/out/incremental', kept)
-        refused, not_refused = 0, []
-        for name, well, why in tried(crate, words, kept, earlier):
-            line = f'{crate.name}/{name}: {"refused" if well else "NOT REFUSED"}: {why[:160]}'
-            print(line, flush=True)
-            refused += well
-            not_refused += [] if well else [line]
-    return refused, earlier.used, not_refused
+        ended, lines = collections.Counter(), {'refused': [], 'accepted': []}
+        for word, all_of in ('refused', tried), ('accepted', accepted):
+            for name, well, why in all_of(crate, words, kept, earlier):
+                line = f'{crate.name}/{name}: {word if well else f"NOT {word.upper()}"}: {why[:160]}'.removesuffix(': ')
+                print(line, flush=True)
+                ended[word] += well
+                lines[word] += [] if well else [line]
+    return ended, lines, earlier.used
 
 
 def main(words):
@@ -339,16 +442,22 @@ def main(words):
     for crate in crates if not is_built else []:
         if any(it.build_rlib(ONE_JOB, anew=False) for it in crate.below()):
             sys.exit(f'{crate.name}: a library below it is not proved')
+    few = [it.name for it in crates if not words and len(edits_of(it, [], 'accepted')) < LEAST_ACCEPTED]
+    if few:
+        sys.exit(f'fewer than {LEAST_ACCEPTED} bodies that mean the same, in accepted/ of: {" ".join(few)}')
     kept = earlier_of(RT.rtlib.crates_below(ROOT), is_built, is_anew)
     crates.sort(key=lambda it: -it.count(b'\n'))
     with concurrent.futures.ThreadPoolExecutor(int(os.environ.get('RT_JOBS') or RT.processors())) as pool:
         found = list(pool.map(lambda it: tried_crate(it, words, is_built, kept), crates))
-    not_refused = [line for *_, lines in found for line in lines]
-    used = sum(it for _, it, _ in found)
+    used = sum(it for *_, it in found)
+    others = {word: [line for _, lines, _ in found for line in lines[word]] for word in ('accepted', 'refused')}
     # (once more at the end, where a log that was cut short still has them)
-    print(*not_refused, *[f'{used} were refused by earlier runs of the same files on this machine'] * bool(used), sep='\n')
-    print(f'{sum(it for it, *_ in found)} refused, {len(not_refused)} not')
-    return 1 if not_refused else 0
+    print(*others['accepted'], *others['refused'], *[f'{used} ended so in earlier runs of the same files on this machine'] * bool(used), sep='\n')
+    if not sum(used for *_, used in found) and not any(ended for ended, *_ in found) and not any(others.values()):
+        sys.exit(f'no such edits: {words}')
+    for word, lines in others.items():
+        print(f'{sum(ended[word] for ended, *_ in found)} {word}, {len(lines)} not')
+    return 1 if any(others.values()) else 0
 
 
 if __name__ == '__main__':
