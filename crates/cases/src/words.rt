@@ -112,6 +112,7 @@ fn failure(word: &str) -> ReadFailure {
         "Missing" => ReadFailure::Missing,
         "Folder" => ReadFailure::Folder,
         "NotPermitted" => ReadFailure::NotPermitted,
+        "LinkCircle" => ReadFailure::LinkCircle,
         _ => ReadFailure::Other,
     }
 }

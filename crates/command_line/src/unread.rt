@@ -17,6 +17,8 @@ pub enum ReadFailure {
     Folder,
     /// The system doesn't permit it.
     NotPermitted,
+    /// Its name leads from link to link without end.
+    LinkCircle,
     /// Any other reason, or none is told.
     Other,
 }
@@ -24,12 +26,13 @@ pub enum ReadFailure {
 /// What is said behind the name.
 fn failure_words(failure: ReadFailure) -> &'static str
     ensures words { result.now ≡ failure_words failure }
-    ensures short { length result.now ≤ 16 }
+    ensures short { length result.now ≤ 19 }
 {
     match failure {
-        ReadFailure::Missing => ": no such file",
-        ReadFailure::Folder => ": it is a folder",
+        ReadFailure::Missing => ": missing",
+        ReadFailure::Folder => ": a folder",
         ReadFailure::NotPermitted => ": not permitted",
+        ReadFailure::LinkCircle => ": links in a circle",
         ReadFailure::Other => "",
     }
 }

@@ -14,7 +14,7 @@ use Rattle.command_line.specs.Tip.{WritesMistake, tip_of}
 use Rattle.command_line.specs.Unread.{unread_line}
 use Rattle.command_line.specs.declared.line.Line.{Line}
 use Rattle.command_line.specs.declared.unread.ReadFailure.{ReadFailure}
-use Rattle.command_line.specs.declared.unread.ReadFailure.TheVariants.{Missing, Folder, NotPermitted, Other}
+use Rattle.command_line.specs.declared.unread.ReadFailure.TheVariants.{Missing, Folder, NotPermitted, LinkCircle, Other}
 use Rattle.nine_rules.specs.NineRules.{RunsByRules}
 use Rattle.commands.specs.Refusal.{WritesLine, refusal_line, status_of}
 use Rattle.commands.specs.declared.refused.Refused.{Refused}
@@ -85,7 +85,8 @@ failure_of io_error_kind.NotFound = Missing
 failure_of io_error_kind.NotADirectory = Missing
 failure_of io_error_kind.IsADirectory = Folder
 failure_of io_error_kind.PermissionDenied = NotPermitted
-failure_of other = Other
+failure_of io_error_kind.FilesystemLoop = LinkCircle
+failure_of _ = Other
 
 -- ---- the program
 

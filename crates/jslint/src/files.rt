@@ -50,6 +50,7 @@ fn failure_of(kind: ErrorKind) -> ReadFailure
         ErrorKind::NotFound | ErrorKind::NotADirectory => ReadFailure::Missing,
         ErrorKind::IsADirectory => ReadFailure::Folder,
         ErrorKind::PermissionDenied => ReadFailure::NotPermitted,
+        ErrorKind::FilesystemLoop => ReadFailure::LinkCircle,
         _ => ReadFailure::Other,
     }
 }
@@ -108,7 +109,7 @@ fn run_both<'a, R: Files + AllocGlobal, W: Sink>(
     name: &'a str,
     output: &mut W,
 ) -> Result<u8, Stop<'a>>
-    requires second { second_name line.entry ≡ Some name.entry.now }
+    requires second { second_name line ≡ Some name.now }
     requires reads { ⟦<Device<R::File> as Feed>⟧.failed file.old ≡ false }
     requires writes { W.failed output.old ≡ false }
     ensures told { IfErr result (λ stop. IsTold stop) }
