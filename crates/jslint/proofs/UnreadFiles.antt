@@ -1,6 +1,7 @@
 -- Files that can't be opened or read.
-use Rattle.std.proofs.Common.{◌≡◌, ◌⊎◌, ℕ, List, Bool, true, false, Option, None, Some, Result, Err, inl, inr, refl, sym, subst}
-use Rattle.std.specs.Io.KnownBytes.{Keeps}
+use Rattle.std.proofs.Common.{◌≡◌, ◌∙◌, ℕ, List, Bool, true, false, Option, None, Some, is_some, Err, inl, inr, refl, sym, ap, subst, true≢false}
+use Rattle.std.specs.Borrow.{Bor}
+use Rattle.std.specs.Option.{option_map}
 use Rattle.clap.specs.Words.{Text}
 use Rattle.source_text.specs.declared.fault.Fault.TheVariants.{ReadFailed}
 use Rattle.commands.specs.declared.refused.Refused.{Refused}
@@ -10,9 +11,9 @@ use Rattle.jslint.specs.Program.{IsOfFailed, RunsOnFiles, RunsOpened, StopsBy, n
 use Rattle.jslint.specs.declared.files.Stop.{Stop}
 use Rattle.jslint.specs.declared.files.Stop.TheVariants.{Refuses, Unread}
 
-pub keeps_itself : (bytes : Option (List ℕ)) → Keeps bytes bytes
-keeps_itself None = tt
-keeps_itself (Some bytes) = refl
+-- a line that names a second file has one
+pub has_second : (line : Line) (name : Text) → second_name line ≡ Some name → line.second ≡ None → ⊥
+has_second line name named none = true≢false (sym (ap is_some named) ∙ ap (λ (second : Option (Bor Text)). is_some (option_map (λ s. s.now) second)) none)
 
 -- a run that was refused since a file failed has no place: the same run, with the refusal that says no more than this
 same_run : (line : Line) (before after : Option (List ℕ)) (failed : Bool) (refused : Refused) → refused.fault ≡ ReadFailed → (run : RunsOpened line before after failed (Err refused))
