@@ -48,4 +48,3 @@ on_one_line text = encode_utf8_all (flat_map within_line (chars text))
 -- texts that are some texts on one line each
 abbrev pub AreOnOneLine : List (List ℕ) → Type 0
 AreOnOneLine lines = (texts : List (List ℕ)) × (lines ≡ map on_one_line texts)
-

@@ -122,7 +122,11 @@ fn run_both<'a, R: Files + AllocGlobal, W: Sink>(
     match run_with_rules(rt.alloc(), line.command, file, &mut second, output) {
         Ok(status) => Ok(status),
         Err(refused) => {
-            let unread = if Feed::has_failed(&second) { name } else { line.file };
+            let unread = if Feed::has_failed(&second) {
+                name
+            } else {
+                line.file
+            };
             Err(stop_of(rt, refused, unread))
         }
     }

@@ -23,19 +23,67 @@ fn writer(alloc: Global) -> Result<MemorySink, AllocError>
 #[test]
 fn files_that_cannot_be_read(rt: HostRuntime) -> Result<(), Fail> {
     for (command, file, second, unread, failure) in [
-        (Command::Fix, "no such file", None, "no such file", ReadFailure::Missing),
-        (Command::Fix, "no/a.js", None, "no/a.js", ReadFailure::Missing),
-        (Command::Fix, "/dev/null/a.js", None, "/dev/null/a.js", ReadFailure::Missing),
+        (
+            Command::Fix,
+            "no such file",
+            None,
+            "no such file",
+            ReadFailure::Missing,
+        ),
+        (
+            Command::Fix,
+            "no/a.js",
+            None,
+            "no/a.js",
+            ReadFailure::Missing,
+        ),
+        (
+            Command::Fix,
+            "/dev/null/a.js",
+            None,
+            "/dev/null/a.js",
+            ReadFailure::Missing,
+        ),
         (Command::Fix, ".", None, ".", ReadFailure::Folder),
         (Command::Fix, "", None, "", ReadFailure::Missing),
         (Command::Fix, "a\0b", None, "a\0b", ReadFailure::Other),
         (Command::Unwrap, ".", None, ".", ReadFailure::Folder),
-        (Command::Check, "/dev/null", Some("no"), "no", ReadFailure::Missing),
-        (Command::Check, "/dev/null", Some(".."), "..", ReadFailure::Folder),
+        (
+            Command::Check,
+            "/dev/null",
+            Some("no"),
+            "no",
+            ReadFailure::Missing,
+        ),
+        (
+            Command::Check,
+            "/dev/null",
+            Some(".."),
+            "..",
+            ReadFailure::Folder,
+        ),
         (Command::Check, ".", Some("no"), "no", ReadFailure::Missing),
-        (Command::Check, ".", Some("/dev/null"), ".", ReadFailure::Folder),
-        (Command::Verify, "/dev/null", Some("/"), "/", ReadFailure::Folder),
-        (Command::Verify, "no", Some("/dev/null"), "no", ReadFailure::Missing),
+        (
+            Command::Check,
+            ".",
+            Some("/dev/null"),
+            ".",
+            ReadFailure::Folder,
+        ),
+        (
+            Command::Verify,
+            "/dev/null",
+            Some("/"),
+            "/",
+            ReadFailure::Folder,
+        ),
+        (
+            Command::Verify,
+            "no",
+            Some("/dev/null"),
+            "no",
+            ReadFailure::Missing,
+        ),
     ] {
         let mut output = writer(rt.alloc())?;
         let line = Line {

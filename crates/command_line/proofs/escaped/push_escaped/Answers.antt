@@ -9,7 +9,6 @@ use Rattle.command_line.proofs.SentPieces.{sent_begun, sent_more}
 use Rattle.command_line.proofs.ShownMore.{shown_more, shown_rest}
 use Rattle.command_line.proofs.escaped.push_escaped.Goals as goal
 
-
 -- the writer failed, behind the characters so far
 pub returns-in-Err : goal.returns-in-Err
 returns-in-Err g c =

@@ -35,9 +35,9 @@ returns g c =
     let end = failure_words c.args.failure ++ 10 ∷ [] in
     let left = c.make_room.new.waiting in
     let filled : c.push.new.self ≡ left ++ end =
-        c.push.ensures ∙ ap (λ w. w ++ 10 ∷ []) (c.push_text-2.ensures ∙ ap (λ w. left ++ w) c.failure_words.ensures.words) ∙ append_assoc left (failure_words c.args.failure) (10 ∷ []) in
+    c.push.ensures ∙ ap (λ w. w ++ 10 ∷ []) (c.push_text-2.ensures ∙ ap (λ w. left ++ w) c.failure_words.ensures.words) ∙ append_assoc left (failure_words c.args.failure) (10 ∷ []) in
     let sent = sent_more (g.W.Sink.taken c.args.errors.now) (g.W.Sink.taken c.push_escaped.new.writer) (g.W.Sink.taken c.make_room.new.writer) c.push_escaped.new.waiting left c.push.new.self (c.push_text.new.self ++ name) end (unread_line c.args.name.now c.args.failure)
-        c.in_default.ensures.0 c.in_default-make_room.ensures.written.0 filled (ap (λ w. w ++ name ++ end) (sym start)) in
+    c.in_default.ensures.0 c.in_default-make_room.ensures.written.0 filled (ap (λ w. w ++ name ++ end) (sym start)) in
     sent_last (g.W.Sink.taken c.args.errors.now) (g.W.Sink.taken c.make_room.new.writer) (g.W.Sink.taken c.write_text.new.writer) c.push.new.self (unread_line c.args.name.now c.args.failure) c.write_text.result (g.W.Sink.failed c.write_text.new.writer)
     sent
     (subst (λ w. WritesText w c.write_text.result (g.W.Sink.taken c.make_room.new.writer) (g.W.Sink.taken c.write_text.new.writer) (g.W.Sink.failed c.write_text.new.writer)) c.as_bytes.ensures c.write_text.ensures)
