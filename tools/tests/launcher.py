@@ -86,7 +86,7 @@ def launcher(copy):
     copy.gives((1, '1:1 no-debugger debugger statement\n', ''), 'check', '/dev/stdin', given='debugger;')
     copy.gives((2, '', 'jslint: syntax error at 1:2\n'), 'fix', '/dev/stdin', given='(')
     copy.gives((0, 'x = a; // b\n', ''), 'unwrap', '/dev/stdin', given='x = (a); // b\n')
-    copy.gives((2, '', 'jslint: read failed\n'), 'fix', '--', 'a b', at='crates', name='../jslint')
+    copy.gives((2, '', 'jslint: read failed: a b: missing\n'), 'fix', '--', 'a b', at='crates', name='../jslint')
     os.symlink(f'{copy.top}/jslint', f'{copy.path}/linked')
     copy.gives((0, 'a;\n', ''), 'fix', '/dev/stdin', name='linked')
     copy.gives((0, f'{os.path.realpath(copy.release)}\n', ''), '--program')

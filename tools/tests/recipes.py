@@ -198,13 +198,25 @@ def redirections(room):
     """Devices as a shell gives them: full, closed, slow, a folder."""
     room.put('a.js', '(a) + b;\n')
     room.put('table', 'jslint-cost 2\n1 BinaryExpression 0 0 0 0 0 - - -\n2 Identifier\n3 Identifier\ntotal 0\n')
-    lost, unread = (2, '', 'jslint: write failed\n'), (2, '', 'jslint: read failed\n')
+    lost = (2, '', 'jslint: write failed\n')
     for words in ('check a.js', 'fix a.js', 'unwrap a.js', 'tree a.js', 'cost a.js', 'verify a.js table', '--help', '--version'):
         same(room.sh(f'jslint {words} >/dev/full'), lost, words)
         same(room.sh(f'jslint {words} >&-'), lost, words)
         same(room.sh(f'jslint {words} >/dev/full 2>&-'), (2, '', ''), words)
-    for words in ('fix /dev/stdin <&-', 'fix .', 'fix none.js', 'unwrap .', 'unwrap none.js', 'check --settings . a.js', 'check --settings none a.js', 'verify a.js .', 'verify a.js none'):
-        same(room.sh(f'jslint {words}'), unread, words)
+    os.symlink('round', room.path('round'))
+    unread = [
+        ('fix /dev/stdin <&-', '/dev/stdin: missing'), ('fix .', '.: a folder'), ('unwrap .', '.: a folder'), ('fix none.js', 'none.js: missing'), ('unwrap none.js', 'none.js: missing'),
+        ('fix a.js/b.js', 'a.js/b.js: missing'), ('fix round', 'round: links in a circle'), ('check --settings . a.js', '.: a folder'),
+        ('check --settings none a.js', 'none: missing'), ('check --settings none .', 'none: missing'), ('verify a.js .', '.: a folder'),
+        ('verify a.js none', 'none: missing'), ('verify none.js .', 'none.js: missing'), ('fix "$(printf "no\\njslint: \\033[1m")"', 'no\\x0ajslint: \\x1b[1m: missing'),
+    ]
+    for words, why in unread:
+        same(room.sh(f'jslint {words}'), (2, '', f'jslint: read failed: {why}\n'), words)
+        same(room.sh(f'jslint {words} 2>/dev/full')[0], 2, words)
+    same([room.sh(f'jslint {it}') for it in ('fix none.js 2>&-', 'app.js 2>&-', 'app.js 2>/dev/full')], [(2, '', '')] * 3)
+    for words, tip in [('app.js', 'app.js'), ('src/app', 'src/app'), ('a.js b.js', 'a.js'), ('app', None), ('"a b.js"', None), ('"a;b.js"', None), ('-a.js', None), ('check', None)]:
+        status, out, err = room.sh(f'jslint {words}')
+        is_well((status, out) == (2, '') and (err.endswith(f"'--help'.\n\n  tip: jslint check {tip}\n") if tip else 'tip: jslint' not in err), f'{words} {err}')
     for words in ('(printf "(a"; sleep 0.2; printf ") + b;") | jslint fix /dev/stdin', 'jslint fix /dev/stdin <a.js', 'cat a.js | jslint fix /dev/stdin | cat', 'jslint fix a.js </dev/null', 'cat a.js | jslint unwrap /dev/stdin'):
         same(room.sh(words), (0, 'a + b;\n', ''), words)
     same(room.sh('printf "(a) // b" | jslint unwrap /dev/stdin | cat'), (0, 'a // b', ''))

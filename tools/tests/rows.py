@@ -318,8 +318,9 @@ def line_of(want):
         return int(re.fullmatch(r'Ok\((\d+)\)', want)[1]), ''
     name, has, at = match[1], match[2], f' at {match[3]}:{match[4]}'
     words = {
-        'Syntax': 'syntax error' + at, 'TooLong': 'longer than 16777216 bytes', 'TooDeep': 'nested too deep', 'ReadFailed': 'read failed',
-        'WriteFailed': 'write failed', 'BadSettings': 'bad settings', 'NotUtf8': f'not UTF-8 at byte {has}',
+        'Syntax': 'syntax error' + at, 'TooLong': 'longer than 16777216 bytes', 'TooDeep': 'nested too deep',
+        # (what can't be read is this folder, as `device` has it)
+        'ReadFailed': f'read failed: {ROOM.name}: a folder', 'WriteFailed': 'write failed', 'BadSettings': 'bad settings', 'NotUtf8': f'not UTF-8 at byte {has}',
     }
     if name == 'Early':
         words[name] = f'early error E{has.split(",")[0]}{at}'
@@ -400,7 +401,7 @@ def command_line(texts, want):
         # (the script is no table and no settings)
         return hold((answer.out, answer.err) == ('', {'verify': 'jslint: bad table row 0 Form\n', 'check': 'jslint: bad settings\n'}[name]), answer)
     if second == '':
-        return hold((answer.status, answer.err) == (2, 'jslint: read failed\n'), answer)
+        return hold((answer.status, answer.err) == (2, 'jslint: read failed: : missing\n'), answer)
     status, out = ASKED[name] if second is not None or name != 'check' else (1, '1:1 no-extra-parens unnecessary parentheses\n1:2 no-extra-parens unnecessary parentheses\n1:3 no-undef \'a\' is not defined\n')
     return hold((answer.status, answer.err) == (status, '') and answer.out == (out if out is not None else answer.out), answer)
 

@@ -28,7 +28,8 @@ fn of_words(alloc: Global, row: &Case, out: &mut String) -> Result<(), AllocErro
         "tightness" => words::push_tightness(row.text(1), out),
         "number" => words::push_number(row.text(1), out),
         "command line" => words::push_command_line(alloc, row.text(1), out),
-        "escaped" => words::push_escaped(alloc, row.text(1), out),
+        "escaped" => words::push_escaped(alloc, row, out),
+        "unread" => words::push_unread(alloc, row, out),
         _ => of_devices(alloc, row, out),
     }
 }

@@ -1,16 +1,17 @@
 //! What words and characters are, and the words of the command line.
 
 use crate::case::Case;
+use crate::devices::{plan, push_answer};
 use crate::kinds::kind;
 use crate::ranks::rank;
 use clap::error::ErrorKind;
-use command_line::{command_line, escaped_text};
+use command_line::{ReadFailure, command_line, explain_unread, write_escaped};
 use early_errors::{EarlyError, number_of};
 use grammar::{
     accepts_rank, is_assignment, is_literal, is_prefix_operator, is_reserved, is_update_operator,
     literal_class, precedence_of,
 };
-use source_text::{is_line_terminator, is_space};
+use source_text::{MemorySink, is_line_terminator, is_space};
 use std::alloc::{AllocError, Global};
 
 /// Whether the character of a number, in sixteens, ends a line, and whether it is white space.
@@ -98,8 +99,27 @@ pub(crate) fn push_command_line(
     push_asked(alloc, &words, out)
 }
 
-/// A text as a terminal is shown it.
-pub(crate) fn push_escaped(alloc: Global, text: &str, out: &mut String) -> Result<(), AllocError> {
-    let shown = escaped_text(alloc, text)?;
-    out.push_str(&shown)
+/// Whether a text is written whole as a terminal is shown it, and what is written.
+pub(crate) fn push_escaped(alloc: Global, row: &Case, out: &mut String) -> Result<(), AllocError> {
+    let mut writer = MemorySink::new(alloc, 65536, plan(row.text(2)))?;
+    let is_whole = write_escaped(row.text(1), &mut writer).is_ok();
+    push_answer(&is_whole, writer.bytes(), out)
+}
+
+/// Why a file can't be read, by a word for it.
+fn failure(word: &str) -> ReadFailure {
+    match word {
+        "Missing" => ReadFailure::Missing,
+        "Folder" => ReadFailure::Folder,
+        "NotPermitted" => ReadFailure::NotPermitted,
+        "LinkCircle" => ReadFailure::LinkCircle,
+        _ => ReadFailure::Other,
+    }
+}
+
+/// The status for a file that can't be read, and what is written of its line.
+pub(crate) fn push_unread(alloc: Global, row: &Case, out: &mut String) -> Result<(), AllocError> {
+    let mut writer = MemorySink::new(alloc, 65536, plan(row.text(3)))?;
+    let status = explain_unread(row.text(1), failure(row.text(2)), &mut writer);
+    push_answer(&status, writer.bytes(), out)
 }

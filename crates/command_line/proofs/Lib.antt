@@ -1,4 +1,6 @@
 mod GivenValues
 mod Memory
 mod MetCommand
+mod SentPieces
 mod ShownMore
+mod Tips

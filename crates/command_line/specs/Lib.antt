@@ -1,2 +1,5 @@
 pub mod CommandLine
 pub mod Shown
+pub mod Sent
+pub mod Tip
+pub mod Unread

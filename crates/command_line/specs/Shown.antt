@@ -1,8 +1,7 @@
 -- Words of the user as they are shown on a terminal.
-use Rattle.std.specs.Prelude.{◌≡◌, ℕ, ◌/◌, ◌%◌, List, [], ◌∷◌, ◌++◌, Bool, not, ◌&&◌, ◌||◌, ◌==◌, if◌then◌else◌, Option, codes, chars, encode_utf8_all, flat_map, map, nat_lt}
+use Rattle.std.specs.Prelude.{◌≡◌, ℕ, ◌/◌, ◌%◌, List, [], ◌∷◌, ◌++◌, Bool, true, false, not, ◌&&◌, ◌||◌, ◌==◌, if◌then◌else◌, codes, chars, encode_utf8_all, flat_map, map, nat_lt}
 use Rattle.std.specs.Char.{digit_char, is_control}
 use Rattle.std.specs.Int.{is_in_range}
-use Rattle.commands.specs.Refusal.{WritesLine}
 
 -- Unicode's Bidi_Control: the characters that turn a text round
 abbrev pub is_bidi_control : ℕ → Bool
@@ -23,13 +22,20 @@ two_digits n = digit_char (n / 16) ∷ digit_char (n % 16) ∷ []
 abbrev pub escape : ℕ → List ℕ
 escape c = if nat_lt c 256 then codes "\\x" ++ two_digits c else codes "\\u{" ++ two_digits (c / 256) ++ two_digits (c % 256) ++ codes "}"
 
--- a character, or what is shown in its place; a line feed stays
-abbrev pub shown : ℕ → List ℕ
-shown c = if is_hidden c && not (c == 10) then escape c else c ∷ []
+-- a character, or what is shown in its place; a line feed stays where the text may have lines
+abbrev pub shown : Bool → ℕ → List ℕ
+shown has_lines c = if is_hidden c && not (has_lines && (c == 10)) then escape c else c ∷ []
+
+abbrev pub shown_text : Bool → List ℕ → List ℕ
+shown_text has_lines text = encode_utf8_all (flat_map (shown has_lines) (chars text))
 
 -- a text, each hidden character escaped but line feeds
 abbrev pub escaped : List ℕ → List ℕ
-escaped text = encode_utf8_all (flat_map shown (chars text))
+escaped text = shown_text true text
+
+-- a name on one line, each hidden character escaped
+abbrev pub escaped_name : List ℕ → List ℕ
+escaped_name name = shown_text false name
 
 -- a character of a text that is to stand on one line
 abbrev pub within_line : ℕ → List ℕ
@@ -42,7 +48,3 @@ on_one_line text = encode_utf8_all (flat_map within_line (chars text))
 -- texts that are some texts on one line each
 abbrev pub AreOnOneLine : List (List ℕ) → Type 0
 AreOnOneLine lines = (texts : List (List ℕ)) × (lines ≡ map on_one_line texts)
-
--- some text was written so, or a beginning of that and the writer has failed
-abbrev pub WritesEscaped : Option (List ℕ) → Option (List ℕ) → Bool → Type 0
-WritesEscaped before after failed = (text : List ℕ) × WritesLine (escaped text) before after failed

@@ -3,13 +3,16 @@
 //! The words of the command line, its help and version, and what is said in place of a command.
 //! - May touch: the words, by clap, which no other crate loads, and the two streams.
 //! - Contract: `command_line` answers the command and the files that clap's own definition of the words gives.
-//! - Begin at: `line.rt`, `command_line`; `mistake.rt`, `explain`; `shown.rt` for what is escaped.
+//! - Begin at: `line.rt`, `command_line`; `mistake.rt`, `explain`; `unread.rt`, `explain_unread`; `shown.rt` for what is escaped.
 
+mod escaped;
 mod help;
 mod line;
 mod mistake;
 mod shown;
+mod unread;
 
+pub use escaped::write_escaped;
 pub use line::{Line, command_line};
 pub use mistake::{explain, explain_not_utf8};
-pub use shown::escaped_text;
+pub use unread::{ReadFailure, explain_unread};

@@ -1,14 +1,16 @@
 //! What is said in place of a command.
 
-ghost use Rattle.std.specs.Prelude.{◌≡◌, ◌≢◌, IfOk, List, false, map, string_bytes, true, ℕ};
+ghost use Rattle.std.specs.Prelude.{◌≡◌, ◌≢◌, ◌++◌, IfOk, List, false, map, string_bytes, true, ℕ};
 ghost use Rattle.clap.specs.Words.{kind_of};
 ghost use Rattle.command_line.specs.CommandLine.{is_asked_for, not_utf8_line};
-ghost use Rattle.command_line.specs.Shown.{AreOnOneLine, WritesEscaped, escaped, on_one_line};
+ghost use Rattle.command_line.specs.Shown.{AreOnOneLine, on_one_line};
+ghost use Rattle.command_line.specs.Tip.{WritesMistake, is_plain, looks_like_file, tip_for, tip_of};
 ghost use Rattle.source_text.specs.declared.fault.Fault.TheVariants.{OutOfMemory, WriteFailed};
 ghost use Rattle.commands.specs.Refusal.{WritesLine, refusal_line};
 
+use crate::escaped::write_escaped;
 use crate::line::jslint_command;
-use crate::shown::{escaped_text, text_on_one_line};
+use crate::shown::{is_hidden, text_on_one_line};
 use clap::error::ErrorKind;
 use commands::{Refused, write_refusal};
 use source_text::{Fault, Sink, write_text};
@@ -55,29 +57,71 @@ fn text_in_one_line(alloc: Global, error: &clap::Error) -> Result<String, AllocE
     Ok(line)
 }
 
-/// What `clap` says of words that it refuses, each hidden character in it escaped but line feeds. It repeats words of the user, so it
-/// is asked again with each line feed in them escaped: then those in its text are its own. Where it has another answer for these, its
-/// first text stands on one line.
-fn message(alloc: Global, words: &[&str], error: &clap::Error) -> Result<String, AllocError>
-    ensures { IfOk result (λ s. (text : List ℕ) × (string_bytes s ≡ escaped text)) }
+/// Whether a shell takes the character as it is: a letter or a digit, `-`, `.`, `/`, `_`, or one beyond ASCII that is seen.
+fn is_plain(c: char) -> bool
+    ensures { result ≡ is_plain c }
 {
-    let words = words_on_one_line(alloc, words)?;
-    let text = match refusal_text(alloc, &words, error.kind())? {
+    c.is_ascii_alphanumeric()
+        || matches!(c, '-' | '.' | '/' | '_')
+        || (c >= '\u{80}' && !is_hidden(c))
+}
+
+/// Whether a word is plain and has a `.` or a `/`, as names of files have and no command.
+fn looks_like_file(word: &str) -> bool
+    ensures { result ≡ looks_like_file word.now }
+{
+    word.chars().all(is_plain) && word.chars().any(|c| c == '.' || c == '/')
+}
+
+/// Adds the line that says what to type, where the word looks like a file.
+fn push_tip_for(text: &mut String, word: &str) -> Result<(), AllocError>
+    ensures { IfOk result (λ _. string_bytes text.new ≡ string_bytes text.old ++ tip_for word.now) }
+{
+    if !looks_like_file(word) {
+        return Ok(());
+    }
+    text.push_str("\n  tip: jslint check ")?;
+    text.push_str(word)?;
+    text.push('\n')
+}
+
+/// Adds that line where the word behind the program's name stands in a command's place and is none.
+fn push_tip(text: &mut String, words: &[&str], kind: ErrorKind) -> Result<(), AllocError>
+    ensures { IfOk result (λ _. string_bytes text.new ≡ string_bytes text.old ++ tip_of kind (map (λ w. w.now) words.now)) }
+{
+    match kind {
+        ErrorKind::InvalidSubcommand => match words.get(1) {
+            Some(word) => push_tip_for(text, word),
+            None => Ok(()),
+        },
+        _ => Ok(()),
+    }
+}
+
+/// What `clap` says of words that it refuses, with a tip behind it where there is one. It repeats words of the user, so it is asked again
+/// with each line feed in them escaped: then those in its text are its own. Where it has another answer for these, its first text stands
+/// on one line.
+fn message(alloc: Global, words: &[&str], error: &clap::Error) -> Result<String, AllocError>
+    ensures { IfOk result (λ s. (said : List ℕ) × (string_bytes s ≡ said ++ tip_of (kind_of error.now) (map (λ w. w.now) words.now))) }
+{
+    let lines = words_on_one_line(alloc, words)?;
+    let mut text = match refusal_text(alloc, &lines, error.kind())? {
         Some(text) => text,
         None => text_in_one_line(alloc, error)?,
     };
-    escaped_text(alloc, &text)
+    push_tip(&mut text, words, error.kind())?;
+    Ok(text)
 }
 
 /// Writes what `clap` says of a mistake, or that memory was refused for it. Answers the exit status.
 fn write_mistake<W: Sink>(alloc: Global, words: &[&str], error: &clap::Error, errors: &mut W) -> u8
     requires { W.failed errors.old ≡ false }
     ensures status { result ≡ 2 }
-    ensures said { WritesEscaped (W.taken errors.old) (W.taken errors.new) (W.failed errors.new) }
+    ensures said { WritesMistake (tip_of (kind_of error.now) (map (λ w. w.now) words.now)) (W.taken errors.old) (W.taken errors.new) (W.failed errors.new) }
 {
     match message(alloc, words, error) {
         Ok(text) => {
-            let _ = write_text(text.as_bytes(), errors);
+            let _ = write_escaped(&text, errors);
             2
         }
         Err(_) => write_refusal(&Refused::at_no_place(Fault::OutOfMemory), errors),
@@ -96,8 +140,9 @@ pub fn explain_not_utf8<W: Sink>(errors: &mut W) -> u8
 
 /// Shows what `clap` says in place of a command: help or the version on the standard output, where it was asked for, else what is
 /// wrong with the words, or help where there are none, in `errors`, each character that a terminal may obey escaped but line feeds,
-/// which are those of `clap`. Answers the exit status: 0 where what was asked for was shown, else 2. `errors` gets a line of ours where
-/// memory was refused, or what was asked for wasn't shown.
+/// which are those of `clap` and of a tip: what to type, behind the text, where a file's name stands in a command's place. Answers the
+/// exit status: 0 where what was asked for was shown, else 2. `errors` gets a line of ours where memory was refused, or what was asked
+/// for wasn't shown.
 pub fn explain<R: AllocGlobal + Print + Eprint, W: Sink>(
     rt: &R,
     words: &[&str],
@@ -108,7 +153,8 @@ pub fn explain<R: AllocGlobal + Print + Eprint, W: Sink>(
     ensures mistake { is_asked_for (kind_of error.now) ≡ false → result ≡ 2 }
     ensures memory { kind_of error.now ≡ ErrorKind.OutOfMemory →
         WritesLine (refusal_line (record { fault = OutOfMemory; line = 0; column = 0 })) (W.taken errors.old) (W.taken errors.new) (W.failed errors.new) }
-    ensures said { is_asked_for (kind_of error.now) ≡ false → WritesEscaped (W.taken errors.old) (W.taken errors.new) (W.failed errors.new) }
+    ensures said { is_asked_for (kind_of error.now) ≡ false →
+        WritesMistake (tip_of (kind_of error.now) (map (λ w. w.now) words.now)) (W.taken errors.old) (W.taken errors.new) (W.failed errors.new) }
     ensures shown { result ≡ 0 → W.taken errors.new ≡ W.taken errors.old }
     ensures lost { is_asked_for (kind_of error.now) ≡ true → result ≢ 0 →
         WritesLine (refusal_line (record { fault = WriteFailed; line = 0; column = 0 })) (W.taken errors.old) (W.taken errors.new) (W.failed errors.new) }

@@ -1,14 +1,15 @@
-//! Words of the user as they are shown on a terminal.
+//! Characters of the user's words as they are shown on a terminal.
 
-ghost use Rattle.std.specs.Prelude.{◌≡◌, ◌<◌, ◌++◌, IfOk, encode_utf8_all, string_bytes, true};
+ghost use Rattle.std.specs.Prelude.{◌≡◌, ◌<◌, ◌≤◌, ◌+◌, ◌++◌, IfOk, encode_utf8, encode_utf8_all, length, string_bytes, true};
 ghost use Rattle.std.specs.Char.{digit_char};
-ghost use Rattle.command_line.specs.Shown.{escape, escaped, is_hidden, on_one_line, shown, two_digits, within_line};
+ghost use Rattle.command_line.specs.Shown.{escape, is_hidden, on_one_line, shown, two_digits, within_line};
 
+use source_text::OutputBuffer;
 use std::alloc::{AllocError, Global};
 
 /// Whether the character is not seen itself, and changes what is seen round it: a control character, one of Unicode's Bidi_Control,
 /// which turn a text round, or a separator of lines or paragraphs.
-fn is_hidden(c: char) -> bool
+pub(crate) fn is_hidden(c: char) -> bool
     ensures { result ≡ is_hidden c }
 {
     c.is_control()
@@ -30,57 +31,55 @@ fn hex_digit(digit: u32) -> char
     }
 }
 
-/// Adds the last two hexadecimal digits of a number.
-fn push_two_digits(text: &mut String, number: u32) -> Result<(), AllocError>
-    requires { number < 256 }
-    ensures { IfOk result (λ _. string_bytes text.new ≡ string_bytes text.old ++ encode_utf8_all (two_digits number)) }
+/// Puts a character behind what waits.
+fn push_char(waiting: &mut OutputBuffer, c: char)
+    requires { length waiting.old ≤ 4092 }
+    ensures text { waiting.new ≡ waiting.old ++ encode_utf8 c }
+    ensures short { length waiting.new ≤ length waiting.old + 4 }
 {
-    text.push(hex_digit(number / 16))?;
-    text.push(hex_digit(number % 16))
+    let mut bytes = [0; 4];
+    waiting.push_text(c.encode_utf8(&mut bytes));
 }
 
-/// Adds the escape of a character.
-fn push_escape(text: &mut String, c: char) -> Result<(), AllocError>
-    requires { is_hidden c ≡ true }
-    ensures { IfOk result (λ _. string_bytes text.new ≡ string_bytes text.old ++ encode_utf8_all (escape c)) }
+/// Puts the last two hexadecimal digits of a number behind what waits.
+fn push_two_digits(waiting: &mut OutputBuffer, number: u32)
+    requires small { number < 256 }
+    requires room { length waiting.old ≤ 4088 }
+    ensures text { waiting.new ≡ waiting.old ++ encode_utf8_all (two_digits number) }
+    ensures short { length waiting.new ≤ length waiting.old + 8 }
+{
+    push_char(waiting, hex_digit(number / 16));
+    push_char(waiting, hex_digit(number % 16));
+}
+
+/// Puts the escape of a character behind what waits.
+fn push_escape(waiting: &mut OutputBuffer, c: char)
+    requires hidden { is_hidden c ≡ true }
+    requires room { length waiting.old ≤ 4064 }
+    ensures { waiting.new ≡ waiting.old ++ encode_utf8_all (escape c) }
 {
     let code = c as u32;
     if code < 256 {
-        text.push_str("\\x")?;
-        return push_two_digits(text, code);
+        waiting.push_text("\\x");
+        push_two_digits(waiting, code);
+        return;
     }
-    text.push_str("\\u{")?;
-    push_two_digits(text, code / 256)?;
-    push_two_digits(text, code % 256)?;
-    text.push('}')
+    waiting.push_text("\\u{");
+    push_two_digits(waiting, code / 256);
+    push_two_digits(waiting, code % 256);
+    waiting.push(b'}');
 }
 
-/// Adds a character, or what is shown in its place.
-fn push_shown(text: &mut String, c: char) -> Result<(), AllocError>
-    ensures { IfOk result (λ _. string_bytes text.new ≡ string_bytes text.old ++ encode_utf8_all (shown c)) }
+/// Puts a character, or what is shown in its place, behind what waits. A line feed stays where the text may have lines.
+pub(crate) fn push_shown(waiting: &mut OutputBuffer, c: char, has_lines: bool)
+    requires { length waiting.old ≤ 4064 }
+    ensures { waiting.new ≡ waiting.old ++ encode_utf8_all (shown has_lines c) }
 {
-    if is_hidden(c) && c != '\n' {
-        push_escape(text, c)
+    if is_hidden(c) && !(has_lines && c == '\n') {
+        push_escape(waiting, c);
     } else {
-        text.push(c)
+        push_char(waiting, c);
     }
-}
-
-/// The text with `\x1b` and the like in place of each control character but the line feed, and `\u{202e}` and the like in place of
-/// each character that turns a text round, or separates lines or paragraphs, so that a terminal shows it and doesn't obey it.
-///
-/// # Errors
-///
-/// `AllocError` where memory is refused.
-#[tactic(auto, using(crate::proofs::ShownMore::shown_more))]
-pub fn escaped_text(alloc: Global, text: &str) -> Result<String, AllocError>
-    ensures { IfOk result (λ s. string_bytes s ≡ escaped text.now) }
-{
-    let mut out = String::new(alloc);
-    for c in text.chars() {
-        push_shown(&mut out, c)?;
-    }
-    Ok(out)
 }
 
 /// Adds a character of a text that is to stand on one line.
@@ -88,7 +87,7 @@ fn push_within_line(text: &mut String, c: char) -> Result<(), AllocError>
     ensures { IfOk result (λ _. string_bytes text.new ≡ string_bytes text.old ++ encode_utf8_all (within_line c)) }
 {
     if c == '\n' {
-        push_escape(text, c)
+        text.push_str("\\x0a")
     } else {
         text.push(c)
     }

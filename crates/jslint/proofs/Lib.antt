@@ -1,2 +1,2 @@
-pub mod UnopenedFiles
+pub mod UnreadFiles
 pub mod HelpAnswers

@@ -1,36 +1,92 @@
 -- Runs of a command by the program.
-use Rattle.std.specs.Prelude.{◌≡◌, ◌⊎◌, List, [], ℕ, Bool, false, true, Option, None, Some, Result, Ok, Err}
+use Rattle.std.specs.Prelude.{◌≡◌, ◌≢◌, ◌⊎◌, List, [], ℕ, Bool, false, true, Option, None, Some, Result, Ok, Err, option_map}
+use Rattle.std.specs.Io.KnownBytes.{Keeps}
+use Rattle.std.specs.declared.io.ErrorKind.{ErrorKind as IoErrorKind}
+use Rattle.std.specs.declared.io.ErrorKind.TheVariants as io_error_kind
 use Rattle.clap.specs.Words.{HasKind, Text, fault_of, kind_of, subcommand_of}
 use Rattle.clap.specs.declared.error.Error.{Error}
 use Rattle.clap.specs.declared.error.kind.ErrorKind.{ErrorKind}
 use Rattle.clap.specs.declared.error.kind.ErrorKind.TheVariants as error_kind
 use Rattle.source_text.specs.declared.fault.Fault.{Fault}
-use Rattle.source_text.specs.declared.fault.Fault.TheVariants.{OutOfMemory, ReadFailed, WriteFailed}
+use Rattle.source_text.specs.declared.fault.Fault.TheVariants.{OutOfMemory, ReadFailed, Usage, WriteFailed}
 use Rattle.command_line.specs.CommandLine.{Chooses, is_asked_for, jslint_app, not_utf8_line}
-use Rattle.command_line.specs.Shown.{WritesEscaped}
+use Rattle.command_line.specs.Tip.{WritesMistake, tip_of}
+use Rattle.command_line.specs.Unread.{unread_line}
 use Rattle.command_line.specs.declared.line.Line.{Line}
+use Rattle.command_line.specs.declared.unread.ReadFailure.{ReadFailure}
+use Rattle.command_line.specs.declared.unread.ReadFailure.TheVariants.{Missing, Folder, NotPermitted, LinkCircle, Other}
 use Rattle.nine_rules.specs.NineRules.{RunsByRules}
 use Rattle.commands.specs.Refusal.{WritesLine, refusal_line, status_of}
 use Rattle.commands.specs.declared.refused.Refused.{Refused}
+use Rattle.jslint.specs.declared.files.Stop.{Stop}
+use Rattle.jslint.specs.declared.files.Stop.TheVariants.{Refuses, Unread}
 
--- a file can't be opened
+-- a file can't be opened or read
 abbrev pub no_file : Refused
 no_file = record { fault = ReadFailed; line = 0; column = 0 }
 
--- A run over the files of a line, by what the writer took before and after, and whether it has failed. Of the bytes of the files
--- nothing is known but that a second file that isn't named is empty.
-abbrev pub RunsOnFiles : Line → Option (List ℕ) → Option (List ℕ) → Bool → Result ℕ Refused → Type 0
-RunsOnFiles line before after failed result = (given : Option (List ℕ)) × (second : Option (List ℕ)) × (reader_failed : Bool) × (second_failed : Bool)
-    × (line.second ≡ None → second ≡ Some [])
-    × RunsByRules line.command (record {
-      given = given;
-      second = second;
-      before = before;
-      after = after;
-      reader_failed = reader_failed;
-      second_failed = second_failed;
-      writer_failed = failed;
-    }) result
+-- the name of the second file, where there is one
+abbrev pub second_name : Line → Option Text
+second_name line = option_map (λ s. s.now) line.second
+
+-- A run over the files of a line, which were opened, by what the writer took before and after, and whether it has failed. Of the bytes of
+-- the files nothing is known but that a second file that isn't named is empty, and doesn't fail.
+pub record RunsOpened (line : Line) (before after : Option (List ℕ)) (failed : Bool) (result : Result ℕ Refused) : Type 0 where
+  pub given : Option (List ℕ)
+  pub second : Option (List ℕ)
+  pub reader_failed : Bool
+  pub second_failed : Bool
+  pub unnamed : line.second ≡ None → (second ≡ Some []) × (second_failed ≡ false)
+  pub runs : RunsByRules line.command (record {
+    given = given;
+    second = second;
+    before = before;
+    after = after;
+    reader_failed = reader_failed;
+    second_failed = second_failed;
+    writer_failed = failed;
+  }) result
+
+-- the name of a file that can't be opened is that of a file of the line, and nothing was written
+abbrev pub IsUnopened : Line → Option (List ℕ) → Option (List ℕ) → Bool → Text → Type 0
+IsUnopened line before after failed name =
+    (failed ≡ false) × Keeps before after × ((name ≡ line.file.now) ⊎ (second_name line ≡ Some name))
+
+-- the name is that of the file whose reader failed
+abbrev pub IsOfFailed : Line → Bool → Bool → Text → Type 0
+IsOfFailed line reader_failed second_failed name =
+    ((reader_failed ≡ true) × (name ≡ line.file.now)) ⊎ ((second_failed ≡ true) × (second_name line ≡ Some name))
+
+-- a run over opened files was refused since one failed, and that is the file of this name
+abbrev pub IsUnread : Line → Option (List ℕ) → Option (List ℕ) → Bool → Text → Type 0
+IsUnread line before after failed name =
+    (run : RunsOpened line before after failed (Err no_file)) × IsOfFailed line run.reader_failed run.second_failed name
+
+-- A run over the files of a line: its status; or its refusal; or the name of the file that can't be opened or read, for which there is no
+-- other refusal.
+abbrev pub RunsOnFiles : Line → Option (List ℕ) → Option (List ℕ) → Bool → Result ℕ Stop → Type 0
+RunsOnFiles line before after failed (Ok status) = RunsOpened line before after failed (Ok status)
+RunsOnFiles line before after failed (Err (Refuses refused)) = (refused.fault ≢ ReadFailed) × RunsOpened line before after failed (Err refused)
+RunsOnFiles line before after failed (Err (Unread name failure)) = IsUnopened line before after failed name.now ⊎ IsUnread line before after failed name.now
+
+-- what becomes of a refusal of a run over opened files, by the name of the file that failed, where one did
+abbrev pub StopsBy : Refused → Text → Stop → Type 0
+StopsBy refused unread (Refuses same) = (refused.fault ≢ ReadFailed) × (same ≡ refused)
+StopsBy refused unread (Unread name failure) = (refused.fault ≡ ReadFailed) × (name.now ≡ unread)
+
+-- a refusal has words of its own
+abbrev pub IsTold : Stop → Type 0
+IsTold (Refuses refused) = refused.fault ≢ Usage
+IsTold (Unread name failure) = Unit {0}
+
+-- why a file can't be opened, by the kind of the system's error
+abbrev pub failure_of : IoErrorKind → ReadFailure
+failure_of io_error_kind.NotFound = Missing
+failure_of io_error_kind.NotADirectory = Missing
+failure_of io_error_kind.IsADirectory = Folder
+failure_of io_error_kind.PermissionDenied = NotPermitted
+failure_of io_error_kind.FilesystemLoop = LinkCircle
+failure_of _ = Other
 
 -- ---- the program
 
@@ -52,15 +108,17 @@ GetsLine line writer = WritesLine line writer.before writer.after writer.failed
 abbrev pub at_no_place : Fault → Refused
 at_no_place fault = record { fault = fault; line = 0; column = 0 }
 
--- a run's status is the program's, or its refusal is, which is said in a line
-abbrev pub Ends : Result ℕ Refused → Written → ℕ → Type 0
+-- a run's status is the program's, or its refusal is, which is said in a line; for a file that can't be opened or read the line has its
+-- name, and why, as far as the system told
+abbrev pub Ends : Result ℕ Stop → Written → ℕ → Type 0
 Ends (Ok done) errors status = (status ≡ done) × IsKept errors
-Ends (Err refused) errors status = (status ≡ status_of refused.fault) × GetsLine (refusal_line refused) errors
+Ends (Err (Refuses refused)) errors status = (status ≡ status_of refused.fault) × GetsLine (refusal_line refused) errors
+Ends (Err (Unread name failure)) errors status = (status ≡ status_of ReadFailed) × GetsLine (unread_line name.now failure) errors
 
 -- a line was run over its files
 abbrev pub RunsLine : Line → Written → Written → ℕ → Type 0
 RunsLine line output errors status =
-    (answer : Result ℕ Refused) × RunsOnFiles line output.before output.after output.failed answer × Ends answer errors status
+    (answer : Result ℕ Stop) × RunsOnFiles line output.before output.after output.failed answer × Ends answer errors status
 
 -- the words are a line, which was run
 abbrev pub RunsWords : List Text → Written → Written → ℕ → Type 0
@@ -68,17 +126,17 @@ RunsWords words output errors status =
     (line : Line) × Chooses (subcommand_of jslint_app words) line × RunsLine line output errors status
 
 -- Why the words are no line was said: memory was refused, which has its line; help or the version was asked for, and shown or not, which
--- has its line too; or the words are wrong.
-abbrev pub Explains : ErrorKind → Written → ℕ → Type 0
-Explains kind errors status =
+-- has its line too; or the words are wrong, and what is said ends with a tip, where there is one.
+abbrev pub Explains : List Text → ErrorKind → Written → ℕ → Type 0
+Explains words kind errors status =
     (kind ≡ error_kind.OutOfMemory → GetsLine (refusal_line (at_no_place OutOfMemory)) errors)
-    × (is_asked_for kind ≡ false → (status ≡ 2) × WritesEscaped errors.before errors.after errors.failed)
+    × (is_asked_for kind ≡ false → (status ≡ 2) × WritesMistake (tip_of kind words) errors.before errors.after errors.failed)
     × (is_asked_for kind ≡ true → ((status ≡ 0) × IsKept errors) ⊎ ((status ≡ 2) × GetsLine (refusal_line (at_no_place WriteFailed)) errors))
 
 -- the words are no line, for a reason that they have or for want of memory
 abbrev pub ExplainsWords : List Text → Written → Written → ℕ → Type 0
 ExplainsWords words output errors status =
-    IsKept output × ((error : Error) × HasKind (fault_of jslint_app words) error × Explains (kind_of error) errors status)
+    IsKept output × ((error : Error) × HasKind (fault_of jslint_app words) error × Explains words (kind_of error) errors status)
 
 -- what the program does by its words, its name first
 abbrev pub Obeys : List Text → Written → Written → ℕ → Type 0

@@ -4,20 +4,21 @@
 //! - May touch: files, standard output and standard error. It opens them and hands on.
 //! - Contract: `Answers` in `specs/Program.antt`: a run on the file that is opened, with the status and the line of
 //!   its answer.
-//! - Begin at: `main.rt`, `main`; what isn't public is tested in `tests.rt`.
+//! - Begin at: `main.rt`, `main`; `files.rt`, `open_and_run`; what isn't public is tested in `tests.rt`.
 
-ghost use Rattle.std.specs.Prelude.{◌≡◌, ◌≢◌, IfErr, IfOk, false, map};
-ghost use Rattle.source_text.specs.declared.fault.Fault.TheVariants.{Usage};
-ghost use Rattle.jslint.specs.Program.{Answers, NoWordsSaid, Obeys, RunsLine, RunsOnFiles, no_file};
+mod files;
 
-use command_line::{Line, command_line, explain, explain_not_utf8};
+ghost use Rattle.std.specs.Prelude.{◌≡◌, false, map};
+ghost use Rattle.jslint.specs.Program.{Answers, NoWordsSaid, Obeys, RunsLine};
+
+use command_line::{Line, command_line, explain, explain_not_utf8, explain_unread};
 use commands::{Refused, write_refusal};
-use nine_rules::run_with_rules;
-use source_text::{Device, Fault, Feed, Sink};
+use files::{Stop, open_and_run};
+use source_text::{Device, Fault, Sink};
 use std::alloc::Global;
 use std::process::ExitCode;
 use std::rt::{Env, Files};
-use std::{env, fs, io};
+use std::{env, io};
 
 /// Why the command line has no words for us.
 #[derive(Clone, Copy, Debug, PartialEq, Eq)]
@@ -55,40 +56,6 @@ fn explain_no_words<W: Sink>(why: NoWords, errors: &mut W) -> u8
     }
 }
 
-/// Opens a file for reading.
-fn open<R: Files>(rt: &R, name: &str) -> Result<Device<R::File>, Refused>
-    ensures told { IfErr result (λ refused. refused ≡ no_file) }
-    ensures ready { IfOk result (λ file. ⟦<Device<R::File> as Feed>⟧.failed file ≡ false) }
-{
-    match fs::open(rt, name) {
-        Ok(file) => Ok(Device::of_reader(file)),
-        Err(_) => Err(Refused::at_no_place(Fault::ReadFailed)),
-    }
-}
-
-/// Opens the files, the script first, and runs the command.
-fn open_and_run<R: Files + AllocGlobal, W: Sink>(
-    rt: &R,
-    line: Line,
-    output: &mut W,
-) -> Result<u8, Refused>
-    requires { W.failed output.old ≡ false }
-    ensures told { IfErr result (λ refused. refused.fault ≢ Usage) }
-    ensures answer { RunsOnFiles line.entry (W.taken output.old) (W.taken output.new) (W.failed output.new) result }
-{
-    let mut file = open(rt, line.file)?;
-    match line.second {
-        Some(name) => {
-            let mut second = open(rt, name)?;
-            run_with_rules(rt.alloc(), line.command, &mut file, &mut second, output)
-        }
-        None => {
-            let mut second = Device::of_reader(io::empty());
-            run_with_rules(rt.alloc(), line.command, &mut file, &mut second, output)
-        }
-    }
-}
-
 /// Runs a line over its files, and says why where it is refused. Answers the exit status.
 fn run_line<R: Files + AllocGlobal, O: Sink, W: Sink>(
     rt: &R,
@@ -110,7 +77,8 @@ fn run_line<R: Files + AllocGlobal, O: Sink, W: Sink>(
 {
     match open_and_run(rt, line, output) {
         Ok(status) => status,
-        Err(refused) => write_refusal(&refused, errors),
+        Err(Stop::Unread(name, failure)) => explain_unread(name, failure, errors),
+        Err(Stop::Refuses(refused)) => write_refusal(&refused, errors),
     }
 }
 

@@ -1,13 +1,14 @@
 ghost use Rattle.std.specs.Prelude.{◌≡◌, IfOk, false};
 
-use super::{open_and_run, run_arguments};
-use command_line::Line;
-use commands::{Command, Refused};
-use source_text::{FailurePlan, Fault, MemorySink};
+use super::files::{Stop, open_and_run};
+use super::run_arguments;
+use command_line::{Line, ReadFailure};
+use commands::Command;
+use source_text::{FailurePlan, MemorySink};
 use std::alloc::{AllocError, Global};
 use std::test::Fail;
 
-/// An empty writer in memory with room for 64 bytes.
+/// An empty writer in memory with room for 1,024 bytes.
 fn writer(alloc: Global) -> Result<MemorySink, AllocError>
     ensures { IfOk result (λ sink. sink.failed ≡ false) }
 {
@@ -15,22 +16,74 @@ fn writer(alloc: Global) -> Result<MemorySink, AllocError>
         per_call: 64,
         fails_at: None,
     };
-    MemorySink::new(alloc, 64, plan)
+    MemorySink::new(alloc, 1024, plan)
 }
 
-/// A file that can't be read refuses the command, which writes nothing.
+/// A file that can't be read refuses the command, which writes nothing; the refusal has its name, and why.
 #[test]
 fn files_that_cannot_be_read(rt: HostRuntime) -> Result<(), Fail> {
-    for (command, file, second) in [
-        (Command::Fix, "no such file", None),
-        (Command::Fix, "no such folder/a.js", None),
-        (Command::Fix, ".", None),
-        (Command::Fix, "", None),
-        (Command::Unwrap, "no such file", None),
-        (Command::Unwrap, ".", None),
-        (Command::Check, "/dev/null", Some("no such file")),
-        (Command::Verify, "/dev/null", Some("no such file")),
-        (Command::Verify, "no such file", Some("/dev/null")),
+    for (command, file, second, unread, failure) in [
+        (
+            Command::Fix,
+            "no such file",
+            None,
+            "no such file",
+            ReadFailure::Missing,
+        ),
+        (
+            Command::Fix,
+            "no/a.js",
+            None,
+            "no/a.js",
+            ReadFailure::Missing,
+        ),
+        (
+            Command::Fix,
+            "/dev/null/a.js",
+            None,
+            "/dev/null/a.js",
+            ReadFailure::Missing,
+        ),
+        (Command::Fix, ".", None, ".", ReadFailure::Folder),
+        (Command::Fix, "", None, "", ReadFailure::Missing),
+        (Command::Fix, "a\0b", None, "a\0b", ReadFailure::Other),
+        (Command::Unwrap, ".", None, ".", ReadFailure::Folder),
+        (
+            Command::Check,
+            "/dev/null",
+            Some("no"),
+            "no",
+            ReadFailure::Missing,
+        ),
+        (
+            Command::Check,
+            "/dev/null",
+            Some(".."),
+            "..",
+            ReadFailure::Folder,
+        ),
+        (Command::Check, ".", Some("no"), "no", ReadFailure::Missing),
+        (
+            Command::Check,
+            ".",
+            Some("/dev/null"),
+            ".",
+            ReadFailure::Folder,
+        ),
+        (
+            Command::Verify,
+            "/dev/null",
+            Some("/"),
+            "/",
+            ReadFailure::Folder,
+        ),
+        (
+            Command::Verify,
+            "no",
+            Some("/dev/null"),
+            "no",
+            ReadFailure::Missing,
+        ),
     ] {
         let mut output = writer(rt.alloc())?;
         let line = Line {
@@ -39,11 +92,7 @@ fn files_that_cannot_be_read(rt: HostRuntime) -> Result<(), Fail> {
             second,
         };
         let got = open_and_run(&rt, line, &mut output);
-        assert_eq!(rt;
-            got,
-            Err(Refused::at_no_place(Fault::ReadFailed)),
-            "{line:?}"
-        );
+        assert_eq!(rt; got, Err(Stop::Unread(unread, failure)), "{line:?}");
         assert!(rt; output.bytes().is_empty(), "{line:?}");
     }
     Ok(())
@@ -62,7 +111,8 @@ fn refusals_go_to_the_errors(rt: HostRuntime) -> Result<(), Fail> {
     );
     assert_eq!(rt; status, 2);
     assert!(rt; output.bytes().is_empty());
-    assert_eq!(rt; errors.bytes(), b"jslint: read failed\n".as_slice());
+    let line = "jslint: read failed: no such file: missing\n";
+    assert_eq!(rt; errors.bytes(), line.as_bytes());
     let mut output = writer(rt.alloc())?;
     let mut errors = writer(rt.alloc())?;
     assert_eq!(rt;
@@ -70,6 +120,32 @@ fn refusals_go_to_the_errors(rt: HostRuntime) -> Result<(), Fail> {
         2
     );
     assert!(rt; output.bytes().is_empty());
+    Ok(())
+}
+
+/// What is written of wrong words ends with what to type, where the first is no command and looks like a file.
+#[test]
+fn files_in_place_of_commands(rt: HostRuntime) -> Result<(), Fail> {
+    for (words, tip) in [
+        (["jslint", "app.js"], "\n\n  tip: jslint check app.js\n"),
+        (["jslint", "a/b"], "\n\n  tip: jslint check a/b\n"),
+        (["jslint", "né-1_.js"], "\n\n  tip: jslint check né-1_.js\n"),
+        (["jslint", "app"], "try '--help'.\n"),
+        (["jslint", "a b.js"], "try '--help'.\n"),
+        (["jslint", "$(a).js"], "try '--help'.\n"),
+        (["jslint", "a.js\n"], "try '--help'.\n"),
+        (["jslint", "a.js\u{202e}"], "try '--help'.\n"),
+        (["jslint", "-a.js"], "try '--help'.\n"),
+        (["jslint", "--a.js"], "try '--help'.\n"),
+        (["jslint", "check"], "try '--help'.\n"),
+    ] {
+        let mut output = writer(rt.alloc())?;
+        let mut errors = writer(rt.alloc())?;
+        let status = run_arguments(&rt, &words, &mut output, &mut errors);
+        assert_eq!(rt; status, 2);
+        assert!(rt; output.bytes().is_empty(), "{words:?}");
+        assert!(rt; errors.bytes().ends_with(tip.as_bytes()), "{words:?}");
+    }
     Ok(())
 }
 

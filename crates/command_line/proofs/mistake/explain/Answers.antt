@@ -9,7 +9,7 @@ returns-then-eq-clause-memory g c = λ _. subst (λ refused. WritesLine (refusal
 
 -- the same, as a text without control characters
 pub returns-then-eq-clause-said : goal.returns-then-eq-clause-said
-returns-then-eq-clause-said g c = λ _. memory_said _ _ _ (subst (λ refused. WritesLine (refusal_line refused) (g.W.Sink.taken c.args.errors.now) (g.W.Sink.taken c.write_refusal.new.writer) (g.W.Sink.failed c.write_refusal.new.writer)) c.at_no_place.ensures c.write_refusal.ensures.line)
+returns-then-eq-clause-said g c = λ _. memory_said _ _ _ _ (subst (λ refused. WritesLine (refusal_line refused) (g.W.Sink.taken c.args.errors.now) (g.W.Sink.taken c.write_refusal.new.writer) (g.W.Sink.failed c.write_refusal.new.writer)) c.at_no_place.ensures c.write_refusal.ensures.line)
 
 -- help wasn't shown: the line of the refusal
 pub returns-in-Err-clause-lost : goal.returns-in-Err-clause-lost

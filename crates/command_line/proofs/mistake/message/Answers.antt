@@ -7,4 +7,4 @@ use Rattle.command_line.proofs.mistake.message.Goals as goal
 pub refusal_text-requires : goal.refusal_text-requires
 refusal_text-requires c =
     let words = map (λ w. w.now) c.args.words.now in
-    (words, ap (map (λ s. string_bytes s)) c.deref.ensures.value ∙ c.in_ok-words.ensures ∙ sym (map-map on_one_line (λ w. w.now) c.args.words.now))
+    (words, ap (map (λ s. string_bytes s)) c.deref.ensures.value ∙ c.in_ok-lines.ensures ∙ sym (map-map on_one_line (λ w. w.now) c.args.words.now))
