@@ -26,6 +26,8 @@ PACKED = {
 }
 # Where the libraries are, or why there are none.
 PLACE, WHY = None, None
+# tools/wasm/build.py
+BUILD = None
 
 
 class Skipped(Exception):
@@ -34,9 +36,9 @@ class Skipped(Exception):
 
 def find():
     """Looks for the libraries of the sources here."""
-    global PLACE, WHY
+    global PLACE, WHY, BUILD
     spec = importlib.util.spec_from_file_location('libraries_build', f'{TOP}/tools/wasm/build.py')
-    build = importlib.util.module_from_spec(spec)
+    BUILD = build = importlib.util.module_from_spec(spec)
     spec.loader.exec_module(build)
     try:
         sources = build.sum_of_sources()
@@ -63,6 +65,13 @@ def tool(*names):
     if found is None:
         raise Skipped(f'there is no {names[0]} here')
     return found
+
+
+def toolchain():
+    """The folder of the compilers of the toolchain."""
+    tool('rt')
+    BUILD.build.load()
+    return f'{BUILD.build.RT.rtlib.KIT}/toolchain/bin'
 
 
 def node(least=18):
