@@ -292,6 +292,11 @@ declare void @llvm.va_start.p0(ptr) #0
 %Pair = type { i64, ptr }
 @a = internal global <{ i64, %Pair }> zeroinitializer, align 8
 
+; === global of a struct that has a name, before 4 bytes
+; refused: a global of a type that holds a pointer, in the line: @a = internal global <{ %Pair, [4 x i8] }> zeroinitializer, align 8
+%Pair = type { i64, ptr }
+@a = internal global <{ %Pair, [4 x i8] }> zeroinitializer, align 8
+
 ; === global of an array
 ; refused: a constant with pointers, in the line: @a = internal global [4 x ptr] zeroinitializer, align 8
 @a = internal global [4 x ptr] zeroinitializer, align 8
@@ -380,6 +385,15 @@ define internal void @f(ptr %a) #0 {
   ret void
 }
 
+; === the address of a block
+; refused: `blockaddress`, in the line: store ptr blockaddress(@f, %b), ptr %a, align 8
+define internal void @f(ptr %a) #0 {
+  store ptr blockaddress(@f, %b), ptr %a, align 8
+  br label %b
+b:                                                ; preds = %0
+  ret void
+}
+
 ; === assembly
 ; refused: `asm`, in the line: call void asm sideeffect "", "r"(ptr %a)
 define internal void @f(ptr %a) #0 {
@@ -402,10 +416,18 @@ define internal void @f(ptr %a) #0 {
 }
 
 ; === a call that may throw
-; refused: the instruction `invoke`, in the line: invoke void %g() to label %b unwind label %c
-define internal void @f(ptr %g) #0 {
-  invoke void %g() to label %b unwind label %c
+; refused: the instruction `invoke`, in the line: invoke void %g()
+define internal void @f(ptr %g) #0 personality ptr @p {
+  invoke void %g()
+          to label %b unwind label %c
+b:                                                ; preds = %0
+  ret void
+c:                                                ; preds = %0
+  %d = landingpad { ptr, i32 }
+          cleanup
+  ret void
 }
+declare i32 @p(...)
 
 ; === assembly of the module
 ; refused: a line, in the line: module asm ".globl a"
@@ -475,6 +497,21 @@ define internal void @put(ptr %to, i8 %a, ptr %b) #0 {
   %both = insertvalue { i8, ptr } %one, ptr %b, 1
   store { i8, ptr } %both, ptr %to, align 8
   ret void
+}
+
+; === loads and stores that stay
+; gives: 13
+@six = private constant i64 6, align 8
+define i64 @answer() #0 {
+start:
+  %room = alloca [8 x i8], align 8
+  store volatile ptr @six, ptr %room, align 8
+  %a = load volatile ptr, ptr %room, align 8
+  %b = load i64, ptr %a, align 8
+  store volatile i64 7, ptr %room, align 8
+  %c = load volatile i64, ptr %room, align 8
+  %d = add i64 %b, %c
+  ret i64 %d
 }
 
 ; === two pointers

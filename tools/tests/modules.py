@@ -64,6 +64,24 @@ def modules(room):
     is_well(sum(it.reason is not None for it in found) >= 60 and sum(it.reason is None for it in found) >= 12, f'{len(found)} modules')
 
 
+def unrewritten(room):
+    """What is left of what would have to be rewritten is refused."""
+    for line, reason in [
+        ('@a = private constant <{ ptr, i64 }> <{ ptr null, i64 1 }>, align 8', 'a global of a type that holds a pointer'),
+        ('  %a = alloca ptr, align 8', 'an `alloca` of a type that holds a pointer'),
+        ('  %a = load { i8, ptr }, ptr %b, align 8', 'a `load` of a type that holds a pointer'),
+        ('  store { ptr, i64 } %a, ptr %b, align 8', 'a `store` of a type that holds a pointer'),
+        ('  %a = ptrtoaddr ptr %b to i64', '`ptrtoaddr`'),
+    ]:
+        text = line if line.startswith('@') else f'define internal void @f() #0 {{\n{line}\n}}'
+        try:
+            retarget.layout.check(text)
+        except retarget.Unknown as why:
+            same(str(why), f'{reason}, in the line: {line.strip()}')
+        else:
+            raise AssertionError(f'{line}: not refused')
+
+
 def words(clang, lld, module):
     return [sys.executable, f'{WASM}/retarget.py', '--clang', clang, '--lld', lld, '--heap', f'{WASM}/heap.c', '--helpers', f'{WASM}/helpers.c', '-o', 'made.wasm', module]
 
@@ -92,4 +110,4 @@ def answers_of_modules(room):
             is_well(found == [row.number] * 2, f'{row.name}: {found[0]} on x86-64 and {found[1]} in WebAssembly, where {row.number} is wanted')
 
 
-TESTS = [modules, refused_module, answers_of_modules]
+TESTS = [modules, unrewritten, refused_module, answers_of_modules]

@@ -28,7 +28,7 @@ KNOWN = set('''
     call load store alloca getelementptr
 '''.split())
 # Words that may stand nowhere in a function or in a global.
-REFUSED = {'inttoptr', 'ptrtoaddr', 'addrspacecast', 'addrspace', 'blockaddress', 'asm', 'va_arg', 'vscale'}
+REFUSED = {'inttoptr', 'ptrtoaddr', 'addrspace', 'blockaddress', 'asm', 'va_arg', 'vscale'}
 # Attributes of parameters that name the type of the memory behind a pointer.
 OF_MEMORY = {'byval', 'byref', 'sret', 'inalloca', 'preallocated', 'elementtype'}
 LINKAGE = {'private', 'internal', 'external', 'hidden', 'dso_local', 'unnamed_addr', 'local_unnamed_addr'}
