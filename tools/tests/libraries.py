@@ -4,6 +4,7 @@ They are those that tools/wasm/build.py left in bin/libraries, or those of relea
 that raises where something is wrong, and Skipped where it can't be tried. Its argument is a room: a folder of its own, in which it works.
 """
 import base64
+import collections
 import importlib.util
 import json
 import os
@@ -26,6 +27,8 @@ PACKED = {
 }
 # Where the libraries are, or why there are none.
 PLACE, WHY = None, None
+# tools/wasm/build.py
+BUILD = None
 
 
 class Skipped(Exception):
@@ -34,9 +37,9 @@ class Skipped(Exception):
 
 def find():
     """Looks for the libraries of the sources here."""
-    global PLACE, WHY
+    global PLACE, WHY, BUILD
     spec = importlib.util.spec_from_file_location('libraries_build', f'{TOP}/tools/wasm/build.py')
-    build = importlib.util.module_from_spec(spec)
+    BUILD = build = importlib.util.module_from_spec(spec)
     spec.loader.exec_module(build)
     try:
         sources = build.sum_of_sources()
@@ -63,6 +66,13 @@ def tool(*names):
     if found is None:
         raise Skipped(f'there is no {names[0]} here')
     return found
+
+
+def toolchain():
+    """The folder of the compilers of the toolchain."""
+    tool('rt')
+    BUILD.build.load()
+    return f'{BUILD.build.RT.rtlib.KIT}/toolchain/bin'
 
 
 def node(least=18):
@@ -222,10 +232,17 @@ def page(room):
     is_well(re.search(r'^(\d+) as wanted, 0 not$', out, re.M), out)
 
 
-TESTS = [c_example, documented_c, refused_memory, python_example, node_tests, node_pack, node_readme, page]
-
-
 # ---- the rows
+
+def fifth(room):
+    """What the gate asks of the libraries: a fifth of the rows of each call in each file, and at least one."""
+    every = [it for it in rows.rows_in(f'{TOP}/crates/cases/data') if rows.asks_command(it)]
+    found, counts = rows.each_fifth(every), []
+    for some in (every, found):
+        counts.append(collections.Counter((it[0].split(':')[0], it[1].split('\t')[0]) for it in some))
+    is_well(set(found) <= set(every) and len(set(found)) == len(found), 'rows that are no rows, or twice')
+    same({key: -(-number // 5) for key, number in counts[0].items()}, dict(counts[1]))
+
 
 def by_ctypes(folder):
     """Answers by libjslint.so in this process."""
@@ -294,3 +311,5 @@ def begin_aarch64(words):
 
 # By the name of who answers: what is made in a folder, and what each process begins with.
 ANSWERERS = {'rows_by_c': (make_c, begin_c), 'rows_by_module': (make_node, begin_node), 'rows_on_aarch64': (make_aarch64, begin_aarch64)}
+
+TESTS = [c_example, documented_c, refused_memory, python_example, node_tests, node_pack, node_readme, page, fifth]

@@ -6,6 +6,7 @@ finds an early error in such a row's text, it holds so much that the text is a s
 What `fix` refuses `unwrap` refuses too, with the same line; and where `fix` answers, the unwrapped text is unwrapped to itself and fixed to the
 text to which the script itself is. Each row that asks `fix` is held to that as well.
 """
+import collections
 import functools
 import json
 import os
@@ -419,6 +420,17 @@ OF_PROGRAM = {'run', 'run bytes', 'json', 'command line'}
 def asks_command(row):
     """Whether a row asks what a command answers, and not how the program treats its files."""
     return row[1].split('\t')[0] not in OF_PROGRAM
+
+
+def each_fifth(found):
+    """Of the rows of each call in each file the first, the sixth, the eleventh and so on."""
+    kept, counts = [], collections.Counter()
+    for row in found:
+        key = row[0].split(':')[0], row[1].split('\t')[0]
+        if counts[key] % 5 == 0:
+            kept.append(row)
+        counts[key] += 1
+    return kept
 
 
 def rows_in(folder):

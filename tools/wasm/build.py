@@ -22,7 +22,7 @@ FOLDER = f'{TOP}/bin/libraries'
 TARGETS = {'x86_64-linux/libjslint.a': 'x86_64-unknown-linux-gnu', 'aarch64-linux/libjslint.a': 'aarch64-unknown-linux-gnu', 'wasm/jslint.wasm': None}
 HEAP = f'{TOP}/packages/c/heap.c'
 # What the libraries are made of beside the crates.
-TOOLS = ['packages/c/heap.c', *(f'tools/wasm/{it}' for it in ('build.py', 'retarget.py', 'heap.c', 'helpers.c'))]
+TOOLS = ['packages/c/heap.c', *(f'tools/wasm/{it}' for it in ('build.py', 'retarget.py', 'layout.py', 'heap.c', 'helpers.c'))]
 HEAP_FLAGS = ['-O2', '-fPIC', '-ffreestanding', '-nostdinc', '-ffunction-sections', '--no-default-config', '-fno-crash-diagnostics', '-Werror']
 # Stands as `clang` in a copy of the toolchain's folder, and keeps the module that it is handed. rattle calls it with no environment.
 KEEPING_CLANG = '''#!/bin/sh

@@ -3,7 +3,7 @@
     retarget.py --clang CLANG --lld LLD --heap heap.c --helpers helpers.c [--stack BYTES] [--keep FOLDER] -o OUT.wasm MODULE.bc
 
 MODULE.bc is what `rattle build --crate-type staticlib` hands to its clang for x86-64. README.md beside this file says each step, and why. What
-stands in the module in a form that no step here knows ends it: nothing is passed over in silence.
+stands in the module in a form that no step here knows ends it, with the line and status 1: nothing is passed over in silence, and nothing is made.
 """
 import argparse
 import os
@@ -12,6 +12,12 @@ import subprocess
 import sys
 import tempfile
 
+import layout
+from layout import Unknown
+
+# What the module is for, and what is made of it.
+GIVEN_TRIPLE = 'x86_64-unknown-linux-gnu'
+GIVEN_LAYOUT = 'e-m:e-p270:32:32-p271:32:32-p272:64:64-i64:64-i128:128-f80:128-n8:16:32:64-S128'
 TRIPLE = 'wasm32-unknown-unknown'
 LAYOUT = 'e-m:e-p:32:32-p10:8:8-p20:8:8-i64:64-i128:128-n32:64-S128-ni:1:10:20'
 CPU, FEATURES = 'lime1', '+simd128'
@@ -44,16 +50,14 @@ SWIZZLE_DECLARED = 'declare <16 x i8> @llvm.wasm.swizzle(<16 x i8>, <16 x i8>)'
 PLACE = r'(%[\w.]+|@"[^"]*"|@[\w.]+)'
 LOAD = re.compile(rf'  (%\S+) = load (\{{[^}}]*\}}), ptr {PLACE}(?:, align (\d+))?(.*)$')
 STORE = re.compile(rf'  store (\{{[^}}]*\}}) (%[\w.]+), ptr {PLACE}(?:, align (\d+))?(.*)$')
-
-
-class Unknown(Exception):
-    """What stands in the module in a form that no step knows."""
+# A pointer in a constant, as it is known.
+ADDRESS = re.compile(rf'ptr (null|{PLACE}|getelementptr (?:inbounds |nuw |nusw )*\(i8, ptr {PLACE}, i64 -?\d+\))')
 
 
 def size_of(kind, pointer):
     """The bytes of a value, where a pointer has so many."""
     array = re.fullmatch(r'\[(\d+) x (\w+)\]', kind)
-    if array:
+    if array and array[2] != 'ptr':
         return int(array[1]) * size_of(array[2], pointer)
     if kind != 'ptr' and kind not in SIZES:
         raise Unknown(f'a value of the kind {kind}')
@@ -105,7 +109,13 @@ class Module:
 
     def by_lines(self, change):
         """Puts what `change` makes of each line in the line's place."""
-        self.text = '\n'.join(made for line in self.text.split('\n') for made in change(line))
+        made, line = [], ''
+        try:
+            for line in self.text.split('\n'):
+                made += change(line)
+        except Unknown as what:
+            raise Unknown(f'{what}, in the line: {line.strip()[:300]}') from None
+        self.text = '\n'.join(made)
 
     def shuffled(self, line):
         """Step 3: a shuffle of bytes."""
@@ -118,6 +128,9 @@ class Module:
 
     def head(self):
         """Step 2: the target, and no calls of a processor's own."""
+        for what, given in (('triple', GIVEN_TRIPLE), ('datalayout', GIVEN_LAYOUT)):
+            if f'target {what} = "{given}"' not in self.text:
+                raise Unknown(f'another {what} than {given}')
         found = re.search(r'^declare .*@"?(llvm\.x86[^"(]*)', self.text, re.M)
         if found or '"target-features"' in self.text:
             raise Unknown(f'a call of {found[1]}' if found else 'features of a processor')
@@ -132,6 +145,8 @@ class Module:
 
         def change(line):
             found = re.match(r'define (?!internal|private)(.*) @"?([\w.]+)"?\((.*)\) (#\d+) \{$', line)
+            if not found and re.match(r'define (?!internal|private)', line):
+                raise Unknown('a function that others call')
             if found:
                 names.append(found[2])
                 line = f'{line[:-2]} "wasm-export-name"="{found[2]}" {{'
@@ -166,7 +181,7 @@ class Module:
         found = load or store
         if not found:
             if re.search(r'\b(load|store) (volatile |atomic )*\{', line):
-                raise Unknown(f'a line: {line}')
+                raise Unknown('a load or a store of a value of several parts')
             return [line]
         kind = load[2] if load else store[1]
         kinds = [it.strip() for it in kind[1:-1].split(',')]
@@ -177,24 +192,29 @@ class Module:
 
     def widened(self, line):
         """Step 5 too: in a packed constant each pointer gets 4 bytes after it, so that it has the 8 that the code counts with."""
-        found = re.match(r'(@\S+|@"[^"]*") = (.*)$', line)
-        if not found or not re.search(r'\bptr\b', found[2]):
+        found = re.match(r'(@"[^"]*"|@\S+) = (.*)$', line)
+        if not found or 'ptr' not in layout.tokens_of(found[2]):
             return [line]
         packed = re.fullmatch(r'(.* (?:constant|global)) <\{(.*?)\}> <\{(.*)\}>(.*)', found[2])
         kinds, values = (parts_of(packed[2]), parts_of(packed[3])) if packed else ([], [])
         if len(kinds) != len(values) or not kinds or any(not value.startswith(f'{kind} ') for kind, value in zip(kinds, values)):
-            raise Unknown(f'a constant: {line[:300]}')
+            raise Unknown('a constant with pointers')
+        if any(kind == 'ptr' and not ADDRESS.fullmatch(value) for kind, value in zip(kinds, values)):
+            raise Unknown('a pointer in a constant')
         self.count('constants with pointers')
         kinds = [each for kind in kinds for each in [kind, *['[4 x i8]'] * (kind == 'ptr')]]
         values = [each for value in values for each in [value, *['[4 x i8] zeroinitializer'] * value.startswith('ptr ')]]
         return [f'{found[1]} = {packed[1]} <{{ {", ".join(kinds)} }}> <{{ {", ".join(values)} }}>{packed[4]}']
 
+    def roomy(self):
+        """Step 5 too: an `alloca` of pointers has 8 bytes for each."""
+        self.text, number = re.subn(r'(?m)^(  %\S+ = alloca) ptr,', r'\1 [8 x i8],', self.text)
+        self.count('places of pointers', number)
+
     def addresses(self):
         """Step 6: the number of a pointer has 64 bits as before; its upper half is 0."""
         self.text, number = re.subn(r'ptrtoaddr ptr (\S+) to i64', r'ptrtoint ptr \1 to i64', self.text)
         self.count('numbers of pointers', number)
-        if 'inttoptr' in self.text:
-            raise Unknown('a pointer that is made of a number')
 
     def guarded(self, function):
         """A function that stops where its frame lies below the memory's first bytes: behind the last place of its first block."""
@@ -209,11 +229,25 @@ class Module:
         return function[:found.end()] + CHECK + rest
 
     def stack(self):
-        """Step 8: a run that has used up the stack stops. In the optimized text: before, a check would keep functions from being inlined."""
+        """Step 9: a run that has used up the stack stops. In the optimized text: before, a check would keep functions from being inlined."""
         self.text = ''.join(self.guarded(it) for it in re.split(r'(?m)^(?=define )', self.text))
         for name, line in INTRINSICS.items():
             if not re.search(rf'^declare .*@{re.escape(name)}', self.text, re.M):
                 self.text += f'\n{line}\n'
+
+
+def rewritten(text):
+    """What steps 2 to 7 make of the text of a module for x86-64, and the names of its exports."""
+    module = Module(text)
+    module.by_lines(module.shuffled)
+    module.head()
+    names = module.exports()
+    module.by_lines(module.split)
+    module.by_lines(module.widened)
+    module.roomy()
+    module.addresses()
+    layout.check(module.text)
+    return module, names
 
 
 def run(words):
@@ -235,14 +269,8 @@ def put(path, text):
 def compiled(given, room):
     """The object files, the names of the exports, and the counts of what was changed."""
     clang, flags = given.clang, [given.clang, f'--target={TRIPLE}', f'-mcpu={CPU}', *FLAGS]
-    run([clang, '-x', 'ir', given.module, '-S', '-emit-llvm', '-Xclang', '-disable-llvm-passes', '--target=x86_64-unknown-linux-gnu', '-o', f'{room}/given.ll'])
-    module = Module(text_of(f'{room}/given.ll'))
-    module.by_lines(module.shuffled)
-    module.head()
-    names = module.exports()
-    module.by_lines(module.split)
-    module.by_lines(module.widened)
-    module.addresses()
+    run([clang, '-x', 'ir', given.module, '-S', '-emit-llvm', '-Xclang', '-disable-llvm-passes', '-Werror', f'--target={GIVEN_TRIPLE}', '-o', f'{room}/given.ll'])
+    module, names = rewritten(text_of(f'{room}/given.ll'))
     put(f'{room}/retargeted.ll', module.text)
     run([*flags, '-O3', '-x', 'ir', f'{room}/retargeted.ll', '-S', '-emit-llvm', '-o', f'{room}/optimized.ll'])
     module.text = text_of(f'{room}/optimized.ll')
