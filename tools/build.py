@@ -476,4 +476,8 @@ if __name__ == '__main__':
         sys.stderr.flush()
         # (checks that still run end with this process)
         os._exit(2)
+    except OSError as error:
+        say(f'not built: {error}')
+        sys.stderr.flush()
+        os._exit(2)
     sys.exit(status)
