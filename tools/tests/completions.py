@@ -95,7 +95,7 @@ zle -N zle-line-init
 
 
 def read_until(device, wanted, told):
-    """Reads a terminal until this comes, or the shell ends."""
+    """What a terminal shows until this comes, or the shell ends."""
     found = b''
     while wanted not in found:
         ready = select.select([device], [], [], 60)[0]
@@ -105,8 +105,9 @@ def read_until(device, wanted, told):
         except OSError:
             more = b''
         if not more:
-            return
+            break
         found += more
+    return found
 
 
 def zsh(room):
