@@ -4,8 +4,10 @@ the sources whose release is the program that is tested.
 import os
 import re
 import shutil
+import signal
 import stat
 import subprocess
+import time
 
 import libraries
 from launcher import SOURCE, TOP, Copy
@@ -232,7 +234,41 @@ def linked_checkout(copy):
     copy.refuses('a source differs', 'behind a link')
 
 
+def interrupted_start(copy):
+    """A signal while it compares: no answer, no file of its own stays, and the next start is as ever."""
+    kept = os.readlink(f'{copy.path}/cksum')
+    for number in (signal.SIGINT, signal.SIGTERM, signal.SIGHUP):
+        copy.put_tool('cksum', f'echo begun >"{copy.top}/begun"; exec /bin/sleep 60')
+        how = {'stdin': subprocess.DEVNULL, 'stdout': subprocess.PIPE, 'stderr': subprocess.PIPE, 'env': {'PATH': copy.path}}
+        start = subprocess.Popen([f'{copy.top}/jslint', 'fix', '/dev/stdin'], start_new_session=True, **how)
+        while start.poll() is None and not os.path.exists(f'{copy.top}/begun'):
+            time.sleep(0.02)
+        os.killpg(start.pid, number)
+        found = start.communicate()
+        assert (start.returncode, found[0]) == (130, b''), (number, start.returncode, found)
+        assert not [it for it in os.listdir(f'{copy.top}/bin') if it.startswith('seen')], os.listdir(f'{copy.top}/bin')
+        os.remove(f'{copy.top}/begun')
+    os.remove(f'{copy.path}/cksum')
+    os.symlink(kept, f'{copy.path}/cksum')
+    copy.answers('after it')
+
+
+def streams(copy):
+    """A full disk and closed streams: the program's own words, and the launcher's, with their status."""
+    copy.note()
+    with open(f'{copy.top}/a.js', 'w', encoding='utf-8') as file:
+        file.write('((a));\n')
+    copy.gives((0, 'a;\n', ''), 'fix', 'a.js')
+    for words, status in [('fix a.js >/dev/full', 2), ('fix a.js >&-', 2), ('--program >/dev/full', None), ('fix none.js 2>&-', 2)]:
+        ran = subprocess.run(['sh', '-c', f'PATH=$1; ./jslint {words}', '', copy.path], cwd=copy.top, stdout=subprocess.PIPE, stderr=subprocess.PIPE, text=True)
+        assert not ran.stdout and (ran.returncode == status if status else ran.returncode), (words, ran)
+    os.chmod(copy.release, 0o644)
+    for words in ('fix a.js 2>&-', 'fix a.js 2>/dev/full', 'fix a.js >&- 2>&-'):
+        ran = subprocess.run(['sh', '-c', f'PATH=$1; ./jslint {words}', '', copy.path], cwd=copy.top, stdout=subprocess.PIPE, stderr=subprocess.PIPE, text=True)
+        assert (ran.returncode, ran.stdout) == (2, ''), (words, ran)
+
+
 room = Machine
 TESTS = [
-    no_permission, no_permission_of_another, noexec, other_system, other_glibc, other_end, other_loader, portable, links, linked_program, linked_checkout,
+    interrupted_start, streams, no_permission, no_permission_of_another, noexec, other_system, other_glibc, other_end, other_loader, portable, links, linked_program, linked_checkout,
 ]
