@@ -1,4 +1,5 @@
-"""Proves and builds the program, for the launcher at the top, which calls it where the sources are not those of the program in release/.
+"""Proves and builds the program, for the launcher at the top, which calls it where a source differs from those of the program in release/, and for
+its words --build, --rebuild and --try.
 
     build.py                  makes bin/jslint
     build.py --since WHY      the same, and says this reason where anything is to be proved
@@ -257,7 +258,8 @@ def is_of(program, stamp):
 
 def is_program_of(stamp):
     """Whether bin/jslint is the program that was proved and built of the sources with that sum."""
-    return os.access(PROGRAM, os.X_OK) and text_of(STAMP) == stamp + RT.rtlib.sum_of(PROGRAM)
+    is_own = os.access(PROGRAM, os.X_OK) and not os.path.islink(PROGRAM)
+    return is_own and text_of(STAMP) == stamp + RT.rtlib.sum_of(PROGRAM)
 
 
 def install(program, stamp):
@@ -319,6 +321,8 @@ def prove(libraries, program, why, is_shared):
 
 def build(why=None):
     libraries, program = crates_of_program()
+    # (a link among the sources is refused)
+    sum_of_sources(TOP, [it.name for it in [*libraries, program]], 'cksum')
     # (where a source has a new date and its old text, the program stands)
     if not is_program_of(program.stamp()):
         install(program, prove(libraries, program, why, True))
@@ -330,9 +334,12 @@ def said_of_release():
 
 
 def sum_of_sources(top, crates, command='sha256sum'):
-    """One sum of all that the program is made of (tools/made-of)."""
+    """One sum of all that the program is made of (tools/made-of), or why there is none."""
     words = ['sh', '-c', '. "$0/tools/made-of"; made_of "$@"', TOP, command, top, *crates]
-    return subprocess.run(words, stdout=subprocess.PIPE, text=True, check=True).stdout.strip()
+    ran = subprocess.run(words, stdout=subprocess.PIPE, stderr=subprocess.PIPE, text=True, errors='replace')
+    if ran.returncode or ran.stderr or not ran.stdout:
+        raise Refused(f'the sources can not be summed: {(ran.stderr.splitlines() or [ran.returncode])[0]}')
+    return ran.stdout.strip()
 
 
 def kit():
@@ -354,6 +361,8 @@ def differences(one, other):
 def copy_sources(libraries, program, top):
     """Copies the sources of the program to a folder, with nothing that earlier checks left."""
     names = [it.name for it in [*libraries, program]]
+    # (a link among them is refused)
+    sum_of_sources(TOP, names, 'cksum')
     os.makedirs(f'{top}/.git')
     with open(f'{top}/crates.txt', 'w', encoding='utf-8') as file:
         # (each crate of that list has to stand there)
@@ -419,7 +428,17 @@ def take(stamp):
             install(program, stamp)
 
 
+def are_known(words):
+    """Whether these are words that the head of this file names, or the one that it gives itself."""
+    if words[:1] == ['--try']:
+        return True
+    return words in ([], ['--rebuild'], ['--stamp']) or len(words) == 2 and words[0] in ('--since', '--take', '--run')
+
+
 def main(words):
+    if not are_known(words):
+        print(__doc__.strip(), file=sys.stderr)
+        return 2
     why = f'{words[1]}, so the program is proved and built here' if words[:1] == ['--since'] else None
     try:
         load()
@@ -456,5 +475,9 @@ if __name__ == '__main__':
         say(str(why))
         sys.stderr.flush()
         # (checks that still run end with this process)
+        os._exit(2)
+    except OSError as error:
+        say(f'not built: {error}')
+        sys.stderr.flush()
         os._exit(2)
     sys.exit(status)

@@ -1,4 +1,4 @@
-"""The launcher, in a copy of the sources whose release is the program that is tested."""
+"""The launcher, in a copy of the sources whose release is the program that is tested: which program it runs, and when it compares again."""
 import os
 import shutil
 import subprocess
@@ -8,7 +8,9 @@ TOP = os.path.dirname(os.path.dirname(os.path.dirname(os.path.realpath(__file__)
 SOURCE = 'crates/tree/src/kind.rt'
 OTHERS = 'crates/cases/src/main.rt'
 # What it may call; no python3 and no toolchain.
-TOOLS = 'sh find sha256sum cksum sort xargs touch mv rm mkdir readlink'.split()
+TOOLS = 'sh find sha256sum cksum sort xargs touch mv rm mkdir readlink uname getconf'.split()
+# What it may call where bin/seen matches.
+QUICK_TOOLS = 'sh find sha256sum'.split()
 
 
 def crates_of_program():
@@ -38,10 +40,15 @@ class Copy:
                     shutil.copytree(f'{TOP}/crates/{crate}/{part}', f'{self.top}/crates/{crate}/{part}')
         os.makedirs(f'{self.top}/release/x86_64-linux')
         os.makedirs(f'{self.top}/tools')
-        for name in ('jslint', 'crates.txt', 'tools/made-of', 'tools/build.py'):
+        os.makedirs(f'{self.top}/tools/measure')
+        for name in ('jslint', 'crates.txt', 'tools/made-of', 'tools/build.py', 'tools/measure/seconds.txt'):
             shutil.copy(f'{TOP}/{name}', f'{self.top}/{name}')
         self.release = f'{self.top}/release/x86_64-linux/jslint'
         shutil.copy(program, self.release)
+        self.describe()
+
+    def describe(self):
+        """Writes release/MADE, of the sources and the program that stand there."""
         names = crates_of_program()
         quick = self.told(['sh', '-c', '. ./tools/made-of; made_of "$@"', '', 'cksum', '.', *names])
         check = self.told(['sh', '-c', 'cksum <release/x86_64-linux/jslint'])
@@ -51,9 +58,10 @@ class Copy:
     def told(self, words):
         return subprocess.run(words, cwd=self.top, stdout=subprocess.PIPE, text=True, check=True).stdout.strip()
 
-    def run(self, *words, given='((a));', at='.', name=None):
-        """The status and both streams of the launcher, without python3."""
-        ran = subprocess.run([name or f'{self.top}/jslint', *words], cwd=f'{self.top}/{at}', input=given, stdout=subprocess.PIPE, stderr=subprocess.PIPE, text=True, env={'PATH': self.path})
+    def run(self, *words, given='((a));', at='.', name=None, before=()):
+        """The status and both streams of the launcher, whose PATH has nothing but the tools; words that run it otherwise may stand before it."""
+        how = {'cwd': f'{self.top}/{at}', 'stdout': subprocess.PIPE, 'stderr': subprocess.PIPE, 'text': True, 'env': {'PATH': self.path}}
+        ran = subprocess.run([*before, name or f'{self.top}/jslint', *words], input=given, **how)
         return ran.returncode, ran.stdout, ran.stderr
 
     def gives(self, wanted, *words, **more):
@@ -64,9 +72,12 @@ class Copy:
         found = self.run('fix', '/dev/stdin')
         assert found == (0, 'a;\n', ''), f'{told}: {found}'
 
-    def refuses(self, reason, told=''):
-        status, out, err = self.run('fix', '/dev/stdin')
-        assert (status, out) == (2, '') and reason in err and 'python3' in err, f'{told}: {(status, out, err)}'
+    def refuses(self, reason, told='', **more):
+        """Answers nothing, and says why in one line; leaves no file of its own."""
+        status, out, err = self.run('fix', '/dev/stdin', **more)
+        assert (status, out) == (2, '') and err.startswith('jslint: ') and err.count('\n') == 1 and reason in err, f'{told}: {(status, out, err)}'
+        left = [it for it in os.listdir(f'{self.top}/bin') if it.startswith('seen.')] if os.path.isdir(f'{self.top}/bin') else []
+        assert not left, left
 
     def note(self):
         """Runs until what was compared is noted: what changed within the last two seconds isn't."""
@@ -90,6 +101,14 @@ def launcher(copy):
     os.symlink(f'{copy.top}/jslint', f'{copy.path}/linked')
     copy.gives((0, 'a;\n', ''), 'fix', '/dev/stdin', name='linked')
     copy.gives((0, f'{os.path.realpath(copy.release)}\n', ''), '--program')
+
+
+def quick(copy):
+    """Where bin/seen matches, three commands are enough."""
+    copy.note()
+    for it in set(TOOLS) - set(QUICK_TOOLS):
+        os.remove(f'{copy.path}/{it}')
+    copy.answers()
 
 
 def other_sources(copy):
@@ -133,15 +152,18 @@ def other_sources(copy):
 
 
 def other_release(copy):
+    """Where the sources are those of the release, and its program is another or missing, nothing is built unasked."""
     copy.note()
     with open(copy.release, 'r+b') as file:
         file.seek(100_000)
         byte = file.read(1)
         file.seek(100_000)
         file.write(bytes([byte[0] ^ 1]))
-    copy.refuses('is not the program of release/MADE')
+    copy.refuses('is not the program of release/MADE: git checkout -- release brings it back, and ./jslint --build')
     os.remove(copy.release)
-    copy.refuses('there is no program in release/')
+    copy.refuses('release/x86_64-linux/jslint is missing: git checkout -- release brings it back, and ./jslint --build')
+    os.remove(f'{copy.top}/release/MADE')
+    copy.refuses('there is no program in release/, so')
 
 
 def unwritable(copy):
@@ -152,4 +174,9 @@ def unwritable(copy):
     copy.answers()
 
 
-TESTS = [launcher, other_sources, other_release, unwritable]
+def room(folder, program):
+    """What a test of this file is given."""
+    return Copy(folder, program)
+
+
+TESTS = [launcher, quick, other_sources, other_release, unwritable]

@@ -2,13 +2,16 @@
 
 Each test is a function that raises where something is wrong. Its argument is a room: a folder of its own, in which it works.
 """
+import contextlib
 import json
 import os
 import re
 import shutil
+import signal
 import stat
 import subprocess
 import sys
+import time
 
 TOP = os.path.dirname(os.path.dirname(os.path.dirname(os.path.realpath(__file__))))
 with open(f'{TOP}/docs/USAGE.md', encoding='utf-8') as page:
@@ -150,6 +153,54 @@ def in_place(room):
     is_well(os.path.islink(room.path('below/link.js')), 'the link is gone')
     same(room.sh(text.replace('fix_in_place a.js', 'fix_in_place bad.js'))[::2], (2, 'jslint: syntax error at 2:1\n'))
     same((room.text('bad.js'), room.names()), (REFUSED, names))
+
+
+# What stands in the place of a command while the function runs, and the status of the function then.
+FAILING = [('jslint', 'echo x; exit 2', 2), ('cp', 'exit 1', 1), ('sed', 'echo x; exit 4', 4), ('mv', 'exit 1', 1), ('mkdir', 'exit 1', 1), ('readlink', 'exit 1', 1)]
+
+
+def in_place_endings(room):
+    """Where a command fails, the disk is full, or a signal comes while any of the commands runs: nothing stays beside the file, which is as it was."""
+    text, wrong = block('In place', 'sh'), WRONG.replace('\n', '\r\n')
+    room.put('a.js', wrong, 0o640)
+    path = f'{room.folder}/stubs:{BIN}:/usr/bin:/bin'
+
+    def holds(told, content=wrong):
+        same((room.text('a.js'), room.names(), stat.S_IMODE(os.stat(room.path('a.js')).st_mode)), (content, ['a.js', 'stubs'], 0o640), told)
+        room.put('a.js', wrong)
+
+    for name, says, status in FAILING:
+        room.put(f'stubs/{name}', f'#!/bin/sh\n{says}\n', 0o755)
+        same(room.sh(text, PATH=path)[0], status, name)
+        holds(name)
+        for number in (signal.SIGHUP, signal.SIGINT, signal.SIGQUIT, signal.SIGTERM):
+            room.put(f'stubs/{name}', f'#!/bin/sh\nPATH={BIN}:/usr/bin:/bin\n{name} "$@"\necho begun >>stubs/begun\nexec sleep 60\n', 0o755)
+            same(interrupted(room, text, path, number) in (130, -number), True, f'{name} {number}')
+            os.remove(room.path('stubs/begun'))
+            holds(f'{name} {number}', 'let x = 1;\r\n' if name == 'mv' else wrong)
+        os.remove(room.path(f'stubs/{name}'))
+    is_well(room.sh(f'ulimit -f 0; {text}', PATH=path)[0] != 0)
+    holds('full')
+    # (one that another start works in isn't taken away)
+    room.put('stubs/mkdir', '#!/bin/sh\n/bin/mkdir "$@" && exec /bin/mkdir "$@"\n', 0o755)
+    same(room.sh(text, PATH=path)[0], 1)
+    same(len(room.names()), 3)
+
+
+def interrupted(room, text, path, number):
+    """The status of a shell whose whole group gets a signal when the stand-in of a command has begun: as at a terminal."""
+    how = {'cwd': room.folder, 'env': {'PATH': path, 'LC_ALL': 'C.UTF-8'}, 'stdin': subprocess.DEVNULL, 'stdout': subprocess.DEVNULL, 'stderr': subprocess.DEVNULL}
+    shell = subprocess.Popen(['sh', '-c', text], start_new_session=True, **how)
+    while shell.poll() is None and not os.path.exists(room.path('stubs/begun')):
+        time.sleep(0.02)
+    os.killpg(shell.pid, number)
+    status = shell.wait()
+    # (the function is a shell of its own, which tidies up)
+    with contextlib.suppress(ProcessLookupError):
+        for _ in range(1000):
+            os.killpg(shell.pid, 0)
+            time.sleep(0.02)
+    return status
 
 
 def with_cr(room):
@@ -514,6 +565,6 @@ def pages(room):
 
 
 TESTS = [
-    examples, readme_examples, settings_example, standard_input, in_place, with_cr, folder, many_files, redirections, statuses, rewritten, rewritten_odd,
+    examples, readme_examples, settings_example, standard_input, in_place, in_place_endings, with_cr, folder, many_files, redirections, statuses, rewritten, rewritten_odd,
     gone, forged_names, shown_progress, git_hook, git_rewritten, make, github, editors, editors_rewrite, pages,
 ]

@@ -8,6 +8,7 @@ complete -c jslint -n "not __fish_seen_subcommand_from $commands" -f -a unwrap -
 complete -c jslint -n "not __fish_seen_subcommand_from $commands" -f -a cost -d 'Write the cost table'
 complete -c jslint -n "not __fish_seen_subcommand_from $commands" -f -a verify -d 'Check a cost table'
 complete -c jslint -n "not __fish_seen_subcommand_from $commands" -f -a help -d 'Print help'
+complete -c jslint -n '__fish_seen_subcommand_from help' -f -a "$commands"
 complete -c jslint -n "not __fish_seen_subcommand_from $commands" -l version -d 'Print the version'
 complete -c jslint -n '__fish_seen_subcommand_from check' -l settings -r -F -d 'Rules and options, as TOML'
 complete -c jslint -s h -l help -d 'Print help'
@@ -20,6 +21,8 @@ complete -c jslint-files -n "not __fish_seen_subcommand_from $rewriting" -l sett
 complete -c jslint-files -n "not __fish_seen_subcommand_from $rewriting" -l format -x -a 'unix json github' -d 'How reports are printed'
 complete -c jslint-files -n "__fish_seen_subcommand_from $rewriting" -l write -d 'Replace the scripts'
 complete -c jslint-files -n "__fish_seen_subcommand_from $rewriting" -l diff -d 'Show how the scripts would differ'
+complete -c jslint-files -n '__fish_seen_subcommand_from fix' -l drop-comments -d 'Replace scripts whose comments are lost, too'
 complete -c jslint-files -l jobs -x -d 'Scripts side by side'
 complete -c jslint-files -l files-from -r -F -d 'Names of scripts'
 complete -c jslint-files -l help -d 'Print help'
+complete -c jslint-files -l version -d 'Print the version'
