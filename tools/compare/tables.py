@@ -51,7 +51,7 @@ def in_full(table):
 def cell_changed(words, chance):
     at = chance.randrange(2, len(words))
     old = words[at]
-    new = chance.choice([b'-', b'0', b'1', b'7', b'16777216', b'16777217', b'00'] + ([] if old == b'-' else [b'%d' % (int(old) + 1), b'%d' % max(0, int(old) - 1)]))
+    new = chance.choice([b'-', b'0', b'1', b'7', b'16777216', b'16777217', b'00'] + ([b'%d' % (int(old) + 1), b'%d' % max(0, int(old) - 1)] if old.isdigit() else []))
     return words[:at] + [new] + words[at + 1:]
 
 
