@@ -22,7 +22,7 @@ ParseNode *SourceText::down_to(ParseNode *node, const char *symbol, const char *
     return nullptr;
 }
 
-Reader::Reader(Grammar &given, const string &goal_symbol) : grammar(given), source(given), lexer_(given), chart_(given, lexer_), goal_symbol_(goal_symbol) {
+Reader::Reader(Grammar &given, const string &goal_symbol) : grammar(given), source(given), lexer_(given), chart_(given, lexer_), cover_chart_(given, lexer_), goal_symbol_(goal_symbol) {
     start_symbol_ = grammar.nonterminal(goal_symbol, 0);
     semicolon_ = grammar.terminal(";");
     for (const char *symbol : SUPPLEMENTAL)
@@ -141,7 +141,7 @@ Reading Reader::read(const string &text) {
         return reading;
     }
     nodes_.clear();
-    CoverRefiner refiner(grammar, lexer_, source, nodes_, goal_symbol_);
+    CoverRefiner refiner(cover_chart_, source, nodes_, goal_symbol_);
     Derivations derivations(chart_, source.tokens, 0, nodes_, [&](const ParseNode *it) { return refiner.is_distant_else(it); });
     const vector<ParseNode *> found = derivations.all(start_symbol_);
     reading.derivations = static_cast<int>(found.size());

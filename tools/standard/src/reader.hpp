@@ -63,7 +63,7 @@ class Reader {
         bool is_dead;
     };
     Lexer lexer_;
-    Chart chart_;
+    Chart chart_, cover_chart_;
     string goal_symbol_;
     int start_symbol_, semicolon_;
     bool counts_slash_assign_;

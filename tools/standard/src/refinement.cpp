@@ -9,8 +9,8 @@ const std::set<string> OPAQUE{"ArrowFunction",         "AsyncArrowFunction",    
 const std::set<string> KEYED{"GeneratorMethod", "AsyncMethod", "AsyncGeneratorMethod", "FieldDefinition"};
 } // namespace
 
-CoverRefiner::CoverRefiner(Grammar &grammar, const Lexer &lexer, const SourceText &source, ParseNodes &nodes, const string &goal_symbol)
-    : grammar_(grammar), source_(source), nodes_(nodes), chart_(grammar, lexer), is_module_(goal_symbol == "Module"), reserves_await_(is_module_ || grammar.has("await-reserved")) {}
+CoverRefiner::CoverRefiner(Chart &chart, const SourceText &source, ParseNodes &nodes, const string &goal_symbol)
+    : grammar_(chart.grammar), source_(source), nodes_(nodes), chart_(chart), is_module_(goal_symbol == "Module"), reserves_await_(is_module_ || grammar_.has("await-reserved")) {}
 
 ParseNode *CoverRefiner::refuse(const string &reason) {
     reason_ = reason;

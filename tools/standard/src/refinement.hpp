@@ -6,7 +6,7 @@
 namespace standard {
 class CoverRefiner {
   public:
-    CoverRefiner(Grammar &grammar, const Lexer &lexer, const SourceText &source, ParseNodes &nodes, const string &goal_symbol);
+    CoverRefiner(Chart &chart, const SourceText &source, ParseNodes &nodes, const string &goal_symbol);
 
     // The refined tree; null if it can't be refined, or if a rule refuses it, and then the reason is said.
     ParseNode *refine(ParseNode *node);
@@ -19,7 +19,7 @@ class CoverRefiner {
     Grammar &grammar_;
     const SourceText &source_;
     ParseNodes &nodes_;
-    Chart chart_;
+    Chart &chart_;
     bool is_module_, reserves_await_, is_ambiguous_ = false;
     string reason_;
     std::map<std::tuple<int, int, int>, ParseNode *> read_again_;
