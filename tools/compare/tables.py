@@ -6,17 +6,19 @@
 
 Without --scripts each row is held to what it wants as well, and each script of a row also gets N forged tables (--forged, 3 else). With it, the scripts are
 the files `*.js` below the folders, of at most 200,000 bytes, in an order that looks like none; each gets its own table in both formats and N forged ones
-(12 else). JSLINT names another program than that of `./jslint --program`. Status 1 where anything disagrees.
+(12 else). In the own table of each script, each cell and the total have to be just their bounds. JSLINT names another program than that of `./jslint --program`. Status 1 where anything disagrees.
 """
 import argparse
 import glob
 import importlib.machinery
 import importlib.util
+import json
 import multiprocessing
 import os
 import random
 import subprocess
 import sys
+from typing import NamedTuple
 
 TOP = os.path.dirname(os.path.dirname(os.path.dirname(os.path.realpath(__file__))))
 sys.dont_write_bytecode = True
@@ -26,17 +28,13 @@ import rows
 MOST_BYTES, MOST_ROWS = 200000, 20000
 
 
-def load_checker():
-    """tools/table_checker as a module."""
-    loader = importlib.machinery.SourceFileLoader('table_checker', f'{TOP}/tools/table_checker')
+def load_checker(path=f'{TOP}/tools/table_checker'):
+    """A checker as a module."""
+    sys.setrecursionlimit(100000)
+    loader = importlib.machinery.SourceFileLoader('table_checker', path)
     module = importlib.util.module_from_spec(importlib.util.spec_from_loader('table_checker', loader))
     loader.exec_module(module)
     return module
-
-
-def begin(program):
-    sys.setrecursionlimit(100000)
-    rows.begin(program)
 
 
 checker = load_checker()
@@ -98,12 +96,28 @@ def compared(script, tree, table):
     return None if theirs == (line + '\n', status) else f'verify {theirs}, table_checker {(line, status)}'
 
 
+def inexact(module, tree, table):
+    """The first row of a script's own table whose cells aren't their bounds; 0 if it is the total, or if it is no table of the script; None if
+    there is none."""
+    try:
+        check = module.Check(module.Walk(json.loads(tree)).rows, *module.read_table(table))
+    except module.Fault:
+        return 0
+    for number, row in enumerate(check.rows[1:], 1):
+        if [check.bound(row, *it) for it in module.CELLS] != check.cells[number]:
+            return number
+    costs = [check.least(it, True, 'Any', False) for it in check.rows[0].positions]
+    return None if None not in costs and sum(costs) == check.total else 0
+
+
 def tables_of(script, forgeries, seed):
     """The number of tables of a script that were compared, None where it isn't read, and what differs; also how many tables were refused."""
     tree, cost = rows.command('tree', script), rows.command('cost', script)
     if tree.status or cost.out.count('\n') > MOST_ROWS:
         return None
-    own, chance, wrong, refused = cost.out.encode(), random.Random(seed), [], 0
+    own, chance, refused = cost.out.encode(), random.Random(seed), 0
+    row = inexact(checker, tree.out, own)
+    wrong = [] if row is None else [f'row {row} of its own table is not its bound']
     tables = [own, in_full(own)] + [forged(own, chance) for _ in range(forgeries)]
     for table in tables:
         found = compared(script, tree.out, table)
@@ -126,7 +140,7 @@ def compare_scripts(given, program):
     random.Random(given.seed).shuffle(paths)
     scripts = tables = refused = tried = 0
     wrong = []
-    with multiprocessing.Pool(given.jobs, begin, (program,)) as pool:
+    with multiprocessing.Pool(given.jobs, rows.begin, (program,)) as pool:
         for found in pool.imap(of_file, ((it, given.forged or 12, given.seed) for it in paths)):
             tried += 1
             if found:
@@ -137,25 +151,47 @@ def compare_scripts(given, program):
     return wrong
 
 
-def compare_rows(given, program):
-    begin(program)
-    wrong, found, scripts = [], 0, {}
+class TableRow(NamedTuple):
+    """A row with a script that is read and a table, and what `verify` is to answer."""
+    at: str
+    script: bytes
+    tree: str
+    table: bytes
+    want: str
+
+
+def table_rows():
+    """The rows with a table, and the scripts of all rows of tables."""
+    found, scripts = [], {}
     for at, line in rows.rows_in(f'{TOP}/crates/cases/data'):
         name, *texts, want = line.split('\t')
+        if name not in ('verify', 'cost'):
+            continue
         script = rows.meant(texts[0]).encode()
-        tree = rows.command('tree', script) if name in ('verify', 'cost') else None
-        if tree is None or tree.status:
-            continue
-        scripts[script] = None
-        if name == 'cost':
-            continue
-        table, found = rows.meant(texts[1]).encode(), found + 1
-        said, status = checker.verify(script, tree.out, table)
-        differs = compared(script, tree.out, table)
-        wrong += [f'{at}: {differs}'] if differs else [f'{at}: wanted {want}, is {status} {said}'] if f'{status} {said}\n' != rows.meant(want) else []
+        tree = rows.command('tree', script)
+        if tree.status == 0:
+            scripts[script] = None
+            found += [TableRow(at, script, tree.out, rows.meant(texts[1]).encode(), rows.meant(want))] if name == 'verify' else []
+    return found, list(scripts)
+
+
+def differing(module, found):
+    """The rows to which a checker answers otherwise than they want."""
+    wrong = []
+    for it in found:
+        line, status = module.verify(it.script, it.tree, it.table)
+        if f'{status} {line}\n' != it.want:
+            wrong.append(f'{it.at}: wanted {it.want!r}, is {status} {line}')
+    return wrong
+
+
+def compare_rows(given, program):
+    rows.begin(program)
+    found, scripts = table_rows()
+    wrong = differing(checker, found) + [f'{it.at}: {differs}' for it in found for differs in [compared(it.script, it.tree, it.table)] if differs]
     tables = [tables_of(it, given.forged or 3, f'{given.seed} {number}') for number, it in enumerate(scripts)]
     wrong += [it for each in tables for it in each[2]]
-    print(f'{found} rows with a table, {sum(it[0] for it in tables)} tables of their {len(scripts)} scripts, {len(wrong)} disagreements')
+    print(f'{len(found)} rows with a table, {sum(it[0] for it in tables)} tables of their {len(scripts)} scripts, {len(wrong)} disagreements')
     return wrong if found else ['no row was found']
 
 

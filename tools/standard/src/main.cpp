@@ -169,7 +169,10 @@ bool run_texts(const Options &options, Reader &reader) {
     return finished(comparison);
 }
 
-bool run_mutants(const Options &options) { return MutantRun(options.files, read_alphabets(argument(options, 0), "")).run(options.most, options.arguments.size() > 1 ? options.arguments[1] : ""); }
+bool run_mutants(const Options &options) {
+    vector<string> words(options.arguments.begin() + (options.arguments.empty() ? 0 : 1), options.arguments.end());
+    return MutantRun(options.files, read_alphabets(argument(options, 0), "")).run(options.most, words);
+}
 
 bool run(const Options &options) {
     if (options.command == "mutants") return run_mutants(options);

@@ -200,19 +200,19 @@ MutantRun::Outcome MutantRun::outcome(const Mutant &mutant) const {
     return is_shown(reader, elsewhere_) ? Outcome::ShownElsewhere : Outcome::Unshown;
 }
 
-bool MutantRun::run(size_t most, const string &word) {
+bool MutantRun::run(size_t most, const vector<string> &words) {
     vector<Mutant> mutants = mutants_of(source_);
     std::map<Outcome, size_t> counts;
     vector<string> unshown;
     size_t tried = 0;
     for (const Mutant &it : mutants) {
-        if (it.slip.find(word) == string::npos) continue;
-        if (tried++ == most) break;
+        bool is_wanted = words.empty() || std::any_of(words.begin(), words.end(), [&](const string &word) { return it.slip.find(word) != string::npos; });
+        if (!is_wanted || tried == most) continue;
+        tried++;
         Outcome found = outcome(it);
         counts[found]++;
         if (found == Outcome::Unshown) unshown.push_back(it.slip);
     }
-    tried = std::min(tried, most);
     printf("slips %zu, tried %zu: shown at positions of the production %zu, by other texts %zu, not shown %zu; a symbol derives itself %zu, no position in the profile %zu\n", mutants.size(), tried,
            counts[Outcome::ShownNearby], counts[Outcome::ShownElsewhere], counts[Outcome::Unshown], counts[Outcome::DerivesItself], counts[Outcome::Unreached]);
     for (const string &it : unshown) printf("    %s\n", it.c_str());

@@ -8,17 +8,18 @@ const char *const PROBES[] = {
     "", "a", "a , b", "a = b", "a += b", "a ? b : c", "a ?? b", "a || b", "a && b", "a | b", "a ^ b", "a & b", "a == b", "a < b", "a in b", "a instanceof b", "a << b", "a + b",
     "a * b", "a ** b", "- a", "typeof a", "delete a . b", "++ a", "a ++", "a ( )", "a ?. b", "a ?. ( )", "new a", "new a ( )", "a . b", "a `t`", "( a )", "( a , b )", "( a in b )",
     "{ }", "{ a }", "{ a = 1 }", "{ a : b }", "{ ... a }", "[ ]", "[ a ]", "[ a = 1 ]", "[ , ]", "( { a } )", "( [ a ] )", "function ( ) { }", "function f ( ) { }", "class { }", "class A { }",
-    "x => x", "x => { }", "( ) => { }", "( a , b ) => a in b", "x => a , b", "a ? b : c in d", "a = b in c", "( ... a ) => a", "( a , ) => a", "async", "await", "of", "let", "yield", "/r/", "`t`",
+    "x => x", "x => { }", "( ) => { }", "( a , b ) => a in b", "x => a , b", "a ? b : c in d", "a = b in c", "( ... a ) => a", "( a , ) => a", "( a = b in c , ) => d", "( a = b in c , ... d ) => d", "( a = b in c , ... [ d ] ) => d", "async", "await", "of", "let", "yield", "/r/", "`t`",
     "`${ a }`", "this", "super . a", "super ( )", "new . target", "import ( a )", "null", "1", "'s'", "... a", "... [ a ]", "... { a }", "... a . b", "a . b = 1", "if", "get a",
     "static a ( ) { }", "get a ( ) { }", "set a ( b ) { }", "constructor ( ) { }", "a ( ) { }", "[ a ] ( ) { }", "'s' : a", "[ a ] : b", "a : b", "a : ;", "a : b in c", "return ;", "return", "var a ;",
     "let a ;", "const a = 1 ;", "break ;", "continue ;", "throw a ;", "debugger ;", "if ( a ) ;", "if ( a ) ; else ;", "while ( a ) ;", "do ; while ( a )", "do ; while ( a ) ;",
-    "for ( ; ; ) ;", "for ( a in b ) ;", "for ( a of b ) ;", "switch ( a ) { }", "try { } finally { }", "try { return ; } catch { return ; }", ";", "; ;", "a ;", "a \n b", "eval", "arguments", "a ,", ", a",
+    "for ( ; ; ) ;", "for ( a in b ) ;", "for ( a of b ) ;", "switch ( a ) { }", "try { } finally { }", "try { return ; } catch { return ; }", "try { } catch { return ; } finally { return ; }", ";", "; ;", "a ;", "a \n b", "eval", "arguments", "a ,", ", a",
     "var a", "let a", "const a", "let [ a ]", "var { a } = b", "var a = b in c", "let a = b in c", "( a ) = b", "a . b . c", "a [ b ]", "a [ b , c ]", "a ? . 5 : b", "extends a",
     "extends a . b", "extends a ( )", "extends { }", "extends a , b", "extends ( a , b )", "extends - a", "extends new a", "extends a ?. b", "extends x => x"};
 // What is tried for a semicolon that is left out.
 const char *const CONTINUATIONS[] = {"", "( c )", "/ c /", "++ c"};
-// (`this` is longer than `a`, so that targets are valid; `yield` is never a name)
-const std::map<string, long> LENGTHS{{"yield", 100}, {"this", 2}};
+// (a name is the shortest expression, so that targets are valid; `yield` is never one)
+const std::map<string, long> LENGTHS{{"yield", 100}, {"this", 2}, {"null", 2}, {"true", 2}, {"false", 2}, {"<NumericLiteral>", 2}, {"<StringLiteral>", 2},
+                                     {"<RegularExpressionLiteral>", 2}, {"<NoSubstitutionTemplate>", 2}};
 const std::map<string, string> SPELLED{{"<IdentifierName but not ReservedWord>", "a"}, {"<IdentifierName>", "a"}, {"<NumericLiteral>", "1"}, {"<StringLiteral>", "'s'"},
                                        {"<RegularExpressionLiteral>", "/r/"}, {"<NoSubstitutionTemplate>", "``"}, {"<TemplateHead>", "`${"}, {"<TemplateMiddle>", "}${"}, {"<TemplateTail>", "}`"}};
 
