@@ -171,7 +171,8 @@ bool run_texts(const Options &options, Reader &reader) {
 
 bool run_mutants(const Options &options) {
     vector<string> words(options.arguments.begin() + (options.arguments.empty() ? 0 : 1), options.arguments.end());
-    return MutantRun(options.files, read_alphabets(argument(options, 0), "")).run(options.most, words);
+    Deadline deadline(options.seconds);
+    return MutantRun(options.files, read_alphabets(argument(options, 0), "")).run(options.most, words, [&] { return deadline.is_over(); });
 }
 
 bool run(const Options &options) {

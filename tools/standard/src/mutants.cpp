@@ -200,14 +200,15 @@ MutantRun::Outcome MutantRun::outcome(const Mutant &mutant) const {
     return is_shown(reader, elsewhere_) ? Outcome::ShownElsewhere : Outcome::Unshown;
 }
 
-bool MutantRun::run(size_t most, const vector<string> &words) {
+bool MutantRun::run(size_t most, const vector<string> &words, const std::function<bool()> &is_over) {
     vector<Mutant> mutants = mutants_of(source_);
     std::map<Outcome, size_t> counts;
     vector<string> unshown;
     size_t tried = 0;
     for (const Mutant &it : mutants) {
         bool is_wanted = words.empty() || std::any_of(words.begin(), words.end(), [&](const string &word) { return it.slip.find(word) != string::npos; });
-        if (!is_wanted || tried == most) continue;
+        if (!is_wanted) continue;
+        if (tried == most || is_over()) break;
         tried++;
         Outcome found = outcome(it);
         counts[found]++;

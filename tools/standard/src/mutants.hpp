@@ -16,9 +16,9 @@ class MutantRun {
   public:
     MutantRun(const vector<string> &files, const vector<Alphabet> &alphabets);
 
-    // Tries the mutants whose slip holds one of the words, all if there is no word, until so many were tried, and prints those that no text
-    // shows. False if none was tried.
-    bool run(size_t most, const vector<string> &words);
+    // Tries the mutants whose slip holds one of the words, all if there is no word, until so many were tried or the time is up, and prints
+    // those that no text shows. False if none was tried.
+    bool run(size_t most, const vector<string> &words, const std::function<bool()> &is_over);
 
   private:
     // What the program says of a text.
