@@ -3,5 +3,6 @@ pub mod CommentSteps
 pub mod NoteSteps
 pub mod ReadSteps
 pub mod CompareSteps
+pub mod KeptComments
 pub mod FirstRows
 mod KeepsExamples
