@@ -114,6 +114,16 @@ module _ {text unwrapped : List ℕ} (old new : Comparison) where
             (gone grouping (kept_by updated alike (f.row_is.comments _ _ passes.comments) (ap (λ (r : Rest). comments_in unwrapped r.passed.items) other) k));
       }
 
+  -- what is left where only the unwrapped text was passed
+  left_again : {pairs pairs_again : List Pair} {ss ts others : List SpacedToken} → (l : IsLeft text pairs unwrapped pairs_again old ss ts) → new.text ≡ old.text →
+      AreRows unwrapped pairs_again new.unwrapped.at new.unwrapped.rows.now others l.stop_again → IsLeft text pairs unwrapped pairs_again new ss others
+  left_again l same rows = record {
+    stop = l.stop;
+    stop_again = l.stop_again;
+    rows = rows_by (ap (λ (r : Rest). r.at) (sym same)) (ap (λ (r : Rest). r.rows.now) (sym same)) l.rows;
+    rows_again = rows;
+  }
+
   -- a grouping parenthesis comes
   pub leads_put : next_is_grouping old.unwrapped.rows.now ≡ true → PassesRow unwrapped old.unwrapped new.unwrapped → new.text ≡ old.text → new.updated ≡ old.updated → new.alike ≡ false → Leads text unwrapped old new
   leads_put next passes other updated alike pairs pairs_again ss ts l =
@@ -122,12 +132,7 @@ module _ {text unwrapped : List ℕ} (old new : Comparison) where
       record {
         here = ss;
         there = f.others;
-        left = record {
-          stop = l.stop;
-          stop_again = l.stop_again;
-          rows = rows_by (ap (λ (r : Rest). r.at) (sym other)) (ap (λ (r : Rest). r.rows.now) (sym other)) l.rows;
-          rows_again = rows_by (sym passes.at) refl f.rows;
-        };
+        left = left_again l other (rows_by (sym passes.at) refl f.rows);
         kept = λ k. subst (λ zs. IsKept text pairs unwrapped pairs_again old ss zs) (sym f.is)
             (put grouping (kept_by updated alike (ap (λ (r : Rest). comments_in text r.passed.items) other) (f.row_is.comments _ _ passes.comments) k));
       }
@@ -140,12 +145,7 @@ module _ {text unwrapped : List ℕ} (old new : Comparison) where
       record {
         here = ss;
         there = f.others;
-        left = record {
-          stop = l.stop;
-          stop_again = l.stop_again;
-          rows = rows_by (ap (λ (r : Rest). r.at) (sym other)) (ap (λ (r : Rest). r.rows.now) (sym other)) l.rows;
-          rows_again = rows_by (sym passes.at) refl f.rows;
-        };
+        left = left_again l other (rows_by (sym passes.at) refl f.rows);
         kept = λ k. subst (λ zs. IsKept text pairs unwrapped pairs_again old ss zs) (sym f.is)
             (subst (λ u. AreKept pairs pairs_again u old.alike (comments_in text old.text.passed.items) (comments_in unwrapped old.unwrapped.passed.items) ss (f.s ∷ f.others)) (sym was)
             (ended semicolon (kept_by updated alike (ap (λ (r : Rest). comments_in text r.passed.items) other) (f.row_is.comments _ _ passes.comments) k)));
@@ -163,12 +163,7 @@ module _ {text unwrapped : List ℕ} (old new : Comparison) where
       record {
         here = ss;
         there = g.others;
-        left = record {
-          stop = l.stop;
-          stop_again = l.stop_again;
-          rows = rows_by (ap (λ (r : Rest). r.at) (sym other)) (ap (λ (r : Rest). r.rows.now) (sym other)) l.rows;
-          rows_again = rows_by (sym closes.at) refl g.rows;
-        };
+        left = left_again l other (rows_by (sym closes.at) refl g.rows);
         kept = λ k. subst (λ zs. IsKept text pairs unwrapped pairs_again old ss zs) (sym (f.is ∙ ap (λ zs. f.s ∷ zs) g.is))
             (called (and_from _ _ opening closing) (kept_by updated alike (ap (λ (r : Rest). comments_in text r.passed.items) other) said k));
       }

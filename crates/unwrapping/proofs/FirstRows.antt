@@ -18,13 +18,6 @@ module _ {X : Type 0} where
       let back = sym others in
       (λ i. same i ∷ back i)
 
-  pub first_of : (xs : List X) (x : X) (ys : List X) → xs ≡ x ∷ ys → xs ≡ x ∷ take (length xs - 1) (drop 1 xs)
-  first_of xs x ys e = first_some xs x (sym (ap (λ (l : List X). slice_get l 0) e))
-
   pub first_none : (xs : List X) → None ≡ slice_get xs 0 → xs ≡ []
   first_none [] e = refl
   first_none (y ∷ ys) e = absurd (no_some y (sym e))
-
-  pub is_none : (xs : List X) → (length xs == 0) ≡ true → xs ≡ []
-  is_none [] e = refl
-  is_none (y ∷ ys) e = let z : length (y ∷ ys) ≡ 0 = eqb-true (length (y ∷ ys)) 0 e in absurd (omega arith)
