@@ -30,18 +30,6 @@ behind b m a p r whole e h (n, low, g) =
       subst (Appends b a) (sym (take_behind p r n)) (Appends-trans b m a p (take n r) h g),
     )
 
-nothing : (b : Option (List ℕ)) → Appends b b []
-nothing None = tt
-nothing (Some xs) = sym (append-nil xs)
-
--- nothing was written: all of it waits
-pub nothing_sent : (b : Option (List ℕ)) (waiting text : List ℕ) → waiting ≡ text → Sent b b waiting text
-nothing_sent b waiting text e = ([], nothing b, e)
-
--- what waited was written
-pub all_sent : (b a : Option (List ℕ)) (waiting text : List ℕ) → Appends b a text → waiting ≡ [] → Sent b a waiting text
-all_sent b a waiting text h e = (text, h, ap (λ w. text ++ w) e ∙ append-nil text)
-
 -- of what waited something was written, and more waits behind it
 pub sent_more : (b m a : Option (List ℕ)) (waiting left filled text more longer : List ℕ)
     → Sent b m waiting text → Sent m a left waiting → filled ≡ left ++ more → longer ≡ text ++ more → Sent b a filled longer
