@@ -4,7 +4,7 @@
 import { resolve } from 'node:path';
 import { format, resultOf, unreadResult } from '../eslint-json.mjs';
 import { Refused, check } from '../jslint.mjs';
-import { read, unread, write } from './streams.mjs';
+import { read, shown, unread, write } from './streams.mjs';
 
 const NAME = 'jslint-with-proofs-eslint-json';
 // The commands take no longer text; of a longer one a byte more than this is read, so that it is refused.
@@ -19,10 +19,12 @@ function lineOf(words) {
   const line = { settings: undefined, names: [], isHelp: false }, left = [...words];
   while (left.length > 0 && left[0] !== '--') {
     const word = left.shift();
-    if (word === '--settings' && left.length > 0) line.settings = left.shift();
-    else if (word.startsWith('--settings=')) line.settings = word.slice('--settings='.length);
+    if (word === '--settings') {
+      if (left.length === 0) throw new Wrong(`${word} needs a value`);
+      line.settings = left.shift();
+    } else if (word.startsWith('--settings=')) line.settings = word.slice('--settings='.length);
     else if (word === '--help' || word === '-h') line.isHelp = true;
-    else if (word.startsWith('-')) throw new Wrong(`${JSON.stringify(word)} is no option, or needs a value; a file of that name stands behind --`);
+    else if (word.startsWith('-')) throw new Wrong(`${shown(word)} is no option; a file of that name stands behind --`);
     else line.names.push(word);
   }
   line.names.push(...left.slice(1));
@@ -37,7 +39,7 @@ function settingsOf(name) {
     check('', { settings });
     return settings;
   } catch (error) {
-    throw new Wrong(`${name}: ${error instanceof Refused ? error.message : unread(error)}`);
+    throw new Wrong(`${shown(name)}: ${error instanceof Refused ? error.message : unread(error)}`);
   }
 }
 

@@ -3,6 +3,16 @@ import { closeSync, openSync, readSync, writeSync } from 'node:fs';
 
 // Why a file can't be read, in the words of jslint-files.
 const UNREAD = { ENOENT: 'missing', ENOTDIR: 'missing', EISDIR: 'a folder', EACCES: 'not permitted', ELOOP: 'links in a circle' };
+// Characters with which a name could break a line, or have it shown in another order.
+const UNSHOWN = /[\0-\x1f\x7f-\x9f\u061c\u200e\u200f\u2028-\u202e\u2066-\u2069]/g;
+
+/** A name as a line shows it. */
+export function shown(name) {
+  return name.replace(UNSHOWN, (it) => {
+    const code = it.charCodeAt(0).toString(16);
+    return it < '\u0100' ? `\\x${code.padStart(2, '0')}` : `\\u{${code.padStart(4, '0')}}`;
+  });
+}
 
 /** Writes all of a text to standard output, 1, or standard error, 2. */
 export function write(to, text) {
