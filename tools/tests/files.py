@@ -18,6 +18,8 @@ from libraries import Skipped
 from recipes import FOUND, REFUSED, RIGHT, TOP, WRONG, is_well, same
 
 FIXED = 'let x = 1;\n'
+# Signals that end a program.
+ENDING = (signal.SIGINT, signal.SIGTERM, signal.SIGHUP, signal.SIGQUIT)
 # Scripts, and how many comments each has.
 COMMENTS = [
     ('', 0), ('a // b', 1), ('a /* b */', 1), ('/**/', 1), ('/*/ a */', 1), ('//', 1), ('/* // */ /* /* */ // /* */\n/**/', 4), ('// a\r// b\r\n// c\u2028// d\u2029// e', 5),
@@ -393,8 +395,8 @@ def unpermitted(room):
 def started(room, words, **more):
     """A call that runs, with pipes."""
     env = {'PATH': f'{recipes.BIN}:/usr/bin:/bin:{os.path.dirname(recipes.sys.executable)}', 'HOME': room.folder, 'LC_ALL': 'C.UTF-8', **more}
-    # (in the background a shell has interruptions ignored)
-    ready = lambda: [signal.signal(it, signal.SIG_DFL) for it in (signal.SIGINT, signal.SIGQUIT)]
+    # (a shell's background and nohup have some ignored)
+    ready = lambda: [signal.signal(it, signal.SIG_DFL) for it in ENDING]
     return subprocess.Popen(['jslint-files', *words], cwd=room.folder, stdin=subprocess.DEVNULL, stdout=subprocess.PIPE, stderr=subprocess.PIPE, env=env, preexec_fn=ready)
 
 
@@ -418,7 +420,7 @@ def interrupted(room):
     """Nothing is left behind, neither a file nor a program that runs; no script is half written; the status is the signal's."""
     names = [f'{it}.js' for it in range(6)]
     os.makedirs(room.path('temporary'))
-    for number in (signal.SIGINT, signal.SIGTERM, signal.SIGHUP, signal.SIGQUIT):
+    for number in ENDING:
         for words in ('fix --write', 'unwrap --write', 'fix --diff', 'check'):
             for it in names:
                 room.put(it, WRONG)

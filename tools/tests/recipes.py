@@ -170,6 +170,9 @@ def folder(room):
     room.sh(text, status=0)
     for name in good:
         same((room.text(name), stat.S_IMODE(os.stat(room.path(name)).st_mode)), ('let x = 1;\n', 0o640), name)
+    room.put('src/a.js', 'let x = `(\r\n`;\r\n')
+    room.sh(text, status=0)
+    same(room.text('src/a.js'), 'let x = `(\r\n`;\r\n')
     room.put('src/bad\n::error::x.js', REFUSED)
     room.put('src/a.js', WRONG)
     status, _, err = room.sh(text)
@@ -408,6 +411,8 @@ def make(room):
     is_well(run('check')[0] != 0, 'other settings, and nothing is checked again')
     same(run('fixed')[0], 0)
     same(room.text('build/b.js'), 'x = 1;\n')
+    room.put('src/d.js', 'let x = `(\r\n`; (x);\r\n')
+    same((run('fixed')[0], room.text('build/d.js')), (0, 'let x = `(\r\n`;\r\nx;\r\n'))
     room.put('src/c.js', REFUSED)
     is_well(run('fixed')[0] != 0)
     is_well(not any(it.startswith('c.js') for it in room.names('build')), 'of a refused script something stays')
