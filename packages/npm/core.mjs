@@ -110,7 +110,7 @@ function lineStarts(text) {
 }
 
 /** Finds places, which come in order, as indices into the string: lines and columns count from 1, columns in characters. */
-function placesIn(text) {
+export function placesIn(text) {
   const starts = lineStarts(text);
   let [line, column, at] = [1, 1, 0];
   return (toLine, toColumn) => {

@@ -221,6 +221,9 @@ def folder(room):
     room.sh(text, status=0)
     for name in good:
         same((room.text(name), stat.S_IMODE(os.stat(room.path(name)).st_mode)), ('let x = 1;\n', 0o640), name)
+    room.put('src/a.js', 'let x = `(\r\n`;\r\n')
+    room.sh(text, status=0)
+    same(room.text('src/a.js'), 'let x = `(\r\n`;\r\n')
     room.put('src/bad\n::error::x.js', REFUSED)
     room.put('src/a.js', WRONG)
     status, _, err = room.sh(text)
@@ -237,7 +240,7 @@ def many_files(room):
     lines = out.splitlines()
     same(lines[:-1], [f'{name}:{it.replace(" ", ": ", 1)}' for name in ('src/a.js', 'src/deep/b.js') for it in FOUND])
     found = json.loads(lines[-1])
-    same([it['filePath'] for it in found], ['c.js', 'src/a.js', 'src/deep/b.js'])
+    same([it['filePath'] for it in found], [os.path.realpath(f'{room.folder}/{it}') for it in ('c.js', 'src/a.js', 'src/deep/b.js')])
     same(found[0]['messages'][2], {'ruleId': 'no-extra-parens', 'severity': 2, 'message': 'unnecessary parentheses', 'line': 1, 'column': 9})
     same(err, '')
     room.put('src/deep/b.js', KEPT)
@@ -283,12 +286,12 @@ def statuses(room):
     same(call('--settings', 'off.toml', '--', 'a.js', '-h.js'), (0, '', ''))
     same(call('a.js', 'good.js')[0], 1)
     same(call('--', '-h.js'), (1, ''.join(f'-h.js:{it.replace(" ", ": ", 1)}\n' for it in FOUND), ''))
-    same(call('bad.js', 'none.js', '.'), (2, 'bad.js:2:1: syntax error\nnone.js:1:1: read failed\n.:1:1: read failed\n', ''))
-    same(call('--settings=a.js', 'good.js')[:2], (2, 'good.js:1:1: bad settings\n'))
+    same(call('bad.js', 'none.js', '.'), (2, 'bad.js:2:1: syntax error\nnone.js:1:1: read failed: missing\n.:1:1: read failed: a folder\n', ''))
+    same(call('--settings=a.js', 'good.js', 'bad.js'), (2, '', 'jslint-files: a.js: bad settings\n'))
     for words in [('--settings', 'none.toml', 'a.js'), ('-h.js',), (), ('--format', 'xml', 'a.js'), ('--jobs', '0', 'a.js'), ('--jobs',), ('--nope', 'a.js'), ('--files-from', 'none')]:
         status, out, err = call(*words)
         is_well(status == 2 and not out and err.startswith('jslint-files: ') and err.count('\n') == 1, f'{words} {status} {out} {err}')
-    same(call('none*.js'), (2, 'none*.js:1:1: read failed\n', ''))
+    same(call('none*.js'), (2, 'none*.js:1:1: read failed: missing\n', ''))
     same(call('--files-from', '-', given=b'a.js\ngood.js\n')[1].count('\n'), 3)
     same(call('--files-from', '-', given=b''), (0, '', ''))
     many = [f'{it:03}.js' for it in range(60)]
@@ -302,16 +305,16 @@ def statuses(room):
 
 def rewritten(room):
     """`fix` and `unwrap` of several files. Keeps the mode; follows a link; leaves what is refused, and what doesn't differ; nothing stays beside it."""
-    text, fixed, unwrapped = 'let x = (1) // kept\r\n\n', 'let x = 1;\n', 'let x = 1 // kept\r\n\n'
-    refused = 'bad.js:2:1: syntax error\nnone.js:1:1: read failed\n.:1:1: not {}: no regular file\n'
-    for command, wanted in [('fix', fixed), ('unwrap', unwrapped)]:
+    text, fixed, unwrapped = 'let x = (1) // kept\r\n\n', 'let x = 1;\r\n', 'let x = 1 // kept\r\n\n'
+    refused = 'bad.js:2:1: syntax error\nnone.js:1:1: read failed: missing\n.:1:1: not {}: no regular file\n'
+    for command, wanted, more in [('fix', fixed, ['--drop-comments']), ('unwrap', unwrapped, [])]:
         good = [f'{command}/{it}' for it in ('a.js', 'deep/-h.js', 'deep/two words.js')]
         for name in good:
             room.put(name, text, 0o754)
         room.put('bad.js', REFUSED)
         room.put('good.js', wanted)
         os.symlink('a.js', room.path(f'{command}/link'))
-        call, names = lambda *words: room.run(['jslint-files', command, *words]), room.names(command)
+        call, names = lambda *words: room.run(['jslint-files', command, *more, *words]), room.names(command)
         known = os.stat(room.path('good.js')).st_ino
         status, out, err = call('--diff', *good, 'good.js', 'bad.js', 'none.js', '.')
         same((status, err, room.text(good[0])), (2, refused.format('compared'), text))
@@ -347,7 +350,7 @@ def rewritten_odd(room):
         room.put(f'{it}.js', WRONG)
     names = room.names()
     text = 'jslint-files fix --write --jobs 2 [0-9].js & until [ -s begun ]; do sleep 0.05; done; kill $!; wait $!'
-    same(room.sh(text, JSLINT=room.folder + '/slow'), (143, '', ''))
+    same(room.sh(text, JSLINT=room.folder + '/slow')[:2], (143, ''))
     done = [it for it in range(9) if room.text(f'{it}.js') != WRONG]
     is_well(len(done) <= 2 and room.names() == sorted([*names, 'begun']), f'{done} {room.names()}')
 
@@ -365,13 +368,13 @@ def gone(room):
         return out, err
 
     before, after = 'rm -rf b.js below; exec jslint "$@"', 'jslint "$@"; ended=$?; rm -rf a.js b.js below; exit $ended'
-    lost, unread = ': not rewritten: No such file or directory\n', 'b.js:1:1: read failed\n'
+    lost, unread = ': not rewritten: No such file or directory\n', 'b.js:1:1: read failed: missing\nbelow/c.js:1:1: read failed: missing\n'
     same([it.split(': ')[0] for it in call(before)[0].splitlines()], ['a.js:1:5', 'a.js:1:5', 'a.js:1:9', 'b.js:1:1', 'below/c.js:1:1', 'd.js:1:5', 'd.js:1:5', 'd.js:1:9'])
     same([(it['filePath'], it['fatalErrorCount'], it['errorCount']) for it in json.loads(call(before, '--format', 'json')[0])],
-         [('a.js', 0, 3), ('b.js', 1, 1), ('below/c.js', 1, 1), ('d.js', 0, 3)])
-    same(call(before, 'fix', '--write'), ('', f'{unread}below/c.js:1:1{lost}'))
+         [(os.path.realpath(f'{room.folder}/{name}'), *counts) for name, *counts in [('a.js', 0, 3), ('b.js', 1, 1), ('below/c.js', 1, 1), ('d.js', 0, 3)]])
+    same(call(before, 'fix', '--write'), ('', unread))
     same((room.text('a.js'), room.text('d.js'), room.names()), ('let x = 1;\n', 'let x = 1;\n', ['a.js', 'd.js', 'takes']))
-    same(call(after, 'unwrap', '--write'), ('', f'a.js:1:1{lost}{unread}below/c.js:1:1{lost}'))
+    same(call(after, 'unwrap', '--write'), ('', f'a.js:1:1{lost}{unread}'))
     same((room.text('d.js'), room.names()), ('let x = 1;\n', ['d.js', 'takes']))
 
 
@@ -388,7 +391,7 @@ def forged_names(room):
         same((status, err, out.count('\n'), len(lines)), (1, '', *[1 if 'json' in words else len(names)] * 2), repr(out))
         is_well(not re.search('[\x00-\x09\x0b-\x1f\x7f-\x9f\u2028-\u202e\udc80-\udcff]', out), repr(out))
         if 'json' in words:
-            same([os.fsencode(it['filePath']) for it in json.loads(out)], [os.fsencode(it) for it in names])
+            same([os.fsencode(it['filePath']) for it in json.loads(out)], [os.path.join(os.path.realpath(room.path('.')), os.fsencode(it)) for it in names])
         elif words:
             same([it.split(',line=1,col=1,title=no-debugger::')[0] for it in lines][0], '::error file=a%0A%3A%3Aerror file=x.js%3A%3Aforged.js')
             is_well(all(re.fullmatch(r'::error file=[^:,]*,line=1,col=1,title=no-debugger::[^\n]*\n', it) for it in lines), repr(lines))
@@ -400,6 +403,8 @@ def shown_progress(room):
     """On a terminal a line says how far it is, after a second, and is gone at the end."""
     room.put('slow', '#!/bin/sh\nsleep 0.7\n', 0o755)
     names = [f'{it}.js' for it in range(3)]
+    for name in names:
+        room.put(name, RIGHT)
     text = f'import pty, sys; sys.exit(pty.spawn(["jslint-files", "--jobs", "1", "--", *{names!r}]) >> 8)'
     _, out, _ = room.run([sys.executable, '-c', text], status=0, JSLINT=room.folder + '/slow')
     is_well('2 of 3' in out and '1 of 3' not in out and out.endswith('\r\x1b[K'), repr(out))
@@ -469,6 +474,8 @@ def make(room):
     is_well(run('check')[0] != 0, 'other settings, and nothing is checked again')
     same(run('fixed')[0], 0)
     same(room.text('build/b.js'), 'x = 1;\n')
+    room.put('src/d.js', 'let x = `(\r\n`; (x);\r\n')
+    same((run('fixed')[0], room.text('build/d.js')), (0, 'let x = `(\r\n`;\r\nx;\r\n'))
     room.put('src/c.js', REFUSED)
     is_well(run('fixed')[0] != 0)
     is_well(not any(it.startswith('c.js') for it in room.names('build')), 'of a refused script something stays')

@@ -1,23 +1,12 @@
 #!/usr/bin/env node
 // The program's commands over the WebAssembly module: the same words, answers and statuses.
-import { readFileSync, writeSync } from 'node:fs';
 import { run } from '../jslint.mjs';
+import { read, write } from './streams.mjs';
 
 const USAGE = `usage: jslint-with-proofs check [--settings SETTINGS] FILE
        jslint-with-proofs fix|unwrap|tree|cost FILE
        jslint-with-proofs verify FILE TABLE
 `;
-
-function write(to, text) {
-  const bytes = Buffer.from(text);
-  for (let at = 0; at < bytes.length;) {
-    try {
-      at += writeSync(to, bytes, at);
-    } catch (error) {
-      if (error.code !== 'EAGAIN') throw error;
-    }
-  }
-}
 
 /** The command and the names of its files, or null where these are no words of the program. */
 function lineOf(words) {
@@ -41,8 +30,7 @@ function main(words) {
   }
   let texts;
   try {
-    // (a pipe that is a socket can't be opened by its name)
-    texts = line.names.map((it) => (it === undefined ? new Uint8Array(0) : readFileSync(it === '/dev/stdin' ? 0 : it)));
+    texts = line.names.map((it) => (it === undefined ? new Uint8Array(0) : read(it)));
   } catch {
     return refuse('read failed');
   }

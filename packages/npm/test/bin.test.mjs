@@ -1,11 +1,12 @@
 // The package's two commands.
 import assert from 'node:assert/strict';
 import { spawnSync } from 'node:child_process';
-import { mkdtempSync, rmSync, writeFileSync } from 'node:fs';
+import { closeSync, mkdirSync, mkdtempSync, openSync, readFileSync, realpathSync, rmSync, symlinkSync, writeFileSync } from 'node:fs';
 import { tmpdir } from 'node:os';
-import { join } from 'node:path';
+import { dirname, join } from 'node:path';
 import { test } from 'node:test';
 import { fileURLToPath } from 'node:url';
+import { resultOf } from '../eslint-json.mjs';
 
 const bin = (name) => fileURLToPath(new URL(`../bin/${name}.mjs`, import.meta.url));
 
@@ -46,16 +47,56 @@ test('check takes settings, and verify a table', () => {
   });
 });
 
-test("ESLint's JSON", () => {
-  withFiles({ 'good.js': '"use strict";\n', 'bad.js': 'let x = (1);\n', 'refused.js': 'a b\n' }, (path) => {
-    const [status, out] = ran('eslint-json', [path('good.js'), path('bad.js'), path('refused.js')]);
-    const results = JSON.parse(out);
-    assert.equal(status, 1);
-    assert.deepEqual(results.map((it) => [it.filePath, it.errorCount, it.fatalErrorCount]), [[path('good.js'), 0, 0], [path('bad.js'), 3, 0], [path('refused.js'), 1, 1]]);
-    assert.deepEqual(results[1].messages[2], { ruleId: 'no-extra-parens', severity: 2, message: 'unnecessary parentheses', line: 1, column: 9 });
-    assert.deepEqual(results[2].messages, [{ ruleId: null, fatal: true, severity: 2, message: 'syntax error at 1:3', line: 1, column: 3 }]);
-    assert.deepEqual(ran('eslint-json', [path('good.js')])[0], 0);
-    assert.deepEqual(ran('eslint-json', ['--settings', path('bad.js'), path('good.js')]), [2, '', 'jslint: bad settings\n']);
-    assert.equal(ran('eslint-json', ['no such file'])[0], 2);
-  });
+// The rows that `jslint-files --format json` is tested on too: the files of a folder, the words, the status, and the results or what is said.
+const rows = JSON.parse(readFileSync(new URL('eslint-json.rows.json', import.meta.url), 'utf8'));
+
+function putFile(path, content) {
+  mkdirSync(dirname(path), { recursive: true });
+  if (typeof content === 'string') writeFileSync(path, content);
+  else if ('link' in content) symlinkSync(content.link, path);
+  else writeFileSync(path, 'base64' in content ? Buffer.from(content.base64, 'base64') : content.text.repeat(content.times));
+}
+
+/** What a command of the package writes, in a folder of its own that has these files. */
+function inFolder(files, call) {
+  const folder = realpathSync(mkdtempSync(join(tmpdir(), 'jslint-npm-')));
+  try {
+    for (const [name, content] of Object.entries(files)) putFile(join(folder, name), content);
+    return call(folder);
+  } finally {
+    rmSync(folder, { recursive: true });
+  }
+}
+
+for (const row of rows) {
+  test(`ESLint's JSON: ${row.what}`, () => inFolder(row.files, (folder) => {
+    const it = spawnSync(process.execPath, [bin('eslint-json'), ...row.words], { cwd: folder, encoding: 'utf8' });
+    const wanted = row.results?.map((each) => ({ ...each, filePath: join(folder, each.filePath) }));
+    assert.equal(it.stdout, wanted ? `${JSON.stringify(wanted)}\n` : '');
+    assert.equal(it.stderr, row.said ? `jslint-with-proofs-eslint-json: ${row.said}\n` : '');
+    assert.equal(it.status, row.status);
+  }));
+}
+
+test("ESLint's JSON from standard input, for help, and where it can't be written", () => {
+  const [status, out] = ran('eslint-json', ['/dev/stdin'], 'debugger;');
+  assert.deepEqual([status, JSON.parse(out)[0].filePath], [1, '/dev/stdin']);
+  assert.match(ran('eslint-json', ['--help'])[1], /^usage: /);
+  const full = openSync('/dev/full', 'w');
+  try {
+    for (const [words, streams, said] of [[['/dev/null'], ['pipe', full, 'pipe'], 'write failed'], [['--help'], ['pipe', full, 'pipe'], 'write failed'], [['/dev/null'], ['pipe', full, full], null]]) {
+      const it = spawnSync(process.execPath, [bin('eslint-json'), ...words], { stdio: streams, encoding: 'utf8' });
+      assert.deepEqual([it.status, it.stderr], [2, said && `jslint-with-proofs-eslint-json: ${said}\n`]);
+    }
+  } finally {
+    closeSync(full);
+  }
+});
+
+test('a form for programs: a text as a string or its bytes', () => {
+  const text = "'\u{1f600}'; debugger;";
+  const [message] = resultOf('a', text).messages;
+  assert.deepEqual([message.line, message.column], [1, 7]);
+  assert.deepEqual(resultOf('a', new TextEncoder().encode(text)), resultOf('a', text));
+  assert.throws(() => resultOf('a', text, { settings: 'x' }), { code: 'settings' });
 });
