@@ -1,9 +1,5 @@
 -- From a text that is read again and compared to what unwrapping promises.
-use Rattle.std.proofs.Common.{◌≡◌, ℕ, List, refl, sym, ap, subst, ◌∙◌, ◌≤◌, length, arith, Option, Some, Result, Ok, Err, string_bytes}
-use Rattle.std.specs.Result.{IfOk}
-use Rattle.std.specs.Prelude.{String}
-use Rattle.source_text.specs.declared.fault.Fault.{Fault}
-use Rattle.source_text.specs.declared.fault.Fault.TheVariants.{TooLong, OutOfMemory, UnwrapFailed}
+use Rattle.std.proofs.Common.{◌≡◌, ℕ, List, refl, sym, ap, subst, ◌∙◌, ◌≤◌, length, arith, Some}
 use Rattle.tree.specs.Tree.{Tree, SameTree, bare}
 use Rattle.tree.specs.declared.kind.Pair.{Pair}
 use Rattle.early_errors.specs.Accepted.{Accepted}
@@ -13,7 +9,7 @@ use Rattle.language.specs.Pieces.{script}
 use Rattle.language.specs.Cost.{least}
 use Rattle.paren_planner.proofs.Totals.{wrapped_count}
 use Rattle.lint.specs.ReadScripts.{IsOnly}
-use Rattle.lint.specs.Unwraps.{Unwraps, IsUnwrapped, SpellsWith, HasMorePairs, IsUnfit, RefusesScript, RefusesUnwrapping, unwrapped_text}
+use Rattle.lint.specs.Unwraps.{Unwraps, IsUnwrapped, SpellsWith, HasMorePairs}
 use Rattle.unwrapping.proofs.CompareSteps.{keeps_itself}
 use Rattle.lint.proofs.FixAnswers.{fewest}
 use Rattle.lint.proofs.OneScript.{only_script}
@@ -43,6 +39,9 @@ unwraps_itself text n P is only count = record {
   untouched = λ _. refl;
 }
 
+pub one_number : {x y : ℕ} → Some x ≡ Some y → x ≡ y
+one_number e = cc
+
 -- a text with more is unwrapped to one that spells its tree with the fewest
 pub unwraps_to : (text out : List ℕ) (n : Tree) (P : List Pair) (k : ℕ) → Accepted text n P → IsOnly text n P → Some k ≡ least n script → HasMorePairs n P → SpellsWith text out n P k → Unwraps text out
 unwraps_to text out n P k is only total more spells =
@@ -71,28 +70,3 @@ is_unwrapped text out u again v =
     let low : length u.pairs_again ≤ length v.pairs_again = u.fewest.least again v.again v.pairs_again alike (max_open, v.accepted_again.derived.1) in
     let high : length v.pairs_again ≤ length v.pairs = v.fewest.least out v.tree v.pairs refl (max_open, v.accepted.derived.1) in
     v.untouched (omega arith)
-
--- the text that was made, or a copy of the text itself where none was
-pub unwraps_made : {A : Type 0} (text : List ℕ) (made : Option (String A)) (answer : Result (String A) Fault) → Unwraps text (unwrapped_text text made) → IfOk answer (λ t. string_bytes t ≡ unwrapped_text text made)
-    → IfOk answer (λ t. Unwraps text (string_bytes t))
-unwraps_made text made (Ok t) unwraps same = subst (Unwraps text) (sym same) unwraps
-unwraps_made text made (Err fault) unwraps same = tt
-
--- each unwrapped text is unwrapped to itself
-pub unwrapped_each : {A : Type 0} (text : List ℕ) (answer : Result (String A) Fault) → IfOk answer (λ t. Unwraps text (string_bytes t)) → IfOk answer (λ t. IsUnwrapped (string_bytes t))
-unwrapped_each text (Ok t) unwraps = is_unwrapped text (string_bytes t) unwraps
-unwrapped_each text (Err fault) unwraps = tt
-
--- a script with more pairs than the fewest isn't unwrapped for these reasons
-pub refuses_more : (text : List ℕ) (n : Tree) (P : List Pair) (fault : Fault) → HasMorePairs n P → IsUnfit text P fault → RefusesScript text n P fault
-refuses_more text n P TooLong more unfit = (more, unfit)
-refuses_more text n P UnwrapFailed more unfit = more
-refuses_more text n P OutOfMemory more unfit = tt
-refuses_more text n P _ more unfit = absurd unfit
-
--- so the text is refused
-pub refuses_text : (text : List ℕ) (n : Tree) (P : List Pair) (fault : Fault) → Accepted text n P → RefusesScript text n P fault → RefusesUnwrapping text fault
-refuses_text text n P TooLong is refuses = (n, P, is, refuses)
-refuses_text text n P UnwrapFailed is refuses = (n, P, is, refuses)
-refuses_text text n P OutOfMemory is refuses = tt
-refuses_text text n P _ is refuses = absurd refuses

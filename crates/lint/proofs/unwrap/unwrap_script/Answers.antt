@@ -6,7 +6,7 @@ use Rattle.language.specs.RowPositions.{rows}
 use Rattle.language.specs.Cost.{least}
 use Rattle.lint.specs.ReadScripts.{IsScript}
 use Rattle.lint.proofs.PlannedScripts.{script_derived, script_spelled, script_few, reading_script}
-use Rattle.lint.proofs.Unwrapping.{unwraps_itself, unwraps_to, refuses_more}
+use Rattle.lint.proofs.Unwrapping.{one_number, unwraps_itself, unwraps_to}
 use Rattle.lint.proofs.unwrap.unwrap_script.Goals as goal
 
 pub fewest_by_pairs-requires : goal.fewest_by_pairs-requires
@@ -26,3 +26,21 @@ plan-requires-clause-few c =
     let P = c.args.parsed.now.pairs.items in
     let is : IsScript n P = reading_script c.args.source.now n P c.requires.reading c.requires.small in
     subst (λ m. rows m script ≤ 16777216) (sym c.program-2.ensures) (script_few n P is)
+
+pub returns-then-pairs-fewest-clause-unwrapped : goal.returns-then-pairs-fewest-clause-unwrapped
+returns-then-pairs-fewest-clause-unwrapped c =
+    let n = c.args.parsed.now.program in
+    let P = c.args.parsed.now.pairs.items in
+    let same : length P ≡ length c.grouping_pairs-pairs.result.now = ap (λ (ps : List Pair). length ps) (sym c.grouping_pairs-pairs.ensures) in
+    let fewest : Some c.in-Ok.fewest ≡ least n script = c.in-Ok.ensures ∙ ap (λ m. least m script) c.program.ensures in
+    unwraps_itself c.args.source.now n P c.requires.reading.accepted c.requires.reading.only (ap (λ m. Some m) (same ∙ c.if-pairs-fewest.true) ∙ fewest)
+
+pub returns-in-Ok-unwrap_planned-clause-unwrapped : goal.returns-in-Ok-unwrap_planned-clause-unwrapped
+returns-in-Ok-unwrap_planned-clause-unwrapped c =
+    let n = c.args.parsed.now.program in
+    let P = c.args.parsed.now.pairs.items in
+    let same : length c.grouping_pairs-pairs.result.now ≡ length P = ap (λ (ps : List Pair). length ps) c.grouping_pairs-pairs.ensures in
+    let fewest : Some c.in-Ok.fewest ≡ least n script = c.in-Ok.ensures ∙ ap (λ m. least m script) c.program.ensures in
+    let total : Some c.in-Ok-plan.plan.table.total ≡ least n script = c.in-Ok-plan.ensures.total ∙ ap (λ m. least m script) c.program-2.ensures in
+    unwraps_to c.args.source.now _ n P c.in-Ok-plan.plan.table.total c.requires.reading.accepted c.requires.reading.only total (λ as_few. c.if-pairs-fewest.false (same ∙ one_number (as_few ∙ sym fewest)))
+    c.in-Ok-unwrap_planned.ensures.spells

@@ -1,9 +1,11 @@
-use Rattle.lint.proofs.Unwrapping.{unwraps_made, unwrapped_each}
+use Rattle.std.proofs.Common.{sym, subst, string_bytes}
+use Rattle.lint.specs.Unwraps.{Unwraps}
+use Rattle.lint.proofs.Unwrapping.{is_unwrapped}
 use Rattle.lint.proofs.unwrap.unwrap_text.Goals as goal
 
-pub returns-in-Ok-unwrap_script-clause-unwrapped : goal.returns-in-Ok-unwrap_script-clause-unwrapped
-returns-in-Ok-unwrap_script-clause-unwrapped c = unwraps_made c.args.source.now c.in-Ok-unwrap_script.made c.made_or_own.result c.in-Ok-unwrap_script.ensures.unwrapped c.made_or_own.ensures.text
+pub returns-in-Ok-made_or_own-clause-unwrapped : goal.returns-in-Ok-made_or_own-clause-unwrapped
+returns-in-Ok-made_or_own-clause-unwrapped c = subst (Unwraps c.args.source.now) (sym c.in-Ok-made_or_own.ensures) c.in-Ok-unwrap_script.ensures.unwrapped
 
-pub returns-in-Ok-unwrap_script-clause-stable : goal.returns-in-Ok-unwrap_script-clause-stable
-returns-in-Ok-unwrap_script-clause-stable c =
-    unwrapped_each c.args.source.now c.made_or_own.result (unwraps_made c.args.source.now c.in-Ok-unwrap_script.made c.made_or_own.result c.in-Ok-unwrap_script.ensures.unwrapped c.made_or_own.ensures.text)
+pub returns-in-Ok-made_or_own-clause-stable : goal.returns-in-Ok-made_or_own-clause-stable
+returns-in-Ok-made_or_own-clause-stable c =
+    is_unwrapped c.args.source.now (string_bytes c.in-Ok-made_or_own.text) (subst (Unwraps c.args.source.now) (sym c.in-Ok-made_or_own.ensures) c.in-Ok-unwrap_script.ensures.unwrapped)
