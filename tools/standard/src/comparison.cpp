@@ -62,9 +62,13 @@ StandardAnswer standard_answer(Reader &reader, const string &text) {
 }
 
 void Comparison::compare(const string &text) {
-    tally.texts++;
-    StandardAnswer standard = standard_answer(reader, text);
     ProgramAnswer program = program_answer(text);
+    tally.texts++;
+    if (program.verdict == Verdict::TooDeep) {
+        tally.too_deep++;
+        return;
+    }
+    StandardAnswer standard = standard_answer(reader, text);
     if (standard.reading.refined > 1) tally.disagree("two derivations are left", text);
     if (standard.reading.is_cover_ambiguous) tally.disagree("a cover is refined in two ways", text);
     if (standard.verdict != program.verdict || standard.error_number != program.error_number) {
@@ -99,8 +103,8 @@ void Comparison::cover(const ParseNode *node) {
 }
 
 void Comparison::report() const {
-    printf("  texts %ld: accepted by both, with one tree and number of pairs %ld, early error by both, with number and place %ld, refused by both %ld; disagreements %ld\n",
-           tally.texts, tally.accepted, tally.early, tally.refused, tally.disagreement_count());
+    printf("  texts %ld: accepted by both, with one tree and number of pairs %ld, early error by both, with number and place %ld, refused by both %ld; disagreements %ld; nested too deep %ld\n",
+           tally.texts, tally.accepted, tally.early, tally.refused, tally.disagreement_count(), tally.too_deep);
     for (const auto &it : tally.disagreements) {
         printf("  ! %ld x %s\n", it.second, it.first.c_str());
         for (const string &text : tally.examples.at(it.first)) printf("      %s\n", shown(text).c_str());

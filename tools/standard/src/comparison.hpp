@@ -6,7 +6,7 @@
 namespace standard {
 // What came of the texts that were compared.
 struct Tally {
-    long texts = 0, accepted = 0, early = 0, refused = 0;
+    long texts = 0, accepted = 0, early = 0, refused = 0, too_deep = 0;
     std::map<string, long> disagreements;
     std::map<string, vector<string>> examples;
 
@@ -32,7 +32,8 @@ class Comparison {
     Tally tally;
 
     explicit Comparison(Reader &given) : reader(given) {}
-    // Compares verdict, early error with number and place, tree, and number of grouping pairs.
+    // Compares verdict, early error with number and place, tree, and number of grouping pairs. The standard knows no limit of nesting, so
+    // a text beyond it is only counted.
     void compare(const string &text);
     void report() const;
     // The alternatives of the grammar that stand in no tree that both accept.

@@ -1,5 +1,6 @@
 // Functions, classes, statements and declarations.
 #include "estree.hpp"
+#include "static_semantics.hpp"
 #include <stdexcept>
 #include <unordered_map>
 
@@ -59,9 +60,8 @@ void Estree::push_members(Node node, Items &out) {
     if (is_token(element->children[0], ";")) return;
     bool is_static = element->children.size() == 2;
     Method it = method(element->last());
-    string name = source_.spelled(it.name);
-    bool is_constructor = name == "constructor" || name == "'constructor'" || name == "\"constructor\"";
-    if (!is_static && !it.is_computed && it.kind == "method" && is_constructor) it.kind = "constructor";
+    bool is_constructor = !is_static && it.kind == "method" && StaticSemantics(source_).prop_name(it.name) == "constructor";
+    if (is_constructor) it.kind = "constructor";
     out.push_back(object("MethodDefinition", element,
                          {{"key", it.key}, {"value", it.function}, {"kind", quoted(it.kind)}, {"computed", flag(it.is_computed)}, {"static", flag(is_static)}}));
 }

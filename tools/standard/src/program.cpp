@@ -96,6 +96,7 @@ ProgramAnswer program_answer(const string &text) {
     out.refusal = tree.text;
     size_t early = tree.text.find("early error E"), at = tree.text.rfind(" at ");
     if (tree.text.find("syntax error") != string::npos) out.verdict = Verdict::SyntaxError;
+    if (tree.text.find("nested too deep") != string::npos) out.verdict = Verdict::TooDeep;
     if (early == string::npos || at == string::npos) return out;
     out.verdict = Verdict::EarlyError;
     out.error_number = atoi(tree.text.c_str() + early + strlen("early error E"));

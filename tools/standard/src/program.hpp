@@ -5,7 +5,7 @@
 namespace standard {
 using std::string;
 
-enum class Verdict { Accepted, SyntaxError, EarlyError, Other };
+enum class Verdict { Accepted, SyntaxError, EarlyError, TooDeep, Other };
 
 struct ProgramAnswer {
     Verdict verdict = Verdict::Other;
