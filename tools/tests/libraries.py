@@ -22,7 +22,7 @@ SCRIPT = 'let x = (1); x; { let x = 2; x = 3; }\n'
 REPORTS = "1:5 prefer-const 'x' is never reassigned\n1:9 no-extra-parens unnecessary parentheses\n1:23 no-shadow 'x' shadows an outer name\n1:23 no-unused-vars 'x' is never read\n"
 # What is in the package that `npm pack` makes.
 PACKED = {
-    'LICENSE-APACHE', 'LICENSE-MIT', 'README.md', 'bin/eslint-json.mjs', 'bin/jslint.mjs', 'core.mjs', 'eslint-json.d.mts', 'eslint-json.mjs', 'jslint.d.mts',
+    'LICENSE-APACHE', 'LICENSE-MIT', 'README.md', 'bin/eslint-json.mjs', 'bin/jslint.mjs', 'bin/streams.mjs', 'core.mjs', 'eslint-json.d.mts', 'eslint-json.mjs', 'jslint.d.mts',
     'jslint.mjs', 'jslint.wasm', 'package.json', 'worker.mjs',
 }
 # Where the libraries are, or why there are none.

@@ -4,7 +4,7 @@
 import { resolve } from 'node:path';
 import { format, resultOf, unreadResult } from '../eslint-json.mjs';
 import { Refused, check } from '../jslint.mjs';
-import { read, shown, unread, write } from './streams.mjs';
+import { read, shown, unread, warn, write } from './streams.mjs';
 
 const NAME = 'jslint-with-proofs-eslint-json';
 // The commands take no longer text; of a longer one a byte more than this is read, so that it is refused.
@@ -70,17 +70,13 @@ function main(words) {
   const settings = line.settings === undefined ? '' : settingsOf(line.settings);
   const results = [...new Set(line.names)].map((it) => resultOfFile(it, settings));
   say(`${format(results)}\n`);
-  return Math.max(...results.map((it) => (it.fatalErrorCount > 0 ? 2 : it.errorCount > 0 ? 1 : 0)));
+  return results.some((it) => it.fatalErrorCount > 0) ? 2 : results.some((it) => it.errorCount > 0) ? 1 : 0;
 }
 
 try {
   process.exitCode = main(process.argv.slice(2));
 } catch (error) {
   if (!(error instanceof Wrong)) throw error;
-  try {
-    write(2, `${NAME}: ${error.message}\n`);
-  } catch {
-    // (where nobody reads that, the status alone says it)
-  }
+  warn(`${NAME}: ${error.message}\n`);
   process.exitCode = 2;
 }

@@ -1,7 +1,7 @@
 #!/usr/bin/env node
 // The program's commands over the WebAssembly module: the same words, answers and statuses.
 import { run } from '../jslint.mjs';
-import { read, write } from './streams.mjs';
+import { read, warn, write } from './streams.mjs';
 
 const USAGE = `usage: jslint-with-proofs check [--settings SETTINGS] FILE
        jslint-with-proofs fix|unwrap|tree|cost FILE
@@ -18,15 +18,26 @@ function lineOf(words) {
 }
 
 function refuse(words) {
-  write(2, `jslint: ${words}\n`);
+  warn(`jslint: ${words}\n`);
   return 2;
 }
 
+/** The status that a command ends with, or 2 where its answer can't be written. */
+function say(text, status) {
+  try {
+    write(1, text);
+  } catch {
+    return refuse('write failed');
+  }
+  return status;
+}
+
 function main(words) {
+  if (words[0] === '--help') return say(USAGE, 0);
   const line = lineOf(words);
   if (line === null) {
-    write(words[0] === '--help' ? 1 : 2, USAGE);
-    return words[0] === '--help' ? 0 : 2;
+    warn(USAGE);
+    return 2;
   }
   let texts;
   try {
@@ -35,11 +46,8 @@ function main(words) {
     return refuse('read failed');
   }
   const answer = run(line.command, ...texts);
-  try {
-    write(answer.isRefusal ? 2 : 1, answer.text);
-  } catch {
-    return refuse('write failed');
-  }
+  if (!answer.isRefusal) return say(answer.text, answer.status);
+  warn(answer.text);
   return answer.status;
 }
 

@@ -26,6 +26,15 @@ export function write(to, text) {
   }
 }
 
+/** Writes to standard error. Where nobody reads that, the status alone says it. */
+export function warn(text) {
+  try {
+    write(2, text);
+  } catch {
+    // (there is nowhere to say so)
+  }
+}
+
 /** What an open file has, but no more than so many bytes. */
 function readFrom(file, most) {
   const parts = [];

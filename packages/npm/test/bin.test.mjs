@@ -38,6 +38,22 @@ test('the commands have the words, answers and statuses of the program', () => {
   assert.equal(ran('jslint', ['--help'])[0], 0);
 });
 
+test('what can not be written ends with status 2', () => {
+  withFiles({ 'a.js': 'debugger;' }, (path) => {
+    const full = openSync('/dev/full', 'w');
+    try {
+      for (const words of [['check', path('a.js')], ['fix', path('a.js')], ['--help'], ['fix', path('none')], []]) {
+        const lost = spawnSync(process.execPath, [bin('jslint'), ...words], { stdio: ['ignore', full, 'pipe'], encoding: 'utf8' });
+        const unsaid = spawnSync(process.execPath, [bin('jslint'), ...words], { stdio: ['ignore', full, full] });
+        assert.deepEqual([lost.status, unsaid.status], [2, 2]);
+        assert.match(lost.stderr, words.length === 0 ? /^usage: / : words[1] === path('none') ? /^jslint: read failed\n$/ : /^jslint: write failed\n$/);
+      }
+    } finally {
+      closeSync(full);
+    }
+  });
+});
+
 test('check takes settings, and verify a table', () => {
   withFiles({ 'a.js': 'debugger; (({})).a;', 's.toml': '[rules]\nno-debugger = false\nno-extra-parens = false\n' }, (path) => {
     assert.deepEqual(ran('jslint', ['check', '--settings', path('s.toml'), '--', path('a.js')]), [0, '', '']);
