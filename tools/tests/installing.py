@@ -31,7 +31,7 @@ def files_below(folder):
 
 def plain(text):
     """A page without the escapes and requests of roff: words alone."""
-    text = re.sub(r'\\f[BIRP]|\\%', '', text).replace('\\-', '-').replace('\\&', '').replace('\\e', '\\')
+    text = re.sub(r'\\f[BIRP]|\\%|\\:', '', text).replace('\\-', '-').replace('\\&', '').replace('\\e', '\\')
     return re.sub(r'^\.(?:[BI]|BR|RB|BI|IR)\b +', '', text, flags=re.M)
 
 

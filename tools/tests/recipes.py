@@ -567,7 +567,7 @@ def pages(room):
         COMP_WORDS=(jslint-files unw) COMP_CWORD=1; _jslint_files; echo "${{COMPREPLY[*]}}"
         COMP_WORDS=(jslint-files unwrap --) COMP_CWORD=2; _jslint_files; echo "${{COMPREPLY[*]}}"'''
     if shutil.which('bash'):
-        wanted = 'verify\n--settings\nunwrap\ngithub\nunwrap\n--write --diff --jobs --files-from --help --\n'
+        wanted = 'verify\n--settings\nunwrap\ngithub\nunwrap\n--write --diff --jobs --files-from --help --version --\n'
         same(room.run(['bash', '-c', completed])[1:], (wanted, ''))
 
 
