@@ -6,7 +6,7 @@ use Rattle.jslint.proofs.files.run_alone.Goals as goal
 -- the script's file failed, or none did
 pub returns-in-Err-clause-answer : goal.returns-in-Err-clause-answer
 returns-in-Err-clause-answer g c =
-    let run : RunsOpened c.args.line (g.W.Sink.taken c.args.output.now) (g.W.Sink.taken c.run_with_rules.new._output) (g.W.Sink.failed c.run_with_rules.new._output) (Err c.in-Err.refused) = record {
+    let run : RunsOpened c.args.line (g.W.Sink.taken c.args.output.now) (g.W.Sink.taken c.run_with_rules.new.output) (g.W.Sink.failed c.run_with_rules.new.output) (Err c.in-Err.refused) = record {
       given = _;
       second = _;
       reader_failed = _;

@@ -9,7 +9,7 @@ pub returns-clause-answer : goal.returns-clause-answer
 returns-clause-answer g c =
     let refused = c.in-Err-run_with_rules.refused in
     let unread = c.if-has_failed.unread.now in
-    let run : RunsOpened c.args.line (g.W.Sink.taken c.args.output.now) (g.W.Sink.taken c.run_with_rules.new._output) (g.W.Sink.failed c.run_with_rules.new._output) (Err refused) = record {
+    let run : RunsOpened c.args.line (g.W.Sink.taken c.args.output.now) (g.W.Sink.taken c.run_with_rules.new.output) (g.W.Sink.failed c.run_with_rules.new.output) (Err refused) = record {
       given = _;
       second = _;
       reader_failed = _;
