@@ -319,8 +319,9 @@ def changed_meanwhile(room):
 
 
 def kept(room):
-    """Mode, attributes, links; a file of two names is rewritten once."""
+    """Mode, attributes, links; a file of two names is rewritten once. The new file is another one: a hard link keeps the old text."""
     room.put('a.js', WRONG, 0o4751)
+    os.link(room.path('a.js'), room.path('hard.js'))
     os.symlink('a.js', room.path('link.js'))
     os.symlink('link.js', room.path('second.js'))
     try:
@@ -331,7 +332,7 @@ def kept(room):
     same(files(room, 'fix', '--write', '--jobs', '4', 'second.js', 'link.js', 'a.js', './a.js'), (0, '', ''))
     same((room.text('a.js'), stat.S_IMODE(os.stat(room.path('a.js')).st_mode), os.readlink(room.path('second.js'))), (FIXED, 0o4751, b'link.js'))
     is_well(not has_attributes or os.getxattr(room.path('a.js'), 'user.note') == b'kept')
-    same(room.names(), ['a.js', 'link.js', 'second.js'])
+    same((room.names(), room.text('hard.js')), (['a.js', 'hard.js', 'link.js', 'second.js'], WRONG))
 
 
 def too_little_room(room):
@@ -400,6 +401,15 @@ def started(room, words, **more):
     return subprocess.Popen(['jslint-files', *words], cwd=room.folder, stdin=subprocess.DEVNULL, stdout=subprocess.PIPE, stderr=subprocess.PIPE, env=env, preexec_fn=ready)
 
 
+def ended(process):
+    """Both streams of a call that ends; one that hangs is killed."""
+    try:
+        return process.communicate(timeout=300)
+    except subprocess.TimeoutExpired:
+        process.kill()
+        raise
+
+
 def until(holds):
     for _ in range(1200):
         if holds():
@@ -425,13 +435,13 @@ def interrupted(room):
             for it in names:
                 room.put(it, WRONG)
             room.put('begun', '')
-            how = program(room, 'cat >/dev/null; printf "let x"; echo $$ >>begun; exec sleep 60')
+            how = program(room, 'cat >/dev/null; printf "let x"; echo $$ >>begun; exec sleep 600')
             known = names_below(room)
             process = started(room, [*words.split(), '--jobs', '2', *names], TMPDIR=f'{room.folder}/temporary', **how)
             until(lambda: room.text('begun').count('\n') == 2)
             is_well((len(names_below(room)) > len(known)) == (words != 'check'), 'there is no new file to be left')
             process.send_signal(number)
-            out, err = process.communicate()
+            out, err = ended(process)
             same((process.returncode, out, err, names_below(room)), (-number, b'', b'', known), f'{words} {number}')
             same([room.text(it) for it in names], [WRONG] * 6)
             until(lambda: not any(is_running(it) for it in room.text('begun').split()))
@@ -449,7 +459,7 @@ def interrupted_anywhere(room):
         process = started(room, ['fix', '--write', '--jobs', '3', *names], **how)
         until(lambda: room.text('begun').count('\n') >= stop)
         process.terminate()
-        process.communicate()
+        ended(process)
         is_well(process.returncode in (-signal.SIGTERM, 0), process.returncode)
         same(names_below(room), known)
         is_well(all(room.text(it) in (WRONG, FIXED) for it in names))
@@ -465,7 +475,7 @@ def broken_pipe_signal(room):
     until(lambda: room.text('begun').count('\n') == 2)
     process.send_signal(signal.SIGPIPE)
     room.put('go', '')
-    same((*process.communicate(), process.returncode), (b'', b'', 0))
+    same((*ended(process), process.returncode), (b'', b'', 0))
     same([room.text(f'{it}.js') for it in range(4)], [FIXED] * 4)
     same(room.names(), ['0.js', '1.js', '2.js', '3.js', 'begun', 'go', 'program'])
 
