@@ -47,6 +47,7 @@ GRAMMAR_SLIPS = [
     ('edition11', '    `super` `.` IdentifierName\n', ''),
     ('edition11', 'by ArrowFormalParameters', 'by ParenthesizedExpression'),
     ('edition11', 'TemplateLiteral[?Yield, ?Await, +Tagged]\n    SuperProperty', 'TemplateLiteral[?Yield, ?Await, ~Tagged]\n    SuperProperty'),
+    ('edition11', '    `try` Block[?Yield, ?Await, ?Return] Catch[?Yield, ?Await, ?Return]\n', '    `try` Block[?Yield, ?Await, +Return] Catch[?Yield, ?Await, ?Return]\n'),
     ('edition12', '%set numeric-separators', '# '),
     ('edition12', '`&&=`', '`||=`'),
 ]

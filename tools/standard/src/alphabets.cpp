@@ -6,7 +6,8 @@
 namespace standard {
 namespace {
 string replaced(string text, const string &what, const string &with) {
-    for (size_t at = 0; (at = text.find(what, at)) != string::npos; at += with.size()) text.replace(at, what.size(), with);
+    for (size_t at = 0; (at = text.find(what, at)) != string::npos; at += with.size())
+        text.replace(at, what.size(), with);
     return text;
 }
 
@@ -16,7 +17,8 @@ string unescaped(const string &text) { return text == "-" ? "" : replaced(replac
 vector<string> split(const string &line, const string &between) {
     vector<string> out;
     size_t from = 0;
-    for (size_t to; (to = line.find(between, from)) != string::npos; from = to + between.size()) out.push_back(line.substr(from, to - from));
+    for (size_t to; (to = line.find(between, from)) != string::npos; from = to + between.size())
+        out.push_back(line.substr(from, to - from));
     out.push_back(line.substr(from));
     return out;
 }
@@ -31,7 +33,8 @@ Alphabet read_alphabet(const string &line) {
     out.is_spaced = mode != "tight";
     out.before = unescaped(parts[1]);
     out.after = unescaped(parts[2]);
-    while (pieces >> piece) out.pieces.push_back(piece == "-" ? "-" : unescaped(piece));
+    while (pieces >> piece)
+        out.pieces.push_back(piece == "-" ? "-" : unescaped(piece));
     return out;
 }
 } // namespace
@@ -41,7 +44,8 @@ vector<Alphabet> read_alphabets(const string &path, const string &name) {
     if (!file) throw std::runtime_error("no file " + path);
     vector<Alphabet> out;
     for (string line; std::getline(file, line);)
-        if (!line.empty() && line[0] != '#' && (name.empty() || line.compare(0, name.size() + 1, name + " ") == 0)) out.push_back(read_alphabet(line));
+        if (!line.empty() && line[0] != '#' && (name.empty() || line.compare(0, name.size() + 1, name + " ") == 0))
+            out.push_back(read_alphabet(line));
     if (out.empty()) throw std::runtime_error("no alphabet " + name + " in " + path);
     return out;
 }
@@ -58,6 +62,7 @@ void Enumeration::walk(const string &prefix, int length, int longest, Reader *li
         living->recognise(joined(prefix, " "));
         if (living->is_dead()) return;
     }
-    for (const string &it : alphabet_.pieces) walk(joined(prefix, it), length + 1, longest, living, take);
+    for (const string &it : alphabet_.pieces)
+        walk(joined(prefix, it), length + 1, longest, living, take);
 }
 } // namespace standard

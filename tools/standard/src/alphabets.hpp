@@ -7,9 +7,9 @@ namespace standard {
 struct Alphabet {
     string name, before, after;
     vector<string> pieces;
-    bool is_spaced = true;      // whether a blank stands between two pieces
-    int full_length = 0;        // the length to which all strings are tried
-    int deep_length = 0;        // that to which those are whose beginnings can all be continued
+    bool is_spaced = true; // whether a blank stands between two pieces
+    int full_length = 0;   // the length to which all strings are tried
+    int deep_length = 0;   // that to which those are whose beginnings can all be continued
 };
 // The alphabets of a file; with a name only that one.
 vector<Alphabet> read_alphabets(const string &path, const string &name);

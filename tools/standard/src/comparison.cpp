@@ -17,7 +17,8 @@ string named(Verdict verdict, int error_number) {
 
 string shown(const string &text) {
     string out;
-    for (char c : text.size() > SHOWN_BYTES ? text.substr(0, SHOWN_BYTES) + " .." : text) out += c == '\n' ? string("\\n") : string(1, c);
+    for (char c : text.size() > SHOWN_BYTES ? text.substr(0, SHOWN_BYTES) + " .." : text)
+        out += c == '\n' ? string("\\n") : string(1, c);
     return out;
 }
 
@@ -42,7 +43,8 @@ void Tally::disagree(const string &how, const string &text) {
 
 long Tally::disagreement_count() const {
     long count = 0;
-    for (const auto &it : disagreements) count += it.second;
+    for (const auto &it : disagreements)
+        count += it.second;
     return count;
 }
 
@@ -73,13 +75,16 @@ void Comparison::compare(const string &text) {
     if (standard.reading.is_cover_ambiguous) tally.disagree("a cover is refined in two ways", text);
     if (standard.verdict != program.verdict || standard.error_number != program.error_number) {
         string reason = standard.reading.is_accepted ? "" : " (" + standard.reading.reason + ")";
-        tally.disagree("standard " + named(standard.verdict, standard.error_number) + reason + ", program " + named(program.verdict, program.error_number), text);
+        tally.disagree("standard " + named(standard.verdict, standard.error_number) + reason + ", program " +
+                           named(program.verdict, program.error_number),
+                       text);
     } else if (standard.verdict == Verdict::SyntaxError) {
         tally.refused++;
     } else if (standard.verdict == Verdict::EarlyError) {
         tally.early++;
         if (standard.place != program.place)
-            tally.disagree("place of E" + std::to_string(standard.error_number), text + "   [standard " + standard.place + ", program " + program.place + "]");
+            tally.disagree("place of E" + std::to_string(standard.error_number),
+                           text + "   [standard " + standard.place + ", program " + program.place + "]");
     } else {
         tally.accepted++;
         compare_trees(text, standard.reading, program);
@@ -93,29 +98,35 @@ void Comparison::compare_trees(const string &text, const Reading &reading, const
     if (tree != program.tree) return tally.disagree("tree", text + "\n        standard " + tree + "\n        program  " + program.tree);
     int pairs = program_pairs(text);
     if (pairs != estree.grouping_pairs())
-        tally.disagree("grouping pairs", text + "   [standard " + std::to_string(estree.grouping_pairs()) + ", program " + std::to_string(pairs) + "]");
+        tally.disagree("grouping pairs",
+                       text + "   [standard " + std::to_string(estree.grouping_pairs()) + ", program " + std::to_string(pairs) + "]");
 }
 
 void Comparison::cover(const ParseNode *node) {
     if (!node || node->is_leaf()) return;
     covered_.insert({node->production, node->alternative});
-    for (const ParseNode *it : node->children) cover(it);
+    for (const ParseNode *it : node->children)
+        cover(it);
 }
 
 void Comparison::report() const {
-    printf("  texts %ld: accepted by both, with one tree and number of pairs %ld, early error by both, with number and place %ld, refused by both %ld; disagreements %ld; nested too deep %ld\n",
+    printf("  texts %ld: accepted by both, with one tree and number of pairs %ld, early error by both, with number and place %ld, refused by both "
+           "%ld; disagreements %ld; nested too deep %ld\n",
            tally.texts, tally.accepted, tally.early, tally.refused, tally.disagreement_count(), tally.too_deep);
     for (const auto &it : tally.disagreements) {
         printf("  ! %ld x %s\n", it.second, it.first.c_str());
-        for (const string &text : tally.examples.at(it.first)) printf("      %s\n", shown(text).c_str());
+        for (const string &text : tally.examples.at(it.first))
+            printf("      %s\n", shown(text).c_str());
     }
     fflush(stdout);
 }
 
 void Comparison::report_uncovered() const {
     std::set<std::pair<int, int>> left;
-    for (const Rule &it : reader.grammar.rules) left.insert({reader.grammar.nonterminals[static_cast<size_t>(it.nonterminal)].production, it.alternative});
-    for (const auto &it : covered_) left.erase(it);
+    for (const Rule &it : reader.grammar.rules)
+        left.insert({reader.grammar.nonterminals[static_cast<size_t>(it.nonterminal)].production, it.alternative});
+    for (const auto &it : covered_)
+        left.erase(it);
     printf("alternatives in trees that both accept: %zu; in none: %zu\n", covered_.size(), left.size());
     for (const auto &it : left) {
         const Production &production = reader.grammar.source.productions[static_cast<size_t>(it.first)];

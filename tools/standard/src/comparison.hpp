@@ -40,7 +40,7 @@ class Comparison {
     void report_uncovered() const;
 
   private:
-    std::set<std::pair<int, int>> covered_;   // productions with the number of an alternative
+    std::set<std::pair<int, int>> covered_; // productions with the number of an alternative
 
     void compare_trees(const string &text, const Reading &reading, const ProgramAnswer &program);
     void cover(const ParseNode *node);

@@ -6,8 +6,10 @@ namespace {
 size_t index(int number) { return static_cast<size_t>(number); }
 } // namespace
 
-Derivations::Derivations(const Chart &chart, const vector<Token> &tokens, int shift, ParseNodes &nodes, std::function<bool(const ParseNode *)> is_unwanted)
-    : chart_(chart), grammar_(chart.grammar), tokens_(tokens), shift_(shift), count_(static_cast<int>(tokens.size())), nodes_(nodes), is_unwanted_(std::move(is_unwanted)) {
+Derivations::Derivations(const Chart &chart, const vector<Token> &tokens, int shift, ParseNodes &nodes,
+                         std::function<bool(const ParseNode *)> is_unwanted)
+    : chart_(chart), grammar_(chart.grammar), tokens_(tokens), shift_(shift), count_(static_cast<int>(tokens.size())), nodes_(nodes),
+      is_unwanted_(std::move(is_unwanted)) {
     index_items();
 }
 

@@ -11,7 +11,7 @@ struct ParseNode {
     int production = -1;
     unsigned parameters = 0;
     int alternative = 0;
-    int from = 0, to = 0;   // tokens
+    int from = 0, to = 0; // tokens
     vector<ParseNode *> children;
 
     bool is_leaf() const { return production < 0; }
@@ -52,8 +52,8 @@ class Derivations {
     ParseNodes &nodes_;
     std::function<bool(const ParseNode *)> is_unwanted_;
     std::map<Span, vector<ParseNode *>> known_;
-    vector<vector<Completed>> completed_;               // by place
-    vector<vector<std::pair<Dot, int>>> items_;         // by place, sorted
+    vector<vector<Completed>> completed_;       // by place
+    vector<vector<std::pair<Dot, int>>> items_; // by place, sorted
 
     void index_items();
     bool has_item(int place, Dot dot, int origin) const;

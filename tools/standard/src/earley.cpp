@@ -32,7 +32,8 @@ void ItemMarks::grow() {
     epochs_.assign(keys_.size(), 0);
     epoch_ = 1;
     used_ = 0;
-    for (uint64_t it : old) add({static_cast<Dot>(it >> 32), static_cast<int>(static_cast<unsigned>(it))});
+    for (uint64_t it : old)
+        add({static_cast<Dot>(it >> 32), static_cast<int>(static_cast<unsigned>(it))});
 }
 
 Chart::Chart(Grammar &given, const Lexer &lexer) : grammar(given), lexer_(lexer) {
@@ -92,7 +93,8 @@ void Chart::predict(ItemSet &set, size_t item, int nonterminal, int place) {
     set.last_waiting[index(nonterminal)] = static_cast<int>(item);
     if (predicted_[index(nonterminal)] != prediction_) {
         predicted_[index(nonterminal)] = prediction_;
-        for (int rule : grammar.nonterminals[index(nonterminal)].rules) add(set, {grammar.rules[index(rule)].first, place});
+        for (int rule : grammar.nonterminals[index(nonterminal)].rules)
+            add(set, {grammar.rules[index(rule)].first, place});
     }
     Item waiting = set.items[item];
     if (grammar.nonterminals[index(nonterminal)].is_nullable) add(set, {waiting.dot + 1, waiting.origin});
@@ -103,7 +105,8 @@ void Chart::begin(int nonterminal, const string &text) {
     text_ = &text;
     marks_.clear();
     ItemSet &set = emptied(0);
-    for (int rule : grammar.nonterminals[index(nonterminal)].rules) add(set, {grammar.rules[index(rule)].first, 0});
+    for (int rule : grammar.nonterminals[index(nonterminal)].rules)
+        add(set, {grammar.rules[index(rule)].first, 0});
     close(0, 0);
     set.settled = set.items.size();
 }
@@ -123,7 +126,8 @@ Goal Chart::goal(int place) {
 }
 
 bool Chart::is_spelled(const Token &token, const string &word) const {
-    return token.is_spelled() && static_cast<int>(word.size()) == token.end - token.start && text_->compare(index(token.start), word.size(), word) == 0;
+    return token.is_spelled() && static_cast<int>(word.size()) == token.end - token.start &&
+           text_->compare(index(token.start), word.size(), word) == 0;
 }
 
 // Whether these tokens come next.
@@ -144,7 +148,8 @@ void Chart::retract(int place) {
     ItemSet &set = sets[index(place)];
     if (!set.is_extended) return;
     auto shorten = [&](vector<int> &numbers) {
-        while (!numbers.empty() && index(numbers.back()) >= set.settled) numbers.pop_back();
+        while (!numbers.empty() && index(numbers.back()) >= set.settled)
+            numbers.pop_back();
     };
     set.items.resize(set.settled);
     set.next_waiting.assign(set.settled, -1);
@@ -166,8 +171,9 @@ vector<Item> Chart::settled_items(const ItemSet &set, const Token &token, const 
     for (int i : set.restricted) {
         Item item = set.items[index(i)];
         Element restriction = grammar.element(item.dot), next = grammar.element(item.dot + 1);
-        bool holds = restriction == NO_LINE_TERMINATOR ? !token.is_after_line_terminator && is_nonterminal(next)
-                                                       : is_allowed(grammar.source.lookaheads[index(restriction - FIRST_LOOKAHEAD)], token, following);
+        bool holds = restriction == NO_LINE_TERMINATOR
+                         ? !token.is_after_line_terminator && is_nonterminal(next)
+                         : is_allowed(grammar.source.lookaheads[index(restriction - FIRST_LOOKAHEAD)], token, following);
         if (holds) found.push_back({item.dot + 1, item.origin});
     }
     return found;
@@ -185,7 +191,8 @@ void Chart::extend(int place, const Token &token, const Token *following) {
         Element next = grammar.element(set.items[i].dot);
         if (is_nonterminal(next)) predicted_[index(next - FIRST_NONTERMINAL)] = prediction_;
     }
-    for (Item it : found) add(set, it);
+    for (Item it : found)
+        add(set, it);
     if (set.items.size() == set.settled) return;
     Goal goal = set.goal;
     close(place, set.settled);

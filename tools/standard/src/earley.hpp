@@ -13,11 +13,11 @@ struct Item {
 // The items at a place between two tokens.
 struct ItemSet {
     vector<Item> items;
-    vector<int> next_waiting;      // by item: the one before it that waits for the same nonterminal
-    vector<int> last_waiting;      // by nonterminal: the last item that waits for it
-    vector<int> scanning;          // the items whose dot stands before a terminal
-    vector<int> restricted;        // those whose dot stands before a restriction, which the next token settles
-    size_t settled = 0;            // how many items there were before the next token was looked at
+    vector<int> next_waiting; // by item: the one before it that waits for the same nonterminal
+    vector<int> last_waiting; // by nonterminal: the last item that waits for it
+    vector<int> scanning;     // the items whose dot stands before a terminal
+    vector<int> restricted;   // those whose dot stands before a restriction, which the next token settles
+    size_t settled = 0;       // how many items there were before the next token was looked at
     Goal goal;
     bool is_extended = false;
 };

@@ -26,7 +26,8 @@ void EarlyErrors::report_duplicates(const NamesAt &names, int number) {
 // The names that are among the others too.
 void EarlyErrors::report_shared(const NamesAt &names, const NamesAt &others, int number) {
     std::set<string> known;
-    for (const NameAt &it : others) known.insert(it.name);
+    for (const NameAt &it : others)
+        known.insert(it.name);
     for (const NameAt &it : names)
         if (known.count(it.name)) report(number, it.place);
 }
@@ -91,7 +92,8 @@ void EarlyErrors::walk(Node node, Surroundings around) {
 }
 
 void EarlyErrors::walk_children(Node node, const Surroundings &around) {
-    for (Node it : node->children) walk(it, around);
+    for (Node it : node->children)
+        walk(it, around);
 }
 
 // 12.2.8.1: the flags.
@@ -133,7 +135,8 @@ void EarlyErrors::assignment_property(Node node, const Surroundings &around) {
 void EarlyErrors::unary(Node node, const Surroundings &around) {
     if (is_token(node->children[0], "delete")) {
         ParseNode *operand = source_.bare(node->children[1]);
-        while (is(operand, "ParenthesizedExpression")) operand = source_.bare(operand->children[1]);
+        while (is(operand, "ParenthesizedExpression"))
+            operand = source_.bare(operand->children[1]);
         if (is(operand, "Identifier") || is(operand, "IdentifierReference")) report(2, source_.start(node));
     }
     walk_children(node, around);
@@ -285,7 +288,8 @@ void EarlyErrors::class_tail(Node node, const Surroundings &around) {
     walk(node->children[0], around);
     int constructors = 0;
     Node list = node->children[2] ? node->children[2]->children[0] : nullptr;
-    for (Node it : semantics_.items(list)) walk_class_element(it, around, node->children[0] != nullptr, constructors);
+    for (Node it : semantics_.items(list))
+        walk_class_element(it, around, node->children[0] != nullptr, constructors);
 }
 
 void EarlyErrors::walk_class_element(Node element, const Surroundings &around, bool is_derived, int &constructors) {

@@ -22,7 +22,7 @@ class EarlyErrors {
     struct Surroundings {
         bool is_in_loop = false, is_breakable = false, has_super_property = false, has_super_call = false, has_new_target = false;
         vector<string> labels, loop_labels;
-        vector<string> pending_labels;   // those right before the statement
+        vector<string> pending_labels; // those right before the statement
     };
     using Walk = void (EarlyErrors::*)(Node, const Surroundings &);
     const SourceText &source_;

@@ -5,7 +5,8 @@
 
 namespace standard {
 string quoted(const string &text) {
-    static const std::map<char, string> SHORT{{'"', "\\\""}, {'\\', "\\\\"}, {'\n', "\\n"}, {'\t', "\\t"}, {'\r', "\\r"}, {'\b', "\\b"}, {'\f', "\\f"}};
+    static const std::map<char, string> SHORT{{'"', "\\\""}, {'\\', "\\\\"}, {'\n', "\\n"}, {'\t', "\\t"},
+                                              {'\r', "\\r"}, {'\b', "\\b"},  {'\f', "\\f"}};
     string out = "\"";
     for (char c : text) {
         auto it = SHORT.find(c);
@@ -18,7 +19,8 @@ string quoted(const string &text) {
 
 string listed(const vector<string> &items) {
     string out = "[";
-    for (const string &it : items) out += (out.size() > 1 ? "," : "") + it;
+    for (const string &it : items)
+        out += (out.size() > 1 ? "," : "") + it;
     return out + "]";
 }
 
@@ -30,7 +32,8 @@ string Estree::object(const string &type, int start, int end, Fields fields) con
     fields.push_back({"end", std::to_string(end)});
     std::sort(fields.begin(), fields.end());
     string out = "{";
-    for (const auto &it : fields) out += (out.size() > 1 ? ",\"" : "\"") + it.first + "\":" + it.second;
+    for (const auto &it : fields)
+        out += (out.size() > 1 ? ",\"" : "\"") + it.first + "\":" + it.second;
     return out + "}";
 }
 
@@ -84,7 +87,8 @@ string Estree::parenthesized(Node node) {
 }
 
 void Estree::push_holes(Node elision, Items &out) const {
-    for (int i = elision ? elision->to - elision->from : 0; i > 0; i--) out.push_back("null");
+    for (int i = elision ? elision->to - elision->from : 0; i > 0; i--)
+        out.push_back("null");
 }
 
 string Estree::array_literal(Node node) {
@@ -105,7 +109,9 @@ void Estree::push_elements(Node node, Items &out) {
     }
 }
 
-string Estree::spread(Node first, Node argument) { return object("SpreadElement", source_.start(first), source_.end(argument), {{"argument", expression(argument)}}); }
+string Estree::spread(Node first, Node argument) {
+    return object("SpreadElement", source_.start(first), source_.end(argument), {{"argument", expression(argument)}});
+}
 
 string Estree::object_literal(Node node) {
     Items properties;
@@ -159,7 +165,8 @@ string Estree::template_literal(Node node) {
 }
 
 string Estree::member(int start, Node last, const string &of, const string &property, bool is_computed, bool is_optional) const {
-    return object("MemberExpression", start, source_.end(last), {{"object", of}, {"property", property}, {"computed", flag(is_computed)}, {"optional", flag(is_optional)}});
+    return object("MemberExpression", start, source_.end(last),
+                  {{"object", of}, {"property", property}, {"computed", flag(is_computed)}, {"optional", flag(is_optional)}});
 }
 
 string Estree::call(int start, Node last, const string &callee, const string &arguments, bool is_optional) const {
@@ -197,14 +204,17 @@ string Estree::super_node(Node node) const { return object("Super", node->childr
 
 string Estree::super_property(Node node) {
     bool is_computed = node->children.size() == 4;
-    return member(source_.start(node), node, super_node(node), is_computed ? expression(node->children[2]) : identifier(node->children[2]), is_computed, false);
+    return member(source_.start(node), node, super_node(node), is_computed ? expression(node->children[2]) : identifier(node->children[2]),
+                  is_computed, false);
 }
 
 string Estree::super_call(Node node) { return call(source_.start(node), node, super_node(node), arguments(node->children[1]), false); }
 
 string Estree::import_call(Node node) { return object("ImportExpression", node, {{"source", expression(node->children[2])}}); }
 
-string Estree::new_target(Node node) { return object("MetaProperty", node, {{"meta", identifier(node->children[0])}, {"property", identifier(node->children[2])}}); }
+string Estree::new_target(Node node) {
+    return object("MetaProperty", node, {{"meta", identifier(node->children[0])}, {"property", identifier(node->children[2])}});
+}
 
 string Estree::new_expression(Node node) { return object("NewExpression", node, {{"callee", expression(node->children[1])}, {"arguments", "[]"}}); }
 
@@ -229,11 +239,13 @@ string Estree::chain_parts(Node node, int start, const string &base) {
 string Estree::update(Node node) {
     bool is_prefix = node->children[0]->is_leaf();
     Node sign = node->children[is_prefix ? 0 : 1], operand = node->children[is_prefix ? 1 : 0];
-    return object("UpdateExpression", node, {{"operator", quoted(source_.spelled(sign))}, {"prefix", flag(is_prefix)}, {"argument", expression(operand)}});
+    return object("UpdateExpression", node,
+                  {{"operator", quoted(source_.spelled(sign))}, {"prefix", flag(is_prefix)}, {"argument", expression(operand)}});
 }
 
 string Estree::unary(Node node) {
-    return object("UnaryExpression", node, {{"operator", quoted(source_.spelled(node->children[0]))}, {"prefix", "true"}, {"argument", expression(node->children[1])}});
+    return object("UnaryExpression", node,
+                  {{"operator", quoted(source_.spelled(node->children[0]))}, {"prefix", "true"}, {"argument", expression(node->children[1])}});
 }
 
 string Estree::conditional(Node node) {
@@ -347,7 +359,8 @@ string Estree::pattern_property(Node node) {
     if (is(first, "PropertyName")) {
         string key = property_key(first, is_computed);
         Node element = node->children[2];
-        return property(node, key, is(element, "AssignmentElement") ? assignment_element(element) : binding_element(element), "init", false, false, is_computed);
+        return property(node, key, is(element, "AssignmentElement") ? assignment_element(element) : binding_element(element), "init", false, false,
+                        is_computed);
     }
     bool is_binding = is(first, "SingleNameBinding");
     string key = identifier(is_binding ? first->children[0] : first);

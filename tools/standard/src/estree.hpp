@@ -27,7 +27,9 @@ class Estree {
     bool is(Node node, const char *symbol) const { return source_.is(node, symbol); }
     bool is_token(Node node, const char *spelling) const { return source_.is_token(node, spelling); }
     string object(const string &type, int start, int end, Fields fields) const;
-    string object(const string &type, Node node, Fields fields = {}) const { return object(type, source_.start(node), source_.end(node), std::move(fields)); }
+    string object(const string &type, Node node, Fields fields = {}) const {
+        return object(type, source_.start(node), source_.end(node), std::move(fields));
+    }
     string identifier(Node node);
     string literal(Node node);
 
@@ -89,7 +91,8 @@ class Estree {
     // Functions and classes.
     string property_key(Node name, bool &is_computed);
     string property(Node node, const string &key, const string &value, const string &kind, bool is_method, bool is_shorthand, bool is_computed) const;
-    string function(const string &type, Node first, Node last, const string &id, const string &parameters, const string &body, Fields more = {}) const;
+    string function(const string &type, Node first, Node last, const string &id, const string &parameters, const string &body,
+                    Fields more = {}) const;
     string function_body(Node open, Node body, Node close);
     Method method(Node node);
     string class_of(const string &type, Node node, Node id, Node tail);

@@ -12,12 +12,19 @@ string Estree::property_key(Node name, bool &is_computed) {
     return source_.token(key).kind == Token::Kind::Word ? identifier(key) : literal(key);
 }
 
-string Estree::property(Node node, const string &key, const string &value, const string &kind, bool is_method, bool is_shorthand, bool is_computed) const {
+string Estree::property(Node node, const string &key, const string &value, const string &kind, bool is_method, bool is_shorthand,
+                        bool is_computed) const {
     return object("Property", node,
-                  {{"key", key}, {"value", value}, {"kind", quoted(kind)}, {"method", flag(is_method)}, {"shorthand", flag(is_shorthand)}, {"computed", flag(is_computed)}});
+                  {{"key", key},
+                   {"value", value},
+                   {"kind", quoted(kind)},
+                   {"method", flag(is_method)},
+                   {"shorthand", flag(is_shorthand)},
+                   {"computed", flag(is_computed)}});
 }
 
-string Estree::function(const string &type, Node first, Node last, const string &id, const string &parameters, const string &body, Fields more) const {
+string Estree::function(const string &type, Node first, Node last, const string &id, const string &parameters, const string &body,
+                        Fields more) const {
     more.insert(more.end(), {{"id", id}, {"params", parameters}, {"body", body}, {"generator", "false"}, {"async", "false"}});
     return object(type, source_.start(first), source_.end(last), more);
 }
@@ -62,8 +69,9 @@ void Estree::push_members(Node node, Items &out) {
     Method it = method(element->last());
     bool is_constructor = !is_static && it.kind == "method" && StaticSemantics(source_).prop_name(it.name) == "constructor";
     if (is_constructor) it.kind = "constructor";
-    out.push_back(object("MethodDefinition", element,
-                         {{"key", it.key}, {"value", it.function}, {"kind", quoted(it.kind)}, {"computed", flag(it.is_computed)}, {"static", flag(is_static)}}));
+    out.push_back(object(
+        "MethodDefinition", element,
+        {{"key", it.key}, {"value", it.function}, {"kind", quoted(it.kind)}, {"computed", flag(it.is_computed)}, {"static", flag(is_static)}}));
 }
 
 // The items of a StatementList; in a prologue directives are marked (14.1.1).
@@ -118,7 +126,8 @@ void Estree::push_declarators(Node node, Items &out) {
 // In the head of a for-in or for-of.
 string Estree::declaration_of_one(Node first, const string &kind, Node binding) {
     string declarator = object("VariableDeclarator", binding, {{"id", bound(binding)}, {"init", "null"}});
-    return object("VariableDeclaration", source_.start(first), source_.end(binding), {{"kind", quoted(kind)}, {"declarations", listed({declarator})}});
+    return object("VariableDeclaration", source_.start(first), source_.end(binding),
+                  {{"kind", quoted(kind)}, {"declarations", listed({declarator})}});
 }
 
 string Estree::statement(Node node) {
@@ -157,8 +166,12 @@ string Estree::debugger_statement(Node node) { return object("DebuggerStatement"
 string Estree::variable_statement(Node node) { return declaration(node, source_.end(node), "var", node->children[1]); }
 string Estree::expression_statement(Node node) { return object("ExpressionStatement", node, {{"expression", expression(node->children[0])}}); }
 string Estree::throw_statement(Node node) { return object("ThrowStatement", node, {{"argument", expression(node->children[1])}}); }
-string Estree::return_statement(Node node) { return object("ReturnStatement", node, {{"argument", node->children.size() > 2 ? expression(node->children[1]) : "null"}}); }
-string Estree::jump_statement(Node node) { return object(source_.name(node), node, {{"label", node->children.size() > 2 ? identifier(node->children[1]) : "null"}}); }
+string Estree::return_statement(Node node) {
+    return object("ReturnStatement", node, {{"argument", node->children.size() > 2 ? expression(node->children[1]) : "null"}});
+}
+string Estree::jump_statement(Node node) {
+    return object(source_.name(node), node, {{"label", node->children.size() > 2 ? identifier(node->children[1]) : "null"}});
+}
 
 string Estree::if_statement(Node node) {
     const auto &parts = node->children;
@@ -183,9 +196,9 @@ string Estree::for_in_of(Node node, size_t head) {
     const auto &parts = node->children;
     Node first = parts[head];
     bool is_of = is_token(parts[head + 1], "of");
-    string left = head == 3                      ? declaration_of_one(parts[2], "var", first)
+    string left = head == 3                     ? declaration_of_one(parts[2], "var", first)
                   : is(first, "ForDeclaration") ? declaration_of_one(first, source_.spelled(first->children[0]), first->children[1])
-                                                 : target(first);
+                                                : target(first);
     string right = expression(parts[head + 2]), body = statement(node->last());
     Fields fields{{"left", left}, {"right", right}, {"body", body}};
     if (is_of) fields.push_back({"await", "false"});
@@ -208,14 +221,16 @@ string Estree::for_statement(Node node, size_t head) {
 string Estree::switch_statement(Node node) {
     Items cases;
     string discriminant = expression(node->children[2]);
-    for (Node it : node->children[4]->children) push_cases(it, cases);
+    for (Node it : node->children[4]->children)
+        push_cases(it, cases);
     return object("SwitchStatement", node, {{"discriminant", discriminant}, {"cases", listed(cases)}});
 }
 
 void Estree::push_cases(Node node, Items &out) {
     if (is(node, "CaseClause") || is(node, "DefaultClause")) out.push_back(switch_case(node));
     else if (is(node, "CaseClauses"))
-        for (Node it : node->children) push_cases(it, out);
+        for (Node it : node->children)
+            push_cases(it, out);
 }
 
 string Estree::switch_case(Node node) {

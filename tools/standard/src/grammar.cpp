@@ -5,7 +5,8 @@ namespace standard {
 namespace {
 GrammarSource read_all(const vector<string> &files) {
     GrammarSource source;
-    for (const string &it : files) source.read(it);
+    for (const string &it : files)
+        source.read(it);
     return source;
 }
 
@@ -30,7 +31,8 @@ Grammar::Grammar(GrammarSource given) : source(std::move(given)) { read_reserved
 void Grammar::read_reserved_words() {
     int number = source.find("ReservedWord");
     if (number < 0) throw std::runtime_error("grammar: no ReservedWord");
-    for (const Alternative &it : source.productions[static_cast<size_t>(number)].alternatives) reserved_words.insert(it.symbols[0].text);
+    for (const Alternative &it : source.productions[static_cast<size_t>(number)].alternatives)
+        reserved_words.insert(it.symbols[0].text);
 }
 
 int Grammar::terminal(const string &text) {
@@ -60,7 +62,8 @@ int Grammar::nonterminal_of(int production, unsigned parameters) {
 
 void Grammar::expand() {
     if (expanded_ == nonterminals.size() && is_regexp_next.size() == elements.size() && expanded_) return;
-    while (expanded_ < nonterminals.size()) expand_nonterminal(static_cast<int>(expanded_++));
+    while (expanded_ < nonterminals.size())
+        expand_nonterminal(static_cast<int>(expanded_++));
     find_beginnings();
     find_insertions();
 }
@@ -72,8 +75,10 @@ void Grammar::expand_nonterminal(int nonterminal) {
     for (size_t i = 0; i < alternatives.size(); i++) {
         if (!holds(alternatives[i].guards, parameters)) continue;
         unsigned options = 0;
-        for (const Symbol &it : alternatives[i].symbols) options += it.is_optional;
-        for (unsigned given = 1u << options; given-- > 0;) add_rule(nonterminal, static_cast<int>(i), given);
+        for (const Symbol &it : alternatives[i].symbols)
+            options += it.is_optional;
+        for (unsigned given = 1u << options; given-- > 0;)
+            add_rule(nonterminal, static_cast<int>(i), given);
     }
 }
 
@@ -116,7 +121,8 @@ void Grammar::find_beginnings() {
     is_template_next.assign(elements.size(), 0);
     for (bool is_changed = true; is_changed;) {
         is_changed = false;
-        for (const Rule &it : rules) is_changed |= find_beginnings_of(it);
+        for (const Rule &it : rules)
+            is_changed |= find_beginnings_of(it);
     }
 }
 
@@ -143,7 +149,8 @@ bool Grammar::find_beginnings_of(const Rule &rule) {
     whole.is_nullable |= is_nullable;
     whole.may_begin_regexp |= is_regexp;
     whole.may_begin_template |= is_template;
-    return whole.is_nullable != before.is_nullable || whole.may_begin_regexp != before.may_begin_regexp || whole.may_begin_template != before.may_begin_template;
+    return whole.is_nullable != before.is_nullable || whole.may_begin_regexp != before.may_begin_regexp ||
+           whole.may_begin_template != before.may_begin_template;
 }
 
 // 11.9.1: no semicolon is inserted where it would be an EmptyStatement or one of the two in the head of a `for`; after the `)` of a
@@ -157,7 +164,8 @@ void Grammar::find_insertions() {
         const Rule &rule = rule_of(static_cast<Dot>(dot));
         const string &name = name_of(rule.nonterminal);
         bool is_loop = name == "IterationStatement", is_declaration = name == "LexicalDeclaration";
-        bool is_head = (is_loop && element(rule.first) == for_word) || (is_declaration && !(nonterminals[static_cast<size_t>(rule.nonterminal)].parameters & In));
+        bool is_head = (is_loop && element(rule.first) == for_word) ||
+                       (is_declaration && !(nonterminals[static_cast<size_t>(rule.nonterminal)].parameters & In));
         is_insertion_barred[dot] = name == "EmptyStatement" || is_head;
         is_do_end[dot] = is_loop && element(rule.first) == do_word;
     }

@@ -18,7 +18,7 @@ inline bool is_restriction(Element it) { return it >= FIRST_LOOKAHEAD; }
 struct Rule {
     int nonterminal, alternative, child_count = 0;
     Dot first = 0;
-    vector<int> children;   // of each element the number of the child that it makes, -1 for a restriction
+    vector<int> children; // of each element the number of the child that it makes, -1 for a restriction
 };
 struct Nonterminal {
     int production;
@@ -33,9 +33,9 @@ class Grammar {
     vector<Nonterminal> nonterminals;
     vector<Rule> rules;
     vector<Element> elements;
-    vector<int> rule_at;                                  // by dot
-    vector<char> is_regexp_next, is_template_next;        // by dot: what may come next from here on
-    vector<char> is_insertion_barred, is_do_end;          // by dot, before a `;`: 11.9.1
+    vector<int> rule_at;                           // by dot
+    vector<char> is_regexp_next, is_template_next; // by dot: what may come next from here on
+    vector<char> is_insertion_barred, is_do_end;   // by dot, before a `;`: 11.9.1
     vector<string> terminals;
     std::set<string> reserved_words;
 
@@ -49,7 +49,9 @@ class Grammar {
     // Expands what was asked for, and what this asks for.
     void expand();
 
-    const Production &production_of(int nonterminal) const { return source.productions[static_cast<size_t>(nonterminals[static_cast<size_t>(nonterminal)].production)]; }
+    const Production &production_of(int nonterminal) const {
+        return source.productions[static_cast<size_t>(nonterminals[static_cast<size_t>(nonterminal)].production)];
+    }
     const string &name_of(int nonterminal) const { return production_of(nonterminal).name; }
     const Rule &rule_of(Dot dot) const { return rules[static_cast<size_t>(rule_at[static_cast<size_t>(dot)])]; }
     Element element(Dot dot) const { return elements[static_cast<size_t>(dot)]; }

@@ -5,16 +5,18 @@
 
 namespace standard {
 namespace {
-const char *const PUNCTUATORS[] = {">>>=", "...", "===", "!==", "**=", "<<=", ">>=", ">>>", "&&=", "||=", "?\?=", "=>", "==", "!=", "<=", ">=", "&&", "||", "??", "?.", "++",
-                                   "--",   "+=",  "-=",  "*=",  "/=",  "%=",  "&=",  "|=",  "^=",  "<<",  ">>",  "**", "{",  "}",  "(",  ")",  "[",  "]",  ".",  ";",  ",",
-                                   "<",    ">",   "+",   "-",   "*",   "/",   "%",   "&",   "|",   "^",   "!",   "~",  "?",  ":",  "="};
+const char *const PUNCTUATORS[] = {
+    ">>>=", "...", "===", "!==", "**=", "<<=", ">>=", ">>>", "&&=", "||=", "?\?=", "=>", "==", "!=", "<=", ">=", "&&", "||", "??",
+    "?.",   "++",  "--",  "+=",  "-=",  "*=",  "/=",  "%=",  "&=",  "|=",  "^=",   "<<", ">>", "**", "{",  "}",  "(",  ")",  "[",
+    "]",    ".",   ";",   ",",   "<",   ">",   "+",   "-",   "*",   "/",   "%",    "&",  "|",  "^",  "!",  "~",  "?",  ":",  "="};
 
 int size_of(const string &text) { return static_cast<int>(text.size()); }
 unsigned byte_at(const string &text, int at) { return at < size_of(text) ? static_cast<unsigned char>(text[static_cast<size_t>(at)]) : 0; }
 bool is_at(const string &text, int at, const char *what) { return text.compare(static_cast<size_t>(at), strlen(what), what) == 0; }
 
 template <size_t N> bool is_in(const unsigned (&ranges)[N][2], unsigned code) {
-    auto it = std::upper_bound(std::begin(ranges), std::end(ranges), code, [](unsigned given, const unsigned(&range)[2]) { return given < range[0]; });
+    auto it =
+        std::upper_bound(std::begin(ranges), std::end(ranges), code, [](unsigned given, const unsigned(&range)[2]) { return given < range[0]; });
     return it != std::begin(ranges) && code <= (*(it - 1))[1];
 }
 bool is_digit(unsigned c) { return c >= '0' && c <= '9'; }
@@ -24,7 +26,8 @@ bool is_hex_digit(unsigned c) { return c < 0x80 && isxdigit(static_cast<int>(c))
 bool is_start(unsigned c) { return c < 0x80 ? isalpha(static_cast<int>(c)) || c == '$' || c == '_' : is_in(IDENTIFIER_STARTS, c); }
 bool is_part(unsigned c) { return is_start(c) || is_digit(c) || c == 0x200C || c == 0x200D || (c >= 0x80 && is_in(IDENTIFIER_PARTS, c)); }
 bool is_white_space(unsigned c) {
-    return c == 9 || c == 11 || c == 12 || c == 32 || c == 0xA0 || c == 0xFEFF || c == 0x1680 || (c >= 0x2000 && c <= 0x200A) || c == 0x202F || c == 0x205F || c == 0x3000;
+    return c == 9 || c == 11 || c == 12 || c == 32 || c == 0xA0 || c == 0xFEFF || c == 0x1680 || (c >= 0x2000 && c <= 0x200A) || c == 0x202F ||
+           c == 0x205F || c == 0x3000;
 }
 
 int name_end(const string &text, int at) {
@@ -93,7 +96,8 @@ Character character_at(const string &text, int at) {
 
 bool is_line_terminator(unsigned c) { return c == '\n' || c == '\r' || c == 0x2028 || c == 0x2029; }
 
-Lexer::Lexer(Grammar &grammar) : grammar_(grammar), has_separators_(grammar.has("numeric-separators")), has_private_identifiers_(grammar.has("private-identifiers")) {
+Lexer::Lexer(Grammar &grammar)
+    : grammar_(grammar), has_separators_(grammar.has("numeric-separators")), has_private_identifiers_(grammar.has("private-identifiers")) {
     identifier_name_ = grammar.terminal("<IdentifierName>");
     identifier_ = grammar.terminal("<IdentifierName but not ReservedWord>");
     number_ = grammar.terminal("<NumericLiteral>");

@@ -16,7 +16,8 @@
 namespace standard {
 namespace {
 constexpr size_t STACK_BYTES = 1ul << 30, MOST_SENTENCE_BYTES = 600;
-const char *const USAGE = "usage: standard size|read|derive|ask|enumerate|texts|random|positions|mutants --grammar FILE .. [OPTION ..] [ARGUMENT ..]\n";
+const char *const USAGE =
+    "usage: standard size|read|derive|ask|enumerate|texts|random|positions|mutants --grammar FILE .. [OPTION ..] [ARGUMENT ..]\n";
 
 struct Options {
     string command, goal_symbol = "Script";
@@ -55,13 +56,14 @@ string content(const string &path) {
 vector<string> texts_of(const string &path) {
     std::stringstream all(content(path));
     vector<string> out;
-    for (string it; std::getline(all, it, '\0');) out.push_back(it);
+    for (string it; std::getline(all, it, '\0');)
+        out.push_back(it);
     return out;
 }
 
 void print_size(const Grammar &grammar) {
-    printf("productions %zu, with parameters and options: nonterminals %zu, rules %zu, terminals %zu\n", grammar.source.productions.size(), grammar.nonterminals.size(), grammar.rules.size(),
-           grammar.terminals.size());
+    printf("productions %zu, with parameters and options: nonterminals %zu, rules %zu, terminals %zu\n", grammar.source.productions.size(),
+           grammar.nonterminals.size(), grammar.rules.size(), grammar.terminals.size());
 }
 
 void print_reading(Reader &reader, const string &path) {
@@ -70,9 +72,11 @@ void print_reading(Reader &reader, const string &path) {
         printf("%s: refused: %s (last token at byte %d)\n", path.c_str(), reading.reason.c_str(), reader.last_token_start());
         return;
     }
-    printf("%s: accepted, derivations %d, after refinement %d%s\n", path.c_str(), reading.derivations, reading.refined, reading.is_cover_ambiguous ? ", a cover in two ways" : "");
+    printf("%s: accepted, derivations %d, after refinement %d%s\n", path.c_str(), reading.derivations, reading.refined,
+           reading.is_cover_ambiguous ? ", a cover in two ways" : "");
     EarlyErrors early(reader.source);
-    for (const EarlyError &it : early.of_script(reading.tree)) printf("  E%d at byte %d\n", it.number, it.place);
+    for (const EarlyError &it : early.of_script(reading.tree))
+        printf("  E%d at byte %d\n", it.number, it.place);
     Estree estree(reader.source);
     string tree = estree.program(reading.tree);
     printf("%s\npairs %d\n", tree.c_str(), estree.grouping_pairs());
@@ -97,8 +101,8 @@ void print_answers(Reader &reader, const string &path) {
 }
 
 void report_conflicts(const Reader &reader) {
-    printf("places where two goals read the next character otherwise: / and a regular expression %ld, } and a template's part %ld\n", reader.conflicts().div_and_regexp,
-           reader.conflicts().brace_and_template);
+    printf("places where two goals read the next character otherwise: / and a regular expression %ld, } and a template's part %ld\n",
+           reader.conflicts().div_and_regexp, reader.conflicts().brace_and_template);
 }
 
 // An alphabet's strings to the full length; then, by length, those behind living beginnings.
@@ -112,11 +116,13 @@ void enumerate(const Options &options, Comparison &comparison, const Alphabet &a
     bool is_stopped = false;
     try {
         Enumeration(alphabet).each(full, take);
-        for (int length = full + 1; length <= deep; reached = length++) Enumeration(alphabet).each_living(length, comparison.reader, take);
+        for (int length = full + 1; length <= deep; reached = length++)
+            Enumeration(alphabet).each_living(length, comparison.reader, take);
     } catch (Stopped) {
         is_stopped = true;
     }
-    printf("%s (%zu pieces): all strings up to length %d, living ones up to %d%s\n", alphabet.name.c_str(), alphabet.pieces.size(), full, reached, is_stopped ? "; stopped" : "");
+    printf("%s (%zu pieces): all strings up to length %d, living ones up to %d%s\n", alphabet.name.c_str(), alphabet.pieces.size(), full, reached,
+           is_stopped ? "; stopped" : "");
 }
 
 bool run_enumeration(const Options &options, Reader &reader) {
@@ -164,7 +170,8 @@ bool run_sentences(const Options &options, Reader &reader) {
 
 bool run_texts(const Options &options, Reader &reader) {
     Comparison comparison(reader);
-    for (const string &it : texts_of(argument(options, 0))) comparison.compare(it);
+    for (const string &it : texts_of(argument(options, 0)))
+        comparison.compare(it);
     printf("texts of %s\n", argument(options, 0).c_str());
     return finished(comparison);
 }
@@ -182,7 +189,8 @@ bool run(const Options &options) {
     bool is_well = true;
     if (options.command == "size") print_size(grammar);
     else if (options.command == "read")
-        for (const string &it : options.arguments) print_reading(reader, it);
+        for (const string &it : options.arguments)
+            print_reading(reader, it);
     else if (options.command == "derive") print_derivations(reader, argument(options, 0));
     else if (options.command == "ask") print_answers(reader, argument(options, 0));
     else if (options.command == "enumerate") is_well = run_enumeration(options, reader);
@@ -243,7 +251,8 @@ int main(int count, char **words) {
     call.words.assign(words + 1, words + count);
     pthread_attr_t attributes;
     pthread_t thread;
-    if (pthread_attr_init(&attributes) || pthread_attr_setstacksize(&attributes, standard::STACK_BYTES) || pthread_create(&thread, &attributes, standard::answer, &call)) {
+    if (pthread_attr_init(&attributes) || pthread_attr_setstacksize(&attributes, standard::STACK_BYTES) ||
+        pthread_create(&thread, &attributes, standard::answer, &call)) {
         fputs("standard: no thread\n", stderr);
         return 2;
     }

@@ -7,10 +7,12 @@
 namespace standard {
 namespace {
 // The symbols of expressions, loosest first: a slip takes the next one.
-const vector<string> LEVELS{"Expression",          "AssignmentExpression",  "ConditionalExpression",    "ShortCircuitExpression", "LogicalORExpression", "LogicalANDExpression",
-                            "BitwiseORExpression", "BitwiseXORExpression",  "BitwiseANDExpression",     "EqualityExpression",     "RelationalExpression", "ShiftExpression",
-                            "AdditiveExpression",  "MultiplicativeExpression", "ExponentiationExpression", "UnaryExpression",        "UpdateExpression",    "LeftHandSideExpression",
-                            "CallExpression",      "MemberExpression",      "PrimaryExpression"};
+const vector<string> LEVELS{"Expression",           "AssignmentExpression",     "ConditionalExpression",    "ShortCircuitExpression",
+                            "LogicalORExpression",  "LogicalANDExpression",     "BitwiseORExpression",      "BitwiseXORExpression",
+                            "BitwiseANDExpression", "EqualityExpression",       "RelationalExpression",     "ShiftExpression",
+                            "AdditiveExpression",   "MultiplicativeExpression", "ExponentiationExpression", "UnaryExpression",
+                            "UpdateExpression",     "LeftHandSideExpression",   "CallExpression",           "MemberExpression",
+                            "PrimaryExpression"};
 constexpr int ALPHABET_LENGTH = 3;
 
 template <class Item> void erase_at(vector<Item> &items, size_t at) { items.erase(items.begin() + static_cast<long>(at)); }
@@ -19,13 +21,16 @@ template <class Item> void erase_at(vector<Item> &items, size_t at) { items.eras
 class SlipMaker {
   public:
     SlipMaker(const GrammarSource &source, size_t production, size_t alternative, vector<Mutant> &out)
-        : source_(source), production_(production), alternative_(alternative), given_(source.productions[production].alternatives[alternative]), out_(out) {}
+        : source_(source), production_(production), alternative_(alternative), given_(source.productions[production].alternatives[alternative]),
+          out_(out) {}
 
     void make() {
         Mutant &gone = add("alternative gone");
         erase_at(gone.source.productions[production_].alternatives, alternative_);
-        for (size_t i = 0; i < given_.guards.size(); i++) erase_at(altered(add("guard gone")).guards, i);
-        for (size_t i = 0; i < given_.symbols.size(); i++) make_of(i);
+        for (size_t i = 0; i < given_.guards.size(); i++)
+            erase_at(altered(add("guard gone")).guards, i);
+        for (size_t i = 0; i < given_.symbols.size(); i++)
+            make_of(i);
     }
 
   private:
@@ -48,7 +53,8 @@ class SlipMaker {
         if (is_lookahead) make_of_lookahead(symbol);
         if (symbol.is_optional) altered(add("option gone from " + symbol.text)).symbols[at].is_optional = false;
         if (symbol.kind != Symbol::Kind::Nonterminal) return;
-        for (size_t i = 0; i < symbol.arguments.size(); i++) make_of_argument(at, i);
+        for (size_t i = 0; i < symbol.arguments.size(); i++)
+            make_of_argument(at, i);
         make_of_level(at);
     }
 
@@ -93,8 +99,10 @@ class SlipMaker {
 // Whether a nonterminal derives itself alone: then it has no end of derivations.
 class SelfDerivation {
   public:
-    explicit SelfDerivation(const Grammar &grammar) : grammar_(grammar), units_(grammar.nonterminals.size()), states_(grammar.nonterminals.size(), State::New) {
-        for (const Rule &it : grammar.rules) find_units(it);
+    explicit SelfDerivation(const Grammar &grammar)
+        : grammar_(grammar), units_(grammar.nonterminals.size()), states_(grammar.nonterminals.size(), State::New) {
+        for (const Rule &it : grammar.rules)
+            find_units(it);
     }
 
     bool exists() {
@@ -136,7 +144,8 @@ class SelfDerivation {
 vector<Mutant> mutants_of(const GrammarSource &source) {
     vector<Mutant> out;
     for (size_t i = 0; i < source.productions.size(); i++)
-        for (size_t j = 0; j < source.productions[i].alternatives.size(); j++) SlipMaker(source, i, j, out).make();
+        for (size_t j = 0; j < source.productions[i].alternatives.size(); j++)
+            SlipMaker(source, i, j, out).make();
     uint64_t state = 1;
     for (size_t i = out.size(); i > 1; i--) {
         state = state * 6364136223846793005ull + 1442695040888963407ull;
@@ -146,7 +155,8 @@ vector<Mutant> mutants_of(const GrammarSource &source) {
 }
 
 MutantRun::MutantRun(const vector<string> &files, const vector<Alphabet> &alphabets) {
-    for (const string &it : files) source_.read(it);
+    for (const string &it : files)
+        source_.read(it);
     Grammar grammar(source_);
     Reader reader(grammar);
     know_positions(reader);
@@ -167,7 +177,8 @@ void MutantRun::know_positions(Reader &reader) {
     Positions(reader.grammar, reader.start_symbol()).texts([&](int production, const string &text) {
         by_production[source_.productions[static_cast<size_t>(production)].name].insert(know(text, numbers));
     });
-    for (const auto &it : by_production) nearby_[it.first].assign(it.second.begin(), it.second.end());
+    for (const auto &it : by_production)
+        nearby_[it.first].assign(it.second.begin(), it.second.end());
     for (size_t i = 0; i < texts_.size(); i++)
         if (texts_[i].text.find('\n') == string::npos) elsewhere_.push_back(i);
 }
@@ -206,7 +217,8 @@ bool MutantRun::run(size_t most, const vector<string> &words, const std::functio
     vector<string> unshown;
     size_t tried = 0;
     for (const Mutant &it : mutants) {
-        bool is_wanted = words.empty() || std::any_of(words.begin(), words.end(), [&](const string &word) { return it.slip.find(word) != string::npos; });
+        bool is_wanted =
+            words.empty() || std::any_of(words.begin(), words.end(), [&](const string &word) { return it.slip.find(word) != string::npos; });
         if (!is_wanted) continue;
         if (tried == most || is_over()) break;
         tried++;
@@ -214,9 +226,12 @@ bool MutantRun::run(size_t most, const vector<string> &words, const std::functio
         counts[found]++;
         if (found == Outcome::Unshown) unshown.push_back(it.slip);
     }
-    printf("slips %zu, tried %zu: shown at positions of the production %zu, by other texts %zu, not shown %zu; a symbol derives itself %zu, no position in the profile %zu\n", mutants.size(), tried,
-           counts[Outcome::ShownNearby], counts[Outcome::ShownElsewhere], counts[Outcome::Unshown], counts[Outcome::DerivesItself], counts[Outcome::Unreached]);
-    for (const string &it : unshown) printf("    %s\n", it.c_str());
+    printf("slips %zu, tried %zu: shown at positions of the production %zu, by other texts %zu, not shown %zu; a symbol derives itself %zu, no "
+           "position in the profile %zu\n",
+           mutants.size(), tried, counts[Outcome::ShownNearby], counts[Outcome::ShownElsewhere], counts[Outcome::Unshown],
+           counts[Outcome::DerivesItself], counts[Outcome::Unreached]);
+    for (const string &it : unshown)
+        printf("    %s\n", it.c_str());
     return tried > 0;
 }
 } // namespace standard

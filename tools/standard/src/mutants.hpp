@@ -30,8 +30,8 @@ class MutantRun {
     enum class Outcome { ShownNearby, ShownElsewhere, Unshown, DerivesItself, Unreached };
     GrammarSource source_;
     vector<Known> texts_;
-    std::map<string, vector<size_t>> nearby_;   // by production: the texts at its positions
-    vector<size_t> elsewhere_;                  // texts of all productions and of the alphabets
+    std::map<string, vector<size_t>> nearby_; // by production: the texts at its positions
+    vector<size_t> elsewhere_;                // texts of all productions and of the alphabets
 
     void know_positions(Reader &reader);
     void know_alphabets(const vector<Alphabet> &alphabets);

@@ -14,12 +14,14 @@ string squeezed(const string &text) {
     string out;
     for (char c : text)
         if (c != ' ' || (!out.empty() && out.back() != ' ')) out += c;
-    while (!out.empty() && out.back() == ' ') out.pop_back();
+    while (!out.empty() && out.back() == ' ')
+        out.pop_back();
     return out;
 }
 
 size_t end_of_name(const string &text, size_t at) {
-    while (at < text.size() && isalpha(static_cast<unsigned char>(text[at]))) at++;
+    while (at < text.size() && isalpha(static_cast<unsigned char>(text[at])))
+        at++;
     return at;
 }
 
@@ -39,7 +41,8 @@ class AlternativeReader {
 
     Alternative read() {
         out_.text = text_;
-        while (at_ < text_.size()) read_element();
+        while (at_ < text_.size())
+            read_element();
         return out_;
     }
 
@@ -118,7 +121,8 @@ class AlternativeReader {
         at_ = end;
         if (text_[at_] == '[') {
             end = find(']', at_);
-            for (const string &it : listed(text_.substr(at_ + 1, end - at_ - 1))) symbol.arguments.push_back({parameter_named(it.substr(1)), it[0]});
+            for (const string &it : listed(text_.substr(at_ + 1, end - at_ - 1)))
+                symbol.arguments.push_back({parameter_named(it.substr(1)), it[0]});
             at_ = end + 1;
         }
         symbol.is_optional = text_[at_] == '?';
@@ -164,7 +168,8 @@ int GrammarSource::find(const string &name) const {
 void GrammarSource::read(const string &path) {
     std::ifstream file(path);
     if (!file) throw std::runtime_error("no file " + path);
-    for (string line; std::getline(file, line);) read_line(line);
+    for (string line; std::getline(file, line);)
+        read_line(line);
 }
 
 void GrammarSource::read_line(const string &line) {
@@ -195,7 +200,8 @@ void GrammarSource::read_head(const string &line) {
     Production &production = productions[static_cast<size_t>(current_)];
     production = {name, clause_, 0, {}};
     if (line[end] != '[') return;
-    for (const string &it : listed(line.substr(end + 1, line.find(']', end) - end - 1))) production.parameters |= parameter_named(it);
+    for (const string &it : listed(line.substr(end + 1, line.find(']', end) - end - 1)))
+        production.parameters |= parameter_named(it);
 }
 
 // `%refine Parent : Cover by Symbol`.
@@ -213,13 +219,15 @@ void GrammarSource::read_alternative(const string &line) {
         alternatives.push_back(read);
         return;
     }
-    for (const Symbol &it : read.symbols) alternatives.push_back({"`" + it.text + "`", {}, {it}});
+    for (const Symbol &it : read.symbols)
+        alternatives.push_back({"`" + it.text + "`", {}, {it}});
 }
 
 // `drop Name` takes out each alternative that names it.
 void GrammarSource::drop_symbol(const string &name) {
     size_t count = 0;
-    for (Production &it : productions) count += take_out(it.alternatives, [&](const Alternative &each) { return names(each, name); });
+    for (Production &it : productions)
+        count += take_out(it.alternatives, [&](const Alternative &each) { return names(each, name); });
     if (!count) throw std::runtime_error("grammar: nothing to drop: " + name);
 }
 

@@ -4,37 +4,189 @@
 
 namespace standard {
 namespace {
-const char *const PROBES[] = {
-    "", "a", "a , b", "a = b", "a += b", "a ? b : c", "a ?? b", "a || b", "a && b", "a | b", "a ^ b", "a & b", "a == b", "a < b", "a in b", "a instanceof b", "a << b", "a + b",
-    "a * b", "a ** b", "- a", "typeof a", "delete a . b", "++ a", "a ++", "a ( )", "a ?. b", "a ?. ( )", "new a", "new a ( )", "a . b", "a `t`", "( a )", "( a , b )", "( a in b )",
-    "{ }", "{ a }", "{ a = 1 }", "{ a : b }", "{ ... a }", "[ ]", "[ a ]", "[ a = 1 ]", "[ , ]", "( { a } )", "( [ a ] )", "function ( ) { }", "function f ( ) { }", "class { }", "class A { }",
-    "x => x", "x => { }", "( ) => { }", "( a , b ) => a in b", "x => a , b", "a ? b : c in d", "a = b in c", "( ... a ) => a", "( a , ) => a", "( a = b in c , ) => d", "( a = b in c , ... d ) => d", "( a = b in c , ... [ d ] ) => d", "async", "await", "of", "let", "yield", "/r/", "`t`",
-    "`${ a }`", "this", "super . a", "super ( )", "new . target", "import ( a )", "null", "1", "'s'", "... a", "... [ a ]", "... { a }", "... a . b", "a . b = 1", "if", "get a",
-    "static a ( ) { }", "get a ( ) { }", "set a ( b ) { }", "constructor ( ) { }", "a ( ) { }", "[ a ] ( ) { }", "'s' : a", "[ a ] : b", "a : b", "a : ;", "a : b in c", "return ;", "return", "var a ;",
-    "let a ;", "const a = 1 ;", "break ;", "continue ;", "throw a ;", "debugger ;", "if ( a ) ;", "if ( a ) ; else ;", "while ( a ) ;", "do ; while ( a )", "do ; while ( a ) ;",
-    "for ( ; ; ) ;", "for ( a in b ) ;", "for ( a of b ) ;", "switch ( a ) { }", "try { } finally { }", "try { return ; } catch { return ; }", "try { } catch { return ; } finally { return ; }", ";", "; ;", "a ;", "a \n b", "eval", "arguments", "a ,", ", a",
-    "var a", "let a", "const a", "let [ a ]", "var { a } = b", "var a = b in c", "let a = b in c", "( a ) = b", "a . b . c", "a [ b ]", "a [ b , c ]", "a ? . 5 : b", "extends a",
-    "extends a . b", "extends a ( )", "extends { }", "extends a , b", "extends ( a , b )", "extends - a", "extends new a", "extends a ?. b", "extends x => x"};
+const char *const PROBES[] = {"",
+                              "a",
+                              "a , b",
+                              "a = b",
+                              "a += b",
+                              "a ? b : c",
+                              "a ?? b",
+                              "a || b",
+                              "a && b",
+                              "a | b",
+                              "a ^ b",
+                              "a & b",
+                              "a == b",
+                              "a < b",
+                              "a in b",
+                              "a instanceof b",
+                              "a << b",
+                              "a + b",
+                              "a * b",
+                              "a ** b",
+                              "- a",
+                              "typeof a",
+                              "delete a . b",
+                              "++ a",
+                              "a ++",
+                              "a ( )",
+                              "a ?. b",
+                              "a ?. ( )",
+                              "new a",
+                              "new a ( )",
+                              "a . b",
+                              "a `t`",
+                              "( a )",
+                              "( a , b )",
+                              "( a in b )",
+                              "{ }",
+                              "{ a }",
+                              "{ a = 1 }",
+                              "{ a : b }",
+                              "{ ... a }",
+                              "[ ]",
+                              "[ a ]",
+                              "[ a = 1 ]",
+                              "[ , ]",
+                              "( { a } )",
+                              "( [ a ] )",
+                              "function ( ) { }",
+                              "function f ( ) { }",
+                              "class { }",
+                              "class A { }",
+                              "x => x",
+                              "x => { }",
+                              "( ) => { }",
+                              "( a , b ) => a in b",
+                              "x => a , b",
+                              "a ? b : c in d",
+                              "a = b in c",
+                              "( ... a ) => a",
+                              "( a , ) => a",
+                              "( a = b in c , ) => d",
+                              "( a = b in c , ... d ) => d",
+                              "( a = b in c , ... [ d ] ) => d",
+                              "async",
+                              "await",
+                              "of",
+                              "let",
+                              "yield",
+                              "/r/",
+                              "`t`",
+                              "`${ a }`",
+                              "this",
+                              "super . a",
+                              "super ( )",
+                              "new . target",
+                              "import ( a )",
+                              "null",
+                              "1",
+                              "'s'",
+                              "... a",
+                              "... [ a ]",
+                              "... { a }",
+                              "... a . b",
+                              "a . b = 1",
+                              "if",
+                              "get a",
+                              "static a ( ) { }",
+                              "get a ( ) { }",
+                              "set a ( b ) { }",
+                              "constructor ( ) { }",
+                              "a ( ) { }",
+                              "[ a ] ( ) { }",
+                              "'s' : a",
+                              "[ a ] : b",
+                              "a : b",
+                              "a : ;",
+                              "a : b in c",
+                              "return ;",
+                              "return",
+                              "var a ;",
+                              "let a ;",
+                              "const a = 1 ;",
+                              "break ;",
+                              "continue ;",
+                              "throw a ;",
+                              "debugger ;",
+                              "if ( a ) ;",
+                              "if ( a ) ; else ;",
+                              "while ( a ) ;",
+                              "do ; while ( a )",
+                              "do ; while ( a ) ;",
+                              "for ( ; ; ) ;",
+                              "for ( a in b ) ;",
+                              "for ( a of b ) ;",
+                              "switch ( a ) { }",
+                              "try { } finally { }",
+                              "try { return ; } catch { return ; }",
+                              "try { } catch { return ; } finally { return ; }",
+                              ";",
+                              "; ;",
+                              "a ;",
+                              "a \n b",
+                              "eval",
+                              "arguments",
+                              "a ,",
+                              ", a",
+                              "var a",
+                              "let a",
+                              "const a",
+                              "let [ a ]",
+                              "var { a } = b",
+                              "var a = b in c",
+                              "let a = b in c",
+                              "( a ) = b",
+                              "a . b . c",
+                              "a [ b ]",
+                              "a [ b , c ]",
+                              "a ? . 5 : b",
+                              "extends a",
+                              "extends a . b",
+                              "extends a ( )",
+                              "extends { }",
+                              "extends a , b",
+                              "extends ( a , b )",
+                              "extends - a",
+                              "extends new a",
+                              "extends a ?. b",
+                              "extends x => x"};
 // What is tried for a semicolon that is left out.
 const char *const CONTINUATIONS[] = {"", "( c )", "/ c /", "++ c"};
 // (a name is the shortest expression, so that targets are valid; `yield` is never one)
-const std::map<string, long> LENGTHS{{"yield", 100}, {"this", 2}, {"null", 2}, {"true", 2}, {"false", 2}, {"<NumericLiteral>", 2}, {"<StringLiteral>", 2},
-                                     {"<RegularExpressionLiteral>", 2}, {"<NoSubstitutionTemplate>", 2}};
-const std::map<string, string> SPELLED{{"<IdentifierName but not ReservedWord>", "a"}, {"<IdentifierName>", "a"}, {"<NumericLiteral>", "1"}, {"<StringLiteral>", "'s'"},
-                                       {"<RegularExpressionLiteral>", "/r/"}, {"<NoSubstitutionTemplate>", "``"}, {"<TemplateHead>", "`${"}, {"<TemplateMiddle>", "}${"}, {"<TemplateTail>", "}`"}};
+const std::map<string, long> LENGTHS{{"yield", 100},
+                                     {"this", 2},
+                                     {"null", 2},
+                                     {"true", 2},
+                                     {"false", 2},
+                                     {"<NumericLiteral>", 2},
+                                     {"<StringLiteral>", 2},
+                                     {"<RegularExpressionLiteral>", 2},
+                                     {"<NoSubstitutionTemplate>", 2}};
+const std::map<string, string> SPELLED{{"<IdentifierName but not ReservedWord>", "a"},
+                                       {"<IdentifierName>", "a"},
+                                       {"<NumericLiteral>", "1"},
+                                       {"<StringLiteral>", "'s'"},
+                                       {"<RegularExpressionLiteral>", "/r/"},
+                                       {"<NoSubstitutionTemplate>", "``"},
+                                       {"<TemplateHead>", "`${"},
+                                       {"<TemplateMiddle>", "}${"},
+                                       {"<TemplateTail>", "}`"}};
 
 size_t index(int number) { return static_cast<size_t>(number); }
 
 vector<string> split(const string &text) {
     std::stringstream in(text);
     vector<string> out;
-    for (string it; std::getline(in, it, ' ');) out.push_back(it);
+    for (string it; std::getline(in, it, ' ');)
+        out.push_back(it);
     return out;
 }
 
 string joined(const vector<string> &words) {
     string out;
-    for (const string &it : words) out += (out.empty() ? "" : " ") + it;
+    for (const string &it : words)
+        out += (out.empty() ? "" : " ") + it;
     return out;
 }
 
@@ -107,7 +259,8 @@ void Positions::find_contexts(int start_symbol) {
     reach(grammar_.nonterminal("ArrowFormalParameters", 0), {"("}, {"=>", "a", ")"});
     for (bool is_changed = true; is_changed;) {
         is_changed = false;
-        for (const Rule &it : grammar_.rules) is_changed |= reach_children(it);
+        for (const Rule &it : grammar_.rules)
+            is_changed |= reach_children(it);
     }
 }
 
@@ -121,7 +274,8 @@ bool Positions::reach(int nonterminal, const Words &before, const Words &after) 
 }
 
 bool Positions::reach_children(const Rule &rule) {
-    if (!is_reached_[index(rule.nonterminal)] || length(rule) >= UNREACHED || grammar_.name_of(rule.nonterminal).compare(0, 5, "Cover") == 0) return false;
+    if (!is_reached_[index(rule.nonterminal)] || length(rule) >= UNREACHED || grammar_.name_of(rule.nonterminal).compare(0, 5, "Cover") == 0)
+        return false;
     bool is_changed = false;
     for (Dot dot = rule.first; dot < grammar_.end_of(rule); dot++) {
         if (!is_nonterminal(grammar_.element(dot))) continue;
@@ -170,6 +324,7 @@ void Positions::try_around(int production, const Words &words, size_t from, size
     Words without = words;
     without.erase(without.begin() + static_cast<long>(to));
     take(production, joined(without));
-    for (const char *it : CONTINUATIONS) take(production, joined(with(with(without, to, it), to, "\n")));
+    for (const char *it : CONTINUATIONS)
+        take(production, joined(with(with(without, to, it), to, "\n")));
 }
 } // namespace standard

@@ -18,10 +18,10 @@ class Positions {
     using Words = vector<string>;
     static constexpr long UNREACHED = 1 << 20;
     Grammar &grammar_;
-    vector<long> lengths_;       // by nonterminal: how many tokens its shortest sentence has
-    vector<int> shortest_;       // the rule of that
+    vector<long> lengths_; // by nonterminal: how many tokens its shortest sentence has
+    vector<int> shortest_; // the rule of that
     vector<char> is_reached_;
-    vector<Words> before_, after_;   // the shortest sentence around it
+    vector<Words> before_, after_; // the shortest sentence around it
 
     long length(const Rule &rule) const;
     void find_shortest();

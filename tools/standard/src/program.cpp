@@ -35,7 +35,8 @@ class ValuelessJson {
         if (json_[at_] == '[') return array();
         if (json_[at_] == '{') return object();
         size_t from = at_;
-        while (!strchr(",]}", json_[at_])) at_++;
+        while (!strchr(",]}", json_[at_]))
+            at_++;
         return json_.substr(from, at_ - from);
     }
 
@@ -45,7 +46,8 @@ class ValuelessJson {
 
     string text() {
         size_t from = at_++;
-        while (json_[at_] != '"') at_ += json_[at_] == '\\' ? 2 : 1;
+        while (json_[at_] != '"')
+            at_ += json_[at_] == '\\' ? 2 : 1;
         at_++;
         return json_.substr(from, at_ - from);
     }

@@ -10,9 +10,9 @@ enum class Verdict { Accepted, SyntaxError, EarlyError, TooDeep, Other };
 struct ProgramAnswer {
     Verdict verdict = Verdict::Other;
     int error_number = 0;
-    string place;    // of an early error, as LINE:COLUMN
-    string refusal;  // the words of a refusal
-    string tree;     // of an accepted text: its JSON without the values of literals and templates
+    string place;   // of an early error, as LINE:COLUMN
+    string refusal; // the words of a refusal
+    string tree;    // of an accepted text: its JSON without the values of literals and templates
 };
 
 ProgramAnswer program_answer(const string &text);

@@ -5,11 +5,13 @@
 namespace standard {
 namespace {
 // The symbols that the static semantics asks for beside those that the start symbol reaches.
-const char *const SUPPLEMENTAL[] = {"ParenthesizedExpression", "AssignmentPattern", "ArrowFormalParameters", "CallMemberExpression", "AsyncArrowHead"};
+const char *const SUPPLEMENTAL[] = {"ParenthesizedExpression", "AssignmentPattern", "ArrowFormalParameters", "CallMemberExpression",
+                                    "AsyncArrowHead"};
 } // namespace
 
 ParseNode *SourceText::bare(ParseNode *node) const {
-    while (node && !node->is_leaf() && node->children.size() == 1 && node->children[0] && !node->children[0]->is_leaf()) node = node->children[0];
+    while (node && !node->is_leaf() && node->children.size() == 1 && node->children[0] && !node->children[0]->is_leaf())
+        node = node->children[0];
     return node;
 }
 
@@ -22,11 +24,13 @@ ParseNode *SourceText::down_to(ParseNode *node, const char *symbol, const char *
     return nullptr;
 }
 
-Reader::Reader(Grammar &given, const string &goal_symbol) : grammar(given), source(given), lexer_(given), chart_(given, lexer_), cover_chart_(given, lexer_), goal_symbol_(goal_symbol) {
+Reader::Reader(Grammar &given, const string &goal_symbol)
+    : grammar(given), source(given), lexer_(given), chart_(given, lexer_), cover_chart_(given, lexer_), goal_symbol_(goal_symbol) {
     start_symbol_ = grammar.nonterminal(goal_symbol, 0);
     semicolon_ = grammar.terminal(";");
     for (const char *symbol : SUPPLEMENTAL)
-        for (unsigned parameters = 0; parameters <= (Yield | Await); parameters += Yield) grammar.nonterminal(symbol, parameters);
+        for (unsigned parameters = 0; parameters <= (Yield | Await); parameters += Yield)
+            grammar.nonterminal(symbol, parameters);
     grammar.expand();
     counts_slash_assign_ = grammar.has("slash-assign-counts-like-slash");
     chart_.begin(start_symbol_, source.text);
@@ -90,9 +94,11 @@ int Reader::needed_for(const Token &token) const {
 // Takes over the tokens that the text shares with the one before it; false if they refuse it already.
 bool Reader::keep_common(const string &text) {
     size_t common = 0;
-    while (common < text.size() && common < source.text.size() && text[common] == source.text[common]) common++;
+    while (common < text.size() && common < source.text.size() && text[common] == source.text[common])
+        common++;
     size_t kept = 0;
-    while (kept < steps_.size() && steps_[kept].needed <= static_cast<int>(common)) kept++;
+    while (kept < steps_.size() && steps_[kept].needed <= static_cast<int>(common))
+        kept++;
     source.text = text;
     steps_.resize(kept);
     tokens_.resize(kept ? static_cast<size_t>(steps_.back().tokens) : 0);

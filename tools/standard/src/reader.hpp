@@ -26,9 +26,13 @@ class SourceText {
     const Token &token(const ParseNode *node) const { return tokens[static_cast<size_t>(node->from)]; }
     int start(const ParseNode *node) const { return token(node).start; }
     int end(const ParseNode *node) const { return tokens[static_cast<size_t>(node->to) - 1].end; }
-    string spelled(const ParseNode *node) const { return text.substr(static_cast<size_t>(start(node)), static_cast<size_t>(end(node) - start(node))); }
+    string spelled(const ParseNode *node) const {
+        return text.substr(static_cast<size_t>(start(node)), static_cast<size_t>(end(node) - start(node)));
+    }
     // Whether a node is this word or punctuator.
-    bool is_token(const ParseNode *node, const char *spelling) const { return node && node->is_leaf() && token(node).is_spelled() && spelled(node) == spelling; }
+    bool is_token(const ParseNode *node, const char *spelling) const {
+        return node && node->is_leaf() && token(node).is_spelled() && spelled(node) == spelling;
+    }
     // What a node is below the productions of one symbol.
     ParseNode *bare(ParseNode *node) const;
     // The node of one of these symbols, below productions of one symbol; null if there is none.
@@ -42,7 +46,7 @@ class Reader {
   public:
     Grammar &grammar;
     SourceText source;
-    long scanned = 0;   // tokens
+    long scanned = 0; // tokens
 
     explicit Reader(Grammar &given, const string &goal_symbol = "Script");
 

@@ -4,13 +4,23 @@ namespace standard {
 namespace {
 const std::set<string> STRICT_WORDS{"implements", "interface", "let", "package", "private", "protected", "public", "static", "yield"};
 // What hides what it contains (14.1.4, 14.2.3, 14.4.3 and others), and what shows of itself only its key (14.3.3).
-const std::set<string> OPAQUE{"ArrowFunction",         "AsyncArrowFunction",    "ClassStaticBlock",        "FunctionExpression",       "FunctionDeclaration",       "GeneratorExpression",
-                              "GeneratorDeclaration", "AsyncFunctionExpression", "AsyncFunctionDeclaration", "AsyncGeneratorExpression", "AsyncGeneratorDeclaration"};
+const std::set<string> OPAQUE{"ArrowFunction",
+                              "AsyncArrowFunction",
+                              "ClassStaticBlock",
+                              "FunctionExpression",
+                              "FunctionDeclaration",
+                              "GeneratorExpression",
+                              "GeneratorDeclaration",
+                              "AsyncFunctionExpression",
+                              "AsyncFunctionDeclaration",
+                              "AsyncGeneratorExpression",
+                              "AsyncGeneratorDeclaration"};
 const std::set<string> KEYED{"GeneratorMethod", "AsyncMethod", "AsyncGeneratorMethod", "FieldDefinition"};
 } // namespace
 
 CoverRefiner::CoverRefiner(Chart &chart, const SourceText &source, ParseNodes &nodes, const string &goal_symbol)
-    : grammar_(chart.grammar), source_(source), nodes_(nodes), chart_(chart), is_module_(goal_symbol == "Module"), reserves_await_(is_module_ || grammar_.has("await-reserved")) {}
+    : grammar_(chart.grammar), source_(source), nodes_(nodes), chart_(chart), is_module_(goal_symbol == "Module"),
+      reserves_await_(is_module_ || grammar_.has("await-reserved")) {}
 
 ParseNode *CoverRefiner::refuse(const string &reason) {
     reason_ = reason;
@@ -68,13 +78,16 @@ ParseNode *CoverRefiner::refine_child(const ParseNode *parent, ParseNode *child)
         return is_plain ? refine_target(child, parameters, "the left side is no target") : refine_simple(child, "the left side is no simple target");
     }
     if (is_target_position(parent, child)) return refine_target(child, parameters, "a target is none");
-    if (source_.is(parent, "UpdateExpression") && parent->children.size() == 2 && !child->is_leaf()) return refine_simple(child, "the operand is no simple target");
-    if (source_.is(parent, "AssignmentRestProperty") && source_.down_to(child, "ObjectLiteral", "ArrayLiteral")) return refuse("a pattern as an object's rest");
+    if (source_.is(parent, "UpdateExpression") && parent->children.size() == 2 && !child->is_leaf())
+        return refine_simple(child, "the operand is no simple target");
+    if (source_.is(parent, "AssignmentRestProperty") && source_.down_to(child, "ObjectLiteral", "ArrayLiteral"))
+        return refuse("a pattern as an object's rest");
     return refine(child);
 }
 
 bool CoverRefiner::is_target_position(const ParseNode *parent, const ParseNode *child) const {
-    return source_.is(parent, "DestructuringAssignmentTarget") || (source_.is(parent, "IterationStatement") && source_.is(child, "LeftHandSideExpression"));
+    return source_.is(parent, "DestructuringAssignmentTarget") ||
+           (source_.is(parent, "IterationStatement") && source_.is(child, "LeftHandSideExpression"));
 }
 
 // 12.15.1, 12.15.5.1, 13.7.5.1.
@@ -155,11 +168,14 @@ const char *CoverRefiner::fault_after(const ParseNode *node) const {
 // 14.4.1, 14.5.1, 14.7.1.
 const char *CoverRefiner::parameter_fault(const ParseNode *node) const {
     for (const ParseNode *it : node->children)
-        if ((source_.is(it, "FormalParameters") || source_.is(it, "UniqueFormalParameters")) && contains_yield_or_await(it)) return "yield or await in parameters";
+        if ((source_.is(it, "FormalParameters") || source_.is(it, "UniqueFormalParameters")) && contains_yield_or_await(it))
+            return "yield or await in parameters";
     return nullptr;
 }
 
-bool CoverRefiner::contains_yield_or_await(const ParseNode *node) const { return contains(node, "YieldExpression") || contains(node, "AwaitExpression"); }
+bool CoverRefiner::contains_yield_or_await(const ParseNode *node) const {
+    return contains(node, "YieldExpression") || contains(node, "AwaitExpression");
+}
 
 bool CoverRefiner::contains(const ParseNode *node, const char *symbol) const {
     if (!node || node->is_leaf()) return false;
@@ -181,7 +197,9 @@ bool CoverRefiner::is_labelled_function(ParseNode *statement) const {
     return source_.is(item, "FunctionDeclaration") || is_labelled_function(item);
 }
 
-bool CoverRefiner::is_distant_else(const ParseNode *node) const { return source_.is(node, "IfStatement") && node->children.size() == 7 && ends_in_if(node->children[4]); }
+bool CoverRefiner::is_distant_else(const ParseNode *node) const {
+    return source_.is(node, "IfStatement") && node->children.size() == 7 && ends_in_if(node->children[4]);
+}
 
 bool CoverRefiner::ends_in_if(const ParseNode *statement) const {
     while (!statement->is_leaf()) {

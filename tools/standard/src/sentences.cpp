@@ -14,13 +14,16 @@ const char *const REGEXPS[] = {"/x/", "/[/]/g", "/=/", "/a/gg"};
 const char *const TEMPLATES[] = {"`t`", "``", "`\\u`"};
 const char *const TAILS[] = {"}`", "}\\1`"};
 // How often of a hundred times an expression is just one of the next symbol, so that sentences stay short.
-const std::map<string, unsigned> PLAIN{{"AssignmentExpression", 45}, {"LeftHandSideExpression", 70}, {"MemberExpression", 70}, {"UpdateExpression", 70},
-                                       {"UnaryExpression", 70},      {"CallExpression", 40},         {"ConditionalExpression", 85}};
+const std::map<string, unsigned> PLAIN{{"AssignmentExpression", 45}, {"LeftHandSideExpression", 70}, {"MemberExpression", 70},
+                                       {"UpdateExpression", 70},     {"UnaryExpression", 70},        {"CallExpression", 40},
+                                       {"ConditionalExpression", 85}};
 const std::set<string> HAS_TARGET{"AssignmentExpression", "DestructuringAssignmentTarget", "IterationStatement", "UpdateExpression"};
 const std::set<string> NAMED{"IdentifierReference", "BindingIdentifier", "LabelIdentifier"};
 const string EXPRESSION = "Expression";
 
-bool is_expression(const string &name) { return name.size() > EXPRESSION.size() && name.compare(name.size() - EXPRESSION.size(), EXPRESSION.size(), EXPRESSION) == 0; }
+bool is_expression(const string &name) {
+    return name.size() > EXPRESSION.size() && name.compare(name.size() - EXPRESSION.size(), EXPRESSION.size(), EXPRESSION) == 0;
+}
 size_t index(int number) { return static_cast<size_t>(number); }
 } // namespace
 
@@ -32,7 +35,8 @@ unsigned Random::below(unsigned limit) {
 }
 
 SentenceMaker::SentenceMaker(Grammar &grammar, uint64_t seed) : grammar_(grammar), random_(seed * 2654435761u + 88172645463325252ull) {
-    for (unsigned parameters = 0; parameters <= (Yield | Await); parameters += Yield) grammar.nonterminal("IdentifierReference", parameters);
+    for (unsigned parameters = 0; parameters <= (Yield | Await); parameters += Yield)
+        grammar.nonterminal("IdentifierReference", parameters);
     grammar.expand();
     heights_.assign(grammar.nonterminals.size(), 1000);
     for (bool is_changed = true; is_changed;) {
@@ -72,7 +76,8 @@ int SentenceMaker::replacement(int parent, int nonterminal) {
     const string &name = grammar_.name_of(nonterminal), &around = grammar_.name_of(parent);
     unsigned parameters = grammar_.nonterminals[index(parent)].parameters & (Yield | Await);
     if (around == "ArrowParameters" && name[0] == 'C') return grammar_.nonterminal("ArrowFormalParameters", parameters);
-    if (name == "CoverParenthesizedExpressionAndArrowParameterList" && random_.below(20)) return grammar_.nonterminal("ParenthesizedExpression", parameters);
+    if (name == "CoverParenthesizedExpressionAndArrowParameterList" && random_.below(20))
+        return grammar_.nonterminal("ParenthesizedExpression", parameters);
     if (name != "LeftHandSideExpression" || !HAS_TARGET.count(around)) return nonterminal;
     if (around != "UpdateExpression" && random_.below(2)) return grammar_.nonterminal("AssignmentPattern", parameters);
     return random_.below(3) ? grammar_.nonterminal("IdentifierReference", parameters) : nonterminal;
@@ -143,18 +148,18 @@ void SentenceMaker::change_token() {
         if (semicolon != tokens_.end()) *semicolon = "\n";
         break;
     }
-    default:
-        tokens_.insert(place(std::min(at + 1 + random_.below(6), tokens_.size())), ")");
-        tokens_.insert(place(at), "(");
+    default: tokens_.insert(place(std::min(at + 1 + random_.below(6), tokens_.size())), ")"); tokens_.insert(place(at), "(");
     }
 }
 
 string SentenceMaker::sentence(int nonterminal) {
     tokens_.clear();
     make(nonterminal, 30 + static_cast<int>(random_.below(100)));
-    for (unsigned changes = random_.below(4); changes > 0 && !tokens_.empty(); changes--) change_token();
+    for (unsigned changes = random_.below(4); changes > 0 && !tokens_.empty(); changes--)
+        change_token();
     string out;
-    for (const string &it : tokens_) out += it + (random_.below(9) ? ' ' : '\n');
+    for (const string &it : tokens_)
+        out += it + (random_.below(9) ? ' ' : '\n');
     return out;
 }
 } // namespace standard

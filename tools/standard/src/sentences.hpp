@@ -24,7 +24,7 @@ class SentenceMaker {
   private:
     Grammar &grammar_;
     Random random_;
-    vector<int> heights_;   // by nonterminal: the height of its lowest tree
+    vector<int> heights_; // by nonterminal: the height of its lowest tree
     vector<string> tokens_;
 
     int height(const Rule &rule) const;

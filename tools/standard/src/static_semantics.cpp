@@ -4,11 +4,28 @@
 
 namespace standard {
 namespace {
-const std::set<string> DECLARES_ITSELF{"FunctionDeclaration", "ClassDeclaration", "GeneratorDeclaration", "AsyncFunctionDeclaration", "AsyncGeneratorDeclaration"};
+const std::set<string> DECLARES_ITSELF{"FunctionDeclaration", "ClassDeclaration", "GeneratorDeclaration", "AsyncFunctionDeclaration",
+                                       "AsyncGeneratorDeclaration"};
 const std::set<string> BINDS_NOTHING{"Initializer", "PropertyName"};
-const std::set<string> HOLDS_STATEMENTS{"Statement",       "BlockStatement", "Block",       "StatementList", "StatementListItem", "IfStatement",       "BreakableStatement",
-                                        "IterationStatement", "WithStatement", "SwitchStatement", "CaseBlock",     "CaseClauses",       "CaseClause",        "DefaultClause",
-                                        "LabelledStatement", "LabelledItem",   "TryStatement", "Catch",         "Finally"};
+const std::set<string> HOLDS_STATEMENTS{"Statement",
+                                        "BlockStatement",
+                                        "Block",
+                                        "StatementList",
+                                        "StatementListItem",
+                                        "IfStatement",
+                                        "BreakableStatement",
+                                        "IterationStatement",
+                                        "WithStatement",
+                                        "SwitchStatement",
+                                        "CaseBlock",
+                                        "CaseClauses",
+                                        "CaseClause",
+                                        "DefaultClause",
+                                        "LabelledStatement",
+                                        "LabelledItem",
+                                        "TryStatement",
+                                        "Catch",
+                                        "Finally"};
 const std::set<string> HOLDS_ITEMS{"StatementList", "CaseBlock", "CaseClauses", "CaseClause", "DefaultClause"};
 
 // How many bytes the line terminator at a place has, 0 if there is none.
@@ -68,7 +85,8 @@ void StaticSemantics::push_lexical(const ParseNode *node, NamesAt &out) const {
     if (is(node, "StatementListItem") && is(node->children[0], "Declaration")) push_bound(node->children[0], out);
     else if (is(node, "StatementListItem")) push_labelled(node->children[0], out);
     else if (HOLDS_ITEMS.count(source_.name(node)))
-        for (const ParseNode *it : node->children) push_lexical(it, out);
+        for (const ParseNode *it : node->children)
+            push_lexical(it, out);
 }
 
 // 13.13.6: the function that a label may stand before.
@@ -100,7 +118,8 @@ void StaticSemantics::push_var(const ParseNode *node, NamesAt &out) const {
 
 vector<ParseNode *> StaticSemantics::items(const ParseNode *list) const {
     vector<ParseNode *> out;
-    for (const ParseNode *it = list; it; it = it->children.size() == 2 ? it->children[0] : nullptr) out.insert(out.begin(), it->last());
+    for (const ParseNode *it = list; it; it = it->children.size() == 2 ? it->children[0] : nullptr)
+        out.insert(out.begin(), it->last());
     return out;
 }
 
