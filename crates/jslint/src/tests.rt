@@ -58,8 +58,8 @@ fn files_that_cannot_be_read(rt: HostRuntime) -> Result<(), Fail> {
         (
             Command::Check,
             "/dev/null",
-            Some(".."),
-            "..",
+            Some("/usr"),
+            "/usr",
             ReadFailure::Folder,
         ),
         (Command::Check, ".", Some("no"), "no", ReadFailure::Missing),
