@@ -175,7 +175,8 @@ def in_place_endings(room):
         holds(name)
         for number in (signal.SIGHUP, signal.SIGINT, signal.SIGQUIT, signal.SIGTERM):
             room.put(f'stubs/{name}', f'#!/bin/sh\nPATH={BIN}:/usr/bin:/bin\n{name} "$@"\necho begun >>stubs/begun\nexec sleep 60\n', 0o755)
-            same(interrupted(room, text, path, number) in (130, -number), True, f'{name} {number}')
+            ended = interrupted(room, text, path, number)
+            is_well(ended in (130, -number), f'{name} {number}: status {ended}')
             os.remove(room.path('stubs/begun'))
             holds(f'{name} {number}', 'let x = 1;\r\n' if name == 'mv' else wrong)
         os.remove(room.path(f'stubs/{name}'))
@@ -528,7 +529,7 @@ def editors(room):
     room.put('src/a.js', WRONG)
     room.put('bad.js', REFUSED)
     alone, many = (block('Vim', 'vim', it) for it in (0, 1))
-    for name, wanted in [('src/a.js', ('1', '5', FOUND[0].split(' ', 1)[1])), ('bad.js', ('2', '1', 'syntax error')), ('none.js', (None, None, 'read failed'))]:
+    for name, wanted in [('src/a.js', ('1', '5', FOUND[0].split(' ', 1)[1])), ('bad.js', ('2', '1', 'syntax error')), ('none.js', (None, None, 'read failed: none.js: missing'))]:
         words = re.search(r'^set makeprg=(.*)$', alone, re.M)[1].replace('\\ ', ' ').replace('%:S', name)
         _, out, err = room.sh(words)
         first = next(filter(None, (re.fullmatch(it, (out + err).splitlines()[0]) for it in vim_patterns(alone))))
