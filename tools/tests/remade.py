@@ -40,19 +40,19 @@ def made_of_kinds(_):
 def made_of_new_kinds(_):
     """A kind without a row gets one in each file that has one of each, and a row without its answer, or with another, gets it."""
     lacking, more, rows = {}, {}, {
-        'nodes': 'node line\t(DebuggerStatement )\t(Program 0-2 (DebuggerStatement 0-1))\n',
-        'views': 'node views\t(DebuggerStatement )\t(false, false, true)(false, false)\n',
-        'ranks': 'node rank\t(ImportExpression (Identifier a ) )\t(Some(Call), false)\n',
+        'nodes': 'node line\t(ThisExpression )\t(Program 0-2 (ThisExpression 0-1))\n',
+        'views': 'node views\t(ThisExpression )\t(true, false, false)(false, false)\n',
+        'ranks': 'node rank\t(ThisExpression )\t(Some(Primary), false)\n',
     }
     for name, row in rows.items():
         kind = row.split('(')[1].split(' ')[0]
         kept = [it for it in text_of(name).splitlines(True) if f'({kind} ' not in it]
         same(text_of(name).count(row), 1, name)
         lacking[name], more[name] = ''.join(kept), ''.join(kept) + row
-    whole = 'plan\timport(a)\tImportExpression 00000---, Identifier 00000000, total 0\n'
-    for name, given in [('plans', 'plan\timport(a)\n'), ('numbers', 'numbers\timport(a)\t\n'), ('trees', 'tree\t(\tsyntax\n')]:
+    whole = 'plan\tnew a\tNewExpression 00000000, Identifier 00000000, total 0\n'
+    for name, given in [('plans', 'plan\tnew a\n'), ('numbers', 'numbers\tnew a\t\n'), ('trees', 'tree\t(\tsyntax\n')]:
         lacking[name] = given
-    more |= {'plans': whole, 'numbers': 'numbers\timport(a)\tIdentifier 2;ImportExpression 1;ExpressionStatement;Program;\n', 'trees': lacking['trees']}
+    more |= {'plans': whole, 'numbers': 'numbers\tnew a\tIdentifier 2;NewExpression 1;ExpressionStatement;Program;\n', 'trees': lacking['trees']}
     same(remade_kinds(lacking), more)
 
 
