@@ -52,7 +52,7 @@ def made_of_new_kinds(_):
     whole = 'plan\tnew a\tNewExpression 00000000, Identifier 00000000, total 0\n'
     for name, given in [('plans', 'plan\tnew a\n'), ('numbers', 'numbers\tnew a\t\n'), ('trees', 'tree\t(\tsyntax\n')]:
         lacking[name] = given
-    more |= {'plans': whole, 'numbers': 'numbers\tnew a\tIdentifier 2;NewExpression 1;ExpressionStatement;Program;\n', 'trees': lacking['trees']}
+    more.update({'plans': whole, 'numbers': 'numbers\tnew a\tIdentifier 2;NewExpression 1;ExpressionStatement;Program;\n', 'trees': lacking['trees']})
     same(remade_kinds(lacking), more)
 
 
