@@ -4,6 +4,7 @@
 const path = require('path');
 const antt = require('./antt.js');
 const PLAIN_MODEL = path.join(__dirname, '../model');
+const { KINDS } = require(path.join(PLAIN_MODEL, 'kinds.js'));
 const CRATES = ['source_text', 'tokens', 'tree', 'language', 'name_tables', 'early_errors'].map((c) => path.join(__dirname, '../../crates', c));
 
 // Names of the definitions: ours -> [name, the last part of its module, its crate].
@@ -69,53 +70,25 @@ class Model {
 // ---------------------------------------------------------------- ESTree to plain trees
 
 const noFlags = () => ({ computed: false, optional: false, is_static: false, prefix: false, directive: false, expression: false, form: 'init' });
+// What a node's flag is, where it isn't a field of that name. (A unary operator has ESTree's `prefix` too, which is no flag of its kind.)
+const FLAG = {
+  is_static: (e) => e.static,
+  directive: (e) => typeof e.directive === 'string',
+  form: (e) => (e.shorthand ? 'shorthand' : e.method ? 'method' : e.kind),
+};
+// A template's chunks and expressions take turns.
+const templateParts = (e) => e.quasis.flatMap((q, i) => (i < e.expressions.length ? [q, e.expressions[i]] : [q]));
 // A node of the model (or of the outside judge) as a plain tree; `n.from` is the ESTree node.
 function plainTree(e) {
-  const make = (parts, word = '', flags = {}) =>
-    ({ kind: e.type, text: word, flags: { ...noFlags(), ...flags }, start: e.start ?? 0, stop: e.end ?? 0, parts: parts.map((p) => (p === null || p === undefined ? null : plainTree(p))), from: e });
-  switch (e.type) {
-    case 'Program': case 'BlockStatement': case 'ClassBody': return make(e.body);
-    case 'Identifier': return make([], e.name);
-    case 'Literal': return make([], e.raw);
-    case 'ThisExpression': case 'Super': case 'EmptyStatement': case 'DebuggerStatement': return make([]);
-    case 'ArrayExpression': case 'ArrayPattern': return make(e.elements);
-    case 'ObjectExpression': case 'ObjectPattern': return make(e.properties);
-    case 'Property': return make([e.key, e.value], '', { computed: e.computed, form: e.shorthand ? 'shorthand' : e.method ? 'method' : e.kind });
-    case 'SpreadElement': case 'RestElement': case 'ReturnStatement': case 'ThrowStatement': return make([e.argument]);
-    case 'FunctionExpression': case 'FunctionDeclaration': return make([e.id, ...e.params, e.body]);
-    case 'ArrowFunctionExpression': return make([...e.params, e.body], '', { expression: e.expression });
-    case 'ClassExpression': case 'ClassDeclaration': return make([e.id, e.superClass, e.body]);
-    case 'MethodDefinition': return make([e.key, e.value], '', { computed: e.computed, is_static: e.static, form: e.kind });
-    case 'TemplateLiteral': return make(e.quasis.flatMap((q, i) => (i < e.expressions.length ? [q, e.expressions[i]] : [q])));
-    case 'TemplateElement': return make([], e.value.raw);
-    case 'TaggedTemplateExpression': return make([e.tag, e.quasi]);
-    case 'MemberExpression': return make([e.object, e.property], '', { computed: e.computed, optional: e.optional });
-    case 'CallExpression': return make([e.callee, ...e.arguments], '', { optional: e.optional });
-    case 'NewExpression': return make([e.callee, ...e.arguments]);
-    case 'MetaProperty': return make([e.meta, e.property]);
-    case 'ImportExpression': return make([e.source]);
-    case 'ChainExpression': return make([e.expression]);
-    case 'UpdateExpression': return make([e.argument], e.operator, { prefix: e.prefix });
-    case 'UnaryExpression': return make([e.argument], e.operator);
-    case 'BinaryExpression': case 'LogicalExpression': case 'AssignmentExpression': return make([e.left, e.right], e.operator);
-    case 'ConditionalExpression': case 'IfStatement': return make([e.test, e.consequent, e.alternate]);
-    case 'SequenceExpression': return make(e.expressions);
-    case 'AssignmentPattern': return make([e.left, e.right]);
-    case 'ExpressionStatement': return make([e.expression], '', { directive: typeof e.directive === 'string' });
-    case 'BreakStatement': case 'ContinueStatement': return make([e.label]);
-    case 'LabeledStatement': return make([e.label, e.body]);
-    case 'SwitchStatement': return make([e.discriminant, ...e.cases]);
-    case 'SwitchCase': return make([e.test, ...e.consequent]);
-    case 'TryStatement': return make([e.block, e.handler, e.finalizer]);
-    case 'CatchClause': return make([e.param, e.body]);
-    case 'WhileStatement': return make([e.test, e.body]);
-    case 'DoWhileStatement': return make([e.body, e.test]);
-    case 'ForStatement': return make([e.init, e.test, e.update, e.body]);
-    case 'ForInStatement': case 'ForOfStatement': return make([e.left, e.right, e.body]);
-    case 'VariableDeclaration': return make(e.declarations, e.kind);
-    case 'VariableDeclarator': return make([e.id, e.init]);
-    default: throw new Error('no plain form: ' + e.type);
-  }
+  const row = KINDS.get(e.type);
+  if (row === undefined) throw new Error('no plain form: ' + e.type);
+  const text = row.text === undefined ? '' : row.text.split('.').reduce((at, field) => at[field], e);
+  const flags = Object.fromEntries(row.flags.map((flag) => [flag, FLAG[flag] === undefined ? e[flag] : FLAG[flag](e)]));
+  const parts = e.type === 'TemplateLiteral' ? templateParts(e) : row.parts.flatMap(({ field, isList }) => (isList ? [...e[field]] : [e[field]]));
+  return {
+    kind: e.type, text, flags: { ...noFlags(), ...flags }, start: e.start ?? 0, stop: e.end ?? 0,
+    parts: parts.map((p) => (p === null || p === undefined ? null : plainTree(p))), from: e,
+  };
 }
 const copyTree = (n) => (n === null ? null : { kind: n.kind, text: n.text, flags: { ...n.flags }, start: n.start, stop: n.stop, parts: n.parts.map(copyTree) });
 // "The same tree": places left out.

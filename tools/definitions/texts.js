@@ -5,6 +5,7 @@ const path = require('path');
 const zlib = require('zlib');
 const { randomSource } = require('../model/random.js');
 const { PLAIN_MODEL, FLAGS, FORM, copyTree, nodesOf, noFlags } = require('./model.js');
+const { AROUND, KINDS, LIKE } = require(path.join(PLAIN_MODEL, 'kinds.js'));
 const { OPERATORS } = require(path.join(PLAIN_MODEL, 'operators.js'));
 
 // ---------------------------------------------------------------- corpora
@@ -78,16 +79,7 @@ function mutateText(list, random, extras) {
 
 // ---------------------------------------------------------------- trees
 
-const KINDS = ('Program Identifier Literal ThisExpression Super ArrayExpression ObjectExpression Property SpreadElement FunctionExpression ArrowFunctionExpression ClassExpression ClassBody ' +
-  'MethodDefinition TemplateLiteral TemplateElement TaggedTemplateExpression MemberExpression CallExpression NewExpression MetaProperty ImportExpression ChainExpression UpdateExpression ' +
-  'UnaryExpression BinaryExpression LogicalExpression ConditionalExpression AssignmentExpression SequenceExpression ArrayPattern ObjectPattern AssignmentPattern RestElement ' +
-  'ExpressionStatement BlockStatement EmptyStatement DebuggerStatement ReturnStatement ThrowStatement BreakStatement ContinueStatement LabeledStatement IfStatement SwitchStatement SwitchCase ' +
-  'TryStatement CatchClause WhileStatement DoWhileStatement ForStatement ForInStatement ForOfStatement VariableDeclaration VariableDeclarator FunctionDeclaration ClassDeclaration').split(' ');
-const LIKE = [['ArrayExpression', 'ArrayPattern'], ['ObjectExpression', 'ObjectPattern'], ['SpreadElement', 'RestElement'], ['AssignmentExpression', 'AssignmentPattern', 'BinaryExpression', 'LogicalExpression'],
-  ['CallExpression', 'NewExpression', 'ImportExpression', 'ChainExpression'], ['MemberExpression', 'TaggedTemplateExpression', 'MetaProperty'], ['UnaryExpression', 'UpdateExpression'],
-  ['FunctionExpression', 'FunctionDeclaration', 'ArrowFunctionExpression'], ['ClassExpression', 'ClassDeclaration'], ['Identifier', 'Literal', 'ThisExpression', 'Super'],
-  ['Property', 'MethodDefinition'], ['ForInStatement', 'ForOfStatement', 'ForStatement'], ['BreakStatement', 'ContinueStatement', 'ReturnStatement', 'ThrowStatement'],
-  ['WhileStatement', 'DoWhileStatement'], ['ConditionalExpression', 'IfStatement'], ['BlockStatement', 'ClassBody', 'Program'], ['EmptyStatement', 'DebuggerStatement'], ['SequenceExpression', 'ArrayExpression']];
+const KIND_NAMES = [...KINDS.keys()];
 const TEXTS = [...OPERATORS, ',', '?.', '=>'];
 const NAMES = ['a', 'b', 'of', 'get', 'async', 'await', 'let', 'if', 'yield', 'static', 'this', 'null', 'true', 'super', 'constructor', 'eval', 'target', 'new', 'in', 'prototype', 'é', ''];
 const RAWS = ['1', '1.', '.5', '0x1n', '1n', "'s'", '"constructor"', "'\\x63onstructor'", '/r/', '/=/g', 'null', 'true', 'false', 'this', 'a', '`t`', '', 'nul', '01', '1_0', "'use strict'", '}', '// c'];
@@ -107,7 +99,7 @@ function mutateTree(root, random) {
     const fresh = (x) => ({ kind: x, text: x === 'Identifier' ? 'a' : x === 'Literal' ? '1' : '', flags: noFlags(), start: n.start, stop: n.stop, parts: [] });
     const op = random.below(16);
     switch (op) {
-      case 0: { const like = LIKE.filter((l) => l.includes(n.kind)); n.kind = like.length > 0 && random.chance(70) ? random.pick(random.pick(like)) : random.pick(KINDS); break; }
+      case 0: { const like = LIKE.filter((l) => l.includes(n.kind)); n.kind = like.length > 0 && random.chance(70) ? random.pick(random.pick(like)) : random.pick(KIND_NAMES); break; }
       case 1: case 2: { const f = random.pick([...FLAGS, 'form']); n.flags[f] = f === 'form' ? random.pick(Object.keys(FORM)) : !n.flags[f]; break; }
       case 3: case 4: n.text = random.pick(n.kind === 'Identifier' ? NAMES : n.kind === 'Literal' ? RAWS : n.kind === 'TemplateElement' ? CHUNKS : n.kind === 'VariableDeclaration' ? WORDS : random.chance(70) ? TEXTS : NAMES); break;
       case 5: if (n.parts.length > 1) { const i = random.below(n.parts.length); const j = random.below(n.parts.length); [n.parts[i], n.parts[j]] = [n.parts[j], n.parts[i]]; } break;
@@ -127,9 +119,9 @@ function mutateTree(root, random) {
         break;
       }
       case 13: { const kids = n.parts.filter(Boolean); if (kids.length > 0) { const p = parentOf(n); p.parts[p.parts.indexOf(n)] = random.pick(kids); } break; }
-      case 14: { const p = parentOf(n); const k = random.pick(['ChainExpression', 'UnaryExpression', 'SequenceExpression', 'ExpressionStatement', 'BlockStatement', 'SpreadElement', 'NewExpression', 'CallExpression', 'ImportExpression', 'ArrayExpression', 'ArrayPattern', 'ReturnStatement', 'RestElement']);
+      case 14: { const p = parentOf(n); const k = random.pick(AROUND);
         const w = fresh(k); if (k === 'UnaryExpression') w.text = '-'; w.parts = [n]; p.parts[p.parts.indexOf(n)] = w; break; }
-      default: n.parts.splice(random.below(n.parts.length + 1), 0, random.chance(60) ? copyTree(random.pick(all)) : fresh(random.pick(KINDS)));
+      default: n.parts.splice(random.below(n.parts.length + 1), 0, random.chance(60) ? copyTree(random.pick(all)) : fresh(random.pick(KIND_NAMES)));
     }
     what += op + ' ';
     if (holder.parts.length !== 1 || holder.parts[0] === null || holder.parts[0].kind !== 'Program') return mutateTree(root, random);

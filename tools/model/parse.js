@@ -11,6 +11,7 @@
 
 const { isMainThread } = require('node:worker_threads');
 const { runInBigStack } = require('./bigstack.js');
+const { WORD_CALLS, WORD_STATEMENTS } = require('./kinds.js');
 const operators = require('./operators.js');
 const { GOAL, RESERVED, makeSource, scan, stringValue, templateValue } = require('./scan.js');
 
@@ -300,9 +301,9 @@ class Parser {
       const token = this.peek();
       if (this.is(token, 'new')) return this.parseNew();
       if (this.is(token, 'super')) return { node: this.parseSuper(calls) };
-      if (this.is(token, 'import')) {
+      if (token.cls === 'name' && WORD_CALLS.has(token.text)) {
         if (!calls) this.fail(token);
-        return { node: this.parseImport() };
+        return { node: this.parseWordCall() };
       }
     }
     return { node: this.parsePrimary() };
@@ -343,12 +344,14 @@ class Parser {
     return this.fail(this.peekDiv());
   }
 
-  parseImport() {
-    const start = this.take().start;
+  // `import(..)`, and what else is a word and an expression in parentheses.
+  parseWordCall() {
+    const { start, text } = this.take();
+    const { kind, field } = WORD_CALLS.get(text);
     this.expect('(');
-    const source = this.inside(() => this.parseAssignment(true));
+    const argument = this.inside(() => this.parseAssignment(true));
     this.expect(')');
-    return this.node('ImportExpression', start, { source });
+    return this.node(kind, start, { [field]: argument });
   }
 
   member(start, object, property, computed, optional) {
@@ -872,16 +875,17 @@ class Parser {
         case 'switch': return this.parseSwitch();
         case 'throw': return this.parseThrow();
         case 'try': return this.parseTry();
-        case 'debugger':
-          this.take();
-          this.semicolon('none');
-          return this.node('DebuggerStatement', start, {});
         case 'function':
         case 'class':
         case 'let':
         case 'const':
           return this.fail(token);
         default:
+          if (WORD_STATEMENTS.has(token.text)) {
+            this.take();
+            this.semicolon('none');
+            return this.node(WORD_STATEMENTS.get(token.text), start, {});
+          }
           if (this.isIdentifier(token) && this.is(this.secondToken(), ':')) {
             const label = this.parseIdentifier();
             this.expect(':');

@@ -2,13 +2,10 @@
 // Strews a script: puts pairs of parentheses round expressions, and blanks, line ends and comments between tokens, and takes out a `;`
 // here and there. The result may be no script.
 
+const { EXPRESSIONS } = require('../model/kinds.js');
 const { parse, children } = require('../model/parse.js');
 const { tokensOf } = require('../model/unwrap.js');
 
-const EXPRESSIONS = new Set(('SequenceExpression AssignmentExpression ArrowFunctionExpression ConditionalExpression LogicalExpression ' +
-  'BinaryExpression UnaryExpression UpdateExpression ChainExpression CallExpression ImportExpression MemberExpression ' +
-  'TaggedTemplateExpression NewExpression MetaProperty Identifier Literal ThisExpression ArrayExpression ObjectExpression ' +
-  'FunctionExpression ClassExpression TemplateLiteral').split(' '));
 const LINE_ENDS = ['\n', '\n', '\n', '\r\n', '\r', '\u2028', '\u2029'];
 const BLANKS = [' ', ' ', '  ', '\t', '\u00a0', '\u3000', '\ufeff', '\v', '\u2003'];
 const COMMENTS = ['/* c */', '/**/', '/* ( */', '/*/ */', '/*\n*/', '/* d\r\n * d */', '/*\u2028*/', '/***/'];

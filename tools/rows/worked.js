@@ -288,5 +288,5 @@ const gauged = () => [
 
 const FILES = { beginnings, flat, failures, worked, resolved, calls, gauged };
 const rows = (name) => FILES[name]().join('\n') + '\n';
-module.exports = { rows };
+module.exports = { meant, rows, written };
 if (require.main === module) process.stdout.write(runInBigStack(__filename, 'rows', [process.argv[2]]));

@@ -1,0 +1,83 @@
+"""What `tools/where` says: each kind, production, rule, early error and command has a definition and code, at lines that exist, and an unknown name is refused."""
+import os
+import re
+import subprocess
+
+from recipes import is_well, same
+
+TOP = os.path.dirname(os.path.dirname(os.path.dirname(os.path.realpath(__file__))))
+
+
+def lines_of(path):
+    with open(f'{TOP}/{path}', encoding='utf-8') as file:
+        return file.read().split('\n')
+
+
+def call(*words):
+    ran = subprocess.run([f'{TOP}/tools/where', *words], stdout=subprocess.PIPE, stderr=subprocess.PIPE, encoding='utf-8')
+    return ran.returncode, ran.stdout, ran.stderr
+
+
+def said(*names):
+    """What is said of each of these names: by heading the texts under it."""
+    status, out, err = call(*names)
+    same((status, err), (0, ''), names)
+    found, heading = {}, None
+    for line in out.splitlines():
+        head = re.match(r'(\S+): ', line)
+        if head:
+            found.setdefault(head[1], {'what': []})['what'].append(line)
+            name = head[1]
+        else:
+            heading = line[:14].strip() or heading
+            found[name].setdefault(heading, []).append(line[14:])
+    return found
+
+
+def variants(path, enum):
+    text = '\n'.join(lines_of(path)).partition(f'pub enum {enum} {{')[2].partition('\n}')[0]
+    return re.findall(r'^    (\w+),$', text, re.M)
+
+
+def productions():
+    """The productions of the standard's grammar that a row of docs/DEFINITIONS.md names, but for those that the profile leaves out."""
+    standard = {it[1] for it in (re.match(r'(\w+)(?:\[.*\])? :', text) for text in lines_of('tools/standard/grammar/edition11.txt')) if it}
+    cells = [text.split('|')[1] for text in lines_of('docs/DEFINITIONS.md') if text.startswith('| ') and '**left out**' not in text]
+    return sorted(standard & {it for cell in cells for it in re.findall(r'[A-Z]\w+', cell)})
+
+
+def each_name(_):
+    rules = sorted(it[:-3] for it in os.listdir(f'{TOP}/docs/rules') if it != 'README.md')
+    commands = [it.lower() for it in variants('crates/commands/src/command.rt', 'Command')]
+    names = [*variants('crates/tree/src/kind.rt', 'Kind'), *productions(), *rules, *commands, *(f'E{it}' for it in range(1, 22)), 'first_early_error', 'parser::parse']
+    is_well(len(names) > 200, len(names))
+    found = said(*names)
+    same(sorted(found), sorted({*names}))
+    for name, headings in found.items():
+        for heading in ('definition', 'code', 'rows', 'edits'):
+            is_well(headings.get(heading), f'{name}: no {heading}')
+        for text in [*headings['definition'], *headings['code'], *headings.get('contract', [])]:
+            at = re.match(r'(crates/\S+):(\d+)(?:  (\w+)|$)', text)
+            is_well(at and lines_of(at[1])[int(at[2]) - 1].strip() or text.startswith('and '), f'{name}: {text}')
+
+
+def a_kind(_):
+    """The way of a kind from its production to the function that reads it, and the function's promise."""
+    found = said('MetaProperty')['MetaProperty']
+    at = next(re.match(r'(\S+):(\d+)  new_target$', it) for it in found['code'] if it.endswith('  new_target'))
+    is_well(at[1] == 'crates/recursive_descent/src/primary.rt' and 'Kind::MetaProperty' in lines_of(at[1])[int(at[2]) - 1], at[0])
+    is_well(any(re.search(r'primary\.rt:\d+  new_target: ensures ', it) for it in found['contract']), found['contract'])
+    is_well(any(re.fullmatch(r'crates/language/specs/Expressions\.antt:\d+  expressions', it) for it in found['definition']), found['definition'])
+    is_well(found['production'][0].startswith('docs/DEFINITIONS.md:') and 'NewTarget' in found['production'][0], found['production'])
+    is_well(re.search(r'\bviews \d', found['rows'][0]), found['rows'])
+
+
+def an_unknown_name(_):
+    status, out, err = call('MetaPropery')
+    is_well(status == 2 and not out and err.startswith('tools/where: nothing is called MetaPropery: no kind, production, ') and ' MetaProperty' in err, err)
+    same(err.count('\n'), 1)
+    status, out, err = call()
+    is_well(status == 2 and not out and 'tools/where NAME ..' in err, err)
+
+
+TESTS = [each_name, a_kind, an_unknown_name]
