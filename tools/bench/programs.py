@@ -8,7 +8,7 @@ import sys
 import tempfile
 import time
 
-TOP = os.path.dirname(os.path.dirname(os.path.abspath(__file__)))
+TOP = os.path.dirname(os.path.dirname(os.path.dirname(os.path.abspath(__file__))))
 PARTS = ("src", "specs", "proofs")
 PACKAGES = ("libjs-jquery", "libjs-d3", "libjs-three", "node-react-dom", "node-acorn", "node-escodegen", "esbuild", "minify", "terser", "time", "valgrind")
 PROGRAMS = ("esbuild", "minify", "terser", "time", "valgrind")
