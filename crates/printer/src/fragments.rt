@@ -125,6 +125,20 @@ macro_rules! list_frame {
     };
 }
 
+/// A node that is a list of arguments, in parentheses, behind a part.
+macro_rules! arguments_frame {
+    ($front:expr, $opener:expr) => {
+        $crate::fragments::Frame {
+            front: $front,
+            opener: $opener,
+            series: $crate::fragments::ListLayout::Commas,
+            closer: $crate::shared_fragments::CLOSE,
+            sites: $crate::part_sites::PartSites::AllPlain,
+        }
+    };
+}
+
+pub(crate) use arguments_frame;
 pub(crate) use asking_frame;
 pub(crate) use front_frame;
 pub(crate) use list_frame;
