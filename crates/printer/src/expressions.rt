@@ -14,7 +14,7 @@ use tokens::TokenClass;
 use tree::{Flags, Kind, Node};
 
 /// The frame of an operator that is no word, before its operand.
-static PREFIX: Frame = front_frame!(&[OWN], &[]);
+pub(crate) static PREFIX: Frame = front_frame!(&[OWN], &[]);
 
 /// The frame of an operator after its operand.
 static POSTFIX: Frame = front_frame!(&[&[]], OWN);
