@@ -14,7 +14,7 @@ import sys
 from lemmas import TOP
 
 # The word in the names of a kind, ESTree's name, and the most files that may know it.
-KINDS = (('import', 'ImportExpression', 98), ('debugger', 'DebuggerStatement', 75))
+KINDS = (('import', 'ImportExpression', 96), ('debugger', 'DebuggerStatement', 73))
 
 
 def is_source(path):
