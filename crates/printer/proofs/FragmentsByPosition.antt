@@ -8,7 +8,7 @@ use Rattle.language.specs.Pieces.{is_none}
 use Rattle.spelling_table.specs.declared.position.Position.{Position}
 use Rattle.spelling_table.specs.declared.position.Position.TheVariants as at
 use Rattle.printer.specs.Bits.{chunk, Shape, fronted}
-use Rattle.printer.specs.Shapes.{expression_shape, method_shape, head_shape}
+use Rattle.printer.specs.Shapes.{shape_by_kind, method_shape, head_shape}
 
 -- at a position
 abbrev pub shape_by : Position → Kind → List ℕ → Flags → Parts → Shape
@@ -16,7 +16,7 @@ shape_by at.ShorthandKey k w g ps = fronted [] []
 shape_by (at.TemplateElement a b) k w g ps = fronted [] (chunk a b ∷ [])
 shape_by (at.Method x) k w g ps = method_shape
 shape_by (at.ForDeclaration b) k w g ps = head_shape
-shape_by _ k w g ps = expression_shape k w g ps
+shape_by _ k w g ps = shape_by_kind k w g ps
 
 -- positions at which the shape is told by the node alone
 abbrev pub is_plain_at : Position → Bool

@@ -1,5 +1,4 @@
 pub mod Arrows
-pub mod Defaults
 pub mod Ends
 pub mod FusedTokens
 pub mod Heights

@@ -172,7 +172,7 @@ module _ (W : ℕ → Bool) where
 flags_read : (bs : List Bool) → Reads (wrapped_by bs) 1 bs
 flags_read bs i = let e : 1 + i ≡ suc i = omega arith in ap (wrapped_by bs) e
 
--- from an empty sheet, what was put in is the layout
+-- from an emitter at its beginning, what was put in is the layout
 pub whole_text : {a b : View} (bs : List Bool) (n : Tree) → a.apart ≡ None → a.flags ≡ bs →
     ((W : ℕ → Bool) (r : ℕ) → Reads W r a.flags → fits W n script r ≡ true → Printed W a b n script r 0) → fits (wrapped_by bs) n script 1 ≡ true → Puts a.out b.out (layout (wrapped_by bs) n script 1 0)
 whole_text {a} {b} bs n f h p k = λ before sofar stands.

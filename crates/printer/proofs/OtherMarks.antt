@@ -22,7 +22,7 @@ use Rattle.printer.specs.declared.site.Site.TheVariants.{Plain, ForDeclaration}
 use Rattle.printer.specs.declared.part_sites.PartSites.TheVariants.{AllPlain, LoopHead}
 use Rattle.printer.specs.Sites.{site_of, head_site}
 use Rattle.printer.specs.Bits.{Mark, text, line, here, deeper, shallower, piece_marks, nothing, lines, asking}
-use Rattle.printer.specs.Shapes.{expression_shape, method_shape, head_shape}
+use Rattle.printer.specs.Shapes.{shape_by_kind, method_shape, head_shape}
 use Rattle.printer.specs.Printed.{marks_in, front_marks, chain_marks, shape_marks}
 use Rattle.printer.proofs.ListMarks.{Standing, stands, refused, put_standing, Asks, bound_plain, lines-marks, members-marks, body-marks, declarators-marks}
 use Rattle.printer.proofs.FirstWayFragments.{Means, counts_up, Shaped, nowhere, one, shaped_if}
@@ -30,12 +30,12 @@ use Rattle.printer.proofs.TableMarks.{fixed_shape, fixed_means, function_means, 
 
 module _ (w : List ℕ) where
   abbrev pub Of : Kind → Flags → Parts → List Mark
-  Of k g ps = shape_marks w (expression_shape k w g ps) ps
+  Of k g ps = shape_marks w (shape_by_kind k w g ps) ps
 
   -- a node with no parts but its first ones, spelled so
-  pub plain_one : (k : Kind) (g : Flags) (ps : Parts) (qs : List Piece) → (expression_shape k w g ps).chain ≡ nothing → (expression_shape k w g ps).opener ≡ [] →
-      piece_marks qs ≡ front_marks w (expression_shape k w g ps).sites 0 (expression_shape k w g ps).front ps (marks_in w (expression_shape k w g ps).closer) →
-      (counts_up (piece_marks qs) ps ≡ true → is_none (parts_after (length (expression_shape k w g ps).front) ps) ≡ true) → Shaped ps (Of k g ps) (only qs)
+  pub plain_one : (k : Kind) (g : Flags) (ps : Parts) (qs : List Piece) → (shape_by_kind k w g ps).chain ≡ nothing → (shape_by_kind k w g ps).opener ≡ [] →
+      piece_marks qs ≡ front_marks w (shape_by_kind k w g ps).sites 0 (shape_by_kind k w g ps).front ps (marks_in w (shape_by_kind k w g ps).closer) →
+      (counts_up (piece_marks qs) ps ≡ true → is_none (parts_after (length (shape_by_kind k w g ps).front) ps) ≡ true) → Shaped ps (Of k g ps) (only qs)
   plain_one k g ps qs e f h c = one (fixed_means w k g ps Primary qs e f h c)
 
   -- Braces
@@ -150,7 +150,7 @@ module _ (w : List ℕ) where
   try_ways r g (part b (gap (part f (part m ps)))) = nowhere
 
   -- a word and what may stand behind it
-  word_ways : (k : Kind) (s : Prim.Native.String.String) (g : Flags) (ps : Parts) (p : Piece) (e : piece.Ending) → Standing Plain p → ((qs : Parts) → expression_shape k w g qs ≡ Rattle.printer.specs.Shapes.word_shape s (Rattle.printer.specs.Shapes.has_part qs 0)) →
+  word_ways : (k : Kind) (s : Prim.Native.String.String) (g : Flags) (ps : Parts) (p : Piece) (e : piece.Ending) → Standing Plain p → ((qs : Parts) → shape_by_kind k w g qs ≡ Rattle.printer.specs.Shapes.word_shape s (Rattle.printer.specs.Shapes.has_part qs 0)) →
       Shaped ps (Of k g ps) (only ((term s ∷ Rattle.language.specs.Statements.after_word ps p) ++ ending e ∷ []))
   word_ways k s g none p e x h = one (λ r c. absurd (false≢true r))
   word_ways k s g (gap ps) p e x h = one (λ r c. fixed_shape w (Rattle.printer.specs.Shapes.word_shape s false) (gap ps) (term s ∷ absent ∷ ending e ∷ []) refl refl refl c ∙ ap (λ v. shape_marks w v (gap ps)) (sym (h (gap ps))))

@@ -24,7 +24,7 @@ use Rattle.spelling_table.specs.Outlines.{role_of, parts_after}
 use Rattle.printer.specs.declared.site.Site.TheVariants.{Plain}
 use Rattle.printer.specs.Sites.{slot_site}
 use Rattle.printer.specs.Bits.{Mark, text, line, here, deeper, shallower, piece_marks, Bit, Chain, nothing, commas, lines, Shape, fronted}
-use Rattle.printer.specs.Shapes.{expression_shape, method_shape, head_shape, sign_at, property_shape, class_member_shape, case_shape, catch_shape, declarator_shape, member_shape, call_shape}
+use Rattle.printer.specs.Shapes.{shape_by_kind, method_shape, head_shape, sign_at, property_shape, class_member_shape, case_shape, catch_shape, declarator_shape, member_shape, call_shape}
 use Rattle.printer.proofs.FragmentsByPosition.{shape_by}
 use Rattle.printer.specs.Printed.{marks_in, front_marks, shape_marks}
 use Rattle.printer.proofs.ListMarks.{Asks, bound_plain, default_plain, elements-marks, listed-marks, lines-marks, items-marks, declarators-marks, object_pattern_standing, element_standing}

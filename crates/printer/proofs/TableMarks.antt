@@ -24,7 +24,7 @@ use Rattle.printer.specs.declared.part_sites.PartSites.{PartSites}
 use Rattle.printer.specs.declared.part_sites.PartSites.TheVariants.{AllPlain}
 use Rattle.printer.specs.Sites.{slot_site}
 use Rattle.printer.specs.Bits.{Mark, text, here, loose, apart, piece_marks, Bit, own_text, Chain, nothing, commas, joined, Shape, fronted}
-use Rattle.printer.specs.Shapes.{expression_shape, sign_of_text, sign_at, spelled, gapped, close_space, between, infix_bits, is_single, after_open_number}
+use Rattle.printer.specs.Shapes.{shape_by_kind, sign_of_text, sign_at, spelled, gapped, close_space, between, infix_bits, is_single, after_open_number}
 use Rattle.printer.specs.declared.fragments.SignOperator.TheVariants.{Plus, Minus}
 use Rattle.printer.specs.Printed.{marks_in, front_marks, chain_marks, deep, shape_marks}
 use Rattle.printer.proofs.ListMarks.{listed-marks, elements-marks, parameters-marks, sequence-marks, chunks-marks, argument_standing, object_standing}
@@ -54,20 +54,20 @@ module _ (w : List ℕ) where
       ∙ sym (ap₂ (λ o t. front_marks w s.sites 0 s.front ps (marks_in w o ++ deep t (chain_marks w s.sites t (length s.front) (parts_after (length s.front) ps)) (marks_in w s.closer))) f e)
 
   abbrev pub Of : Kind → Flags → Parts → List Mark
-  Of k g ps = shape_marks w (expression_shape k w g ps) ps
+  Of k g ps = shape_marks w (shape_by_kind k w g ps) ps
 
   -- such a node, spelled so
-  pub fixed_means : (k : Kind) (g : Flags) (ps : Parts) (z : Rank) (qs : List Piece) → (expression_shape k w g ps).chain ≡ nothing → (expression_shape k w g ps).opener ≡ [] →
-      piece_marks qs ≡ front_marks w (expression_shape k w g ps).sites 0 (expression_shape k w g ps).front ps (marks_in w (expression_shape k w g ps).closer) →
-      (counts_up (piece_marks qs) ps ≡ true → is_none (parts_after (length (expression_shape k w g ps).front) ps) ≡ true) → Means ps (Of k g ps) (at z qs)
-  fixed_means k g ps z qs e f h c r u = fixed_shape (expression_shape k w g ps) ps qs e f h (c u)
+  pub fixed_means : (k : Kind) (g : Flags) (ps : Parts) (z : Rank) (qs : List Piece) → (shape_by_kind k w g ps).chain ≡ nothing → (shape_by_kind k w g ps).opener ≡ [] →
+      piece_marks qs ≡ front_marks w (shape_by_kind k w g ps).sites 0 (shape_by_kind k w g ps).front ps (marks_in w (shape_by_kind k w g ps).closer) →
+      (counts_up (piece_marks qs) ps ≡ true → is_none (parts_after (length (shape_by_kind k w g ps).front) ps) ≡ true) → Means ps (Of k g ps) (at z qs)
+  fixed_means k g ps z qs e f h c r u = fixed_shape (shape_by_kind k w g ps) ps qs e f h (c u)
 
   abbrev pub same_count : {b : Bool} → b ≡ true → b ≡ true
   same_count h = h
 
-  fixed_one : (k : Kind) (g : Flags) (ps : Parts) (z : Rank) (qs : List Piece) → (expression_shape k w g ps).chain ≡ nothing → (expression_shape k w g ps).opener ≡ [] →
-      piece_marks qs ≡ front_marks w (expression_shape k w g ps).sites 0 (expression_shape k w g ps).front ps (marks_in w (expression_shape k w g ps).closer) →
-      (counts_up (piece_marks qs) ps ≡ true → is_none (parts_after (length (expression_shape k w g ps).front) ps) ≡ true) → Shaped ps (Of k g ps) (at z qs ∷ [])
+  fixed_one : (k : Kind) (g : Flags) (ps : Parts) (z : Rank) (qs : List Piece) → (shape_by_kind k w g ps).chain ≡ nothing → (shape_by_kind k w g ps).opener ≡ [] →
+      piece_marks qs ≡ front_marks w (shape_by_kind k w g ps).sites 0 (shape_by_kind k w g ps).front ps (marks_in w (shape_by_kind k w g ps).closer) →
+      (counts_up (piece_marks qs) ps ≡ true → is_none (parts_after (length (shape_by_kind k w g ps).front) ps) ≡ true) → Shaped ps (Of k g ps) (at z qs ∷ [])
   fixed_one k g ps z qs e f h c = one (fixed_means k g ps z qs e f h c)
 
   -- functions and classes, as expressions and as declarations
@@ -285,10 +285,10 @@ module _ (w : List ℕ) where
       (sym (ap (λ t. counts_up t ps) (sign_spaces (is w "+") (is w "-") (no_signs n).0 (no_signs n).2 (put (piece.expr Unary true Any) ∷ []))) ∙ c)
       ∙ ap (λ b. shape_marks w (word_shape_by b) ps) (sym u))))
 
-  infix_fixed : (k : Kind) (g : Flags) (ps : Parts) (z : Rank) (x y : Slot) → slot_site x ≡ Plain → slot_site y ≡ Plain → expression_shape k w g ps ≡ fronted ([] ∷ infix_bits ∷ []) [] → Means ps (Of k g ps) (record { rank = z; needs_in = false; pieces = sub x ∷ infix_pieces w ++ sub y ∷ [] })
+  infix_fixed : (k : Kind) (g : Flags) (ps : Parts) (z : Rank) (x y : Slot) → slot_site x ≡ Plain → slot_site y ≡ Plain → shape_by_kind k w g ps ≡ fronted ([] ∷ infix_bits ∷ []) [] → Means ps (Of k g ps) (record { rank = z; needs_in = false; pieces = sub x ∷ infix_pieces w ++ sub y ∷ [] })
   infix_fixed k g ps z x y a b e r c = fixed_shape (fronted ([] ∷ infix_bits ∷ []) []) ps (sub x ∷ infix_pieces w ++ sub y ∷ []) refl refl (ap₂ (λ u v. here u ∷ text (codes " ") ∷ text w ∷ text (codes " ") ∷ here v ∷ []) a b) c ∙ ap (λ s. shape_marks w s ps) (sym e)
 
-  joins : (k : Kind) (g : Flags) (ps : Parts) (z q : Rank) → expression_shape k w g ps ≡ fronted ([] ∷ infix_bits ∷ []) [] → Means ps (Of k g ps) (joined_spelling w z q)
+  joins : (k : Kind) (g : Flags) (ps : Parts) (z q : Rank) → shape_by_kind k w g ps ≡ fronted ([] ∷ infix_bits ∷ []) [] → Means ps (Of k g ps) (joined_spelling w z q)
   joins k g ps z q e r c = infix_fixed k g ps z (piece.left z) (piece.tail q Any) refl refl e r c
 
   binaries : (g : Flags) (ps : Parts) (o : Operator) → Shaped ps (Of kind.BinaryExpression g ps) (binary_ways w o)

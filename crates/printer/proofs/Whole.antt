@@ -30,7 +30,7 @@ use Rattle.printer.specs.declared.fragments.SignOperator.TheVariants.{Plus, Minu
 use Rattle.printer.specs.declared.part_sites.PartSites.{PartSites}
 use Rattle.printer.specs.Sites.{site_in, site_at}
 use Rattle.printer.specs.Bits.{Mark, here, marks_of, Bit, Chain, Shape, before_bits, after_bits}
-use Rattle.printer.specs.Shapes.{expression_shape, sign_of_text, sign_at, has_part, is_single, after_open_number, if_shape, try_shape, for_shape, declarator_shape, word_shape, braced_shape, case_shape, catch_shape, arrow_shape, class_shape, member_shape}
+use Rattle.printer.specs.Shapes.{shape_by_kind, sign_of_text, sign_at, has_part, is_single, after_open_number, if_shape, try_shape, for_shape, declarator_shape, word_shape, braced_shape, case_shape, catch_shape, arrow_shape, class_shape, member_shape}
 use Rattle.printer.proofs.FragmentsByPosition.{shape_by}
 use Rattle.printer.specs.Sheets.{View, Writes}
 use Rattle.printer.proofs.WrittenTexts.{leads_then, leads_at}
@@ -70,10 +70,9 @@ open-bare none = refl
 open-bare (gap ps) = refl
 open-bare (part (node k w g s e us) ps) = refl
 
-shape-bare : (k : Kind) (w : List ℕ) (g : Flags) (ps : Parts) → expression_shape k w g (bare_parts ps) ≡ expression_shape k w g ps
+shape-bare : (k : Kind) (w : List ℕ) (g : Flags) (ps : Parts) → shape_by_kind k w g (bare_parts ps) ≡ shape_by_kind k w g ps
 shape-bare kind.IfStatement w g ps = ap if_shape (part-bare ps 2)
 shape-bare kind.TryStatement w g ps = ap₂ try_shape (part-bare ps 1) (part-bare ps 2)
-shape-bare kind.TemplateElement w g ps = ap₂ for_shape (part-bare ps 1) (part-bare ps 2)
 shape-bare kind.ForStatement w g ps = ap₂ for_shape (part-bare ps 1) (part-bare ps 2)
 shape-bare kind.VariableDeclarator w g ps = ap declarator_shape (part-bare ps 1)
 shape-bare kind.ReturnStatement w g ps = ap (word_shape "return") (part-bare ps 0)

@@ -13,7 +13,7 @@ use Rattle.spelling_table.specs.declared.position.Position.{Position}
 use Rattle.spelling_table.specs.declared.position.Position.TheVariants as at
 use Rattle.spelling_table.specs.Outlines.{role_of}
 use Rattle.printer.specs.Bits.{text, own_text, fronted}
-use Rattle.printer.specs.Shapes.{expression_shape, sign_at}
+use Rattle.printer.specs.Shapes.{shape_by_kind, sign_at}
 use Rattle.printer.proofs.FragmentsByPosition.{shape_by, is_plain_at, is_word_at}
 use Rattle.printer.specs.Sheets.{View, Writes}
 use Rattle.printer.specs.Printed.{shape_marks, Reads, Direct, Written, spelled_so}
@@ -25,7 +25,7 @@ both : (u v : Bool) → (u && v) ≡ true → (u ≡ true) × (v ≡ true)
 both true v h = (refl, h)
 both false v h = absurd (false≢true h)
 
-plain_shape : (p : Position) (k : Kind) (w : List ℕ) (g : Flags) (ps : Parts) → is_plain_at p ≡ true → shape_by p k w g ps ≡ expression_shape k w g ps
+plain_shape : (p : Position) (k : Kind) (w : List ℕ) (g : Flags) (ps : Parts) → is_plain_at p ≡ true → shape_by p k w g ps ≡ shape_by_kind k w g ps
 plain_shape at.ShorthandKey k w g ps h = absurd (false≢true h)
 plain_shape (at.TemplateElement a b) k w g ps h = absurd (false≢true h)
 plain_shape (at.Method x) k w g ps h = absurd (false≢true h)

@@ -62,13 +62,6 @@ for_shape t u = asking LoopHead (headed "for" ∷ cond t (spelled ";" ∷ gapped
 abbrev pub do_shape : Shape
 do_shape = fronted (after_word "do" ∷ (gapped ∷ spelled "while" ∷ gapped ∷ spelled "(" ∷ []) ∷ []) (spelled ")" ∷ spelled ";" ∷ [])
 
-abbrev pub loop_shape : Kind → Parts → Shape
-loop_shape kind.WhileStatement ps = fronted (headed "while" ∷ close_space ∷ []) []
-loop_shape kind.DoWhileStatement ps = do_shape
-loop_shape kind.ForInStatement ps = asking LoopHead (headed "for" ∷ between "in" ∷ close_space ∷ []) []
-loop_shape kind.ForOfStatement ps = asking LoopHead (headed "for" ∷ between "of" ∷ close_space ∷ []) []
-loop_shape k ps = for_shape (has_part ps 1) (has_part ps 2)
-
 abbrev pub if_shape : Bool → Shape
 if_shape b = fronted (headed "if" ∷ close_space ∷ cond b (between "else") [] ∷ []) []
 
@@ -76,12 +69,6 @@ abbrev pub try_shape : Bool → Bool → Shape
 try_shape true true = fronted (after_word "try" ∷ (gapped ∷ []) ∷ between "finally" ∷ []) []
 try_shape true false = fronted (after_word "try" ∷ (gapped ∷ []) ∷ [] ∷ []) []
 try_shape false b = fronted (after_word "try" ∷ [] ∷ between "finally" ∷ []) []
-
-abbrev pub branch_shape : Kind → Parts → Shape
-branch_shape kind.IfStatement ps = if_shape (has_part ps 2)
-branch_shape kind.LabeledStatement ps = fronted ([] ∷ colon_space ∷ []) []
-branch_shape kind.TryStatement ps = try_shape (has_part ps 1) (has_part ps 2)
-branch_shape k ps = loop_shape k ps
 
 -- a word, with a part behind it or none
 abbrev pub word_shape : String → Bool → Shape
@@ -92,18 +79,6 @@ declarator_shape b = fronted ([] ∷ cond b (between "=") [] ∷ []) []
 
 abbrev pub head_shape : Shape
 head_shape = listed (own_text ∷ gapped ∷ []) commas []
-
-abbrev pub statement_shape : Kind → Parts → Shape
-statement_shape kind.VariableDeclaration ps = listed (own_text ∷ gapped ∷ []) commas statement_end
-statement_shape kind.VariableDeclarator ps = declarator_shape (has_part ps 1)
-statement_shape kind.ExpressionStatement ps = fronted ([] ∷ []) statement_end
-statement_shape kind.EmptyStatement ps = fronted [] statement_end
-statement_shape kind.DebuggerStatement ps = fronted [] (spelled "debugger" ∷ spelled ";" ∷ [])
-statement_shape kind.ReturnStatement ps = word_shape "return" (has_part ps 0)
-statement_shape kind.BreakStatement ps = word_shape "break" (has_part ps 0)
-statement_shape kind.ContinueStatement ps = word_shape "continue" (has_part ps 0)
-statement_shape kind.ThrowStatement ps = fronted (after_word "throw" ∷ []) statement_end
-statement_shape k ps = branch_shape k ps
 
 -- Lists of statements
 
@@ -119,15 +94,6 @@ case_shape false = record { front = [] ∷ []; opener = spelled "default" ∷ sp
 abbrev pub catch_shape : Bool → Shape
 catch_shape true = fronted (headed "catch" ∷ close_space ∷ []) []
 catch_shape false = fronted ([] ∷ after_word "catch" ∷ []) []
-
-abbrev pub block_shape : Kind → Parts → Shape
-block_shape kind.Program ps = listed [] feeds (token [] ∷ [])
-block_shape kind.BlockStatement ps = braced_shape [] (spelled "{" ∷ []) (not (is_none (parts_after 0 ps)))
-block_shape kind.ClassBody ps = braced_shape [] (spelled "{" ∷ []) (not (is_none (parts_after 0 ps)))
-block_shape kind.SwitchStatement ps = braced_shape (headed "switch" ∷ []) (spelled ")" ∷ gapped ∷ spelled "{" ∷ []) (not (is_none (parts_after 1 ps)))
-block_shape kind.SwitchCase ps = case_shape (has_part ps 0)
-block_shape kind.CatchClause ps = catch_shape (has_part ps 0)
-block_shape k ps = statement_shape k ps
 
 -- Functions, classes, properties and members
 
@@ -187,16 +153,6 @@ abbrev pub class_member_shape : Bool → Form → Bool → Shape
 class_member_shape true x b = static_shape x b
 class_member_shape false x b = own_member_shape x b
 
-abbrev pub definition_shape : Kind → Flags → Parts → Shape
-definition_shape kind.FunctionExpression g ps = function_list_shape (after_word "function" ∷ [])
-definition_shape kind.FunctionDeclaration g ps = function_list_shape (after_word "function" ∷ [])
-definition_shape kind.ArrowFunctionExpression g ps = arrow_shape (is_single ps)
-definition_shape kind.ClassExpression g ps = class_shape (has_part ps 0) (has_part ps 1)
-definition_shape kind.ClassDeclaration g ps = class_shape (has_part ps 0) (has_part ps 1)
-definition_shape kind.Property g ps = property_shape g.form g.computed
-definition_shape kind.MethodDefinition g ps = class_member_shape g.is_static g.form g.computed
-definition_shape k g ps = block_shape k ps
-
 -- Expressions
 
 abbrev pub update_shape : Bool → Shape
@@ -227,37 +183,65 @@ abbrev pub call_shape : Bool → Shape
 call_shape true = call_list_shape ([] ∷ []) (spelled "?." ∷ spelled "(" ∷ [])
 call_shape false = call_list_shape ([] ∷ []) (spelled "(" ∷ [])
 
-abbrev pub operation_shape : Kind → List ℕ → Flags → Parts → Shape
-operation_shape kind.UpdateExpression w g ps = update_shape g.prefix
-operation_shape kind.UnaryExpression w g ps = unary_shape w
-operation_shape kind.BinaryExpression w g ps = fronted ([] ∷ infix_bits ∷ []) []
-operation_shape kind.LogicalExpression w g ps = fronted ([] ∷ infix_bits ∷ []) []
-operation_shape kind.AssignmentExpression w g ps = fronted ([] ∷ infix_bits ∷ []) []
-operation_shape kind.ConditionalExpression w g ps = fronted ([] ∷ between "?" ∷ between ":" ∷ []) []
-operation_shape kind.SequenceExpression w g ps = listed [] commas []
-operation_shape kind.MemberExpression w g ps = member_shape g.optional g.computed (after_open_number ps)
-operation_shape kind.CallExpression w g ps = call_shape g.optional
-operation_shape kind.NewExpression w g ps = call_list_shape (after_word "new" ∷ []) (spelled "(" ∷ [])
-operation_shape k w g ps = definition_shape k g ps
-
-abbrev pub expression_shape : Kind → List ℕ → Flags → Parts → Shape
-expression_shape kind.Identifier w g ps = fronted [] (own_text ∷ [])
-expression_shape kind.Literal w g ps = fronted [] (own_text ∷ [])
-expression_shape kind.ThisExpression w g ps = fronted [] (spelled "this" ∷ [])
-expression_shape kind.Super w g ps = fronted [] (spelled "super" ∷ [])
-expression_shape kind.ArrayExpression w g ps = listed (spelled "[" ∷ []) commas (spelled "]" ∷ [])
-expression_shape kind.ArrayPattern w g ps = listed (spelled "[" ∷ []) commas (spelled "]" ∷ [])
-expression_shape kind.ObjectExpression w g ps = listed (spelled "{" ∷ []) commas (spelled "}" ∷ [])
-expression_shape kind.ObjectPattern w g ps = listed (spelled "{" ∷ []) commas (spelled "}" ∷ [])
-expression_shape kind.TemplateLiteral w g ps = record { front = []; opener = []; chain = joined; closer = []; sites = TemplateParts }
-expression_shape kind.SpreadElement w g ps = fronted ((spelled "..." ∷ []) ∷ []) []
-expression_shape kind.RestElement w g ps = fronted ((spelled "..." ∷ []) ∷ []) []
-expression_shape kind.AssignmentPattern w g ps = fronted ([] ∷ between "=" ∷ []) []
-expression_shape kind.TaggedTemplateExpression w g ps = fronted ([] ∷ [] ∷ []) []
-expression_shape kind.ChainExpression w g ps = fronted ([] ∷ []) []
-expression_shape kind.ImportExpression w g ps = fronted ((spelled "import" ∷ spelled "(" ∷ []) ∷ []) (spelled ")" ∷ [])
-expression_shape kind.MetaProperty w g ps = fronted ([] ∷ (spelled "." ∷ []) ∷ []) []
-expression_shape k w g ps = operation_shape k w g ps
+-- at a plain site, by the kind
+abbrev pub shape_by_kind : Kind → List ℕ → Flags → Parts → Shape
+shape_by_kind kind.Identifier w g ps = fronted [] (own_text ∷ [])
+shape_by_kind kind.Literal w g ps = fronted [] (own_text ∷ [])
+shape_by_kind kind.TemplateElement w g ps = fronted [] (own_text ∷ [])
+shape_by_kind kind.ThisExpression w g ps = fronted [] (spelled "this" ∷ [])
+shape_by_kind kind.Super w g ps = fronted [] (spelled "super" ∷ [])
+shape_by_kind kind.ArrayExpression w g ps = listed (spelled "[" ∷ []) commas (spelled "]" ∷ [])
+shape_by_kind kind.ArrayPattern w g ps = listed (spelled "[" ∷ []) commas (spelled "]" ∷ [])
+shape_by_kind kind.ObjectExpression w g ps = listed (spelled "{" ∷ []) commas (spelled "}" ∷ [])
+shape_by_kind kind.ObjectPattern w g ps = listed (spelled "{" ∷ []) commas (spelled "}" ∷ [])
+shape_by_kind kind.TemplateLiteral w g ps = record { front = []; opener = []; chain = joined; closer = []; sites = TemplateParts }
+shape_by_kind kind.SpreadElement w g ps = fronted ((spelled "..." ∷ []) ∷ []) []
+shape_by_kind kind.RestElement w g ps = fronted ((spelled "..." ∷ []) ∷ []) []
+shape_by_kind kind.AssignmentPattern w g ps = fronted ([] ∷ between "=" ∷ []) []
+shape_by_kind kind.TaggedTemplateExpression w g ps = fronted ([] ∷ [] ∷ []) []
+shape_by_kind kind.ChainExpression w g ps = fronted ([] ∷ []) []
+shape_by_kind kind.ImportExpression w g ps = fronted ((spelled "import" ∷ spelled "(" ∷ []) ∷ []) (spelled ")" ∷ [])
+shape_by_kind kind.MetaProperty w g ps = fronted ([] ∷ (spelled "." ∷ []) ∷ []) []
+shape_by_kind kind.UpdateExpression w g ps = update_shape g.prefix
+shape_by_kind kind.UnaryExpression w g ps = unary_shape w
+shape_by_kind kind.BinaryExpression w g ps = fronted ([] ∷ infix_bits ∷ []) []
+shape_by_kind kind.LogicalExpression w g ps = fronted ([] ∷ infix_bits ∷ []) []
+shape_by_kind kind.AssignmentExpression w g ps = fronted ([] ∷ infix_bits ∷ []) []
+shape_by_kind kind.ConditionalExpression w g ps = fronted ([] ∷ between "?" ∷ between ":" ∷ []) []
+shape_by_kind kind.SequenceExpression w g ps = listed [] commas []
+shape_by_kind kind.MemberExpression w g ps = member_shape g.optional g.computed (after_open_number ps)
+shape_by_kind kind.CallExpression w g ps = call_shape g.optional
+shape_by_kind kind.NewExpression w g ps = call_list_shape (after_word "new" ∷ []) (spelled "(" ∷ [])
+shape_by_kind kind.FunctionExpression w g ps = function_list_shape (after_word "function" ∷ [])
+shape_by_kind kind.FunctionDeclaration w g ps = function_list_shape (after_word "function" ∷ [])
+shape_by_kind kind.ArrowFunctionExpression w g ps = arrow_shape (is_single ps)
+shape_by_kind kind.ClassExpression w g ps = class_shape (has_part ps 0) (has_part ps 1)
+shape_by_kind kind.ClassDeclaration w g ps = class_shape (has_part ps 0) (has_part ps 1)
+shape_by_kind kind.Property w g ps = property_shape g.form g.computed
+shape_by_kind kind.MethodDefinition w g ps = class_member_shape g.is_static g.form g.computed
+shape_by_kind kind.Program w g ps = listed [] feeds (token [] ∷ [])
+shape_by_kind kind.BlockStatement w g ps = braced_shape [] (spelled "{" ∷ []) (not (is_none (parts_after 0 ps)))
+shape_by_kind kind.ClassBody w g ps = braced_shape [] (spelled "{" ∷ []) (not (is_none (parts_after 0 ps)))
+shape_by_kind kind.SwitchStatement w g ps = braced_shape (headed "switch" ∷ []) (spelled ")" ∷ gapped ∷ spelled "{" ∷ []) (not (is_none (parts_after 1 ps)))
+shape_by_kind kind.SwitchCase w g ps = case_shape (has_part ps 0)
+shape_by_kind kind.CatchClause w g ps = catch_shape (has_part ps 0)
+shape_by_kind kind.VariableDeclaration w g ps = listed (own_text ∷ gapped ∷ []) commas statement_end
+shape_by_kind kind.VariableDeclarator w g ps = declarator_shape (has_part ps 1)
+shape_by_kind kind.ExpressionStatement w g ps = fronted ([] ∷ []) statement_end
+shape_by_kind kind.EmptyStatement w g ps = fronted [] statement_end
+shape_by_kind kind.DebuggerStatement w g ps = fronted [] (spelled "debugger" ∷ spelled ";" ∷ [])
+shape_by_kind kind.ReturnStatement w g ps = word_shape "return" (has_part ps 0)
+shape_by_kind kind.BreakStatement w g ps = word_shape "break" (has_part ps 0)
+shape_by_kind kind.ContinueStatement w g ps = word_shape "continue" (has_part ps 0)
+shape_by_kind kind.ThrowStatement w g ps = fronted (after_word "throw" ∷ []) statement_end
+shape_by_kind kind.IfStatement w g ps = if_shape (has_part ps 2)
+shape_by_kind kind.LabeledStatement w g ps = fronted ([] ∷ colon_space ∷ []) []
+shape_by_kind kind.TryStatement w g ps = try_shape (has_part ps 1) (has_part ps 2)
+shape_by_kind kind.WhileStatement w g ps = fronted (headed "while" ∷ close_space ∷ []) []
+shape_by_kind kind.DoWhileStatement w g ps = do_shape
+shape_by_kind kind.ForInStatement w g ps = asking LoopHead (headed "for" ∷ between "in" ∷ close_space ∷ []) []
+shape_by_kind kind.ForOfStatement w g ps = asking LoopHead (headed "for" ∷ between "of" ∷ close_space ∷ []) []
+shape_by_kind kind.ForStatement w g ps = for_shape (has_part ps 1) (has_part ps 2)
 
 -- at a site
 abbrev pub shape_on : Site → Kind → List ℕ → Flags → Parts → Shape
@@ -268,7 +252,7 @@ shape_on site.LastTemplateElement k w g ps = fronted [] (chunk false true ∷ []
 shape_on site.InnerTemplateElement k w g ps = fronted [] (chunk false false ∷ [])
 shape_on site.Method k w g ps = method_shape
 shape_on site.ForDeclaration k w g ps = head_shape
-shape_on _ k w g ps = expression_shape k w g ps
+shape_on site.Plain k w g ps = shape_by_kind k w g ps
 
 -- a prefix that may not touch its own sign
 abbrev pub sign_of_text : List ℕ → Option SignOperator

@@ -1,4 +1,4 @@
--- Sheets
+-- What an emitter shows, and what it writes of a fragment.
 use Rattle.std.specs.Prelude.{◌≡◌, ℕ, zero, suc, Bool, false, cond, nat_eq, slice_index_or, List, [], ◌∷◌, ◌++◌, codes, Option, Some, None}
 use Rattle.language.specs.Layout.{indent}
 use Rattle.printer.specs.declared.fragments.SignOperator.{SignOperator}
@@ -26,7 +26,7 @@ abbrev pub other_flags : List Bool → List Bool
 other_flags [] = []
 other_flags (b ∷ bs) = bs
 
--- a sheet beside what it is written to
+-- an emitter beside what it writes to
 pub record View : Type 0 where
   pub out : Standing
   pub apart : Option SignOperator

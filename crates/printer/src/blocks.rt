@@ -1,16 +1,12 @@
-//! What stands round the parts of lists of statements.
+//! What stands round the parts of blocks, switches and catch clauses.
 
 ghost use Rattle.std.specs.Prelude.{◌≡◌, [], ◌∷◌};
-ghost use Rattle.tree.specs.Node.{node_tree};
-ghost use Rattle.tree.specs.Tree.{kind_of, parts_of};
 ghost use Rattle.printer.specs.Bits.{shape_of, fused_shape};
-ghost use Rattle.printer.specs.Shapes.{spelled, gapped, headed, block_shape, braced_shape, case_shape, catch_shape};
+ghost use Rattle.printer.specs.Shapes.{spelled, gapped, headed, braced_shape, case_shape, catch_shape};
 
 use crate::fragments::{Fragment, Frame, ListLayout, front_frame, list_frame};
 use crate::part_sites::PartSites;
-use crate::shared_fragments::{CLOSE_SPACE, has_part, is_filled};
-use crate::statements::statement_frame;
-use tree::{Kind, Node};
+use crate::shared_fragments::CLOSE_SPACE;
 
 /// `{`.
 const BRACE: &[Fragment] = &[Fragment::Token("{")];
@@ -26,9 +22,6 @@ const SWITCH: &[Fragment] = &[Fragment::Token("switch (")];
 
 /// `) {`, after the discriminant of a `switch`.
 const SWITCH_BRACE: &[Fragment] = &[Fragment::Token(") {")];
-
-/// With nothing at its end.
-static SCRIPT: Frame = list_frame!(&[], Feeds, &[Fragment::Token("")]);
 
 /// The frame of a block that isn't empty: each statement on a line of its own.
 static BLOCK: Frame = list_frame!(BRACE, Lines, LINE_END_BRACE);
@@ -78,43 +71,29 @@ static CATCH_BINDING: Frame = front_frame!(&[&[Fragment::Token("catch (")], CLOS
 /// The frame of a `catch` without a parameter.
 static CATCH: Frame = front_frame!(&[&[], &[Fragment::Token("catch ")]], &[]);
 
-/// Scripts, blocks, class bodies, switches and cases.
-pub(crate) fn block_frame(node: Node) -> &'static Frame
-    ensures { shape_of result.now ≡ fused_shape (block_shape (kind_of (node_tree node.entry)) (parts_of (node_tree node.entry))) }
-{
-    match node.kind() {
-        Kind::Program => &SCRIPT,
-        Kind::BlockStatement | Kind::ClassBody => braced(is_filled(node, 0)),
-        Kind::SwitchStatement => switch_frame(is_filled(node, 1)),
-        Kind::SwitchCase => case_frame(has_part(node, 0)),
-        Kind::CatchClause => catch_frame(has_part(node, 0)),
-        _ => statement_frame(node),
-    }
-}
-
 /// Parts on lines of their own, in braces.
-fn braced(filled: bool) -> &'static Frame
+pub(crate) fn braced(filled: bool) -> &'static Frame
     ensures { shape_of result.now ≡ fused_shape (braced_shape [] (spelled "{" ∷ []) filled) }
 {
     if filled { &BLOCK } else { &EMPTY_BLOCK }
 }
 
 /// A switch, by whether it has cases.
-fn switch_frame(filled: bool) -> &'static Frame
+pub(crate) fn switch_frame(filled: bool) -> &'static Frame
     ensures { shape_of result.now ≡ fused_shape (braced_shape (headed "switch" ∷ []) (spelled ")" ∷ gapped ∷ spelled "{" ∷ []) filled) }
 {
     if filled { &CASES } else { &NO_CASES }
 }
 
 /// A case, by whether it has a test.
-fn case_frame(tested: bool) -> &'static Frame
+pub(crate) fn case_frame(tested: bool) -> &'static Frame
     ensures { shape_of result.now ≡ fused_shape (case_shape tested) }
 {
     if tested { &CASE } else { &DEFAULT_CASE }
 }
 
 /// A catch clause, by whether it has a binding.
-fn catch_frame(binds: bool) -> &'static Frame
+pub(crate) fn catch_frame(binds: bool) -> &'static Frame
     ensures { shape_of result.now ≡ fused_shape (catch_shape binds) }
 {
     if binds { &CATCH_BINDING } else { &CATCH }

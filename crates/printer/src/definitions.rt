@@ -1,19 +1,14 @@
-//! What stands round the parts of functions, classes, properties and members.
+//! What stands round the parts of arrow functions, classes, properties and members.
 
 ghost use Rattle.std.specs.Prelude.{◌≡◌};
 ghost use Rattle.tree.specs.Node.{node_tree};
-ghost use Rattle.tree.specs.Tree.{kind_of, flags_of, parts_of};
+ghost use Rattle.tree.specs.Tree.{parts_of};
 ghost use Rattle.printer.specs.Bits.{shape_of, fused_shape};
-ghost use Rattle.printer.specs.Shapes.{definition_shape, method_shape, arrow_shape, is_single as is_single_arrow, class_shape, property_shape, class_member_shape, value_shape, getter_shape, setter_shape, plain_shape, static_shape};
+ghost use Rattle.printer.specs.Shapes.{arrow_shape, is_single as is_single_arrow, class_shape, property_shape, class_member_shape, value_shape, getter_shape, setter_shape, plain_shape, static_shape};
 
-use crate::blocks::block_frame;
-use crate::fragments::{Fragment, Frame, ListLayout, asking_frame, front_frame, list_frame};
-use crate::part_sites::PartSites;
-use crate::shared_fragments::{COLON, END_BRACKET, OPEN, has_part};
+use crate::fragments::{Fragment, Frame, asking_frame, front_frame, list_frame};
+use crate::shared_fragments::{COLON, END_BRACKET, OPEN};
 use tree::{Flags, Form, Kind, Node};
-
-/// `function `.
-const FUNCTION: &[Fragment] = &[Fragment::Token("function ")];
 
 /// `class `.
 const CLASS: &[Fragment] = &[Fragment::Token("class ")];
@@ -50,25 +45,6 @@ const STATIC_SET: &[Fragment] = &[Fragment::Token("static set ")];
 
 /// `static set [`, before a computed key.
 const STATIC_SET_BRACKET: &[Fragment] = &[Fragment::Token("static set [")];
-
-/// Parameters in their parentheses, and a body, behind a part that stands behind these pieces.
-macro_rules! function_frame {
-    ($front:expr) => {
-        Frame {
-            front: &[$front],
-            opener: OPEN,
-            series: ListLayout::Parameters,
-            closer: &[],
-            sites: PartSites::AllPlain,
-        }
-    };
-}
-
-/// The frame of a function with its word: its name, if any, its parameters and its body.
-static NAMED_FUNCTION: Frame = function_frame!(FUNCTION);
-
-/// The frame of a method's function: its parameters and its body, without a word.
-static METHOD: Frame = function_frame!(&[]);
 
 /// The frame of an arrow function whose one parameter is a name, without parentheses.
 static NAMED_ARROW: Frame = front_frame!(&[&[], ARROW], &[]);
@@ -148,38 +124,15 @@ static STATIC_METHOD: Frame = asking_frame!(KeyAndMethod, &[STATIC, &[]]);
 /// The frame of a static method with a computed key.
 static COMPUTED_STATIC_METHOD: Frame = asking_frame!(KeyAndMethod, &[STATIC_BRACKET, END_BRACKET]);
 
-/// Functions, classes, properties and members.
-pub(crate) fn definition_frame(node: Node) -> &'static Frame
-    ensures { shape_of result.now ≡ fused_shape (definition_shape (kind_of (node_tree node.entry)) (flags_of (node_tree node.entry)) (parts_of (node_tree node.entry))) }
-{
-    match node.kind() {
-        Kind::FunctionExpression | Kind::FunctionDeclaration => &NAMED_FUNCTION,
-        Kind::ArrowFunctionExpression => arrow_frame(is_single(node)),
-        Kind::ClassExpression | Kind::ClassDeclaration => {
-            class_frame(has_part(node, 0), has_part(node, 1))
-        }
-        Kind::Property => property_frame(node.flags()),
-        Kind::MethodDefinition => member_frame(node.flags()),
-        _ => block_frame(node),
-    }
-}
-
-/// The function of a method, whose name is missing.
-pub(crate) fn method_frame() -> &'static Frame
-    ensures { shape_of result.now ≡ fused_shape method_shape }
-{
-    &METHOD
-}
-
 /// The frame of an arrow function; `single` if its one parameter is a name.
-fn arrow_frame(single: bool) -> &'static Frame
+pub(crate) fn arrow_frame(single: bool) -> &'static Frame
     ensures { shape_of result.now ≡ fused_shape (arrow_shape single) }
 {
     if single { &NAMED_ARROW } else { &LISTED_ARROW }
 }
 
 /// Whether an arrow has one parameter, which is a name.
-fn is_single(node: Node) -> bool
+pub(crate) fn is_single(node: Node) -> bool
     ensures { result ≡ is_single_arrow (parts_of (node_tree node.entry)) }
 {
     if node.part_count() != 2 {
@@ -192,7 +145,7 @@ fn is_single(node: Node) -> bool
 }
 
 /// A class, by whether it has a name and a heritage.
-fn class_frame(named: bool, extends: bool) -> &'static Frame
+pub(crate) fn class_frame(named: bool, extends: bool) -> &'static Frame
     ensures { shape_of result.now ≡ fused_shape (class_shape named extends) }
 {
     match (named, extends) {
@@ -204,7 +157,7 @@ fn class_frame(named: bool, extends: bool) -> &'static Frame
 }
 
 /// The frame of an object's property, by its form and whether its key is computed.
-fn property_frame(flags: Flags) -> &'static Frame
+pub(crate) fn property_frame(flags: Flags) -> &'static Frame
     ensures { shape_of result.now ≡ fused_shape (property_shape flags.form flags.computed) }
 {
     match flags.form {
@@ -217,7 +170,7 @@ fn property_frame(flags: Flags) -> &'static Frame
 }
 
 /// The frame of a class's member, by its form, whether it is static and whether its key is computed.
-fn member_frame(flags: Flags) -> &'static Frame
+pub(crate) fn class_member_frame(flags: Flags) -> &'static Frame
     ensures { shape_of result.now ≡ fused_shape (class_member_shape flags.is_static flags.form flags.computed) }
 {
     match (flags.is_static, flags.form) {

@@ -7,10 +7,9 @@ ghost use Rattle.language.specs.Layout.{indent};
 ghost use Rattle.printer.specs.Standings.{Puts};
 ghost use Rattle.printer.specs.Sheets.{Writes, seen, held, sign_code, flag_at, other_flags, chunk_text, piece_text, pieces_text};
 
-use crate::fragments::{Fragment, SignOperator};
+use crate::fragments::{Fragment, FramedNode, SignOperator};
 use crate::output_buffer::TextSink;
 use source_text::OutputBuffer;
-use tree::Node;
 
 /// The levels of depth that one text has.
 const LEVELS: usize = 8;
@@ -137,26 +136,25 @@ impl<'w> Emitter<'w> {
         }
     }
 
-    /// Writes the pieces of a node, which stand at a depth; `alone` says that the part before isn't wrapped.
+    /// Writes pieces of a node's frame; `previous_is_bare` says that the part before them isn't wrapped.
     #[inline(always)]
     pub(crate) fn push_all<O: TextSink>(
         &mut self,
         pieces: &[Fragment],
-        node: Node,
-        depth: usize,
+        framed: FramedNode,
         previous_is_bare: bool,
         out: &mut O,
     )
-        ensures { Writes (seen (O.stands out.old self.old.room) self.old) (seen (O.stands out.new self.new.room) self.new) (pieces_text (text_of (node_tree node.entry)) depth previous_is_bare pieces.now) }
+        ensures { Writes (seen (O.stands out.old self.old.room) self.old) (seen (O.stands out.new self.new.room) self.new) (pieces_text (text_of (node_tree framed.entry.node)) framed.entry.depth previous_is_bare pieces.now) }
     {
         match pieces {
             [] => {}
             [piece] => match *piece {
                 Fragment::Token(token) => self.push(token, out),
-                Fragment::Line => self.push_line(depth, out),
-                _ => self.push_each(pieces, node, depth, previous_is_bare, out),
+                Fragment::Line => self.push_line(framed.depth, out),
+                _ => self.push_each(pieces, framed, previous_is_bare, out),
             },
-            _ => self.push_each(pieces, node, depth, previous_is_bare, out),
+            _ => self.push_each(pieces, framed, previous_is_bare, out),
         }
     }
 
@@ -165,40 +163,38 @@ impl<'w> Emitter<'w> {
     fn push_each<O: TextSink>(
         &mut self,
         pieces: &[Fragment],
-        node: Node,
-        depth: usize,
+        framed: FramedNode,
         previous_is_bare: bool,
         out: &mut O,
     )
-        ensures { Writes (seen (O.stands out.old self.old.room) self.old) (seen (O.stands out.new self.new.room) self.new) (pieces_text (text_of (node_tree node.entry)) depth previous_is_bare pieces.now) }
+        ensures { Writes (seen (O.stands out.old self.old.room) self.old) (seen (O.stands out.new self.new.room) self.new) (pieces_text (text_of (node_tree framed.entry.node)) framed.entry.depth previous_is_bare pieces.now) }
     {
         for piece in pieces {
-            self.push_piece(*piece, node, depth, previous_is_bare, out);
+            self.push_piece(*piece, framed, previous_is_bare, out);
         }
     }
 
-    /// Writes one fragment of this node's frame; `depth` is the level of its lines.
+    /// Writes one of them.
     fn push_piece<O: TextSink>(
         &mut self,
         piece: Fragment,
-        node: Node,
-        depth: usize,
+        framed: FramedNode,
         previous_is_bare: bool,
         out: &mut O,
     )
-        ensures { Writes (seen (O.stands out.old self.old.room) self.old) (seen (O.stands out.new self.new.room) self.new) (piece_text (text_of (node_tree node.entry)) depth previous_is_bare piece) }
+        ensures { Writes (seen (O.stands out.old self.old.room) self.old) (seen (O.stands out.new self.new.room) self.new) (piece_text (text_of (node_tree framed.entry.node)) framed.entry.depth previous_is_bare piece) }
     {
         match piece {
             Fragment::Token(token) => self.push(token, out),
-            Fragment::NodeText => self.push(node.text(), out),
+            Fragment::NodeText => self.push(framed.node.text(), out),
             Fragment::TemplateElement { is_first, is_last } => self.push_template_element(
-                node.text(),
+                framed.node.text(),
                 is_first,
                 is_last,
                 out,
             ),
             Fragment::Space => self.push(" ", out),
-            Fragment::Line => self.push_line(depth, out),
+            Fragment::Line => self.push_line(framed.depth, out),
             Fragment::LineFeed => self.push("\n", out),
             Fragment::SpaceAfterNumber if previous_is_bare => self.push(" ", out),
             Fragment::SpaceAfterNumber => {}

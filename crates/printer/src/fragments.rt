@@ -4,6 +4,7 @@ ghost use Rattle.std.specs.Prelude.{◌≡◌, nat_eq};
 ghost use Rattle.printer.specs.Bits.{bits_of, chain_of, before_bits, after_bits, fused};
 
 use crate::part_sites::PartSites;
+use tree::Node;
 
 /// What stands between the parts of a node.
 #[derive(Clone, Copy)]
@@ -56,6 +57,15 @@ pub struct Frame {
     pub closer: &'static [Fragment],
     /// What the layout asks of the parts.
     pub sites: PartSites,
+}
+
+/// A node with what stands round its parts.
+#[derive(Clone, Copy)]
+pub struct FramedNode<'t, 's> {
+    pub node: Node<'t, 's>,
+    pub frame: &'static Frame,
+    /// How deep it stands, in levels.
+    pub depth: usize,
 }
 
 /// A prefix that may not touch itself.
@@ -125,6 +135,20 @@ macro_rules! list_frame {
     };
 }
 
+/// A node that is a list of arguments, in parentheses, behind a part.
+macro_rules! arguments_frame {
+    ($front:expr, $opener:expr) => {
+        $crate::fragments::Frame {
+            front: $front,
+            opener: $opener,
+            series: $crate::fragments::ListLayout::Commas,
+            closer: $crate::shared_fragments::CLOSE,
+            sites: $crate::part_sites::PartSites::AllPlain,
+        }
+    };
+}
+
+pub(crate) use arguments_frame;
 pub(crate) use asking_frame;
 pub(crate) use front_frame;
 pub(crate) use list_frame;

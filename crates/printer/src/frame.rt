@@ -1,18 +1,64 @@
-//! What stands round the parts of a node.
+//! What stands round the parts of a node, by its site and its kind. Where more than these decides, a function of the kind's family does.
 
 ghost use Rattle.std.specs.Prelude.{◌≡◌};
 ghost use Rattle.tree.specs.Node.{node_tree};
 ghost use Rattle.tree.specs.Tree.{kind_of, text_of, flags_of, parts_of};
 ghost use Rattle.printer.specs.Bits.{shape_of, fused_shape};
-ghost use Rattle.printer.specs.Shapes.{shape_on};
+ghost use Rattle.printer.specs.Shapes.{shape_on, shape_by_kind};
 ghost use Rattle.printer.specs.Sites.{is_word as is_word_at};
 
-use crate::definitions::method_frame;
-use crate::expressions::expression_frame;
-use crate::fragments::{Fragment, Frame, front_frame};
+use crate::blocks::{braced, case_frame, catch_frame, switch_frame};
+use crate::definitions::{arrow_frame, class_frame, class_member_frame, is_single, property_frame};
+use crate::expressions::{call_frame, is_open_number, member_frame, unary_frame, update_frame};
+use crate::fragments::{
+    Fragment, Frame, ListLayout, arguments_frame, asking_frame, front_frame, list_frame,
+};
+use crate::part_sites::PartSites;
+use crate::shared_fragments::{
+    BRACKET, CLOSE, CLOSE_SPACE, COLON, END_BRACKET, FOR, OPEN, OWN, SEMICOLON, has_part, is_filled,
+};
 use crate::site::{Site, is_plain};
-use crate::statements::head_frame;
+use crate::statements::{
+    break_frame, continue_frame, declarator_frame, for_frame, if_frame, return_frame, try_frame,
+};
 use tree::{Kind, Node};
+
+/// The operator, which is the node's text, between spaces.
+const INFIX: &[Fragment] = &[Fragment::Space, Fragment::NodeText, Fragment::Space];
+
+/// ` = `.
+const EQUALS: &[Fragment] = &[Fragment::Token(" = ")];
+
+/// `...`.
+const DOTS: &[Fragment] = &[Fragment::Token("...")];
+
+/// `function `.
+const FUNCTION: &[Fragment] = &[Fragment::Token("function ")];
+
+/// The declaration's word, which is the node's text, and a space.
+const DECLARATION: &[Fragment] = &[Fragment::NodeText, Fragment::Space];
+
+/// `while (`.
+const WHILE: &[Fragment] = &[Fragment::Token("while (")];
+
+/// ` in `.
+const IN: &[Fragment] = &[Fragment::Token(" in ")];
+
+/// ` of `.
+const OF: &[Fragment] = &[Fragment::Token(" of ")];
+
+/// Parameters in their parentheses, and a body, behind a part that stands behind these pieces.
+macro_rules! function_frame {
+    ($front:expr) => {
+        Frame {
+            front: &[$front],
+            opener: OPEN,
+            series: ListLayout::Parameters,
+            closer: &[],
+            sites: PartSites::AllPlain,
+        }
+    };
+}
 
 /// The frame of a node that is written as nothing.
 static NOTHING: Frame = front_frame!(&[], &[]);
@@ -53,6 +99,108 @@ static INNER_CHUNK: Frame = front_frame!(
     }]
 );
 
+/// The frame of a method's function: its parameters and its body, without a word.
+static METHOD: Frame = function_frame!(&[]);
+
+/// The frame of a declaration in the head of a `for`, without a semicolon.
+static HEAD: Frame = list_frame!(DECLARATION, Commas, &[]);
+
+/// The frame of a node that is its own text.
+static WORD: Frame = front_frame!(&[], OWN);
+
+/// The frame of `this`.
+static THIS: Frame = front_frame!(&[], &[Fragment::Token("this")]);
+
+/// The frame of `super`.
+static SUPER: Frame = front_frame!(&[], &[Fragment::Token("super")]);
+
+/// The frame of an array: its elements with commas between them, in brackets.
+static ARRAY: Frame = list_frame!(BRACKET, Commas, END_BRACKET);
+
+/// The frame of an object: its properties with commas between them, in braces.
+static OBJECT: Frame = list_frame!(&[Fragment::Token("{")], Commas, &[Fragment::Token("}")]);
+
+/// The frame of a template: its parts with nothing between them.
+static TEMPLATE: Frame = Frame {
+    front: &[],
+    opener: &[],
+    series: ListLayout::Joined,
+    closer: &[],
+    sites: PartSites::TemplateParts,
+};
+
+/// The frame of a spread or a rest: `...` before its part.
+static SPREAD: Frame = front_frame!(&[DOTS], &[]);
+
+/// The frame of a target with its default.
+static DEFAULTED: Frame = front_frame!(&[&[], EQUALS], &[]);
+
+/// The frame of a tagged template: the tag, then the template.
+static TAGGED: Frame = front_frame!(&[&[], &[]], &[]);
+
+/// The frame of an optional chain: its part alone.
+static CHAIN: Frame = front_frame!(&[&[]], &[]);
+
+/// The frame of `import(…)`.
+static IMPORT: Frame = front_frame!(&[&[Fragment::Token("import(")]], CLOSE);
+
+/// The frame of `new.target`.
+static META_PROPERTY: Frame = front_frame!(&[&[], &[Fragment::Token(".")]], &[]);
+
+/// The frame of an infix operator between its operands.
+static BINARY: Frame = front_frame!(&[&[], INFIX], &[]);
+
+/// The frame of a conditional expression.
+static CONDITIONAL: Frame = front_frame!(
+    &[&[], &[Fragment::Token(" ? ")], &[Fragment::Token(" : ")],],
+    &[]
+);
+
+/// The frame of a sequence: its expressions with commas between them.
+static SEQUENCE: Frame = list_frame!(&[], Commas, &[]);
+
+/// The frame of `new` with its arguments.
+static NEW: Frame = arguments_frame!(&[&[Fragment::Token("new ")]], OPEN);
+
+/// The frame of a function with its word: its name, if any, its parameters and its body.
+static NAMED_FUNCTION: Frame = function_frame!(FUNCTION);
+
+/// With nothing at its end.
+static SCRIPT: Frame = list_frame!(&[], Feeds, &[Fragment::Token("")]);
+
+/// The frame of a declaration that is a statement.
+static VARIABLES: Frame = list_frame!(DECLARATION, Commas, SEMICOLON);
+
+/// The frame of an expression statement.
+static EXPRESSION: Frame = front_frame!(&[&[]], SEMICOLON);
+
+/// The frame of an empty statement.
+static EMPTY: Frame = front_frame!(&[], SEMICOLON);
+
+/// The frame of `debugger`.
+static DEBUGGER: Frame = front_frame!(&[], &[Fragment::Token("debugger;")]);
+
+/// The frame of `throw`.
+static THROW: Frame = front_frame!(&[&[Fragment::Token("throw ")]], SEMICOLON);
+
+/// The frame of a statement with its label.
+static LABELED: Frame = front_frame!(&[&[], COLON], &[]);
+
+/// The frame of `while`.
+static WHILE_LOOP: Frame = front_frame!(&[WHILE, CLOSE_SPACE], &[]);
+
+/// The frame of `do … while`.
+static DO_LOOP: Frame = front_frame!(
+    &[&[Fragment::Token("do ")], &[Fragment::Token(" while (")],],
+    &[Fragment::Token(");")]
+);
+
+/// The frame of for-in.
+static FOR_IN: Frame = asking_frame!(LoopHead, &[FOR, IN, CLOSE_SPACE]);
+
+/// The frame of for-of.
+static FOR_OF: Frame = asking_frame!(LoopHead, &[FOR, OF, CLOSE_SPACE]);
+
 /// What stands round the parts of a node at a site.
 pub(crate) fn frame_of(node: Node, site: Site) -> &'static Frame
     ensures { shape_of result.now ≡ fused_shape (shape_on site (kind_of (node_tree node.entry)) (text_of (node_tree node.entry)) (flags_of (node_tree node.entry)) (parts_of (node_tree node.entry))) }
@@ -63,9 +211,66 @@ pub(crate) fn frame_of(node: Node, site: Site) -> &'static Frame
         Site::FirstTemplateElement => &FIRST_CHUNK,
         Site::LastTemplateElement => &LAST_CHUNK,
         Site::InnerTemplateElement => &INNER_CHUNK,
-        Site::Method => method_frame(),
-        Site::ForDeclaration => head_frame(),
-        _ => expression_frame(node),
+        Site::Method => &METHOD,
+        Site::ForDeclaration => &HEAD,
+        Site::Plain => frame_by_kind(node),
+    }
+}
+
+/// The same at a plain site, by the node's kind. (A template's part always has a site of its own.)
+fn frame_by_kind(node: Node) -> &'static Frame
+    ensures { shape_of result.now ≡ fused_shape (shape_by_kind (kind_of (node_tree node.entry)) (text_of (node_tree node.entry)) (flags_of (node_tree node.entry)) (parts_of (node_tree node.entry))) }
+{
+    match node.kind() {
+        Kind::Identifier | Kind::Literal | Kind::TemplateElement => &WORD,
+        Kind::ThisExpression => &THIS,
+        Kind::Super => &SUPER,
+        Kind::ArrayExpression | Kind::ArrayPattern => &ARRAY,
+        Kind::ObjectExpression | Kind::ObjectPattern => &OBJECT,
+        Kind::TemplateLiteral => &TEMPLATE,
+        Kind::SpreadElement | Kind::RestElement => &SPREAD,
+        Kind::AssignmentPattern => &DEFAULTED,
+        Kind::TaggedTemplateExpression => &TAGGED,
+        Kind::ChainExpression => &CHAIN,
+        Kind::ImportExpression => &IMPORT,
+        Kind::MetaProperty => &META_PROPERTY,
+        Kind::UpdateExpression => update_frame(node.flags().prefix),
+        Kind::UnaryExpression => unary_frame(node.text()),
+        Kind::BinaryExpression | Kind::LogicalExpression | Kind::AssignmentExpression => &BINARY,
+        Kind::ConditionalExpression => &CONDITIONAL,
+        Kind::SequenceExpression => &SEQUENCE,
+        Kind::MemberExpression => member_frame(node.flags(), is_open_number(node)),
+        Kind::CallExpression => call_frame(node.flags().optional),
+        Kind::NewExpression => &NEW,
+        Kind::FunctionExpression | Kind::FunctionDeclaration => &NAMED_FUNCTION,
+        Kind::ArrowFunctionExpression => arrow_frame(is_single(node)),
+        Kind::ClassExpression | Kind::ClassDeclaration => {
+            class_frame(has_part(node, 0), has_part(node, 1))
+        }
+        Kind::Property => property_frame(node.flags()),
+        Kind::MethodDefinition => class_member_frame(node.flags()),
+        Kind::Program => &SCRIPT,
+        Kind::BlockStatement | Kind::ClassBody => braced(is_filled(node, 0)),
+        Kind::SwitchStatement => switch_frame(is_filled(node, 1)),
+        Kind::SwitchCase => case_frame(has_part(node, 0)),
+        Kind::CatchClause => catch_frame(has_part(node, 0)),
+        Kind::VariableDeclaration => &VARIABLES,
+        Kind::VariableDeclarator => declarator_frame(has_part(node, 1)),
+        Kind::ExpressionStatement => &EXPRESSION,
+        Kind::EmptyStatement => &EMPTY,
+        Kind::DebuggerStatement => &DEBUGGER,
+        Kind::ReturnStatement => return_frame(has_part(node, 0)),
+        Kind::BreakStatement => break_frame(has_part(node, 0)),
+        Kind::ContinueStatement => continue_frame(has_part(node, 0)),
+        Kind::ThrowStatement => &THROW,
+        Kind::IfStatement => if_frame(has_part(node, 2)),
+        Kind::LabeledStatement => &LABELED,
+        Kind::TryStatement => try_frame(has_part(node, 1), has_part(node, 2)),
+        Kind::WhileStatement => &WHILE_LOOP,
+        Kind::DoWhileStatement => &DO_LOOP,
+        Kind::ForInStatement => &FOR_IN,
+        Kind::ForOfStatement => &FOR_OF,
+        Kind::ForStatement => for_frame(has_part(node, 1), has_part(node, 2)),
     }
 }
 

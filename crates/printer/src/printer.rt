@@ -25,10 +25,10 @@ ghost use Rattle.printer.specs.Sites.{site_of, site_at};
 ghost use Rattle.printer.specs.Printed.{Stands, Reads, Printed, Direct, Gone, Written, spelled_so, front_marks, chain_marks, deep, shape_marks, marks_in, signed_marks};
 
 use crate::emitter::Emitter;
-use crate::fragments::{Frame, ListLayout, SignOperator, after, before};
+use crate::expressions::PREFIX;
+use crate::fragments::{FramedNode, ListLayout, SignOperator, after, before};
 use crate::frame::{frame_of, is_word};
 use crate::output_buffer::{TextBuffer, TextSink};
-use crate::part_sites::PartSites;
 use crate::site::Site;
 use std::alloc::{AllocError, Global};
 use tree::{Kind, Node, Program};
@@ -58,71 +58,86 @@ pub(crate) fn print_whole<O: TextSink>(program: &Program<'_>, wraps: &[bool], ou
     ensures laid { fits (wrapped_by wraps.now) program.now script 1 ≡ true → Puts (O.stands out.old []) (O.stands out.new []) (layout (wrapped_by wraps.now) program.now script 1 0) }
     ensures adds { Adds (O.stands out.old []) (O.stands out.new []) }
 {
-    let mut sheet = Emitter::new(wraps);
+    let mut emitter = Emitter::new(wraps);
     // (no tree is higher than it has nodes, and these are counted)
     let _ = program.node_count();
-    print_node(program.finished_root(), Site::Plain, 0, &mut sheet, out);
-    sheet.finish(out);
+    print_node(program.finished_root(), Site::Plain, 0, &mut emitter, out);
+    emitter.finish(out);
 }
 
 /// A node at its site.
 #[cycle(print)]
 #[inline(always)]
-fn print_node<O: TextSink>(node: Node, site: Site, depth: usize, sheet: &mut Emitter, out: &mut O)
+fn print_node<O: TextSink>(node: Node, site: Site, depth: usize, emitter: &mut Emitter, out: &mut O)
     requires { depth + height (node_tree node) ≤ usize.MAX }
-    ensures laid { (W : ℕ → Bool) → (r : ℕ) → (p : Position) → (st : NodeUse) → HoldsRows st node.entry → agrees st (role_of p) (kind_of (node_tree node.entry)) ≡ true → site_of (role_of p) ≡ site → Reads W r sheet.old.wraps.now → fits W (node_tree node.entry) (role_of p) r ≡ true → Printed W (seen (O.stands out.old sheet.old.room) sheet.old) (seen (O.stands out.new sheet.new.room) sheet.new) (node_tree node.entry) (role_of p) r depth }
-    ensures adds { Adds (O.stands out.old sheet.old.room) (O.stands out.new sheet.new.room) }
+    ensures laid { (W : ℕ → Bool) → (r : ℕ) → (p : Position) → (st : NodeUse) → HoldsRows st node.entry → agrees st (role_of p) (kind_of (node_tree node.entry)) ≡ true → site_of (role_of p) ≡ site → Reads W r emitter.old.wraps.now → fits W (node_tree node.entry) (role_of p) r ≡ true → Printed W (seen (O.stands out.old emitter.old.room) emitter.old) (seen (O.stands out.new emitter.new.room) emitter.new) (node_tree node.entry) (role_of p) r depth }
+    ensures adds { Adds (O.stands out.old emitter.old.room) (O.stands out.new emitter.new.room) }
 {
     if node.row().is_some() {
-        print_row(node, depth, sheet, out);
+        print_row(node, depth, emitter, out);
         return;
     }
-    print_direct(node, site, depth, sheet, out);
+    print_direct(node, site, depth, emitter, out);
 }
 
 /// A node that has a row, in parentheses where it is wrapped.
 #[cycle(print)]
 #[inline(always)]
-fn print_row<O: TextSink>(node: Node, depth: usize, sheet: &mut Emitter, out: &mut O)
+fn print_row<O: TextSink>(node: Node, depth: usize, emitter: &mut Emitter, out: &mut O)
     requires { depth + height (node_tree node) ≤ usize.MAX }
-    ensures laid { (W : ℕ → Bool) → (r : ℕ) → (p : Position) → (st : NodeUse) → HoldsRows st node.entry → agrees st (role_of p) (kind_of (node_tree node.entry)) ≡ true → nat_eq (has_row (role_of p)) 1 ≡ true → Reads W r sheet.old.wraps.now → fits W (node_tree node.entry) (role_of p) r ≡ true → Printed W (seen (O.stands out.old sheet.old.room) sheet.old) (seen (O.stands out.new sheet.new.room) sheet.new) (node_tree node.entry) (role_of p) r depth }
-    ensures adds { Adds (O.stands out.old sheet.old.room) (O.stands out.new sheet.new.room) }
+    ensures laid { (W : ℕ → Bool) → (r : ℕ) → (p : Position) → (st : NodeUse) → HoldsRows st node.entry → agrees st (role_of p) (kind_of (node_tree node.entry)) ≡ true → nat_eq (has_row (role_of p)) 1 ≡ true → Reads W r emitter.old.wraps.now → fits W (node_tree node.entry) (role_of p) r ≡ true → Printed W (seen (O.stands out.old emitter.old.room) emitter.old) (seen (O.stands out.new emitter.new.room) emitter.new) (node_tree node.entry) (role_of p) r depth }
+    ensures adds { Adds (O.stands out.old emitter.old.room) (O.stands out.new emitter.new.room) }
 {
-    if !sheet.next_row() {
-        print_direct(node, Site::Plain, depth, sheet, out);
+    if !emitter.next_row() {
+        print_direct(node, Site::Plain, depth, emitter, out);
         return;
     }
-    sheet.push("(", out);
-    print_direct(node, Site::Plain, depth, sheet, out);
-    sheet.push(")", out);
+    emitter.push("(", out);
+    print_direct(node, Site::Plain, depth, emitter, out);
+    emitter.push(")", out);
 }
 
 /// A node without parentheses of its own.
 #[cycle(print)]
 #[inline(always)]
-fn print_direct<O: TextSink>(node: Node, site: Site, depth: usize, sheet: &mut Emitter, out: &mut O)
+fn print_direct<O: TextSink>(
+    node: Node,
+    site: Site,
+    depth: usize,
+    emitter: &mut Emitter,
+    out: &mut O,
+)
     requires { depth + height (node_tree node) ≤ usize.MAX }
-    ensures laid { (W : ℕ → Bool) → (r : ℕ) → (p : Position) → (st : NodeUse) → HoldsRows st node.entry → agrees st (role_of p) (kind_of (node_tree node.entry)) ≡ true → site_of (role_of p) ≡ site → Reads W r sheet.old.wraps.now → spelled_so W (parts_of (node_tree node.entry)) (ways (role_of p) (node_tree node.entry)) r ≡ true → Direct W (seen (O.stands out.old sheet.old.room) sheet.old) (seen (O.stands out.new sheet.new.room) sheet.new) (parts_of (node_tree node.entry)) (ways (role_of p) (node_tree node.entry)) r depth }
-    ensures adds { Adds (O.stands out.old sheet.old.room) (O.stands out.new sheet.new.room) }
+    ensures laid { (W : ℕ → Bool) → (r : ℕ) → (p : Position) → (st : NodeUse) → HoldsRows st node.entry → agrees st (role_of p) (kind_of (node_tree node.entry)) ≡ true → site_of (role_of p) ≡ site → Reads W r emitter.old.wraps.now → spelled_so W (parts_of (node_tree node.entry)) (ways (role_of p) (node_tree node.entry)) r ≡ true → Direct W (seen (O.stands out.old emitter.old.room) emitter.old) (seen (O.stands out.new emitter.new.room) emitter.new) (parts_of (node_tree node.entry)) (ways (role_of p) (node_tree node.entry)) r depth }
+    ensures adds { Adds (O.stands out.old emitter.old.room) (O.stands out.new emitter.new.room) }
 {
     if is_word(node, site) {
-        sheet.push(node.text(), out);
+        emitter.push(node.text(), out);
         return;
     }
-    print_parts(node, site, depth, sheet, out);
+    print_parts(node, site, depth, emitter, out);
 }
 
 /// A node that is no word.
 #[cycle(print)]
 #[inline(never)]
-fn print_parts<O: TextSink>(node: Node, site: Site, depth: usize, sheet: &mut Emitter, out: &mut O)
+fn print_parts<O: TextSink>(
+    node: Node,
+    site: Site,
+    depth: usize,
+    emitter: &mut Emitter,
+    out: &mut O,
+)
     requires { depth + height (node_tree node) ≤ usize.MAX }
-    ensures laid { (W : ℕ → Bool) → (r : ℕ) → (p : Position) → (st : NodeUse) → HoldsRows st node.entry → agrees st (role_of p) (kind_of (node_tree node.entry)) ≡ true → site_of (role_of p) ≡ site → Reads W r sheet.old.wraps.now → spelled_so W (parts_of (node_tree node.entry)) (ways (role_of p) (node_tree node.entry)) r ≡ true → Direct W (seen (O.stands out.old sheet.old.room) sheet.old) (seen (O.stands out.new sheet.new.room) sheet.new) (parts_of (node_tree node.entry)) (ways (role_of p) (node_tree node.entry)) r depth }
-    ensures adds { Adds (O.stands out.old sheet.old.room) (O.stands out.new sheet.new.room) }
+    ensures laid { (W : ℕ → Bool) → (r : ℕ) → (p : Position) → (st : NodeUse) → HoldsRows st node.entry → agrees st (role_of p) (kind_of (node_tree node.entry)) ≡ true → site_of (role_of p) ≡ site → Reads W r emitter.old.wraps.now → spelled_so W (parts_of (node_tree node.entry)) (ways (role_of p) (node_tree node.entry)) r ≡ true → Direct W (seen (O.stands out.old emitter.old.room) emitter.old) (seen (O.stands out.new emitter.new.room) emitter.new) (parts_of (node_tree node.entry)) (ways (role_of p) (node_tree node.entry)) r depth }
+    ensures adds { Adds (O.stands out.old emitter.old.room) (O.stands out.new emitter.new.room) }
 {
     match sign_of(node) {
-        Some(sign) => print_sign_operator(node, sign, depth, sheet, out),
-        None => print_framed(node, frame_of(node, site), depth, sheet, out),
+        Some(sign) => print_sign_operator(node, sign, depth, emitter, out),
+        None => {
+            let frame = frame_of(node, site);
+            print_framed(FramedNode { node, frame, depth }, emitter, out)
+        }
     }
 }
 
@@ -155,135 +170,111 @@ fn print_sign_operator<O: TextSink>(
     node: Node,
     sign: SignOperator,
     depth: usize,
-    sheet: &mut Emitter,
+    emitter: &mut Emitter,
     out: &mut O,
 )
     requires { depth + height (node_tree node) ≤ usize.MAX }
-    ensures laid { (W : ℕ → Bool) → (st : NodeUse) → HoldsRows st node.entry → (xs : List Role) → (r : ℕ) → Reads W r sheet.old.wraps.now → parts_fit W (parts_of (node_tree node.entry)) xs r ≡ true → Stands st (node_tree node.entry) (signed_marks (text_of (node_tree node.entry)) sign) (parts_of (node_tree node.entry)) xs → sign_of_text (text_of (node_tree node.entry)) ≡ Some sign → is_none (parts_after 1 (parts_of (node_tree node.entry))) ≡ true → Written W (seen (O.stands out.old sheet.old.room) sheet.old) (seen (O.stands out.new sheet.new.room) sheet.new) (signed_marks (text_of (node_tree node.entry)) sign) (parts_of (node_tree node.entry)) xs false depth r }
-    ensures adds { Adds (O.stands out.old sheet.old.room) (O.stands out.new sheet.new.room) }
+    ensures laid { (W : ℕ → Bool) → (st : NodeUse) → HoldsRows st node.entry → (xs : List Role) → (r : ℕ) → Reads W r emitter.old.wraps.now → parts_fit W (parts_of (node_tree node.entry)) xs r ≡ true → Stands st (node_tree node.entry) (signed_marks (text_of (node_tree node.entry)) sign) (parts_of (node_tree node.entry)) xs → sign_of_text (text_of (node_tree node.entry)) ≡ Some sign → is_none (parts_after 1 (parts_of (node_tree node.entry))) ≡ true → Written W (seen (O.stands out.old emitter.old.room) emitter.old) (seen (O.stands out.new emitter.new.room) emitter.new) (signed_marks (text_of (node_tree node.entry)) sign) (parts_of (node_tree node.entry)) xs false depth r }
+    ensures adds { Adds (O.stands out.old emitter.old.room) (O.stands out.new emitter.new.room) }
 {
     let mut previous_is_bare = false;
-    sheet.push(node.text(), out);
-    sheet.keep_apart(sign);
-    print_part(
+    emitter.push(node.text(), out);
+    emitter.keep_apart(sign);
+    let framed = FramedNode {
         node,
-        0,
-        PartSites::AllPlain,
-        &mut previous_is_bare,
+        frame: &PREFIX,
         depth,
-        sheet,
-        out,
-    );
-    sheet.join();
+    };
+    print_part(framed, 0, &mut previous_is_bare, emitter, out);
+    emitter.join();
 }
 
 /// A node's parts, with what stands round them.
 #[cycle(print)]
-fn print_framed<O: TextSink>(
-    node: Node,
-    frame: &Frame,
-    depth: usize,
-    sheet: &mut Emitter,
-    out: &mut O,
-)
-    requires { depth + height (node_tree node) ≤ usize.MAX }
-    ensures laid { (W : ℕ → Bool) → (st : NodeUse) → HoldsRows st node.entry → (fs : List (List Bit)) → (os cs : List Bit) → map (λ p. bits_of p.now) frame.now.front.now ≡ map fused fs → bits_of frame.now.opener.now ≡ fused os → bits_of frame.now.closer.now ≡ fused cs → (xs : List Role) → (r : ℕ) → Reads W r sheet.old.wraps.now → parts_fit W (parts_of (node_tree node.entry)) xs r ≡ true → Stands st (node_tree node.entry) (shape_marks (text_of (node_tree node.entry)) (record { front = fs; opener = os; chain = chain_of frame.now.series; closer = cs; sites = frame.now.sites }) (parts_of (node_tree node.entry))) (parts_of (node_tree node.entry)) xs → Written W (seen (O.stands out.old sheet.old.room) sheet.old) (seen (O.stands out.new sheet.new.room) sheet.new) (shape_marks (text_of (node_tree node.entry)) (record { front = fs; opener = os; chain = chain_of frame.now.series; closer = cs; sites = frame.now.sites }) (parts_of (node_tree node.entry))) (parts_of (node_tree node.entry)) xs false depth r }
-    ensures adds { Adds (O.stands out.old sheet.old.room) (O.stands out.new sheet.new.room) }
+fn print_framed<O: TextSink>(framed: FramedNode, emitter: &mut Emitter, out: &mut O)
+    requires { framed.depth + height (node_tree framed.node) ≤ usize.MAX }
+    ensures laid { (W : ℕ → Bool) → (st : NodeUse) → HoldsRows st framed.entry.node → (fs : List (List Bit)) → (os cs : List Bit) → map (λ p. bits_of p.now) framed.entry.frame.now.front.now ≡ map fused fs → bits_of framed.entry.frame.now.opener.now ≡ fused os → bits_of framed.entry.frame.now.closer.now ≡ fused cs → (xs : List Role) → (r : ℕ) → Reads W r emitter.old.wraps.now → parts_fit W (parts_of (node_tree framed.entry.node)) xs r ≡ true → Stands st (node_tree framed.entry.node) (shape_marks (text_of (node_tree framed.entry.node)) (record { front = fs; opener = os; chain = chain_of framed.entry.frame.now.series; closer = cs; sites = framed.entry.frame.now.sites }) (parts_of (node_tree framed.entry.node))) (parts_of (node_tree framed.entry.node)) xs → Written W (seen (O.stands out.old emitter.old.room) emitter.old) (seen (O.stands out.new emitter.new.room) emitter.new) (shape_marks (text_of (node_tree framed.entry.node)) (record { front = fs; opener = os; chain = chain_of framed.entry.frame.now.series; closer = cs; sites = framed.entry.frame.now.sites }) (parts_of (node_tree framed.entry.node))) (parts_of (node_tree framed.entry.node)) xs false framed.entry.depth r }
+    ensures adds { Adds (O.stands out.old emitter.old.room) (O.stands out.new emitter.new.room) }
 {
     let mut previous_is_bare = false;
-    print_front(node, frame, &mut previous_is_bare, depth, sheet, out);
-    sheet.push_all(frame.opener, node, depth, previous_is_bare, out);
-    let inside = inner_depth(frame.series, depth);
-    print_list(node, frame, &mut previous_is_bare, inside, sheet, out);
-    sheet.push_all(frame.closer, node, depth, previous_is_bare, out);
+    print_front(framed, &mut previous_is_bare, emitter, out);
+    emitter.push_all(framed.frame.opener, framed, previous_is_bare, out);
+    let inside = inner_depth(framed.frame.series, framed.depth);
+    print_list(
+        FramedNode {
+            depth: inside,
+            ..framed
+        },
+        &mut previous_is_bare,
+        emitter,
+        out,
+    );
+    emitter.push_all(framed.frame.closer, framed, previous_is_bare, out);
 }
 
 /// The first parts, with what stands before each.
 #[cycle(print)]
 fn print_front<O: TextSink>(
-    node: Node,
-    frame: &Frame,
+    framed: FramedNode,
     previous_is_bare: &mut bool,
-    depth: usize,
-    sheet: &mut Emitter,
+    emitter: &mut Emitter,
     out: &mut O,
 )
-    requires { depth + height (node_tree node) ≤ usize.MAX }
-    ensures laid { (W : ℕ → Bool) → (st : NodeUse) → HoldsRows st node.entry → (fs : List (List Bit)) → map (λ p. bits_of p.now) frame.now.front.now ≡ map fused fs → (ms : List Mark) → (xs : List Role) → (r : ℕ) → Reads W r sheet.old.wraps.now → parts_fit W (parts_of (node_tree node.entry)) xs r ≡ true → Stands st (node_tree node.entry) (front_marks (text_of (node_tree node.entry)) frame.now.sites 0 fs (parts_of (node_tree node.entry)) ms) (parts_of (node_tree node.entry)) xs → Gone W st (node_tree node.entry) (seen (O.stands out.old sheet.old.room) sheet.old) (seen (O.stands out.new sheet.new.room) sheet.new) (front_marks (text_of (node_tree node.entry)) frame.now.sites 0 fs (parts_of (node_tree node.entry)) ms) ms (parts_of (node_tree node.entry)) (parts_after (length frame.now.front.now) (parts_of (node_tree node.entry))) xs previous_is_bare.old previous_is_bare.new depth r }
-    ensures adds { Adds (O.stands out.old sheet.old.room) (O.stands out.new sheet.new.room) }
+    requires { framed.depth + height (node_tree framed.node) ≤ usize.MAX }
+    ensures laid { (W : ℕ → Bool) → (st : NodeUse) → HoldsRows st framed.entry.node → (fs : List (List Bit)) → map (λ p. bits_of p.now) framed.entry.frame.now.front.now ≡ map fused fs → (ms : List Mark) → (xs : List Role) → (r : ℕ) → Reads W r emitter.old.wraps.now → parts_fit W (parts_of (node_tree framed.entry.node)) xs r ≡ true → Stands st (node_tree framed.entry.node) (front_marks (text_of (node_tree framed.entry.node)) framed.entry.frame.now.sites 0 fs (parts_of (node_tree framed.entry.node)) ms) (parts_of (node_tree framed.entry.node)) xs → Gone W st (node_tree framed.entry.node) (seen (O.stands out.old emitter.old.room) emitter.old) (seen (O.stands out.new emitter.new.room) emitter.new) (front_marks (text_of (node_tree framed.entry.node)) framed.entry.frame.now.sites 0 fs (parts_of (node_tree framed.entry.node)) ms) ms (parts_of (node_tree framed.entry.node)) (parts_after (length framed.entry.frame.now.front.now) (parts_of (node_tree framed.entry.node))) xs previous_is_bare.old previous_is_bare.new framed.entry.depth r }
+    ensures adds { Adds (O.stands out.old emitter.old.room) (O.stands out.new emitter.new.room) }
 {
+    let frame = framed.frame;
     for index in 0..frame.front.len() {
-        sheet.push_all(frame.front[index], node, depth, *previous_is_bare, out);
-        print_part(
-            node,
-            index,
-            frame.sites,
-            previous_is_bare,
-            depth,
-            sheet,
-            out,
-        );
+        emitter.push_all(frame.front[index], framed, *previous_is_bare, out);
+        print_part(framed, index, previous_is_bare, emitter, out);
     }
 }
 
 /// The other parts.
 #[cycle(print)]
 fn print_list<O: TextSink>(
-    node: Node,
-    frame: &Frame,
+    framed: FramedNode,
     previous_is_bare: &mut bool,
-    depth: usize,
-    sheet: &mut Emitter,
+    emitter: &mut Emitter,
     out: &mut O,
 )
-    requires { depth + height (node_tree node) ≤ usize.MAX + 1 }
-    ensures laid { (W : ℕ → Bool) → (st : NodeUse) → HoldsRows st node.entry → (ms : List Mark) → (xs : List Role) → (r : ℕ) → Reads W r sheet.old.wraps.now → parts_fit W (parts_after (length frame.now.front.now) (parts_of (node_tree node.entry))) xs r ≡ true → Stands st (node_tree node.entry) (chain_marks (text_of (node_tree node.entry)) frame.now.sites (chain_of frame.now.series) (length frame.now.front.now) (parts_after (length frame.now.front.now) (parts_of (node_tree node.entry))) ++ ms) (parts_after (length frame.now.front.now) (parts_of (node_tree node.entry))) xs → Gone W st (node_tree node.entry) (seen (O.stands out.old sheet.old.room) sheet.old) (seen (O.stands out.new sheet.new.room) sheet.new) (chain_marks (text_of (node_tree node.entry)) frame.now.sites (chain_of frame.now.series) (length frame.now.front.now) (parts_after (length frame.now.front.now) (parts_of (node_tree node.entry))) ++ ms) ms (parts_after (length frame.now.front.now) (parts_of (node_tree node.entry))) none xs previous_is_bare.old previous_is_bare.new depth r }
-    ensures adds { Adds (O.stands out.old sheet.old.room) (O.stands out.new sheet.new.room) }
+    requires { framed.depth + height (node_tree framed.node) ≤ usize.MAX + 1 }
+    ensures laid { (W : ℕ → Bool) → (st : NodeUse) → HoldsRows st framed.entry.node → (ms : List Mark) → (xs : List Role) → (r : ℕ) → Reads W r emitter.old.wraps.now → parts_fit W (parts_after (length framed.entry.frame.now.front.now) (parts_of (node_tree framed.entry.node))) xs r ≡ true → Stands st (node_tree framed.entry.node) (chain_marks (text_of (node_tree framed.entry.node)) framed.entry.frame.now.sites (chain_of framed.entry.frame.now.series) (length framed.entry.frame.now.front.now) (parts_after (length framed.entry.frame.now.front.now) (parts_of (node_tree framed.entry.node))) ++ ms) (parts_after (length framed.entry.frame.now.front.now) (parts_of (node_tree framed.entry.node))) xs → Gone W st (node_tree framed.entry.node) (seen (O.stands out.old emitter.old.room) emitter.old) (seen (O.stands out.new emitter.new.room) emitter.new) (chain_marks (text_of (node_tree framed.entry.node)) framed.entry.frame.now.sites (chain_of framed.entry.frame.now.series) (length framed.entry.frame.now.front.now) (parts_after (length framed.entry.frame.now.front.now) (parts_of (node_tree framed.entry.node))) ++ ms) ms (parts_after (length framed.entry.frame.now.front.now) (parts_of (node_tree framed.entry.node))) none xs previous_is_bare.old previous_is_bare.new framed.entry.depth r }
+    ensures adds { Adds (O.stands out.old emitter.old.room) (O.stands out.new emitter.new.room) }
 {
-    let count = node.part_count();
-    for index in frame.front.len()..count {
-        print_item(node, frame, index, previous_is_bare, depth, sheet, out);
+    let count = framed.node.part_count();
+    for index in framed.frame.front.len()..count {
+        print_item(framed, index, previous_is_bare, emitter, out);
     }
 }
 
 /// One of them, with what stands before it and behind it.
 #[cycle(print)]
 fn print_item<O: TextSink>(
-    node: Node,
-    frame: &Frame,
+    framed: FramedNode,
     index: usize,
     previous_is_bare: &mut bool,
-    depth: usize,
-    sheet: &mut Emitter,
+    emitter: &mut Emitter,
     out: &mut O,
 )
-    requires low { depth + height (node_tree node) ≤ usize.MAX + 1 }
-    requires index { index < part_count (parts_of (node_tree node)) }
-    ensures laid { (W : ℕ → Bool) → (st : NodeUse) → HoldsRows st node.entry → (ms : List Mark) → (xs : List Role) → (r : ℕ) → Reads W r sheet.old.wraps.now → parts_fit W (parts_after index (parts_of (node_tree node.entry))) xs r ≡ true → Stands st (node_tree node.entry) (chain_marks (text_of (node_tree node.entry)) frame.now.sites (chain_of frame.now.series) index (parts_after index (parts_of (node_tree node.entry))) ++ ms) (parts_after index (parts_of (node_tree node.entry))) xs → Gone W st (node_tree node.entry) (seen (O.stands out.old sheet.old.room) sheet.old) (seen (O.stands out.new sheet.new.room) sheet.new) (chain_marks (text_of (node_tree node.entry)) frame.now.sites (chain_of frame.now.series) index (parts_after index (parts_of (node_tree node.entry))) ++ ms) (chain_marks (text_of (node_tree node.entry)) frame.now.sites (chain_of frame.now.series) (suc index) (parts_after (suc index) (parts_of (node_tree node.entry))) ++ ms) (parts_after index (parts_of (node_tree node.entry))) (parts_after (suc index) (parts_of (node_tree node.entry))) xs previous_is_bare.old previous_is_bare.new depth r }
-    ensures adds { Adds (O.stands out.old sheet.old.room) (O.stands out.new sheet.new.room) }
+    requires low { framed.depth + height (node_tree framed.node) ≤ usize.MAX + 1 }
+    requires index { index < part_count (parts_of (node_tree framed.node)) }
+    ensures laid { (W : ℕ → Bool) → (st : NodeUse) → HoldsRows st framed.entry.node → (ms : List Mark) → (xs : List Role) → (r : ℕ) → Reads W r emitter.old.wraps.now → parts_fit W (parts_after index (parts_of (node_tree framed.entry.node))) xs r ≡ true → Stands st (node_tree framed.entry.node) (chain_marks (text_of (node_tree framed.entry.node)) framed.entry.frame.now.sites (chain_of framed.entry.frame.now.series) index (parts_after index (parts_of (node_tree framed.entry.node))) ++ ms) (parts_after index (parts_of (node_tree framed.entry.node))) xs → Gone W st (node_tree framed.entry.node) (seen (O.stands out.old emitter.old.room) emitter.old) (seen (O.stands out.new emitter.new.room) emitter.new) (chain_marks (text_of (node_tree framed.entry.node)) framed.entry.frame.now.sites (chain_of framed.entry.frame.now.series) index (parts_after index (parts_of (node_tree framed.entry.node))) ++ ms) (chain_marks (text_of (node_tree framed.entry.node)) framed.entry.frame.now.sites (chain_of framed.entry.frame.now.series) (suc index) (parts_after (suc index) (parts_of (node_tree framed.entry.node))) ++ ms) (parts_after index (parts_of (node_tree framed.entry.node))) (parts_after (suc index) (parts_of (node_tree framed.entry.node))) xs previous_is_bare.old previous_is_bare.new framed.entry.depth r }
+    ensures adds { Adds (O.stands out.old emitter.old.room) (O.stands out.new emitter.new.room) }
 {
-    let behind = node.part_count() - index - 1;
-    sheet.push_all(
-        before(frame.series, behind == 0),
-        node,
-        depth,
+    let behind = framed.node.part_count() - index - 1;
+    emitter.push_all(
+        before(framed.frame.series, behind == 0),
+        framed,
         *previous_is_bare,
         out,
     );
-    print_part(
-        node,
-        index,
-        frame.sites,
-        previous_is_bare,
-        depth,
-        sheet,
-        out,
-    );
-    let is_gap = node.part(index).is_none();
-    sheet.push_all(
-        after(frame.series, is_gap, behind),
-        node,
-        depth,
+    print_part(framed, index, previous_is_bare, emitter, out);
+    let is_gap = framed.node.part(index).is_none();
+    emitter.push_all(
+        after(framed.frame.series, is_gap, behind),
+        framed,
         *previous_is_bare,
         out,
     );
@@ -306,25 +297,25 @@ fn inner_depth(series: ListLayout, depth: usize) -> usize
 #[inline(always)]
 #[tactic(auto, using(tree::proofs::PartWalk::part_steps))]
 fn print_part<O: TextSink>(
-    node: Node,
+    framed: FramedNode,
     index: usize,
-    sites: PartSites,
     previous_is_bare: &mut bool,
-    depth: usize,
-    sheet: &mut Emitter,
+    emitter: &mut Emitter,
     out: &mut O,
 )
-    requires { depth + height (node_tree node) ≤ usize.MAX + 1 }
-    ensures laid { (W : ℕ → Bool) → (st : NodeUse) → HoldsRows st node.entry → (ms : List Mark) → (xs : List Role) → (r : ℕ) → Reads W r sheet.old.wraps.now → parts_fit W (parts_after index (parts_of (node_tree node.entry))) xs r ≡ true → Stands st (node_tree node.entry) (here (site_at sites index (parts_after index (parts_of (node_tree node.entry)))) ∷ ms) (parts_after index (parts_of (node_tree node.entry))) xs → Gone W st (node_tree node.entry) (seen (O.stands out.old sheet.old.room) sheet.old) (seen (O.stands out.new sheet.new.room) sheet.new) (here (site_at sites index (parts_after index (parts_of (node_tree node.entry)))) ∷ ms) ms (parts_after index (parts_of (node_tree node.entry))) (parts_after (suc index) (parts_of (node_tree node.entry))) xs previous_is_bare.old previous_is_bare.new depth r }
-    ensures adds { Adds (O.stands out.old sheet.old.room) (O.stands out.new sheet.new.room) }
+    requires { framed.depth + height (node_tree framed.node) ≤ usize.MAX + 1 }
+    ensures laid { (W : ℕ → Bool) → (st : NodeUse) → HoldsRows st framed.entry.node → (ms : List Mark) → (xs : List Role) → (r : ℕ) → Reads W r emitter.old.wraps.now → parts_fit W (parts_after index (parts_of (node_tree framed.entry.node))) xs r ≡ true → Stands st (node_tree framed.entry.node) (here (site_at framed.entry.frame.now.sites index (parts_after index (parts_of (node_tree framed.entry.node)))) ∷ ms) (parts_after index (parts_of (node_tree framed.entry.node))) xs → Gone W st (node_tree framed.entry.node) (seen (O.stands out.old emitter.old.room) emitter.old) (seen (O.stands out.new emitter.new.room) emitter.new) (here (site_at framed.entry.frame.now.sites index (parts_after index (parts_of (node_tree framed.entry.node)))) ∷ ms) ms (parts_after index (parts_of (node_tree framed.entry.node))) (parts_after (suc index) (parts_of (node_tree framed.entry.node))) xs previous_is_bare.old previous_is_bare.new framed.entry.depth r }
+    ensures adds { Adds (O.stands out.old emitter.old.room) (O.stands out.new emitter.new.room) }
 {
+    let node = framed.node;
     let Some(part) = node.finished_part(index) else {
         *previous_is_bare = false;
         return;
     };
+    let sites = framed.frame.sites;
     let site = sites.site_of_part(index, part.kind(), is_last(node, index));
-    *previous_is_bare = !sheet.is_wrapped();
-    print_node(part, site, depth, sheet, out);
+    *previous_is_bare = !emitter.is_wrapped();
+    print_node(part, site, framed.depth, emitter, out);
 }
 
 /// Whether no part is behind this place.

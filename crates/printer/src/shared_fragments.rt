@@ -10,6 +10,12 @@ ghost use Rattle.printer.specs.Shapes.{has_part as has_part_at};
 use crate::fragments::Fragment;
 use tree::Node;
 
+/// The node's own text.
+pub const OWN: &[Fragment] = &[Fragment::NodeText];
+
+/// `;`.
+pub const SEMICOLON: &[Fragment] = &[Fragment::Token(";")];
+
 /// `: `.
 pub const COLON: &[Fragment] = &[Fragment::Token(": ")];
 
@@ -22,8 +28,14 @@ pub const CLOSE: &[Fragment] = &[Fragment::Token(")")];
 /// `) `.
 pub const CLOSE_SPACE: &[Fragment] = &[Fragment::Token(") ")];
 
+/// `[`.
+pub const BRACKET: &[Fragment] = &[Fragment::Token("[")];
+
 /// `]`.
 pub const END_BRACKET: &[Fragment] = &[Fragment::Token("]")];
+
+/// `for (`.
+pub const FOR: &[Fragment] = &[Fragment::Token("for (")];
 
 /// Whether a part stands at a place.
 #[inline(always)]

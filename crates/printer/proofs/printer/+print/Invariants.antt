@@ -15,40 +15,40 @@ use Rattle.printer.proofs.printer.+print.Given as goal
 -- what was passed of the first parts, and what is left of them
 abbrev pub invariant-print_front-loop-index : goal.invariant-print_front-loop-index
 invariant-print_front-loop-index g l = record {
-  laid : (W : ℕ → Bool) → (st : NodeUse) → HoldsRows st l.fn.node → (fs : List (List Bit)) → map (λ p. bits_of p.now) l.fn.frame.front.now ≡ map fused fs → (ms : List Mark) → (xs : List Role) → (r : ℕ) → Reads W r l.fn.sheet.wraps.now → parts_fit W (parts_of (node_tree l.fn.node)) xs r ≡ true →
-      Stands st (node_tree l.fn.node) (front_marks (text_of (node_tree l.fn.node)) l.fn.frame.sites 0 fs (parts_of (node_tree l.fn.node)) ms) (parts_of (node_tree l.fn.node)) xs →
-      Gone W st (node_tree l.fn.node) (seen (g.O.TextSink.stands l.fn.out l.fn.sheet.room) l.fn.sheet) (seen (g.O.TextSink.stands l.out l.sheet.room) l.sheet) (front_marks (text_of (node_tree l.fn.node)) l.fn.frame.sites 0 fs (parts_of (node_tree l.fn.node)) ms)
-      (front_marks (text_of (node_tree l.fn.node)) l.fn.frame.sites l.index (drop l.index fs) (parts_after l.index (parts_of (node_tree l.fn.node))) ms)
-      (parts_of (node_tree l.fn.node)) (parts_after l.index (parts_of (node_tree l.fn.node))) xs l.fn.previous_is_bare l.previous_is_bare l.fn.depth r;
-  adds : Adds (g.O.TextSink.stands l.fn.out l.fn.sheet.room) (g.O.TextSink.stands l.out l.sheet.room);
+  laid : (W : ℕ → Bool) → (st : NodeUse) → HoldsRows st l.fn.framed.node → (fs : List (List Bit)) → map (λ p. bits_of p.now) l.fn.framed.frame.now.front.now ≡ map fused fs → (ms : List Mark) → (xs : List Role) → (r : ℕ) → Reads W r l.fn.emitter.wraps.now → parts_fit W (parts_of (node_tree l.fn.framed.node)) xs r ≡ true →
+      Stands st (node_tree l.fn.framed.node) (front_marks (text_of (node_tree l.fn.framed.node)) l.fn.framed.frame.now.sites 0 fs (parts_of (node_tree l.fn.framed.node)) ms) (parts_of (node_tree l.fn.framed.node)) xs →
+      Gone W st (node_tree l.fn.framed.node) (seen (g.O.TextSink.stands l.fn.out l.fn.emitter.room) l.fn.emitter) (seen (g.O.TextSink.stands l.out l.emitter.room) l.emitter) (front_marks (text_of (node_tree l.fn.framed.node)) l.fn.framed.frame.now.sites 0 fs (parts_of (node_tree l.fn.framed.node)) ms)
+      (front_marks (text_of (node_tree l.fn.framed.node)) l.fn.framed.frame.now.sites l.index (drop l.index fs) (parts_after l.index (parts_of (node_tree l.fn.framed.node))) ms)
+      (parts_of (node_tree l.fn.framed.node)) (parts_after l.index (parts_of (node_tree l.fn.framed.node))) xs l.fn.previous_is_bare l.previous_is_bare l.fn.framed.depth r;
+  adds : Adds (g.O.TextSink.stands l.fn.out l.fn.emitter.room) (g.O.TextSink.stands l.out l.emitter.room);
 }
 
 -- the same of the others
 abbrev pub invariant-print_list-loop-index : goal.invariant-print_list-loop-index
 invariant-print_list-loop-index g l = record {
-  laid : (W : ℕ → Bool) → (st : NodeUse) → HoldsRows st l.fn.node → (ms : List Mark) → (xs : List Role) → (r : ℕ) → Reads W r l.fn.sheet.wraps.now → parts_fit W (parts_after (length l.fn.frame.front.now) (parts_of (node_tree l.fn.node))) xs r ≡ true →
-      Stands st (node_tree l.fn.node) (chain_marks (text_of (node_tree l.fn.node)) l.fn.frame.sites (chain_of l.fn.frame.series) (length l.fn.frame.front.now) (parts_after (length l.fn.frame.front.now) (parts_of (node_tree l.fn.node))) ++ ms) (parts_after (length l.fn.frame.front.now) (parts_of (node_tree l.fn.node))) xs →
-      Gone W st (node_tree l.fn.node) (seen (g.O.TextSink.stands l.fn.out l.fn.sheet.room) l.fn.sheet) (seen (g.O.TextSink.stands l.out l.sheet.room) l.sheet)
-      (chain_marks (text_of (node_tree l.fn.node)) l.fn.frame.sites (chain_of l.fn.frame.series) (length l.fn.frame.front.now) (parts_after (length l.fn.frame.front.now) (parts_of (node_tree l.fn.node))) ++ ms)
-      (chain_marks (text_of (node_tree l.fn.node)) l.fn.frame.sites (chain_of l.fn.frame.series) l.index (parts_after l.index (parts_of (node_tree l.fn.node))) ++ ms)
-      (parts_after (length l.fn.frame.front.now) (parts_of (node_tree l.fn.node))) (parts_after l.index (parts_of (node_tree l.fn.node))) xs l.fn.previous_is_bare l.previous_is_bare l.fn.depth r;
-  adds : Adds (g.O.TextSink.stands l.fn.out l.fn.sheet.room) (g.O.TextSink.stands l.out l.sheet.room);
+  laid : (W : ℕ → Bool) → (st : NodeUse) → HoldsRows st l.fn.framed.node → (ms : List Mark) → (xs : List Role) → (r : ℕ) → Reads W r l.fn.emitter.wraps.now → parts_fit W (parts_after (length l.fn.framed.frame.now.front.now) (parts_of (node_tree l.fn.framed.node))) xs r ≡ true →
+      Stands st (node_tree l.fn.framed.node) (chain_marks (text_of (node_tree l.fn.framed.node)) l.fn.framed.frame.now.sites (chain_of l.fn.framed.frame.now.series) (length l.fn.framed.frame.now.front.now) (parts_after (length l.fn.framed.frame.now.front.now) (parts_of (node_tree l.fn.framed.node))) ++ ms) (parts_after (length l.fn.framed.frame.now.front.now) (parts_of (node_tree l.fn.framed.node))) xs →
+      Gone W st (node_tree l.fn.framed.node) (seen (g.O.TextSink.stands l.fn.out l.fn.emitter.room) l.fn.emitter) (seen (g.O.TextSink.stands l.out l.emitter.room) l.emitter)
+      (chain_marks (text_of (node_tree l.fn.framed.node)) l.fn.framed.frame.now.sites (chain_of l.fn.framed.frame.now.series) (length l.fn.framed.frame.now.front.now) (parts_after (length l.fn.framed.frame.now.front.now) (parts_of (node_tree l.fn.framed.node))) ++ ms)
+      (chain_marks (text_of (node_tree l.fn.framed.node)) l.fn.framed.frame.now.sites (chain_of l.fn.framed.frame.now.series) l.index (parts_after l.index (parts_of (node_tree l.fn.framed.node))) ++ ms)
+      (parts_after (length l.fn.framed.frame.now.front.now) (parts_of (node_tree l.fn.framed.node))) (parts_after l.index (parts_of (node_tree l.fn.framed.node))) xs l.fn.previous_is_bare l.previous_is_bare l.fn.framed.depth r;
+  adds : Adds (g.O.TextSink.stands l.fn.out l.fn.emitter.room) (g.O.TextSink.stands l.out l.emitter.room);
 }
 
 abbrev pub decreases-print_part : goal.decreases-print_part
-decreases-print_part g l = 8 * node_total (node_tree l.node)
+decreases-print_part g l = 8 * node_total (node_tree l.framed.node)
 
 abbrev pub decreases-print_item : goal.decreases-print_item
-decreases-print_item g l = 8 * node_total (node_tree l.node) + 1
+decreases-print_item g l = 8 * node_total (node_tree l.framed.node) + 1
 
 abbrev pub decreases-print_list : goal.decreases-print_list
-decreases-print_list g l = 8 * node_total (node_tree l.node) + 2
+decreases-print_list g l = 8 * node_total (node_tree l.framed.node) + 2
 
 abbrev pub decreases-print_front : goal.decreases-print_front
-decreases-print_front g l = 8 * node_total (node_tree l.node) + 2
+decreases-print_front g l = 8 * node_total (node_tree l.framed.node) + 2
 
 abbrev pub decreases-print_framed : goal.decreases-print_framed
-decreases-print_framed g l = 8 * node_total (node_tree l.node) + 3
+decreases-print_framed g l = 8 * node_total (node_tree l.framed.node) + 3
 
 abbrev pub decreases-print_sign_operator : goal.decreases-print_sign_operator
 decreases-print_sign_operator g l = 8 * node_total (node_tree l.node) + 3

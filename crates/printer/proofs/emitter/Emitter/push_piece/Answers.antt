@@ -6,7 +6,7 @@ use Rattle.printer.proofs.WrittenTexts.{writes_as}
 use Rattle.printer.proofs.emitter.Emitter.push_piece.Goals as goal
 
 pub returns-in-NodeText : goal.returns-in-NodeText
-returns-in-NodeText g c = writes_as _ _ _ _ (c.text.ensures ∙ sym (ap (piece_text (text_of (node_tree c.args.node)) c.args.depth c.args.previous_is_bare) c.in-NodeText.is)) c.push-in-NodeText.ensures.written
+returns-in-NodeText g c = writes_as _ _ _ _ (c.text.ensures ∙ sym (ap (piece_text (text_of (node_tree c.args.framed.node)) c.args.framed.depth c.args.previous_is_bare) c.in-NodeText.is)) c.push-in-NodeText.ensures.written
 
 pub returns-in-TemplateElement : goal.returns-in-TemplateElement
-returns-in-TemplateElement g c = writes_as _ _ _ _ (ap (chunk_text c.in-TemplateElement.is_first c.in-TemplateElement.is_last) c.text-in-TemplateElement.ensures ∙ sym (ap (piece_text (text_of (node_tree c.args.node)) c.args.depth c.args.previous_is_bare) c.in-TemplateElement.is)) c.push_template_element.ensures
+returns-in-TemplateElement g c = writes_as _ _ _ _ (ap (chunk_text c.in-TemplateElement.is_first c.in-TemplateElement.is_last) c.text-in-TemplateElement.ensures ∙ sym (ap (piece_text (text_of (node_tree c.args.framed.node)) c.args.framed.depth c.args.previous_is_bare) c.in-TemplateElement.is)) c.push_template_element.ensures
