@@ -256,55 +256,11 @@ decimal_lacks : (k m : ℕ) → k < 48 → m ≤ 16777216 → lacks_byte k (deci
 decimal_lacks k m l h = number_lacks k (decimal m) m l (number_back m h)
 
 space_in_type : (k : Kind) → lacks_byte 32 (type_name k) ≡ true
-space_in_type kind.SequenceExpression = refl
-space_in_type kind.AssignmentExpression = refl
-space_in_type kind.ArrowFunctionExpression = refl
-space_in_type kind.ConditionalExpression = refl
-space_in_type kind.LogicalExpression = refl
-space_in_type kind.BinaryExpression = refl
-space_in_type kind.UnaryExpression = refl
-space_in_type kind.UpdateExpression = refl
-space_in_type kind.ChainExpression = refl
-space_in_type kind.CallExpression = refl
-space_in_type kind.ImportExpression = refl
-space_in_type kind.MemberExpression = refl
-space_in_type kind.TaggedTemplateExpression = refl
-space_in_type kind.NewExpression = refl
-space_in_type kind.MetaProperty = refl
-space_in_type kind.Identifier = refl
-space_in_type kind.Literal = refl
-space_in_type kind.ThisExpression = refl
-space_in_type kind.ArrayExpression = refl
-space_in_type kind.ObjectExpression = refl
-space_in_type kind.FunctionExpression = refl
-space_in_type kind.ClassExpression = refl
-space_in_type kind.TemplateLiteral = refl
+space_in_type kind.Program = refl
 space_in_type _ = refl
 
 feed_in_type : (k : Kind) → lacks_byte 10 (type_name k) ≡ true
-feed_in_type kind.SequenceExpression = refl
-feed_in_type kind.AssignmentExpression = refl
-feed_in_type kind.ArrowFunctionExpression = refl
-feed_in_type kind.ConditionalExpression = refl
-feed_in_type kind.LogicalExpression = refl
-feed_in_type kind.BinaryExpression = refl
-feed_in_type kind.UnaryExpression = refl
-feed_in_type kind.UpdateExpression = refl
-feed_in_type kind.ChainExpression = refl
-feed_in_type kind.CallExpression = refl
-feed_in_type kind.ImportExpression = refl
-feed_in_type kind.MemberExpression = refl
-feed_in_type kind.TaggedTemplateExpression = refl
-feed_in_type kind.NewExpression = refl
-feed_in_type kind.MetaProperty = refl
-feed_in_type kind.Identifier = refl
-feed_in_type kind.Literal = refl
-feed_in_type kind.ThisExpression = refl
-feed_in_type kind.ArrayExpression = refl
-feed_in_type kind.ObjectExpression = refl
-feed_in_type kind.FunctionExpression = refl
-feed_in_type kind.ClassExpression = refl
-feed_in_type kind.TemplateLiteral = refl
+feed_in_type kind.Program = refl
 feed_in_type _ = refl
 
 pub number_small : (m : ℕ) → nat_le m limit ≡ true → m ≤ 16777216

@@ -3,7 +3,9 @@ use Rattle.std.proofs.Common.{◌≡◌, ℕ, ◌≤◌, Bool, true, false, not,
 use Rattle.std.specs.Prelude.{◌||◌, ◌&&◌}
 use Rattle.std.specs.Bool.{OnFalse}
 use Rattle.std.proofs.lemmas.Bool.{false≢true}
+use Rattle.tree.specs.declared.kind.Kind.{Kind}
 use Rattle.tree.specs.declared.kind.Kind.TheVariants as kind
+use Rattle.tree.specs.declared.kind.Flags.{Flags}
 use Rattle.tree.specs.Tree.{Tree, node, Parts, none, part, gap, kind_of, text_of, flags_of, start_of, parts_of, part_at, part_count}
 use Rattle.language.specs.Vocabulary.{is, among, is_identifier}
 use Rattle.language.specs.FirstPart.{lead}
@@ -14,7 +16,8 @@ use Rattle.early_errors.specs.declared.skipping.SkipTest.{SkipTest}
 use Rattle.early_errors.specs.declared.skipping.SkipTest.TheVariants as telling
 use Rattle.early_errors.specs.Around.{Around, outside, around_first, around_others, within, is_method, in_method}
 use Rattle.name_tables.specs.BoundNames.{each_part}
-use Rattle.early_errors.specs.Names.{places, when, twice, shared, function_names, lexical_names, names_in, var_names, parts_vars}
+use Rattle.tree.specs.Kinds.{is_function}
+use Rattle.early_errors.specs.Names.{places, when, twice, shared, function_names, lexical_names, names_in, own_vars, var_names, parts_vars}
 use Rattle.early_errors.specs.Scopes.{duplicate_lexical_name, lexical_name_is_var, const_without_initializer, catch_parameter_conflict, for_name_is_var}
 use Rattle.early_errors.specs.Functions.{duplicate_parameter, parameter_is_lexical_name, use_strict_after_pattern}
 use Rattle.early_errors.specs.Strict.{is_restricted, eval_or_arguments, delete_of_identifier}
@@ -51,36 +54,31 @@ same_round z = λ i. record (within z) { in_loop = or_false z.in_loop i }
 abbrev pub HandsOn : Tree → Type 0
 HandsOn t = ((z : Around) → around_first z (kind_of t) (flags_of t) (parts_of t) ≡ within z) × (((z : Around) → around_others z (kind_of t) (flags_of t) (parts_of t) ≡ within z) × (var_names t ≡ parts_vars (parts_of t)))
 
+-- what stands round a node, as a kind without a loop hands it on
+abbrev passed_on : Around → Around
+passed_on z = record (within z) { in_loop = z.in_loop || false }
+
+on_first : (k : Kind) (z : Around) (g : Flags) (ps : Parts) → cond (in_parts (telling_of k)) (around_first z k g ps) (passed_on z) ≡ passed_on z
+on_first kind.Program z g ps = refl
+on_first _ z g ps = refl
+
+on_others : (k : Kind) (z : Around) (g : Flags) (ps : Parts) → cond (in_parts (telling_of k)) (around_others z k g ps) (passed_on z) ≡ passed_on z
+on_others kind.Program z g ps = refl
+on_others _ z g ps = refl
+
+vars_on : (k : Kind) (w : List ℕ) (ps : Parts) → cond (in_parts (telling_of k)) (cond (is_function k) [] (own_vars k w ps ++ parts_vars ps)) (parts_vars ps) ≡ parts_vars ps
+vars_on kind.Program w ps = refl
+vars_on _ w ps = refl
+
 hands_on : (t : Tree) → in_parts (telling_of (kind_of t)) ≡ true → HandsOn t
 unfolding var_names
-hands_on (node kind.ArrayExpression w g s e ps) h = (same_round, (same_round, refl))
-hands_on (node kind.ObjectExpression w g s e ps) h = (same_round, (same_round, refl))
-hands_on (node kind.SpreadElement w g s e ps) h = (same_round, (same_round, refl))
-hands_on (node kind.NewExpression w g s e ps) h = (same_round, (same_round, refl))
-hands_on (node kind.ImportExpression w g s e ps) h = (same_round, (same_round, refl))
-hands_on (node kind.ChainExpression w g s e ps) h = (same_round, (same_round, refl))
-hands_on (node kind.BinaryExpression w g s e ps) h = (same_round, (same_round, refl))
-hands_on (node kind.LogicalExpression w g s e ps) h = (same_round, (same_round, refl))
-hands_on (node kind.ConditionalExpression w g s e ps) h = (same_round, (same_round, refl))
-hands_on (node kind.SequenceExpression w g s e ps) h = (same_round, (same_round, refl))
-hands_on (node kind.ArrayPattern w g s e ps) h = (same_round, (same_round, refl))
-hands_on (node kind.ObjectPattern w g s e ps) h = (same_round, (same_round, refl))
-hands_on (node kind.AssignmentPattern w g s e ps) h = (same_round, (same_round, refl))
-hands_on (node kind.RestElement w g s e ps) h = (same_round, (same_round, refl))
-hands_on (node kind.ExpressionStatement w g s e ps) h = (same_round, (same_round, refl))
-hands_on (node kind.ReturnStatement w g s e ps) h = (same_round, (same_round, refl))
-hands_on (node kind.ThrowStatement w g s e ps) h = (same_round, (same_round, refl))
-hands_on (node kind.IfStatement w g s e ps) h = (same_round, (same_round, refl))
-hands_on (node kind.SwitchCase w g s e ps) h = (same_round, (same_round, refl))
-hands_on (node kind.TryStatement w g s e ps) h = (same_round, (same_round, refl))
-hands_on (node kind.VariableDeclarator w g s e ps) h = (same_round, (same_round, refl))
-hands_on (node kind.MemberExpression w g s e ps) h = (same_round, (same_round, refl))
-hands_on (node kind.CallExpression w g s e ps) h = (same_round, (same_round, refl))
-hands_on (node kind.AssignmentExpression w g s e ps) h = (same_round, (same_round, refl))
-hands_on (node kind.UpdateExpression w g s e ps) h = (same_round, (same_round, refl))
-hands_on (node kind.UnaryExpression w g s e ps) h = (same_round, (same_round, refl))
-hands_on (node kind.BlockStatement w g s e ps) h = (same_round, (same_round, refl))
-hands_on (node _ w g s e ps) h = absurd (false≢true h)
+hands_on (node k w g s e ps) h = (
+  (λ z. (λ i. cond (sym h i) (around_first z k g ps) (passed_on z)) ∙ on_first k z g ps ∙ same_round z),
+  (
+    (λ z. (λ i. cond (sym h i) (around_others z k g ps) (passed_on z)) ∙ on_others k z g ps ∙ same_round z),
+    (λ i. cond (sym h i) (cond (is_function k) [] (own_vars k w ps ++ parts_vars ps)) (parts_vars ps)) ∙ vars_on k w ps,
+  ),
+)
 
 pub opened : (t : Tree) → ((z : Around) → own_errors z t ≡ []) → HandsOn t → IsOpen t
 unfolding errors_within
@@ -95,30 +93,13 @@ abbrev is_kind : SkipTest → Bool
 is_kind telling.Kind = true
 is_kind _ = false
 
-none_own : (t : Tree) → is_kind (telling_of (kind_of t)) ≡ true → (z : Around) → own_errors z t ≡ []
+none_here : (k : Kind) (w : List ℕ) (g : Flags) (s e : ℕ) (ps : Parts) (z : Around) → cond (is_kind (telling_of k)) (own_errors z (node k w g s e ps)) [] ≡ []
 unfolding own_errors duplicate_lexical_name lexical_name_is_var const_without_initializer catch_parameter_conflict for_name_is_var duplicate_parameter parameter_is_lexical_name use_strict_after_pattern eval_or_arguments delete_of_identifier misplaced_jump undefined_label duplicate_label super_property_outside_method super_call_outside_constructor new_target_outside_function duplicate_constructor special_constructor static_prototype uncooked_template reg_exp_flags
-none_own (node kind.ArrayExpression w g s e ps) h z = refl
-none_own (node kind.ObjectExpression w g s e ps) h z = refl
-none_own (node kind.SpreadElement w g s e ps) h z = refl
-none_own (node kind.NewExpression w g s e ps) h z = refl
-none_own (node kind.ImportExpression w g s e ps) h z = refl
-none_own (node kind.ChainExpression w g s e ps) h z = refl
-none_own (node kind.BinaryExpression w g s e ps) h z = refl
-none_own (node kind.LogicalExpression w g s e ps) h z = refl
-none_own (node kind.ConditionalExpression w g s e ps) h z = refl
-none_own (node kind.SequenceExpression w g s e ps) h z = refl
-none_own (node kind.ArrayPattern w g s e ps) h z = refl
-none_own (node kind.ObjectPattern w g s e ps) h z = refl
-none_own (node kind.AssignmentPattern w g s e ps) h z = refl
-none_own (node kind.RestElement w g s e ps) h z = refl
-none_own (node kind.ExpressionStatement w g s e ps) h z = refl
-none_own (node kind.ReturnStatement w g s e ps) h z = refl
-none_own (node kind.ThrowStatement w g s e ps) h z = refl
-none_own (node kind.IfStatement w g s e ps) h z = refl
-none_own (node kind.SwitchCase w g s e ps) h z = refl
-none_own (node kind.TryStatement w g s e ps) h z = refl
-none_own (node kind.VariableDeclarator w g s e ps) h z = refl
-none_own (node _ w g s e ps) h z = absurd (false≢true h)
+none_here kind.Program w g s e ps z = refl
+none_here _ w g s e ps z = refl
+
+none_own : (t : Tree) → is_kind (telling_of (kind_of t)) ≡ true → (z : Around) → own_errors z t ≡ []
+none_own (node k w g s e ps) h z = (λ i. cond (sym h i) (own_errors z (node k w g s e ps)) []) ∙ none_here k w g s e ps z
 
 -- of a kind that can have none
 pub open_kind : (t : Tree) → telling_of (kind_of t) ≡ telling.Kind → IsOpen t

@@ -31,32 +31,33 @@ IsWhere Anywhere tree = Unit
 abbrev pub IsHandedOn : Code → Type 0
 IsHandedOn a = (ls : List Label) → within (round a ls) ≡ round a ls
 
--- what tells it, by the kind
+-- What tells it, by the kind. `Nothing` does for a node that has errors of its own or a scope, or has other things stand round its parts
+-- than stand round it. Of these some are told by more; any other node has errors in its parts only.
 abbrev pub telling_of : Kind → SkipTest
+telling_of kind.Program = telling.Nothing
+telling_of kind.FunctionExpression = telling.Nothing
+telling_of kind.ArrowFunctionExpression = telling.Nothing
+telling_of kind.ClassExpression = telling.Nothing
+telling_of kind.ClassBody = telling.Nothing
+telling_of kind.MethodDefinition = telling.Nothing
+telling_of kind.TemplateLiteral = telling.Nothing
+telling_of kind.TaggedTemplateExpression = telling.Nothing
+telling_of kind.MetaProperty = telling.Nothing
+telling_of kind.BreakStatement = telling.Nothing
+telling_of kind.ContinueStatement = telling.Nothing
+telling_of kind.LabeledStatement = telling.Nothing
+telling_of kind.SwitchStatement = telling.Nothing
+telling_of kind.CatchClause = telling.Nothing
+telling_of kind.WhileStatement = telling.Nothing
+telling_of kind.DoWhileStatement = telling.Nothing
+telling_of kind.ForStatement = telling.Nothing
+telling_of kind.ForInStatement = telling.Nothing
+telling_of kind.ForOfStatement = telling.Nothing
+telling_of kind.FunctionDeclaration = telling.Nothing
+telling_of kind.ClassDeclaration = telling.Nothing
 telling_of kind.Identifier = telling.Leaf
 telling_of kind.ThisExpression = telling.Leaf
 telling_of kind.Literal = telling.Leaf
-telling_of kind.ArrayExpression = telling.Kind
-telling_of kind.ObjectExpression = telling.Kind
-telling_of kind.SpreadElement = telling.Kind
-telling_of kind.NewExpression = telling.Kind
-telling_of kind.ImportExpression = telling.Kind
-telling_of kind.ChainExpression = telling.Kind
-telling_of kind.BinaryExpression = telling.Kind
-telling_of kind.LogicalExpression = telling.Kind
-telling_of kind.ConditionalExpression = telling.Kind
-telling_of kind.SequenceExpression = telling.Kind
-telling_of kind.ArrayPattern = telling.Kind
-telling_of kind.ObjectPattern = telling.Kind
-telling_of kind.AssignmentPattern = telling.Kind
-telling_of kind.RestElement = telling.Kind
-telling_of kind.ExpressionStatement = telling.Kind
-telling_of kind.ReturnStatement = telling.Kind
-telling_of kind.ThrowStatement = telling.Kind
-telling_of kind.IfStatement = telling.Kind
-telling_of kind.SwitchCase = telling.Kind
-telling_of kind.TryStatement = telling.Kind
-telling_of kind.VariableDeclarator = telling.Kind
 telling_of kind.MemberExpression = telling.Member
 telling_of kind.CallExpression = telling.Callee
 telling_of kind.AssignmentExpression = telling.Target
@@ -65,7 +66,7 @@ telling_of kind.UnaryExpression = telling.Operator
 telling_of kind.Property = telling.Form
 telling_of kind.BlockStatement = telling.Items
 telling_of kind.VariableDeclaration = telling.Declaration
-telling_of _ = telling.Nothing
+telling_of _ = telling.Kind
 
 abbrev pub is_super_at : Option Tree → Bool
 is_super_at None = false

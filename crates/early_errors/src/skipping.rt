@@ -43,33 +43,34 @@ pub(crate) enum SkipTest {
     Nothing,
 }
 
-/// What of a node of this kind tells where its errors may be.
+/// What of a node of this kind tells where its errors may be: mostly the kind alone, if such a node has no errors of its
+/// own, makes no scope, and hands on what stands round it.
 fn skip_test_of(kind: Kind) -> SkipTest
     ensures { result ≡ telling_of kind }
 {
     match kind {
+        Kind::Program
+        | Kind::FunctionExpression
+        | Kind::ArrowFunctionExpression
+        | Kind::ClassExpression
+        | Kind::ClassBody
+        | Kind::MethodDefinition
+        | Kind::TemplateLiteral
+        | Kind::TaggedTemplateExpression
+        | Kind::MetaProperty
+        | Kind::BreakStatement
+        | Kind::ContinueStatement
+        | Kind::LabeledStatement
+        | Kind::SwitchStatement
+        | Kind::CatchClause
+        | Kind::WhileStatement
+        | Kind::DoWhileStatement
+        | Kind::ForStatement
+        | Kind::ForInStatement
+        | Kind::ForOfStatement
+        | Kind::FunctionDeclaration
+        | Kind::ClassDeclaration => SkipTest::Nothing,
         Kind::Identifier | Kind::ThisExpression | Kind::Literal => SkipTest::Leaf,
-        Kind::ArrayExpression
-        | Kind::ObjectExpression
-        | Kind::SpreadElement
-        | Kind::NewExpression
-        | Kind::ImportExpression
-        | Kind::ChainExpression
-        | Kind::BinaryExpression
-        | Kind::LogicalExpression
-        | Kind::ConditionalExpression
-        | Kind::SequenceExpression
-        | Kind::ArrayPattern
-        | Kind::ObjectPattern
-        | Kind::AssignmentPattern
-        | Kind::RestElement
-        | Kind::ExpressionStatement
-        | Kind::ReturnStatement
-        | Kind::ThrowStatement
-        | Kind::IfStatement
-        | Kind::SwitchCase
-        | Kind::TryStatement
-        | Kind::VariableDeclarator => SkipTest::Kind,
         Kind::MemberExpression => SkipTest::Member,
         Kind::CallExpression => SkipTest::Callee,
         Kind::AssignmentExpression | Kind::UpdateExpression => SkipTest::Target,
@@ -77,7 +78,7 @@ fn skip_test_of(kind: Kind) -> SkipTest
         Kind::Property => SkipTest::Form,
         Kind::BlockStatement => SkipTest::Items,
         Kind::VariableDeclaration => SkipTest::Declaration,
-        _ => SkipTest::Nothing,
+        _ => SkipTest::Kind,
     }
 }
 

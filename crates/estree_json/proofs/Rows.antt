@@ -1,4 +1,5 @@
--- Whole scripts as JSON: the types of nodes that no row of crates/cases/data/trees has, and what isn't so.
+-- Whole scripts as JSON: types of nodes that no row of crates/cases/data/trees has, and what isn't so. A new type needs none here: a script of
+-- crates/cases/data/worked shows it.
 use Rattle.std.specs.Prelude.{◌≡◌, ℕ, ◌+◌, true, false, [], ◌∷◌, length, bytes_eq, codes}
 use Rattle.std.proofs.Common.{refl}
 use Rattle.std.specs.Fmt.{digits}
@@ -104,15 +105,15 @@ cases : json_text (n k.Program 0 36 (one (n k.SwitchStatement 0 36 (three (id "a
 unfolding computing
 cases = refl
 
--- try { throw a } catch (b) { try {} catch { debugger } finally {} }
-handlers : json_text (n k.Program 0 66 (one (n k.TryStatement 0 66 (part (n k.BlockStatement 4 15 (one (n k.ThrowStatement 6 13 (one (id "a" 12))))) (part (n k.CatchClause 16 66 (two (id "b" 23) (n k.BlockStatement 26 66 (one (n k.TryStatement 28 64 (three (n k.BlockStatement 32 34 none) (n k.CatchClause 35 53 (gap (one (n k.BlockStatement 41 53 (one (n k.DebuggerStatement 43 51 none)))))) (n k.BlockStatement 62 64 none))))))) (gap none))))))
-    ≡ codes "{\"body\":[{\"block\":{\"body\":[{\"argument\":{\"end\":13,\"name\":\"a\",\"start\":12,\"type\":\"Identifier\"},\"end\":13,\"start\":6,\"type\":\"ThrowStatement\"}],\"end\":15,\"start\":4,\"type\":\"BlockStatement\"},\"end\":66,\"finalizer\":null,\"handler\":{\"body\":{\"body\":[{\"block\":{\"body\":[],\"end\":34,\"start\":32,\"type\":\"BlockStatement\"},\"end\":64,\"finalizer\":{\"body\":[],\"end\":64,\"start\":62,\"type\":\"BlockStatement\"},\"handler\":{\"body\":{\"body\":[{\"end\":51,\"start\":43,\"type\":\"DebuggerStatement\"}],\"end\":53,\"start\":41,\"type\":\"BlockStatement\"},\"end\":53,\"param\":null,\"start\":35,\"type\":\"CatchClause\"},\"start\":28,\"type\":\"TryStatement\"}],\"end\":66,\"start\":26,\"type\":\"BlockStatement\"},\"end\":66,\"param\":{\"end\":24,\"name\":\"b\",\"start\":23,\"type\":\"Identifier\"},\"start\":16,\"type\":\"CatchClause\"},\"start\":0,\"type\":\"TryStatement\"}],\"end\":66,\"sourceType\":\"script\",\"start\":0,\"type\":\"Program\"}"
+-- try { throw a } catch (b) { try {} catch {} finally {} }
+handlers : json_text (n k.Program 0 56 (one (n k.TryStatement 0 56 (part (n k.BlockStatement 4 15 (one (n k.ThrowStatement 6 13 (one (id "a" 12))))) (part (n k.CatchClause 16 56 (two (id "b" 23) (n k.BlockStatement 26 56 (one (n k.TryStatement 28 54 (three (n k.BlockStatement 32 34 none) (n k.CatchClause 35 43 (gap (one (n k.BlockStatement 41 43 none)))) (n k.BlockStatement 52 54 none))))))) (gap none))))))
+    ≡ codes "{\"body\":[{\"block\":{\"body\":[{\"argument\":{\"end\":13,\"name\":\"a\",\"start\":12,\"type\":\"Identifier\"},\"end\":13,\"start\":6,\"type\":\"ThrowStatement\"}],\"end\":15,\"start\":4,\"type\":\"BlockStatement\"},\"end\":56,\"finalizer\":null,\"handler\":{\"body\":{\"body\":[{\"block\":{\"body\":[],\"end\":34,\"start\":32,\"type\":\"BlockStatement\"},\"end\":54,\"finalizer\":{\"body\":[],\"end\":54,\"start\":52,\"type\":\"BlockStatement\"},\"handler\":{\"body\":{\"body\":[],\"end\":43,\"start\":41,\"type\":\"BlockStatement\"},\"end\":43,\"param\":null,\"start\":35,\"type\":\"CatchClause\"},\"start\":28,\"type\":\"TryStatement\"}],\"end\":56,\"start\":26,\"type\":\"BlockStatement\"},\"end\":56,\"param\":{\"end\":24,\"name\":\"b\",\"start\":23,\"type\":\"Identifier\"},\"start\":16,\"type\":\"CatchClause\"},\"start\":0,\"type\":\"TryStatement\"}],\"end\":56,\"sourceType\":\"script\",\"start\":0,\"type\":\"Program\"}"
 unfolding computing
 handlers = refl
 
--- typeof a && b ? import('c') : new d(e)
-operators : json_text (n k.Program 0 38 (one (n k.ExpressionStatement 0 38 (one (n k.ConditionalExpression 0 38 (three (t k.LogicalExpression "&&" 0 13 (two (t k.UnaryExpression "typeof" 0 8 (one (id "a" 7))) (id "b" 12))) (n k.ImportExpression 16 27 (one (t k.Literal "'c'" 23 26 none))) (n k.NewExpression 30 38 (two (id "d" 34) (id "e" 36)))))))))
-    ≡ codes "{\"body\":[{\"end\":38,\"expression\":{\"alternate\":{\"arguments\":[{\"end\":37,\"name\":\"e\",\"start\":36,\"type\":\"Identifier\"}],\"callee\":{\"end\":35,\"name\":\"d\",\"start\":34,\"type\":\"Identifier\"},\"end\":38,\"start\":30,\"type\":\"NewExpression\"},\"consequent\":{\"end\":27,\"source\":{\"end\":26,\"raw\":\"'c'\",\"start\":23,\"type\":\"Literal\",\"value\":\"c\"},\"start\":16,\"type\":\"ImportExpression\"},\"end\":38,\"start\":0,\"test\":{\"end\":13,\"left\":{\"argument\":{\"end\":8,\"name\":\"a\",\"start\":7,\"type\":\"Identifier\"},\"end\":8,\"operator\":\"typeof\",\"prefix\":true,\"start\":0,\"type\":\"UnaryExpression\"},\"operator\":\"&&\",\"right\":{\"end\":13,\"name\":\"b\",\"start\":12,\"type\":\"Identifier\"},\"start\":0,\"type\":\"LogicalExpression\"},\"type\":\"ConditionalExpression\"},\"start\":0,\"type\":\"ExpressionStatement\"}],\"end\":38,\"sourceType\":\"script\",\"start\":0,\"type\":\"Program\"}"
+-- typeof a && b ? c : new d(e)
+operators : json_text (n k.Program 0 28 (one (n k.ExpressionStatement 0 28 (one (n k.ConditionalExpression 0 28 (three (t k.LogicalExpression "&&" 0 13 (two (t k.UnaryExpression "typeof" 0 8 (one (id "a" 7))) (id "b" 12))) (id "c" 16) (n k.NewExpression 20 28 (two (id "d" 24) (id "e" 26)))))))))
+    ≡ codes "{\"body\":[{\"end\":28,\"expression\":{\"alternate\":{\"arguments\":[{\"end\":27,\"name\":\"e\",\"start\":26,\"type\":\"Identifier\"}],\"callee\":{\"end\":25,\"name\":\"d\",\"start\":24,\"type\":\"Identifier\"},\"end\":28,\"start\":20,\"type\":\"NewExpression\"},\"consequent\":{\"end\":17,\"name\":\"c\",\"start\":16,\"type\":\"Identifier\"},\"end\":28,\"start\":0,\"test\":{\"end\":13,\"left\":{\"argument\":{\"end\":8,\"name\":\"a\",\"start\":7,\"type\":\"Identifier\"},\"end\":8,\"operator\":\"typeof\",\"prefix\":true,\"start\":0,\"type\":\"UnaryExpression\"},\"operator\":\"&&\",\"right\":{\"end\":13,\"name\":\"b\",\"start\":12,\"type\":\"Identifier\"},\"start\":0,\"type\":\"LogicalExpression\"},\"type\":\"ConditionalExpression\"},\"start\":0,\"type\":\"ExpressionStatement\"}],\"end\":28,\"sourceType\":\"script\",\"start\":0,\"type\":\"Program\"}"
 unfolding computing
 operators = refl
 

@@ -1,2 +1,2 @@
-pub mod Defaults
+pub mod MissingParts
 pub mod Shown

@@ -4,8 +4,15 @@ use Rattle.tree.specs.Tree.{Tree, kind_of, parts_of, part_count}
 use Rattle.tree.specs.declared.kind.Kind.{Kind}
 use Rattle.tree.specs.declared.kind.Kind.TheVariants as kind
 
--- whether a node of this kind, with a list among its parts, may have so many
+-- whether a node of this kind, with a list among its parts, may have so many; any other kind has one part
 abbrev pub has_length : Kind → ℕ → Bool
+has_length kind.Program n = true
+has_length kind.ArrayExpression n = true
+has_length kind.ObjectExpression n = true
+has_length kind.ClassBody n = true
+has_length kind.ArrayPattern n = true
+has_length kind.ObjectPattern n = true
+has_length kind.BlockStatement n = true
 has_length kind.ArrowFunctionExpression n = nat_le 1 n
 has_length kind.CallExpression n = nat_le 1 n
 has_length kind.NewExpression n = nat_le 1 n
@@ -16,9 +23,9 @@ has_length kind.FunctionExpression n = nat_le 2 n
 has_length kind.FunctionDeclaration n = nat_le 2 n
 has_length kind.SequenceExpression n = nat_le 2 n
 has_length kind.TemplateLiteral n = nat_eq (n % 2) 1
-has_length _ n = true
+has_length _ n = nat_eq n 1
 
--- whether a node of this kind, with two parts or more, may have so many
+-- whether a node of this kind, with parts, may have so many
 abbrev pub has_pair : Kind → ℕ → Bool
 has_pair kind.Property n = nat_eq n 2
 has_pair kind.MethodDefinition n = nat_eq n 2
@@ -53,17 +60,6 @@ has_arity kind.Super n = nat_eq n 0
 has_arity kind.TemplateElement n = nat_eq n 0
 has_arity kind.EmptyStatement n = nat_eq n 0
 has_arity kind.DebuggerStatement n = nat_eq n 0
-has_arity kind.SpreadElement n = nat_eq n 1
-has_arity kind.ImportExpression n = nat_eq n 1
-has_arity kind.ChainExpression n = nat_eq n 1
-has_arity kind.UpdateExpression n = nat_eq n 1
-has_arity kind.UnaryExpression n = nat_eq n 1
-has_arity kind.RestElement n = nat_eq n 1
-has_arity kind.ExpressionStatement n = nat_eq n 1
-has_arity kind.ReturnStatement n = nat_eq n 1
-has_arity kind.ThrowStatement n = nat_eq n 1
-has_arity kind.BreakStatement n = nat_eq n 1
-has_arity kind.ContinueStatement n = nat_eq n 1
 has_arity k n = has_pair k n
 
 -- a node with as many parts as its kind has

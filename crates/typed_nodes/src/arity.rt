@@ -25,17 +25,6 @@ fn has_arity(kind: Kind, count: usize) -> bool
         | Kind::TemplateElement
         | Kind::EmptyStatement
         | Kind::DebuggerStatement => count == 0,
-        Kind::SpreadElement
-        | Kind::ImportExpression
-        | Kind::ChainExpression
-        | Kind::UpdateExpression
-        | Kind::UnaryExpression
-        | Kind::RestElement
-        | Kind::ExpressionStatement
-        | Kind::ReturnStatement
-        | Kind::ThrowStatement
-        | Kind::BreakStatement
-        | Kind::ContinueStatement => count == 1,
         _ => has_pair(kind, count),
     }
 }
@@ -71,7 +60,7 @@ fn has_pair(kind: Kind, count: usize) -> bool
     }
 }
 
-/// The same of a kind with a list among its parts.
+/// The same of a kind with a list among its parts, or with one part.
 fn has_length(kind: Kind, count: usize) -> bool
     ensures { result ≡ has_length kind count }
 {
@@ -86,6 +75,13 @@ fn has_length(kind: Kind, count: usize) -> bool
             count >= 2
         }
         Kind::TemplateLiteral => count % 2 == 1,
-        _ => true,
+        Kind::Program
+        | Kind::ArrayExpression
+        | Kind::ObjectExpression
+        | Kind::ClassBody
+        | Kind::ArrayPattern
+        | Kind::ObjectPattern
+        | Kind::BlockStatement => true,
+        _ => count == 1,
     }
 }

@@ -128,25 +128,29 @@ fn any_expression<'t, 's>(node: Node<'t, 's>) -> Option<Expression<'t, 's>>
         Kind::ObjectExpression => Some(Expression::Object {
             properties: node.parts(),
         }),
-        Kind::FunctionExpression => {
-            let function = Function::of(node)?;
-            Some(Expression::Function(function))
-        }
-        Kind::ArrowFunctionExpression => {
-            let function = Function::of(node)?;
-            Some(Expression::ArrowFunction(function))
-        }
-        Kind::ClassExpression => {
-            let class = Class::of(node)?;
-            Some(Expression::Class(class))
-        }
+        Kind::FunctionExpression => Some(Expression::Function(Function::of(node)?)),
+        Kind::ArrowFunctionExpression => Some(Expression::ArrowFunction(Function::of(node)?)),
+        Kind::ClassExpression => Some(Expression::Class(Class::of(node)?)),
         Kind::TemplateLiteral => Some(Expression::TemplateLiteral {
             turns: node.parts(),
         }),
         Kind::SequenceExpression => Some(Expression::Sequence {
             expressions: node.parts(),
         }),
-        _ => headed(node),
+        Kind::CallExpression
+        | Kind::NewExpression
+        | Kind::ImportExpression
+        | Kind::ChainExpression
+        | Kind::UpdateExpression
+        | Kind::UnaryExpression
+        | Kind::TaggedTemplateExpression
+        | Kind::MemberExpression
+        | Kind::MetaProperty
+        | Kind::ConditionalExpression
+        | Kind::BinaryExpression
+        | Kind::LogicalExpression
+        | Kind::AssignmentExpression => headed(node),
+        _ => None,
     }
 }
 
@@ -181,7 +185,14 @@ fn headed<'t, 's>(node: Node<'t, 's>) -> Option<Expression<'t, 's>>
             operator,
             argument: first,
         }),
-        _ => paired(node, first),
+        Kind::TaggedTemplateExpression
+        | Kind::MemberExpression
+        | Kind::MetaProperty
+        | Kind::ConditionalExpression
+        | Kind::BinaryExpression
+        | Kind::LogicalExpression
+        | Kind::AssignmentExpression => paired(node, first),
+        _ => None,
     }
 }
 
@@ -215,7 +226,10 @@ fn paired<'t, 's>(node: Node<'t, 's>, first: Node<'t, 's>) -> Option<Expression<
                 alternate,
             })
         }
-        _ => operands(node, first, second),
+        Kind::BinaryExpression | Kind::LogicalExpression | Kind::AssignmentExpression => {
+            operands(node, first, second)
+        }
+        _ => None,
     }
 }
 

@@ -124,16 +124,20 @@ fn any_statement<'t, 's>(node: Node<'t, 's>) -> Option<Statement<'t, 's>>
             kind: node.text(),
             declarations: node.parts(),
         }),
-        Kind::FunctionDeclaration => {
-            let function = Function::of(node)?;
-            Some(Statement::FunctionDeclaration(function))
-        }
-        Kind::ClassDeclaration => {
-            let class = Class::of(node)?;
-            Some(Statement::ClassDeclaration(class))
-        }
+        Kind::FunctionDeclaration => Some(Statement::FunctionDeclaration(Function::of(node)?)),
+        Kind::ClassDeclaration => Some(Statement::ClassDeclaration(Class::of(node)?)),
         Kind::ForStatement => for_each_step(node),
-        _ => headed(node),
+        Kind::ExpressionStatement
+        | Kind::ThrowStatement
+        | Kind::SwitchStatement
+        | Kind::TryStatement
+        | Kind::LabeledStatement
+        | Kind::IfStatement
+        | Kind::WhileStatement
+        | Kind::DoWhileStatement
+        | Kind::ForInStatement
+        | Kind::ForOfStatement => headed(node),
+        _ => None,
     }
 }
 
@@ -170,7 +174,13 @@ fn headed<'t, 's>(node: Node<'t, 's>) -> Option<Statement<'t, 's>>
             cases: node.parts().skip(1),
         }),
         Kind::TryStatement => tried(node, first),
-        _ => paired(node, first),
+        Kind::LabeledStatement
+        | Kind::IfStatement
+        | Kind::WhileStatement
+        | Kind::DoWhileStatement
+        | Kind::ForInStatement
+        | Kind::ForOfStatement => paired(node, first),
+        _ => None,
     }
 }
 
@@ -216,7 +226,8 @@ fn paired<'t, 's>(node: Node<'t, 's>, first: Node<'t, 's>) -> Option<Statement<'
             body: first,
             test: second,
         }),
-        _ => for_each(node, first, second),
+        Kind::ForInStatement | Kind::ForOfStatement => for_each(node, first, second),
+        _ => None,
     }
 }
 

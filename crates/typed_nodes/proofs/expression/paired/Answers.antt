@@ -1,18 +1,9 @@
 use Rattle.std.proofs.Common.{◌∙◌, ap, option_map}
 use Rattle.tree.specs.Tree.{kind_of}
 use Rattle.tree.specs.Node.{node_tree}
-use Rattle.typed_nodes.proofs.Defaults.{paired_else, paired_expression_missing}
+use Rattle.typed_nodes.proofs.MissingParts.{paired_expression_missing}
 use Rattle.typed_nodes.specs.Expressions.{expression_seen}
 use Rattle.typed_nodes.proofs.expression.paired.Goals as goal
-
-pub returns-in_default : goal.returns-in_default
-returns-in_default c =
-    c.operands.ensures
-    ∙ paired_else (kind_of (node_tree c.args.node)) (node_tree c.args.node)
-    (λ is. c.in_default.not-TaggedTemplateExpression (c.kind.ensures ∙ is))
-    (λ is. c.in_default.not-MemberExpression (c.kind.ensures ∙ is))
-    (λ is. c.in_default.not-MetaProperty (c.kind.ensures ∙ is))
-    (λ is. c.in_default.not-ConditionalExpression (c.kind.ensures ∙ is))
 
 pub returns-in_err-second : goal.returns-in_err-second
 returns-in_err-second c =

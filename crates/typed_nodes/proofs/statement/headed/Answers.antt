@@ -1,18 +1,9 @@
 use Rattle.std.proofs.Common.{◌∙◌, ap, option_map}
 use Rattle.tree.specs.Tree.{kind_of}
 use Rattle.tree.specs.Node.{node_tree}
-use Rattle.typed_nodes.proofs.Defaults.{headed_statement_else, headed_missing}
+use Rattle.typed_nodes.proofs.MissingParts.{headed_missing}
 use Rattle.typed_nodes.specs.Statements.{statement_seen}
 use Rattle.typed_nodes.proofs.statement.headed.Goals as goal
-
-pub returns-in_default : goal.returns-in_default
-returns-in_default c =
-    c.paired.ensures
-    ∙ headed_statement_else (kind_of (node_tree c.args.node)) (node_tree c.args.node)
-    (λ is. c.in_default.not-ExpressionStatement (c.kind.ensures ∙ is))
-    (λ is. c.in_default.not-ThrowStatement (c.kind.ensures ∙ is))
-    (λ is. c.in_default.not-SwitchStatement (c.kind.ensures ∙ is))
-    (λ is. c.in_default.not-TryStatement (c.kind.ensures ∙ is))
 
 pub returns-in_err-first : goal.returns-in_err-first
 returns-in_err-first c =

@@ -1,18 +1,9 @@
 use Rattle.std.proofs.Common.{◌∙◌, ap, option_map}
 use Rattle.tree.specs.Tree.{kind_of}
 use Rattle.tree.specs.Node.{node_tree}
-use Rattle.typed_nodes.proofs.Defaults.{paired_statement_else, paired_missing}
+use Rattle.typed_nodes.proofs.MissingParts.{paired_missing}
 use Rattle.typed_nodes.specs.Statements.{statement_seen}
 use Rattle.typed_nodes.proofs.statement.paired.Goals as goal
-
-pub returns-in_default : goal.returns-in_default
-returns-in_default c =
-    c.for_each.ensures
-    ∙ paired_statement_else (kind_of (node_tree c.args.node)) (node_tree c.args.node)
-    (λ is. c.in_default.not-LabeledStatement (c.kind.ensures ∙ is))
-    (λ is. c.in_default.not-IfStatement (c.kind.ensures ∙ is))
-    (λ is. c.in_default.not-WhileStatement (c.kind.ensures ∙ is))
-    (λ is. c.in_default.not-DoWhileStatement (c.kind.ensures ∙ is))
 
 pub returns-in_err-second : goal.returns-in_err-second
 returns-in_err-second c =
