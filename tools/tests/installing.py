@@ -81,8 +81,9 @@ def pages_shown(room):
 
 def built(room):
     """What the builds of packages/ leave is nothing that git would take."""
-    left = shutil.ignore_patterns('jslint', 'libjslint.so', '*.tgz', 'jslint.wasm', 'LICENSE-*', '__pycache__', 'jslint.html', 'node_modules')
+    left = shutil.ignore_patterns('jslint', 'libjslint.so', '*.tgz', 'jslint.wasm', 'texts.json', 'LICENSE-*', '__pycache__', 'jslint.html', 'node_modules')
     shutil.copytree(f'{TOP}/packages', f'{room.folder}/packages', ignore=left)
+    shutil.copytree(f'{TOP}/docs', f'{room.folder}/docs')
     for name in ('.gitignore', 'LICENSE-APACHE', 'LICENSE-MIT'):
         shutil.copy(f'{TOP}/{name}', f'{room.folder}/{name}')
     for name in ('wasm/jslint.wasm', 'x86_64-linux/libjslint.a'):
@@ -101,7 +102,7 @@ def built(room):
         room.sh(text, status=0, **env)
     made = {it[3:] for it in room.git('status', '--porcelain', '--ignored', '--untracked-files=all').splitlines()}
     same(room.git('status', '--porcelain', '--untracked-files=all'), '')
-    wanted = {'packages/c/jslint', 'packages/c/libjslint.so', 'packages/npm/jslint.wasm', 'packages/npm/LICENSE-MIT', 'jslint.html', 'packages/page/jslint.html'}
+    wanted = {'packages/c/jslint', 'packages/c/libjslint.so', 'packages/npm/jslint.wasm', 'packages/npm/lib/texts.json', 'packages/npm/LICENSE-MIT', 'jslint.html', 'packages/page/jslint.html'}
     is_well(wanted <= made and any(it.endswith('.tgz') for it in made) and any('__pycache__' in it for it in made), made)
 
 

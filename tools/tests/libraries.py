@@ -22,8 +22,11 @@ SCRIPT = 'let x = (1); x; { let x = 2; x = 3; }\n'
 REPORTS = "1:5 prefer-const 'x' is never reassigned\n1:9 no-extra-parens unnecessary parentheses\n1:23 no-shadow 'x' shadows an outer name\n1:23 no-unused-vars 'x' is never read\n"
 # What is in the package that `npm pack` makes.
 PACKED = {
-    'LICENSE-APACHE', 'LICENSE-MIT', 'README.md', 'bin/eslint-json.mjs', 'bin/jslint.mjs', 'bin/streams.mjs', 'core.mjs', 'eslint-json.d.mts', 'eslint-json.mjs', 'jslint.d.mts',
-    'jslint.mjs', 'jslint.wasm', 'package.json', 'worker.mjs',
+    'LICENSE-APACHE', 'LICENSE-MIT', 'README.md', 'bin/eslint-json.mjs', 'bin/jslint-lsp.mjs', 'bin/jslint.mjs', 'bin/streams.mjs', 'core.mjs', 'eslint-json.d.mts', 'eslint-json.mjs',
+    'jslint.d.mts', 'jslint.mjs', 'jslint.wasm', 'package.json', 'worker.mjs', 'lib/hints.json', 'lib/texts.json',
+    *(f'lib/{it}.mjs' for it in (
+        'actions', 'beside', 'changes', 'checking', 'connection', 'document', 'editor', 'edits', 'engine', 'frames', 'hints', 'ignore', 'jobs', 'progress', 'protocol', 'rewriting', 'server',
+        'settings', 'shown', 'spans', 'thread', 'workspace')),
 }
 # Where the libraries are, or why there are none.
 PLACE, WHY = None, None
@@ -173,11 +176,14 @@ def documented_c(room):
 # ---- Node
 
 def package(folder):
-    """A copy of the package with its module."""
+    """A copy of the package with its module and the words of the documents."""
     made = f'{folder}/package'
     os.makedirs(folder, exist_ok=True)
-    shutil.copytree(f'{PACKAGES}/npm', made, ignore=shutil.ignore_patterns('jslint.wasm', 'node_modules'))
+    shutil.copytree(f'{PACKAGES}/npm', made, ignore=shutil.ignore_patterns('jslint.wasm', 'texts.json', 'node_modules'))
     shutil.copy(library('wasm/jslint.wasm'), f'{made}/jslint.wasm')
+    put = "writeFileSync('lib/texts.json', JSON.stringify(textsOf(new URL(process.argv[1]))))"
+    asked = f"import {{ writeFileSync }} from 'node:fs'; import {{ textsOf }} from './make-texts.mjs'; {put};"
+    ran([node(), '--input-type=module', '-e', asked, f'file://{TOP}/'], cwd=made)
     return made
 
 
@@ -192,10 +198,13 @@ def node_tests(room):
 def node_pack(room):
     """What `npm pack` makes of the repository has all that it needs, and nothing else."""
     program, npm, wasm = node(), tool('npm'), library('wasm/jslint.wasm')
-    for name in ('packages/npm', 'LICENSE-APACHE', 'LICENSE-MIT'):
+    for name in ('packages/npm', 'docs', 'LICENSE-APACHE', 'LICENSE-MIT'):
         copy = shutil.copytree if os.path.isdir(f'{TOP}/{name}') else shutil.copy
         os.makedirs(os.path.dirname(f'{room.folder}/{name}'), exist_ok=True)
         copy(f'{TOP}/{name}', f'{room.folder}/{name}')
+    # (what an earlier run left, of documents that have changed since)
+    with open(f'{room.folder}/packages/npm/lib/texts.json', 'w', encoding='utf-8') as file:
+        file.write('{"version": "0", "rules": {}, "early": {}, "refusals": {}}')
     env = {**os.environ, 'JSLINT_WASM': wasm, 'HOME': room.folder, 'npm_config_update_notifier': 'false', 'npm_config_cache': f'{room.folder}/cache'}
     ran([npm, 'pack', '--offline', '--pack-destination', room.folder], cwd=f'{room.folder}/packages/npm', env=env)
     packed = next(it for it in os.listdir(room.folder) if it.endswith('.tgz'))
@@ -207,6 +216,9 @@ def node_pack(room):
     asked = "import { fix } from 'jslint-with-proofs'; import { format, resultOf } from 'jslint-with-proofs/eslint-json'; console.log(fix('((a))') + format([resultOf('a', 'a;')]));"
     out, _ = ran([program, '--input-type=module', '-e', asked], cwd=f'{room.folder}/user')
     is_well(out.startswith('a;\n[{"filePath":"a","messages":[{"ruleId":"no-undef"'), out)
+    with open(f'{TOP}/packages/npm/package.json', encoding='utf-8') as file:
+        version = json.load(file)['version']
+    same(ran([program, f'{room.folder}/user/node_modules/jslint-with-proofs/bin/jslint-lsp.mjs', '--version']), (f'jslint-lsp {version}\n', ''))
 
 
 def node_readme(room):

@@ -1,0 +1,119 @@
+// What the server asks of the proved calls. A job is plain data, and so is its answer: they go between threads.
+import { Refused, indexOf } from '../core.mjs';
+import { Judge, mayHaveComments } from './changes.mjs';
+import { editsBetween } from './edits.mjs';
+import { earlyHint, syntaxHint } from './hints.mjs';
+import { withSpans } from './spans.mjs';
+
+const HALF_PAIR = /(?:[^\ud800-\udbff]|^)[\udc00-\udfff]|[\ud800-\udbff](?![\udc00-\udfff])/;
+// How many lines of refused settings are taken away one by one.
+const MOST_LINES = 500;
+// No more reports of one text than this are handed on.
+const MOST_REPORTS = 20000;
+
+/** A refusal in the program's words, with its place, and a hint where there is one. */
+function refusalOf(error, text) {
+  const { code = 'other', message, number } = error, start = error.line === undefined ? 0 : indexOf(text, error.line, error.column);
+  const hint = code === 'syntax' ? syntaxHint(text, start) : code === 'early' ? earlyHint(number, text, start) : null;
+  return { code, message, number, start, ...(hint ? { hint: hint.hint, hintId: hint.id ?? `early-${number}`, isLacking: hint.lacks } : {}) };
+}
+
+/** What a call answers, or why it was refused. */
+function tried(text, call) {
+  // (half a pair of surrogates has no UTF-8, so a text with one is no script's)
+  const half = HALF_PAIR.exec(text);
+  if (half) return { refusal: { code: 'utf8', message: 'half a pair of surrogates, which has no UTF-8', start: half.index } };
+  try {
+    return call();
+  } catch (error) {
+    if (error instanceof Refused) return { refusal: refusalOf(error, text) };
+    throw error;
+  }
+}
+
+/** What a call answers, or null where it is refused. */
+function answered(call) {
+  try {
+    return call();
+  } catch (error) {
+    if (error instanceof Refused) return null;
+    throw error;
+  }
+}
+
+export class Jobs {
+  /** The commands are those of core.mjs. */
+  constructor(commands) {
+    Object.assign(this, { commands, judge: null });
+  }
+
+  /** The judge of a text's changes, kept since an editor asks for several changes of one text. */
+  judgeOf(text) {
+    if (this.judge?.text !== text) this.judge = new Judge(this.commands, answered, text);
+    return this.judge;
+  }
+
+  areTaken(settings) {
+    return !HALF_PAIR.test(settings) && answered(() => this.commands.check('', { settings })) !== null;
+  }
+
+  /** The reports with their spans, and how many more there are. */
+  check({ text, settings }) {
+    if (HALF_PAIR.test(settings)) return { refusal: { code: 'settings', message: 'bad settings', start: 0 } };
+    return tried(text, () => {
+      const all = this.commands.check(text, { settings }), reports = all.slice(0, MOST_REPORTS);
+      return { reports: withSpans(text, reports), left: all.length - reports.length };
+    });
+  }
+
+  unwrap({ text }) {
+    return tried(text, () => ({ edits: editsBetween(text, this.commands.unwrap(text)) }));
+  }
+
+  /** The edits that make the fixed text, with CR LF where the first line of the text ends so and that keeps the tree. */
+  fix({ text }) {
+    return tried(text, () => {
+      const fixed = this.commands.fix(text), isCrLf = /^[^\r\n]*\r\n/.test(text), other = isCrLf ? fixed.replaceAll('\n', '\r\n') : fixed;
+      const to = other !== fixed && answered(() => this.commands.fix(other)) !== fixed ? fixed : other;
+      return { edits: editsBetween(text, to), hasComments: mayHaveComments(text) };
+    });
+  }
+
+  unwrapWithin({ text, start, end }) {
+    return tried(text, () => {
+      // (a refusal is said as such)
+      this.commands.unwrap(text);
+      return { edits: this.judgeOf(text).unwrappedWithin(start, end) };
+    });
+  }
+
+  /** The changes that some reports have: for each `{ rule, start }` its edits and whether it is of a name at the top, or null. */
+  changes({ text, wanted }) {
+    return tried(text, () => {
+      const judge = this.judgeOf(text), withoutPair = (start) => { const edits = judge.withoutPair(start); return edits && { edits, isTop: false }; };
+      return { changes: wanted.map(({ rule, start }) => (rule === 'no-extra-parens' ? withoutPair(start) : judge.letToConst(start))) };
+    });
+  }
+
+  /** How many lines of some settings are taken, counted from the first; null where all are, and no `line` where that isn't known. */
+  settings({ settings }) {
+    if (this.areTaken(settings)) return { line: null };
+    const lines = settings.split('\n');
+    if (lines.length > MOST_LINES) return {};
+    for (let count = lines.length - 1; count > 0; count--) if (this.areTaken(`${lines.slice(0, count).join('\n')}\n`)) return { line: count };
+    return { line: 0 };
+  }
+
+  /** Whether changed settings are taken, and turn the reports of a rule, or of a name, off, and nothing else on or off. */
+  settingsEffect({ text, settings, changed, rule, name }) {
+    return tried(text, () => {
+      const reportsWith = (it) => (HALF_PAIR.test(it) ? null : answered(() => this.commands.check(text, { settings: it })));
+      const before = reportsWith(settings), after = reportsWith(changed);
+      if (before === null || after === null) return { isGood: false };
+      const isOff = (it) => it.rule === rule && (name === null || it.message === `'${name}' is not defined`);
+      const told = (list) => JSON.stringify(list.map((it) => [it.index, it.rule, it.message]));
+      return { isGood: told(before.filter((it) => !isOff(it))) === told(after) };
+    });
+  }
+}
+

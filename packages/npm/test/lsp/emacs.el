@@ -1,0 +1,52 @@
+;; emacs -Q --batch -L FOLDER-OF-EGLOT .. -l INIT -l emacs.el FILE    eglot against the server on the PATH; tools/tests/language_server.py says what
+;; FILE has. The last line is `ok` where all is well.
+(setq enable-local-variables nil make-backup-files nil)
+(setq project-find-functions (list (lambda (dir) (cons 'transient dir))) eglot-sync-connect 240 eglot-connect-timeout 240 eglot-autoshutdown nil)
+
+(defun fail (what)
+  (princ (format "FAILED: %s\n" what))
+  (kill-emacs 1))
+
+(defun wait-for (what test)
+  (let ((end (+ (float-time) 240)))
+    (while (and (not (funcall test)) (< (float-time) end)) (accept-process-output nil 0.05))
+    (unless (funcall test) (fail what))))
+
+(defun reports ()
+  (flymake-start)
+  (sort (mapcar (lambda (it)
+                  (format "%s %s" (buffer-substring-no-properties (flymake-diagnostic-beg it) (flymake-diagnostic-end it)) (car (split-string (flymake-diagnostic-text it) "\n"))))
+                (flymake-diagnostics))
+        #'string<))
+
+(defun actions-at (start)
+  (jsonrpc-request (eglot--current-server-or-lose) :textDocument/codeAction
+                   (list :textDocument (eglot--TextDocumentIdentifier)
+                         :range (list :start (eglot--pos-to-lsp-position start) :end (eglot--pos-to-lsp-position (1+ start)))
+                         :context '(:diagnostics []))
+                   :timeout 240))
+
+(defun text () (buffer-substring-no-properties (point-min) (point-max)))
+
+(find-file (car command-line-args-left))
+(js-mode)
+(unless (eglot-managed-p) (apply #'eglot--connect (eglot--guess-contact)))
+(wait-for "the connection" #'eglot-managed-p)
+(wait-for "five reports" (lambda () (= (length (reports)) 5)))
+(princ (format "%S\n" (reports)))
+(goto-char (point-min))
+(search-forward ";")
+(insert "(1); ")
+(eglot--signal-textDocument/didChange)
+(wait-for "a sixth report" (lambda () (= (length (reports)) 6)))
+(let ((actions (actions-at (1- (search-backward "1);")))))
+  (princ (format "%S\n" (mapcar (lambda (it) (plist-get it :title)) actions)))
+  (eglot--apply-workspace-edit (plist-get (aref actions 0) :edit)))
+(let ((jsonrpc-default-request-timeout 240)) (eglot-format-buffer))
+(eglot--signal-textDocument/didChange)
+(unless (string= (text) "'é漢😀';1; let x = 1; // (kept)\nlet y = x + 2; y;\n") (fail (text)))
+(wait-for "two reports" (lambda () (= (length (reports)) 2)))
+(set-buffer-modified-p nil)
+(eglot-shutdown (eglot--current-server-or-lose))
+(princ "ok\n")
+(kill-emacs 0)

@@ -1,0 +1,349 @@
+// The server as editors meet it: started as a process, over its streams.
+import assert from 'node:assert/strict';
+import { mkdirSync, mkdtempSync, readFileSync, rmSync, writeFileSync } from 'node:fs';
+import { tmpdir } from 'node:os';
+import path from 'node:path';
+import { pathToFileURL } from 'node:url';
+import { after, test } from 'node:test';
+import { Client, at, edited, place, range, withClient } from './client.mjs';
+
+const LITERALS = { textDocument: { codeAction: { codeActionLiteralSupport: { codeActionKind: { valueSet: ['quickfix'] } } } } };
+const folder = mkdtempSync(path.join(tmpdir(), 'jslint-lsp-'));
+after(() => rmSync(folder, { recursive: true }));
+mkdirSync(path.join(folder, '.git'));
+const uriOf = (name) => pathToFileURL(path.join(folder, name)).href;
+const put = (name, text) => { mkdirSync(path.dirname(path.join(folder, name)), { recursive: true }); writeFileSync(path.join(folder, name), text); };
+const texts = JSON.parse(readFileSync(new URL('../../lib/texts.json', import.meta.url), 'utf8'));
+const placed = (it) => `${it.range.start.line}:${it.range.start.character}-${it.range.end.line}:${it.range.end.character}`;
+const short = (it) => `${placed(it)} ${it.code}`;
+const codes = (found) => found.map((it) => it.code);
+const actionsAt = (client, name, stretch, context = {}) => client.request('textDocument/codeAction', { ...at(uriOf(name)), range: stretch, context: { diagnostics: [], ...context } });
+const formatted = (client, name) => client.request('textDocument/formatting', { ...at(uriOf(name)), options: {} });
+
+test('the beginning and the end', async () => {
+  const client = new Client();
+  await assert.rejects(client.request('textDocument/hover', {}), { code: -32002 });
+  const result = await client.begin();
+  assert.equal(result.capabilities.positionEncoding, 'utf-16');
+  assert.equal(result.capabilities.textDocumentSync.change, 2);
+  await assert.rejects(client.request('initialize', {}), { code: -32600 });
+  await assert.rejects(client.request('no/such'), { code: -32601 });
+  await assert.rejects(client.request('toString'), { code: -32601 });
+  client.notify('no/such', {});
+  client.notify('$/setTrace', { value: 'off' });
+  await client.request('shutdown');
+  await assert.rejects(client.request('textDocument/hover', {}), { code: -32600 });
+  client.notify('exit');
+  assert.equal(await client.exited, 0);
+});
+
+test('exit without shutdown, and a client that is gone', async () => {
+  for (const how of [(it) => it.notify('exit'), (it) => it.child.stdin.end()]) {
+    const client = new Client();
+    await client.begin();
+    how(client);
+    assert.equal(await client.exited, 1);
+  }
+});
+
+test('bytes that are no message', async () => {
+  await withClient(async (client) => {
+    const wrong = (code) => client.message((it) => it.error?.code === code);
+    let came = wrong(-32700);
+    client.raw('Content-Length: 3\r\n\r\n{a}');
+    await came;
+    came = wrong(-32600);
+    client.raw('Content-Type: application/vscode-jsonrpc; charset=utf-8\r\ncontent-length: 2\r\n\r\n[]');
+    await came;
+    // (a message in single bytes, with characters of four)
+    const body = Buffer.from(JSON.stringify({ jsonrpc: '2.0', method: 'textDocument/didOpen', params: { textDocument: { uri: uriOf('bytes.js'), languageId: 'javascript', version: 1, text: '"😀"; (a);' } } }));
+    const found = client.diagnostics(uriOf('bytes.js'));
+    for (const it of Buffer.concat([Buffer.from(`Content-Length: ${body.length}\r\n\r\n`), body])) client.raw(Buffer.from([it]));
+    assert.deepEqual((await found).map(short), ['0:6-0:7 no-extra-parens', '0:7-0:8 no-undef']);
+  });
+  const client = new Client();
+  client.raw('GET / HTTP/1.1\r\n\r\n');
+  assert.equal(await client.exited, 1);
+});
+
+test('places in UTF-16, UTF-8 and UTF-32', async () => {
+  const text = '"é漢😀"; (a);\u2028(b);\r(c);\r\n(d);';
+  for (const [encoding, column] of [['utf-16', 8], ['utf-8', 13], ['utf-32', 7]]) {
+    await withClient(async (client, result) => {
+      assert.equal(result.capabilities.positionEncoding, encoding);
+      const pairs = (await client.open(uriOf('places.js'), text)).filter((it) => it.code === 'no-extra-parens').map((it) => [it.range.start.line, it.range.start.character]);
+      const width = { 'utf-16': 1, 'utf-8': 3, 'utf-32': 1 }[encoding];
+      assert.deepEqual(pairs, [[0, column], [0, column + 4 + width], [1, 0], [2, 0]]);
+      // (a change behind these characters)
+      const found = client.diagnostics(uriOf('places.js'));
+      client.change(uriOf('places.js'), 2, { range: range(0, column, 0, column + 3), text: 'a' });
+      assert.equal((await found).filter((it) => it.code === 'no-extra-parens').length, 3);
+    }, { capabilities: { general: { positionEncodings: [encoding, 'utf-16'] } } });
+  }
+  await withClient(async (_, result) => assert.equal(result.capabilities.positionEncoding, 'utf-16'), { capabilities: { general: { positionEncodings: ['utf-7'] } } });
+});
+
+test('underlines', async () => {
+  await withClient(async (client) => {
+    const found = await client.open(uriOf('under.js'), 'var ab = cde == (1);\nif (x.y[z == 1] != /=/) { /* } */ }\nswitch (q) {}\na == b == c; debugger;\n');
+    assert.deepEqual(found.map(short), [
+      '0:0-0:3 no-var', '0:4-0:6 no-unused-vars', '0:9-0:15 eqeqeq', '0:9-0:12 no-undef', '0:16-0:17 no-extra-parens',
+      '1:4-1:18 eqeqeq', '1:4-1:5 no-undef', '1:8-1:12 eqeqeq', '1:8-1:9 no-undef', '1:24-1:35 no-empty',
+      '2:0-2:6 no-empty', '2:8-2:9 no-undef', '3:0-3:4 eqeqeq', '3:0-3:9 eqeqeq', '3:0-3:1 no-undef', '3:5-3:6 no-undef', '3:10-3:11 no-undef', '3:13-3:21 no-debugger',
+    ]);
+  });
+});
+
+test('refusals, with hints', async () => {
+  await withClient(async (client) => {
+    let number = 0;
+    const told = async (text) => { const it = (await client.open(uriOf(`refused${number++}.js`), text))[0]; return it && [it.severity, it.code, placed(it), it.message]; };
+    assert.deepEqual(await told('a;\nimport b from "c";'), [3, 'syntax', '1:7-1:8', "not checked: syntax error\nperhaps: 'import' makes this a module, and only scripts are read"]);
+    assert.deepEqual(await told('x = [1 2]'), [1, 'syntax', '0:7-0:8', 'syntax error']);
+    assert.deepEqual(await told('let a; let a;'), [1, 'E3', '0:11-0:12', `${texts.early[3]} (early error E3)`]);
+    assert.equal((await told('"a\ud800b"'))[1], 'utf8');
+    assert.equal((await told('('.repeat(2000)))[1], 'deep');
+    assert.equal((await told(`${'('.repeat(1100)}a${')'.repeat(1100)};`))[1], 'no-extra-parens');
+    assert.equal(await told(''), undefined);
+  });
+});
+
+test('code actions: one pair, all, let to const', () => withClient(async (client) => {
+  const text = 'let a = (1), b = ((a) + 2) * b; // (c)\nnew (f().x)();\n', uri = uriOf('actions.js');
+  await client.open(uri, text);
+  const of = (found, title) => found.filter((it) => it.title === title).map((it) => edited(text, it.edit.changes[uri]));
+  const found = await actionsAt(client, 'actions.js', range(0, 0, 0, 30));
+  assert.deepEqual(of(found, 'Take out this pair of parentheses'), [text.replace('(1)', '1'), text.replace('(a)', 'a')]);
+  assert.deepEqual(of(found, 'Change let to const (if no other script writes it)'), [text.replace('let', 'const')]);
+  assert.ok(found.every((it) => it.kind === 'quickfix'));
+  const second = await actionsAt(client, 'actions.js', range(1, 4, 1, 4));
+  assert.deepEqual(second.map((it) => it.title), ['Take out all unnecessary parentheses']);
+  client.answers['workspace/applyEdit'] = () => ({ applied: true });
+  const asked = client.message((it) => it.method === 'workspace/applyEdit');
+  await client.request('workspace/executeCommand', second[0].command);
+  assert.equal(edited(text, (await asked).params.edit.changes[uri]), 'let a = 1, b = (a + 2) * b; // (c)\nnew (f().x)();\n');
+  const onSave = await actionsAt(client, 'actions.js', range(0, 0, 9, 0), { only: ['source.fixAll'] });
+  assert.deepEqual(onSave.map((it) => it.kind), ['source.fixAll.jslint']);
+  const kindsOf = async (only) => (await actionsAt(client, 'actions.js', range(1, 0, 1, 9), { only })).map((it) => it.kind);
+  assert.deepEqual(await kindsOf(['source']), ['source.fixAll.jslint', 'source.layout.jslint']);
+  assert.deepEqual(await kindsOf(['']), ['quickfix', 'source.fixAll.jslint', 'source.layout.jslint']);
+  assert.deepEqual([await kindsOf([]), await kindsOf(['refactor'])], [['quickfix'], []]);
+  await client.open(uriOf('inner.js'), '{ let a = 1; a; }');
+  assert.deepEqual((await actionsAt(client, 'inner.js', range(0, 6, 0, 6))).map((it) => [it.title, it.isPreferred]), [['Change let to const', true]]);
+}, { capabilities: LITERALS }));
+
+test('code actions where the editor takes commands alone, and edits with versions', async () => {
+  await withClient(async (client) => {
+    await client.open(uriOf('plain.js'), '(a);');
+    assert.deepEqual(await actionsAt(client, 'plain.js', range(0, 0, 0, 1)), [{ title: 'Take out all unnecessary parentheses', command: 'jslint.unwrap', arguments: [uriOf('plain.js')] }]);
+  });
+  await withClient(async (client) => {
+    await client.open(uriOf('v.js'), '(a);', 7);
+    const [{ edit }] = await actionsAt(client, 'v.js', range(0, 0, 0, 1));
+    assert.deepEqual(edit.documentChanges.map((it) => it.textDocument), [{ uri: uriOf('v.js'), version: 7 }]);
+  }, { capabilities: { ...LITERALS, workspace: { workspaceEdit: { documentChanges: true } } } });
+});
+
+test('a command that drops comments says so, and rewrites what the editor has', () => withClient(async (client) => {
+  await client.open(uriOf('drop.js'), '(a) // b');
+  client.answers['workspace/applyEdit'] = () => ({ applied: true });
+  const [{ title, command }] = await actionsAt(client, 'drop.js', range(0, 0, 0, 0), { only: ['source.layout'] });
+  assert.match(title, /drops comments/);
+  const asked = client.message((it) => it.method === 'workspace/applyEdit');
+  await client.request('workspace/executeCommand', command);
+  assert.equal(edited('(a) // b', (await asked).params.edit.changes[uriOf('drop.js')]), 'a;\n');
+}, { capabilities: LITERALS }));
+
+test('formatting: unwrap in small edits, a stretch, and the layout where nothing is lost', async () => {
+  const text = 'a  =  (b); // (c)\nif ((d)) {\n  (e)\n}\n';
+  await withClient(async (client) => {
+    await client.open(uriOf('format.js'), text);
+    const edits = await formatted(client, 'format.js');
+    assert.equal(edited(text, edits), 'a  =  b; // (c)\nif (d) {\n  e\n}\n');
+    assert.ok(edits.every((it) => it.newText.length <= 1));
+    const some = await client.request('textDocument/rangeFormatting', { ...at(uriOf('format.js')), range: range(1, 0, 3, 0), options: {} });
+    assert.equal(edited(text, some), 'a  =  (b); // (c)\nif (d) {\n  e\n}\n');
+    await client.open(uriOf('bad.js'), 'import a');
+    await assert.rejects(formatted(client, 'bad.js'), /syntax error.*perhaps.*module/);
+    await assert.rejects(formatted(client, 'none.js'), { code: -32602 });
+    client.notify('textDocument/didOpen', { textDocument: { uri: uriOf('other.ts'), languageId: 'typescript', version: 1, text: '(a)' } });
+    assert.equal(await formatted(client, 'other.ts'), null);
+  });
+  await withClient(async (client) => {
+    const done = async (name, from) => {
+      await client.open(uriOf(name), from);
+      return edited(from, await formatted(client, name));
+    };
+    assert.equal(await done('l.js', 'if ((a)) b'), 'if (a) b;\n');
+    assert.equal(await done('c.js', 'if ((a)) b // c'), 'if (a) b // c');
+    assert.equal(await done('r.js', 'if ((a)) b\r\n'), 'if (a) b;\r\n');
+  }, { more: { initializationOptions: { format: 'layout' } } });
+});
+
+test('CR LF stays, in each edit', () => withClient(async (client) => {
+  const text = 'x = (\r\n  // (c)\r\n  (a) + b\r\n);\r\nlet y = (1);\r\n';
+  await client.open(uriOf('crlf.js'), text);
+  assert.equal(edited(text, await formatted(client, 'crlf.js')), 'x =\r\n  // (c)\r\n  a + b;\r\nlet y = 1;\r\n');
+  for (const it of await actionsAt(client, 'crlf.js', range(0, 0, 4, 0))) {
+    if (it.edit) assert.ok(!/[^\r]\n|\r(?!\n)/.test(edited(text, it.edit.changes[uriOf('crlf.js')])), it.title);
+  }
+}, { capabilities: LITERALS }));
+
+test('settings: the nearest, as they are typed, refused with a line, ignored files', async () => {
+  put('jslint.toml', 'globals = ["a"]\n');
+  put('sub/jslint.toml', '[rules]\nno-undef = false\n');
+  put('.gitignore', 'built/\n');
+  await withClient(async (client) => {
+    assert.deepEqual(codes(await client.open(uriOf('s.js'), 'a; b;')), ['no-undef']);
+    assert.deepEqual(codes(await client.open(uriOf('sub/deep/s.js'), 'a; b;')), []);
+    assert.deepEqual(codes(await client.open(uriOf('built/s.js'), 'a; (b);')), []);
+    // (the settings are open, and not saved)
+    let script = client.diagnostics(uriOf('s.js'), (it) => it.diagnostics.length === 0);
+    await client.open(uriOf('jslint.toml'), 'globals = ["a", "b"]\n', 1, 'toml');
+    await script;
+    const bad = client.diagnostics(uriOf('jslint.toml'));
+    script = client.diagnostics(uriOf('s.js'), (it) => it.diagnostics[0]?.code === 'settings');
+    client.change(uriOf('jslint.toml'), 2, { text: 'globals = [\n "a",\n]\nallow-nul = true\n[rules]\n' });
+    assert.deepEqual((await bad).map(short), ['3:0-3:16 settings']);
+    await script;
+    const good = client.diagnostics(uriOf('jslint.toml'), (it) => it.diagnostics.length === 0);
+    client.change(uriOf('jslint.toml'), 3, { text: 'globals = ["a"]\n' });
+    await good;
+    const found = await actionsAt(client, 's.js', range(0, 3, 0, 4));
+    const made = Object.fromEntries(found.map((it) => [it.title, edited('globals = ["a"]\n', it.edit.changes[uriOf('jslint.toml')])]));
+    assert.deepEqual(made, { 'Add b to the globals in jslint.toml': 'globals = ["a", "b"]\n', 'Turn no-undef off in jslint.toml': 'globals = ["a"]\n[rules]\nno-undef = false\n' });
+    // (closed: what is on the disk counts again)
+    script = client.diagnostics(uriOf('s.js'), (it) => it.diagnostics.length === 0);
+    put('jslint.toml', 'globals = ["a", "b"]\n# more\n');
+    client.notify('textDocument/didClose', at(uriOf('jslint.toml')));
+    await script;
+  }, { capabilities: LITERALS });
+});
+
+test('settings on the disk that are refused, and mended', async () => {
+  put('disk/jslint.toml', 'no\n');
+  await withClient(async (client) => {
+    const settings = client.diagnostics(uriOf('disk/jslint.toml'));
+    assert.match((await client.open(uriOf('disk/a.js'), '(a);'))[0].message, /^not checked: .*jslint\.toml: bad settings$/);
+    assert.deepEqual((await settings).map(short), ['0:0-0:2 settings']);
+    put('disk/jslint.toml', '[rules]\nno-undef = false\n');
+    const mended = client.diagnostics(uriOf('disk/jslint.toml')), script = client.diagnostics(uriOf('disk/a.js'));
+    client.notify('workspace/didChangeWatchedFiles', { changes: [] });
+    assert.deepEqual(await mended, []);
+    assert.deepEqual(codes(await script), ['no-extra-parens']);
+  });
+});
+
+test('settings that the editor names, as they are typed', () => withClient(async (client) => {
+  await client.open(uriOf('typed/a.js'), 'debugger;');
+  const shown = client.diagnostics(uriOf('typed/a.js'), (it) => it.diagnostics.length === 0);
+  await client.open(uriOf('typed/own.toml'), '[rules]\nno-debugger = false\n', 1, 'toml');
+  await shown;
+  const again = client.diagnostics(uriOf('typed/a.js'));
+  client.change(uriOf('typed/own.toml'), 2, { text: '' });
+  assert.deepEqual(codes(await again), ['no-debugger']);
+}, { more: { rootUri: uriOf('typed'), initializationOptions: { settings: 'own.toml' } } }));
+
+test('settings that the editor names', async () => {
+  put('named/own.toml', '[rules]\nno-debugger = false\n');
+  for (const [settings, wanted] of [['own.toml', []], [path.join(folder, 'named/own.toml'), []], ['none.toml', ['settings']]]) {
+    await withClient(async (client) => {
+      const found = await client.open(uriOf('named/a.js'), 'debugger;');
+      assert.deepEqual(codes(found), wanted);
+      if (wanted.length) assert.match(found[0].message, /none\.toml: read failed: missing$/);
+    }, { more: { rootUri: uriOf('named'), initializationOptions: { settings } } });
+  }
+});
+
+test('the editor\'s settings', async () => {
+  const asked = { format: 'unwrap', unsupported: 'off', severity: 'hint', maxDiagnostics: 2, languages: ['javascript'], debounce: 'no number' };
+  const client = new Client();
+  client.answers['workspace/configuration'] = () => [asked];
+  await client.begin({ workspace: { configuration: true } });
+  // (the answer about the settings is here before the next text is)
+  await client.request('textDocument/diagnostic', at(uriOf('none.js')));
+  const again = await client.open(uriOf('e2.js'), '(c); (d);');
+  assert.deepEqual(again.map((it) => [it.severity, it.code]), [[4, 'no-extra-parens'], [4, 'no-undef'], [3, 'more']]);
+  assert.deepEqual(await client.open(uriOf('e3.js'), 'export {};'), []);
+  await client.end();
+});
+
+test('what the editor is asked to watch', async () => {
+  const workspace = { didChangeWatchedFiles: { dynamicRegistration: true }, didChangeConfiguration: { dynamicRegistration: true } };
+  await withClient(async (client) => {
+    await client.open(uriOf('w.js'), '1;');
+    const [asked] = client.heard.filter((it) => it.method === 'client/registerCapability');
+    assert.deepEqual(asked.params.registrations.map((it) => [it.method, it.registerOptions.section ?? it.registerOptions.watchers.map((each) => each.globPattern)]), [
+      ['workspace/didChangeWatchedFiles', ['**/jslint.toml', '**/.jslintignore', '**/.gitignore']], ['workspace/didChangeConfiguration', 'jslint'],
+    ]);
+    const found = client.diagnostics(uriOf('w.js'), (it) => it.diagnostics.length === 1);
+    client.notify('workspace/didChangeConfiguration', { settings: { jslint: { settings: null } } });
+    client.change(uriOf('w.js'), 2, { text: 'debugger;' });
+    await found;
+  }, { capabilities: { workspace } });
+});
+
+test('hover', async () => {
+  await withClient(async (client) => {
+    await client.open(uriOf('h.js'), 'q == 1;\n');
+    const hover = await client.request('textDocument/hover', { textDocument: { uri: uriOf('h.js') }, position: place(0, 0) });
+    assert.match(hover.contents.value, /\*\*eqeqeq\*\*[\s\S]*\*\*no-undef\*\*/);
+    assert.equal(await client.request('textDocument/hover', { textDocument: { uri: uriOf('h.js') }, position: place(0, 7) }), null);
+    await client.open(uriOf('h2.js'), 'let a; let a;');
+    assert.match((await client.request('textDocument/hover', { textDocument: { uri: uriOf('h2.js') }, position: place(0, 3) })).contents.value, /early error E3/);
+  }, { capabilities: { textDocument: { hover: { contentFormat: ['markdown'] } } } });
+});
+
+test('pulled diagnostics', async () => {
+  await withClient(async (client, result) => {
+    assert.ok(result.capabilities.diagnosticProvider);
+    client.notify('textDocument/didOpen', { textDocument: { uri: uriOf('p.js'), languageId: 'javascript', version: 1, text: 'debugger;' } });
+    const found = await client.request('textDocument/diagnostic', { textDocument: { uri: uriOf('p.js') } });
+    assert.deepEqual([found.kind, found.items.map((it) => it.code)], ['full', ['no-debugger']]);
+    assert.ok(!client.heard.some((it) => it.method === 'textDocument/publishDiagnostics'));
+  }, { capabilities: { textDocument: { diagnostic: {} } } });
+});
+
+test('cancelling, a thread that ends, a call that hangs', async () => {
+  await withClient(async (client) => {
+    const hanging = client.request('$/test', { kind: 'hang' });
+    const behind = client.request('textDocument/diagnostic', { textDocument: { uri: uriOf('none.js') } });
+    client.notify('$/cancelRequest', { id: hanging.id });
+    await assert.rejects(hanging, { code: -32800 });
+    await behind;
+    await assert.rejects(client.request('$/test', { kind: 'crash' }), { code: -32603 });
+    await assert.rejects(client.request('$/test', { kind: 'fail' }), /as asked/);
+    await assert.rejects(client.request('$/test', { kind: 'hang', mostMs: 500 }), /no answer within 0.5 s/);
+    assert.deepEqual((await client.open(uriOf('after.js'), 'debugger;')).map((it) => it.code), ['no-debugger']);
+  });
+});
+
+test('typing: what is old isn\'t shown, and a change comes to the right place', async () => {
+  await withClient(async (client) => {
+    const uri = uriOf('type.js');
+    const text = 'debugger;\n'.repeat(2000);
+    await client.open(uri, text);
+    const last = client.diagnostics(uri, (it) => it.version === 61);
+    for (let number = 0; number < 60; number++) {
+      client.change(uri, 2 + number, { range: range(number * 7, 0, number * 7, 0), text: `(x${number});` });
+    }
+    const found = await last;
+    assert.equal(found.filter((it) => it.code === 'no-extra-parens').length, 60);
+    const published = client.heard.filter((it) => it.method === 'textDocument/publishDiagnostics' && it.params.uri === uri).map((it) => it.params.version);
+    assert.ok(published.length <= 4 && published.at(-1) === 61, `${published}`);
+  }, { capabilities: { textDocument: { publishDiagnostics: { versionSupport: true } } }, more: { initializationOptions: { maxDiagnostics: 100000, debounce: 1000 } } });
+});
+
+test('the workspace: progress, and cancelled in between', async () => {
+  for (let number = 0; number < 100; number++) put(`many/${number}.js`, `debugger; (${number});\n`);
+  put('many/.jslintignore', '1?.js\n');
+  await withClient(async (client) => {
+    const seen = () => client.heard.filter((it) => it.method === '$/progress').map((it) => it.params.value.kind);
+    const result = await client.request('workspace/executeCommand', { command: 'jslint.checkWorkspace', workDoneToken: 'mine' });
+    assert.deepEqual(result, { files: 90, withReports: 90 });
+    assert.deepEqual([seen()[0], seen().at(-1)], ['begin', 'end']);
+    const again = client.request('workspace/executeCommand', { command: 'jslint.checkWorkspace', workDoneToken: 'other' });
+    client.notify('window/workDoneProgress/cancel', { token: 'other' });
+    await assert.rejects(again, { code: -32800 });
+  }, { more: { workspaceFolders: [{ uri: uriOf('many'), name: 'many' }] } });
+});

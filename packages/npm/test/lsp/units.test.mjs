@@ -1,0 +1,255 @@
+// Documents, edits, spans, ignore files, settings, hints and small changes, without a server.
+import assert from 'node:assert/strict';
+import { spawnSync } from 'node:child_process';
+import { mkdtempSync, readFileSync, rmSync, writeFileSync } from 'node:fs';
+import { tmpdir } from 'node:os';
+import path from 'node:path';
+import { test } from 'node:test';
+import { Refused, check, fix, indexOf, tree, unwrap } from '../../jslint.mjs';
+import { Judge } from '../../lib/changes.mjs';
+import { Document, ENCODINGS } from '../../lib/document.mjs';
+import { applied, editsBetween } from '../../lib/edits.mjs';
+import { Engine } from '../../lib/engine.mjs';
+import { Frames, framed } from '../../lib/frames.mjs';
+import { earlyHint, syntaxHint } from '../../lib/hints.mjs';
+import { isIgnored, patternsOf } from '../../lib/ignore.mjs';
+import { Jobs } from '../../lib/jobs.mjs';
+import { settingsWith } from '../../lib/settings.mjs';
+import { pairEnd, withSpans } from '../../lib/spans.mjs';
+
+const answered = (call) => { try { return call(); } catch (error) { if (error instanceof Refused) return null; throw error; } };
+const judge = (text) => new Judge({ check, fix, tree, unwrap }, answered, text);
+const jobs = new Jobs({ check, fix, tree, unwrap });
+
+let seed = Number(process.env.SEED ?? 20261128);
+const random = (most) => { seed = (seed * 1103515245 + 12345) % 2147483648; return seed % most; };
+const PIECES = ['a', 'bc', ' ', '\n', '\r', '\r\n', '\u2028', 'é', '漢', '😀', '\ufeff', 'let x = (1);', ''];
+const some = (most) => Array.from({ length: random(most) }, () => PIECES[random(PIECES.length)]).join('');
+
+test('documents: lines and places after random changes are those of the whole text', () => {
+  for (let round = 0; round < 3000; round++) {
+    const encoding = ENCODINGS[round % 3], document = new Document({ uri: 'a', text: some(12), version: 1 }, encoding);
+    for (let step = 0; step < 5; step++) {
+      const points = [...boundaries(document.text)], [a, b] = [points[random(points.length)], points[random(points.length)]].sort((x, y) => x - y), put = some(4);
+      const wanted = document.text.slice(0, a) + put + document.text.slice(b);
+      // (a place within a CR LF isn't a place of the protocol's: it counts as the line's end)
+      const isPlace = (at) => document.indexAt(document.positionAt(at)) === at;
+      if (!isPlace(a) || !isPlace(b)) continue;
+      document.change([{ range: document.rangeOf(a, b), text: put }], step);
+      assert.equal(document.text, wanted);
+      assert.deepEqual(document.lines, new Document({ text: wanted }, encoding).lines);
+    }
+    for (const at of boundaries(document.text)) {
+      const place = document.positionAt(at), back = document.indexAt(place);
+      assert.ok(back === at || document.text.slice(back, at) === '\r', JSON.stringify([document.text, at, place, back]));
+      const line = document.text.slice(document.lines[place.line], at);
+      const width = { 'utf-16': line.length, 'utf-8': Buffer.byteLength(line), 'utf-32': [...line].length }[encoding];
+      assert.equal(place.character, width);
+    }
+  }
+});
+
+function* boundaries(text) {
+  for (let at = 0; at <= text.length; at++) if (!/^[\ud800-\udbff][\udc00-\udfff]$/.test(text.slice(at - 1, at + 1)) || at === 0) yield at;
+}
+
+test('documents: what is beyond a line or the text', () => {
+  const document = new Document({ text: 'a😀\r\nb' }, 'utf-8');
+  assert.equal(document.indexAt({ line: 0, character: 99 }), 3);
+  assert.equal(document.indexAt({ line: 9, character: 9 }), 6);
+  assert.equal(document.indexAt({ line: 0, character: 3 }), 1, 'within a character: its start');
+  for (const it of [undefined, null, 1, {}, { line: -1, character: 0 }, { line: 0, character: 1.5 }, { line: '0', character: 0 }]) assert.throws(() => document.indexAt(it), { code: -32602 });
+});
+
+test('edits: they make the second text, whatever the texts are', () => {
+  for (let round = 0; round < 4000; round++) {
+    const a = some(20), b = random(2) ? some(20) : a.slice(0, random(a.length + 1)) + some(3) + a.slice(random(a.length + 1));
+    assert.equal(applied(a, editsBetween(a, b)), b);
+  }
+});
+
+test('edits: small ones for small differences', () => {
+  const a = 'f((a), b);\n'.repeat(50), b = 'f(a, b);\n'.repeat(50), edits = editsBetween(a, b);
+  assert.equal(applied(a, edits), b);
+  assert.ok(edits.length === 100 || edits.length === 50, `${edits.length}`);
+  assert.ok(edits.every((it) => it.end - it.start <= 3 && it.text.length <= 1));
+});
+
+test('ignore files: as git says', (t) => {
+  const folder = mkdtempSync(path.join(tmpdir(), 'jslint-'));
+  t.after(() => rmSync(folder, { recursive: true }));
+  if (spawnSync('git', ['init', '-q', folder]).status !== 0) return t.skip('no git');
+  const PARTS = ['a', 'b', 'a.js', 'b.js', '*', '**', '/', '/', '?', '[ab]', '[!a]', '!', '*.js', 'c', '\\', '#', ' ', 'd/', '[[:alpha:]]', 'a*b'];
+  const paths = [];
+  for (const one of ['a', 'b', 'c', 'a.js', 'ab']) for (const two of ['', 'a', 'b.js', 'c']) for (const three of ['', 'a.js', 'd', '!a']) if (two || !three) paths.push([one, two, three].filter(Boolean).join('/'));
+  let differ = 0;
+  for (let round = 0; round < Number(process.env.ROUNDS ?? 100); round++) {
+    const lines = Array.from({ length: 1 + random(4) }, () => Array.from({ length: 1 + random(4) }, () => PARTS[random(PARTS.length)]).join('')).join('\n');
+    // (git compares what stands before the first wildcard by itself, and takes the `**` of `a**/b` for one at the beginning; gitignore(5) has it as
+    // two plain stars)
+    if (/[^/\n]\*\*+\//.test(lines)) continue;
+    writeFileSync(path.join(folder, '.gitignore'), `${lines}\n`);
+    const ran = spawnSync('git', ['-C', folder, 'check-ignore', '--no-index', '-z', '--stdin'], { input: paths.join('\0') });
+    const wanted = new Set(ran.stdout.toString().split('\0').filter(Boolean)), list = patternsOf(lines);
+    for (const it of paths) {
+      const is = isIgnored(it, false, (at) => (at === '' ? list : []));
+      if (is !== wanted.has(it)) { differ++; if (differ < 9) t.diagnostic(JSON.stringify([lines, it, is, wanted.has(it)])); }
+    }
+  }
+  assert.equal(differ, 0);
+});
+
+test('ignore files: a nearer file decides, and nothing comes back below an ignored folder', () => {
+  const files = { '': patternsOf('*.js\nout/'), a: patternsOf('!keep.js'), out: patternsOf('!*.js') }, of = (at) => files[at] ?? [];
+  assert.equal(isIgnored('a/keep.js', false, of), false);
+  assert.equal(isIgnored('a/other.js', false, of), true);
+  assert.equal(isIgnored('out/x.js', false, of), true);
+});
+
+test('ignore files: no pattern takes long', () => {
+  const begun = performance.now();
+  for (const line of [`${'*a'.repeat(60)}b`, Array(60).fill('**/*a').join('/'), `/${'**/'.repeat(200)}b`]) {
+    const list = patternsOf(line);
+    assert.equal(isIgnored(Array(8).fill('a'.repeat(200)).join('/'), false, (at) => (at === '' ? list : [])), false);
+  }
+  assert.ok(performance.now() - begun < 3000);
+});
+
+test('settings: what is put in is read', () => {
+  const texts = ['', 'allow-null = true\n', 'globals = ["a"]\n', 'globals = [\n  "a",\n  "b",\n]\n[rules]\nno-var = true\n', 'rules = { no-var = true }\n', 'rules.no-empty = false\n', '[rules]\nno-empty = false\n', 'globals = []'];
+  for (const text of texts) {
+    assert.deepEqual(check('zz;', { settings: settingsWith(text, { rule: 'no-undef', name: 'zz' }) }).map((it) => it.rule), [], text);
+    assert.deepEqual(check('var $ = 1; $;', { settings: settingsWith(text, { rule: 'no-var', name: null }) }).map((it) => it.rule), [], text);
+  }
+});
+
+const rows = JSON.parse(readFileSync(new URL('hints.rows.json', import.meta.url), 'utf8'));
+test('hints: each row', () => {
+  for (const { text, id } of rows) {
+    let found = 'accepted';
+    try {
+      fix(text);
+    } catch (error) {
+      assert.ok(error instanceof Refused);
+      const index = indexOf(text, error.line, error.column);
+      found = (error.code === 'early' ? earlyHint(error.number, text, index)?.number : syntaxHint(text, index)?.id) ?? null;
+    }
+    assert.equal(found, id, text);
+  }
+});
+
+test('hints: no text takes long', () => {
+  const begun = performance.now();
+  for (const piece of ['class//', 'class{;', 'async(', 'for(var a=', '[{(', '?? ', 'import ', '"\\', 'static ']) for (const end of ['=', '=>', '{', '"']) syntaxHint(piece.repeat(1000).slice(0, 4000) + end, 4000);
+  assert.ok(performance.now() - begun < 3000, `${performance.now() - begun}`);
+});
+
+test('spans: the `)` of a `(`, whatever stands between', () => {
+  for (const inner of ['a', 'a /* ) */', '")"', "'\\')'", '`)${")"})`', '/[)]/', '/\\)/', 'a / b / c', '{ a: ")" }', 'a[(b)]', '() => { /)/ }', 'a++ / (1) / 2', 'function () { if (b) /)/.c; }', '// )\n a', '`${`)${1}`}`']) {
+    const text = `x = (${inner})); (y)`;
+    assert.equal(pairEnd(text, 4), 6 + inner.length, text);
+  }
+  for (const text of ['(', '(a', '(]', '("', '(`', '(#', '(a}']) assert.equal(pairEnd(text, 0), null, text);
+});
+
+test('spans: one token of 8 million characters', () => {
+  const long = 'a'.repeat(8e6);
+  for (const text of [`(\`${long}\`)`, `("${long}")`, `(/${long}/)`, `(/*${long}*/ a)`, `(${long})`, `(${' '.repeat(8e6)})`]) {
+    const end = pairEnd(text, 0);
+    assert.ok(end === null || end === text.length);
+    assert.equal(withSpans(text, [{ rule: 'eqeqeq', message: '', index: 0 }]).length, 1);
+  }
+  assert.equal(withSpans(`{${long}}`, [{ rule: 'no-empty', message: '', index: 0 }])[0].start, 0);
+});
+
+test('one pair: taken out where the tree stays, and not where it does not', () => {
+  const gone = (text, start = text.indexOf('(')) => { const edits = judge(text).withoutPair(start); return edits && applied(text, edits); };
+  assert.equal(gone('(a);'), 'a;');
+  assert.equal(gone('x = ( a ) + b;'), 'x = a + b;');
+  assert.equal(gone('() => { return(a); }', 14), '() => { return a; }');
+  assert.equal(gone('(1).toString();'), '1 .toString();');
+  assert.equal(gone('a+(+b);'), 'a+ +b;');
+  assert.equal(gone('f(`${(a)}`);', 5), 'f(`${a}`);');
+  assert.equal(gone('f((/[)]/));', 2), 'f(/[)]/);');
+  assert.equal(gone('x = (a /* ) */) + b;'), 'x = a /* ) */ + b;');
+  assert.equal(gone('x = (\n  // (c)\n  a) + b;'), 'x = \n  // (c)\n  a + b;');
+  for (const text of ['() => { return (\na); }', 'throw (\na);', 'new (f().x)();', 'x => ({}.a);', 'for (x = (a in b) && (c in d);;);', '(a + b) * c;', '("use strict");']) {
+    assert.equal(gone(text, text.startsWith('()') ? 15 : text.startsWith('for') ? 9 : undefined), null, text);
+  }
+  // (two pairs round one node: one may go)
+  assert.equal(gone('((a + b)) * c;'), '(a + b) * c;');
+});
+
+test('changes: a candidate with the same tree that loses a comment is seen', () => {
+  const text = 'x = (a /* *)/ ; // */ );', it = judge(text);
+  // (as if the `)` in the comment had been taken for the pair's: the comment ends earlier, and the tree is the same)
+  const candidate = 'x = a /* */ ; // */ );';
+  assert.deepEqual([it.hasSameTree(candidate), it.hasSameComments(candidate)], [true, false]);
+  assert.equal(judge('(a); // b').hasSameComments('a;'), false);
+  assert.equal(judge('(a); // b').hasSameComments('a;\n// b'), true);
+});
+
+test('a stretch: all its edits or none, and each comment stays', () => {
+  const within = (text, from, to) => applied(text, judge(text).unwrappedWithin(from, to));
+  const two = 'first = (a);\nsecond = (b);\n';
+  assert.equal(within(two, 0, 12), two.replace('(a)', 'a'));
+  assert.equal(within(two, 0, 10), two, 'half a pair');
+  const moved = '() => { return ( // c\n  a); }';
+  for (let from = 0; from < moved.length; from++) for (let to = from; to <= moved.length; to++) assert.ok(within(moved, from, to).includes('// c'), `${from} ${to}`);
+});
+
+test('let to const: all names of the declaration, and one word', () => {
+  const changed = (text) => {
+    const names = check(text).filter((it) => it.rule === 'prefer-const').map((it) => it.index), found = names.map((it) => judge(text).letToConst(it));
+    return found.map((it) => it && applied(text, it.edits));
+  };
+  assert.deepEqual(changed('let a = 1; a;'), ['const a = 1; a;']);
+  assert.deepEqual(changed('let a = 1, b = 2; b = a;'), [null]);
+  assert.deepEqual(changed('let { a, b: [c, ...d], e = 1 } = f; a;'), Array(4).fill('const { a, b: [c, ...d], e = 1 } = f; a;'));
+  assert.deepEqual(changed('let { a, b } = {}; b = a;'), [null]);
+  assert.deepEqual(changed('for (let a of []) a;'), ['for (const a of []) a;']);
+  assert.deepEqual(changed('{ let /* l */ a = 1; eval("a = 2"); }'), [null]);
+  assert.deepEqual(changed('{ let /* l */ a = 1; }'), ['{ const /* l */ a = 1; }']);
+  assert.deepEqual(['let a = 1;', '{ let a = 1; }'].map((it) => judge(it).letToConst(it.indexOf('a')).isTop), [true, false]);
+  assert.equal(judge('let a; a = 1;').letToConst(4), null);
+});
+
+test('jobs: what is no text, refused settings, CR LF in one layout', () => {
+  assert.equal(jobs.check({ text: '"a\ud800"', settings: '' }).refusal.code, 'utf8');
+  assert.equal(jobs.check({ text: 'a', settings: '# \ud800' }).refusal.code, 'settings');
+  assert.equal(jobs.check({ text: 'a b', settings: '' }).refusal.start, 2);
+  const made = (text) => applied(text, jobs.fix({ text }).edits);
+  assert.equal(made('(a);\r\nb'), 'a;\r\nb;\r\n');
+  assert.equal(made('`a\r\nb`;\r\n'), '`a\r\nb`;\r\n');
+  assert.equal(made('(a);\nb\r\n'), 'a;\nb;\n');
+  assert.deepEqual(jobs.settings({ settings: 'allow-null = true\nx = 1\n' }), { line: 1 });
+  assert.deepEqual(jobs.settings({ settings: 'x = 1\n'.repeat(9999) }), {});
+  assert.deepEqual(jobs.settings({ settings: '# \ud800' }), { line: 0 });
+});
+
+test('engine: a thread that can not be started fails its job alone; jobs of a lower rank go first; what is cancelled is left out', async () => {
+  const engine = new Engine(), { start } = engine;
+  engine.start = () => { engine.start = start; throw new Error('no thread'); };
+  await assert.rejects(engine.run('fix', { text: 'a' }), /no thread/);
+  const done = [], control = new AbortController();
+  const runs = [['first', 1], ['last', 1], ['soon', 0]].map(([text, rank]) => engine.run('fix', { text }, { rank }).then(() => done.push(text)));
+  const gone = engine.run('fix', { text: 'gone' }, { signal: control.signal });
+  control.abort();
+  await assert.rejects(gone, { name: 'AbortError' });
+  await Promise.all(runs);
+  assert.deepEqual(done, ['first', 'soon', 'last']);
+  await engine.end();
+  await assert.rejects(engine.run('fix', { text: 'a' }), { name: 'AbortError' });
+});
+
+test('frames: in pieces of any size, and what is no header', () => {
+  const bodies = ['{}', '"é😀"', '', '[1]'.repeat(3000)], bytes = Buffer.from(bodies.map(framed).join(''));
+  for (const size of [1, 2, 7, 4096, bytes.length]) {
+    const found = [], frames = new Frames((it) => found.push(it));
+    for (let at = 0; at < bytes.length; at += size) frames.push(bytes.subarray(at, at + size));
+    assert.deepEqual(found, bodies);
+  }
+  for (const text of ['a\r\n\r\n', 'Content-Length: x\r\n\r\n', 'Content-Length: -1\r\n\r\n', 'Content-Length: 999999999999\r\n\r\n', 'x'.repeat(5000)]) {
+    assert.throws(() => new Frames(() => {}).push(Buffer.from(text)), Error, text);
+  }
+});

@@ -1,0 +1,152 @@
+"""The language server of packages/npm: its own tests, the words that it takes out of the documents, the folder for VS Code, and Neovim and Emacs without
+a screen, set up as docs/EDITORS.md says.
+
+Each test is a function that raises where something is wrong, and libraries.Skipped where it can't be tried. Its argument is a room: a folder of its own.
+"""
+import glob
+import json
+import os
+import re
+import shutil
+import subprocess
+
+import libraries
+from libraries import PACKAGES, TOP, Skipped, ran
+from recipes import is_well, same
+
+HERE = f'{PACKAGES}/npm/test/lsp'
+# What the editors open, and what formatting makes of it after a change and the action on one pair.
+SCRIPT = "'é漢😀';let x = ((1)); // (kept)\nlet y = x + (2); y;\n"
+# How long an editor may take, in seconds.
+MOST = 300
+# Where Debian puts packages for Emacs.
+ELPA = '/usr/share/emacs/site-lisp/elpa'
+
+
+def text_of(path):
+    with open(path, encoding='utf-8') as file:
+        return file.read()
+
+
+def node_tests(room, *names):
+    """How many tests of the server pass, in a copy of the package that each user may read. None fails; those that need git or another user may be skipped."""
+    for it in (os.path.dirname(room.folder), room.folder):
+        os.chmod(it, 0o755)
+    out, _ = ran([libraries.node(), '--test', '--test-reporter=tap', *(f'test/lsp/{it}.test.mjs' for it in names)], cwd=libraries.package(room.folder))
+    found = {name: int(number) for name, number in re.findall(r'^# (pass|fail|skipped) (\d+)$', out, re.M)}
+    is_well(found['fail'] == 0 and found['skipped'] <= 1, found)
+    return found['pass']
+
+
+def server_units(room):
+    """Its parts, without a process."""
+    is_well(node_tests(room, 'units') >= 18)
+
+
+def server_session(room):
+    """Sessions by the protocol, and the recorded one."""
+    is_well(node_tests(room, 'server', 'replay') >= 23)
+
+
+def server_hostile(room):
+    """Nonsense, clients that break off, large texts, full devices, signals, odd files."""
+    is_well(node_tests(room, 'hostile') >= 16)
+
+
+# ---- the words of the documents
+
+def made_texts(top):
+    """The words that the documents of a folder give, or what is wrong with them."""
+    asked = f"import {{ textsOf }} from '{PACKAGES}/npm/make-texts.mjs'; console.log(JSON.stringify(textsOf(new URL('file://{top}/'))));"
+    done = subprocess.run([libraries.node(), '--input-type=module', '-e', asked], stdout=subprocess.PIPE, stderr=subprocess.PIPE, text=True)
+    return (json.loads(done.stdout), '') if done.returncode == 0 else (None, done.stderr)
+
+
+def texts(room):
+    """They are those of the documents as they are now; a rule, an early error or a refusal that the documents lose is missed. Those that an earlier
+    prepack left in packages/npm aren't stale."""
+    now, why = made_texts(TOP)
+    is_well(now is not None, why)
+    left = f'{PACKAGES}/npm/lib/texts.json'
+    is_well(not os.path.exists(left) or json.loads(text_of(left)) == now, f'{left} is stale: node packages/npm/prepack.mjs')
+    same(sorted(now['rules']), sorted(os.path.basename(it)[:-3] for it in glob.glob(f'{TOP}/docs/rules/*-*.md') + glob.glob(f'{TOP}/docs/rules/eqeqeq.md')))
+    early = re.search(r'^The early errors.*?\n\n(.*?)\n\n', text_of(f'{TOP}/docs/USAGE.md'), re.M | re.S)[1].splitlines()[2:]
+    same(len(now['early']), len(early))
+    is_well(all(it and '](' not in it.replace('](http', '') for group in ('rules', 'early', 'refusals') for it in now[group].values()), 'a link, or no words')
+    for changed, old, new, wanted in [
+            ('docs/rules/no-var.md', 'Use `let`', 'Prefer `let`', None), ('docs/rules/README.md', '| [no-var]', '| [no-vars]', 'rule no-vars'),
+            ('docs/USAGE.md', '| 7 | ', '| seven | ', 'early error 7'), ('docs/USAGE.md', '| `jslint: nested too deep` |', '| `jslint: too deep` |', 'refusal nested too deep')]:
+        top = f'{room.folder}/{len(os.listdir(room.folder))}'
+        shutil.copytree(f'{TOP}/docs', f'{top}/docs')
+        os.makedirs(f'{top}/packages/npm')
+        shutil.copy(f'{PACKAGES}/npm/package.json', f'{top}/packages/npm/package.json')
+        text = text_of(f'{top}/{changed}')
+        is_well(text.count(old) >= 1, f'{changed}: {old}')
+        with open(f'{top}/{changed}', 'w', encoding='utf-8') as file:
+            file.write(text.replace(old, new, 1))
+        found, why = made_texts(top)
+        is_well(found['rules']['no-var'].startswith('Prefer `let`') if wanted is None else found is None and f'the documents have no {wanted}' in why, why)
+
+
+# ---- VS Code
+
+def vscode(_):
+    """Its folder, which isn't tried: settings and commands are those of the server, the schema has the rules, and what the extension requires is named."""
+    folder = f'{PACKAGES}/vscode'
+    package, schema = (json.loads(text_of(f'{folder}/{it}')) for it in ('package.json', 'jslint-toml.schema.json'))
+    options = re.search(r'^const OPTIONS = \{\n(.*?)^\};', text_of(f'{PACKAGES}/npm/lib/editor.mjs'), re.M | re.S)[1]
+    properties = package['contributes']['configuration']['properties']
+    wanted = {f'jslint.{name}': json.loads(value.replace("'", '"')) for name, value in re.findall(r'^  (\w+): \[(\[.*?\]|[^,]*), ', options, re.M)}
+    same({name: it['default'] for name, it in properties.items()}, wanted)
+    page = text_of(f'{TOP}/docs/EDITORS.md')
+    is_well(len(wanted) == 7 and all(f'| `{name.split(".")[1]}` | ' in page for name in wanted), wanted)
+    same(package['version'], json.loads(text_of(f'{PACKAGES}/npm/package.json'))['version'])
+    same(sorted(schema['properties']['rules']['properties']), sorted(re.findall(r'^\| \[([\w-]+)\]', text_of(f'{TOP}/docs/rules/README.md'), re.M)))
+    same(sorted(schema['properties']), sorted(re.findall(r'^\| `([\w-]+)` \| (?:an array|a table|`true`)', text_of(f'{TOP}/docs/rules/README.md'), re.M)))
+    code = text_of(f'{folder}/extension.js')
+    same(set(re.findall(r"require\('([\w-]+)", code)), {'node', 'vscode', *package['dependencies']})
+    libraries.node()
+    ran([libraries.node(), '--check', f'{folder}/extension.js'])
+
+
+# ---- editors
+
+def documented(language):
+    """The code of docs/EDITORS.md in a language."""
+    return re.search(rf'^```{language}\n(.*?)^```$', text_of(f'{TOP}/docs/EDITORS.md'), re.M | re.S)[1]
+
+
+def project(room):
+    """A folder with a script and `jslint-lsp` on the `PATH` of what runs in it: the environment."""
+    program, package = libraries.node(), libraries.package(room.folder)
+    room.put('project/a.js', SCRIPT)
+    os.makedirs(f'{room.folder}/project/.git')
+    room.put('bin/jslint-lsp', f'#!/bin/sh\nexec "{program}" "{package}/bin/jslint-lsp.mjs" "$@"\n', 0o755)
+    return {**os.environ, 'PATH': f'{room.folder}/bin:{os.environ["PATH"]}', 'HOME': room.folder, 'LC_ALL': 'C.UTF-8', 'XDG_STATE_HOME': room.folder, 'XDG_CACHE_HOME': room.folder}
+
+
+def ended_well(room, words, env):
+    done = subprocess.run(words, cwd=f'{room.folder}/project', env=env, stdin=subprocess.DEVNULL, stdout=subprocess.PIPE, stderr=subprocess.STDOUT, text=True, timeout=MOST)
+    is_well(done.returncode == 0 and done.stdout.rstrip().endswith('ok'), done.stdout[-3000:])
+
+
+def neovim(room):
+    """Reports behind characters of one to four bytes, a change, one pair by a code action, formatting, hover."""
+    editor, env = libraries.tool('nvim'), project(room)
+    room.put('init.lua', documented('lua'))
+    ended_well(room, [editor, '--headless', '-u', f'{room.folder}/init.lua', '-S', f'{HERE}/nvim.lua', 'a.js'], env)
+
+
+def emacs(room):
+    """The same, but for hover, by eglot."""
+    editor = libraries.tool('emacs')
+    folders = [it for it in sorted(glob.glob(f'{ELPA}/*')) if re.match(r'(eglot|eldoc|flymake|jsonrpc|project|xref|external-completion|seq)-[\d.]+$', os.path.basename(it))]
+    words = [editor, '-Q', '--batch', *(it for each in folders for it in ('-L', each))]
+    if subprocess.run([*words, '-l', 'eglot'], stdout=subprocess.DEVNULL, stderr=subprocess.DEVNULL).returncode:
+        raise Skipped('there is no eglot here')
+    env = project(room)
+    room.put('init.el', documented('lisp'))
+    ended_well(room, [*words, '-l', f'{room.folder}/init.el', '-l', f'{HERE}/emacs.el', 'a.js'], env)
+
+
+TESTS = [server_units, server_session, server_hostile, texts, vscode, neovim, emacs]
