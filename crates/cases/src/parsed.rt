@@ -51,7 +51,7 @@ pub(crate) fn push_fixed(
 ) -> Result<(), AllocError> {
     match fix_text(alloc, source) {
         Ok(text) => {
-            push_again(alloc, &text, out)?;
+            push_again(&text, "fixed", fixed(alloc, &text), out)?;
             push_unless_written(alloc, source, &text, out)?;
             push_unless_run(alloc, Command::Fix, source.text(), &text, out)
         }
@@ -87,12 +87,17 @@ fn push_unless_written(
     }
 }
 
-/// A fixed text, and what it is fixed to, if that is another.
-fn push_again(alloc: Global, text: &str, out: &mut String) -> Result<(), AllocError> {
+/// A text, and what the call that made it makes of it again, if that is another. `made` is the word for what the call does.
+fn push_again(
+    text: &str,
+    made: &str,
+    again: Result<String, Fault>,
+    out: &mut String,
+) -> Result<(), AllocError> {
     out.push_str(text)?;
-    match fixed(alloc, text) {
+    match again {
         Ok(again) if again.as_str() == text => Ok(()),
-        Ok(again) => write!(out, " fixed again: {}", again.as_str()),
+        Ok(again) => write!(out, " {} again: {}", made, again.as_str()),
         Err(fault) => {
             out.push_str(" refused: ")?;
             push_refusal(text, fault, out)
@@ -114,28 +119,15 @@ pub(crate) fn push_unwrapped(
 ) -> Result<(), AllocError> {
     match unwrap_text(alloc, source) {
         Ok(text) => {
-            push_unwrapped_again(alloc, &text, out)?;
+            push_again(&text, "unwrapped", unwrapped(alloc, &text), out)?;
             push_unless_run(alloc, Command::Unwrap, source.text(), &text, out)
         }
         Err(fault) => push_refusal(source.text(), fault, out),
     }
 }
 
-/// The text, and what it is unwrapped to if that is another.
-fn push_unwrapped_again(alloc: Global, text: &str, out: &mut String) -> Result<(), AllocError> {
-    out.push_str(text)?;
-    match text_unwrapped(alloc, text) {
-        Ok(again) if again.as_str() == text => Ok(()),
-        Ok(again) => write!(out, " unwrapped again: {}", again.as_str()),
-        Err(fault) => {
-            out.push_str(" refused: ")?;
-            push_refusal(text, fault, out)
-        }
-    }
-}
-
 /// What a text is unwrapped to.
-fn text_unwrapped(alloc: Global, text: &str) -> Result<String, Fault> {
+fn unwrapped(alloc: Global, text: &str) -> Result<String, Fault> {
     let source = Source::new(text.as_bytes())?;
     unwrap_text(alloc, &source)
 }

@@ -9,7 +9,7 @@
 mod files;
 
 ghost use Rattle.std.specs.Prelude.{◌≡◌, false, map};
-ghost use Rattle.jslint.specs.Program.{Answers, NoWordsSaid, Obeys, RunsLine};
+ghost use Rattle.jslint.specs.Program.{Answers, NoWordsSaid, Obeys, RunsLine, written};
 
 use command_line::{Line, command_line, explain, explain_not_utf8, explain_unread};
 use commands::{Refused, write_refusal};
@@ -44,11 +44,7 @@ fn arguments<R: Env + AllocGlobal>(rt: &R) -> Result<Vec<String>, NoWords> {
 /// Says why there are no words. Answers the exit status.
 fn explain_no_words<W: Sink>(why: NoWords, errors: &mut W) -> u8
     requires { W.failed errors.old ≡ false }
-    ensures { NoWordsSaid (record {
-      before = W.taken errors.old;
-      after = W.taken errors.new;
-      failed = W.failed errors.new;
-    }) result }
+    ensures { NoWordsSaid (written W.taken W.failed errors.old errors.new) result }
 {
     match why {
         NoWords::OutOfMemory => write_refusal(&Refused::at_no_place(Fault::OutOfMemory), errors),
@@ -65,15 +61,7 @@ fn run_line<R: Files + AllocGlobal, O: Sink, W: Sink>(
 ) -> u8
     requires writes { O.failed output.old ≡ false }
     requires tells { W.failed errors.old ≡ false }
-    ensures { RunsLine line.entry (record {
-      before = O.taken output.old;
-      after = O.taken output.new;
-      failed = O.failed output.new;
-    }) (record {
-      before = W.taken errors.old;
-      after = W.taken errors.new;
-      failed = W.failed errors.new;
-    }) result }
+    ensures { RunsLine line.entry (written O.taken O.failed output.old output.new) (written W.taken W.failed errors.old errors.new) result }
 {
     match open_and_run(rt, line, output) {
         Ok(status) => status,
@@ -91,15 +79,7 @@ fn run_arguments<R: Files + AllocGlobal + Print + Eprint, O: Sink, W: Sink>(
 ) -> u8
     requires writes { O.failed output.old ≡ false }
     requires tells { W.failed errors.old ≡ false }
-    ensures { Obeys (map (λ w. w.now) words.now) (record {
-      before = O.taken output.old;
-      after = O.taken output.new;
-      failed = O.failed output.new;
-    }) (record {
-      before = W.taken errors.old;
-      after = W.taken errors.new;
-      failed = W.failed errors.new;
-    }) result }
+    ensures { Obeys (map (λ w. w.now) words.now) (written O.taken O.failed output.old output.new) (written W.taken W.failed errors.old errors.new) result }
 {
     match command_line(rt.alloc(), words) {
         Ok(line) => run_line(rt, line, output, errors),
@@ -123,15 +103,7 @@ fn obey_own_words<R: Env + Files + AllocGlobal + Print + Eprint, O: Sink, W: Sin
 ) -> u8
     requires writes { O.failed output.old ≡ false }
     requires tells { W.failed errors.old ≡ false }
-    ensures { Answers (record {
-      before = O.taken output.old;
-      after = O.taken output.new;
-      failed = O.failed output.new;
-    }) (record {
-      before = W.taken errors.old;
-      after = W.taken errors.new;
-      failed = W.failed errors.new;
-    }) result }
+    ensures { Answers (written O.taken O.failed output.old output.new) (written W.taken W.failed errors.old errors.new) result }
 {
     let owned = match arguments(rt) {
         Ok(owned) => owned,

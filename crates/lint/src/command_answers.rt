@@ -10,7 +10,7 @@ ghost use Rattle.lint.specs.Steps.{Answers, AnswersAlone, IsWritable};
 use crate::answer::Answer;
 use crate::check_command::check;
 use crate::cost_commands::{cost, verify};
-use crate::unwrap::unwrap_script;
+use crate::unwrap::unwrap_unless_fewest;
 use commands::Command;
 use estree_json::tree_text;
 use paren_planner::wraps_by_pairs;
@@ -67,7 +67,7 @@ fn unwrapped<'s>(
     ensures answer { AnswersAlone Unwrap source.now parsed.now.program parsed.now.pairs.items result }
     ensures writable { IfOk result IsWritable }
 {
-    match unwrap_script(alloc, source, parsed) {
+    match unwrap_unless_fewest(alloc, source, parsed) {
         Ok(Some(text)) => Ok(Answer::Text(text, 0)),
         Ok(None) => Ok(Answer::Unchanged(source.text())),
         Err(fault) => Err(fault),

@@ -1,4 +1,6 @@
-//! Unwrapping a script: its text without its unnecessary pairs, tokens and comments kept.
+//! Unwrapping a script: its text without its unnecessary pairs, tokens and comments kept. One procedure, by stages: `unwrap_unless_fewest` asks
+//! for the fewest pairs and plans, `read_and_rewrite` reads the text by its tree, `rewrite_and_check` makes the new text, and `checked_text`
+//! reads that again and compares.
 
 ghost use Rattle.std.specs.Prelude.{IfErr, IfOk, ◌≡◌, ◌≤◌, true, length, string_bytes};
 ghost use Rattle.unwrapping.specs.Readings.{IsRead};
@@ -47,7 +49,7 @@ fn too_long(source: &Source<'_>, pairs: &[Pair]) -> Fault
 /// # Errors
 ///
 /// `TooLong` and `UnwrapFailed` where the bytes are longer than a source text may be; `OutOfMemory`.
-fn spells(alloc: Global, bytes: &[u8], original: Original<'_, '_>) -> Result<bool, Fault>
+fn is_same_script(alloc: Global, bytes: &[u8], original: Original<'_, '_>) -> Result<bool, Fault>
     requires { IsRead original.source.now original.program.now original.pairs.now original.reading.now }
     ensures spells { IfOk result (λ spells. spells ≡ true → SpellsWith original.entry.source.now bytes.now original.entry.program.now original.entry.pairs.now original.entry.count) }
     ensures refused { IfErr result (IsUnfit original.entry.source.now original.entry.pairs.now) }
@@ -86,12 +88,12 @@ fn spells(alloc: Global, bytes: &[u8], original: Original<'_, '_>) -> Result<boo
 /// # Errors
 ///
 /// `UnwrapFailed` where they aren't; `TooLong` and `OutOfMemory`.
-fn validated(alloc: Global, bytes: Vec<u8>, original: Original<'_, '_>) -> Result<String, Fault>
+fn checked_text(alloc: Global, bytes: Vec<u8>, original: Original<'_, '_>) -> Result<String, Fault>
     requires { IsRead original.source.now original.program.now original.pairs.now original.reading.now }
     ensures spells { IfOk result (λ text. SpellsWith original.entry.source.now (string_bytes text) original.entry.program.now original.entry.pairs.now original.entry.count) }
     ensures refused { IfErr result (IsUnfit original.entry.source.now original.entry.pairs.now) }
 {
-    match spells(alloc, &bytes, original) {
+    match is_same_script(alloc, &bytes, original) {
         Ok(true) => {}
         Ok(false) => return Err(Fault::UnwrapFailed),
         Err(fault) => return Err(fault),
@@ -122,8 +124,8 @@ fn read_by_tree(
     }
 }
 
-/// The text of a script whose pairs are more than the fewest, made anew and compared.
-fn unwrap_read(
+/// Makes the text of a script whose pairs are more than the fewest anew, by what was read of it, and checks what was made.
+fn rewrite_and_check(
     alloc: Global,
     source: &Source<'_>,
     reading: &TreeReading,
@@ -152,13 +154,13 @@ fn unwrap_read(
         table: plan.table(),
     };
     match unwrapped(alloc, script) {
-        Ok(bytes) => validated(alloc, bytes, original),
+        Ok(bytes) => checked_text(alloc, bytes, original),
         Err(AllocError) => Err(Fault::OutOfMemory),
     }
 }
 
-/// The same, with what is read of the text first.
-fn unwrap_planned(
+/// Reads the text of a script by its tree, makes it anew and checks what was made.
+fn read_and_rewrite(
     alloc: Global,
     source: &Source<'_>,
     parsed: &Parsed<'_>,
@@ -168,7 +170,7 @@ fn unwrap_planned(
     ensures refused { IfErr result (IsUnfit source.now parsed.now.pairs.items) }
 {
     match read_by_tree(alloc, source, parsed) {
-        Ok(reading) => unwrap_read(alloc, source, &reading, parsed, plan),
+        Ok(reading) => rewrite_and_check(alloc, source, &reading, parsed, plan),
         Err(fault) => Err(fault),
     }
 }
@@ -179,7 +181,7 @@ fn unwrap_planned(
 /// # Errors
 ///
 /// `OutOfMemory`, `TooLong` and `UnwrapFailed`, as `unwrap_text`.
-pub(crate) fn unwrap_script(
+pub(crate) fn unwrap_unless_fewest(
     alloc: Global,
     source: &Source<'_>,
     parsed: &Parsed<'_>,
@@ -201,7 +203,7 @@ pub(crate) fn unwrap_script(
         Ok(plan) => plan,
         Err(AllocError) => return Err(Fault::OutOfMemory),
     };
-    match unwrap_planned(alloc, source, parsed, &plan) {
+    match read_and_rewrite(alloc, source, parsed, &plan) {
         Ok(text) => Ok(Some(text)),
         Err(fault) => Err(fault),
     }
@@ -240,7 +242,7 @@ pub fn unwrap_text(alloc: Global, source: &Source<'_>) -> Result<String, Fault>
         Ok(parsed) => parsed,
         Err(refusal) => return Err(refusal),
     };
-    let made = match unwrap_script(alloc, source, &parsed) {
+    let made = match unwrap_unless_fewest(alloc, source, &parsed) {
         Ok(made) => made,
         Err(fault) => return Err(fault),
     };

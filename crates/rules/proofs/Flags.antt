@@ -166,10 +166,10 @@ scopes-same f g k (s ∷ ss) h =
     (scopes-same f g (k + 1) ss (λ n i b l. subst (λ j. f (j, i) b ≡ g (j, i) b) (omega arith) (h (suc n) i b l)))
 
 -- by flags, the same is said as by references
-pub said-same : (rule : BindingRule) (ignore : Bool) (ss : List Scope) (u : UsedBindings) (p : ℕ × ℕ → Bool) → Notes ss p u → of_scopes (of_binding rule ignore (is_marked u)) 0 ss ≡ of_scopes (of_binding rule ignore p) 0 ss
-said-same rule ignore ss u p notes = scopes-same (of_binding rule ignore (is_marked u)) (of_binding rule ignore p) 0 ss (λ n i b l. one rule (0 + n, i) b (subst (λ j. is_marked u (j, i) ≡ p (j, i)) (sym (zero-add n)) (notes.marked (n, i) l)))
+pub said-same : (rule : BindingRule) (ss : List Scope) (u : UsedBindings) (p : ℕ × ℕ → Bool) → Notes ss p u → of_scopes (of_binding rule (is_marked u)) 0 ss ≡ of_scopes (of_binding rule p) 0 ss
+said-same rule ss u p notes = scopes-same (of_binding rule (is_marked u)) (of_binding rule p) 0 ss (λ n i b l. one rule (0 + n, i) b (subst (λ j. is_marked u (j, i) ≡ p (j, i)) (sym (zero-add n)) (notes.marked (n, i) l)))
   where
-    one : (rule : BindingRule) (m : ℕ × ℕ) (b : Binding) → is_marked u m ≡ p m → of_binding rule ignore (is_marked u) m b ≡ of_binding rule ignore p m b
+    one : (rule : BindingRule) (m : ℕ × ℕ) (b : Binding) → is_marked u m ≡ p m → of_binding rule (is_marked u) m b ≡ of_binding rule p m b
     one Shadow m b e = refl
-    one Unused m b e = ap (λ x. of_unused ignore (λ k. x) m b) e
+    one (Unused ignore) m b e = ap (λ x. of_unused ignore (λ k. x) m b) e
     one Constant m b e = ap (λ x. of_const (λ k. x) m b) e

@@ -49,7 +49,7 @@ pub record Notes (ss : List Scope) (used : ℕ × ℕ → Bool) (u : UsedBinding
   pub marked : (m : ℕ × ℕ) → HasBinding ss m → is_marked u m ≡ used m
 
 -- what a rule that looks at bindings says of one
-abbrev pub of_binding : BindingRule → Bool → (ℕ × ℕ → Bool) → ℕ × ℕ → Binding → List Report
-of_binding Shadow ignore used m b = of_shadow b
-of_binding Unused ignore used m b = of_unused ignore used m b
-of_binding Constant ignore used m b = of_const used m b
+abbrev pub of_binding : BindingRule → (ℕ × ℕ → Bool) → ℕ × ℕ → Binding → List Report
+of_binding Shadow used m b = of_shadow b
+of_binding (Unused ignore) used m b = of_unused ignore used m b
+of_binding Constant used m b = of_const used m b

@@ -19,9 +19,23 @@ use tree::Span;
 /// A rule that looks at bindings.
 #[derive(Clone, Copy)]
 pub(crate) enum BindingRule {
+    /// `no-shadow`.
     Shadow,
-    Unused,
+    /// `no-unused-vars`.
+    Unused {
+        /// Whether names that begin with `_` are left out.
+        ignore_underscore: bool,
+    },
+    /// `prefer-const`.
     Constant,
+}
+
+/// A walk over bindings: the rule that reports, the bindings that references use as it asks, and where reports take their memory from.
+#[derive(Clone, Copy)]
+pub(crate) struct BindingWalk<'u> {
+    pub(crate) rule: BindingRule,
+    pub(crate) alloc: Global,
+    pub(crate) used: &'u UsedBindings,
 }
 
 /// Appends a report of a binding: its name between quotes, and words behind it.
@@ -47,80 +61,74 @@ pub(crate) fn push_named(
 fn push_binding(
     rule: BindingRule,
     alloc: Global,
-    ignore: bool,
     is_used: bool,
     binding: Binding,
     out: &mut Vec<Report>,
 ) -> Result<(), AllocError>
-    ensures found { (used : ℕ × ℕ → Bool) → (m : ℕ × ℕ) → used m ≡ is_used → OnOk result (out.new.items ≡ out.old.items ++ of_binding rule ignore used m (shown binding.entry)) }
+    ensures found { (used : ℕ × ℕ → Bool) → (m : ℕ × ℕ) → used m ≡ is_used → OnOk result (out.new.items ≡ out.old.items ++ of_binding rule used m (shown binding.entry)) }
     ensures kept { Grows out.old.items out.new.items }
 {
     match rule {
         BindingRule::Shadow => push_shadow(alloc, binding, out),
-        BindingRule::Unused => push_unused(alloc, ignore, is_used, binding, out),
+        BindingRule::Unused { ignore_underscore } => push_unused(
+            alloc,
+            ignore_underscore,
+            is_used,
+            binding,
+            out,
+        ),
         BindingRule::Constant => push_constant(alloc, is_used, binding, out),
     }
 }
 
 /// Appends what a rule reports of the bindings of a scope.
 fn push_scope(
-    rule: BindingRule,
-    alloc: Global,
-    ignore: bool,
-    used: &UsedBindings,
+    walk: BindingWalk,
     scope: usize,
     bindings: &[Binding],
     out: &mut Vec<Report>,
 ) -> Result<(), AllocError>
-    ensures found { OnOk result (out.new.items ≡ out.old.items ++ of_bindings (of_binding rule ignore (is_marked used.now)) scope 0 (all_shown bindings.now)) }
+    ensures found { OnOk result (out.new.items ≡ out.old.items ++ of_bindings (of_binding walk.entry.rule (is_marked walk.entry.used.now)) scope 0 (all_shown bindings.now)) }
     ensures kept { Grows out.old.items out.new.items }
 {
     for index in 0..bindings.len() {
-        let is_used = used.contains(scope, index);
-        push_binding(rule, alloc, ignore, is_used, bindings[index], out)?;
+        let is_used = walk.used.contains(scope, index);
+        push_binding(walk.rule, walk.alloc, is_used, bindings[index], out)?;
     }
     Ok(())
 }
 
-/// Appends what a rule reports of all bindings, by which of them references write, or read. `ignore`: names that begin with
-/// `_` aren't reported as unused.
+/// Appends what a rule reports of all bindings, by which of them references write, or read.
 pub(crate) fn push_by_use(
     rule: BindingRule,
     alloc: Global,
-    ignore: bool,
     writes: bool,
     scopes: &Scopes,
     out: &mut Vec<Report>,
 ) -> Result<(), AllocError>
-    ensures found { OnOk result (out.new.items ≡ out.old.items ++ of_scopes (of_binding rule ignore (is_used writes scopes.now.references)) 0 scopes.now.scopes) }
+    ensures found { OnOk result (out.new.items ≡ out.old.items ++ of_scopes (of_binding rule (is_used writes scopes.now.references)) 0 scopes.now.scopes) }
     ensures kept { Grows out.old.items out.new.items }
 {
     let used = used_by(alloc, writes, scopes)?;
-    push_bindings(rule, alloc, ignore, &used, scopes, out)
+    let walk = BindingWalk {
+        rule,
+        alloc,
+        used: &used,
+    };
+    push_bindings(walk, scopes, out)
 }
 
-/// Appends what a rule reports of all bindings. `ignore`: names that begin with `_` aren't reported as unused.
+/// Appends what a rule reports of all bindings.
 pub(crate) fn push_bindings(
-    rule: BindingRule,
-    alloc: Global,
-    ignore: bool,
-    used: &UsedBindings,
+    walk: BindingWalk,
     scopes: &Scopes,
     out: &mut Vec<Report>,
 ) -> Result<(), AllocError>
-    ensures found { OnOk result (out.new.items ≡ out.old.items ++ of_scopes (of_binding rule ignore (is_marked used.now)) 0 scopes.now.scopes) }
+    ensures found { OnOk result (out.new.items ≡ out.old.items ++ of_scopes (of_binding walk.entry.rule (is_marked walk.entry.used.now)) 0 scopes.now.scopes) }
     ensures kept { Grows out.old.items out.new.items }
 {
     for scope in 0..scopes.scope_count() {
-        push_scope(
-            rule,
-            alloc,
-            ignore,
-            used,
-            scope,
-            scopes.bindings(scope),
-            out,
-        )?;
+        push_scope(walk, scope, scopes.bindings(scope), out)?;
     }
     Ok(())
 }

@@ -5,7 +5,7 @@ ghost use Rattle.scopes.specs.Shown.{shown};
 ghost use Rattle.rules.specs.Appends.{Grows};
 ghost use Rattle.rules.specs.Rules.{is_itself, of_shadow};
 
-use crate::bindings::{BindingRule, push_bindings, push_named};
+use crate::bindings::{BindingRule, BindingWalk, push_bindings, push_named};
 use crate::report::Report;
 use crate::rule::Rule;
 use crate::used_bindings::UsedBindings;
@@ -52,14 +52,12 @@ impl Rule for NoShadow {
 
     /// Adds what the rule finds.
     fn check(&self, view: &View, out: &mut Vec<Report>) -> Result<(), AllocError> {
-        push_bindings(
-            BindingRule::Shadow,
-            self.alloc,
-            false,
-            &UsedBindings::new(self.alloc),
-            view.scopes,
-            out,
-        )
+        let walk = BindingWalk {
+            rule: BindingRule::Shadow,
+            alloc: self.alloc,
+            used: &UsedBindings::new(self.alloc),
+        };
+        push_bindings(walk, view.scopes, out)
     }
 }
 

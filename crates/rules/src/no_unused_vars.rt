@@ -53,9 +53,10 @@ impl Rule for NoUnusedVars {
     /// Adds what the rule finds.
     fn check(&self, view: &View, out: &mut Vec<Report>) -> Result<(), AllocError> {
         push_by_use(
-            BindingRule::Unused,
+            BindingRule::Unused {
+                ignore_underscore: view.settings.ignores_underscore(),
+            },
             self.alloc,
-            view.settings.ignores_underscore(),
             false,
             view.scopes,
             out,

@@ -52,14 +52,7 @@ impl Rule for PreferConst {
 
     /// Adds what the rule finds.
     fn check(&self, view: &View, out: &mut Vec<Report>) -> Result<(), AllocError> {
-        push_by_use(
-            BindingRule::Constant,
-            self.alloc,
-            false,
-            true,
-            view.scopes,
-            out,
-        )
+        push_by_use(BindingRule::Constant, self.alloc, true, view.scopes, out)
     }
 }
 

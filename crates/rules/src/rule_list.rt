@@ -10,7 +10,8 @@ use crate::no_debugger::push_debugger;
 use crate::no_empty::push_empty;
 use crate::no_var::push_var;
 use crate::report::Report;
-use std::alloc::{AllocError, Global};
+use crate::walk::NodeWalk;
+use std::alloc::AllocError;
 use tree::{Kind, Node};
 
 /// The rules, in the order of their names: an array of what another macro makes of each. `of_each_rule!(rule_name)` has their
@@ -141,19 +142,18 @@ impl NodeRules {
 /// Appends what a rule reports of a node.
 pub(crate) fn push_node(
     rule: NodeRule,
-    alloc: Global,
-    allow_null: bool,
+    walk: NodeWalk,
     node: Node,
     of_function: bool,
     out: &mut Vec<Report>,
 ) -> Result<(), AllocError>
-    ensures found { OnOk result (out.new.items ≡ out.old.items ++ of_node rule allow_null of_function (node_tree node.entry)) }
+    ensures found { OnOk result (out.new.items ≡ out.old.items ++ of_node rule walk.allow_null of_function (node_tree node.entry)) }
     ensures kept { Grows out.old.items out.new.items }
 {
     match rule {
-        NodeRule::Equality => push_equality(alloc, allow_null, node, out),
-        NodeRule::Debugger => push_debugger(alloc, node, out),
-        NodeRule::Empty => push_empty(alloc, node, of_function, out),
-        NodeRule::Var => push_var(alloc, node, out),
+        NodeRule::Equality => push_equality(walk.alloc, walk.allow_null, node, out),
+        NodeRule::Debugger => push_debugger(walk.alloc, node, out),
+        NodeRule::Empty => push_empty(walk.alloc, node, of_function, out),
+        NodeRule::Var => push_var(walk.alloc, node, out),
     }
 }

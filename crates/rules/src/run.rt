@@ -12,7 +12,7 @@ use crate::report::Report;
 use crate::rule::Rule;
 use crate::rule_list::{NodeRule, NodeRules};
 use crate::view::View;
-use crate::walk::push_all_found;
+use crate::walk::{NodeWalk, push_all_found};
 use std::alloc::{AllocError, Global};
 
 /// Appends what a rule finds, if it is on.
@@ -68,8 +68,12 @@ fn gather(alloc: Global, rules: &[Box<dyn Rule>], view: &View) -> Result<Vec<Rep
     for rule in rules {
         run_rule(rule, view, &mut together, &mut found)?;
     }
-    let allow_null = view.settings.allows_null();
-    push_all_found(together, alloc, allow_null, view.program, &mut found)?;
+    let walk = NodeWalk {
+        rules: together,
+        alloc,
+        allow_null: view.settings.allows_null(),
+    };
+    push_all_found(walk, view.program, &mut found)?;
     Ok(found)
 }
 

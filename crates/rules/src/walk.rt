@@ -12,6 +12,15 @@ use crate::rule_list::{NodeRule, NodeRules, push_node};
 use std::alloc::{AllocError, Global};
 use tree::{Kind, Node, NodeList, Program};
 
+/// A walk over nodes: the rules that report, what they ask of the settings, and where reports take their memory from.
+#[derive(Clone, Copy)]
+pub(crate) struct NodeWalk {
+    pub(crate) rules: NodeRules,
+    pub(crate) alloc: Global,
+    /// Whether comparisons with `null` are allowed.
+    pub(crate) allow_null: bool,
+}
+
 /// Whether the kind is that of a function.
 fn is_function(kind: Kind) -> bool
     ensures { result ≡ is_function kind }
@@ -34,43 +43,43 @@ pub(crate) fn push_found(
     ensures found { OnOk result (out.new.items ≡ out.old.items ++ over_nodes (of_node rule allow_null) false program.now) }
     ensures kept { Grows out.old.items out.new.items }
 {
-    let rules = NodeRules::none().with(rule);
-    push_all_found(rules, alloc, allow_null, program, out)
+    let walk = NodeWalk {
+        rules: NodeRules::none().with(rule),
+        alloc,
+        allow_null,
+    };
+    push_all_found(walk, program, out)
 }
 
 /// Appends what rules report of all nodes of a script.
 pub(crate) fn push_all_found(
-    rules: NodeRules,
-    alloc: Global,
-    allow_null: bool,
+    walk: NodeWalk,
     program: &Program,
     out: &mut Vec<Report>,
 ) -> Result<(), AllocError>
-    ensures found { OnOk result (out.new.items ≡ out.old.items ++ over_nodes (of_rules rules allow_null) false program.now) }
+    ensures found { OnOk result (out.new.items ≡ out.old.items ++ over_nodes (of_rules walk.rules walk.allow_null) false program.now) }
     ensures kept { Grows out.old.items out.new.items }
 {
-    push_nodes(rules, alloc, allow_null, program.root(), false, out)
+    push_nodes(walk, program.root(), false, out)
 }
 
 /// Appends what rules report of a node and of all nodes below it. `of_function`: the node is a part of a function.
 #[tactic(auto, using(tree::proofs::PartWalk::part_steps))]
 fn push_nodes(
-    rules: NodeRules,
-    alloc: Global,
-    allow_null: bool,
+    walk: NodeWalk,
     node: Node,
     of_function: bool,
     out: &mut Vec<Report>,
 ) -> Result<(), AllocError>
-    ensures found { OnOk result (out.new.items ≡ out.old.items ++ over_nodes (of_rules rules allow_null) of_function (node_tree node.entry)) }
+    ensures found { OnOk result (out.new.items ≡ out.old.items ++ over_nodes (of_rules walk.rules walk.allow_null) of_function (node_tree node.entry)) }
     ensures kept { Grows out.old.items out.new.items }
 {
-    push_selected(rules, alloc, allow_null, node, of_function, out)?;
+    push_selected(walk, node, of_function, out)?;
     let inner = is_function(node.kind());
     let parts = node.parts();
     for index in 0..parts.len() {
         if let Some(part) = looked_at(parts, index) {
-            push_nodes(rules, alloc, allow_null, part, inner, out)?;
+            push_nodes(walk, part, inner, out)?;
         }
     }
     Ok(())
@@ -102,21 +111,19 @@ fn is_passed(node: Node) -> bool
 
 /// Appends what these rules report of a node.
 fn push_selected(
-    rules: NodeRules,
-    alloc: Global,
-    allow_null: bool,
+    walk: NodeWalk,
     node: Node,
     of_function: bool,
     out: &mut Vec<Report>,
 ) -> Result<(), AllocError>
-    ensures found { OnOk result (out.new.items ≡ out.old.items ++ of_rules rules allow_null of_function (node_tree node.entry)) }
+    ensures found { OnOk result (out.new.items ≡ out.old.items ++ of_rules walk.rules walk.allow_null of_function (node_tree node.entry)) }
     ensures kept { Grows out.old.items out.new.items }
 {
     let Some(rule) = NodeRule::looking_at(node.kind()) else {
         return Ok(());
     };
-    if !rules.contains(rule) {
+    if !walk.rules.contains(rule) {
         return Ok(());
     }
-    push_node(rule, alloc, allow_null, node, of_function, out)
+    push_node(rule, walk, node, of_function, out)
 }

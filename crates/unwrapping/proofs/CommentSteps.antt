@@ -17,7 +17,7 @@ use Rattle.tokens.proofs.TriviaSteps.{begins_slash}
 use Rattle.tokens.proofs.TokenUniqueness.{comment_same}
 use Rattle.unwrapping.specs.declared.comment.CommentRow.{CommentRow}
 use Rattle.unwrapping.specs.Keeps.{Comment, comments}
-use Rattle.unwrapping.specs.Readings.{bytes_in, comment_in, comments_in}
+use Rattle.unwrapping.specs.Readings.{bytes_in, comment_in, comments_in, SaysComments}
 use Rattle.unwrapping.proofs.OneReading.{slash_no_blank}
 
 pub size_cons : (c : ℕ) (cs : List ℕ) → size (c ∷ cs) ≡ size (c ∷ []) + size cs
@@ -129,6 +129,11 @@ none_left text place stop gap rest e r (comment {gap = g} body following q h oth
     let s = size_positive 0x2F (k.0 ++ following) in
     let same : size g ≡ size (0x2F ∷ (k.0 ++ following)) = ap size (q ∙ ap (λ x. x ++ following) k.1) in
     absurd (omega arith)
+
+-- an empty gap has no comments
+pub none_between : (text : List ℕ) (at stop : ℕ) (rows : List CommentRow) → at ≡ stop → SaysComments text at stop rows rows
+none_between text at stop rows e =
+    λ gap between separated. sym (ap (λ x. comments_in text rows ++ x) (none_left text at stop gap (behind text stop) e between.reaches separated) ∙ append-nil (comments_in text rows))
 
 pub ends_passing : (text : List ℕ) (at place stop : ℕ) (old new : List CommentRow) → IsPassing text at place stop old new → place ≡ stop →
     (gap : List ℕ) → Passed text at stop gap → (separated : Separators gap (behind text stop)) → comments_in text new ≡ comments_in text old ++ comments separated

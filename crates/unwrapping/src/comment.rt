@@ -30,6 +30,9 @@ pub fn push_comments(
 ) -> Result<bool, AllocError>
     ensures { IfOk result (λ passed. passed ≡ true → SaysComments source.now at stop comments.old.items comments.new.items) }
 {
+    if at == stop {
+        return Ok(true);
+    }
     let text = source.text();
     let stop = stop as usize;
     let mut place = at as usize;

@@ -184,6 +184,7 @@ fn begin_alike(text: &[u8], comments: &[CommentRow], other: &[u8], others: &[Com
 }
 
 /// Takes the comments of a list from the front of another, which isn't shorter, and says whether they are there.
+#[inline]
 fn cancel_front(
     text: &[u8],
     comments: &mut Vec<CommentRow>,
@@ -193,6 +194,9 @@ fn cancel_front(
     requires { length others.old.items ≤ length comments.old.items }
     ensures { IfOk result (λ are. are ≡ true → Cancels text.now comments.old.items comments.new.items other.now others.old.items others.new.items) }
 {
+    if others.is_empty() {
+        return Ok(true);
+    }
     if !begin_alike(text, comments, other, others) {
         return Ok(false);
     }
@@ -379,10 +383,10 @@ impl<'t> Comparison<'t> {
         ensures word { result ≡ true → IsTrue (is_one_of_words ("return" ∷ "throw" ∷ []) (bytes_in text.now row.span)) }
         ensures next { result ≡ true → next_is_grouping self.now.text.rows.now ≡ true }
     {
-        if !binds_next(text, row) {
+        if !self.text.is_grouping() {
             return false;
         }
-        self.text.is_grouping()
+        binds_next(text, row)
     }
 
     /// Takes the comments that both texts have off their lists, and says whether those that are left may move over the token that was

@@ -6,7 +6,7 @@ use Rattle.rules.proofs.bindings.push_bindings.Goals as goal
 
 pub loop-scope-preserved : goal.loop-scope-preserved
 loop-scope-preserved c = record {
-  found = scopes-turn (of_binding c.args.rule c.args.ignore (is_marked c.args.used.now)) c.args.scopes.now.scopes c.loop-scope.scope (all_shown c.bindings.result.now) c.loop-scope.out.items c.push_scope.new.out.items _ c.bindings.ensures
+  found = scopes-turn (of_binding c.args.walk.rule (is_marked c.args.walk.used.now)) c.args.scopes.now.scopes c.loop-scope.scope (all_shown c.bindings.result.now) c.loop-scope.out.items c.push_scope.new.out.items _ c.bindings.ensures
       c.in_ok-push_scope.ensures.found c.loop-scope.invariant.found;
   kept = grows-on c.args.out.now.items c.loop-scope.out.items c.push_scope.new.out.items c.loop-scope.invariant.kept c.in_ok-push_scope.ensures.kept;
 }

@@ -11,6 +11,6 @@ decreases-push_nodes l = node_total (node_tree l.node)
 
 abbrev pub invariant-loop-index : goal.invariant-loop-index
 invariant-loop-index l = record {
-  found : l.out.items ++ over_parts (of_rules l.rules l.allow_null) l.inner (parts_drop l.index (parts_of (node_tree l.node))) ≡ l.fn.out.items ++ over_nodes (of_rules l.rules l.allow_null) l.of_function (node_tree l.node);
+  found : l.out.items ++ over_parts (of_rules l.walk.rules l.walk.allow_null) l.inner (parts_drop l.index (parts_of (node_tree l.node))) ≡ l.fn.out.items ++ over_nodes (of_rules l.walk.rules l.walk.allow_null) l.of_function (node_tree l.node);
   kept : Grows l.fn.out.items l.out.items;
 }

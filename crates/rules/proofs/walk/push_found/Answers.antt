@@ -8,6 +8,6 @@ use Rattle.rules.proofs.walk.push_found.Goals as goal
 pub returns-clause-found : goal.returns-clause-found
 returns-clause-found c =
     on_ok c.push_all_found.result
-    (λ h. h ∙ ap (λ rs. c.args.out.now.items ++ over_nodes (of_rules rs c.args.allow_null) false c.args.program.now) (c.with-rules.ensures ∙ ap (λ rs. with_rule rs c.args.rule) c.none.ensures)
+    (λ h. h ∙ ap (λ rs. c.args.out.now.items ++ over_nodes (of_rules rs c.args.allow_null) false c.args.program.now) (c.with.ensures ∙ ap (λ rs. with_rule rs c.args.rule) c.none.ensures)
     ∙ ap (λ l. c.args.out.now.items ++ l) (alone c.args.rule c.args.allow_null c.args.program.now))
     c.push_all_found.ensures.found

@@ -2,8 +2,12 @@ use Rattle.std.proofs.Common.{◌≡◌, ℕ, List, [], ◌∷◌, refl, sym, su
 use Rattle.source_text.specs.Source.{IsPlace}
 use Rattle.tokens.specs.Scanned.{Passed, IsCommentRest}
 use Rattle.unwrapping.specs.declared.comment.CommentRow.{CommentRow}
-use Rattle.unwrapping.proofs.CommentSteps.{IsPassing, begins_passing, passes_blank, passes_comment, ends_passing}
+use Rattle.unwrapping.proofs.CommentSteps.{IsPassing, none_between, begins_passing, passes_blank, passes_comment, ends_passing}
 use Rattle.unwrapping.proofs.comment.push_comments.Goals as goal
+
+-- nothing stands there
+pub returns-then-at-stop : goal.returns-then-at-stop
+returns-then-at-stop c = λ same. none_between c.args.source.now c.args.at c.args.stop c.args.comments.now.items c.if-at-stop.true
 
 pub loop-place-init : goal.loop-place-init
 loop-place-init c =

@@ -7,7 +7,7 @@ use Rattle.language.specs.Cost.{least}
 use Rattle.lint.specs.ReadScripts.{IsScript}
 use Rattle.lint.proofs.PlannedScripts.{script_derived, script_spelled, script_few, reading_script}
 use Rattle.lint.proofs.Unwrapping.{one_number, unwraps_itself, unwraps_to}
-use Rattle.lint.proofs.unwrap.unwrap_script.Goals as goal
+use Rattle.lint.proofs.unwrap.unwrap_unless_fewest.Goals as goal
 
 pub fewest_by_pairs-requires : goal.fewest_by_pairs-requires
 fewest_by_pairs-requires c =
@@ -35,12 +35,12 @@ returns-then-pairs-fewest-clause-unwrapped c =
     let fewest : Some c.in-Ok.fewest ≡ least n script = c.in-Ok.ensures ∙ ap (λ m. least m script) c.program.ensures in
     unwraps_itself c.args.source.now n P c.requires.reading.accepted c.requires.reading.only (ap (λ m. Some m) (same ∙ c.if-pairs-fewest.true) ∙ fewest)
 
-pub returns-in-Ok-unwrap_planned-clause-unwrapped : goal.returns-in-Ok-unwrap_planned-clause-unwrapped
-returns-in-Ok-unwrap_planned-clause-unwrapped c =
+pub returns-in-Ok-read_and_rewrite-clause-unwrapped : goal.returns-in-Ok-read_and_rewrite-clause-unwrapped
+returns-in-Ok-read_and_rewrite-clause-unwrapped c =
     let n = c.args.parsed.now.program in
     let P = c.args.parsed.now.pairs.items in
     let same : length c.grouping_pairs-pairs.result.now ≡ length P = ap (λ (ps : List Pair). length ps) c.grouping_pairs-pairs.ensures in
     let fewest : Some c.in-Ok.fewest ≡ least n script = c.in-Ok.ensures ∙ ap (λ m. least m script) c.program.ensures in
     let total : Some c.in-Ok-plan.plan.table.total ≡ least n script = c.in-Ok-plan.ensures.total ∙ ap (λ m. least m script) c.program-2.ensures in
     unwraps_to c.args.source.now _ n P c.in-Ok-plan.plan.table.total c.requires.reading.accepted c.requires.reading.only total (λ as_few. c.if-pairs-fewest.false (same ∙ one_number (as_few ∙ sym fewest)))
-    c.in-Ok-unwrap_planned.ensures.spells
+    c.in-Ok-read_and_rewrite.ensures.spells

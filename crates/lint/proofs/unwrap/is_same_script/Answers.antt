@@ -4,7 +4,7 @@ use Rattle.tree.specs.declared.kind.Pair.{Pair}
 use Rattle.tree.specs.Tree.{Tree, SameTree}
 use Rattle.language.specs.Claims.{WithinLimits}
 use Rattle.unwrapping.specs.Keeps.{Keeps}
-use Rattle.lint.proofs.unwrap.spells.Goals as goal
+use Rattle.lint.proofs.unwrap.is_same_script.Goals as goal
 
 pub returns-in-Ok-keeps-clause-spells : goal.returns-in-Ok-keeps-clause-spells
 returns-in-Ok-keeps-clause-spells c held =
