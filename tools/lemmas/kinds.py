@@ -14,7 +14,7 @@ import sys
 from lemmas import TOP
 
 # The word in the names of a kind, ESTree's name, and the most files that may know it.
-KINDS = (('import', 'ImportExpression', 89), ('debugger', 'DebuggerStatement', 67))
+KINDS = (('import', 'ImportExpression', 76), ('debugger', 'DebuggerStatement', 62))
 
 
 def is_source(path):
