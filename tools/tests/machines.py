@@ -161,6 +161,7 @@ def portable(copy):
     libraries.node()
     module = libraries.library('wasm/jslint.wasm')
     shutil.copytree(f'{TOP}/packages/npm', f'{copy.top}/packages/npm', ignore=shutil.ignore_patterns('jslint.wasm', 'LICENSE-*'))
+    shutil.copytree(f'{TOP}/docs', f'{copy.top}/docs', dirs_exist_ok=True)
     os.makedirs(f'{copy.top}/release/wasm')
     shutil.copy(module, f'{copy.top}/release/wasm/jslint.wasm')
     for name in ('LICENSE-MIT', 'LICENSE-APACHE'):
