@@ -1,10 +1,11 @@
-# make install PREFIX=..    the program, jslint-files, manual pages, completions, licences and documents; DESTDIR goes in front
+# make install PREFIX=..    the program, jslint-files and its library, manual pages, completions, licences and documents; DESTDIR goes in front
 # make uninstall PREFIX=..  takes them out again
 # make test                 tools/test
 
 PREFIX = /usr/local
 bin = $(DESTDIR)$(PREFIX)/bin
 share = $(DESTDIR)$(PREFIX)/share
+lib = $(DESTDIR)$(PREFIX)/lib/jslint
 doc = $(share)/doc/jslint
 PAGES = man/man1/jslint.1 man/man1/jslint-files.1
 COMPLETIONS = bash-completion/completions/jslint zsh/site-functions/_jslint fish/vendor_completions.d/jslint.fish
@@ -19,6 +20,10 @@ all:
 install:
 	@program=$$(./jslint --program) && prefix=$(prefix_in_pages) && \
 	install -d '$(bin)' && install -m 755 "$$program" '$(bin)/jslint' && install -m 755 tools/jslint-files '$(bin)/jslint-files' && \
+	install -d '$(share)/jslint/jslint_files' && install -m 644 tools/jslint_files/*.py '$(share)/jslint/jslint_files' && \
+	install -m 644 packages/npm/lib/hints.json '$(share)/jslint/hints.json' && \
+	rm -rf '$(lib)' && { tools/shared-library '$(lib)/libjslint.so' || :; } && \
+	{ ! command -v python3 >/dev/null || python3 -m compileall -q '$(share)/jslint/jslint_files'; } && \
 	for each in $(PAGES); do \
 		install -d "$$(dirname '$(share)'/$$each)" && sed "s|/usr/local/share/|$$prefix/share/|g" share/$$each >'$(share)'/$$each && \
 			chmod 644 '$(share)'/$$each || exit; \
@@ -36,7 +41,7 @@ install:
 uninstall:
 	rm -f '$(bin)/jslint' '$(bin)/jslint-files' '$(share)/bash-completion/completions/jslint-files' '$(share)/fish/vendor_completions.d/jslint-files.fish'
 	for each in $(PAGES) $(COMPLETIONS); do rm -f '$(share)'/$$each; done
-	rm -rf '$(doc)'
+	rm -rf '$(doc)' '$(share)/jslint' '$(lib)'
 
 test:
 	tools/test

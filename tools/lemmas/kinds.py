@@ -1,11 +1,11 @@
 """Counts the files that know a kind of node, all its names taken together: of an expression with a word of its own, `import(..)`, and of a statement
-without parts, `debugger`. A further kind of that sort touches about as many.
+without parts, `debugger`. A further kind of that sort touches about as many: a statement `enum;` on a branch touched 48.
 
     python3 tools/lemmas/kinds.py             # the counts by folder: status 1 where one is above MOST
     python3 tools/lemmas/kinds.py --files     # also the files
 
 Sources, definitions and proofs count if a word of theirs has the kind's word in it, comments and imports aside; tools and documents if they have
-ESTree's name. Rows, edits and releases aren't counted.
+ESTree's name. Rows, edits, releases and the rule `no-debugger` aren't counted, nor is docs/CONTRIBUTING.md, which has these two as guides.
 """
 import collections
 import re
@@ -14,7 +14,8 @@ import sys
 from lemmas import TOP
 
 # The word in the names of a kind, ESTree's name, and the most files that may know it.
-KINDS = (('import', 'ImportExpression', 76), ('debugger', 'DebuggerStatement', 62))
+KINDS = (('import', 'ImportExpression', 59), ('(?<!no)(?<!no[-_])debugger', 'DebuggerStatement', 45))
+SUFFIXES = ('.js', '.mjs', '.py', '.json', '.md')
 
 
 def is_source(path):
@@ -31,8 +32,9 @@ def files():
     """Every file that may know a kind."""
     for top in ('crates', 'tools', 'docs'):
         for path in sorted((TOP / top).glob('**/*')):
-            is_built = {'out', 'node_modules', '__pycache__'} & {*path.parts}
-            if path.is_file() and not is_built and (is_source(path) or path.suffix in ('.js', '.mjs', '.py', '.json', '.md')):
+            is_left_out = {'out', 'node_modules', '__pycache__', 'rules', 'rules.js', 'kinds.py', 'CONTRIBUTING.md'} & {*path.parts}
+            suffixes = (*SUFFIXES, '.cpp', '.txt', '') if top == 'tools' else SUFFIXES
+            if path.is_file() and not is_left_out and (is_source(path) or path.suffix in suffixes):
                 yield path
     yield TOP / 'README.md'
 
@@ -43,7 +45,7 @@ def knows(path, word, name):
 
 def group_of(path):
     parts = path.relative_to(TOP).parts
-    return {'src': 'code', 'specs': 'definitions', 'proofs': 'proofs'}.get(parts[2] if len(parts) > 2 else '', parts[0])
+    return {'src': 'code', 'specs': 'definitions', 'proofs': 'proofs'}.get(parts[2], parts[0]) if parts[0] == 'crates' else parts[0]
 
 
 def main(words):
@@ -52,7 +54,7 @@ def main(words):
         return 2
     status = 0
     for word, name, most in KINDS:
-        found = [it for it in files() if it.name != 'kinds.py' and knows(it, word, name)]
+        found = [it for it in files() if knows(it, word, name)]
         groups = collections.Counter(group_of(it) for it in found)
         said = ', '.join(f'{count} {group}' for group, count in groups.items())
         print(f'{name}: {len(found)} files know it ({said}){"" if len(found) <= most else f", and {most} may"}')

@@ -23,6 +23,7 @@ from lemmas import ANSWERS, TOP, crates_in_order, has_examples
 MOST = 8
 ALLOWED = 'tools/lemmas/allowed.txt'
 NAME = re.compile(r'[^\s(){}\[\],;.@"]+')
+WHOLE = re.compile(r'(Rattle(?:\.\w+)+)\.([^\s(){}\[\],;.@"]+)')
 IMPORT = re.compile(r'^\s*(pub )?(?:ghost )?use ([^\s;{]+?)(?:\.?\{([^}]*)\})?(?: as ([^\s;]+))?;?\s*$')
 CONTAINER = re.compile(r'(?:module\b.*|(?:(?:abbrev|unfoldable) )?mutual)')
 HEAD = re.compile(r'(?:(?:pub|abbrev|unfoldable) )*(data|record|ruleset) (\S+)')
@@ -36,11 +37,11 @@ class Module:
     def __init__(self, path):
         self.path, self.text = path, path.read_text(encoding='utf-8')
         self.imports, self.aliases, self.exports, self.members = {}, [], {}, {}
-        self.cites, self.types, self.examples = collections.defaultdict(set), set(), set()
+        self.cites, self.types, self.examples, self.heads = collections.defaultdict(set), set(), set(), set()
         self.read()
 
     def read(self):
-        current, level, headers = None, 0, []
+        current, level, headers, is_head = None, 0, [], False
         for line in self.text.split('\n'):
             if line.strip().startswith('--') or not line.strip():
                 continue
@@ -48,17 +49,28 @@ class Module:
             if found and ' : ' not in line:
                 self.add_import(*found.groups())
                 continue
+            if is_head:
+                headers[-1][1].update(NAME.findall(line))
+                is_head = not line.rstrip().endswith('where')
+                continue
             indent = len(line) - len(line.lstrip())
             headers = [it for it in headers if it[0] < indent]
-            level = headers[-1][0] + 2 if headers else 0
+            if headers and headers[-1][2] is None:
+                headers[-1][2] = indent
+            level = headers[-1][2] if headers else 0
             if indent == level and CONTAINER.fullmatch(line.strip()):
-                headers.append((indent, set(NAME.findall(line))))
+                headers.append([indent, set(NAME.findall(line)), None])
+                # (the head of a section may take several lines)
+                is_head = line.strip().startswith('module') and not line.rstrip().endswith('where')
                 current = None
                 continue
             if indent == level:
                 current = self.declared(line.strip()) or current
             if current:
-                self.cites[current].update(NAME.findall(line), *[it[1] for it in headers])
+                self.cites[current].update(NAME.findall(line), WHOLE.findall(line), *[it[1] for it in headers])
+                if level < indent and line.strip().startswith('≡') and current in self.heads:
+                    self.examples.add(current)
+                self.heads.discard(current if indent > level else None)
                 member = MEMBER.match(line) if indent > level and current in self.types else None
                 self.members.update({it: current for it in member[1].split()} if member else {})
 
@@ -68,8 +80,8 @@ class Module:
             self.types.update([head[2]] if head[1] == 'data' else [])
             return head[2]
         if signature:
-            if '≡' in line and '→' not in line:
-                self.examples.add(signature[1])
+            if '→' not in line:
+                (self.examples if '≡' in line else self.heads).add(signature[1])
             return signature[1]
         first = NAME.match(line)
         return first[0] if first and first[0] in self.cites else None
@@ -118,6 +130,9 @@ class Repository:
         module = self.modules[place]
         wholes = [it for it in module.aliases if it in self.modules]
         for it in names:
+            if isinstance(it, tuple):
+                self.reach(*it)
+                continue
             if it in module.imports:
                 self.reach(*module.imports[it])
             self.reach(place, it)

@@ -1,5 +1,5 @@
 'use strict';
-// The twenty-one early errors.
+// The early errors.
 // earlyErrors(tree, text) answers every error as {number, at} (byte offsets), sorted by
 // place, then by number; the first one is what `read_script` names.
 

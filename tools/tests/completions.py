@@ -12,9 +12,9 @@ from libraries import tool
 from recipes import is_well, same
 
 COMMANDS = {'check', 'cost', 'fix', 'help', 'tree', 'unwrap', 'verify'}
-SHARED = {'--jobs', '--files-from', '--help', '--version'}
+SHARED = {'--jobs', '--files-from', '--help', '--version', '--project', '--stdin', '--hints', '--unsupported', '--summary'}
 REWRITING = {'--write', '--diff'} | SHARED
-CHECKING = {'--settings', '--format'} | SHARED
+CHECKING = {'--settings', '--format', '--color', '--ends', '--suppressions', '--max-warnings', '--explain'} | SHARED
 SCRIPTS = {'a.js', 'two words.js'}
 # Words of a command line, the last one unfinished; what is offered for it; and what mustn't be.
 ASKED = [
@@ -25,7 +25,8 @@ ASKED = [
     ('jslint-files ', {'check', 'fix', 'unwrap'} | SCRIPTS, {'tree'}), ('jslint-files -', CHECKING, {'--write'}),
     ('jslint-files check -', CHECKING, {'--write'}), ('jslint-files fix -', REWRITING | {'--drop-comments'}, {'--settings', '--format'}),
     ('jslint-files unwrap -', REWRITING, {'--drop-comments', '--format'}), ('jslint-files unwrap ', SCRIPTS, {'fix'}),
-    ('jslint-files --format ', {'unix', 'json', 'github'}, SCRIPTS), ('jslint-files --settings ', {'s.toml'}, {'check'}),
+    ('jslint-files --format ', {'unix', 'pretty', 'json', 'sarif', 'junit', 'github'}, SCRIPTS), ('jslint-files --unsupported ', {'error', 'note'}, SCRIPTS),
+    ('jslint-files --color ', {'auto', 'always', 'never'}, SCRIPTS), ('jslint-files --explain ', {'no-var', 'prefer-const'}, SCRIPTS), ('jslint-files --settings ', {'s.toml'}, {'check'}),
 ]
 SHARE = '../share'
 

@@ -266,8 +266,9 @@ def which_program(room):
     room.put('path/jslint', '#!/bin/sh\necho >>ran\n', 0o755)
     room.put('jslint', '#!/bin/sh\necho >>ran\n', 0o755)
     os.makedirs(room.path('alone/tools'))
-    shutil.copy(f'{recipes.BIN}/jslint-files', f'{room.folder}/alone')
-    shutil.copy(f'{recipes.BIN}/jslint-files', f'{room.folder}/alone/tools')
+    for it in ('alone', 'alone/tools'):
+        shutil.copy(f'{recipes.BIN}/jslint-files', f'{room.folder}/{it}')
+        shutil.copytree(f'{TOP}/tools/jslint_files', f'{room.folder}/{it}/jslint_files')
     path = f'{room.folder}/path:/usr/bin:/bin:{os.path.dirname(recipes.sys.executable)}'
     alone = lambda name, **more: room.run([f'{room.folder}/{name}', 'a.js'], PATH=path, **more)
     why = ': JSLINT in the environment may name the program\n'

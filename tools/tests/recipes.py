@@ -228,7 +228,7 @@ def folder(room):
     room.put('src/bad\n::error::x.js', REFUSED)
     room.put('src/a.js', WRONG)
     status, _, err = room.sh(text)
-    is_well(status != 0 and err == 'jslint: syntax error at 2:1\nsrc/bad\\n::error::x.js\n', f'{status} {err!r}')
+    is_well(status == 2 and err == 'src/bad\\x0a::error::x.js:2:1: syntax error\n', f'{status} {err!r}')
     same((room.text('src/bad\n::error::x.js'), room.text('src/a.js'), room.names('src')), (REFUSED, 'let x = 1;\n', ['a.js', 'bad\n::error::x.js', 'deep']))
 
 
@@ -568,7 +568,7 @@ def pages(room):
         COMP_WORDS=(jslint-files unw) COMP_CWORD=1; _jslint_files; echo "${{COMPREPLY[*]}}"
         COMP_WORDS=(jslint-files unwrap --) COMP_CWORD=2; _jslint_files; echo "${{COMPREPLY[*]}}"'''
     if shutil.which('bash'):
-        wanted = 'verify\n--settings\nunwrap\ngithub\nunwrap\n--write --diff --jobs --files-from --help --version --\n'
+        wanted = 'verify\n--settings\nunwrap\ngithub\nunwrap\n--write --diff --project --stdin --hints --unsupported --summary --jobs --files-from --help --version --\n'
         same(room.run(['bash', '-c', completed])[1:], (wanted, ''))
 
 

@@ -49,7 +49,8 @@ def productions():
 def each_name(_):
     rules = sorted(it[:-3] for it in os.listdir(f'{TOP}/docs/rules') if it != 'README.md')
     commands = [it.lower() for it in variants('crates/commands/src/command.rt', 'Command')]
-    names = [*variants('crates/tree/src/kind.rt', 'Kind'), *productions(), *rules, *commands, *(f'E{it}' for it in range(1, 22)), 'first_early_error', 'parser::parse']
+    errors = [f'E{it + 1}' for it in range(len(variants('crates/early_errors/src/lib.rt', 'EarlyError')))]
+    names = [*variants('crates/tree/src/kind.rt', 'Kind'), *productions(), *rules, *commands, *errors, 'first_early_error', 'parser::parse']
     is_well(len(names) > 200, len(names))
     found = said(*names)
     same(sorted(found), sorted({*names}))
@@ -72,6 +73,12 @@ def a_kind(_):
     is_well(re.search(r'\bviews \d', found['rows'][0]), found['rows'])
 
 
+def a_word(_):
+    """The word of a kind is its kind, or each that has it."""
+    same(call('switch'), call('SwitchStatement'))
+    same(call('class'), call('ClassExpression', 'ClassDeclaration'))
+
+
 def an_unknown_name(_):
     status, out, err = call('MetaPropery')
     is_well(status == 2 and not out and err.startswith('tools/where: nothing is called MetaPropery: no kind, production, ') and ' MetaProperty' in err, err)
@@ -80,4 +87,4 @@ def an_unknown_name(_):
     is_well(status == 2 and not out and 'tools/where NAME ..' in err, err)
 
 
-TESTS = [each_name, a_kind, an_unknown_name]
+TESTS = [each_name, a_kind, a_word, an_unknown_name]

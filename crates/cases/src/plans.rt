@@ -148,7 +148,7 @@ pub(crate) fn spans_of(
     groups: &[PairRow],
 ) -> Result<Vec<Span>, AllocError> {
     match plan_if_any(alloc, program)? {
-        Some(plan) => extra_pairs(alloc, groups, plan.flags()),
+        Some(plan) => extra_pairs(alloc, groups, plan.wraps()),
         None => Ok(Vec::new(alloc)),
     }
 }

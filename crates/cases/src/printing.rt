@@ -8,17 +8,18 @@ use parser::{Parsed, parse};
 use printer::{print, print_text};
 use source_text::{FailurePlan, Fault, MAX_PIECE, MemorySink, Source};
 use std::alloc::{AllocError, Global};
+use wrap_flags::Wraps;
 
 /// The calls of a writer that fail one after the other, from the first; behind them those near a full piece.
 const FAILURES: usize = 300;
 
-/// A flag for each row of a layout: `(` says that its node is wrapped.
-fn flags(alloc: Global, wrapped: &str) -> Result<Vec<bool>, AllocError> {
-    let mut flags = Vec::new(alloc);
-    for byte in wrapped.bytes() {
-        flags.push(byte == b'(')?;
+/// Which nodes of a layout are wrapped, by a character for each row: `(` says that its node is.
+fn wraps_of(alloc: Global, rows: &str) -> Result<Wraps, AllocError> {
+    let mut wraps = Wraps::with_capacity(alloc, rows.len())?;
+    for byte in rows.bytes() {
+        wraps.push(byte == b'(')?;
     }
-    Ok(flags)
+    Ok(wraps)
 }
 
 /// The layout of the tree.
@@ -28,10 +29,10 @@ pub(crate) fn push_layout(
     wrapped: &str,
     out: &mut String,
 ) -> Result<(), AllocError> {
-    let flags = flags(alloc, wrapped)?;
-    let text = print_text(alloc, parsed.program(), &flags)?;
+    let wraps = wraps_of(alloc, wrapped)?;
+    let text = print_text(alloc, parsed.program(), &wraps)?;
     out.push_str(&text)?;
-    if !is_alike(alloc, parsed, &flags, &text)? {
+    if !is_alike(alloc, parsed, &wraps, &text)? {
         out.push_str(" written otherwise")?;
     }
     Ok(())
@@ -44,9 +45,9 @@ pub(crate) fn push_gauged_layout(
     wrapped: &str,
     out: &mut String,
 ) -> Result<(), AllocError> {
-    let flags = flags(alloc, wrapped)?;
+    let wraps = wraps_of(alloc, wrapped)?;
     let mut writer = Gauge::new();
-    let written = print(parsed.program(), &flags, &mut writer);
+    let written = print(parsed.program(), &wraps, &mut writer);
     write!(
         out,
         "{:?}",
@@ -61,25 +62,20 @@ pub(crate) fn push_written(
     row: &Case,
     out: &mut String,
 ) -> Result<(), AllocError> {
-    let flags = flags(alloc, row.text(2))?;
+    let wraps = wraps_of(alloc, row.text(2))?;
     let mut writer = MemorySink::new(alloc, row.number(3), plan(row.text(4)))?;
-    let written = print(parsed.program(), &flags, &mut writer);
+    let written = print(parsed.program(), &wraps, &mut writer);
     push_answer(&written, writer.bytes(), out)
 }
 
 /// Whether a writer that takes a byte a call gets the whole text.
-fn is_alike(
-    alloc: Global,
-    parsed: &Parsed,
-    flags: &[bool],
-    text: &str,
-) -> Result<bool, AllocError> {
+fn is_alike(alloc: Global, parsed: &Parsed, wraps: &Wraps, text: &str) -> Result<bool, AllocError> {
     let plan = FailurePlan {
         per_call: 1,
         fails_at: None,
     };
     let mut writer = MemorySink::new(alloc, text.len(), plan)?;
-    let written = print(parsed.program(), flags, &mut writer);
+    let written = print(parsed.program(), wraps, &mut writer);
     Ok(written.is_ok() && writer.bytes() == text.as_bytes())
 }
 
@@ -87,7 +83,7 @@ fn is_alike(
 fn is_beginning(
     alloc: Global,
     parsed: &Parsed,
-    flags: &[bool],
+    wraps: &Wraps,
     text: &str,
     taken: usize,
 ) -> Result<bool, AllocError> {
@@ -96,7 +92,7 @@ fn is_beginning(
         fails_at: Some((taken as u64).saturating_add(1)),
     };
     let mut writer = MemorySink::new(alloc, text.len(), plan)?;
-    let written = print(parsed.program(), flags, &mut writer);
+    let written = print(parsed.program(), wraps, &mut writer);
     let beginning = text.as_bytes().get(..taken).unwrap_or(b"");
     Ok(written.is_err() && writer.bytes() == beginning && beginning.len() == taken)
 }
@@ -114,15 +110,15 @@ pub(crate) fn push_pieces(
     wrapped: &str,
     out: &mut String,
 ) -> Result<(), AllocError> {
-    let flags = flags(alloc, wrapped)?;
-    let text = print_text(alloc, parsed.program(), &flags)?;
+    let wraps = wraps_of(alloc, wrapped)?;
+    let text = print_text(alloc, parsed.program(), &wraps)?;
     let mut beginnings = 0usize;
     for taken in 0..text.len() {
-        if is_tried(taken) && is_beginning(alloc, parsed, &flags, &text, taken)? {
+        if is_tried(taken) && is_beginning(alloc, parsed, &wraps, &text, taken)? {
             beginnings = beginnings.saturating_add(1);
         }
     }
-    let is_alike = is_alike(alloc, parsed, &flags, &text)?;
+    let is_alike = is_alike(alloc, parsed, &wraps, &text)?;
     write!(out, "{:?}", (text.len(), beginnings, is_alike))
 }
 
@@ -132,5 +128,5 @@ pub(crate) fn is_fixed(alloc: Global, source: &Source, text: &str) -> Result<boo
     let Some(plan) = plan_if_any(alloc, parsed.program())? else {
         return Ok(false);
     };
-    Ok(is_alike(alloc, &parsed, plan.flags(), text)?)
+    Ok(is_alike(alloc, &parsed, plan.wraps(), text)?)
 }

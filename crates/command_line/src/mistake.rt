@@ -58,7 +58,7 @@ fn text_in_one_line(alloc: Global, error: &clap::Error) -> Result<String, AllocE
 }
 
 /// Whether a shell takes the character as it is: a letter or a digit, `-`, `.`, `/`, `_`, or one beyond ASCII that is seen.
-fn is_plain(c: char) -> bool
+fn is_unquoted(c: char) -> bool
     ensures { result ≡ is_plain c }
 {
     c.is_ascii_alphanumeric()
@@ -70,7 +70,7 @@ fn is_plain(c: char) -> bool
 fn looks_like_file(word: &str) -> bool
     ensures { result ≡ looks_like_file word.now }
 {
-    word.chars().all(is_plain) && word.chars().any(|c| c == '.' || c == '/')
+    word.chars().all(is_unquoted) && word.chars().any(|c| c == '.' || c == '/')
 }
 
 /// Adds the line that says what to type, where the word looks like a file.

@@ -56,14 +56,6 @@ passed_join t xs ys r p q m f em ef h g =
       fault = ap shown_any ef ∙ or_shown p.fault q.fault ∙ (λ j. or_else (h.fault j) (g.fault j)) ∙ ap (λ k. or_else (rows_fault t xs (suc r)) (rows_fault t ys k)) start ∙ sym (rows_fault-append t xs ys (suc r));
     }
 
-pub passed_nothing : (t : Table) (r : ℕ) (p : RowCheck) → p.next ≡ r → p.misshapen ≡ None → p.fault ≡ None → IsPassed t [] r p
-passed_nothing t r p a b c = record {
-  next = let z : r ≡ r + 0 = omega arith in a ∙ z;
-  shape = subst (λ m. Matched (map (λ x. x.0) t.rows) [] r m p.next) (sym b) (λ ls. ap (λ k. shape_fault (drop k (map (λ x. x.0) t.rows)) ls (suc k)) (sym a));
-  within = subst (λ m. IsBelow m p.next) (sym b) tt;
-  fault = ap shown_any c;
-}
-
 -- the same list
 pub passed_same : (t : Table) (xs ys : List Tree) (r : ℕ) (p : RowCheck) → xs ≡ ys → IsPassed t xs r p → IsPassed t ys r p
 passed_same t xs ys r p e h = subst (λ zs. IsPassed t zs r p) e h
@@ -101,13 +93,6 @@ pub row_mismatched : (rows : List Row) (i n : ℕ) (d : Row) (k : Kind) → i < 
 row_mismatched rows i n d k h e = λ ls.
     let js = map (λ x. x.0) (map shown_row rows) in
     ap (λ u. shape_fault u (k ∷ ls) (suc i)) (drop_at js i (slice_index_or rows i d).kind (kind_at rows i d h)) ∙ ap (λ b. cond b (shape_fault (drop (suc i) js) ls (suc (suc i))) (Some (suc i, reason.Shape))) e
-
--- none
-pub row_missing : (rows : List Row) (i n : ℕ) (k : Kind) → length rows < suc i → Matched (map (λ x. x.0) (map shown_row rows)) (k ∷ []) i (Some i) n
-row_missing rows i n k h = λ ls.
-    let js = map (λ x. x.0) (map shown_row rows) in
-    let l = kinds_length rows in
-    ap (λ u. shape_fault u (k ∷ ls) (suc i)) (drop_all js i (omega (arith, h, l)))
 
 -- what was passed of these nodes, with others behind
 pub record Before (t : Table) (r : ℕ) (p : RowCheck) (rest whole : List Tree) : Type 0 where

@@ -9,7 +9,7 @@ ghost use Rattle.cost_certificate.specs.Read.{IsHeader, LeavesOut, Reads};
 ghost use Rattle.cost_certificate.specs.Words.{format_of, words_after};
 
 use crate::table_words::{
-    Format, cell, is_word, kind_named, line_length, next_word, number, split_line, split_word,
+    Format, cell, kind_named, line_length, next_word, number, split_line, split_word, word_is,
 };
 use crate::types::all_zero;
 use cost_table::CostTable;
@@ -102,7 +102,7 @@ fn total(line: &[u8]) -> Option<u32>
     ensures { result ≡ total_in (split_words line.now) }
 {
     let (first, rest) = split_word(line);
-    if !is_word(first, "total") {
+    if !word_is(first, "total") {
         return None;
     }
     if rest.is_empty() {
@@ -119,10 +119,10 @@ fn total(line: &[u8]) -> Option<u32>
 fn header(line: &[u8]) -> Option<Format>
     ensures { IsHeader line.now result }
 {
-    if is_word(line, "jslint-cost 1") {
+    if word_is(line, "jslint-cost 1") {
         return Some(Format::Full);
     }
-    if is_word(line, "jslint-cost 2") {
+    if word_is(line, "jslint-cost 2") {
         return Some(Format::Short);
     }
     None

@@ -79,7 +79,7 @@ fn word_length(text: &[u8]) -> usize
 }
 
 /// Whether a word is a text.
-pub(crate) fn is_word(word: &[u8], text: &str) -> bool
+pub(crate) fn word_is(word: &[u8], text: &str) -> bool
     ensures { result ≡ bytes_eq word.now text.now }
 {
     word == text.as_bytes()
@@ -117,7 +117,7 @@ fn value(word: &[u8]) -> Option<u32>
 pub(crate) fn cell(word: &[u8]) -> Option<Option<u32>>
     ensures { result ≡ cell_of word.now }
 {
-    if is_word(word, "-") {
+    if word_is(word, "-") {
         return Some(None);
     }
     match number(word) {

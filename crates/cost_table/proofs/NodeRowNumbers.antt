@@ -123,11 +123,6 @@ roles_none a n h =
     let v : ways b n ≡ [] = spelled_here b n None h in
     ap first_roles v
 
-pub rows_inside : (n : Tree) (a : Role) → is_expression a ≡ false → table_rows n a ≡ parts_table (parts_of n) (first_roles (ways (widest a) n))
-unfolding table_rows
-rows_inside (node k w g s e ps) (expr y i f) h = absurd (cc)
-rows_inside (node k w g s e ps) _ h = refl
-
 -- the first part of what is above parts of a chain
 pub chained_part : (n u : Tree) → first_has_optional (parts_of n) ≡ true → Some u ≡ part_at (parts_of n) 0 → has_optional u ≡ true
 chained_part (node k w g s e none) u h p = absurd (cc)

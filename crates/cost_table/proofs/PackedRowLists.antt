@@ -1,7 +1,7 @@
 -- Rows that are packed: one more whose numbers stand apart, and all the other way round.
-use Rattle.std.proofs.Common.{◌≡◌, ℕ, ◌-◌, ◌<◌, ◌≤◌, List, [], ◌∷◌, ◌++◌, length, reverse, get_or, None, Ok, Err, refl, sym, ap, ◌∙◌, subst, arith, append_assoc}
+use Rattle.std.proofs.Common.{◌≡◌, ℕ, ◌-◌, ◌<◌, ◌≤◌, List, [], ◌∷◌, ◌++◌, length, reverse, None, Ok, Err, refl, sym, ap, ◌∙◌, subst, arith, append_assoc}
 use Rattle.std.specs.Prelude.{All, map, Result, OnErr}
-use Rattle.std.proofs.lemmas.List.{map-append, map_push, reverse-append, reverse-reverse, length-reverse, get_or-reverse, get_or_append_left, get_or-append_right, get_or_push}
+use Rattle.std.proofs.lemmas.List.{map-append, map_push, reverse-append, reverse-reverse, get_or_append_left, get_or_push}
 use Rattle.std.proofs.lemmas.List.Elements.{All-nil, All-cons, All-append, All-head, All-tail}
 use Rattle.tree.specs.declared.kind.Kind.{Kind}
 use Rattle.cost_table.specs.declared.costs.Costs as own
@@ -62,12 +62,6 @@ All-turned P (x ∷ xs) h =
     subst (All P) (sym (reverse-append (x ∷ []) xs)) (All-append P (reverse xs) (x ∷ []) (All-turned P xs (All-tail P x xs h)) (All-cons P x [] (All-head P x xs h) (All-nil P)))
 
 -- A row by its index
-
-pub among_turned : {X : Type 0} (ts ps : List X) (i : ℕ) (d : X) → i < length ts → d ≡ get_or ts (length ts - 1 - i) d → d ≡ get_or (reverse ts ++ ps) i d
-among_turned ts ps i d l e = e ∙ sym (get_or-reverse ts i d l) ∙ sym (get_or_append_left (reverse ts) ps d i (omega (arith, l, length-reverse ts)))
-
-pub behind_turned : {X : Type 0} (ts ps : List X) (i : ℕ) (d : X) → length ts ≤ i → d ≡ get_or ps (i - length ts) d → d ≡ get_or (reverse ts ++ ps) i d
-behind_turned ts ps i d l e = e ∙ sym (get_or-append_right (reverse ts) ps (length ts) i d (length-reverse ts) l)
 
 -- After a refusal
 

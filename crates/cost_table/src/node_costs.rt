@@ -176,7 +176,7 @@ fn use_at(own: Position, slot: Slot, part: &NodeCosts) -> Option<u32>
 pub fn fitting(own: Position, outline: Outline, costs: Costs) -> Costs
     ensures { result ≡ fitting_costs (role_of own) outline costs }
 {
-    if is_plain(outline) {
+    if is_plain_outline(outline) {
         return plainly_fitting(own, outline, costs);
     }
     Costs {
@@ -187,7 +187,7 @@ pub fn fitting(own: Position, outline: Outline, costs: Costs) -> Costs
 }
 
 /// Whether a spelling asks for no In, and opens with no brace and no word: it may stand wherever its symbol may.
-pub fn is_plain(outline: Outline) -> bool
+pub fn is_plain_outline(outline: Outline) -> bool
     ensures { result ≡ is_plain_outline outline }
 {
     asks_no_more(&outline)

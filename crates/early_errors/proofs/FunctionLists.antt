@@ -2,15 +2,15 @@
 use Rattle.std.proofs.Common.{◌≡◌, ℕ, zero, suc, ◌+◌, ◌-◌, ◌<◌, ◌≤◌, Bool, true, List, [], ◌∷◌, Option, Some, None, refl, sym, ap, ◌∙◌, arith, add-one}
 use Rattle.std.specs.Prelude.{◌&&◌}
 use Rattle.tree.specs.declared.kind.Kind.TheVariants.{BlockStatement}
-use Rattle.tree.specs.Tree.{Tree, node, Parts, none, part, gap, flags_of, start_of, parts_of, part_at, part_count, parts_drop}
+use Rattle.tree.specs.Tree.{Tree, node, Parts, none, part, gap, part_at, part_count, parts_drop}
 use Rattle.language.specs.FirstPart.{others}
 use Rattle.early_errors.specs.declared.EarlyError.{EarlyError}
-use Rattle.early_errors.specs.Functions.{is_simple, use_strict}
+use Rattle.early_errors.specs.Functions.{is_simple}
 use Rattle.name_tables.specs.PatternParts.{at_part}
 use Rattle.name_tables.specs.BoundNames.{each_part}
-use Rattle.early_errors.specs.Names.{when, items_of, body_items}
+use Rattle.early_errors.specs.Names.{items_of, body_items}
 use Rattle.early_errors.specs.Early.{Error, each}
-use Rattle.early_errors.specs.Owns.{block_at, items_at, is_plain, says_use_strict}
+use Rattle.early_errors.specs.Owns.{block_at, items_at, is_plain}
 use Rattle.early_errors.specs.Walk.{after}
 use Rattle.early_errors.proofs.Least.{sooner-none, after-append, each-append}
 use Rattle.name_tables.proofs.EachPart.{drop-step, drop-past}
@@ -121,11 +121,6 @@ pub simple-past : (ps : Parts) (i : ℕ) → part_count ps - 1 ≤ i → true �
 simple-past ps i l = all-simple ps i (omega (arith, l))
 
 -- ---- directives
-
-pub directive : (t : Tree) → use_strict t ≡ when ((flags_of t).directive && says_use_strict (part_at (parts_of t) 0)) (start_of t ∷ [])
-directive (node k w g s e none) = refl
-directive (node k w g s e (part t ps)) = refl
-directive (node k w g s e (gap ps)) = refl
 
 pub body-whole : (ps : Parts) (o : Option Tree) → o ≡ block_at (part_at ps (part_count ps - 1)) → items_at o ≡ body_items ps
 body-whole none o e = ap items_at e

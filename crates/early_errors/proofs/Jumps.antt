@@ -9,7 +9,7 @@ use Rattle.language.specs.FirstPart.{others}
 use Rattle.early_errors.specs.Around as around
 use Rattle.early_errors.specs.Around.{Around, is_loop, is_label, labels_loop, last_loop}
 use Rattle.early_errors.specs.Names.{Named}
-use Rattle.early_errors.specs.Labels.{is_bare, labels_statement, labels_a_loop}
+use Rattle.early_errors.specs.Labels.{labels_statement, labels_a_loop}
 use Rattle.early_errors.specs.Owns.{label_of, or_false, Knows, is_label_for, misses}
 use Rattle.early_errors.specs.Walk.{stands}
 
@@ -123,8 +123,3 @@ behind_one (gap (gap ps)) l = refl
 pub label_follows : (t : Tree) (n : ℕ) → n ≡ part_count (parts_of t) → 2 ≤ n → kind_of t ≡ LabeledStatement → labels_loop t ≡ last_loop (others (parts_of t))
 label_follows t n e l k =
     by_kind t ∙ ap (λ x. is_loop x || (is_label x && last_loop (parts_of t))) k ∙ behind_one (parts_of t) (subst (λ m. 2 ≤ m) e l)
-
-pub bare-at : (ps : Parts) → is_bare ps ≡ not (is_some (part_at ps 0))
-bare-at none = refl
-bare-at (part t ps) = refl
-bare-at (gap ps) = refl

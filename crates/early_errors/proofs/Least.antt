@@ -65,9 +65,6 @@ least-append (x ∷ xs) ys = ap (sooner (Some x)) (least-append xs ys) ∙ sym (
 pub after-append : (o : Option Error) (xs ys : List Error) → after o (xs ++ ys) ≡ after (after o xs) ys
 after-append o xs ys = ap (sooner o) (least-append xs ys) ∙ sym (sooner-twice o (least xs) (least ys))
 
-pub after-turns : (o : Option Error) (xs ys : List Error) → after (after o xs) ys ≡ after (after o ys) xs
-after-turns o xs ys = sooner-turns o (least xs) (least ys)
-
 -- an error twice counts once
 pub sooner-same : (o : Option Error) → sooner o o ≡ o
 sooner-same None = refl

@@ -1,5 +1,5 @@
 -- Flags of regular expressions, and the parts of a template.
-use Rattle.std.proofs.Common.{◌≡◌, ℕ, zero, suc, ◌+◌, ◌-◌, ◌<◌, ◌≤◌, Bool, true, false, not, cond, List, [], ◌∷◌, length, drop, take, get_or, Option, Some, None, is_some, option_map, refl, sym, ap, ◌∙◌, arith, add-one}
+use Rattle.std.proofs.Common.{◌≡◌, ℕ, zero, suc, ◌+◌, ◌-◌, ◌<◌, ◌≤◌, Bool, true, false, not, List, [], ◌∷◌, length, drop, take, get_or, Option, Some, None, is_some, option_map, refl, sym, ap, ◌∙◌, arith, add-one}
 use Rattle.std.specs.Prelude.{◌||◌, ◌&&◌, codes, ◌==◌}
 use Rattle.std.specs.List.{list_any}
 use Rattle.std.specs.Str.{chars}
@@ -9,29 +9,13 @@ use Rattle.tree.specs.declared.kind.Kind.{Kind}
 use Rattle.tree.specs.declared.kind.Kind.TheVariants.{TemplateElement}
 use Rattle.tree.specs.Tree.{Tree, Parts, none, part, gap, kind_of, text_of, part_at, part_count, parts_drop}
 use Rattle.early_errors.specs.Cooked.{cooks}
-use Rattle.early_errors.specs.Literals.{holds, flags_part, are_flags, some_uncooked, is_uncooked}
+use Rattle.early_errors.specs.Literals.{holds, are_flags, some_uncooked, is_uncooked}
 use Rattle.early_errors.specs.Owns.{is_element, uncooked_at}
 use Rattle.early_errors.proofs.Points.{points_are_chars}
 
 pub holds-any : (w : List ℕ) (c : ℕ) → list_any (λ d. d == c) w ≡ holds w c
 holds-any [] c = refl
 holds-any (d ∷ w) c = ap (λ b. (d == c) || b) (holds-any w c)
-
-pub dropped_all : (w : List ℕ) (i : ℕ) → length w ≤ i → drop i w ≡ []
-dropped_all [] zero l = refl
-dropped_all [] (suc i) l = refl
-dropped_all (c ∷ w) zero l = absurd (omega (arith, l))
-dropped_all (c ∷ w) (suc i) l = dropped_all w i (omega (arith, l))
-
-pub at-slash : (w : List ℕ) (start i : ℕ) → i < length w → (get_or w i 0 == 47) ≡ true → flags_part (drop (i + 1) w) (drop (i + 1) w) ≡ flags_part (drop start w) (drop i w)
-at-slash w start i l e =
-    let rest = drop (i + 1) w in
-    ap (λ b. flags_part (cond b rest (drop start w)) rest) (sym e) ∙ ap (flags_part (drop start w)) (sym (drop_more w i 0 l))
-
-pub at-other : (w : List ℕ) (start i : ℕ) → i < length w → (get_or w i 0 == 47) ≡ false → flags_part (drop start w) (drop (i + 1) w) ≡ flags_part (drop start w) (drop i w)
-at-other w start i l e =
-    let rest = drop (i + 1) w in
-    ap (λ b. flags_part (cond b rest (drop start w)) rest) (sym e) ∙ ap (flags_part (drop start w)) (sym (drop_more w i 0 l))
 
 flags-step : (w : List ℕ) (i : ℕ) → i < length w → are_flags (drop i w) ≡ (holds (codes "gimsuy") (get_or w i 0) && (not (holds (drop (i + 1) w) (get_or w i 0)) && are_flags (drop (i + 1) w)))
 flags-step w i l = ap are_flags (drop_more w i 0 l)
@@ -70,10 +54,6 @@ element : (k : Kind) (w : List ℕ) → is_element k ≡ true → is_uncooked k 
 element TemplateElement w e = refl
 element _ w e = absurd (cc)
 
-no-element : (k : Kind) (w : List ℕ) → is_element k ≡ false → is_uncooked k w ≡ false
-no-element TemplateElement w e = absurd (cc)
-no-element _ w e = refl
-
 pub element_cooks : {X : Type 0} (f : X → List ℕ) (t : Tree) (k : Kind) (w : List ℕ) (b c : Bool) (o : Option X) → k ≡ kind_of t → c ≡ is_element k → c ≡ true → w ≡ text_of t →
     option_map f o ≡ cooked_value (chars w) → is_some o ≡ not b → b ≡ uncooked_at (Some t)
 element_cooks {X} f t k w b c o e g h m n p =
@@ -86,6 +66,3 @@ element_cooks {X} f t k w b c o e g h m n p =
     twice_not : (b : Bool) → b ≡ not (not b)
     twice_not true = refl
     twice_not false = refl
-
-pub no_element : (t : Tree) (k : Kind) (c : Bool) → k ≡ kind_of t → c ≡ is_element k → c ≡ false → false ≡ uncooked_at (Some t)
-no_element t k c e g h = sym (no-element (kind_of t) (text_of t) (ap is_element (sym e) ∙ sym g ∙ h))

@@ -1,8 +1,7 @@
 -- Keys of members.
-use Rattle.std.proofs.Common.{◌≡◌, ℕ, suc, ◌+◌, ◌<◌, Bool, true, false, cond, List, [], ◌∷◌, length, drop, get_or, Option, refl, sym, ap, ◌∙◌}
-use Rattle.std.specs.Prelude.{◌&&◌, nat_eq}
+use Rattle.std.proofs.Common.{◌≡◌, ℕ, ◌+◌, ◌<◌, Bool, true, false, cond, List, [], ◌∷◌, Option, sym, ap, ◌∙◌}
+use Rattle.std.specs.Prelude.{◌&&◌}
 use Rattle.std.specs.Str.{bytes_eq, chars}
-use Rattle.std.proofs.lemmas.List.{drop_more}
 use Rattle.tree.specs.Tree.{Tree, Parts, none, part, gap, kind_of, text_of, part_at}
 use Rattle.language.specs.Statements.{is_string_literal}
 use Rattle.tokens.specs.Strings.{string_units}
@@ -17,19 +16,6 @@ plain_key t w v b e f g = ap (λ x. bytes_eq x v) (g ∙ ap (λ x. cond x (key_u
 pub quoted_key : (t : Tree) (u w v : List ℕ) (b : Bool) → b ≡ is_string_literal (kind_of t) (text_of t) → b ≡ true → w ≡ text_of t → u ≡ string_units (chars w) → bytes_eq u v ≡ bytes_eq (key_value t) v
 quoted_key t u w v b e f g h =
     ap (λ x. bytes_eq x v) (h ∙ ap string_units (ap chars g ∙ sym (points_are_chars (text_of t))) ∙ ap (λ x. cond x (key_units (text_of t)) (text_of t)) (sym f ∙ e))
-
-pub unequal_lengths : (u v : List ℕ) → (length u ≡ length v → ⊥) → false ≡ bytes_eq u v
-unequal_lengths [] [] h = absurd (h refl)
-unequal_lengths [] (d ∷ v) h = refl
-unequal_lengths (c ∷ u) [] h = refl
-unequal_lengths (c ∷ u) (d ∷ v) h = both (nat_eq c d) (unequal_lengths u v (λ e. h (ap suc e)))
-  where
-    both : (b : Bool) → false ≡ bytes_eq u v → false ≡ (b && bytes_eq u v)
-    both true e = e
-    both false e = refl
-
-pub word-step : (u v : List ℕ) (i : ℕ) → i < length u → i < length v → bytes_eq (drop i u) (drop i v) ≡ (nat_eq (get_or u i 0) (get_or v i 0) && bytes_eq (drop (i + 1) u) (drop (i + 1) v))
-word-step u v i l m = λ j. bytes_eq (drop_more u i 0 l j) (drop_more v i 0 m j)
 
 pub key-says : (ps : Parts) (p : Tree → Bool) (o : Option Tree) (w : List ℕ) → o ≡ part_at ps 0 → ((t : Tree) → p t ≡ bytes_eq (key_value t) w) → key_says o w ≡ has_key ps p
 key-says none p o w e h = ap (λ x. key_says x w) e

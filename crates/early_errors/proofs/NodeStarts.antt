@@ -8,7 +8,7 @@ use Rattle.language.specs.FirstPart.{others}
 use Rattle.language.specs.Vocabulary.{is}
 use Rattle.language.specs.Derivation.{Among, first, later}
 use Rattle.name_tables.specs.BoundNames.{each_part, bound_names, all_bound_names, first_bound_names, last_bound_names}
-use Rattle.early_errors.specs.Names.{Named, places, when, has_name, repeated, twice, shared, name_at, names_in, first_names, declared_names, own_vars, lexical_names, parameter_names, parameters_on, items_of, body_items}
+use Rattle.early_errors.specs.Names.{Named, places, when, has_name, repeated, twice, shared, name_at, names_in, first_names, declared_names, lexical_names, parameter_names, parameters_on, items_of, body_items}
 use Rattle.early_errors.specs.Starts.{starts, parts_starts}
 
 among_front : {A : Type 0} {x : A} (xs ys : List A) → Among x xs → Among x (xs ++ ys)
@@ -152,10 +152,6 @@ module _ (Q : ℕ → Type 0) where
 
   pub at_declared : (ps : Parts) → AllStarting ps → EachNamed (declared_names ps)
   at_declared ps h = named_each_part (λ n. first_names (parts_of n)) (λ n k. at_first (parts_of n) (starting_parts n k)) ps h
-
-  at_own_vars : (k : Kind) (w : List ℕ) (ps : Parts) → AllStarting ps → EachNamed (own_vars k w ps)
-  at_own_vars VariableDeclaration w ps h = named_cond (is w "var") (declared_names ps) [] (at_declared ps h) tt
-  at_own_vars _ w ps h = tt
 
   pub at_lexical : (b : Bool) (n : Tree) → Starting n → EachNamed (lexical_names b n)
   at_lexical b (node VariableDeclaration w g s e ps) h = named_cond (is w "var") [] (declared_names ps) tt (at_declared ps h.1)

@@ -18,7 +18,7 @@ use Rattle.early_errors.specs.Early.{Error, each, own_errors}
 use Rattle.early_errors.specs.Owns.{own_of, sort_of, doubled, plain_errors, named_errors, nameless, vars_of}
 use Rattle.early_errors.specs.Walk.{sooner, after, hits}
 use Rattle.early_errors.proofs.Least.{sooner-none, after-append}
-use Rattle.early_errors.proofs.OwnErrorsByKind.{small_given, names_of, named_plain, nameless_plain}
+use Rattle.early_errors.proofs.OwnErrorsByKind.{small_given, names_of, named_plain, nameless_plain, function_plain, is_function}
 
 no_hits : (f : List ℕ → Option Error) (o : Option Error) (vs : List Named) → vs ≡ [] → o ≡ sooner o (hits f vs)
 no_hits f o vs e = sym (sooner-none o) ∙ ap (λ v. sooner o (hits f v)) (sym e)
@@ -34,6 +34,12 @@ pub nameless_found : (z : Around) (t : Tree) (f : List ℕ → Option Error) (w 
 nameless_found z t f w o q e s x =
     let p = nameless_plain z t (ap sort_of (sym e) ∙ s) in
     x ∙ ap (λ v. after o (nameless v z t)) e ∙ ap (after o) p.0 ∙ no_hits f (after o (plain_errors z t)) (vars_of t) p.1
+
+pub function_found : (z : Around) (t : Tree) (f : List ℕ → Option Error) (w : OwnErrors) (o q : Option Error) → w ≡ own_of (kind_of t) → sort_of w ≡ sort.Parameters → q ≡ after o (own_errors z t) →
+    q ≡ sooner (after o (plain_errors z t)) (hits f (vars_of t))
+function_found z t f w o q e s x =
+    let p = function_plain z t (sym e ∙ is_function w s) in
+    x ∙ ap (after o) p.0 ∙ no_hits f (after o (plain_errors z t)) (vars_of t) p.1
 
 no_const : (w : List ℕ) → is w "var" ≡ true → is w "const" ≡ false
 no_const w e = ap (λ v. is v "const") ((bytes_eq-Decides w (codes "var")).0 e)

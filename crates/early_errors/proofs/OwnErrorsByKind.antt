@@ -4,7 +4,7 @@ use Rattle.std.specs.Prelude.{◌||◌, ◌&&◌}
 use Rattle.std.proofs.lemmas.Bool.{false≢true}
 use Rattle.tree.specs.declared.kind.Kind.{Kind}
 use Rattle.tree.specs.declared.kind.Kind.TheVariants.{CatchClause, ForInStatement, ForOfStatement, ClassDeclaration, ClassExpression, AssignmentExpression, UpdateExpression, VariableDeclaration, FunctionDeclaration, FunctionExpression, ArrowFunctionExpression, BreakStatement, ContinueStatement, LabeledStatement, UnaryExpression, MemberExpression, CallExpression, MetaProperty, ClassBody, MethodDefinition, TemplateLiteral, Literal}
-use Rattle.tree.specs.Tree.{Tree, node, Parts, kind_of, text_of, flags_of, start_of, stop_of, parts_of}
+use Rattle.tree.specs.Tree.{Tree, node, Parts, kind_of, text_of, flags_of, start_of, parts_of}
 use Rattle.language.specs.FirstPart.{lead}
 use Rattle.language.specs.Vocabulary.{is, is_identifier}
 use Rattle.early_errors.specs.declared.EarlyError.TheVariants.{EvalOrArguments, DuplicateLexicalName, ConstWithoutInitializer, DuplicateParameter, ParameterIsLexicalName, UseStrictBehindPattern, MisplacedJump, UndefinedLabel, DuplicateLabel, DeleteOfIdentifier, SuperPropertyOutsideMethod, SuperCallOutsideConstructor, NewTargetOutsideFunction, DuplicateConstructor, SpecialConstructor, StaticPrototype, UncookedTemplate, RegExpFlags}
@@ -24,10 +24,6 @@ use Rattle.early_errors.specs.Early.{Error, each, own_errors}
 use Rattle.early_errors.specs.Owns.{own_of, sort_of, plain_errors, named_errors, nameless, vars_of}
 use Rattle.early_errors.specs.declared.own.OwnErrorInput.{OwnErrorInput}
 use Rattle.early_errors.specs.declared.own.OwnErrorInput.TheVariants as sort
-
--- a node of a known kind
-pub at_kind : (t : Tree) (k : Kind) → kind_of t ≡ k → t ≡ node k (text_of t) (flags_of t) (start_of t) (stop_of t) (parts_of t)
-at_kind (node j w g s e ps) k h = ap (λ x. node x w g s e ps) h
 
 -- a function's
 abbrev pub names_of : Kind → Parts → List Error
@@ -96,6 +92,10 @@ abbrev is_declared : OwnErrorInput → Bool
 is_declared sort.Variables = true
 is_declared _ = false
 
+abbrev has_parameters : OwnErrorInput → Bool
+has_parameters sort.Parameters = true
+has_parameters _ = false
+
 abbrev is_named : OwnErrorInput → Bool
 is_named sort.Named = true
 is_named _ = false
@@ -107,6 +107,10 @@ is_nameless _ = false
 abbrev declares : OwnErrors → Bool
 declares own.Variables = true
 declares _ = false
+
+abbrev binds_parameters : OwnErrors → Bool
+binds_parameters own.Function = true
+binds_parameters _ = false
 
 abbrev has_first_names : OwnErrors → Bool
 has_first_names own.FirstNames = true
@@ -139,15 +143,28 @@ nameless_plain z (node BreakStatement w g s e ps) h = absurd (false≢true (ap i
 nameless_plain z (node ContinueStatement w g s e ps) h = absurd (false≢true (ap is_nameless h))
 nameless_plain z (node LabeledStatement w g s e ps) h = absurd (false≢true (ap is_nameless h))
 nameless_plain z (node VariableDeclaration w g s e ps) h = absurd (false≢true (ap is_nameless h))
+nameless_plain z (node FunctionDeclaration w g s e ps) h = absurd (false≢true (ap is_nameless h))
+nameless_plain z (node FunctionExpression w g s e ps) h = absurd (false≢true (ap is_nameless h))
+nameless_plain z (node ArrowFunctionExpression w g s e ps) h = absurd (false≢true (ap is_nameless h))
 nameless_plain z (node _ w g s e ps) h = (refl, refl)
 
 pub variables_plain : (z : Around) (t : Tree) → own_of (kind_of t) ≡ own.Variables → own_errors z t ≡ plain_errors z t
 variables_plain z (node VariableDeclaration w g s e ps) h = refl
 variables_plain z (node _ w g s e ps) h = absurd (false≢true (ap declares h))
 
+pub function_plain : (z : Around) (t : Tree) → own_of (kind_of t) ≡ own.Function → (own_errors z t ≡ plain_errors z t) × (vars_of t ≡ [])
+function_plain z (node FunctionDeclaration w g s e ps) h = (refl, refl)
+function_plain z (node FunctionExpression w g s e ps) h = (refl, refl)
+function_plain z (node ArrowFunctionExpression w g s e ps) h = (refl, refl)
+function_plain z (node _ w g s e ps) h = absurd (false≢true (ap binds_parameters h))
+
 pub is_variables : (o : OwnErrors) → sort_of o ≡ sort.Variables → o ≡ own.Variables
 is_variables own.Variables h = refl
 is_variables _ h = absurd (false≢true (ap is_declared h))
+
+pub is_function : (o : OwnErrors) → sort_of o ≡ sort.Parameters → o ≡ own.Function
+is_function own.Function h = refl
+is_function _ h = absurd (false≢true (ap has_parameters h))
 
 pub first_names_given : (t : Tree) → own_of (kind_of t) ≡ own.FirstNames → names_given (kind_of t) (parts_of t) ≡ first_names (parts_of t)
 first_names_given (node CatchClause w g s e ps) h = refl

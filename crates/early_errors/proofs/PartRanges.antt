@@ -28,10 +28,6 @@ module _ {B : Type 0} where
   pub ranged-behind : (f g : ℕ → List B) → ((i : ℕ) → f (suc i) ≡ g (suc i)) → (i n : ℕ) → ranged f (suc i) n ≡ ranged g (suc i) n
   ranged-behind f g h i n = ranged-shift f (λ k. g (suc k)) h i n ∙ sym (ranged-shift g (λ k. g (suc k)) (λ k. refl) i n)
 
-  ranged-nothing : (f : ℕ → List B) (m : ℕ) → ((i : ℕ) → m ≤ i → f i ≡ []) → (i : ℕ) → m ≤ i → (n : ℕ) → ranged f i n ≡ []
-  ranged-nothing f m h i l zero = refl
-  ranged-nothing f m h i l (suc n) = (λ j. h i l j ++ ranged-nothing f m h (suc i) (omega (arith, l)) n j)
-
   split_from : (f : ℕ → List B) (n : ℕ) → ((i : ℕ) → n ≤ i → f i ≡ []) → (i m : ℕ) → ranged f i m ++ ranged f (i + m) (n - (i + m)) ≡ ranged f i (n - i)
   split_from f n h i zero =
       let e : i + 0 ≡ i = omega arith in

@@ -54,11 +54,15 @@ inner ns vs =
     least-append (each error.DuplicateLexicalName (places (twice ns ++ []))) (each error.LexicalNameIsVar (places (shared ns vs)) ++ [])
     ∙ (λ i. sooner (least (each error.DuplicateLexicalName (places (append-nil (twice ns) i)))) (least (append-nil (each error.LexicalNameIsVar (places (shared ns vs))) i)))
 
-block : (b : Bool) (ps : Parts) (vs : List Named) → let ns = each_part (lexical_names (not b)) ps in
-    least (each error.DuplicateLexicalName (places (twice ns ++ [])) ++ (each error.LexicalNameIsVar (places (shared ns (cond b (each_part function_names ps) [] ++ vs))) ++ []))
-    ≡ sooner (least (found_of_scope scope.Block b ps ns)) (least (clash_with error.LexicalNameIsVar ns vs))
-block true ps vs = top (each_part (lexical_names false) ps) (each_part function_names ps) vs
-block false ps vs = inner (each_part (lexical_names true) ps) vs
+block : (b : Bool) (ps : Parts) → let k = scope_kind BlockStatement b in let ns = each_part (lexical_names (not b)) ps in let ms = names_of_scope k ps in
+    least (each error.DuplicateLexicalName (places (twice ns ++ [])) ++ (each error.LexicalNameIsVar (places (shared ns (cond b (each_part function_names ps) [] ++ parts_vars ps))) ++ []))
+    ≡ sooner (least (found_of_scope k ps ms)) (least (clash_with (scope_error k) ms (range_vars ps (place_of_scope k ps) (part_count ps - place_of_scope k ps))))
+block true ps =
+    let ns = each_part (lexical_names false) ps in
+    top ns (each_part function_names ps) (parts_vars ps) ∙ ap (λ vs. sooner (least (found_of_scope scope.TopLevel ps ns)) (least (clash_with error.LexicalNameIsVar ns vs))) (sym (vars_drop ps 0))
+block false ps =
+    let ns = each_part (lexical_names true) ps in
+    inner ns (parts_vars ps) ∙ ap (λ vs. sooner (least (found_of_scope scope.Block ps ns)) (least (clash_with error.LexicalNameIsVar ns vs))) (sym (vars_drop ps 0))
 
 catch : (es : List Error) (ns bs vs : List Named) →
     least (es ++ (each error.CatchParameterConflict (places (twice ns ++ shared ns (bs ++ vs))) ++ []))
@@ -135,8 +139,8 @@ body-vars ps = ap parts_vars (sym (body-whole ps (block_at (part_at ps (part_cou
 
 module _ (z : Around) where
   abbrev Split : Tree → Type 0
-  Split t = let k = scope_kind (kind_of t) in let ps = parts_of t in let ns = names_of_scope k z.is_body ps in
-      least (own_errors z t) ≡ sooner (least (plain_errors z t)) (sooner (least (found_of_scope k z.is_body ps ns)) (least (clash_with (scope_error k) ns (range_vars ps (place_of_scope k ps) (part_count ps - place_of_scope k ps)))))
+  Split t = let k = scope_kind (kind_of t) z.is_body in let ps = parts_of t in let ns = names_of_scope k ps in
+      least (own_errors z t) ≡ sooner (least (plain_errors z t)) (sooner (least (found_of_scope k ps ns)) (least (clash_with (scope_error k) ns (range_vars ps (place_of_scope k ps) (part_count ps - place_of_scope k ps)))))
 
   pub scope-split : (t : Tree) → inside_of (kind_of t) (flags_of t).form ≡ inside.Scope → Split t
   unfolding own_errors duplicate_lexical_name lexical_name_is_var const_without_initializer catch_parameter_conflict for_name_is_var duplicate_parameter parameter_is_lexical_name use_strict_after_pattern eval_or_arguments delete_of_identifier misplaced_jump undefined_label duplicate_label super_property_outside_method super_call_outside_constructor new_target_outside_function duplicate_constructor special_constructor static_prototype uncooked_template reg_exp_flags
@@ -144,9 +148,7 @@ module _ (z : Around) where
       let ns = each_part (lexical_names false) ps in
       top ns (each_part function_names ps) (parts_vars ps)
       ∙ ap (λ vs. sooner (least (doubled error.DuplicateLexicalName ns ++ clash_with error.LexicalNameIsVar ns (each_part function_names ps))) (least (clash_with error.LexicalNameIsVar ns vs))) (sym (vars_drop ps 0))
-  scope-split (node BlockStatement w g s e ps) h =
-      let ns = each_part (lexical_names (not z.is_body)) ps in
-      block z.is_body ps (parts_vars ps) ∙ ap (λ vs. sooner (least (found_of_scope scope.Block z.is_body ps ns)) (least (clash_with error.LexicalNameIsVar ns vs))) (sym (vars_drop ps 0))
+  scope-split (node BlockStatement w g s e ps) h = block z.is_body ps
   scope-split (node SwitchStatement w g s e ps) h =
       inner (each_part case_names (others ps)) (parts_vars (others ps))
       ∙ (λ i. sooner (least (doubled error.DuplicateLexicalName (each_part case_names (others-drop ps i)))) (least (clash_with error.LexicalNameIsVar (each_part case_names (others-drop ps i)) ((ap parts_vars (others-drop ps) ∙ sym (vars_drop ps 1)) i))))
@@ -172,11 +174,11 @@ module _ (z : Around) where
 
   -- by what a walk has of the scope
   pub split_given : (t : Tree) (k : ScopeKind) (ns : List Named) (e : EarlyError) (m n : ℕ) → inside_of (kind_of t) (flags_of t).form ≡ inside.Scope →
-      k ≡ scope_kind (kind_of t) → ns ≡ names_of_scope k z.is_body (parts_of t) → e ≡ scope_error k → m ≡ place_of_scope k (parts_of t) → n ≡ part_count (parts_of t) →
-      least (own_errors z t) ≡ sooner (least (plain_errors z t)) (sooner (least (found_of_scope k z.is_body (parts_of t) ns)) (least (clash_with e ns (range_vars (parts_of t) m (n - m)))))
+      k ≡ scope_kind (kind_of t) z.is_body → ns ≡ names_of_scope k (parts_of t) → e ≡ scope_error k → m ≡ place_of_scope k (parts_of t) → n ≡ part_count (parts_of t) →
+      least (own_errors z t) ≡ sooner (least (plain_errors z t)) (sooner (least (found_of_scope k (parts_of t) ns)) (least (clash_with e ns (range_vars (parts_of t) m (n - m)))))
   split_given t k ns e m n h a b c d g =
-      let names = b ∙ ap (λ j. names_of_scope j z.is_body (parts_of t)) a in
+      let names = b ∙ ap (λ j. names_of_scope j (parts_of t)) a in
       let code = c ∙ ap scope_error a in
       let place = d ∙ ap (λ j. place_of_scope j (parts_of t)) a in
       scope-split t h
-      ∙ sym (λ i. sooner (least (plain_errors z t)) (sooner (least (found_of_scope (a i) z.is_body (parts_of t) (names i))) (least (clash_with (code i) (names i) (range_vars (parts_of t) (place i) (g i - place i))))))
+      ∙ sym (λ i. sooner (least (plain_errors z t)) (sooner (least (found_of_scope (a i) (parts_of t) (names i))) (least (clash_with (code i) (names i) (range_vars (parts_of t) (place i) (g i - place i))))))

@@ -1,5 +1,5 @@
 -- Leaves that have no errors.
-use Rattle.std.proofs.Common.{◌≡◌, ℕ, Bool, true, false, not, [], ◌∷◌, List, Option, Some, None, refl, sym, ap, ◌∙◌, append-nil}
+use Rattle.std.proofs.Common.{◌≡◌, ℕ, Bool, true, false, not, [], ◌∷◌, List, Option, None, refl, sym, ap, ◌∙◌, append-nil}
 use Rattle.std.specs.Prelude.{◌||◌}
 use Rattle.std.specs.Bool.{OnTrue}
 use Rattle.std.proofs.lemmas.Bool.{false≢true}
@@ -15,9 +15,8 @@ use Rattle.early_errors.specs.Labels.{misplaced_jump, undefined_label, duplicate
 use Rattle.early_errors.specs.Classes.{super_property_outside_method, super_call_outside_constructor, new_target_outside_function, duplicate_constructor, special_constructor, static_prototype}
 use Rattle.early_errors.specs.Literals.{are_flags, flags_part, uncooked_template, reg_exp_flags}
 use Rattle.early_errors.specs.Early.{Error, each, own_errors, errors_within}
-use Rattle.name_tables.specs.PatternParts.{at_part}
 use Rattle.early_errors.specs.Walk.{after, hits, sooner}
-use Rattle.early_errors.specs.Walks.{IsQuiet, IsSilent, is_quiet}
+use Rattle.early_errors.specs.Walks.{IsQuiet, is_quiet}
 use Rattle.early_errors.proofs.Least.{sooner-none}
 use Rattle.early_errors.proofs.OwnErrorsByKind.{small_by_kind}
 use Rattle.early_errors.proofs.PartRanges.{errors_whole}
@@ -45,12 +44,6 @@ quiet_leaf t n h c e =
 pub quiet_given : (b : Bool) (t : Tree) (n : ℕ) → b ≡ is_quiet (kind_of t) (text_of t) → n ≡ part_count (parts_of t) → n ≡ 0 → OnTrue b (IsQuiet t)
 quiet_given true t n h c e = quiet_leaf t n (sym h) c e
 quiet_given false t n h c e = tt
-
-pub missing_part : (o : Option Tree) → None ≡ o → IsSilent o
-missing_part o e = (λ z. ap (at_part (errors_within z)) (sym e), ap (at_part var_names) (sym e))
-
-pub quiet_part : (o : Option Tree) (t : Tree) → Some t ≡ o → IsQuiet t → IsSilent o
-quiet_part o t e q = (λ z. ap (at_part (errors_within z)) (sym e) ∙ q.0 z, ap (at_part var_names) (sym e) ∙ q.1)
 
 -- what is found behind a quiet node is what was found before
 pub quiet_found : (f : List ℕ → Option Error) (z : Around) (t : Tree) (q r : Option Error) → IsQuiet t → r ≡ q → r ≡ sooner (after q (errors_within z t)) (hits f (var_names t))

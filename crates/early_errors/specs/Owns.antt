@@ -147,29 +147,30 @@ says_use_strict (Some t) = among (text_of t) ("'use strict'" ∷ "\"use strict\"
 
 -- ---- scopes
 
-abbrev pub scope_kind : Kind → ScopeKind
-scope_kind kind.Program = scope.Program
-scope_kind kind.BlockStatement = scope.Block
-scope_kind kind.SwitchStatement = scope.Switch
-scope_kind kind.CatchClause = scope.Catch
-scope_kind kind.ForStatement = scope.For
-scope_kind kind.ForInStatement = scope.ForEach
-scope_kind kind.ForOfStatement = scope.ForEach
-scope_kind _ = scope.Nothing
+-- the flag says whether the node is a function's body
+abbrev pub scope_kind : Kind → Bool → ScopeKind
+scope_kind kind.Program b = scope.TopLevel
+scope_kind kind.BlockStatement b = cond b scope.TopLevel scope.Block
+scope_kind kind.SwitchStatement b = scope.Switch
+scope_kind kind.CatchClause b = scope.Catch
+scope_kind kind.ForStatement b = scope.For
+scope_kind kind.ForInStatement b = scope.ForEach
+scope_kind kind.ForOfStatement b = scope.ForEach
+scope_kind _ b = scope.Nothing
 
 -- the lexical names of a switch's case
 abbrev pub case_names : Tree → List Named
 case_names tree = each_part (lexical_names true) (others (parts_of tree))
 
--- the names that clash with `var`s inside; the flag says whether the node is a function's body
-abbrev pub names_of_scope : ScopeKind → Bool → Parts → List Named
-names_of_scope scope.Program b parts = each_part (lexical_names false) parts
-names_of_scope scope.Block b parts = each_part (lexical_names (not b)) parts
-names_of_scope scope.Switch b parts = each_part case_names (parts_drop 1 parts)
-names_of_scope scope.Catch b parts = names_at (part_at parts 0)
-names_of_scope scope.For b parts = at_part (lexical_names false) (part_at parts 0)
-names_of_scope scope.ForEach b parts = at_part (lexical_names false) (part_at parts 0)
-names_of_scope scope.Nothing b parts = []
+-- the names that clash with `var`s inside
+abbrev pub names_of_scope : ScopeKind → Parts → List Named
+names_of_scope scope.TopLevel parts = each_part (lexical_names false) parts
+names_of_scope scope.Block parts = each_part (lexical_names true) parts
+names_of_scope scope.Switch parts = each_part case_names (parts_drop 1 parts)
+names_of_scope scope.Catch parts = names_at (part_at parts 0)
+names_of_scope scope.For parts = at_part (lexical_names false) (part_at parts 0)
+names_of_scope scope.ForEach parts = at_part (lexical_names false) (part_at parts 0)
+names_of_scope scope.Nothing parts = []
 
 -- the error of a name that clashes so
 abbrev pub scope_error : ScopeKind → EarlyError
@@ -200,13 +201,12 @@ abbrev pub clash_with : EarlyError → List Named → List Named → List Error
 clash_with e ns vs = each e (places (shared ns vs))
 
 -- the errors of these names that aren't about `var`s inside
-abbrev pub found_of_scope : ScopeKind → Bool → Parts → List Named → List Error
-found_of_scope scope.Program b parts ns = doubled error.DuplicateLexicalName ns ++ clash_with error.LexicalNameIsVar ns (each_part function_names parts)
-found_of_scope scope.Block true parts ns = doubled error.DuplicateLexicalName ns ++ clash_with error.LexicalNameIsVar ns (each_part function_names parts)
-found_of_scope scope.Block false parts ns = doubled error.DuplicateLexicalName ns
-found_of_scope scope.Switch b parts ns = doubled error.DuplicateLexicalName ns
-found_of_scope scope.Catch b parts ns = doubled error.CatchParameterConflict ns ++ clash_with error.CatchParameterConflict ns (each_part (lexical_names true) (body_items parts))
-found_of_scope _ b parts ns = []
+abbrev pub found_of_scope : ScopeKind → Parts → List Named → List Error
+found_of_scope scope.TopLevel parts ns = doubled error.DuplicateLexicalName ns ++ clash_with error.LexicalNameIsVar ns (each_part function_names parts)
+found_of_scope scope.Block parts ns = doubled error.DuplicateLexicalName ns
+found_of_scope scope.Switch parts ns = doubled error.DuplicateLexicalName ns
+found_of_scope scope.Catch parts ns = doubled error.CatchParameterConflict ns ++ clash_with error.CatchParameterConflict ns (each_part (lexical_names true) (body_items parts))
+found_of_scope _ parts ns = []
 
 -- ---- a node's own errors, by what it is
 
@@ -214,9 +214,10 @@ found_of_scope _ b parts ns = []
 abbrev pub vars_of : Tree → List Named
 vars_of tree = own_vars (kind_of tree) (text_of tree) (parts_of tree)
 
--- those of nodes whose first part's names don't matter
+-- those of nodes whose names don't matter
 abbrev pub nameless : OwnErrors → Around → Tree → List Error
 nameless Variables z tree = []
+nameless Function z tree = []
 nameless FirstNames z tree = []
 nameless Break z tree = []
 nameless Continue z tree = []
@@ -234,6 +235,7 @@ named_errors _ z tree = []
 
 abbrev pub sort_of : OwnErrors → OwnErrorInput
 sort_of Variables = sort.Variables
+sort_of Function = sort.Parameters
 sort_of FirstNames = sort.Named
 sort_of Break = sort.Named
 sort_of Continue = sort.Named

@@ -4,14 +4,14 @@ use Rattle.std.specs.BTreeMap.{get_by}
 use Rattle.std.specs.Cmp.Lexicographic.{slice_cmp}
 use Rattle.std.specs.Ordering.{nat_cmp}
 use Rattle.std.specs.Str.{bytes_eq}
-use Rattle.tree.specs.Tree.{Tree, parts_of}
+use Rattle.tree.specs.Tree.{Tree}
 use Rattle.name_tables.specs.declared.bound.BoundName.{BoundName}
 use Rattle.name_tables.specs.PatternParts.{Bound, at_part, bound}
 use Rattle.name_tables.specs.Tables.{undone_by, value_of}
 use Rattle.early_errors.specs.declared.EarlyError.{EarlyError}
 use Rattle.name_tables.specs.declared.declared.DeclaratorAs.{DeclaratorAs}
 use Rattle.name_tables.specs.declared.declared.LexicalAs.{LexicalAs}
-use Rattle.early_errors.specs.Names.{names_in, first_names}
+use Rattle.early_errors.specs.Names.{names_in}
 use Rattle.early_errors.specs.declared.table.Table.{Table}
 use Rattle.early_errors.specs.declared.conflicts.Saved.{Saved}
 use Rattle.early_errors.specs.Names as names
@@ -57,10 +57,6 @@ names_at o = at_part names_in o
 abbrev pub listed : Option ℕ → List ℕ
 listed None = []
 listed (Some p) = p ∷ []
-
--- the names of a declarator
-abbrev pub declared_by : Tree → List names.Named
-declared_by tree = first_names (parts_of tree)
 
 -- a name stands for something
 abbrev pub stands : {V : Type 0} → (List ℕ → Option V) → names.Named → Bool

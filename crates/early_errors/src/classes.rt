@@ -137,7 +137,7 @@ fn key_is(alloc: Global, key: Node, word: &str) -> Result<bool, AllocError>
         return Ok(key.text() == word);
     }
     let units = quoted_units(alloc, key.text())?;
-    Ok(is_word(units.as_slice(), word.as_bytes()))
+    Ok(same_units(units.as_slice(), word.as_bytes()))
 }
 
 /// Whether a node is a string.
@@ -151,7 +151,7 @@ fn is_quoted(node: Node) -> bool
 }
 
 /// Whether units are those of a word.
-fn is_word(units: &[u16], word: &[u8]) -> bool
+fn same_units(units: &[u16], word: &[u8]) -> bool
     ensures { result ≡ bytes_eq units.now word.now }
 {
     if units.len() != word.len() {

@@ -112,7 +112,7 @@ fn is_simple(node: Node, from: usize) -> bool
         return true;
     }
     for index in from..count - 1 {
-        if !is_plain(node.part(index)) {
+        if !is_simple_parameter(node.part(index)) {
             return false;
         }
     }
@@ -120,7 +120,7 @@ fn is_simple(node: Node, from: usize) -> bool
 }
 
 /// Whether a parameter, where it is there, is a name.
-fn is_plain(parameter: Option<Node>) -> bool
+fn is_simple_parameter(parameter: Option<Node>) -> bool
     ensures { result ≡ is_plain (option_map node_tree parameter.entry) }
 {
     match parameter {

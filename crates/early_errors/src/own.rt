@@ -76,60 +76,67 @@ fn own_of(kind: Kind) -> OwnErrors
     }
 }
 
+/// What stands round a node: what holds there, what a `var` of a name would clash with, and labels.
+#[derive(Clone, Copy)]
+pub(crate) struct Surroundings<'w, 't> {
+    pub(crate) around: Context,
+    pub(crate) vars: &'w VarConflicts<'t>,
+    pub(crate) labels: &'w Labels<'t>,
+}
+
 /// The errors of a node itself and of its `var`s, with room for names.
 pub(crate) fn own_errors<'t>(
     alloc: Global,
     node: Node<'t, '_>,
-    around: Context,
-    vars: &VarConflicts,
-    labels: &Labels,
+    surroundings: Surroundings,
     names: &mut Vec<NamePlace<'t>>,
     found: FirstError,
 ) -> Result<FirstError, AllocError>
-    ensures { IfOk result (λ r. (ls : _) → Knows (look labels.now) ls → r ≡ sooner (after found (plain_errors (round around ls) (node_tree node.entry))) (hits (look vars.now) (vars_of (node_tree node.entry)))) }
+    ensures { IfOk result (λ r. (ls : _) → Knows (look surroundings.entry.labels.now) ls → r ≡ sooner (after found (plain_errors (round surroundings.entry.around ls) (node_tree node.entry))) (hits (look surroundings.entry.vars.now) (vars_of (node_tree node.entry)))) }
 {
     let own = own_of(node.kind());
     match sort_of(own) {
-        OwnErrorInput::Variables => variable_errors(alloc, node, around, vars, names, found),
-        OwnErrorInput::Named => first_name_errors(node, own, around, labels, names, found),
-        OwnErrorInput::Nameless => nameless_errors(alloc, node, own, around, names, found),
+        OwnErrorInput::Variables => variable_errors(alloc, node, surroundings, names, found),
+        OwnErrorInput::Parameters => function_errors(alloc, node, names, found),
+        OwnErrorInput::Named => first_name_errors(node, own, surroundings, names, found),
+        OwnErrorInput::Nameless => nameless_errors(alloc, node, own, surroundings.around, found),
     }
 }
 
-/// Whether the names of a node's first part matter, or those of declarators.
+/// Which names a node's own errors depend on: those of declarators, of parameters, of the first part, or none.
 #[derive(Clone, Copy)]
 pub(crate) enum OwnErrorInput {
     Variables,
+    Parameters,
     Named,
     Nameless,
 }
 
-/// Whether these errors depend on names: those of declarators, those of the first part, or none.
+/// Which names these errors depend on.
 fn sort_of(own: OwnErrors) -> OwnErrorInput
     ensures { result ≡ sort_of own }
 {
     match own {
         OwnErrors::Variables => OwnErrorInput::Variables,
+        OwnErrors::Function => OwnErrorInput::Parameters,
         OwnErrors::FirstNames | OwnErrors::Break | OwnErrors::Continue | OwnErrors::Label =>
             OwnErrorInput::Named,
         _ => OwnErrorInput::Nameless,
     }
 }
 
-/// The errors of a node whose first part's names don't matter.
-fn nameless_errors<'t>(
+/// The errors of a node whose names don't matter.
+fn nameless_errors(
     alloc: Global,
-    node: Node<'t, '_>,
+    node: Node,
     own: OwnErrors,
     around: Context,
-    names: &mut Vec<NamePlace<'t>>,
     found: FirstError,
 ) -> Result<FirstError, AllocError>
     requires { own ≡ own_of (kind_of (node_tree node)) }
     ensures { IfOk result (λ r. (ls : _) → r ≡ after found (nameless own (round around ls) (node_tree node.entry))) }
 {
     match own {
-        OwnErrors::Function => function_errors(alloc, node, names, found),
         OwnErrors::Member => member_errors(alloc, node, found),
         OwnErrors::Template => template_errors(alloc, node, around, found),
         OwnErrors::Delete => Ok(delete_errors(node, found)),
@@ -156,39 +163,37 @@ fn nameless_errors<'t>(
 fn variable_errors<'t>(
     alloc: Global,
     node: Node<'t, '_>,
-    around: Context,
-    vars: &VarConflicts,
+    surroundings: Surroundings,
     names: &mut Vec<NamePlace<'t>>,
     found: FirstError,
 ) -> Result<FirstError, AllocError>
     requires { own_of (kind_of (node_tree node)) ≡ OwnErrors.Variables }
-    ensures { IfOk result (λ r. (ls : _) → r ≡ sooner (after found (own_errors (round around ls) (node_tree node.entry))) (hits (look vars.now) (vars_of (node_tree node.entry)))) }
+    ensures { IfOk result (λ r. (ls : _) → r ≡ sooner (after found (own_errors (round surroundings.entry.around ls) (node_tree node.entry))) (hits (look surroundings.entry.vars.now) (vars_of (node_tree node.entry)))) }
 {
     names.clear();
     push_declared(node, names)?;
     let declared = names.as_slice();
     let found = restricted(declared, found);
-    declared_errors(alloc, node, around.in_head, vars, declared, found)
+    declared_errors(alloc, node, surroundings, declared, found)
 }
 
 /// The errors of a declaration of these names.
 fn declared_errors(
     alloc: Global,
     node: Node,
-    in_head: bool,
-    vars: &VarConflicts,
+    surroundings: Surroundings,
     names: &[NamePlace],
     found: FirstError,
 ) -> Result<FirstError, AllocError>
-    ensures var { IfOk result (λ r. is (text_of (node_tree node.entry)) "var" ≡ true → r ≡ sooner found (hits (look vars.now) (all_named names.now))) }
-    ensures lexical { IfOk result (λ r. is (text_of (node_tree node.entry)) "var" ≡ false → r ≡ after (after found (doubled EarlyError.DuplicateLexicalName (all_named names.now))) (each EarlyError.ConstWithoutInitializer (when (is (text_of (node_tree node.entry)) "const" && not in_head) (each_part without_initializer (parts_of (node_tree node.entry)))))) }
+    ensures var { IfOk result (λ r. is (text_of (node_tree node.entry)) "var" ≡ true → r ≡ sooner found (hits (look surroundings.entry.vars.now) (all_named names.now))) }
+    ensures lexical { IfOk result (λ r. is (text_of (node_tree node.entry)) "var" ≡ false → r ≡ after (after found (doubled EarlyError.DuplicateLexicalName (all_named names.now))) (each EarlyError.ConstWithoutInitializer (when (is (text_of (node_tree node.entry)) "const" && not surroundings.entry.around.in_head) (each_part without_initializer (parts_of (node_tree node.entry)))))) }
 {
     let word = node.text();
     if word == "var" {
-        return Ok(hits(vars, names, found));
+        return Ok(hits(surroundings.vars, names, found));
     }
     let found = repeated(alloc, names, EarlyError::DuplicateLexicalName, found)?;
-    if both(word == "const", !in_head) {
+    if both(word == "const", !surroundings.around.in_head) {
         return Ok(without_initializer(node, found));
     }
     Ok(found)
@@ -198,32 +203,32 @@ fn declared_errors(
 fn first_name_errors<'t>(
     node: Node<'t, '_>,
     own: OwnErrors,
-    around: Context,
-    labels: &Labels,
+    surroundings: Surroundings,
     names: &mut Vec<NamePlace<'t>>,
     found: FirstError,
 ) -> Result<FirstError, AllocError>
     requires { own ≡ own_of (kind_of (node_tree node)) }
-    ensures { IfOk result (λ r. (ls : _) → Knows (look labels.now) ls → r ≡ after found (named_errors own (round around ls) (node_tree node.entry))) }
+    ensures { IfOk result (λ r. (ls : _) → Knows (look surroundings.entry.labels.now) ls → r ≡ after found (named_errors own (round surroundings.entry.around ls) (node_tree node.entry))) }
 {
     names.clear();
     push_part_names(node.part(0), names)?;
-    Ok(named_found(node, own, around, labels, names.as_slice(), found))
+    Ok(named_found(node, own, surroundings, names.as_slice(), found))
 }
 
 /// The errors of these names.
 fn named_found(
     node: Node,
     own: OwnErrors,
-    around: Context,
-    labels: &Labels,
+    surroundings: Surroundings,
     names: &[NamePlace],
     found: FirstError,
 ) -> FirstError
     requires own { own ≡ own_of (kind_of (node_tree node)) }
     requires names { all_named names.now ≡ first_names (parts_of (node_tree node)) }
-    ensures { (ls : _) → Knows (look labels.now) ls → result ≡ after found (named_errors own (round around ls) (node_tree node.entry)) }
+    ensures { (ls : _) → Knows (look surroundings.entry.labels.now) ls → result ≡ after found (named_errors own (round surroundings.entry.around ls) (node_tree node.entry)) }
 {
+    let around = surroundings.around;
+    let labels = surroundings.labels;
     match own {
         OwnErrors::Break => break_errors(node, around, labels, names, found),
         OwnErrors::Continue => continue_errors(node, around, labels, names, found),

@@ -22,7 +22,8 @@ use tree::{Kind, Node};
 /// What makes a scope.
 #[derive(Clone, Copy)]
 pub(crate) enum ScopeKind {
-    Program,
+    /// A Program, or the body of a function: functions are var names there (ECMA-262 13.2.7).
+    TopLevel,
     Block,
     Switch,
     Catch,
@@ -31,13 +32,19 @@ pub(crate) enum ScopeKind {
     Nothing,
 }
 
-/// The scope that a node of this kind makes, for names that clash.
-pub(crate) fn scope_kind(kind: Kind) -> ScopeKind
-    ensures { result ≡ scope_kind kind }
+/// The scope that a node of this kind makes, for names that clash; `is_body`: a block is the body of a function.
+pub(crate) fn scope_kind(kind: Kind, is_body: bool) -> ScopeKind
+    ensures { result ≡ scope_kind kind is_body }
 {
     match kind {
-        Kind::Program => ScopeKind::Program,
-        Kind::BlockStatement => ScopeKind::Block,
+        Kind::Program => ScopeKind::TopLevel,
+        Kind::BlockStatement => {
+            if is_body {
+                ScopeKind::TopLevel
+            } else {
+                ScopeKind::Block
+            }
+        }
         Kind::SwitchStatement => ScopeKind::Switch,
         Kind::CatchClause => ScopeKind::Catch,
         Kind::ForStatement => ScopeKind::For,
@@ -50,14 +57,13 @@ pub(crate) fn scope_kind(kind: Kind) -> ScopeKind
 pub(crate) fn push_scope<'t>(
     kind: ScopeKind,
     node: Node<'t, '_>,
-    is_body: bool,
     names: &mut Vec<NamePlace<'t>>,
 ) -> Result<(), AllocError>
-    ensures { OnOk result (all_named names.new.items ≡ all_named names.old.items ++ names_of_scope kind is_body (parts_of (node_tree node.entry))) }
+    ensures { OnOk result (all_named names.new.items ≡ all_named names.old.items ++ names_of_scope kind (parts_of (node_tree node.entry))) }
 {
     match kind {
-        ScopeKind::Program => push_lexical_parts(false, node, names),
-        ScopeKind::Block => push_lexical_parts(!is_body, node, names),
+        ScopeKind::TopLevel => push_lexical_parts(false, node, names),
+        ScopeKind::Block => push_lexical_parts(true, node, names),
         ScopeKind::Switch => push_cases(node, names),
         ScopeKind::Catch => push_part_names(node.part(0), names),
         ScopeKind::For | ScopeKind::ForEach => push_lexical_part(false, node.part(0), names),
@@ -130,22 +136,16 @@ pub(crate) fn scope_errors(
     alloc: Global,
     kind: ScopeKind,
     node: Node,
-    is_body: bool,
     names: &[NamePlace],
     found: FirstError,
 ) -> Result<FirstError, AllocError>
-    ensures { IfOk result (λ r. r ≡ after found (found_of_scope kind is_body (parts_of (node_tree node.entry)) (all_named names.now))) }
+    ensures { IfOk result (λ r. r ≡ after found (found_of_scope kind (parts_of (node_tree node.entry)) (all_named names.now))) }
 {
     match kind {
-        ScopeKind::Program => top_errors(alloc, node, names, found),
-        ScopeKind::Block => {
-            if is_body {
-                top_errors(alloc, node, names, found)
-            } else {
-                repeated(alloc, names, EarlyError::DuplicateLexicalName, found)
-            }
+        ScopeKind::TopLevel => top_errors(alloc, node, names, found),
+        ScopeKind::Block | ScopeKind::Switch => {
+            repeated(alloc, names, EarlyError::DuplicateLexicalName, found)
         }
-        ScopeKind::Switch => repeated(alloc, names, EarlyError::DuplicateLexicalName, found),
         ScopeKind::Catch => catch_errors(alloc, node, names, found),
         _ => Ok(found),
     }

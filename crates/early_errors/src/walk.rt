@@ -17,7 +17,7 @@ use crate::found::FirstError;
 use crate::labels::{Labels, is_true, known_loop, label_is_loop};
 use crate::literals::either;
 use crate::names::NamePlace;
-use crate::own::own_errors;
+use crate::own::{Surroundings, own_errors};
 use crate::scopes::{place_of_scope, push_scope, scope_error, scope_errors, scope_kind};
 use crate::skipping::{ErrorPlaces, error_places};
 use crate::table::Table;
@@ -163,15 +163,12 @@ fn walk_special<'t>(
     ensures vars { OnOk result (Agree (look walk.new.vars) (look walk.old.vars)) }
     ensures labels { OnOk result (Agree (look walk.new.labels) (look walk.old.labels)) }
 {
-    walk.found = own_errors(
-        walk.alloc,
-        node,
+    let surroundings = Surroundings {
         around,
-        &walk.vars,
-        &walk.labels,
-        &mut walk.names,
-        walk.found,
-    )?;
+        vars: &walk.vars,
+        labels: &walk.labels,
+    };
+    walk.found = own_errors(walk.alloc, node, surroundings, &mut walk.names, walk.found)?;
     match inside_of(node.kind(), node.flags().form) {
         WalkKind::Function => walk_function(node, around, walk),
         WalkKind::Method => walk_method(node, around, walk),
@@ -324,10 +321,10 @@ fn walk_in_scope<'t>(
     ensures vars { OnOk result (Agree (look walk.new.vars) (look walk.old.vars)) }
     ensures labels { OnOk result (Agree (look walk.new.labels) (look walk.old.labels)) }
 {
-    let kind = scope_kind(node.kind());
-    push_scope(kind, node, around.is_body, names)?;
+    let kind = scope_kind(node.kind(), around.is_body);
+    push_scope(kind, node, names)?;
     let declared = names.as_slice();
-    walk.found = scope_errors(walk.alloc, kind, node, around.is_body, declared, walk.found)?;
+    walk.found = scope_errors(walk.alloc, kind, node, declared, walk.found)?;
     let rounds = contexts_of(node, around);
     let from = place_of_scope(kind, node);
     let to = node.part_count();

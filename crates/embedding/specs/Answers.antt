@@ -1,7 +1,7 @@
 -- What a command answers for bytes in memory.
 use Rattle.std.specs.Prelude.{◌≡◌, ◌⊎◌, List, [], ℕ, false, Some, Result, Ok, Err}
 use Rattle.lint.specs.Run.{Seen}
-use Rattle.nine_rules.specs.NineRules.{RunsByRules}
+use Rattle.shipped_rules.specs.ShippedRules.{RunsByRules}
 use Rattle.commands.specs.Refused.{no_memory}
 use Rattle.commands.specs.declared.command.Command.{Command}
 use Rattle.commands.specs.declared.refused.Refused.{Refused}

@@ -9,7 +9,7 @@ ghost use Rattle.embedding.specs.Answers.{AnswersBytes};
 use crate::bytes_feed::BytesFeed;
 use crate::vec_sink::VecSink;
 use commands::{Command, Refused, write_refusal};
-use nine_rules::run_with_rules;
+use shipped_rules::run_with_rules;
 use source_text::{Fault, Sink};
 use std::alloc::{AllocError, Global};
 

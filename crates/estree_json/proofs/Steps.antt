@@ -12,10 +12,6 @@ use Rattle.estree_json.specs.Table.{option_put}
 use Rattle.estree_json.specs.Primitives.{data_of}
 use Rattle.estree_json.specs.declared.texts.Primitive.{Primitive}
 
-pub unset : (b : Bool) → not b ≡ true → b ≡ false
-unset false e = refl
-unset true e = absurd (false≢true e)
-
 pub is_set : (b : Bool) → not b ≡ false → b ≡ true
 is_set true e = refl
 is_set false e = absurd (false≢true (sym e))

@@ -11,9 +11,10 @@ use tree::{Node, Program};
 /// An object's keys come in the order of their bytes; how many there are isn't said beforehand.
 #[derive(Clone, Copy)]
 pub struct Estree<'t, 's> {
-    alloc: Global,
-    node: Node<'t, 's>,
-    is_last: bool,
+    pub(crate) alloc: Global,
+    pub(crate) node: Node<'t, 's>,
+    /// Whether it is the last part of the node that it is in.
+    pub(crate) is_last: bool,
 }
 
 impl<'t, 's> Estree<'t, 's> {
@@ -53,7 +54,7 @@ impl Serialize for Estree<'_, '_> {
     /// Writes the node by this serializer; the error is the serializer's own, or that memory was refused.
     fn serialize<S: Serializer>(&self, out: &mut S) -> Result<(), S::Error> {
         let mut error = out.custom("out of memory");
-        match serialize_node(out, &mut error, self.alloc, self.node, self.is_last) {
+        match serialize_node(out, &mut error, *self) {
             Ok(()) => Ok(()),
             Err(SerializeRefused) => Err(error),
         }

@@ -1,4 +1,4 @@
-//! What a node sends to a serializer.
+//! What a node sends to a serializer: the walk hands on an `Estree`, the node with its allocator and whether it is the last part.
 
 ghost use Rattle.std.specs.Prelude.{◌≤◌, ◌-◌, OnOk, take, drop};
 ghost use Rattle.serde_json.specs.Data.{array, member};
@@ -9,6 +9,7 @@ ghost use Rattle.estree_json.specs.Json.{first_or_null, odd_ones, node_json, par
 ghost use Rattle.estree_json.specs.Table.{by_line, subject_of, from as parts_from};
 ghost use Rattle.estree_json.specs.Sent.{Adds, Sends};
 
+use crate::estree::Estree;
 use crate::events::{
     SerializeRefused, begin_array, begin_object, end_array, end_object, serialize_key,
     serialize_null,
@@ -20,23 +21,20 @@ use crate::member::{
 };
 use crate::table::{Member, member_table};
 use serde::Serializer;
-use std::alloc::Global;
-use tree::Node;
+use std::ops::Range;
 
-/// The object of a node; `is_last` says whether it is the last part of the node that it is in.
+/// The object of a node.
 #[cycle(send)]
 pub(crate) fn serialize_node<S: Serializer>(
     out: &mut S,
     error: &mut S::Error,
-    alloc: Global,
-    node: Node,
-    is_last: bool,
+    estree: Estree,
 ) -> Result<(), SerializeRefused>
-    ensures { OnOk result (Sends (node_json is_last (node_tree node.entry)) (S.written out.old) (S.written out.new)) }
+    ensures { OnOk result (Sends (node_json estree.entry.is_last (node_tree estree.entry.node)) (S.written out.old) (S.written out.new)) }
 {
     begin_object(out, error)?;
-    for line in member_table(node.kind()) {
-        serialize_member(out, error, alloc, node, is_last, line)?;
+    for line in member_table(estree.node.kind()) {
+        serialize_member(out, error, estree, line)?;
     }
     end_object(out, error)
 }
@@ -46,27 +44,26 @@ pub(crate) fn serialize_node<S: Serializer>(
 fn serialize_member<S: Serializer>(
     out: &mut S,
     error: &mut S::Error,
-    alloc: Global,
-    node: Node,
-    is_last: bool,
+    estree: Estree,
     line: &Member,
 ) -> Result<(), SerializeRefused>
-    ensures { OnOk result (Adds (by_line (subject_of is_last (node_tree node.entry)) line.now) (S.written out.old) (S.written out.new)) }
+    ensures { OnOk result (Adds (by_line (subject_of estree.entry.is_last (node_tree estree.entry.node)) line.now) (S.written out.old) (S.written out.new)) }
 {
+    let node = estree.node;
     match line {
         Member::Type => type_member(out, error, node.kind()),
         Member::Start => start_member(out, error, node.span().start),
         Member::End => end_member(out, error, node.span().end),
-        Member::Part(name, index) => part_member(out, error, alloc, node, name, *index),
+        Member::Part(name, index) => part_member(out, error, estree, name, *index),
         Member::List(name, from, behind) => {
             let to = node.part_count().saturating_sub(*behind);
-            list_member(out, error, alloc, node, name, *from, to)
+            list_member(out, error, estree, name, *from..to)
         }
         Member::PartFromEnd(name, from, behind) => {
             let index = node.part_count().saturating_sub(*behind);
-            part_member(out, error, alloc, node, name, index.max(*from))
+            part_member(out, error, estree, name, index.max(*from))
         }
-        Member::EveryOther(name, from) => every_other_member(out, error, alloc, node, name, *from),
+        Member::EveryOther(name, from) => every_other_member(out, error, estree, name, *from),
         Member::Null(name) => null_member(out, error, name),
         Member::Constant(name, word) => text_member(out, error, name, word),
         Member::Text(name) => text_member(out, error, name, node.text()),
@@ -74,10 +71,10 @@ fn serialize_member<S: Serializer>(
         Member::PropertyKind => text_member(out, error, "kind", property_kind(node.flags().form)),
         Member::MethodKind => text_member(out, error, "kind", method_kind(node.flags().form)),
         Member::Directive => directive_member(out, error, node),
-        Member::LiteralValue => literal_member(out, error, alloc, node.text()),
+        Member::LiteralValue => literal_member(out, error, estree.alloc, node.text()),
         Member::LiteralRegex => regex_member(out, error, node.text()),
-        Member::TemplateValue => template_member(out, error, alloc, node.text()),
-        Member::Tail => boolean_member(out, error, "tail", is_last),
+        Member::TemplateValue => template_member(out, error, estree.alloc, node.text()),
+        Member::Tail => boolean_member(out, error, "tail", estree.is_last),
     }
 }
 
@@ -86,35 +83,32 @@ fn serialize_member<S: Serializer>(
 fn part_member<S: Serializer>(
     out: &mut S,
     error: &mut S::Error,
-    alloc: Global,
-    node: Node,
+    estree: Estree,
     name: &str,
     index: usize,
 ) -> Result<(), SerializeRefused>
-    ensures { OnOk result (Adds (member name.now (first_or_null (parts_from index (parts_json (parts_of (node_tree node.entry)))))) (S.written out.old) (S.written out.new)) }
+    ensures { OnOk result (Adds (member name.now (first_or_null (parts_from index (parts_json (parts_of (node_tree estree.entry.node)))))) (S.written out.old) (S.written out.new)) }
 {
     serialize_key(out, error, name)?;
-    serialize_part(out, error, alloc, node, index)
+    serialize_part(out, error, estree, index)
 }
 
-/// A member of the parts from one on, up to another.
+/// A member of these parts.
 #[cycle(send)]
 fn list_member<S: Serializer>(
     out: &mut S,
     error: &mut S::Error,
-    alloc: Global,
-    node: Node,
+    estree: Estree,
     name: &str,
-    from: usize,
-    to: usize,
+    parts: Range<usize>,
 ) -> Result<(), SerializeRefused>
-    requires { to ≤ part_count (parts_of (node_tree node)) }
-    ensures { OnOk result (Adds (member name.now (array (items_of (take (to - from) (drop from (parts_json (parts_of (node_tree node.entry)))))))) (S.written out.old) (S.written out.new)) }
+    requires { parts.end ≤ part_count (parts_of (node_tree estree.node)) }
+    ensures { OnOk result (Adds (member name.now (array (items_of (take (parts.end - parts.start) (drop parts.start (parts_json (parts_of (node_tree estree.entry.node)))))))) (S.written out.old) (S.written out.new)) }
 {
     serialize_key(out, error, name)?;
-    begin_array(out, error, to.saturating_sub(from))?;
-    for index in from..to {
-        serialize_part(out, error, alloc, node, index)?;
+    begin_array(out, error, parts.end.saturating_sub(parts.start))?;
+    for index in parts.start..parts.end {
+        serialize_part(out, error, estree, index)?;
     }
     end_array(out, error)
 }
@@ -124,20 +118,19 @@ fn list_member<S: Serializer>(
 fn every_other_member<S: Serializer>(
     out: &mut S,
     error: &mut S::Error,
-    alloc: Global,
-    node: Node,
+    estree: Estree,
     name: &str,
     from: usize,
 ) -> Result<(), SerializeRefused>
-    ensures { OnOk result (Adds (member name.now (array (items_of (odd_ones (drop from (parts_json (parts_of (node_tree node.entry)))))))) (S.written out.old) (S.written out.new)) }
+    ensures { OnOk result (Adds (member name.now (array (items_of (odd_ones (drop from (parts_json (parts_of (node_tree estree.entry.node)))))))) (S.written out.old) (S.written out.new)) }
 {
     serialize_key(out, error, name)?;
-    let count = node.part_count();
+    let count = estree.node.part_count();
     begin_array(out, error, count.saturating_sub(from).div_ceil(2))?;
     let mut takes = true;
     for index in from..count {
         if takes {
-            serialize_part(out, error, alloc, node, index)?;
+            serialize_part(out, error, estree, index)?;
         }
         takes = !takes;
     }
@@ -149,20 +142,21 @@ fn every_other_member<S: Serializer>(
 fn serialize_part<S: Serializer>(
     out: &mut S,
     error: &mut S::Error,
-    alloc: Global,
-    node: Node,
+    estree: Estree,
     index: usize,
 ) -> Result<(), SerializeRefused>
-    ensures { OnOk result (Sends (first_or_null (parts_from index (parts_json (parts_of (node_tree node.entry))))) (S.written out.old) (S.written out.new)) }
+    ensures { OnOk result (Sends (first_or_null (parts_from index (parts_json (parts_of (node_tree estree.entry.node))))) (S.written out.old) (S.written out.new)) }
 {
-    match node.part(index) {
-        Some(part) => serialize_node(
-            out,
-            error,
-            alloc,
-            part,
-            node.part_count().saturating_sub(1) == index,
-        ),
+    match estree.node.part(index) {
+        Some(node) => {
+            let is_last = estree.node.part_count().saturating_sub(1) == index;
+            let part = Estree {
+                node,
+                is_last,
+                ..estree
+            };
+            serialize_node(out, error, part)
+        }
         None => serialize_null(out, error),
     }
 }

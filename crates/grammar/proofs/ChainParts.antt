@@ -1,5 +1,5 @@
 -- A part of a chain, from its first part.
-use Rattle.std.proofs.Common.{◌≡◌, Bool, true, false, Option, refl, sym, ap, ◌∙◌}
+use Rattle.std.proofs.Common.{◌≡◌, true, false, Option, refl, ap, ◌∙◌}
 use Rattle.std.specs.Prelude.{◌&&◌}
 use Rattle.tree.specs.Tree.{Tree, node, Parts, none, part, gap, kind_of, flags_of, parts_of, part_at}
 use Rattle.language.specs.Expressions.{has_optional, first_has_optional, is_chain_part}
@@ -13,18 +13,5 @@ at_first (gap ps) = refl
 pub chained_first : (ps : Parts) (o : Option Tree) → o ≡ part_at ps 0 → part_has_optional o ≡ first_has_optional ps
 chained_first ps o h = ap part_has_optional h ∙ at_first ps
 
-pub chained_here : (n : Tree) → is_chain_part (kind_of n) ≡ true → (flags_of n).optional ≡ true → true ≡ has_optional n
-chained_here (node k w g s e ps) h f = rw (h, f) refl
-
 pub chained_below : (n : Tree) (o : Option Tree) → is_chain_part (kind_of n) ≡ true → (flags_of n).optional ≡ false → o ≡ part_at (parts_of n) 0 → part_has_optional o ≡ has_optional n
 chained_below (node k w g s e ps) o h f p = rw (h, f) (chained_first ps o p)
-
-pub chained_never : (n : Tree) → is_chain_part (kind_of n) ≡ false → false ≡ has_optional n
-chained_never (node k w g s e ps) h = rw h refl
-
-pub chained_inside : (n : Tree) → has_optional n ≡ true → (flags_of n).optional ≡ false → true ≡ first_has_optional (parts_of n)
-chained_inside (node k w g s e ps) h f = of (is_chain_part k) (first_has_optional ps) (rw f at h)
-  where
-    of : (a b : Bool) → (a && b) ≡ true → true ≡ b
-    of true b h = sym h
-    of false b h = absurd (cc)

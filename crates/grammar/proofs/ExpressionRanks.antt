@@ -13,7 +13,7 @@ use Rattle.language.specs.Vocabulary.{is, among, Operator, op_binary, op_power, 
 use Rattle.language.specs.Pieces.{Spelling, is_none}
 use Rattle.language.specs.Expressions.{expressions, first_has_optional, lead_is, op_arrow, binary_ways, logical_ways}
 use Rattle.language.specs.Grammar.{rank_of, spellings, production_rank}
-use Rattle.grammar.specs.Ranks.{rank_by, rank_if, binary_symbol, logical_symbol}
+use Rattle.grammar.specs.Ranks.{rank_by, rank_if, plain_rank, binary_symbol, logical_symbol}
 
 -- the symbol of the first spelling
 abbrev first : List Spelling → Option Rank
@@ -116,31 +116,21 @@ abbrev pub IsNone : Kind → List Kind → Type 0
 IsNone k [] = Unit {0}
 IsNone k (l ∷ ls) = (k ≢ l) × IsNone k ls
 
-abbrev pub ranked : List Kind
-ranked = kind.Identifier ∷ kind.Literal ∷ kind.ThisExpression ∷ kind.ArrayExpression ∷ kind.ObjectExpression ∷ kind.FunctionExpression ∷ kind.ClassExpression ∷ kind.TemplateLiteral ∷ kind.TaggedTemplateExpression ∷ kind.NewExpression ∷ kind.MemberExpression ∷ kind.MetaProperty ∷ kind.CallExpression ∷ kind.ImportExpression ∷ kind.ChainExpression ∷ kind.UpdateExpression ∷ kind.UnaryExpression ∷ kind.BinaryExpression ∷ kind.LogicalExpression ∷ kind.ConditionalExpression ∷ kind.ArrowFunctionExpression ∷ kind.AssignmentExpression ∷ kind.SequenceExpression ∷ []
+-- the kinds whose symbol depends on their text, flags or parts
+abbrev pub conditional : List Kind
+conditional = kind.Identifier ∷ kind.Literal ∷ kind.MemberExpression ∷ kind.MetaProperty ∷ kind.CallExpression ∷ kind.ChainExpression ∷ kind.UpdateExpression ∷ kind.UnaryExpression ∷ kind.BinaryExpression ∷ kind.LogicalExpression ∷ kind.AssignmentExpression ∷ kind.SequenceExpression ∷ []
 
-pub unranked : (k : Kind) (w : List ℕ) (g : Flags) (ps : Parts) → IsNone k ranked → None ≡ rank_by k w g ps
-unranked kind.Identifier w g ps h = absurd (h.0 refl)
-unranked kind.Literal w g ps h = absurd (h.1.0 refl)
-unranked kind.ThisExpression w g ps h = absurd (h.1.1.0 refl)
-unranked kind.ArrayExpression w g ps h = absurd (h.1.1.1.0 refl)
-unranked kind.ObjectExpression w g ps h = absurd (h.1.1.1.1.0 refl)
-unranked kind.FunctionExpression w g ps h = absurd (h.1.1.1.1.1.0 refl)
-unranked kind.ClassExpression w g ps h = absurd (h.1.1.1.1.1.1.0 refl)
-unranked kind.TemplateLiteral w g ps h = absurd (h.1.1.1.1.1.1.1.0 refl)
-unranked kind.TaggedTemplateExpression w g ps h = absurd (h.1.1.1.1.1.1.1.1.0 refl)
-unranked kind.NewExpression w g ps h = absurd (h.1.1.1.1.1.1.1.1.1.0 refl)
-unranked kind.MemberExpression w g ps h = absurd (h.1.1.1.1.1.1.1.1.1.1.0 refl)
-unranked kind.MetaProperty w g ps h = absurd (h.1.1.1.1.1.1.1.1.1.1.1.0 refl)
-unranked kind.CallExpression w g ps h = absurd (h.1.1.1.1.1.1.1.1.1.1.1.1.0 refl)
-unranked kind.ImportExpression w g ps h = absurd (h.1.1.1.1.1.1.1.1.1.1.1.1.1.0 refl)
-unranked kind.ChainExpression w g ps h = absurd (h.1.1.1.1.1.1.1.1.1.1.1.1.1.1.0 refl)
-unranked kind.UpdateExpression w g ps h = absurd (h.1.1.1.1.1.1.1.1.1.1.1.1.1.1.1.0 refl)
-unranked kind.UnaryExpression w g ps h = absurd (h.1.1.1.1.1.1.1.1.1.1.1.1.1.1.1.1.0 refl)
-unranked kind.BinaryExpression w g ps h = absurd (h.1.1.1.1.1.1.1.1.1.1.1.1.1.1.1.1.1.0 refl)
-unranked kind.LogicalExpression w g ps h = absurd (h.1.1.1.1.1.1.1.1.1.1.1.1.1.1.1.1.1.1.0 refl)
-unranked kind.ConditionalExpression w g ps h = absurd (h.1.1.1.1.1.1.1.1.1.1.1.1.1.1.1.1.1.1.1.0 refl)
-unranked kind.ArrowFunctionExpression w g ps h = absurd (h.1.1.1.1.1.1.1.1.1.1.1.1.1.1.1.1.1.1.1.1.0 refl)
-unranked kind.AssignmentExpression w g ps h = absurd (h.1.1.1.1.1.1.1.1.1.1.1.1.1.1.1.1.1.1.1.1.1.0 refl)
-unranked kind.SequenceExpression w g ps h = absurd (h.1.1.1.1.1.1.1.1.1.1.1.1.1.1.1.1.1.1.1.1.1.1.0 refl)
-unranked _ w g ps h = refl
+pub as_plain : (k : Kind) (w : List ℕ) (g : Flags) (ps : Parts) → IsNone k conditional → plain_rank k ≡ rank_by k w g ps
+as_plain kind.Identifier w g ps h = absurd (h.0 refl)
+as_plain kind.Literal w g ps h = absurd (h.1.0 refl)
+as_plain kind.MemberExpression w g ps h = absurd (h.1.1.0 refl)
+as_plain kind.MetaProperty w g ps h = absurd (h.1.1.1.0 refl)
+as_plain kind.CallExpression w g ps h = absurd (h.1.1.1.1.0 refl)
+as_plain kind.ChainExpression w g ps h = absurd (h.1.1.1.1.1.0 refl)
+as_plain kind.UpdateExpression w g ps h = absurd (h.1.1.1.1.1.1.0 refl)
+as_plain kind.UnaryExpression w g ps h = absurd (h.1.1.1.1.1.1.1.0 refl)
+as_plain kind.BinaryExpression w g ps h = absurd (h.1.1.1.1.1.1.1.1.0 refl)
+as_plain kind.LogicalExpression w g ps h = absurd (h.1.1.1.1.1.1.1.1.1.0 refl)
+as_plain kind.AssignmentExpression w g ps h = absurd (h.1.1.1.1.1.1.1.1.1.1.0 refl)
+as_plain kind.SequenceExpression w g ps h = absurd (h.1.1.1.1.1.1.1.1.1.1.1.0 refl)
+as_plain _ w g ps h = refl

@@ -5,7 +5,7 @@ use Rattle.std.proofs.lemmas.Slice.Eq.{bytes_eq-Decides}
 use Rattle.std.proofs.lemmas.Bool.{false≢true}
 use Rattle.std.proofs.lemmas.Bool.Decides.{nat_tests}
 use Prim.Native.String.{String}
-use Rattle.language.specs.Vocabulary.{is, among, is_reserved}
+use Rattle.language.specs.Vocabulary.{is, among, is_reserved, reserved_words}
 
 -- the words whose length is so
 abbrev pub where_length : (ℕ → Bool) → List String → List String
@@ -26,12 +26,9 @@ pub among-where : (p : ℕ → Bool) (w : List ℕ) (ss : List String) → p (le
 among-where p w [] h = refl
 among-where p w (s ∷ ss) h = one_more p w s ss (where_length p ss) h (among-where p w ss h) (p (length (codes s))) refl
 
-abbrev reserved : List String
-reserved = "break" ∷ "case" ∷ "catch" ∷ "class" ∷ "const" ∷ "continue" ∷ "debugger" ∷ "default" ∷ "delete" ∷ "do" ∷ "else" ∷ "enum" ∷ "export" ∷ "extends" ∷ "false" ∷ "finally" ∷ "for" ∷ "function" ∷ "if" ∷ "import" ∷ "in" ∷ "instanceof" ∷ "new" ∷ "null" ∷ "return" ∷ "super" ∷ "switch" ∷ "this" ∷ "throw" ∷ "true" ∷ "try" ∷ "typeof" ∷ "var" ∷ "void" ∷ "while" ∷ "with" ∷ "yield" ∷ "let" ∷ "static" ∷ "implements" ∷ "interface" ∷ "package" ∷ "private" ∷ "protected" ∷ "public" ∷ []
-
-pub reserved-at : (w : List ℕ) (n : ℕ) → length w ≡ n → nat_eq n n ≡ true → is_reserved w ≡ among w (where_length (λ k. nat_eq k n) reserved)
+pub reserved-at : (w : List ℕ) (n : ℕ) → length w ≡ n → nat_eq n n ≡ true → is_reserved w ≡ among w (where_length (λ k. nat_eq k n) reserved_words)
 unfolding is_reserved
-reserved-at w n e r = among-where (λ k. nat_eq k n) w reserved (ap (λ k. nat_eq k n) e ∙ r)
+reserved-at w n e r = among-where (λ k. nat_eq k n) w reserved_words (ap (λ k. nat_eq k n) e ∙ r)
 
 -- no reserved word is shorter or longer
 abbrev unusual : ℕ → Bool
@@ -39,7 +36,7 @@ unusual k = nat_le k 1 || nat_le 11 k
 
 pub none_reserved : (w : List ℕ) → ((k : ℕ) → 2 ≤ k → k ≤ 10 → k ≢ length w) → is_reserved w ≡ false
 unfolding is_reserved
-none_reserved w h = among-where unusual w reserved (apart (length w) (h (length w)))
+none_reserved w h = among-where unusual w reserved_words (apart (length w) (h (length w)))
   where
     apart : (n : ℕ) → (2 ≤ n → n ≤ 10 → n ≢ n) → unusual n ≡ true
     apart n h = grind (arith, nat_tests)

@@ -16,10 +16,6 @@ operation (op_binary l z q) = Binds l z q
 operation op_power = Powers
 operation _ = Other
 
-abbrev pub logical_operation : Operator → Operation
-logical_operation (op_binary true z q) = Binds true z q
-logical_operation _ = Other
-
 -- what a text makes
 unfoldable pub operation_at : List ℕ → Operation
 operation_at w = operation (operator_of w)

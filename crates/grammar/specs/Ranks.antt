@@ -40,29 +40,33 @@ abbrev pub is_text : Option Tree → List ℕ → Bool
 is_text None v = false
 is_text (Some n) v = bytes_eq (text_of n) v
 
+-- of the kinds that have one whatever the text, flags and parts
+abbrev pub plain_rank : Kind → Option Rank
+plain_rank ThisExpression = Some Primary
+plain_rank ArrayExpression = Some Primary
+plain_rank ObjectExpression = Some Primary
+plain_rank FunctionExpression = Some Primary
+plain_rank ClassExpression = Some Primary
+plain_rank TemplateLiteral = Some Primary
+plain_rank TaggedTemplateExpression = Some Member
+plain_rank NewExpression = Some Member
+plain_rank ImportExpression = Some Call
+plain_rank ConditionalExpression = Some Conditional
+plain_rank ArrowFunctionExpression = Some Assignment
+plain_rank _ = None
+
 -- by kind, text, flags and parts
 abbrev pub rank_by : Kind → List ℕ → Flags → Parts → Option Rank
 rank_by Identifier w g ps = rank_if (not (is_reserved w)) Primary
 rank_by Literal w g ps = rank_if (is_spelled_literal w) Primary
-rank_by ThisExpression w g ps = Some Primary
-rank_by ArrayExpression w g ps = Some Primary
-rank_by ObjectExpression w g ps = Some Primary
-rank_by FunctionExpression w g ps = Some Primary
-rank_by ClassExpression w g ps = Some Primary
-rank_by TemplateLiteral w g ps = Some Primary
-rank_by ArrowFunctionExpression w g ps = Some Assignment
-rank_by TaggedTemplateExpression w g ps = Some Member
 rank_by MemberExpression w g ps = rank_if (not g.optional) Member
 rank_by CallExpression w g ps = rank_if (not g.optional) Call
-rank_by NewExpression w g ps = Some Member
 rank_by MetaProperty w g ps = rank_if (lead_is ps "new" && lead_is (others ps) "target") Member
-rank_by ImportExpression w g ps = Some Call
 rank_by ChainExpression w g ps = rank_if (first_has_optional ps) LeftHandSide
 rank_by UpdateExpression w g ps = rank_if (is_update_operator w && is_target (lead ps)) Update
 rank_by UnaryExpression w g ps = rank_if (is_prefix w) Unary
 rank_by BinaryExpression w g ps = binary_symbol (operator_of w)
 rank_by LogicalExpression w g ps = logical_symbol (operator_of w)
-rank_by ConditionalExpression w g ps = Some Conditional
 rank_by AssignmentExpression w g ps = rank_if (is_assignment w && is_assigned w (lead ps)) Assignment
 rank_by SequenceExpression w g ps = rank_if (not (is_none (others ps))) Expression
-rank_by _ w g ps = None
+rank_by k w g ps = plain_rank k

@@ -8,7 +8,7 @@ ghost use Rattle.language.specs.Vocabulary.{is_update_operator as is_step_text, 
 ghost use Rattle.language.specs.Expressions.{lead_is};
 ghost use Rattle.language.specs.Pieces.{is_none};
 ghost use Rattle.language.specs.Grammar.{rank_of};
-ghost use Rattle.grammar.specs.Ranks.{rank_if, is_assigned, is_text};
+ghost use Rattle.grammar.specs.Ranks.{rank_if, plain_rank, is_assigned, is_text};
 
 use crate::chain::has_optional;
 use crate::literals::is_literal;
@@ -24,30 +24,39 @@ pub fn rank_of(node: Node<'_, '_>) -> Option<Rank>
     ensures { result ≡ rank_of (node_tree node.entry) }
 {
     let text = node.text();
-    match node.kind() {
+    let kind = node.kind();
+    match kind {
         Kind::Identifier => rank_if(!is_reserved(text), Rank::Primary),
         Kind::Literal => rank_if(is_literal(text), Rank::Primary),
-        Kind::ThisExpression => Some(Rank::Primary),
-        Kind::ArrayExpression => Some(Rank::Primary),
-        Kind::ObjectExpression => Some(Rank::Primary),
-        Kind::FunctionExpression => Some(Rank::Primary),
-        Kind::ClassExpression => Some(Rank::Primary),
-        Kind::TemplateLiteral => Some(Rank::Primary),
-        Kind::TaggedTemplateExpression => Some(Rank::Member),
-        Kind::NewExpression => Some(Rank::Member),
         Kind::MemberExpression => rank_if(!node.flags().optional, Rank::Member),
         Kind::MetaProperty => rank_if(is_new_target(node), Rank::Member),
         Kind::CallExpression => rank_if(!node.flags().optional, Rank::Call),
-        Kind::ImportExpression => Some(Rank::Call),
         Kind::ChainExpression => rank_if(has_optional(node.part(0)), Rank::LeftHandSide),
         Kind::UpdateExpression => rank_if(is_update(node), Rank::Update),
         Kind::UnaryExpression => rank_if(is_prefix_operator(text), Rank::Unary),
         Kind::BinaryExpression => binary_rank(text),
         Kind::LogicalExpression => logical_rank(text),
-        Kind::ConditionalExpression => Some(Rank::Conditional),
-        Kind::ArrowFunctionExpression => Some(Rank::Assignment),
         Kind::AssignmentExpression => rank_if(can_assign(node), Rank::Assignment),
         Kind::SequenceExpression => rank_if(node.part_count() > 1, Rank::Expression),
+        _ => plain_rank(kind),
+    }
+}
+
+/// The symbol of a kind that has one whatever the node's text, flags and parts are.
+fn plain_rank(kind: Kind) -> Option<Rank>
+    ensures { result ≡ plain_rank kind }
+{
+    match kind {
+        Kind::ThisExpression
+        | Kind::ArrayExpression
+        | Kind::ObjectExpression
+        | Kind::FunctionExpression
+        | Kind::ClassExpression
+        | Kind::TemplateLiteral => Some(Rank::Primary),
+        Kind::TaggedTemplateExpression | Kind::NewExpression => Some(Rank::Member),
+        Kind::ImportExpression => Some(Rank::Call),
+        Kind::ConditionalExpression => Some(Rank::Conditional),
+        Kind::ArrowFunctionExpression => Some(Rank::Assignment),
         _ => None,
     }
 }
@@ -92,11 +101,11 @@ fn can_assign(node: Node<'_, '_>) -> bool
 fn is_new_target(node: Node<'_, '_>) -> bool
     ensures { result ≡ (lead_is (parts_of (node_tree node.entry)) "new" && lead_is (others (parts_of (node_tree node.entry))) "target") }
 {
-    is_word(node.part(0), "new") && is_word(node.part(1), "target")
+    is_text(node.part(0), "new") && is_text(node.part(1), "target")
 }
 
 /// Whether the part is there and has this text.
-fn is_word(part: Option<Node<'_, '_>>, word: &str) -> bool
+fn is_text(part: Option<Node<'_, '_>>, word: &str) -> bool
     ensures { result ≡ is_text (option_map node_tree part.entry) word.now }
 {
     match part {

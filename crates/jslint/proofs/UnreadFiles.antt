@@ -6,7 +6,7 @@ use Rattle.clap.specs.Words.{Text}
 use Rattle.source_text.specs.declared.fault.Fault.TheVariants.{ReadFailed}
 use Rattle.commands.specs.declared.refused.Refused.{Refused}
 use Rattle.command_line.specs.declared.line.Line.{Line}
-use Rattle.nine_rules.specs.NineRules.{RunsByRules}
+use Rattle.shipped_rules.specs.ShippedRules.{RunsByRules}
 use Rattle.jslint.specs.Program.{IsOfFailed, RunsOnFiles, RunsOpened, StopsBy, no_file, second_name}
 use Rattle.jslint.specs.declared.files.Stop.{Stop}
 use Rattle.jslint.specs.declared.files.Stop.TheVariants.{Refuses, Unread}

@@ -15,7 +15,7 @@ use Rattle.command_line.specs.Unread.{unread_line}
 use Rattle.command_line.specs.declared.line.Line.{Line}
 use Rattle.command_line.specs.declared.unread.ReadFailure.{ReadFailure}
 use Rattle.command_line.specs.declared.unread.ReadFailure.TheVariants.{Missing, Folder, NotPermitted, LinkCircle, Other}
-use Rattle.nine_rules.specs.NineRules.{RunsByRules}
+use Rattle.shipped_rules.specs.ShippedRules.{RunsByRules}
 use Rattle.commands.specs.Refusal.{WritesLine, refusal_line, status_of}
 use Rattle.commands.specs.declared.refused.Refused.{Refused}
 use Rattle.jslint.specs.declared.files.Stop.{Stop}

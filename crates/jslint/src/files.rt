@@ -5,7 +5,7 @@ ghost use Rattle.jslint.specs.Program.{IsTold, RunsOnFiles, StopsBy, failure_of,
 
 use command_line::{Line, ReadFailure};
 use commands::Refused;
-use nine_rules::run_with_rules;
+use shipped_rules::run_with_rules;
 use source_text::{Device, DeviceFault, Fault, Feed, Sink};
 use std::fs;
 use std::io::ErrorKind;

@@ -1,12 +1,10 @@
 -- An expression, from its leftmost part over the operators, one turn after the other.
 pub mod Arrows
 pub mod AsExpressions
-pub mod AtConditional
 pub mod BinaryTurns
 pub mod Callees
 pub mod Calls
 pub mod ChainElements
-pub mod ChainLimits
 pub mod Chains
 pub mod Commas
 pub mod Conditionals
@@ -16,7 +14,6 @@ pub mod Groups
 pub mod Leaves
 pub mod LeftmostParts
 pub mod NewExpressions
-pub mod NoChainElement
 pub mod NoContinuation
 pub mod OperatorLoop
 pub mod OperatorNodes

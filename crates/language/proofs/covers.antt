@@ -1,9 +1,6 @@
 -- Covers: what an expression may still become.
-pub mod CoverDefinitions
 pub mod CoverElements
 pub mod CoverEnds
-pub mod CoverGroups
-pub mod CoverHeights
 pub mod CoverItems
 pub mod CoverKeys
 pub mod CoverLists
@@ -15,8 +12,4 @@ pub mod CoverPunctuators
 pub mod CoverReadings
 pub mod CoverRests
 pub mod CoverSpreads
-pub mod CoverSteps
-pub mod CoverTrees
-pub mod CoverWholes
-pub mod NoCoverProperty
 pub mod PatternsByToken

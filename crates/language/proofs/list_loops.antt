@@ -5,8 +5,6 @@ pub mod DeclaratorLists
 pub mod FirstItems
 pub mod FirstPieces
 pub mod ForDeclarationLists
-pub mod HoleLists
-pub mod ParameterItems
 pub mod ParameterLists
 pub mod PiecesSoFar
 pub mod Prologues

@@ -14,4 +14,3 @@ pub mod OptionalParts
 pub mod ScriptFound
 pub mod StatementFollow
 pub mod StatementShapes
-pub mod WhileFound

@@ -6,7 +6,6 @@ pub mod Beginnings
 pub mod Begins
 pub mod BeginsNodes
 pub mod EachPiece
-pub mod EdgeAsWritten
 pub mod EndTable
 pub mod EndsOf
 pub mod EveryWay
@@ -15,6 +14,7 @@ pub mod FirstWords
 pub mod FixedPieces
 pub mod ForDeclarationWays
 pub mod FormsAreWays
+pub mod InLists
 pub mod ItemTokens
 pub mod KindViews
 pub mod LeftRecursiveWays
@@ -27,6 +27,7 @@ pub mod NeatLists
 pub mod NeatPieces
 pub mod NeatTable
 pub mod NodeEnds
+pub mod NodeForms
 pub mod NodeFronts
 pub mod OneKind
 pub mod OneWay

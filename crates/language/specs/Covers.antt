@@ -8,7 +8,7 @@ use Rattle.tree.specs.declared.kind.Flags.{Flags}
 use Rattle.tree.specs.declared.kind.Form.{Form}
 use Rattle.tree.specs.declared.kind.Form.TheVariants.{Init, Shorthand}
 use Rattle.tree.specs.declared.kind.Pair.{Pair}
-use Rattle.tree.specs.Tree.{Tree, node, Parts, none, part, gap, kind_of, height}
+use Rattle.tree.specs.Tree.{Tree, node, Parts, none, part, gap, kind_of}
 use Rattle.language.specs.declared.Rank.TheVariants.{Assignment}
 use Rattle.language.specs.declared.Start.TheVariants.{Any}
 use Rattle.language.specs.Vocabulary.{is, is_rest, is_spread}
@@ -85,10 +85,6 @@ abbrev pub tree_as : Reading → Tree → Option Tree
 tree_as as_expression tree = Some tree
 tree_as (as_pattern b) tree = pattern_of tree
 
-abbrev pub parts_as : Reading → Parts → Option Parts
-parts_as as_expression parts = Some parts
-parts_as (as_pattern b) parts = patterns_of parts
-
 -- the position of an element of an array or its pattern, and of an argument or a parameter
 abbrev pub element_as : Reading → Kind → Option Role
 element_as as_expression kind = Some (cond (is_spread kind) spread (expr Assignment true Any))
@@ -115,9 +111,6 @@ module _ (S : Type 0) (Next : S → Token → S → Type 0) (behind : S → Toke
   pub record AbsentItem (r : Kind → Option Role) (s : S) : Type 0 where
     pub nothing : (o' : ℕ) (a : Role) (e' : S) (n' : Tree) (P' : List Pair) → r (kind_of n') ≡ Some a → Spells ways S Next behind o' a n' s e' P' → Ends e' → ⊥
 
-  pub record AbsentItemWithin (r : Kind → Option Role) (o h : ℕ) (s : S) : Type 0 where
-    pub nothing : (a : Role) (e' : S) (n' : Tree) (P' : List Pair) → r (kind_of n') ≡ Some a → Spells ways S Next behind o a n' s e' P' → Ends e' → Rattle.std.specs.Prelude.◌≤◌ (height n') h → ⊥
-
   -- one reading of a cover, whose tree as an expression is n: it is found, or there is none
   pub data Decided (r : Kind → Option Role) (o : ℕ) (s e : S) (t : Option Tree) (P : List Pair) : Bool → Type 0 where
     it_fits : {m : Tree} → t ≡ Some m → FoundItem r o s e m P → Decided r o s e t P true
@@ -127,10 +120,3 @@ module _ (S : Type 0) (Next : S → Token → S → Type 0) (behind : S → Toke
 -- none. A cover that may be nothing any more is refused at once.
 abbrev pub Cover : (S : Type 0) (Next : S → Token → S → Type 0) (behind : S → Token) (Ends : S → Type 0) → (Reading → Kind → Option Role) → (Reading → Bool) → ℕ → S → S → Tree → List Pair → Type 0
 Cover S Next behind Ends at fits tree s e n P = (a : Reading) → Decided S Next behind Ends (at a) tree s e (tree_as a n) P (fits a)
-
--- no reading
-abbrev pub NoCover : (S : Type 0) (Next : S → Token → S → Type 0) (behind : S → Token) (Ends : S → Type 0) → (Reading → Kind → Option Role) → S → Type 0
-NoCover S Next behind Ends at s = (a : Reading) → AbsentItem S Next behind Ends (at a) s
-
-abbrev pub NoCoverWithin : (S : Type 0) (Next : S → Token → S → Type 0) (behind : S → Token) (Ends : S → Type 0) → (Reading → Kind → Option Role) → ℕ → ℕ → S → Type 0
-NoCoverWithin S Next behind Ends at o h s = (a : Reading) → AbsentItemWithin S Next behind Ends (at a) o h s

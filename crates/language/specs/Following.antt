@@ -5,7 +5,7 @@ use Rattle.tokens.specs.declared.token.TokenClass.TheVariants.{IdentifierName, P
 use Rattle.tokens.specs.declared.token.Goal.TheVariants.{Div, RegExp}
 use Rattle.tokens.specs.Alphabet.{one_of, begins_with}
 use Rattle.tree.specs.declared.kind.Pair.{Pair}
-use Rattle.tree.specs.Tree.{Tree, Parts, height, parts_height}
+use Rattle.tree.specs.Tree.{Tree, Parts}
 use Rattle.language.specs.declared.Rank.TheVariants.{Assignment}
 use Rattle.language.specs.Vocabulary.{is, among}
 use Rattle.language.specs.Pieces.{Role, PieceOf}
@@ -54,12 +54,6 @@ module _ (S : Type 0) (Next : S → Token → S → Type 0) (behind : S → Toke
     pub spelled : Spells ways S Next behind o a n s e P
     pub only : (o' : ℕ) (e' : S) (n' : Tree) (P' : List Pair) → Spells ways S Next behind o' a n' s e' P' → Fine n' e' → (e' ≡ e) × (n' ≡ n) × (P' ≡ P)
 
-  pub record AbsentWhere (Fine : Tree → S → Type 0) (a : Role) (s : S) : Type 0 where
-    pub nothing : (o' : ℕ) (e' : S) (n' : Tree) (P' : List Pair) → Spells ways S Next behind o' a n' s e' P' → Fine n' e' → ⊥
-
-  pub record AbsentWhereWithin (Fine : Tree → S → Type 0) (o h : ℕ) (a : Role) (s : S) : Type 0 where
-    pub nothing : (e' : S) (n' : Tree) (P' : List Pair) → Spells ways S Next behind o a n' s e' P' → Fine n' e' → height n' ≤ h → ⊥
-
   -- the same of parts over which pieces run
   pub record FoundPartsWhere (Fine : Parts → S → Type 0) (o : ℕ) (pieces : Parts → List (PieceOf Role)) (s e : S) (ps : Parts) (P : List Pair) : Type 0 where
     pub runs : Runs ways S Next behind o (pieces ps) ps s e P
@@ -67,9 +61,6 @@ module _ (S : Type 0) (Next : S → Token → S → Type 0) (behind : S → Toke
 
   pub record AbsentPartsWhere (Fine : Parts → S → Type 0) (pieces : Parts → List (PieceOf Role)) (s : S) : Type 0 where
     pub nothing : (o' : ℕ) (e' : S) (ps' : Parts) (P' : List Pair) → Runs ways S Next behind o' (pieces ps') ps' s e' P' → Fine ps' e' → ⊥
-
-  pub record AbsentPartsWhereWithin (Fine : Parts → S → Type 0) (o h : ℕ) (pieces : Parts → List (PieceOf Role)) (s : S) : Type 0 where
-    pub nothing : (e' : S) (ps' : Parts) (P' : List Pair) → Runs ways S Next behind o (pieces ps') ps' s e' P' → Fine ps' e' → parts_height ps' ≤ h → ⊥
 
 -- something follows the statement that may
 abbrev pub Finished : (S : Type 0) (Next : S → Token → S → Type 0) (behind : S → Token) → Tree → S → Type 0

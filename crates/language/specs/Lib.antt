@@ -11,7 +11,6 @@ pub mod RowPositions
 pub mod Derivation
 pub mod Cursor
 pub mod Places
-pub mod NodeForms
 pub mod Continuations
 pub mod ExpressionStart
 pub mod StatementStart

@@ -6,9 +6,9 @@ use Rattle.tokens.specs.declared.token.Goal.{Goal}
 use Rattle.tokens.specs.declared.token.Goal.TheVariants.{Div}
 use Rattle.tokens.specs.Goals.{allows}
 use Rattle.tree.specs.declared.kind.Pair.{Pair}
-use Rattle.tree.specs.Tree.{Tree, Parts, none, part, gap, height, parts_height, bare_parts}
+use Rattle.tree.specs.Tree.{Tree, Parts, none, part, gap, height, bare_parts}
 use Rattle.language.specs.declared.Rank.{Rank}
-use Rattle.language.specs.declared.Rank.TheVariants.{Expression, Assignment, Conditional, New, Member}
+use Rattle.language.specs.declared.Rank.TheVariants.{Expression, Assignment, New, Member}
 use Rattle.language.specs.declared.Start.{Start}
 use Rattle.language.specs.declared.Start.TheVariants.{Any}
 use Rattle.language.specs.Pieces.{Role, expr, PieceOf, sub, never, settle_piece}
@@ -75,32 +75,10 @@ module _ (S : Type 0) (Next : S → Token → S → Type 0) (behind : S → Toke
   pub record AbsentAt (a : Role) (s : S) : Type 0 where
     pub nothing : (o' : ℕ) (e' : S) (n' : Tree) (P' : List Pair) → Spells ways S Next behind o' a n' s e' P' → ⊥
 
-  pub record AbsentAtWithin (o h : ℕ) (a : Role) (s : S) : Type 0 where
-    pub nothing : (e' : S) (n' : Tree) (P' : List Pair) → Spells ways S Next behind o a n' s e' P' → height n' ≤ h → ⊥
-
   -- the only parts over which pieces run here, which the parts decide; none; none within the limits
   pub record FoundParts (o : ℕ) (pieces : Parts → List (PieceOf Role)) (s e : S) (ps : Parts) (P : List Pair) : Type 0 where
     pub runs : Runs ways S Next behind o (pieces ps) ps s e P
     pub only : (o' : ℕ) (e' : S) (ps' : Parts) (P' : List Pair) → Runs ways S Next behind o' (pieces ps') ps' s e' P' → (e' ≡ e) × (ps' ≡ ps) × (P' ≡ P)
-
-  pub record AbsentParts (pieces : Parts → List (PieceOf Role)) (s : S) : Type 0 where
-    pub nothing : (o' : ℕ) (e' : S) (ps' : Parts) (P' : List Pair) → Runs ways S Next behind o' (pieces ps') ps' s e' P' → ⊥
-
-  pub record AbsentPartsWithin (o h : ℕ) (pieces : Parts → List (PieceOf Role)) (s : S) : Type 0 where
-    pub nothing : (e' : S) (ps' : Parts) (P' : List Pair) → Runs ways S Next behind o (pieces ps') ps' s e' P' → parts_height ps' ≤ h → ⊥
-
-  -- At Conditional, where `a ? b : c` can't go on before `=`, nor can the whole of `a ? b : c = d` (12.14): the only thing here of
-  -- those that can't go on at Assignment either; nothing of them; nothing within the limits.
-  pub record FoundConditional (o : ℕ) (i : Bool) (f : Start) (s e : S) (n : Tree) (P : List Pair) : Type 0 where
-    pub spelled : Spells ways S Next behind o (expr Conditional i f) n s e P
-    pub stopped : Stops Conditional i n e
-    pub only : (o' : ℕ) (e' : S) (n' : Tree) (P' : List Pair) → Spells ways S Next behind o' (expr Conditional i f) n' s e' P' → Stops Assignment i n' e' → (e' ≡ e) × (n' ≡ n) × (P' ≡ P)
-
-  pub record AbsentConditional (i : Bool) (f : Start) (s : S) : Type 0 where
-    pub nothing : (o' : ℕ) (e' : S) (n' : Tree) (P' : List Pair) → Spells ways S Next behind o' (expr Conditional i f) n' s e' P' → Stops Assignment i n' e' → ⊥
-
-  pub record AbsentConditionalWithin (o h : ℕ) (i : Bool) (f : Start) (s : S) : Type 0 where
-    pub nothing : (e' : S) (n' : Tree) (P' : List Pair) → Spells ways S Next behind o (expr Conditional i f) n' s e' P' → Stops Assignment i n' e' → height n' ≤ h → ⊥
 
   -- What stands behind `new` (12.3.5): a MemberExpression; or a NewExpression behind which no `(` follows, since a `new` without
   -- arguments in it would have taken those.
@@ -114,12 +92,6 @@ module _ (S : Type 0) (Next : S → Token → S → Type 0) (behind : S → Toke
     pub stopped : Stops New true n e
     pub only : (o' : ℕ) (e' : S) (n' : Tree) (P' : List Pair) → Callee o' n' s e' P' → Stops New true n' e' → (e' ≡ e) × (n' ≡ n) × (P' ≡ P)
 
-  pub record AbsentCallee (s : S) : Type 0 where
-    pub nothing : (o' : ℕ) (e' : S) (n' : Tree) (P' : List Pair) → Callee o' n' s e' P' → Stops New true n' e' → ⊥
-
-  pub record AbsentCalleeWithin (o h : ℕ) (s : S) : Type 0 where
-    pub nothing : (e' : S) (n' : Tree) (P' : List Pair) → Callee o n' s e' P' → Stops New true n' e' → height n' ≤ h → ⊥
-
   -- the sequence that ends here can't go on, with a comma neither
   abbrev pub LaterStop : Bool → Parts → S → Type 0
   LaterStop i parts e = (t : Token) (m : S) → ReadBy Div e t m → IsTrue (stops Expression i (last_edge parts) (behind e) t)
@@ -129,9 +101,3 @@ module _ (S : Type 0) (Next : S → Token → S → Type 0) (behind : S → Toke
     pub runs : Runs ways S Next behind o (later_parts i ps) ps s e P
     pub stopped : LaterStop i ps e
     pub only : (o' : ℕ) (e' : S) (ps' : Parts) (P' : List Pair) → Runs ways S Next behind o' (later_parts i ps') ps' s e' P' → LaterStop i ps' e' → (e' ≡ e) × (ps' ≡ ps) × (P' ≡ P)
-
-  pub record AbsentLater (i : Bool) (s : S) : Type 0 where
-    pub nothing : (o' : ℕ) (e' : S) (ps' : Parts) (P' : List Pair) → Runs ways S Next behind o' (later_parts i ps') ps' s e' P' → LaterStop i ps' e' → ⊥
-
-  pub record AbsentLaterWithin (o h : ℕ) (i : Bool) (s : S) : Type 0 where
-    pub nothing : (e' : S) (ps' : Parts) (P' : List Pair) → Runs ways S Next behind o (later_parts i ps') ps' s e' P' → LaterStop i ps' e' → parts_height ps' ≤ h → ⊥

@@ -1,10 +1,8 @@
 -- From the planner's flags to the printer's, and to what `fix` promises.
-use Rattle.std.proofs.Common.{◌≡◌, ℕ, zero, suc, Bool, true, false, List, [], ◌∷◌, refl, sym, ap, subst, ◌∙◌, get_or, ◌≤◌, length, Option, Some, None, Ok, Err, arith}
+use Rattle.std.proofs.Common.{◌≡◌, ℕ, zero, suc, Bool, true, List, [], refl, sym, ap, subst, ◌∙◌, ◌≤◌, length, Option, Some, None, Ok, Err, arith}
 use Rattle.tree.specs.Tree.{Tree, SameTree}
 use Rattle.tree.specs.declared.kind.Pair.{Pair}
 use Rattle.std.specs.Str.{IsUtf8}
-use Rattle.std.specs.Prelude.{Vec}
-use Rattle.std.specs.declared.alloc.Global.{Global}
 use Rattle.early_errors.specs.Accepted.{Accepted}
 use Rattle.early_errors.proofs.Placeless.{none_either}
 use Rattle.language.specs.Claims.{Derives, WithinLimits, max_open}
@@ -16,8 +14,9 @@ use Rattle.language.proofs.lower_bound.LeastPairs.{derived_at_least}
 use Rattle.paren_planner.proofs.Totals.{wrapped_count}
 use Rattle.language.specs.Pieces.{script}
 use Rattle.language.specs.Layout.{fixed_text, has_number, wrapped_rows}
-use Rattle.paren_planner.specs.Wrapped.{is_flagged}
-use Rattle.printer.specs.Sheets.{flag_at}
+use Rattle.wrap_flags.specs.Flags.{is_flagged}
+use Rattle.wrap_flags.specs.declared.wraps.Wraps.{Wraps}
+use Rattle.printer.proofs.WrapFlags.{flag_is}
 use Rattle.printer.specs.Fits.{wrapped_by, IsPlanned}
 use Rattle.lint.specs.ReadScripts.{IsOnly, IsReading}
 use Rattle.lint.proofs.OneScript.{only_script}
@@ -36,11 +35,6 @@ use Rattle.lint.specs.Fixes.{Fixes, IsStable}
 use Rattle.lint.specs.Steps.{AnswersAlone}
 
 -- ---- flags
-
-flag_is : (bs : List Bool) (i : ℕ) → flag_at bs i ≡ get_or bs i false
-flag_is [] i = refl
-flag_is (b ∷ bs) zero = refl
-flag_is (b ∷ bs) (suc i) = flag_is bs i
 
 wrapped_is : (bs : List Bool) (r : ℕ) → wrapped_by bs r ≡ is_flagged bs r
 wrapped_is bs zero = refl
@@ -94,7 +88,7 @@ fixed_utf8 text n P utf8 derived =
     subst IsUtf8 (fixed_items n) (readable_utf8 (script_readable (has_number (wrapped_rows n script 1)) n (text_fits text n P derived) (text_worded text n P utf8 derived)))
 
 -- what `fix` answers: the text that the tree and its wrapped nodes make
-pub fixed_answer : (text : List ℕ) (parsed : Parsed) (wraps : Vec Bool Global) → IsReading text parsed.program parsed.pairs.items → AnswersAlone Fix text parsed.program parsed.pairs.items (Ok (Fixed parsed wraps))
+pub fixed_answer : (text : List ℕ) (parsed : Parsed) (wraps : Wraps) → IsReading text parsed.program parsed.pairs.items → AnswersAlone Fix text parsed.program parsed.pairs.items (Ok (Fixed parsed wraps))
 fixed_answer text parsed wraps reading = λ finds given.
     let n = parsed.program in
     let accepted = reading.accepted in

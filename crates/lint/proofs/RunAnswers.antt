@@ -2,12 +2,11 @@
 use Rattle.std.proofs.Common.{◌≡◌, ◌≢◌, ◌<◌, ◌≤◌, ◌+◌, ℕ, List, length, arith, refl, ap, sym, subst, ◌∙◌, Bool, false, Some, None, Ok, Err, inl, inr}
 use Rattle.std.proofs.lemmas.List.{length-take, take_all}
 use Rattle.std.specs.declared.option.Option.{Option}
-use Rattle.std.proofs.KnownBytes.{Keeps-refl}
 use Rattle.source_text.specs.Source.{max_bytes, IsRefusal}
 use Rattle.source_text.specs.declared.fault.Fault.{Fault}
 use Rattle.source_text.specs.declared.fault.Fault.TheVariants.{NotUtf8, TooLong, Syntax, TooDeep, Early, OutOfMemory, BadSettings, BadTable, WriteFailed, ReadFailed, UnwrapFailed, Usage}
 use Rattle.commands.specs.declared.command.Command.{Command}
-use Rattle.commands.specs.Refused.{HasPlace, place_of}
+use Rattle.commands.specs.Refused.{place_of}
 use Rattle.tree.specs.declared.kind.Pair.{Pair}
 use Rattle.tree.specs.Tree.{Tree as SyntaxTree}
 use Rattle.rules.specs.Reports.{Report}
@@ -30,12 +29,6 @@ pub more_given : (given : Option (List ℕ)) (bytes : List ℕ) → IsRead given
 more_given None bytes read long = (bytes, tt, long)
 more_given (Some xs) bytes read long =
     (xs, refl, omega (arith, length-take (max_bytes + 1) xs, ap length read, long))
-
--- where a refusal speaks of a place, it is one of the text
-pub has_place : (bytes : List ℕ) (fault : Fault) → RefusesReading bytes fault → HasPlace bytes fault
-has_place bytes (Syntax at) refused = refused.0
-has_place bytes (Early number at) refused = refused.0
-has_place bytes _ refused = tt
 
 -- a script that was read of the bytes was read of what is given
 pub script_read : (given : Option (List ℕ)) (bytes : List ℕ) (n : SyntaxTree) (P : List Pair) → IsRead given bytes → IsSource bytes → IsReading bytes n P → ReadsScript given
@@ -146,19 +139,3 @@ module _ (finds : View → List Report) (command : Command) (bytes : List ℕ) (
 
   pub refused_bytes : (fault : Fault) (failed : Bool) (seen : Seen) → failed ≡ false → IsRefusal bytes fault → IsBefore bytes second failed seen → Refuses finds command seen fault (0, 0)
   refused_bytes fault failed seen none refused before = bytes_refused fault seen refused (subst (λ f. IsBefore bytes second f seen) none before)
-
-  -- nothing is given and nothing written
-  bare : Bool → Seen
-  bare failed = record { given = None; second = second; before = None; after = None; reader_failed = false; second_failed = failed; writer_failed = false }
-
-  bare_before : (failed : Bool) → IsBefore bytes second failed (bare failed)
-  unfolding bare
-  bare_before failed = record { read = tt; of_second = refl; of_failed = refl; reader = refl; writer = refl; kept = Keeps-refl None }
-
-  never_usage : (failed : Bool) (place : ℕ × ℕ) → Refuses finds command (bare failed) Usage place → ⊥
-  never_usage failed place refuses = refuses.2.2.1
-
-  -- no run is refused as a command line is
-  pub not_usage : (failed : Bool) (fault : Fault) (place : ℕ × ℕ) → ((seen : Seen) → IsBefore bytes second failed seen → Refuses finds command seen fault place) → fault ≢ Usage
-  not_usage failed fault place refuses is =
-      never_usage failed place (subst (λ f. Refuses finds command (bare failed) f place) is (refuses (bare failed) (bare_before failed)))

@@ -24,7 +24,7 @@ use Rattle.language.specs.Claims.{Table, Derives, Sound}
 use Rattle.language.specs.ExactCells.{Exact}
 use Rattle.estree_json.specs.Json.{json_text}
 use Rattle.cost_table.specs.Tables.{MeetsBounds}
-use Rattle.paren_planner.specs.Wrapped.{is_flagged}
+use Rattle.wrap_flags.specs.Flags.{is_flagged}
 use Rattle.paren_planner.specs.PairNodes.{pair_rows, spans_but_needed}
 use Rattle.scopes.specs.Found.{found}
 use Rattle.rules.specs.Reports.{Report}

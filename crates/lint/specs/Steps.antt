@@ -43,7 +43,7 @@ status_of (Table parsed plan) = 0
 abbrev pub IsWritable : Answer → Type 0
 IsWritable (Text text status) = Unit {0}
 IsWritable (Unchanged text) = Unit {0}
-IsWritable (Fixed parsed wraps) = IsScript parsed.program parsed.pairs.items × AreWraps parsed.program wraps.items
+IsWritable (Fixed parsed wraps) = IsScript parsed.program parsed.pairs.items × AreWraps parsed.program wraps.flags.items
 IsWritable (Table parsed plan) = length plan.table.rows.items ≤ 16777216
 
 -- why bytes give no settings

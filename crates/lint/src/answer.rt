@@ -9,6 +9,7 @@ use cost_certificate::write_table;
 use paren_planner::Plan;
 use parser::Parsed;
 use source_text::{DeviceFault, Sink, write_text};
+use wrap_flags::Wraps;
 
 /// What is to be written, and the exit status behind it.
 #[derive(Drop)]
@@ -18,7 +19,7 @@ pub enum Answer<'s> {
     /// A script's own text, which isn't copied; status 0.
     Unchanged(&'s str),
     /// The fixed text of a script, which is made as it is written by which nodes are wrapped; status 0.
-    Fixed(Parsed<'s>, Vec<bool>),
+    Fixed(Parsed<'s>, Wraps),
     /// The text of a script's cost table, which is made as it is written; status 0.
     Table(Parsed<'s>, Plan),
 }

@@ -106,7 +106,7 @@ fn report<'s>(
 /// # Errors
 ///
 /// `BadSettings` where the settings are too long, aren't UTF-8 or are refused; `ReadFailed` where the reader fails; `OutOfMemory`.
-pub fn check<'s, S: Feed>(
+pub(crate) fn check<'s, S: Feed>(
     alloc: Global,
     rules: &[Box<dyn Rule>],
     source: &Source<'_>,

@@ -80,7 +80,7 @@ fn unwrapped<'s>(
 ///
 /// `BadSettings` and `BadTable` where the second file is refused; `ReadFailed` where its reader fails; `TooLong` and `UnwrapFailed` of
 /// `unwrap`, as `unwrap_text`; `OutOfMemory`.
-pub fn answer<'s, S: Feed>(
+pub(crate) fn answer<'s, S: Feed>(
     alloc: Global,
     command: Command,
     rules: &[Box<dyn Rule>],

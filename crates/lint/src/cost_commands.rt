@@ -24,7 +24,7 @@ const MAX_TABLE: usize = 2_147_483_648;
 /// # Errors
 ///
 /// `OutOfMemory`.
-pub fn cost<'s>(alloc: Global, parsed: Parsed<'s>) -> Result<Answer<'s>, Fault>
+pub(crate) fn cost<'s>(alloc: Global, parsed: Parsed<'s>) -> Result<Answer<'s>, Fault>
     requires script { IsScript parsed.program parsed.pairs.items }
     ensures answer { (text : _) → AnswersAlone Cost text parsed.entry.program parsed.entry.pairs.items result }
     ensures writable { IfOk result IsWritable }
@@ -67,7 +67,7 @@ fn pairs_line(alloc: Global, pairs: usize, least: u32) -> Result<String, AllocEr
 ///
 /// `BadTable` with the row and the reason, where the second file is no table or one that isn't sound for the script; `ReadFailed` where
 /// the reader fails; `OutOfMemory`.
-pub fn verify<'s, S: Feed>(
+pub(crate) fn verify<'s, S: Feed>(
     alloc: Global,
     parsed: &Parsed<'_>,
     second: &mut S,

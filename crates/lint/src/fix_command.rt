@@ -13,6 +13,7 @@ use parser::Parsed;
 use printer::{print, print_text};
 use source_text::{DeviceFault, Fault, Sink, Source};
 use std::alloc::{AllocError, Global};
+use wrap_flags::Wraps;
 
 /// The fixed text of a script: its tree in one layout, with parentheses just round the nodes that want them.
 ///
@@ -29,19 +30,19 @@ pub fn fix(alloc: Global, parsed: &Parsed<'_>) -> Result<String, AllocError>
     Ok(text)
 }
 
-/// Writes the fixed text of a script as it makes it, where it is said of each row, in order, whether its node is wrapped. No memory; what
-/// was written is always a beginning of it.
+/// Writes the fixed text of a script as it makes it, by which of its nodes are wrapped. No memory; what was written is always a beginning of
+/// it.
 ///
 /// # Errors
 ///
 /// A `DeviceFault` where the writer fails; it is not asked again.
-pub fn write_fixed<W: Sink>(
+pub(crate) fn write_fixed<W: Sink>(
     parsed: &Parsed<'_>,
-    wraps: &[bool],
+    wraps: &Wraps,
     writer: &mut W,
 ) -> Result<(), DeviceFault>
     requires script { IsScript parsed.now.program parsed.now.pairs.items }
-    requires wraps { AreWraps parsed.now.program wraps.now }
+    requires wraps { AreWraps parsed.now.program wraps.now.flags.items }
     requires ready { W.failed writer.old ≡ false }
     ensures { WritesText (fixed_text parsed.now.program) result (W.taken writer.old) (W.taken writer.new) (W.failed writer.new) }
 {

@@ -16,14 +16,6 @@ module _ (Q : List ℕ → ℕ → ℕ → Type 0) (A : Type 0) (name : A → Li
   Apart from to [] = from ≤ to
   Apart from to (x ∷ xs) = (from ≤ start x) × (start x < stop x) × Q (name x) (start x) (stop x) × Apart (stop x) to xs
 
-  pub apart_on : (from to : ℕ) (xs : List A) → Apart from to xs → from ≤ to
-  apart_on from to [] h = h
-  apart_on from to (x ∷ xs) h =
-      let a = h.0 in
-      let b = h.1 in
-      let c = apart_on (stop x) to xs h.3 in
-      omega (arith, a, b, c)
-
   pub apart_within : (a from to b : ℕ) (xs : List A) → a ≤ from → to ≤ b → Apart from to xs → Apart a b xs
   apart_within a from to b [] x y h = omega (arith, x, y, h)
   apart_within a from to b (z ∷ xs) x y h = let c = h.0 in (omega (arith, x, c), h.1, h.2, apart_within (stop z) (stop z) to b xs (omega arith) y h.3)

@@ -1,7 +1,6 @@
 -- What each part of a node gives, as loops over the parts go.
 use Rattle.std.proofs.Common.{◌≡◌, ℕ, zero, suc, ◌+◌, ◌*◌, ◌<◌, ◌≤◌, List, [], ◌++◌, Option, None, sym, ap, ◌∙◌, refl, arith, add-one, append_assoc, append-nil}
-use Rattle.tree.specs.Tree.{Tree, Parts, none, part, gap, parts_of, part_at, part_count, parts_drop, node_total}
-use Rattle.tree.proofs.PartWalk.{optional_total, optional_smaller}
+use Rattle.tree.specs.Tree.{Tree, Parts, none, part, gap, part_at, part_count, parts_drop}
 use Rattle.name_tables.specs.PatternParts.{at_part}
 use Rattle.name_tables.specs.BoundNames.{each_part}
 
@@ -35,10 +34,6 @@ module _ {B : Type 0} (f : Tree → List B) where
 
   pub push-end : (ps : Parts) (i : ℕ) (acc total : List B) → part_count ps ≤ i → acc ++ each_part f (parts_drop i ps) ≡ total → acc ≡ total
   push-end ps i acc total l so = sym (append-nil acc) ∙ ap (λ a. acc ++ a) (sym (drop-past ps i l)) ∙ so
-
--- a part is smaller than its node
-pub below : (t : Tree) (i : ℕ) (o : Option Tree) → o ≡ part_at (parts_of t) i → 3 * optional_total o + 2 < 3 * node_total t
-below t i o e = let h = optional_smaller t i o e in omega (arith, h)
 
 pub none_at : (ps : Parts) → part_count ps ≡ 0 → (i : ℕ) → None ≡ part_at ps i
 none_at none e i = refl

@@ -16,7 +16,7 @@ use Rattle.language.specs.FirstPart.{lead, others}
 use Rattle.language.specs.Vocabulary.{is, is_target, is_pattern, is_word_operator, literal_class, Operator, op_binary, op_power, operator_of}
 use Rattle.language.specs.Pieces.{Role, expr, chain_part, tagged_quasi, template_element, Slot, fixed, left, tail, callee, lead_chain, lead_pattern, PieceOf, Piece, tok, may, many, ahead, unbroken, ending, open_parameters, close_parameters, sub, absent, never, lay, Spelling, only, settle, settle_piece, sign, put, is_none}
 use Rattle.language.specs.Pieces as piece
-use Rattle.language.specs.Expressions.{expressions, op_arrow, arrow_end, binary_ways, logical_ways, selector, after_number, member_link, call_link, arguments, chain_element, first_has_optional, template_elements, in_brackets, sequence}
+use Rattle.language.specs.Expressions.{expressions, op_arrow, binary_ways, logical_ways, selector, after_number, member_link, call_link, arguments, chain_element, first_has_optional, template_elements, in_brackets, sequence}
 use Rattle.language.specs.Grammar.{spellings, ways, ways_bare, own_rank, own_in, own_start}
 use Rattle.language.specs.RowPositions.{has_row}
 use Rattle.language.specs.Derivation.{Among, first, later}
@@ -150,9 +150,6 @@ chunks_tokens b (gap ps) = omega arith
 chunks_tokens b (part q none) = omega arith
 chunks_tokens b (part q (gap ps)) = omega arith
 chunks_tokens b (part q (part e ps)) = omega arith
-
-arrow_end_tokens : (g : Flags) → 1 ≤ tokens slot_tokens (arrow_end g)
-arrow_end_tokens g = omega arith
 
 arrows_heavy : (g : Flags) (ps : Parts) → Heavy 1 (op_arrow g ps)
 arrows_heavy g none = heavy_one (omega arith)

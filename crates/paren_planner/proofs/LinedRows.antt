@@ -11,7 +11,7 @@ use Rattle.tree.specs.declared.node_use.NodeUse.{NodeUse}
 use Rattle.language.specs.declared.Rank.TheVariants.{Expression}
 use Rattle.language.specs.declared.Start.{Start}
 use Rattle.language.specs.declared.Start.TheVariants.{Any}
-use Rattle.language.specs.Pieces.{Role, expr, chain_part, pattern, Slot, fixed, left, lead, tail, callee, lead_chain, lead_pattern, settle, Piece, sub, settle_piece, Spelling}
+use Rattle.language.specs.Pieces.{Role, expr, chain_part, pattern, Piece, sub, settle_piece, Spelling}
 use Rattle.language.specs.Grammar.{ways, ways_bare, spellings, patterns, starts, can_run}
 use Rattle.language.specs.RowPositions.{roles, first_roles, widest, rows, parts_rows}
 use Rattle.language.specs.Layout.{some_way, first_way}

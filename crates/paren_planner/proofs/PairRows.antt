@@ -37,7 +37,7 @@ use Rattle.cost_table.proofs.RowNodes.{wide_itself, wide_start, nodes-length}
 use Rattle.paren_planner.proofs.RowStarts.{row_by_position}
 use Rattle.paren_planner.specs.PairNodes.{pair_nodes, run_pair_nodes, node_of_row, PairsHaveTheirRows, is_direct, pair_rows, run_pair_rows, spans_but_needed, ExtraPairsAreExtra}
 use Rattle.paren_planner.specs.Extra.{extra_spans, span_of, is_innermost}
-use Rattle.paren_planner.specs.Wrapped.{is_flagged}
+use Rattle.wrap_flags.specs.Flags.{is_flagged}
 use Rattle.paren_planner.proofs.Bytes.{way-rows, node-rows}
 
 -- The rows of a node don't depend on the way in which it is spelled.

@@ -10,7 +10,7 @@ use Rattle.paren_planner.specs.declared.wrap_plan.Plan.{Plan}
 use Rattle.cost_table.specs.declared.table.Row.{Row}
 use Rattle.cost_table.specs.Costs.{capped}
 use Rattle.cost_table.specs.Rows.{table_rows, shown}
-use Rattle.paren_planner.specs.Wrapped.{is_flagged}
+use Rattle.wrap_flags.specs.Flags.{is_flagged}
 use Rattle.paren_planner.specs.Plans.{HasPlan, IsPlan}
 use Rattle.paren_planner.proofs.Bounds.{below_more, least_below, capped_below}
 use Rattle.paren_planner.proofs.Turns.{total_is, table-length}
@@ -42,7 +42,7 @@ plannable n b o T k h e q rows_are =
     )
 
 pub is_plan : (n : Tree) (p : Plan) → p.table.rows.items ≡ table_rows n script → rows n script ≤ 16777216 → Some p.table.total ≡ least n script
-    → ((r : ℕ) → is_flagged p.wrapped.items r ≡ has_number (wrapped_rows n script 1) r) → IsPlan n p
+    → ((r : ℕ) → is_flagged p.wraps.flags.items r ≡ has_number (wrapped_rows n script 1) r) → IsPlan n p
 is_plan n p rows_are few total wrapped = record {
   cells = ap (map shown) rows_are ∙ script_shown n few;
   bounds = plan_bounds p.table.rows.items p.table.total n rows_are few total;

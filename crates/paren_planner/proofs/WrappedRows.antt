@@ -18,7 +18,8 @@ use Rattle.spellings.specs.Wherever.{with_own}
 use Rattle.spellings.proofs.Wherever.{found_roles, AnySpelling, any_spelling}
 use Rattle.cost_table.specs.Weighed.{settled_at}
 use Rattle.cost_table.specs.Rows.{table_rows, parts_table}
-use Rattle.paren_planner.specs.Wrapped.{own_flag, unwrapped, flags, parts_flags, is_flagged}
+use Rattle.paren_planner.specs.Wrapped.{own_flag, unwrapped, flags, parts_flags}
+use Rattle.wrap_flags.specs.Flags.{is_flagged}
 use Rattle.spellings.proofs.SlotSteps.{own_again}
 use Rattle.cost_table.proofs.Known.{fits_widest}
 

@@ -2,7 +2,7 @@
 use Rattle.std.specs.Prelude.{◌+◌, ◌-◌, ◌^◌, min, Bool, true, false, not, cond, ◌&&◌, nat_eq, List, [], ◌∷◌, ◌++◌}
 use Rattle.tree.specs.declared.kind.Span.{Span}
 use Rattle.spellings.specs.declared.pairs.PairRow.{PairRow}
-use Rattle.paren_planner.specs.Wrapped.{is_flagged}
+use Rattle.wrap_flags.specs.Flags.{is_flagged}
 
 -- whether the first of these pairs is the innermost of its node: the next stands round another
 abbrev pub is_innermost : List PairRow → Bool

@@ -90,4 +90,4 @@ at_the_start R = record { here = record { own = script; may_wrap = true }; outer
 
 -- the same as vectors, the innermost node last
 abbrev pub shown_marks : List Row → WrapContext → List WrapContext → RowFlags → Marks
-shown_marks T x xs w = record { here = round x; outer = reverse (map round xs); rows = drop w.next_row T; flags = w.flags.items }
+shown_marks T x xs w = record { here = round x; outer = reverse (map round xs); rows = drop w.next_row T; flags = w.wraps.flags.items }

@@ -13,7 +13,7 @@ use Rattle.language.specs.RowPositions.{has_row, rows}
 use Rattle.language.specs.Claims.{row_nodes}
 use Rattle.tree.specs.declared.kind.Span.{Span}
 use Rattle.spellings.specs.Groupings.{grouping, row_starts}
-use Rattle.paren_planner.specs.Wrapped.{is_flagged}
+use Rattle.wrap_flags.specs.Flags.{is_flagged}
 use Rattle.paren_planner.specs.Extra.{extra_spans, span_of}
 
 module _ (Ways : Role → Tree → List (List (PieceOf Role))) (S : Type 0) (Next : S → Token → S → Type 0) (behind : S → Token) where

@@ -12,7 +12,7 @@ use Rattle.paren_planner.specs.declared.wrap_plan.Plan.{Plan}
 use Rattle.language.specs.ExactCells.{Exact}
 use Rattle.cost_table.specs.Rows.{cell_rows, shown}
 use Rattle.cost_table.specs.Tables.{MeetsBounds, table_of}
-use Rattle.paren_planner.specs.Wrapped.{is_flagged}
+use Rattle.wrap_flags.specs.Flags.{is_flagged}
 
 -- some source text derives this script with these grouping pairs
 pub record IsDerived (n : Tree) (P : List Pair) : Type 0 where
@@ -37,5 +37,5 @@ pub record IsPlan (n : Tree) (p : Plan) : Type 0 where
   pub bounds : MeetsBounds (table_of p.table.rows.items p.table.total) n
   pub total : Some p.table.total ≡ least n script
   pub count : p.table.total ≡ length (wrapped_rows n script 1)
-  pub wrapped : (r : ℕ) → is_flagged p.wrapped.items r ≡ has_number (wrapped_rows n script 1) r
+  pub wrapped : (r : ℕ) → is_flagged p.wraps.flags.items r ≡ has_number (wrapped_rows n script 1) r
   pub exact : (text : List ℕ) (P : List Pair) → IsUtf8 text → Derives text n P → Exact (table_of p.table.rows.items p.table.total) n

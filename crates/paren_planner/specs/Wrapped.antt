@@ -1,5 +1,5 @@
 -- Of each row in a node, in the order of the rows, whether its node is wrapped.
-use Rattle.std.specs.Prelude.{ℕ, zero, suc, Bool, false, cond, List, [], ◌∷◌, ◌++◌, replicate, get_or}
+use Rattle.std.specs.Prelude.{ℕ, Bool, false, cond, List, [], ◌∷◌, ◌++◌, replicate}
 use Rattle.tree.specs.Tree.{Tree, node, Parts, none, part, gap, parts_of}
 use Rattle.language.specs.Pieces.{Role, expr}
 use Rattle.language.specs.Grammar.{ways}
@@ -31,8 +31,3 @@ unfoldable mutual
 -- below a node at a position where it is spelled directly, or isn't
 unfoldable pub inner_flags : Tree → Role → List Bool
 inner_flags n a = cond (some_way (ways a n)) (parts_flags (parts_of n) (first_roles (ways a n))) (unwrapped (parts_rows (parts_of n) (first_roles (ways (widest a) n))))
-
--- the flag of a row, by its number, counted from 1
-abbrev pub is_flagged : List Bool → ℕ → Bool
-is_flagged bs zero = false
-is_flagged bs (suc i) = get_or bs i false

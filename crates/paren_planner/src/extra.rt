@@ -3,10 +3,10 @@
 ghost use Rattle.std.specs.Prelude.{◌≡◌, ◌+◌, ◌<◌, length, drop, IfOk};
 ghost use Rattle.paren_planner.specs.Extra.{extra_spans, is_innermost as is_innermost_of, span_of};
 
-use crate::wrap_plan::is_wrapped;
 use spellings::PairRow;
 use std::alloc::{AllocError, Global};
 use tree::Span;
+use wrap_flags::Wraps;
 
 /// The extra ones of a script's grouping pairs, in their order, each from its `(` to behind its `)`: of each node's pairs the
 /// innermost is needed where the node is wrapped, and all others are extra. Of each row, in order, the flags say whether its node is
@@ -18,14 +18,14 @@ use tree::Span;
 pub fn extra_pairs(
     alloc: Global,
     groupings: &[PairRow],
-    wraps: &[bool],
+    wraps: &Wraps,
 ) -> Result<Vec<Span>, AllocError>
-    ensures { IfOk result (λ found. found.items ≡ extra_spans wraps.now groupings.now) }
+    ensures { IfOk result (λ found. found.items ≡ extra_spans wraps.now.flags.items groupings.now) }
 {
     let mut spans = Vec::new(alloc);
     for index in 0..groupings.len() {
         let grouping = groupings[index];
-        let needed = is_innermost(groupings, index) && is_wrapped(wraps, grouping.row);
+        let needed = is_innermost(groupings, index) && wraps.is_wrapped(grouping.row);
         if !needed {
             spans.push(span(grouping))?;
         }

@@ -13,7 +13,7 @@ ghost use Rattle.paren_planner.specs.Noted.{ScriptSteps};
 ghost use Rattle.paren_planner.specs.Passing.{ScriptPassing, may_pass, pairs_of};
 
 use crate::cost_pass::cost_pass;
-use crate::step_walk::visit_node;
+use crate::step_walk::{NodeContext, visit_node};
 use crate::steps::Steps;
 use crate::text_pairs::TextPairs;
 use crate::wrap_pass::wrap_pass;
@@ -57,15 +57,12 @@ pub(crate) fn weigh_by_pairs(
     let mut steps = Steps::new(alloc);
     let above = Position::Script;
     let slot = Slot::Fixed(above);
-    visit_node(
-        program.finished_root(),
-        &above,
-        &slot,
-        false,
-        0,
-        pairs,
-        &mut steps,
-    )?;
+    let context = NodeContext {
+        above: &above,
+        slot: &slot,
+        in_chain: false,
+    };
+    visit_node(program.finished_root(), context, 0, pairs, &mut steps)?;
     let mut table = CostTable::new(alloc);
     let sums = cost_pass(alloc, &steps, &mut table)?;
     let total = sums.has_in.any;
@@ -91,8 +88,8 @@ fn planned(
 {
     let mut table = weights.table;
     table.set_total(total);
-    let wrapped = wrap_pass(alloc, &weights.steps, &table, table.row_count())?;
-    Ok(Plan { table, wrapped })
+    let wraps = wrap_pass(alloc, &weights.steps, &table, table.row_count())?;
+    Ok(Plan { table, wraps })
 }
 
 /// The plan of a script. Steps and memory grow with the tree.

@@ -29,32 +29,40 @@ use spellings::{SlotCursor, holds_chain, is_leaf, leads_chain, node_production};
 use std::alloc::AllocError;
 use tree::{Kind, Node};
 
-/// Notes the steps of a node at a slot of the node above; says whether each is a node that costs nothing. `in_chain`: the node is known to be
-/// part of a chain, with a `?.` in it or below it. Its text comes from the place `from` on; where the text's pairs are known, nodes are
-/// passed by them.
+/// Where a node stands.
+#[derive(Clone, Copy)]
+pub(crate) struct NodeContext<'a> {
+    /// The widest position of the node above.
+    pub(crate) above: &'a Position,
+    /// Where it stands in the spelling of that node.
+    pub(crate) slot: &'a Slot,
+    /// It is known to be part of a chain, with a `?.` in it or below it.
+    pub(crate) in_chain: bool,
+}
+
+/// Notes the steps of a node where it stands; says whether each is a node that costs nothing. The node's text comes from the place `from`
+/// on; where the text's pairs are known, nodes are passed by them.
 #[cycle(visiting)]
 #[inline(always)]
 pub(crate) fn visit_node(
     node: Node,
-    above: &Position,
-    slot: &Slot,
-    in_chain: bool,
+    context: NodeContext,
     from: usize,
     pairs: &TextPairs,
     steps: &mut Steps,
 ) -> Result<bool, AllocError>
-    requires chain { in_chain ≡ true → has_optional (node_tree node) ≡ true }
-    requires passing { may_pass pairs.now ≡ true → Passing (pairs_of pairs.now) from node (settled_at (role_of above.now) (slot_of slot.now)) }
-    ensures { IfOk result (λ free. Noted (may_pass pairs.now) (role_of above.now) (slot_of slot.now) (node_tree node.entry) free steps.old steps.new) }
+    requires chain { context.in_chain ≡ true → has_optional (node_tree node) ≡ true }
+    requires passing { may_pass pairs.now ≡ true → Passing (pairs_of pairs.now) from node (settled_at (role_of context.above.now) (slot_of context.slot.now)) }
+    ensures { IfOk result (λ free. Noted (may_pass pairs.now) (role_of context.entry.above.now) (slot_of context.entry.slot.now) (node_tree node.entry) free steps.old steps.new) }
 {
     if may_be_leaf(node.kind()) {
-        return visit_atom(node, above, slot, in_chain, pairs, steps);
+        return visit_atom(node, context, pairs, steps);
     }
-    if is_passed(pairs, node, slot, from) {
+    if is_passed(pairs, node, context.slot, from) {
         steps.push(Step::Passed(row_count(node)))?;
         return Ok(true);
     }
-    visit_at(node, above, slot, in_chain, pairs, steps)
+    visit_at(node, context, pairs, steps)
 }
 
 /// The same of an identifier or a literal.
@@ -62,24 +70,22 @@ pub(crate) fn visit_node(
 #[inline(always)]
 fn visit_atom(
     node: Node,
-    above: &Position,
-    slot: &Slot,
-    in_chain: bool,
+    context: NodeContext,
     pairs: &TextPairs,
     steps: &mut Steps,
 ) -> Result<bool, AllocError>
-    requires chain { in_chain ≡ true → has_optional (node_tree node) ≡ true }
-    requires passing { may_pass pairs.now ≡ true → PassingBelow (pairs_of pairs.now) node (settled_at (role_of above.now) (slot_of slot.now)) }
-    ensures { IfOk result (λ free. Noted (may_pass pairs.now) (role_of above.now) (slot_of slot.now) (node_tree node.entry) free steps.old steps.new) }
+    requires chain { context.in_chain ≡ true → has_optional (node_tree node) ≡ true }
+    requires passing { may_pass pairs.now ≡ true → PassingBelow (pairs_of pairs.now) node (settled_at (role_of context.above.now) (slot_of context.slot.now)) }
+    ensures { IfOk result (λ free. Noted (may_pass pairs.now) (role_of context.entry.above.now) (slot_of context.entry.slot.now) (node_tree node.entry) free steps.old steps.new) }
 {
-    if !is_leaf(node, widest_of(slot)) {
-        return visit_at(node, above, slot, in_chain, pairs, steps);
+    if !is_leaf(node, widest_of(context.slot)) {
+        return visit_at(node, context, pairs, steps);
     }
-    if !has_row(slot) {
+    if !has_row(context.slot) {
         return Ok(true);
     }
-    if !takes_atom(slot) {
-        return visit_at(node, above, slot, in_chain, pairs, steps);
+    if !takes_atom(context.slot) {
+        return visit_at(node, context, pairs, steps);
     }
     steps.push(Step::Free(node.kind(), Rank::Primary))?;
     Ok(true)
@@ -90,26 +96,24 @@ fn visit_atom(
 #[inline(never)]
 fn visit_at(
     node: Node,
-    above: &Position,
-    slot: &Slot,
-    in_chain: bool,
+    context: NodeContext,
     pairs: &TextPairs,
     steps: &mut Steps,
 ) -> Result<bool, AllocError>
-    requires chain { in_chain ≡ true → has_optional (node_tree node) ≡ true }
-    requires passing { may_pass pairs.now ≡ true → PassingBelow (pairs_of pairs.now) node (settled_at (role_of above.now) (slot_of slot.now)) }
-    ensures { IfOk result (λ free. Noted (may_pass pairs.now) (role_of above.now) (slot_of slot.now) (node_tree node.entry) free steps.old steps.new) }
+    requires chain { context.in_chain ≡ true → has_optional (node_tree node) ≡ true }
+    requires passing { may_pass pairs.now ≡ true → PassingBelow (pairs_of pairs.now) node (settled_at (role_of context.above.now) (slot_of context.slot.now)) }
+    ensures { IfOk result (λ free. Noted (may_pass pairs.now) (role_of context.entry.above.now) (slot_of context.entry.slot.now) (node_tree node.entry) free steps.old steps.new) }
 {
-    let own = widest_of(slot);
-    let Some(production) = node_production(node, own, in_chain) else {
-        steps.push(Step::Leaf(node_step(node, above, slot, None)))?;
+    let own = widest_of(context.slot);
+    let Some(production) = node_production(node, own, context.in_chain) else {
+        steps.push(Step::Leaf(node_step(node, context, None)))?;
         return Ok(false);
     };
-    if is_settled(slot) && has_fixed_slots(&production) {
+    if is_settled(context.slot) && has_fixed_slots(&production) {
         return visit_parts(node, &own, &production, pairs, steps);
     }
     let requirements = production.requirements();
-    let visit = node_step(node, above, slot, Some(requirements));
+    let visit = node_step(node, context, Some(requirements));
     if node.part_count() == 0 {
         steps.push(Step::Leaf(visit))?;
         return Ok(false);
@@ -153,7 +157,12 @@ fn visit_parts(
             return Ok(false);
         };
         let in_chain = leads_chain(is_chain, index);
-        let is_free = visit_node(part, own, &slot, in_chain, from, pairs, steps)?;
+        let context = NodeContext {
+            above: own,
+            slot: &slot,
+            in_chain,
+        };
+        let is_free = visit_node(part, context, from, pairs, steps)?;
         are_free &= is_free;
         from = part.span().end;
     }
@@ -228,21 +237,16 @@ fn widest_of(slot: &Slot) -> Position
     }
 }
 
-/// The step of a node at a slot of the node above.
+/// The step of a node where it stands.
 #[inline(always)]
-fn node_step(
-    node: Node,
-    above: &Position,
-    slot: &Slot,
-    requirements: Option<Requirements>,
-) -> NodeStep
-    ensures visit { IsVisit (role_of above.now) (slot_of slot.now) (node_tree node.entry) result }
+fn node_step(node: Node, context: NodeContext, requirements: Option<Requirements>) -> NodeStep
+    ensures visit { IsVisit (role_of context.entry.above.now) (slot_of context.entry.slot.now) (node_tree node.entry) result }
     ensures requirements { result.requirements ≡ requirements }
 {
     NodeStep {
         kind: node.kind(),
-        above: *above,
-        slot: *slot,
+        above: *context.above,
+        slot: *context.slot,
         requirements,
     }
 }

@@ -5,7 +5,7 @@ ghost use Rattle.spelling_table.specs.Outlines.{role_of, slot_of};
 ghost use Rattle.paren_planner.specs.Steps.{outline_of, place_of, has_row_at};
 ghost use Rattle.cost_table.specs.Weighed.{is_plain_outline, role_free, slot_free};
 
-use cost_table::{is_plain, widest};
+use cost_table::{is_plain_outline, widest};
 use grammar::accepts_rank;
 use language::Rank;
 use segmented_vec::SegmentedVec;
@@ -27,7 +27,7 @@ pub(crate) fn bare_outline(requirements: Requirements) -> Outline
 pub(crate) fn asks_no_more(requirements: Requirements) -> bool
     ensures { result ≡ is_plain_outline (outline_of requirements) }
 {
-    is_plain(bare_outline(requirements))
+    is_plain_outline(bare_outline(requirements))
 }
 
 /// Whether what asks for no more than its symbol may stand at a slot, wherever the node above stands.

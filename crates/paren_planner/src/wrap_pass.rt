@@ -11,6 +11,7 @@ use crate::steps::{NodeStep, Step, Steps, bare_outline};
 use cost_table::{CostTable, exceeds, is_zero, sum};
 use spelling_table::{Position, Requirements, WHOLE, fits, resolve_slot};
 use std::alloc::{AllocError, Global};
+use wrap_flags::Wraps;
 
 /// Where the steps stand: the position of the innermost open node, as it is with its pair or without, and whether a node in it may be
 /// wrapped: all nodes round it are spelled, and what it costs there isn't nothing.
@@ -20,21 +21,21 @@ struct WrapContext {
     may_wrap: bool,
 }
 
-/// Of each row that was met, in order, whether its node is wrapped, and the index of the next row in the table, which has no rows of nodes
-/// that the walk passes.
+/// Which nodes of the rows that were met are wrapped, and the index of the next row in the table, which has no rows of nodes that the walk
+/// passes.
 #[derive(Drop)]
 struct RowFlags {
-    flags: Vec<bool>,
+    wraps: Wraps,
     next_row: usize,
 }
 
 impl RowFlags {
     /// Says whether the node of the next row is wrapped.
     fn push(&mut self, table: &CostTable, flag: bool) -> Result<(), AllocError>
-        ensures flags { OnOk result (self.new.flags.items ≡ self.old.flags.items ++ flag ∷ []) }
+        ensures flags { OnOk result (self.new.wraps.flags.items ≡ self.old.wraps.flags.items ++ flag ∷ []) }
         ensures rows { OnOk result (drop self.new.next_row table.now.rows.items ≡ others (drop self.old.next_row table.now.rows.items)) }
     {
-        self.flags.push(flag)?;
+        self.wraps.push(flag)?;
         if self.next_row < table.row_count() {
             self.next_row += 1;
         }
@@ -43,10 +44,10 @@ impl RowFlags {
 
     /// The rows in a node that the walk passes, so many: the table has none of them, and none of their nodes is wrapped.
     fn pass(&mut self, count: u32) -> Result<(), AllocError>
-        ensures flags { OnOk result (self.new.flags.items ≡ self.old.flags.items ++ unwrapped count) }
+        ensures flags { OnOk result (self.new.wraps.flags.items ≡ self.old.wraps.flags.items ++ unwrapped count) }
         ensures row { self.new.next_row ≡ self.old.next_row }
     {
-        self.flags.resize(self.flags.len() + count as usize, false)
+        self.wraps.push_unwrapped(count)
     }
 }
 
@@ -56,8 +57,8 @@ pub(crate) fn wrap_pass(
     steps: &Steps,
     table: &CostTable,
     capacity: usize,
-) -> Result<Vec<bool>, AllocError>
-    ensures { IfOk result (λ wrapped. wrapped.items ≡ (marked_through steps.now (at_the_start table.now.rows.items)).flags) }
+) -> Result<Wraps, AllocError>
+    ensures { IfOk result (λ wraps. wraps.flags.items ≡ (marked_through steps.now (at_the_start table.now.rows.items)).flags) }
 {
     let mut outer = Vec::new(alloc);
     let mut around = WrapContext {
@@ -65,7 +66,7 @@ pub(crate) fn wrap_pass(
         may_wrap: true,
     };
     let mut wrapped = RowFlags {
-        flags: Vec::with_capacity(alloc, capacity)?,
+        wraps: Wraps::with_capacity(alloc, capacity)?,
         next_row: 0,
     };
     for index in 0..steps.len() {
@@ -77,7 +78,7 @@ pub(crate) fn wrap_pass(
             &mut wrapped,
         )?;
     }
-    Ok(wrapped.flags)
+    Ok(wrapped.wraps)
 }
 
 /// Takes one step of the walk: chooses for its node, if it has a row, whether it is wrapped.
@@ -136,7 +137,7 @@ fn pass_step(
 
 /// A node that isn't wrapped.
 fn pass_node(visit: &NodeStep, table: &CostTable, wrapped: &mut RowFlags) -> Result<(), AllocError>
-    ensures flags { OnOk result (wrapped.new.flags.items ≡ wrapped.old.flags.items ++ cond (has_row_at (slot_of visit.now.slot)) (false ∷ []) []) }
+    ensures flags { OnOk result (wrapped.new.wraps.flags.items ≡ wrapped.old.wraps.flags.items ++ cond (has_row_at (slot_of visit.now.slot)) (false ∷ []) []) }
     ensures rows { OnOk result (drop wrapped.new.next_row table.now.rows.items ≡ rows_after visit.now (drop wrapped.old.next_row table.now.rows.items)) }
 {
     if !visit.has_row() {
@@ -152,7 +153,7 @@ fn wrap_leaf(
     own: Position,
     wrapped: &mut RowFlags,
 ) -> Result<(), AllocError>
-    ensures flags { OnOk result (wrapped.new.flags.items ≡ wrapped.old.flags.items ++ cond (has_row_at (slot_of visit.now.slot)) (flag_at (slice_get table.now.rows.items wrapped.old.next_row) (stands_at (role_of own) visit.now) visit.now.requirements ∷ []) []) }
+    ensures flags { OnOk result (wrapped.new.wraps.flags.items ≡ wrapped.old.wraps.flags.items ++ cond (has_row_at (slot_of visit.now.slot)) (flag_at (slice_get table.now.rows.items wrapped.old.next_row) (stands_at (role_of own) visit.now) visit.now.requirements ∷ []) []) }
     ensures rows { OnOk result (drop wrapped.new.next_row table.now.rows.items ≡ rows_after visit.now (drop wrapped.old.next_row table.now.rows.items)) }
 {
     if !visit.has_row() {
@@ -172,7 +173,7 @@ fn wrap_parent(
 ) -> Result<(), AllocError>
     requires { around.old.may_wrap ≡ true }
     ensures around { OnOk result (round around.new ≡ round_of visit.now (round around.old) (slice_get table.now.rows.items wrapped.old.next_row)) }
-    ensures flags { OnOk result (wrapped.new.flags.items ≡ wrapped.old.flags.items ++ flag_of visit.now (round around.old) (slice_get table.now.rows.items wrapped.old.next_row)) }
+    ensures flags { OnOk result (wrapped.new.wraps.flags.items ≡ wrapped.old.wraps.flags.items ++ flag_of visit.now (round around.old) (slice_get table.now.rows.items wrapped.old.next_row)) }
     ensures rows { OnOk result (drop wrapped.new.next_row table.now.rows.items ≡ rows_after visit.now (drop wrapped.old.next_row table.now.rows.items)) }
 {
     let position = resolve_slot(around.own, visit.slot);

@@ -1,30 +1,31 @@
 //! Plans: which nodes are wrapped, and the table that shows it.
 
 ghost use Rattle.std.specs.Prelude.{◌≡◌};
-ghost use Rattle.paren_planner.specs.Wrapped.{is_flagged};
+ghost use Rattle.wrap_flags.specs.Flags.{is_flagged};
 
 use cost_table::CostTable;
+use wrap_flags::Wraps;
 
 /// Which nodes of a script are wrapped in a pair, by their row numbers, with the table of what each costs.
 #[derive(Drop)]
 pub struct Plan {
     pub(crate) table: CostTable,
-    pub(crate) wrapped: Vec<bool>,
+    pub(crate) wraps: Wraps,
 }
 
 impl Plan {
-    /// Whether the node of a row is wrapped in a pair, by the row's number, counted from 1; not where there is no such row.
+    /// Whether the node of a row is wrapped in a pair, by the row's number, counted from 1.
     pub fn wrapped(&self, row: usize) -> bool
-        ensures { result ≡ is_flagged self.now.wrapped.items row }
+        ensures { result ≡ is_flagged self.now.wraps.flags.items row }
     {
-        is_wrapped(&self.wrapped, row)
+        self.wraps.is_wrapped(row)
     }
 
-    /// For each row, in the order of the rows, whether its node is wrapped.
-    pub fn flags(&self) -> &[bool]
-        ensures { result.now ≡ self.now.wrapped.items }
+    /// Which nodes are wrapped, without the table.
+    pub fn wraps(&self) -> &Wraps
+        ensures { result.now.flags.items ≡ self.now.wraps.flags.items }
     {
-        &self.wrapped
+        &self.wraps
     }
 
     /// The number of wrapped nodes.
@@ -40,19 +41,5 @@ impl Plan {
         ensures total { result.now.total ≡ self.now.table.total }
     {
         &self.table
-    }
-}
-
-/// Whether the node of a row is wrapped in a pair, by the row's number, counted from 1, where it is said of each row in order; not where
-/// there is no such row.
-pub(crate) fn is_wrapped(wraps: &[bool], row: usize) -> bool
-    ensures { result ≡ is_flagged wraps.now row }
-{
-    if row < 1 {
-        return false;
-    }
-    match wraps.get(row - 1) {
-        Some(wrapped) => *wrapped,
-        None => false,
     }
 }

@@ -12,6 +12,7 @@ use crate::text_pairs::TextPairs;
 use crate::wrap_pass::wrap_pass;
 use std::alloc::{AllocError, Global};
 use tree::{Pair, Program};
+use wrap_flags::Wraps;
 
 /// Which nodes of a script are wrapped, by the grouping pairs of a text that derives it: of each row, in the order of the rows, whether
 /// its node is wrapped. A node whose position is the same wherever the node above stands costs nothing if no pair opens in it or round it,
@@ -24,9 +25,9 @@ pub fn wraps_by_pairs(
     alloc: Global,
     program: &Program<'_>,
     pairs: &[Pair],
-) -> Result<Vec<bool>, AllocError>
+) -> Result<Wraps, AllocError>
     requires { IsDerived program.now pairs.now }
-    ensures { IfOk result (λ wraps. AreWraps program.now wraps.items) }
+    ensures { IfOk result (λ wraps. AreWraps program.now wraps.flags.items) }
 {
     let pairs = TextPairs { known: Some(pairs) };
     let weights = weigh_by_pairs(alloc, program, &pairs)?;
@@ -38,10 +39,10 @@ fn weighed_wraps(
     alloc: Global,
     program: &Program<'_>,
     weights: &Weights,
-) -> Result<Vec<bool>, AllocError>
+) -> Result<Wraps, AllocError>
     requires made { ScriptSteps true program.now weights.now.steps weights.now.table.rows.items }
     requires few { rows program.now script ≤ 16777216 }
-    ensures { IfOk result (λ wraps. AreWraps program.now wraps.items) }
+    ensures { IfOk result (λ wraps. AreWraps program.now wraps.flags.items) }
 {
     wrap_pass(alloc, &weights.steps, &weights.table, program.node_count())
 }

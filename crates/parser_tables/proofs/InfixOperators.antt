@@ -1,6 +1,6 @@
 -- What a token makes of the expression before it, by its class; and where it goes on.
-use Rattle.std.proofs.Common.{◌≡◌, ℕ, Bool, true, false, cond, List, refl, sym, ap, ◌∙◌}
-use Rattle.std.specs.Prelude.{IsTrue, not, ◌&&◌, ◌||◌, Option, Some, None, nat_eq, slice_index_or, codes}
+use Rattle.std.proofs.Common.{◌≡◌, ℕ, Bool, true, false, List, refl, sym, ap, ◌∙◌}
+use Rattle.std.specs.Prelude.{IsTrue, not, ◌&&◌, ◌||◌, Option, Some, None, codes}
 use Rattle.std.proofs.lemmas.Bool.{and_right}
 use Rattle.std.proofs.lemmas.Slice.Eq.{bytes_eq-Decides}
 use Rattle.tokens.specs.declared.token.TokenClass.{TokenClass}
@@ -25,21 +25,6 @@ sign_operation t c = ap (λ x. coded_operator x t.text) (sym (ap (λ d. of_class
 
 pub name_operation : (t : LexicalToken) → t.class ≡ IdentifierName → coded_operator (of_class IdentifierName t.text) t.text ≡ coded_operator (operation (as_read t)) t.text
 name_operation t c = ap (λ x. coded_operator x t.text) (sym (ap (λ d. of_class d (table_text d t.text)) c))
-
-pub template_operation : (t : LexicalToken) (b : Bool) → t.class ≡ Template → nat_eq (slice_index_or (as_read t).text 0 0) 96 ≡ b → coded_operator (cond b op_template op_none) t.text ≡ coded_operator (operation (as_read t)) t.text
-template_operation t b c h = ap (λ x. coded_operator x t.text) (sym (ap (λ d. of_class d (as_read t).text) c ∙ ap (λ x. cond x op_template op_none) h))
-
-pub other_operation : (t : LexicalToken) → (t.class ≡ Punctuator → ⊥) → (t.class ≡ IdentifierName → ⊥) → (t.class ≡ Template → ⊥) → None ≡ coded_operator (operation (as_read t)) t.text
-other_operation t a b c = of t.class a b c
-  where
-    of : (d : TokenClass) → (d ≡ Punctuator → ⊥) → (d ≡ IdentifierName → ⊥) → (d ≡ Template → ⊥) → None ≡ coded_operator (of_class d (table_text t.class t.text)) t.text
-    of Punctuator a b c = absurd (a refl)
-    of IdentifierName a b c = absurd (b refl)
-    of Template a b c = absurd (c refl)
-    of NumericLiteral a b c = refl
-    of StringLiteral a b c = refl
-    of RegularExpressionLiteral a b c = refl
-    of End a b c = refl
 
 -- the symbol of what the code has for an operator is the operator's
 symbol_if : Option Coded → Bool → Option Rank

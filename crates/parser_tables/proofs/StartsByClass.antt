@@ -1,11 +1,11 @@
 -- What the token ahead begins, by its class, and whether it stands at a position.
 use Rattle.std.proofs.Common.{◌≡◌, ℕ, Bool, true, false, cond, List, [], ◌∷◌, refl, sym, ap, ◌∙◌}
-use Rattle.std.specs.Prelude.{IsFalse, ◌&&◌, ◌||◌, Option, Some, None, nat_eq, slice_index_or, codes}
+use Rattle.std.specs.Prelude.{IsFalse, ◌&&◌, ◌||◌, Option, Some, None, codes}
 use Rattle.std.proofs.lemmas.Bool.{false≢true, and_parts}
 use Rattle.std.proofs.lemmas.Slice.Eq.{bytes_eq-Decides}
 use Prim.Native.String.{String}
 use Rattle.tokens.specs.declared.token.TokenClass.{TokenClass}
-use Rattle.tokens.specs.declared.token.TokenClass.TheVariants.{IdentifierName, Template}
+use Rattle.tokens.specs.declared.token.TokenClass.TheVariants.{IdentifierName}
 use Rattle.tokens.specs.declared.token.Goal.TheVariants.{RegExp}
 use Rattle.tokens.specs.Tokens.{LexicalToken}
 use Rattle.language.specs.declared.Rank.{Rank}
@@ -24,9 +24,6 @@ use Rattle.token_cursor.proofs.TokensAhead.{none_ahead, of_ahead}
 -- what a token begins, by its class
 pub by_class : (t : LexicalToken) (c : TokenClass) → t.class ≡ c → coded_start (expression_start_by c (table_text c t.text)) ≡ coded_start (expression_start (as_read t))
 by_class t c e = ap (λ d. coded_start (expression_start_by d (table_text d t.text))) (sym e)
-
-pub template_opening : (t : LexicalToken) (b : Bool) → t.class ≡ Template → nat_eq (slice_index_or (as_read t).text 0 0) 96 ≡ b → coded_start (cond b with_template no_start) ≡ coded_start (expression_start (as_read t))
-template_opening t b c h = ap coded_start (sym (ap (λ d. expression_start_by d (as_read t).text) c ∙ ap (λ x. cond x with_template no_start) h))
 
 stood_if : Rank → Start → Option Coded → Bool
 stood_if y f None = false

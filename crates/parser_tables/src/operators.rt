@@ -32,7 +32,7 @@ pub fn infix_operator_of(token: &Token<'_>) -> Option<InfixOperator>
 }
 
 /// Whether what ends with this right edge can be the left part of a node at the symbol.
-pub fn edge_allows(edge: Edge, symbol: Rank) -> bool
+pub(crate) fn edge_allows(edge: Edge, symbol: Rank) -> bool
     ensures { result ≡ holds edge symbol }
 {
     match edge {

@@ -211,14 +211,14 @@ pub fn case_symbols(is_default: bool) -> &'static [Symbol]
 }
 
 /// The pieces of a class behind its name (14.6).
-pub fn class_symbols() -> &'static [Symbol]
+pub(crate) fn class_symbols() -> &'static [Symbol]
     ensures { map piece_of result.now ≡ class_parts }
 {
     &[Symbol::ClassHeritage, Symbol::List(ListKind::Members)]
 }
 
 /// The pieces of a function from its parameters on (14.1, 14.3).
-pub fn function_symbols(parameters: ListKind) -> &'static [Symbol]
+pub(crate) fn function_symbols(parameters: ListKind) -> &'static [Symbol]
     ensures { map piece_of result.now ≡ parameters_and_body parameters }
 {
     match parameters {

@@ -18,4 +18,5 @@ pub mod Standings
 pub mod TableMarks
 pub mod Whole
 pub mod Words
+pub mod WrapFlags
 pub mod WrittenTexts

@@ -1,22 +1,21 @@
 -- The rows of a node don't depend on its symbol, In and start.
 use Rattle.std.proofs.Common.{◌≡◌, ◌+◌, Bool, true, false, cond, List, [], ◌∷◌, refl, sym, ap, ap₂, ◌∙◌, subst}
 use Rattle.std.specs.Prelude.{Option, Some, None, ◌&&◌, map, option_map}
-use Rattle.tree.specs.Tree.{Tree, node, Parts, none, part, gap, parts_of}
+use Rattle.tree.specs.Tree.{Tree, node, Parts, parts_of}
 use Rattle.tree.specs.Uses.{implies, is_lean}
 use Rattle.language.specs.declared.Rank.{Rank}
 use Rattle.language.specs.declared.Rank.TheVariants.{Expression}
 use Rattle.language.specs.declared.Rank.TheVariants as ranks
-use Rattle.language.specs.declared.Start.{Start}
 use Rattle.language.specs.declared.Start.TheVariants.{Any}
 use Rattle.language.specs.Vocabulary.{takes}
-use Rattle.language.specs.Pieces.{Role, expr, chain_part, pattern, Slot, PieceOf, fixed, left, lead, tail, callee, lead_chain, lead_pattern, settle}
+use Rattle.language.specs.Pieces.{Role, expr, chain_part, pattern, Slot, PieceOf}
 use Rattle.language.specs.Grammar.{ways, own_rank, own_in, own_start}
 use Rattle.language.specs.RowPositions.{has_row, widest, rows, parts_rows, first_roles}
 use Rattle.language.specs.Layout.{some_way}
 use Rattle.spelling_table.specs.declared.position.Position.{Position}
 use Rattle.spelling_table.specs.declared.position.Position.TheVariants as at
 use Rattle.spelling_table.specs.declared.outline.Outline.{Outline}
-use Rattle.spelling_table.specs.Outlines.{role_of, opens_at, outline_slots}
+use Rattle.spelling_table.specs.Outlines.{role_of, outline_slots}
 use Rattle.spellings.specs.Positions.{outline_at}
 use Rattle.spelling_table.specs.Requirements.{fits_outline}
 use Rattle.spellings.specs.Spelled.{settled_roles, outlined_roles, roles_by, Verdict}
@@ -57,9 +56,6 @@ takes_all ranks.Member = refl
 takes_all ranks.Primary = refl
 takes_all ranks.Grouped = refl
 
-opens_any : (x : Outline) → opens_at Any x.opens ≡ true
-opens_any x = refl
-
 implied : (b : Bool) → implies b true ≡ true
 implied true = refl
 implied false = refl
@@ -99,12 +95,6 @@ of_verdicts : (ps : Parts) (us vs : List (List (PieceOf Role))) (x y : Option (L
 of_verdicts ps us vs None y p q h s = let e : some_way us ≡ false = ap some_way p in absurd (cc)
 of_verdicts ps us vs (Some xs) None p q h s = absurd h
 of_verdicts ps us vs (Some xs) (Some ys) p q h s = ap (parts_rows ps) p.1 ∙ h ∙ sym (ap (parts_rows ps) q.1)
-
-widest_at : Position → Position
-widest_at (at.Expression y i f) = at.Expression Expression true Any
-widest_at (at.ChainPart f) = at.ChainPart Any
-widest_at (at.Pattern b f) = at.Pattern b Any
-widest_at p = p
 
 rows_at : (p q : Position) (n : Tree) → role_of q ≡ widest (role_of p) → outline_at q n ≡ outline_at p n → some_way (ways (role_of p) n) ≡ true →
     parts_rows (parts_of n) (first_roles (ways (role_of p) n)) ≡ parts_rows (parts_of n) (first_roles (ways (widest (role_of p)) n))

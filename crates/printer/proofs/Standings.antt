@@ -13,9 +13,6 @@ puts_then a b c t u p q = λ before v h. subst (Stands before c) (append_assoc v
 
 -- Some text
 
-pub adds_nothing : {a : Standing} → Adds a a
-adds_nothing {a} = record { text = []; puts = λ before v h. subst (Stands before a) (sym (append-nil v)) h }
-
 pub adds_then : {a b c : Standing} → Adds a b → Adds b c → Adds a c
 adds_then {a} {b} {c} p q = record { text = p.text ++ q.text; puts = puts_then a b c p.text q.text p.puts q.puts }
 
@@ -46,9 +43,6 @@ failed_puts taken failed p q t e = λ before v h. failed_stands before taken fai
 waits : (before taken : Option (List ℕ)) (failed : Bool) (p v t : List ℕ) → StandsBy before taken failed p v → StandsBy before taken failed (p ++ t) (v ++ t)
 waits before taken true p v t h = longer before taken v t h
 waits before taken false p v t h = (h.0, h.1, ap (λ u. u ++ t) h.2 ∙ append_assoc h.0 p t)
-
-pub added_puts : (taken : Option (List ℕ)) (failed : Bool) (p q t : List ℕ) → q ≡ p ++ t → Puts (of_writer taken failed p) (of_writer taken failed q) t
-added_puts taken failed p q t e = λ before v h. subst (λ w. StandsBy before taken failed w (v ++ t)) (sym e) (waits before taken failed p v t h)
 
 -- Bytes that are written
 

@@ -6,7 +6,7 @@ use Rattle.printer.specs.declared.fragments.Fragment.{Fragment}
 use Rattle.printer.specs.Sheets.{View, Leads, Shows, Writes, held, piece_text, pieces_text}
 use Rattle.printer.specs.declared.fragments.SignOperator.{SignOperator}
 use Rattle.printer.specs.declared.fragments.SignOperator.TheVariants.{Plus, Minus}
-use Rattle.printer.specs.Standings.{Puts, Stands, Adds}
+use Rattle.printer.specs.Standings.{Stands, Adds}
 use Rattle.language.specs.Layout.{indent}
 
 pub leads_then : {a b c : View} {s t u : List ℕ} → Leads a b s t → Leads b c t u → Leads a c s u
@@ -17,19 +17,6 @@ leads_at {a} {b} {s} {t} {u} e p = subst (λ x. Leads a b x u) e p
 
 pub leads_same : {a : View} {s : List ℕ} → Leads a a s s
 leads_same = record { leads = λ before whole h. h }
-
--- what is put in, with nothing held then
-pub put_writes : {a b : View} (u t : List ℕ) → ((next : List ℕ) → held a.apart (t ++ next) ≡ u ++ next) → Puts a.out b.out u → b.apart ≡ None → b.flags ≡ a.flags → Writes a b t
-put_writes {a} {b} u t e p none f = record {
-  follows = λ next. record {
-    leads = λ before whole h.
-        (h.0 ++ u, p before h.0 h.1, h.2 ∙ ap (λ v. h.0 ++ v) (e next) ∙ sym (append_assoc h.0 u next) ∙ ap (λ o. (h.0 ++ u) ++ held o next) (sym none));
-  };
-  flags = f;
-}
-
-pub writes_nothing : (a : View) → Writes a a []
-writes_nothing a = record { follows = λ next. leads_same; flags = refl }
 
 pub writes_then : (a b c : View) (t u : List ℕ) → Writes a b t → Writes b c u → Writes a c (t ++ u)
 writes_then a b c t u p q = record { follows = λ next. leads_at (sym (append_assoc t u next)) (leads_then (p.follows (u ++ next)) (q.follows next)); flags = q.flags ∙ p.flags }

@@ -33,7 +33,7 @@ pub record View : Type 0 where
   pub flags : List Bool
 
 abbrev pub seen : Standing → Emitter → View
-seen out s = record { out = out; apart = s.apart; flags = s.wraps.now }
+seen out s = record { out = out; apart = s.apart; flags = s.wraps.flags.now }
 
 -- since `before`, this whole text is written once `next` follows; or the writing failed behind a beginning
 abbrev pub Shows : Option (List ℕ) → View → List ℕ → List ℕ → Type 0

@@ -10,6 +10,7 @@ ghost use Rattle.printer.specs.Sheets.{Writes, seen, held, sign_code, flag_at, o
 use crate::fragments::{Fragment, FramedNode, SignOperator};
 use crate::output_buffer::TextSink;
 use source_text::OutputBuffer;
+use wrap_flags::{WrapCursor, Wraps};
 
 /// The levels of depth that one text has.
 const LEVELS: usize = 8;
@@ -20,21 +21,21 @@ pub struct Emitter<'w> {
     room: OutputBuffer,
     /// A space comes first where what follows begins with this sign.
     apart: Option<SignOperator>,
-    /// Whether the node of each row is wrapped, from the next row on.
-    wraps: &'w [bool],
+    /// Which nodes are wrapped, from the next row on.
+    wraps: WrapCursor<'w>,
 }
 
 impl<'w> Emitter<'w> {
     /// Before anything is written.
-    pub(crate) fn new(wraps: &'w [bool]) -> Emitter<'w>
+    pub(crate) fn new(wraps: &'w Wraps) -> Emitter<'w>
         ensures room { result.room ≡ [] }
         ensures apart { result.apart ≡ None }
-        ensures wraps { result.wraps.now ≡ wraps.now }
+        ensures wraps { result.wraps.flags.now ≡ wraps.now.flags.items }
     {
         Emitter {
             room: OutputBuffer::new(),
             apart: None,
-            wraps,
+            wraps: wraps.rows(),
         }
     }
 
@@ -96,7 +97,7 @@ impl<'w> Emitter<'w> {
     pub(crate) fn keep_apart(&mut self, sign: SignOperator)
         ensures room { self.new.room ≡ self.old.room }
         ensures apart { self.new.apart ≡ Some sign }
-        ensures wraps { self.new.wraps.now ≡ self.old.wraps.now }
+        ensures wraps { self.new.wraps.flags.now ≡ self.old.wraps.flags.now }
     {
         self.apart = Some(sign);
     }
@@ -105,35 +106,26 @@ impl<'w> Emitter<'w> {
     pub(crate) fn join(&mut self)
         ensures room { self.new.room ≡ self.old.room }
         ensures apart { self.new.apart ≡ None }
-        ensures wraps { self.new.wraps.now ≡ self.old.wraps.now }
+        ensures wraps { self.new.wraps.flags.now ≡ self.old.wraps.flags.now }
     {
         self.apart = None;
     }
 
     /// Whether the node of the next row is wrapped.
     pub(crate) fn is_wrapped(&self) -> bool
-        ensures { result ≡ flag_at self.now.wraps.now 0 }
+        ensures { result ≡ flag_at self.now.wraps.flags.now 0 }
     {
-        match self.wraps.first() {
-            Some(first) => *first,
-            None => false,
-        }
+        self.wraps.is_wrapped()
     }
 
     /// The same, and goes on to the row behind it.
     pub(crate) fn next_row(&mut self) -> bool
-        ensures flag { result ≡ flag_at self.old.wraps.now 0 }
-        ensures others { self.new.wraps.now ≡ other_flags self.old.wraps.now }
+        ensures flag { result ≡ flag_at self.old.wraps.flags.now 0 }
+        ensures others { self.new.wraps.flags.now ≡ other_flags self.old.wraps.flags.now }
         ensures room { self.new.room ≡ self.old.room }
         ensures apart { self.new.apart ≡ self.old.apart }
     {
-        match self.wraps.split_first() {
-            Some((first, rest)) => {
-                self.wraps = rest;
-                *first
-            }
-            None => false,
-        }
+        self.wraps.take()
     }
 
     /// Writes pieces of a node's frame; `previous_is_bare` says that the part before them isn't wrapped.

@@ -5,7 +5,7 @@ ghost use Rattle.tree.specs.Node.{node_tree};
 ghost use Rattle.tree.specs.Tree.{kind_of, text_of, flags_of, parts_of};
 ghost use Rattle.printer.specs.Bits.{shape_of, fused_shape};
 ghost use Rattle.printer.specs.Shapes.{shape_on, shape_by_kind};
-ghost use Rattle.printer.specs.Sites.{is_word as is_word_at};
+ghost use Rattle.printer.specs.Sites.{is_word};
 
 use crate::blocks::{braced, case_frame, catch_frame, switch_frame};
 use crate::definitions::{arrow_frame, class_frame, class_member_frame, is_single, property_frame};
@@ -17,7 +17,7 @@ use crate::part_sites::PartSites;
 use crate::shared_fragments::{
     BRACKET, CLOSE, CLOSE_SPACE, COLON, END_BRACKET, FOR, OPEN, OWN, SEMICOLON, has_part, is_filled,
 };
-use crate::site::{Site, is_plain};
+use crate::site::{Site, is_plain_site};
 use crate::statements::{
     break_frame, continue_frame, declarator_frame, for_frame, if_frame, return_frame, try_frame,
 };
@@ -276,11 +276,11 @@ fn frame_by_kind(node: Node) -> &'static Frame
 
 /// Whether a node is written as its own text: a name or a literal without parts, but where a template's part, a head, a method or a
 /// shorthand property's key stands.
-pub(crate) fn is_word(node: Node, site: Site) -> bool
-    ensures { result ≡ is_word_at site (kind_of (node_tree node.entry)) (parts_of (node_tree node.entry)) }
+pub(crate) fn is_own_text(node: Node, site: Site) -> bool
+    ensures { result ≡ is_word site (kind_of (node_tree node.entry)) (parts_of (node_tree node.entry)) }
 {
     match node.kind() {
-        Kind::Identifier | Kind::Literal => node.part_count() == 0 && is_plain(site),
+        Kind::Identifier | Kind::Literal => node.part_count() == 0 && is_plain_site(site),
         _ => false,
     }
 }

@@ -12,6 +12,7 @@ ghost use Rattle.printer.specs.Texts.{IsWritten};
 use crate::printer::print_whole;
 use source_text::{Fault, Sink};
 use tree::Program;
+use wrap_flags::Wraps;
 
 /// Writes the text of a script as `print_text` makes it, while it walks the tree, in pieces of at most `PIECE` bytes. It
 /// takes no memory. What was written is always a beginning of the text.
@@ -19,11 +20,11 @@ use tree::Program;
 /// # Errors
 ///
 /// `WriteFailed` where the writer fails, which is not asked again.
-pub fn print<W: Sink>(program: &Program<'_>, wraps: &[bool], writer: &mut W) -> Result<(), Fault>
+pub fn print<W: Sink>(program: &Program<'_>, wraps: &Wraps, writer: &mut W) -> Result<(), Fault>
     requires ready { W.failed writer.old ≡ false }
     ensures some { (text : List ℕ) × IsWritten text result (W.taken writer.old) (W.taken writer.new) (W.failed writer.new) }
-    ensures laid { fits (wrapped_by wraps.now) program.now script 1 ≡ true → IsWritten (layout (wrapped_by wraps.now) program.now script 1 0) result (W.taken writer.old) (W.taken writer.new) (W.failed writer.new) }
-    ensures fixed { (text : List ℕ) → (pairs : List Pair) → Derives text program.now pairs → IsPlanned wraps.now program.now → IsWritten (fixed_text program.now) result (W.taken writer.old) (W.taken writer.new) (W.failed writer.new) }
+    ensures laid { fits (wrapped_by wraps.now.flags.items) program.now script 1 ≡ true → IsWritten (layout (wrapped_by wraps.now.flags.items) program.now script 1 0) result (W.taken writer.old) (W.taken writer.new) (W.failed writer.new) }
+    ensures fixed { (text : List ℕ) → (pairs : List Pair) → Derives text program.now pairs → IsPlanned wraps.now.flags.items program.now → IsWritten (fixed_text program.now) result (W.taken writer.old) (W.taken writer.new) (W.failed writer.new) }
 {
     print_whole(program, wraps, writer);
     if writer.has_failed() {

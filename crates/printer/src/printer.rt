@@ -27,26 +27,23 @@ ghost use Rattle.printer.specs.Printed.{Stands, Reads, Printed, Direct, Gone, Wr
 use crate::emitter::Emitter;
 use crate::expressions::PREFIX;
 use crate::fragments::{FramedNode, ListLayout, SignOperator, after, before};
-use crate::frame::{frame_of, is_word};
+use crate::frame::{frame_of, is_own_text};
 use crate::output_buffer::{TextBuffer, TextSink};
 use crate::site::Site;
 use std::alloc::{AllocError, Global};
 use tree::{Kind, Node, Program};
+use wrap_flags::Wraps;
 
-/// The text of a script in its layout, with parentheses round the wrapped nodes. The flags say of the nodes at an
-/// expression's position, each before those in it, in source order, whether they are wrapped; those behind the last flag
-/// aren't. Where, with these parentheses, some node can't be spelled where it stands, the text is no layout. With the nodes
-/// wrapped that its costs wrap, the text of a tree that some text derives is its fixed text.
+/// The text of a script in its layout, with parentheses round the wrapped nodes. Its rows are the nodes at an expression's
+/// position, each before those in it, in source order. Where, with these parentheses, some node can't be spelled where it
+/// stands, the text is no layout. With the nodes wrapped that its costs wrap, the text of a tree that some text derives is
+/// its fixed text.
 ///
 /// # Errors
 /// Memory was refused.
-pub fn print_text(
-    alloc: Global,
-    program: &Program<'_>,
-    wraps: &[bool],
-) -> Result<String, AllocError>
-    ensures laid { IfOk result (λ t. IsLaid wraps.now program.now (string_bytes t)) }
-    ensures fixed { IfOk result (λ t. IsFixed wraps.now program.now (string_bytes t)) }
+pub fn print_text(alloc: Global, program: &Program<'_>, wraps: &Wraps) -> Result<String, AllocError>
+    ensures laid { IfOk result (λ t. IsLaid wraps.now.flags.items program.now (string_bytes t)) }
+    ensures fixed { IfOk result (λ t. IsFixed wraps.now.flags.items program.now (string_bytes t)) }
 {
     let mut text = TextBuffer::new(alloc, program.root().span().end)?;
     print_whole(program, wraps, &mut text);
@@ -54,8 +51,8 @@ pub fn print_text(
 }
 
 /// Puts in the text of a script in its layout.
-pub(crate) fn print_whole<O: TextSink>(program: &Program<'_>, wraps: &[bool], out: &mut O)
-    ensures laid { fits (wrapped_by wraps.now) program.now script 1 ≡ true → Puts (O.stands out.old []) (O.stands out.new []) (layout (wrapped_by wraps.now) program.now script 1 0) }
+pub(crate) fn print_whole<O: TextSink>(program: &Program<'_>, wraps: &Wraps, out: &mut O)
+    ensures laid { fits (wrapped_by wraps.now.flags.items) program.now script 1 ≡ true → Puts (O.stands out.old []) (O.stands out.new []) (layout (wrapped_by wraps.now.flags.items) program.now script 1 0) }
     ensures adds { Adds (O.stands out.old []) (O.stands out.new []) }
 {
     let mut emitter = Emitter::new(wraps);
@@ -70,7 +67,7 @@ pub(crate) fn print_whole<O: TextSink>(program: &Program<'_>, wraps: &[bool], ou
 #[inline(always)]
 fn print_node<O: TextSink>(node: Node, site: Site, depth: usize, emitter: &mut Emitter, out: &mut O)
     requires { depth + height (node_tree node) ≤ usize.MAX }
-    ensures laid { (W : ℕ → Bool) → (r : ℕ) → (p : Position) → (st : NodeUse) → HoldsRows st node.entry → agrees st (role_of p) (kind_of (node_tree node.entry)) ≡ true → site_of (role_of p) ≡ site → Reads W r emitter.old.wraps.now → fits W (node_tree node.entry) (role_of p) r ≡ true → Printed W (seen (O.stands out.old emitter.old.room) emitter.old) (seen (O.stands out.new emitter.new.room) emitter.new) (node_tree node.entry) (role_of p) r depth }
+    ensures laid { (W : ℕ → Bool) → (r : ℕ) → (p : Position) → (st : NodeUse) → HoldsRows st node.entry → agrees st (role_of p) (kind_of (node_tree node.entry)) ≡ true → site_of (role_of p) ≡ site → Reads W r emitter.old.wraps.flags.now → fits W (node_tree node.entry) (role_of p) r ≡ true → Printed W (seen (O.stands out.old emitter.old.room) emitter.old) (seen (O.stands out.new emitter.new.room) emitter.new) (node_tree node.entry) (role_of p) r depth }
     ensures adds { Adds (O.stands out.old emitter.old.room) (O.stands out.new emitter.new.room) }
 {
     if node.row().is_some() {
@@ -85,7 +82,7 @@ fn print_node<O: TextSink>(node: Node, site: Site, depth: usize, emitter: &mut E
 #[inline(always)]
 fn print_row<O: TextSink>(node: Node, depth: usize, emitter: &mut Emitter, out: &mut O)
     requires { depth + height (node_tree node) ≤ usize.MAX }
-    ensures laid { (W : ℕ → Bool) → (r : ℕ) → (p : Position) → (st : NodeUse) → HoldsRows st node.entry → agrees st (role_of p) (kind_of (node_tree node.entry)) ≡ true → nat_eq (has_row (role_of p)) 1 ≡ true → Reads W r emitter.old.wraps.now → fits W (node_tree node.entry) (role_of p) r ≡ true → Printed W (seen (O.stands out.old emitter.old.room) emitter.old) (seen (O.stands out.new emitter.new.room) emitter.new) (node_tree node.entry) (role_of p) r depth }
+    ensures laid { (W : ℕ → Bool) → (r : ℕ) → (p : Position) → (st : NodeUse) → HoldsRows st node.entry → agrees st (role_of p) (kind_of (node_tree node.entry)) ≡ true → nat_eq (has_row (role_of p)) 1 ≡ true → Reads W r emitter.old.wraps.flags.now → fits W (node_tree node.entry) (role_of p) r ≡ true → Printed W (seen (O.stands out.old emitter.old.room) emitter.old) (seen (O.stands out.new emitter.new.room) emitter.new) (node_tree node.entry) (role_of p) r depth }
     ensures adds { Adds (O.stands out.old emitter.old.room) (O.stands out.new emitter.new.room) }
 {
     if !emitter.next_row() {
@@ -108,10 +105,10 @@ fn print_direct<O: TextSink>(
     out: &mut O,
 )
     requires { depth + height (node_tree node) ≤ usize.MAX }
-    ensures laid { (W : ℕ → Bool) → (r : ℕ) → (p : Position) → (st : NodeUse) → HoldsRows st node.entry → agrees st (role_of p) (kind_of (node_tree node.entry)) ≡ true → site_of (role_of p) ≡ site → Reads W r emitter.old.wraps.now → spelled_so W (parts_of (node_tree node.entry)) (ways (role_of p) (node_tree node.entry)) r ≡ true → Direct W (seen (O.stands out.old emitter.old.room) emitter.old) (seen (O.stands out.new emitter.new.room) emitter.new) (parts_of (node_tree node.entry)) (ways (role_of p) (node_tree node.entry)) r depth }
+    ensures laid { (W : ℕ → Bool) → (r : ℕ) → (p : Position) → (st : NodeUse) → HoldsRows st node.entry → agrees st (role_of p) (kind_of (node_tree node.entry)) ≡ true → site_of (role_of p) ≡ site → Reads W r emitter.old.wraps.flags.now → spelled_so W (parts_of (node_tree node.entry)) (ways (role_of p) (node_tree node.entry)) r ≡ true → Direct W (seen (O.stands out.old emitter.old.room) emitter.old) (seen (O.stands out.new emitter.new.room) emitter.new) (parts_of (node_tree node.entry)) (ways (role_of p) (node_tree node.entry)) r depth }
     ensures adds { Adds (O.stands out.old emitter.old.room) (O.stands out.new emitter.new.room) }
 {
-    if is_word(node, site) {
+    if is_own_text(node, site) {
         emitter.push(node.text(), out);
         return;
     }
@@ -129,7 +126,7 @@ fn print_parts<O: TextSink>(
     out: &mut O,
 )
     requires { depth + height (node_tree node) ≤ usize.MAX }
-    ensures laid { (W : ℕ → Bool) → (r : ℕ) → (p : Position) → (st : NodeUse) → HoldsRows st node.entry → agrees st (role_of p) (kind_of (node_tree node.entry)) ≡ true → site_of (role_of p) ≡ site → Reads W r emitter.old.wraps.now → spelled_so W (parts_of (node_tree node.entry)) (ways (role_of p) (node_tree node.entry)) r ≡ true → Direct W (seen (O.stands out.old emitter.old.room) emitter.old) (seen (O.stands out.new emitter.new.room) emitter.new) (parts_of (node_tree node.entry)) (ways (role_of p) (node_tree node.entry)) r depth }
+    ensures laid { (W : ℕ → Bool) → (r : ℕ) → (p : Position) → (st : NodeUse) → HoldsRows st node.entry → agrees st (role_of p) (kind_of (node_tree node.entry)) ≡ true → site_of (role_of p) ≡ site → Reads W r emitter.old.wraps.flags.now → spelled_so W (parts_of (node_tree node.entry)) (ways (role_of p) (node_tree node.entry)) r ≡ true → Direct W (seen (O.stands out.old emitter.old.room) emitter.old) (seen (O.stands out.new emitter.new.room) emitter.new) (parts_of (node_tree node.entry)) (ways (role_of p) (node_tree node.entry)) r depth }
     ensures adds { Adds (O.stands out.old emitter.old.room) (O.stands out.new emitter.new.room) }
 {
     match sign_of(node) {
@@ -174,7 +171,7 @@ fn print_sign_operator<O: TextSink>(
     out: &mut O,
 )
     requires { depth + height (node_tree node) ≤ usize.MAX }
-    ensures laid { (W : ℕ → Bool) → (st : NodeUse) → HoldsRows st node.entry → (xs : List Role) → (r : ℕ) → Reads W r emitter.old.wraps.now → parts_fit W (parts_of (node_tree node.entry)) xs r ≡ true → Stands st (node_tree node.entry) (signed_marks (text_of (node_tree node.entry)) sign) (parts_of (node_tree node.entry)) xs → sign_of_text (text_of (node_tree node.entry)) ≡ Some sign → is_none (parts_after 1 (parts_of (node_tree node.entry))) ≡ true → Written W (seen (O.stands out.old emitter.old.room) emitter.old) (seen (O.stands out.new emitter.new.room) emitter.new) (signed_marks (text_of (node_tree node.entry)) sign) (parts_of (node_tree node.entry)) xs false depth r }
+    ensures laid { (W : ℕ → Bool) → (st : NodeUse) → HoldsRows st node.entry → (xs : List Role) → (r : ℕ) → Reads W r emitter.old.wraps.flags.now → parts_fit W (parts_of (node_tree node.entry)) xs r ≡ true → Stands st (node_tree node.entry) (signed_marks (text_of (node_tree node.entry)) sign) (parts_of (node_tree node.entry)) xs → sign_of_text (text_of (node_tree node.entry)) ≡ Some sign → is_none (parts_after 1 (parts_of (node_tree node.entry))) ≡ true → Written W (seen (O.stands out.old emitter.old.room) emitter.old) (seen (O.stands out.new emitter.new.room) emitter.new) (signed_marks (text_of (node_tree node.entry)) sign) (parts_of (node_tree node.entry)) xs false depth r }
     ensures adds { Adds (O.stands out.old emitter.old.room) (O.stands out.new emitter.new.room) }
 {
     let mut previous_is_bare = false;
@@ -193,7 +190,7 @@ fn print_sign_operator<O: TextSink>(
 #[cycle(print)]
 fn print_framed<O: TextSink>(framed: FramedNode, emitter: &mut Emitter, out: &mut O)
     requires { framed.depth + height (node_tree framed.node) ≤ usize.MAX }
-    ensures laid { (W : ℕ → Bool) → (st : NodeUse) → HoldsRows st framed.entry.node → (fs : List (List Bit)) → (os cs : List Bit) → map (λ p. bits_of p.now) framed.entry.frame.now.front.now ≡ map fused fs → bits_of framed.entry.frame.now.opener.now ≡ fused os → bits_of framed.entry.frame.now.closer.now ≡ fused cs → (xs : List Role) → (r : ℕ) → Reads W r emitter.old.wraps.now → parts_fit W (parts_of (node_tree framed.entry.node)) xs r ≡ true → Stands st (node_tree framed.entry.node) (shape_marks (text_of (node_tree framed.entry.node)) (record { front = fs; opener = os; chain = chain_of framed.entry.frame.now.series; closer = cs; sites = framed.entry.frame.now.sites }) (parts_of (node_tree framed.entry.node))) (parts_of (node_tree framed.entry.node)) xs → Written W (seen (O.stands out.old emitter.old.room) emitter.old) (seen (O.stands out.new emitter.new.room) emitter.new) (shape_marks (text_of (node_tree framed.entry.node)) (record { front = fs; opener = os; chain = chain_of framed.entry.frame.now.series; closer = cs; sites = framed.entry.frame.now.sites }) (parts_of (node_tree framed.entry.node))) (parts_of (node_tree framed.entry.node)) xs false framed.entry.depth r }
+    ensures laid { (W : ℕ → Bool) → (st : NodeUse) → HoldsRows st framed.entry.node → (fs : List (List Bit)) → (os cs : List Bit) → map (λ p. bits_of p.now) framed.entry.frame.now.front.now ≡ map fused fs → bits_of framed.entry.frame.now.opener.now ≡ fused os → bits_of framed.entry.frame.now.closer.now ≡ fused cs → (xs : List Role) → (r : ℕ) → Reads W r emitter.old.wraps.flags.now → parts_fit W (parts_of (node_tree framed.entry.node)) xs r ≡ true → Stands st (node_tree framed.entry.node) (shape_marks (text_of (node_tree framed.entry.node)) (record { front = fs; opener = os; chain = chain_of framed.entry.frame.now.series; closer = cs; sites = framed.entry.frame.now.sites }) (parts_of (node_tree framed.entry.node))) (parts_of (node_tree framed.entry.node)) xs → Written W (seen (O.stands out.old emitter.old.room) emitter.old) (seen (O.stands out.new emitter.new.room) emitter.new) (shape_marks (text_of (node_tree framed.entry.node)) (record { front = fs; opener = os; chain = chain_of framed.entry.frame.now.series; closer = cs; sites = framed.entry.frame.now.sites }) (parts_of (node_tree framed.entry.node))) (parts_of (node_tree framed.entry.node)) xs false framed.entry.depth r }
     ensures adds { Adds (O.stands out.old emitter.old.room) (O.stands out.new emitter.new.room) }
 {
     let mut previous_is_bare = false;
@@ -221,7 +218,7 @@ fn print_front<O: TextSink>(
     out: &mut O,
 )
     requires { framed.depth + height (node_tree framed.node) ≤ usize.MAX }
-    ensures laid { (W : ℕ → Bool) → (st : NodeUse) → HoldsRows st framed.entry.node → (fs : List (List Bit)) → map (λ p. bits_of p.now) framed.entry.frame.now.front.now ≡ map fused fs → (ms : List Mark) → (xs : List Role) → (r : ℕ) → Reads W r emitter.old.wraps.now → parts_fit W (parts_of (node_tree framed.entry.node)) xs r ≡ true → Stands st (node_tree framed.entry.node) (front_marks (text_of (node_tree framed.entry.node)) framed.entry.frame.now.sites 0 fs (parts_of (node_tree framed.entry.node)) ms) (parts_of (node_tree framed.entry.node)) xs → Gone W st (node_tree framed.entry.node) (seen (O.stands out.old emitter.old.room) emitter.old) (seen (O.stands out.new emitter.new.room) emitter.new) (front_marks (text_of (node_tree framed.entry.node)) framed.entry.frame.now.sites 0 fs (parts_of (node_tree framed.entry.node)) ms) ms (parts_of (node_tree framed.entry.node)) (parts_after (length framed.entry.frame.now.front.now) (parts_of (node_tree framed.entry.node))) xs previous_is_bare.old previous_is_bare.new framed.entry.depth r }
+    ensures laid { (W : ℕ → Bool) → (st : NodeUse) → HoldsRows st framed.entry.node → (fs : List (List Bit)) → map (λ p. bits_of p.now) framed.entry.frame.now.front.now ≡ map fused fs → (ms : List Mark) → (xs : List Role) → (r : ℕ) → Reads W r emitter.old.wraps.flags.now → parts_fit W (parts_of (node_tree framed.entry.node)) xs r ≡ true → Stands st (node_tree framed.entry.node) (front_marks (text_of (node_tree framed.entry.node)) framed.entry.frame.now.sites 0 fs (parts_of (node_tree framed.entry.node)) ms) (parts_of (node_tree framed.entry.node)) xs → Gone W st (node_tree framed.entry.node) (seen (O.stands out.old emitter.old.room) emitter.old) (seen (O.stands out.new emitter.new.room) emitter.new) (front_marks (text_of (node_tree framed.entry.node)) framed.entry.frame.now.sites 0 fs (parts_of (node_tree framed.entry.node)) ms) ms (parts_of (node_tree framed.entry.node)) (parts_after (length framed.entry.frame.now.front.now) (parts_of (node_tree framed.entry.node))) xs previous_is_bare.old previous_is_bare.new framed.entry.depth r }
     ensures adds { Adds (O.stands out.old emitter.old.room) (O.stands out.new emitter.new.room) }
 {
     let frame = framed.frame;
@@ -240,7 +237,7 @@ fn print_list<O: TextSink>(
     out: &mut O,
 )
     requires { framed.depth + height (node_tree framed.node) ≤ usize.MAX + 1 }
-    ensures laid { (W : ℕ → Bool) → (st : NodeUse) → HoldsRows st framed.entry.node → (ms : List Mark) → (xs : List Role) → (r : ℕ) → Reads W r emitter.old.wraps.now → parts_fit W (parts_after (length framed.entry.frame.now.front.now) (parts_of (node_tree framed.entry.node))) xs r ≡ true → Stands st (node_tree framed.entry.node) (chain_marks (text_of (node_tree framed.entry.node)) framed.entry.frame.now.sites (chain_of framed.entry.frame.now.series) (length framed.entry.frame.now.front.now) (parts_after (length framed.entry.frame.now.front.now) (parts_of (node_tree framed.entry.node))) ++ ms) (parts_after (length framed.entry.frame.now.front.now) (parts_of (node_tree framed.entry.node))) xs → Gone W st (node_tree framed.entry.node) (seen (O.stands out.old emitter.old.room) emitter.old) (seen (O.stands out.new emitter.new.room) emitter.new) (chain_marks (text_of (node_tree framed.entry.node)) framed.entry.frame.now.sites (chain_of framed.entry.frame.now.series) (length framed.entry.frame.now.front.now) (parts_after (length framed.entry.frame.now.front.now) (parts_of (node_tree framed.entry.node))) ++ ms) ms (parts_after (length framed.entry.frame.now.front.now) (parts_of (node_tree framed.entry.node))) none xs previous_is_bare.old previous_is_bare.new framed.entry.depth r }
+    ensures laid { (W : ℕ → Bool) → (st : NodeUse) → HoldsRows st framed.entry.node → (ms : List Mark) → (xs : List Role) → (r : ℕ) → Reads W r emitter.old.wraps.flags.now → parts_fit W (parts_after (length framed.entry.frame.now.front.now) (parts_of (node_tree framed.entry.node))) xs r ≡ true → Stands st (node_tree framed.entry.node) (chain_marks (text_of (node_tree framed.entry.node)) framed.entry.frame.now.sites (chain_of framed.entry.frame.now.series) (length framed.entry.frame.now.front.now) (parts_after (length framed.entry.frame.now.front.now) (parts_of (node_tree framed.entry.node))) ++ ms) (parts_after (length framed.entry.frame.now.front.now) (parts_of (node_tree framed.entry.node))) xs → Gone W st (node_tree framed.entry.node) (seen (O.stands out.old emitter.old.room) emitter.old) (seen (O.stands out.new emitter.new.room) emitter.new) (chain_marks (text_of (node_tree framed.entry.node)) framed.entry.frame.now.sites (chain_of framed.entry.frame.now.series) (length framed.entry.frame.now.front.now) (parts_after (length framed.entry.frame.now.front.now) (parts_of (node_tree framed.entry.node))) ++ ms) ms (parts_after (length framed.entry.frame.now.front.now) (parts_of (node_tree framed.entry.node))) none xs previous_is_bare.old previous_is_bare.new framed.entry.depth r }
     ensures adds { Adds (O.stands out.old emitter.old.room) (O.stands out.new emitter.new.room) }
 {
     let count = framed.node.part_count();
@@ -260,7 +257,7 @@ fn print_item<O: TextSink>(
 )
     requires low { framed.depth + height (node_tree framed.node) ≤ usize.MAX + 1 }
     requires index { index < part_count (parts_of (node_tree framed.node)) }
-    ensures laid { (W : ℕ → Bool) → (st : NodeUse) → HoldsRows st framed.entry.node → (ms : List Mark) → (xs : List Role) → (r : ℕ) → Reads W r emitter.old.wraps.now → parts_fit W (parts_after index (parts_of (node_tree framed.entry.node))) xs r ≡ true → Stands st (node_tree framed.entry.node) (chain_marks (text_of (node_tree framed.entry.node)) framed.entry.frame.now.sites (chain_of framed.entry.frame.now.series) index (parts_after index (parts_of (node_tree framed.entry.node))) ++ ms) (parts_after index (parts_of (node_tree framed.entry.node))) xs → Gone W st (node_tree framed.entry.node) (seen (O.stands out.old emitter.old.room) emitter.old) (seen (O.stands out.new emitter.new.room) emitter.new) (chain_marks (text_of (node_tree framed.entry.node)) framed.entry.frame.now.sites (chain_of framed.entry.frame.now.series) index (parts_after index (parts_of (node_tree framed.entry.node))) ++ ms) (chain_marks (text_of (node_tree framed.entry.node)) framed.entry.frame.now.sites (chain_of framed.entry.frame.now.series) (suc index) (parts_after (suc index) (parts_of (node_tree framed.entry.node))) ++ ms) (parts_after index (parts_of (node_tree framed.entry.node))) (parts_after (suc index) (parts_of (node_tree framed.entry.node))) xs previous_is_bare.old previous_is_bare.new framed.entry.depth r }
+    ensures laid { (W : ℕ → Bool) → (st : NodeUse) → HoldsRows st framed.entry.node → (ms : List Mark) → (xs : List Role) → (r : ℕ) → Reads W r emitter.old.wraps.flags.now → parts_fit W (parts_after index (parts_of (node_tree framed.entry.node))) xs r ≡ true → Stands st (node_tree framed.entry.node) (chain_marks (text_of (node_tree framed.entry.node)) framed.entry.frame.now.sites (chain_of framed.entry.frame.now.series) index (parts_after index (parts_of (node_tree framed.entry.node))) ++ ms) (parts_after index (parts_of (node_tree framed.entry.node))) xs → Gone W st (node_tree framed.entry.node) (seen (O.stands out.old emitter.old.room) emitter.old) (seen (O.stands out.new emitter.new.room) emitter.new) (chain_marks (text_of (node_tree framed.entry.node)) framed.entry.frame.now.sites (chain_of framed.entry.frame.now.series) index (parts_after index (parts_of (node_tree framed.entry.node))) ++ ms) (chain_marks (text_of (node_tree framed.entry.node)) framed.entry.frame.now.sites (chain_of framed.entry.frame.now.series) (suc index) (parts_after (suc index) (parts_of (node_tree framed.entry.node))) ++ ms) (parts_after index (parts_of (node_tree framed.entry.node))) (parts_after (suc index) (parts_of (node_tree framed.entry.node))) xs previous_is_bare.old previous_is_bare.new framed.entry.depth r }
     ensures adds { Adds (O.stands out.old emitter.old.room) (O.stands out.new emitter.new.room) }
 {
     let behind = framed.node.part_count() - index - 1;
@@ -304,7 +301,7 @@ fn print_part<O: TextSink>(
     out: &mut O,
 )
     requires { framed.depth + height (node_tree framed.node) ≤ usize.MAX + 1 }
-    ensures laid { (W : ℕ → Bool) → (st : NodeUse) → HoldsRows st framed.entry.node → (ms : List Mark) → (xs : List Role) → (r : ℕ) → Reads W r emitter.old.wraps.now → parts_fit W (parts_after index (parts_of (node_tree framed.entry.node))) xs r ≡ true → Stands st (node_tree framed.entry.node) (here (site_at framed.entry.frame.now.sites index (parts_after index (parts_of (node_tree framed.entry.node)))) ∷ ms) (parts_after index (parts_of (node_tree framed.entry.node))) xs → Gone W st (node_tree framed.entry.node) (seen (O.stands out.old emitter.old.room) emitter.old) (seen (O.stands out.new emitter.new.room) emitter.new) (here (site_at framed.entry.frame.now.sites index (parts_after index (parts_of (node_tree framed.entry.node)))) ∷ ms) ms (parts_after index (parts_of (node_tree framed.entry.node))) (parts_after (suc index) (parts_of (node_tree framed.entry.node))) xs previous_is_bare.old previous_is_bare.new framed.entry.depth r }
+    ensures laid { (W : ℕ → Bool) → (st : NodeUse) → HoldsRows st framed.entry.node → (ms : List Mark) → (xs : List Role) → (r : ℕ) → Reads W r emitter.old.wraps.flags.now → parts_fit W (parts_after index (parts_of (node_tree framed.entry.node))) xs r ≡ true → Stands st (node_tree framed.entry.node) (here (site_at framed.entry.frame.now.sites index (parts_after index (parts_of (node_tree framed.entry.node)))) ∷ ms) (parts_after index (parts_of (node_tree framed.entry.node))) xs → Gone W st (node_tree framed.entry.node) (seen (O.stands out.old emitter.old.room) emitter.old) (seen (O.stands out.new emitter.new.room) emitter.new) (here (site_at framed.entry.frame.now.sites index (parts_after index (parts_of (node_tree framed.entry.node)))) ∷ ms) ms (parts_after index (parts_of (node_tree framed.entry.node))) (parts_after (suc index) (parts_of (node_tree framed.entry.node))) xs previous_is_bare.old previous_is_bare.new framed.entry.depth r }
     ensures adds { Adds (O.stands out.old emitter.old.room) (O.stands out.new emitter.new.room) }
 {
     let node = framed.node;

@@ -1,7 +1,7 @@
 //! What the layout asks of a node for the sake of what it is a part of.
 
 ghost use Rattle.std.specs.Prelude.{◌≡◌};
-ghost use Rattle.printer.specs.Sites.{is_plain as is_plain_site};
+ghost use Rattle.printer.specs.Sites.{is_plain};
 
 /// What the layout asks of a node for the sake of what it is a part of.
 #[derive(Clone, Copy)]
@@ -22,8 +22,8 @@ pub enum Site {
 }
 
 /// Whether what stands round a node's parts is told by the node alone.
-pub(crate) fn is_plain(site: Site) -> bool
-    ensures { result ≡ is_plain_site site }
+pub(crate) fn is_plain_site(site: Site) -> bool
+    ensures { result ≡ is_plain site }
 {
     matches!(site, Site::Plain)
 }

@@ -496,5 +496,3 @@ impl<'t, 's> Parser<'t, 's> {
         Ok(())
     }
 }
-
-// 1 where a node of its own holds the items, in what holds the list: the body of a class, a declaration in the head of a `for`;

@@ -139,7 +139,7 @@ pub fn with_default(binds: bool, kind: Kind) -> Option<Position>
 }
 
 /// The element of an array pattern, and a parameter.
-pub fn element(binds: bool, kind: Kind) -> Option<Position>
+pub(crate) fn element(binds: bool, kind: Kind) -> Option<Position>
     ensures { result ≡ element_at binds kind }
 {
     match kind {

@@ -126,9 +126,6 @@ module _ (ps : Parts) where
       go true e = rw (← e) (call (fixed piece.base) (own.Fixed position.Super) refl)
       go false e = rw (← e) (call (lead Call) (own.Lead Call) refl)
 
-  new_starts : (f : Start) (qs : List Piece) → starts f (term "new" ∷ qs) ≡ true
-  new_starts f qs = word_starts f (codes "new") qs refl
-
   updates : (w : List ℕ) (g : Flags) → Outlined ps (expressions kind.UpdateExpression w g ps) (expression_outline kind.UpdateExpression w g (around ps))
   unfolding expressions
   updates w g = go (is_update_operator w) refl (is_target (lead_kind ps)) (ap is_target (lead_entry ps))
@@ -252,9 +249,6 @@ classes (gap (part m ps)) = one_way (record { rank = refl; needs_in = refl; open
 classes (part n none) = never_runs refl
 classes (part n (gap ps)) = one_way (record { rank = refl; needs_in = refl; opens = λ f. class_opens f _; names = refl })
 classes (part n (part m ps)) = one_way (record { rank = refl; needs_in = refl; opens = λ f. class_opens f _; names = refl })
-
-arrow_body : Flags → Rattle.spelling_table.specs.declared.position.Slot.Slot
-arrow_body g = cond g.expression (own.Tail Assignment NoBrace) (own.Fixed position.Body)
 
 open_starts : (f : Start) (qs : List Piece) → starts f (open_parameters ∷ qs) ≡ true
 open_starts Any qs = refl

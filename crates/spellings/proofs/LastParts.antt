@@ -50,19 +50,8 @@ last_gap (gap (gap ps)) zero n h = absurd (omega (arith, n))
 last_gap (gap (part m ps)) (suc i) n h = last_gap (part m ps) i (omega (arith, n)) h
 last_gap (gap (gap ps)) (suc i) n h = last_gap (gap ps) i (omega (arith, n)) h
 
-no_parts : (ps : Parts) → part_count ps ≡ 0 → true ≡ last_ends_in_if ps
-no_parts none n = refl
-no_parts (part t ps) n = absurd (omega (arith, n))
-no_parts (gap ps) n = absurd (omega (arith, n))
-
 trailing : (n : Tree) (b : Bool) → trails (kind_of n) ≡ true → b ≡ last_ends_in_if (parts_of n) → b ≡ ends_in_if n
 trailing (node k w g s e ps) b t h = h ∙ sym (rw t refl)
-
-pub ends_not : (n : Tree) → trails (kind_of n) ≡ false → false ≡ ends_in_if n
-ends_not (node k w g s e ps) t = sym (rw t refl)
-
-pub ends_empty : (n : Tree) → trails (kind_of n) ≡ true → part_count (parts_of n) ≡ 0 → true ≡ ends_in_if n
-ends_empty n t h = trailing n true t (no_parts (parts_of n) h)
 
 pub ends_gap : (n : Tree) (i : ℕ) → trails (kind_of n) ≡ true → part_count (parts_of n) ≡ i + 1 → None ≡ part_at (parts_of n) i → true ≡ ends_in_if n
 ends_gap n i t c h = trailing n true t (last_gap (parts_of n) i c h)

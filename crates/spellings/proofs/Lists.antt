@@ -94,9 +94,6 @@ one_listed p (Some a) k l t f qs e h =
     of true = refl
     of false = refl
 
-spread-append : (p : Piece) (xs ys : List Piece) → named (p ∷ (xs ++ ys)) ≡ named ((p ∷ xs) ++ ys)
-spread-append p xs ys = refl
-
 pub arguments-named : (ps : Parts) → named (listed argument ps) ≡ tail_slots (tail.Arguments false) ps
 arguments-named none = refl
 arguments-named (gap ps) = refl

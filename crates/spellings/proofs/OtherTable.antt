@@ -13,7 +13,7 @@ use Rattle.language.specs.FirstPart.{lead as lead_kind, others}
 use Rattle.language.specs.Vocabulary.{is_reserved, is_string, literal_class, is_rest, is_identifier, is_super}
 use Rattle.language.specs.Pieces as piece
 use Rattle.language.specs.Pieces.{Piece, Slot, Spelling, only, put, put_at, sub, tok, lay, fixed, lead, lead_chain, sign, term, sp, is_none, elements, listed, pattern_element, bound, with_default, many, only_at, parameters, absent}
-use Rattle.language.specs.Expressions.{chain_parts, member_link, call_link, arguments, selector, in_brackets, first_has_optional, properties, pattern_properties, keyed, object_pattern_part, shorthand_pattern, assignment, methods}
+use Rattle.language.specs.Expressions.{chain_parts, member_link, call_link, arguments, in_brackets, first_has_optional, properties, pattern_properties, keyed, object_pattern_part, shorthand_pattern, assignment, methods}
 use Rattle.language.specs.Statements.{braced, member_lines, members, class_members}
 use Rattle.language.specs.Grammar.{keys, names, words, shorthand_keys, bases, directive_strings, tagged_quasis, template_parts, patterns, elements_with_default, rests}
 use Rattle.spelling_table.specs.declared.position.Position.{Position}
@@ -175,14 +175,6 @@ rest_placed b o _ ps = nowhere
 
 pub members_placed : (ps : Parts) → Placed ps (only (braced ps (many (codes ";") ∷ member_lines ps))) (Some (lined Primary Zero (tails.Each (own.Fixed position.Member)) 0))
 members_placed ps = placed (braced-named ps (many (codes ";") ∷ member_lines ps) ∙ members-named ps)
-
--- parts of chains
-selected-named : (g : Flags) → named (selector g) ≡ Some (slot_of (selected g) ∷ [])
-selected-named g = of g.computed
-  where
-    of : (b : Bool) → named (cond b in_brackets (sign "." ∷ put piece.word ∷ [])) ≡ Some (slot_of (own.Fixed (cond b whole_at position.IdentifierName)) ∷ [])
-    of true = refl
-    of false = refl
 
 link-named : (g : Flags) → named (member_link g) ≡ Some (slot_of (selected g) ∷ [])
 link-named g = of g.optional g.computed

@@ -152,8 +152,6 @@ slots_known t (part n ps) xs h = of (is_over t) (part_of_tail t n ps) h (λ u zs
     of false None e k = absurd (cc)
     of false (Some x) e k = known_before (slot_of x.0) (tail_slots x.1 ps) xs (slots_left x.1 ps) e (k x.1)
 
-pub ruleset run_steps = (over_runs, end_runs, gap_stops, gap_passes, part_stops, part_passes)
-
 -- so many parts stand behind the one at a place
 pub left-behind : (ps : Parts) (n i : ℕ) → n ≡ part_count ps → i < n → part_count (parts_after (suc i) ps) ≡ (n - i) - 1
 left-behind ps n i e h = sym (ap (λ m. (m - i) - 1) e ∙ left-count ps i (omega (arith, e, h)))

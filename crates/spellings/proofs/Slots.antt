@@ -493,9 +493,6 @@ of_front_good : (o : Option FixedSlots) → good_some_front o ≡ true → Good 
 of_front_good None h = nothing
 of_front_good (Some f) h = outlined h refl
 
-and_true : (u : Bool) → u ≡ true → (u && true) ≡ true
-and_true u h = and_from u true h refl
-
 placed_good : (x : slots.Slot) (f : FixedSlots) → good_at x ≡ true → good_front f ≡ true → good_front (statements.placed_before x f) ≡ true
 placed_good x Zero h e = h
 placed_good x (One a) h e = and_from _ _ h e

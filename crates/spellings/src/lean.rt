@@ -28,14 +28,14 @@ fn is_lean_label(kind: Kind, text: &str, flags: Flags) -> bool
 fn has_its_flags(kind: Kind, flags: Flags) -> bool
     ensures { result ≡ is_within flags (flags_used kind flags) }
 {
-    if is_plain(flags) {
+    if has_no_flags(flags) {
         return true;
     }
     has_used_flags(kind, flags)
 }
 
 /// Whether no flag is set at all. All are read, without a branch between them, since most nodes have none.
-pub(crate) fn is_plain(flags: Flags) -> bool
+pub(crate) fn has_no_flags(flags: Flags) -> bool
     ensures { result ≡ has_no_flags flags }
 {
     let is_marked = flags.computed

@@ -10,7 +10,7 @@ ghost use Rattle.spelling_table.specs.Productions.{outline_of};
 ghost use Rattle.spelling_table.specs.declared.production.Production.TheVariants;
 ghost use Rattle.spellings.specs.Wherever.{IsSpelledWherever, spelled_by, chain_above, spine_first};
 
-use crate::lean::{is_lean_node, is_plain};
+use crate::lean::{has_no_flags, is_lean_node};
 use crate::leaves::is_leaf_text;
 use crate::nodes::production_at;
 use crate::walk::list_fits;
@@ -46,7 +46,7 @@ pub fn is_leaf(node: Node, position: Position) -> bool
     if !is_leaf_text(node.kind(), node.text(), position) {
         return false;
     }
-    if !is_plain(node.flags()) {
+    if !has_no_flags(node.flags()) {
         return false;
     }
     node.part_count() == 0

@@ -27,9 +27,6 @@ use Rattle.token_cursor.specs.CursorState.{depends, IsAhead, NoneAhead}
 use Rattle.token_cursor.specs.StatementEnds.{ending_of, EndsAt, IsEnd}
 use Rattle.token_cursor.proofs.Moves.{moved, moved_same, DivReads, div_reads}
 
-true_is_not_false : (b : Bool) → b ≡ true → b ≡ false → ⊥
-true_is_not_false b p q = cc
-
 -- a punctuator's text is read as it stands
 sign_text : (t : LexicalToken) → t.class ≡ Punctuator → (as_read t).text ≡ t.text
 sign_text t e = ap (λ c. table_text c t.text) e
@@ -128,12 +125,6 @@ missing_no_semicolon b c h e = grind (arith, nat_tests)
 
 no_both : (b : Bool) → b ≡ true → b ≡ false → ⊥
 no_both b p q = cc
-
-true_of : (b : Bool) → b ≡ true → IsTrue b
-true_of b e = e
-
-of_true : (b : Bool) → IsTrue b → b ≡ true
-of_true b e = e
 
 -- the `;` ends it there, and nowhere else
 pub ends_behind_semicolon : (text : List ℕ) (x : StatementEnd) (s : Token) (t : LexicalToken) → IsUtf8 text → IsPlace text s.stop → IsAhead Div text s.stop t → is_semicolon (as_read t) ≡ true → IsEnd text x s (as_read t)

@@ -23,7 +23,7 @@ use Rattle.tokens.proofs.TokenUniqueness.{determined}
 use Rattle.tokens.proofs.Longest.{none_is_longer}
 use Rattle.tokens.proofs.PassedCharacters.{size_one, size_append, pass_ascii}
 use Rattle.tokens.proofs.Utf8Tokens.{word_scalars}
-use Rattle.token_cursor.specs.CursorState.{depends, IsAhead}
+use Rattle.token_cursor.specs.CursorState.{depends}
 
 -- the first byte of a text is its first character where either is an ASCII one
 low_first : (c : ℕ) (cs : List ℕ) → c < 128 → slice_index_or (encode_utf8_all (c ∷ cs)) 0 0 ≡ c
@@ -74,17 +74,6 @@ moved text goal other at t u p d h = record {
   start = h.start;
   stop = h.stop;
   after_break = h.after_break;
-}
-
-pub ahead_moved : (text : List ℕ) (goal other : Goal) (at : ℕ) (t : LexicalToken) → IsUtf8 text → IsPlace text at → depends t.text ≡ false → IsAhead goal text at t → IsAhead other text at t
-ahead_moved text goal other at t u p d a = record {
-  read = moved text goal other at t u p d a.read;
-  begins = a.begins;
-  ordered = a.ordered;
-  goes_on = a.goes_on;
-  start_place = a.start_place;
-  stop_place = a.stop_place;
-  string = a.string;
 }
 
 -- then one alone is read there, whatever the goals

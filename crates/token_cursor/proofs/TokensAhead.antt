@@ -22,7 +22,7 @@ use Rattle.language.specs.Promises.{ReadBy}
 use Rattle.language.proofs.table.Begins.{div_allows}
 use Rattle.language.proofs.texts.TextOffsets.{begins_same, turned_same, text_determined}
 use Rattle.token_cursor.specs.CursorState.{IsAhead, NoneAhead}
-use Rattle.token_cursor.specs.Seen.{ReadsHere, Sees, Misses, NameHere, NoName, TokenHere, SeesBy, MissesBy}
+use Rattle.token_cursor.specs.Seen.{ReadsHere, Sees, Misses, NameHere, NoName, SeesBy, MissesBy}
 
 -- a goal allows by the first character alone, so a token as it is read where it allows its characters
 allows_same : (g : Goal) (c : TokenClass) (v w : List ℕ) → begins_with (one_of "/") v ≡ begins_with (one_of "/") w → begins_with (one_of "}") v ≡ begins_with (one_of "}") w → allows g c v ≡ allows g c w
@@ -93,10 +93,6 @@ module _ (text : List ℕ) where
   pub of_ahead : (P : Token → Type 0) (g : Goal) (s : Token) (u : LexicalToken) → IsAhead g text s.stop u → P (as_read u) → (t m : Token) → By g s t m → P t
   of_ahead P g s u a h t m r = subst P (sym (same_ahead g s u a t m r)) h
 
-  -- the token ahead passes a test, or fails it
-  pub here_by : (p : Token → Bool) (g : Goal) (s : Token) (u : LexicalToken) → IsAhead g text s.stop u → p (as_read u) ≡ true → TokenHere text g p s (as_read u)
-  here_by p g s u a h = (ahead_read g s u a, h)
-
   pub seen_by : (p : Token → Bool) (g : Goal) (s : Token) (u : LexicalToken) → IsAhead g text s.stop u → p (as_read u) ≡ true → SeesBy text g p s
   seen_by p g s u a h = (as_read u, (ahead_read g s u a, h))
 
@@ -154,12 +150,6 @@ module _ (text : List ℕ) where
   pub word_missed : (w : List ℕ) (s : Token) (u : LexicalToken) → IsAhead goal.Div text s.stop u → is_token IdentifierName w (as_read u) ≡ false → Misses text IdentifierName w s
   word_missed w s u a h t e r = false≢true (sym h ∙ ap (is_token IdentifierName w) (sym (same_ahead goal.Div s u a t e (name_by r))) ∙ is_one r)
 
-  pub no_mark : (w : List ℕ) (s : Token) → NoneAhead goal.Div text s.stop → Misses text Punctuator w s
-  no_mark w s none t e r = none_ahead goal.Div s none t e (mark_by r)
-
-  pub no_word : (w : List ℕ) (s : Token) → NoneAhead goal.Div text s.stop → Misses text IdentifierName w s
-  no_word w s none t e r = none_ahead goal.Div s none t e (name_by r)
-
   -- the same of names that pass a test
   name_of : (u : LexicalToken) → u.class ≡ IdentifierName → (as_read u).text ≡ u.text
   name_of u e = ap (λ c. table_text c u.text) e
@@ -178,9 +168,6 @@ module _ (text : List ℕ) where
       let class : u.class ≡ IdentifierName = sym (ap (λ (x : Token). x.class) same) ∙ r.class in
       let word : p u.text ≡ true = ap p (sym (name_of u class)) ∙ sym (ap (λ (x : Token). p x.text) same) ∙ k in
       false≢true (sym h ∙ ap (λ c. same_class IdentifierName c && p u.text) class ∙ word)
-
-  pub no_name : (p : List ℕ → Bool) (s : Token) → NoneAhead goal.Div text s.stop → NoName text p s
-  no_name p s none t e r k = none_ahead goal.Div s none t e (name_by r)
 
   -- all that is read at one place has the same line break before it
   pub break_seen : (g : Goal) (s : Token) (u : LexicalToken) → IsAhead g text s.stop u → (t e : Token) → NextIn text any_goal s t e → t.after_break ≡ u.after_break
@@ -203,11 +190,3 @@ module _ (text : List ℕ) where
 
   pub no_line : (w : List ℕ) (s : Token) (u : LexicalToken) → IsAhead goal.Div text s.stop u → is_token Punctuator w (as_read u) ≡ false → (t e : Token) → Reads Token (NextIn text any_goal) itself Punctuator w s t e → t.after_break ≡ true
   no_line w s u a h t e r = absurd (mark_missed w s u a h t e r)
-
--- behind a function that passed nothing, what stands ahead is what stood there
-module _ (text behind : List ℕ) (s m : Token) (same : behind ≡ text) (stayed : m ≡ s) where
-  pub reads_before : (c : TokenClass) (w : List ℕ) (e : Token) → ReadsHere behind c w m e → ReadsHere text c w s e
-  reads_before c w e h = subst (λ x. ReadsHere x c w s e) same (subst (λ y. ReadsHere behind c w y e) stayed h)
-
-  pub misses_before : (c : TokenClass) (w : List ℕ) → Misses behind c w m → Misses text c w s
-  misses_before c w h = subst (λ x. Misses x c w s) same (subst (λ y. Misses behind c w y) stayed h)

@@ -1,16 +1,13 @@
 -- Where a token that is read stands in its text, and that a word behind separators is the token that is read.
-use Rattle.std.proofs.Common.{◌≡◌, ◌≢◌, ℕ, ◌+◌, ◌<◌, ◌≤◌, List, [], ◌∷◌, ◌++◌, length, drop, refl, sym, ap, ◌∙◌, subst, arith, append_assoc, IsTrue, not}
+use Rattle.std.proofs.Common.{◌≡◌, ◌≢◌, ℕ, ◌+◌, ◌<◌, ◌≤◌, List, [], ◌∷◌, ◌++◌, length, drop, sym, ap, ◌∙◌, subst, arith, append_assoc, not}
 use Rattle.std.specs.Prelude.{slice_range, encode_utf8_all}
-use Rattle.std.specs.List.{list_any}
 use Rattle.std.specs.Char.{encode_utf8, len_utf8}
 use Rattle.std.specs.Str.{IsUtf8}
 use Rattle.std.proofs.lemmas.Str.{encodes-chars, IsUtf8-drop}
 use Rattle.std.proofs.lemmas.List.{append_cancel_left}
 use Rattle.source_text.specs.Source.{IsPlace}
-use Rattle.source_text.specs.Lines.{is_line_terminator}
-use Rattle.tokens.specs.Comments.{begins_comment, Separators}
-use Rattle.tokens.specs.Lexical.{LexicalClass, End, is_token}
-use Rattle.tokens.specs.Goals.{Goal, allows}
+use Rattle.tokens.specs.Lexical.{End}
+use Rattle.tokens.specs.Goals.{Goal}
 use Rattle.tokens.specs.Tokens.{LexicalToken, size}
 use Rattle.tokens.specs.Reading.{behind, Reads}
 use Rattle.tokens.specs.Scanned.{Passed}
@@ -77,25 +74,3 @@ token_places text goal at t u p h = let g = gap_passed text goal at t u p h in l
 pub token_goes_on : (text : List ℕ) (goal : Goal) (at : ℕ) (t : LexicalToken) → IsUtf8 text → IsPlace text at → Reads text goal at t → t.class ≢ End → t.start < t.stop
 token_goes_on text goal at t u p h ne =
     word_forward t.class text t.start t.stop (record { word = h.word; passed = word_passed text goal at t u p h; longest = h.longest }) ne
-
--- a word behind separators is the token that is read
-pub read_word : (text : List ℕ) (goal : Goal) (at : ℕ) (gap word rest : List ℕ) (class : LexicalClass) → IsUtf8 text → IsPlace text at → behind text at ≡ gap ++ (word ++ rest) →
-    Separators gap (word ++ rest) → IsTrue (not (begins_comment (word ++ rest))) → IsTrue (is_token class word rest) → IsTrue (allows goal class word) →
-    Reads text goal at (record { class = class; text = encode_utf8_all word; start = at + size gap; stop = at + size gap + size word; after_break = list_any is_line_terminator gap })
-read_word text goal at gap word rest class u p e s n l a =
-    let g = pass_word text at gap (word ++ rest) u p e in
-    let r = rest_of_word text (at + size gap) word rest u g.place (rest_of_word text at gap (word ++ rest) u p e) in
-    let whole : behind text at ≡ gap ++ word ++ behind text (at + size gap + size word) = e ∙ sym (append_assoc gap word rest) ∙ ap (λ x. gap ++ word ++ x) (sym r) in
-    record {
-      gap = gap;
-      word = word;
-      split = whole;
-      separated = subst (λ x. Separators gap (word ++ x)) (sym r) s;
-      no_comment = subst (λ x. IsTrue (not (begins_comment (word ++ x)))) (sym r) n;
-      longest = subst (λ x. IsTrue (is_token class word x)) (sym r) l;
-      allowed = a;
-      text = refl;
-      start = refl;
-      stop = refl;
-      after_break = refl;
-    }

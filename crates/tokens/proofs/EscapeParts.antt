@@ -1,11 +1,11 @@
 -- Escapes, part by part.
-use Rattle.std.proofs.Common.{◌≡◌, ℕ, zero, suc, ◌+◌, ◌*◌, ◌<◌, ◌≤◌, Bool, true, false, not, ◌&&◌, ◌==◌, List, [], ◌∷◌, ◌++◌, length, take, drop, Option, Some, None, min, nat_le, ltb, if◌then◌else◌, IsTrue, IsFalse, refl, sym, ap, ◌∙◌, subst, arith, append-nil, inl, inr, ◌⊎◌}
+use Rattle.std.proofs.Common.{◌≡◌, ℕ, zero, suc, ◌+◌, ◌*◌, ◌<◌, ◌≤◌, Bool, true, false, not, ◌&&◌, ◌==◌, List, [], ◌∷◌, ◌++◌, length, take, drop, Option, Some, None, min, nat_le, ltb, if◌then◌else◌, IsTrue, IsFalse, refl, sym, ap, ◌∙◌, subst, arith, inl, inr, ◌⊎◌}
 use Rattle.std.specs.List.{list_all, take_while}
 use Rattle.std.specs.Char.{digit_value}
 use Rattle.std.specs.Char.Escape.{encode_utf16}
 use Rattle.std.proofs.lemmas.Bool.{cond-true, lt-ltb}
 use Rattle.std.proofs.lemmas.Bool.Decides.{nat_tests}
-use Rattle.std.proofs.lemmas.List.{take_at, take_all, drop_at, length_push}
+use Rattle.std.proofs.lemmas.List.{take_at, drop_at, length_push}
 use Rattle.std.proofs.lemmas.List.Sums.{take_while-cons}
 use Rattle.std.proofs.lemmas.Str.{length-le-encodes}
 use Rattle.source_text.specs.Source.{IsPlace}
@@ -151,22 +151,6 @@ fixed_some text at stop count value h few =
       is_chosen true false count size x value h k e f n = absurd (true_false _ k refl)
       is_chosen false b count size x value h k e f n = absurd (true_false _ h refl)
 
-pub fixed_ends : (text : List ℕ) (at stop count value all : ℕ) → HasDigits text at stop count value → count < all → behind text stop ≡ [] → fixed_escape all (behind text at) ≡ None
-fixed_ends text at stop count value all h n e =
-    let word = h.digits.word in
-    let m = h.counted in
-    ap (λ w. chosen w) (ap (take all) (h.digits.passed.split ∙ ap (λ x. word ++ x) e ∙ append-nil word) ∙ take_all all word (omega arith))
-    ∙ none (length word == all) (list_all is_hex_digit word) all (hex_value 0 word) (other (length word) all (omega arith)) where
-      chosen : List ℕ → Option Piece
-      chosen w = fixed_is (length w == all) (list_all is_hex_digit w) all (hex_value 0 w)
-
-      other : (a b : ℕ) → a < b → IsFalse (a == b)
-      other a b e = grind (arith, nat_tests)
-
-      none : (a b : Bool) (count x : ℕ) → IsFalse a → fixed_is a b count x ≡ None
-      none true b count x h = absurd (true_false _ refl h)
-      none false b count x h = refl
-
 pub fixed_stops : (text : List ℕ) (at stop more c count value all : ℕ) → HasDigits text at stop count value → count < all → Passed text stop more (c ∷ []) → IsFalse (is_hex_digit c) →
     fixed_escape all (behind text at) ≡ None
 fixed_stops text at stop more c count value all h n p t =
@@ -189,9 +173,6 @@ pub record InDigits (text : List ℕ) (at stop value : ℕ) : Type 0 where
 
 pub in_digits_begin : (text : List ℕ) (at : ℕ) → IsPlace text at → InDigits text at at 0
 in_digits_begin text at p = record { digits = record { word = []; passed = passed_none text at p; all = refl }; valued = refl }
-
-pub in_digits_bound : (text : List ℕ) (at stop value : ℕ) → InDigits text at stop value → value ≤ 0x11_0000
-in_digits_bound text at stop value h = let v = h.valued in omega arith
 
 pub in_digits_go_on : (text : List ℕ) (at stop more c value digit : ℕ) → InDigits text at stop value → Passed text stop more (c ∷ []) → IsTrue (is_hex_digit c) → digit ≡ digit_value c →
     InDigits text at more (min (value * 16 + digit) 0x11_0000)

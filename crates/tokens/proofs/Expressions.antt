@@ -1,12 +1,12 @@
 -- Regular expressions: what is read greedily is the longest, and nothing but it can stand there.
 use Rattle.std.proofs.Common.{◌≡◌, ℕ, Bool, true, false, not, ◌&&◌, List, [], ◌∷◌, ◌++◌, IsTrue, IsFalse, refl, sym, ap, ◌∙◌, subst, arith, if◌then◌else◌}
 use Rattle.std.proofs.lemmas.Bool.Decides.{nat_tests}
-use Rattle.tokens.specs.Alphabet.{one_of, is_identifier_part}
+use Rattle.tokens.specs.Alphabet.{is_identifier_part}
 use Rattle.tokens.specs.RegularExpressions.{RegularExpression, opened, body, brackets, flags, body_backslash, brackets_backslash, no_expression, next_expression, has_flags, expression_after}
 use Rattle.tokens.specs.Lexical.{LexicalClass, is_at, none_longer, is_token}
 use Rattle.tokens.specs.States.{is_over}
 use Rattle.tokens.specs.Reading.{behind}
-use Rattle.tokens.specs.Scanned.{Passed, IsFlagsAt, NoFlagsAt, IsWordAt, NoWordAt}
+use Rattle.tokens.specs.Scanned.{Passed, IsFlagsAt, NoFlagsAt}
 use Rattle.source_text.specs.Source.{IsPlace}
 use Rattle.tokens.proofs.PassedCharacters.{passed_none, passed_on}
 use Rattle.tokens.proofs.Beginnings.{true_false}
@@ -133,32 +133,3 @@ no_expression_end text at stop part h q b = λ w r e k.
     true_false _ (rest_flags h.word (behind text stop) t) (ap has_flags h.read ∙ b)
 
 -- ---- with the `/` before it
-
-pub expression_word : (text : List ℕ) (at start stop : ℕ) → Passed text at start (0x2F ∷ []) → IsFlagsAt text start stop → IsWordAt LexicalClass.RegularExpressionLiteral text at stop
-expression_word text at start stop p h = record { word = 0x2F ∷ h.word; passed = passed_on text at start stop (0x2F ∷ []) h.word p h.passed; longest = h.longest }
-
-no_empty : (r : List ℕ) → IsTrue (is_token LexicalClass.RegularExpressionLiteral [] r) → ⊥
-no_empty r h = nothing (none_longer LexicalClass.RegularExpressionLiteral [] r) h where
-  nothing : (n : Bool) → IsTrue ((false && n) && true) → ⊥
-  nothing n h = grind (arith, nat_tests)
-
-pub no_expression_word : (text : List ℕ) (at start : ℕ) → Passed text at start (0x2F ∷ []) → NoFlagsAt text start → NoWordAt LexicalClass.RegularExpressionLiteral text at
-no_expression_word text at start p none = λ w r e h. at_slash w r (sym p.split ∙ e) h where
-  at_slash : (w r : List ℕ) → 0x2F ∷ behind text start ≡ w ++ r → IsTrue (is_token LexicalClass.RegularExpressionLiteral w r) → ⊥
-  at_slash [] r e h = no_empty r h
-  at_slash (c ∷ w) r e h = let q : c ≡ 0x2F = cc in let z : behind text start ≡ w ++ r = cc in none w r z (subst (λ x. IsTrue (is_token LexicalClass.RegularExpressionLiteral (x ∷ w) r)) q h)
-
-pub no_expression_other : (text : List ℕ) (at start c : ℕ) → Passed text at start (c ∷ []) → one_of "/" c ≡ false → NoWordAt LexicalClass.RegularExpressionLiteral text at
-no_expression_other text at start c p t = λ w r e h. other w r (sym p.split ∙ e) h where
-  refuse : (a b n : Bool) → a ≡ false → IsTrue ((((a && b) && true) && n) && true) → ⊥
-  refuse a b n e h = grind (arith, nat_tests)
-
-  other : (w r : List ℕ) → c ∷ behind text start ≡ w ++ r → IsTrue (is_token LexicalClass.RegularExpressionLiteral w r) → ⊥
-  other [] r e h = no_empty r h
-  other (d ∷ w) r e h = let q : d ≡ c = cc in refuse (one_of "/" d) (has_flags (expression_after opened w)) (none_longer LexicalClass.RegularExpressionLiteral (d ∷ w) r) (ap (one_of "/") q ∙ t) h
-
-pub no_expression_nothing : (text : List ℕ) (at : ℕ) → behind text at ≡ [] → NoWordAt LexicalClass.RegularExpressionLiteral text at
-no_expression_nothing text at q = λ w r e h. other w r (sym q ∙ e) h where
-  other : (w r : List ℕ) → [] ≡ w ++ r → IsTrue (is_token LexicalClass.RegularExpressionLiteral w r) → ⊥
-  other [] r e h = no_empty r h
-  other (d ∷ w) r e h = cc

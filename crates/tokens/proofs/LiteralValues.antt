@@ -61,13 +61,6 @@ units_go_on text at stop c found out h p q =
     ∙ ap (units_after us) (units_skip q.word (behind text found.end)) in
     record { place = q.passed.place; same = h.same ∙ ap (units_after out) one ∙ units_after_twice out us (unescaped (behind text found.end)) }
 
-pub units_bad : (text : List ℕ) (at stop c : ℕ) (out : List ℕ) → InUnits text at out → Passed text at stop (c ∷ []) → piece c (behind text stop) ≡ None → unescaped (chars text) ≡ None
-units_bad text at stop c out h p e =
-    h.same ∙ ap (λ x. units_after out (unescaped x)) p.split ∙ ap (λ o. units_after out (join_units o (units_behind (more_of o) (behind text stop)))) e
-
-pub units_end : (text : List ℕ) (at : ℕ) (out : List ℕ) → InUnits text at out → behind text at ≡ [] → unescaped (chars text) ≡ Some out
-units_end text at out h e = h.same ∙ ap (λ x. units_after out (unescaped x)) e ∙ ap (λ x. Some x) (append-nil out)
-
 -- ---- what stands between the quotes
 
 nil_only : (cs : List ℕ) → IsTrue (is_empty cs) → cs ≡ []
@@ -181,10 +174,6 @@ turned_goes_on text at stop c returned bytes h p =
       written = ap (λ x. x ++ encode_utf8_all new) h.written ∙ sym (encodes-append h.done new);
       same = h.same ∙ ap (λ x. h.done ++ raw_after returned x) p.split ∙ sym (append_assoc h.done new (raw_after (c == carriage_return) (behind text stop)));
     }
-
-pub turned_ends : (text : List ℕ) (at : ℕ) (returned : Bool) (bytes : List ℕ) → InTurned text at returned bytes → behind text at ≡ [] → bytes ≡ encode_utf8_all (raw_value (chars text))
-turned_ends text at returned bytes h e =
-    h.written ∙ ap encode_utf8_all (sym (h.same ∙ ap (λ x. h.done ++ raw_after returned x) e ∙ append-nil h.done))
 
 -- a text without U+000D is its own raw value
 pub raw_same : (cs : List ℕ) → list_any (λ c. c == carriage_return) cs ≡ false → raw_value cs ≡ cs

@@ -96,12 +96,3 @@ no_name text at stop c p s = λ w rest e h. none w rest (sym p.split ∙ e) h wh
   none : (w rest : List ℕ) → c ∷ behind text stop ≡ w ++ rest → IsTrue (is_token IdentifierName w rest) → ⊥
   none [] rest e h = nothing (none_longer IdentifierName [] rest) h
   none (d ∷ w) rest e h = let q : c ≡ d = cc in begins (is_identifier_start d) (list_all is_identifier_part w) (none_longer IdentifierName (d ∷ w) rest) (subst (λ x. IsFalse (is_identifier_start x)) q (subst IsFalse (sym s) refl)) h
-
-pub no_name_end : (text : List ℕ) (at : ℕ) → behind text at ≡ [] → NoWordAt IdentifierName text at
-no_name_end text at q = λ w rest e h. none w rest (sym q ∙ e) h where
-  nothing : (n : Bool) → IsTrue ((false && n) && true) → ⊥
-  nothing n h = grind (arith, nat_tests)
-
-  none : (w rest : List ℕ) → [] ≡ w ++ rest → IsTrue (is_token IdentifierName w rest) → ⊥
-  none [] rest e h = nothing (none_longer IdentifierName [] rest) h
-  none (d ∷ w) rest e h = cc

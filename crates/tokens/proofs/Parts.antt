@@ -162,15 +162,3 @@ no_part text at start c p none = λ w r e h. here w r (sym p.split ∙ e) h wher
   here : (w r : List ℕ) → c ∷ behind text start ≡ w ++ r → IsTrue (is_token Template w r) → ⊥
   here [] r e h = no_empty r h
   here (d ∷ w) r e h = let z : behind text start ≡ w ++ r = cc in none w r z (ends_same w ∙ (template_first d w r h).1)
-
-pub no_part_other : (text : List ℕ) (at start c : ℕ) → Passed text at start (c ∷ []) → one_of "`}" c ≡ false → NoWordAt Template text at
-no_part_other text at start c p t = λ w r e h. here w r (sym p.split ∙ e) h where
-  here : (w r : List ℕ) → c ∷ behind text start ≡ w ++ r → IsTrue (is_token Template w r) → ⊥
-  here [] r e h = no_empty r h
-  here (d ∷ w) r e h = let q : d ≡ c = cc in true_false _ ((template_first d w r h).0) (ap (one_of "`}") q ∙ t)
-
-pub no_part_end : (text : List ℕ) (at : ℕ) → behind text at ≡ [] → NoWordAt Template text at
-no_part_end text at q = λ w r e h. here w r (sym q ∙ e) h where
-  here : (w r : List ℕ) → [] ≡ w ++ r → IsTrue (is_token Template w r) → ⊥
-  here [] r e h = no_empty r h
-  here (d ∷ w) r e h = cc

@@ -3,7 +3,7 @@ use Rattle.std.proofs.Common.{◌≡◌, ℕ, ◌+◌, ◌-◌, ◌<◌, ◌≤�
 use Rattle.std.specs.Prelude.{slice_range, encode_utf8_all, Option, Some, None, IfSome, IfNone}
 use Rattle.std.specs.Char.{encode_utf8, len_utf8, is_ascii}
 use Rattle.std.specs.Str.{chars, IsUtf8}
-use Rattle.std.proofs.lemmas.Str.{encodes-append, encode_ascii, chars-nil, chars_past_char, encodes-chars, IsUtf8-drop, IsCharBoundary-after_ascii, IsCharBoundary-past_char, drop_past_char, length-encode, len_utf8_ascii, len_utf8_bounds}
+use Rattle.std.proofs.lemmas.Str.{encodes-append, encode_ascii, chars-nil, chars_past_char, encodes-chars, IsUtf8-drop, IsCharBoundary-after_ascii, IsCharBoundary-past_char, drop_past_char, length-encode, len_utf8_ascii}
 use Rattle.std.proofs.lemmas.Bool.{cases_lt}
 use Rattle.std.proofs.lemmas.Bool.Decides.{nat_tests}
 use Rattle.std.proofs.lemmas.List.{drop_more, take_at, drop_all}
@@ -79,9 +79,6 @@ pass_char text rest at c u p e =
       reaches = omega arith;
       place = IsCharBoundary-past_char text rest at c p.0 (IsUtf8-drop text at u p) e;
     }
-
-pub pass_forward : (text : List ℕ) (at stop c : ℕ) → Passed text at stop (c ∷ []) → at < stop
-pass_forward text at stop c p = let h = p.reaches in let n = size_one c in let b = (len_utf8_bounds c).0 in omega arith
 
 pub passed_ordered : (text : List ℕ) (at stop : ℕ) (word : List ℕ) → Passed text at stop word → at ≤ stop
 passed_ordered text at stop word p = let h = p.reaches in omega arith

@@ -99,9 +99,6 @@ pub record Sized (n : ℕ) (cs : List ℕ) : Type 0 where
 
 -- ---- by the next characters
 
-abbrev digit_behind : ℕ → List ℕ → Bool
-digit_behind n cs = is_decimal_digit (front (drop n cs))
-
 begins_front : (cs : List ℕ) → begins_with is_decimal_digit cs ≡ is_decimal_digit (front cs)
 begins_front [] = refl
 begins_front (c ∷ cs) = refl
@@ -115,11 +112,6 @@ rest_no_zero : (a : ℕ) (w : List ℕ) → IsTrue (no_zero (a ∷ w)) → IsTru
 rest_no_zero a w h = second (not (a == 0)) (list_all (λ x. not (x == 0)) w) h where
   second : (a b : Bool) → IsTrue (a && b) → IsTrue b
   second a b h = grind (arith, nat_tests)
-
--- characters that are no 0 are there
-there : (cs : List ℕ) → (front cs ≡ 0 → ⊥) → cs ≡ front cs ∷ tail cs
-there [] f = absurd (f refl)
-there (c ∷ cs) f = refl
 
 -- ---- the longest
 

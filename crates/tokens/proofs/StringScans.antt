@@ -112,23 +112,6 @@ choice_local false false false false true false z false z' n' x u x' u' us p k h
     let s : false ≡ n' = fn (omega arith) in
     ap (λ t. choice false false false false true false z' t x' u' us) (sym s) ∙ q
 
-escape_more : (a : List ℕ) (p : Piece) → escape a ≡ Some p → 1 ≤ p.more
-escape_more [] p e = cc
-escape_more (c ∷ cs) p e =
-    of_choice (one_of "x" c) (one_of "u" c) (one_of "0" c) (is_decimal_digit c) (c == carriage_return) (is_line_terminator c) (begins_with is_decimal_digit cs) (begins_with (λ d. d == line_feed) cs)
-    (fixed_escape 2 cs) (unicode_escape cs) (encode_utf16 (escaped_character c)) (λ q. let m = fixed_more 2 cs p q in omega arith) (λ q. let m = unicode_more cs p q in omega arith) e where
-      of_choice : (a b d e f g z n : Bool) (x u : Option Piece) (us : List ℕ) → (x ≡ Some p → 1 ≤ p.more) → (u ≡ Some p → 1 ≤ p.more) → choice a b d e f g z n x u us ≡ Some p → 1 ≤ p.more
-      of_choice true b d e f g z n x u us fx fu q = fx q
-      of_choice false true d e f g z n x u us fx fu q = fu q
-      of_choice false false true e f g true n x u us fx fu q = cc
-      of_choice false false true e f g false n x u us fx fu q = let m : 1 ≡ p.more = ap more_of q in omega arith
-      of_choice false false false true f g z n x u us fx fu q = cc
-      of_choice false false false false true g z true x u us fx fu q = let m : 2 ≡ p.more = ap more_of q in omega arith
-      of_choice false false false false true true z false x u us fx fu q = let m : 1 ≡ p.more = ap more_of q in omega arith
-      of_choice false false false false true false z false x u us fx fu q = let m : 1 ≡ p.more = ap more_of q in omega arith
-      of_choice false false false false false true z n x u us fx fu q = let m : 1 ≡ p.more = ap more_of q in omega arith
-      of_choice false false false false false false z n x u us fx fu q = let m : 1 ≡ p.more = ap more_of q in omega arith
-
 pub escape_local : (w a b : List ℕ) (p : Piece) → p.more < length w → escape (w ++ a) ≡ Some p → escape (w ++ b) ≡ Some p
 escape_local [] a b p n e = absurd (omega arith)
 escape_local (c ∷ w) a b p n e =

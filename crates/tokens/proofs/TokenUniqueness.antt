@@ -19,7 +19,7 @@ use Rattle.tokens.specs.RegularExpressions.{opened, expression_after, has_flags}
 use Rattle.tokens.specs.Goals.{Goal}
 use Rattle.tokens.specs.TokenStarts.{class_of}
 use Rattle.tokens.specs.Tokens.{LexicalToken, IsTokenAt, size}
-use Rattle.tokens.specs.Reading.{behind, Reads, Next, next, div_alone}
+use Rattle.tokens.specs.Reading.{behind}
 use Rattle.tokens.specs.Scanned.{IsSolid}
 use Rattle.tokens.proofs.Beginnings.{true_false}
 use Rattle.tokens.proofs.Longest.{longer_is_none}
@@ -233,9 +233,6 @@ token_solid class word rest h k =
       no_blank Template [] rest h m = absurd (true_false _ h refl)
       no_blank LexicalClass.RegularExpressionLiteral [] rest h m = absurd (true_false _ h refl)
 
-not_both : (c : ℕ) (rest : List ℕ) → IsTrue (is_blank c) → IsFalse (begins_with is_blank (c ∷ rest)) → ⊥
-not_both c rest h k = true_false _ h k
-
 slash_no_blank : (c : ℕ) → c ≡ 0x2F → IsTrue (is_blank c) → ⊥
 slash_no_blank c e h = true_false _ (subst (λ x. IsTrue (is_blank x)) e h) refl
 
@@ -305,16 +302,3 @@ determined goal at cs a b ra rb x y =
           (x.after_break ∙ ap (list_any is_line_terminator) gaps ∙ sym y.after_break),
       rest,
     )
-
--- by the goal Div alone one token is read behind a token at most, and reading goes on behind it
-pub next_determined : (text : List ℕ) (s a b e f : LexicalToken) → Next text div_alone s a e → Next text div_alone s b f → (a ≡ b) × (e ≡ f)
-next_determined text s a b e f (next goal d h) (next other k i) =
-    let g : goal ≡ other = div_only goal other d k in
-    let same = (determined other s.stop (behind text s.stop) a b (behind text a.stop) (behind text b.stop) (subst (λ x. Reads text x s.stop a) g h) i).0 in (same, same)
-  where
-    div_only : (g h : Goal) → IsTrue (div_alone g) → IsTrue (div_alone h) → g ≡ h
-    div_only Goal.Div Goal.Div d k = refl
-    div_only Goal.RegExp h d k = absurd (true_false _ d refl)
-    div_only Goal.TemplateTail h d k = absurd (true_false _ d refl)
-    div_only Goal.Div Goal.RegExp d k = absurd (true_false _ k refl)
-    div_only Goal.Div Goal.TemplateTail d k = absurd (true_false _ k refl)

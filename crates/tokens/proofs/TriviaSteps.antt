@@ -62,14 +62,6 @@ plain_lines text at stop more h p =
       second : (a b : Bool) → IsTrue (not (a || b)) → IsTrue (not b)
       second a b h = grind (arith, nat_tests)
 
-pub run_stops : (test : ℕ → Bool) (text : List ℕ) (at stop more c : ℕ) → AllPass test text at stop → Passed text stop more (c ∷ []) → test c ≡ false → IsRun test text at stop
-run_stops test text at stop more c h p t =
-    let e : begins_with test (behind text stop) ≡ false = ap (begins_with test) p.split ∙ t in
-    record { run = h; ends = subst IsFalse (sym e) refl }
-
-pub run_ends : (test : ℕ → Bool) (text : List ℕ) (at stop : ℕ) → AllPass test text at stop → behind text stop ≡ [] → IsRun test text at stop
-run_ends test text at stop h e = record { run = h; ends = subst IsFalse (sym (ap (begins_with test) e)) refl }
-
 -- a comment's rest behind its `/*`, as far as it has been read
 pub record InBlock (text : List ℕ) (at stop : ℕ) (has_line_break starred : Bool) : Type 0 where
   pub word : List ℕ
@@ -271,22 +263,6 @@ no_block_comment text at start p none = λ w rest e h. at_star w rest (sym p.spl
       let r : behind text start ≡ (d ∷ w) ++ rest = cc in
       none (d ∷ w) rest r (subst IsTrue (closes_same d w) (subst (λ x. IsTrue (is_comment (0x2F ∷ x ∷ d ∷ w) rest)) q h))
 
--- none where another character follows, or none
-pub no_comment_at : (text : List ℕ) (at start c : ℕ) → Passed text at start (c ∷ []) → one_of "/*" c ≡ false → NoCommentRest text at
-no_comment_at text at start c p t = λ w rest e h. other w rest (sym p.split ∙ e) h where
-  tests : (c : ℕ) (a b d : Bool) → one_of "/*" c ≡ false → IsTrue ((one_of "/" c && a && b) || (one_of "*" c && d)) → ⊥
-  tests c a b d e h = grind (arith, nat_tests)
-
-  other : (w rest : List ℕ) → c ∷ behind text start ≡ w ++ rest → IsTrue (is_comment (0x2F ∷ w) rest) → ⊥
-  other [] rest e h = true_false _ h refl
-  other (d ∷ w) rest e h = let q : d ≡ c = cc in tests d _ _ _ (ap (one_of "/*") q ∙ t) h
-
-pub no_comment_end : (text : List ℕ) (at : ℕ) → behind text at ≡ [] → NoCommentRest text at
-no_comment_end text at q = λ w rest e h. other w rest (sym q ∙ e) h where
-  other : (w rest : List ℕ) → [] ≡ w ++ rest → IsTrue (is_comment (0x2F ∷ w) rest) → ⊥
-  other [] rest e h = true_false _ h refl
-  other (d ∷ w) rest e h = cc
-
 -- ---- separators
 
 -- separators with more behind them
@@ -353,12 +329,6 @@ begins_slash (c ∷ d ∷ w) rest h =
     (d ∷ w, let q : c ≡ 0x2F = tests c (one_of "/" d) (not (list_any is_line_terminator (d ∷ w))) (is_empty rest || begins_with is_line_terminator rest) (one_of "*" d) (closes_comment w) h in cc) where
       tests : (c : ℕ) (a b e f g : Bool) → IsTrue ((((one_of "/" c && a) && b) && e) || ((one_of "/" c && f) && g)) → c ≡ 0x2F
       tests c a b e f g h = grind (arith, nat_tests)
-
-pub solid_end : (text : List ℕ) (at : ℕ) → behind text at ≡ [] → IsSolid (behind text at)
-solid_end text at e = subst IsSolid (sym e) (record { no_blank = refl; no_comment = λ w r q h. no w r q h }) where
-  no : (w r : List ℕ) → [] ≡ w ++ r → IsTrue (is_comment w r) → ⊥
-  no [] r q h = true_false _ h refl
-  no (c ∷ w) r q h = cc
 
 pub solid_slash : (text : List ℕ) (at start : ℕ) → Passed text at start (0x2F ∷ []) → NoCommentRest text start → IsSolid (behind text at)
 solid_slash text at start p none =

@@ -24,6 +24,3 @@ word_scalars text goal at t u p h =
     let whole = scalars-chars (drop at text) (IsUtf8-drop text at u p) in
     let front = (both_scalars (h.gap ++ h.word) (behind text t.stop) (ap scalars (sym h.split) ∙ whole)).0 in
     (both_scalars h.gap h.word front).1
-
-pub token_utf8 : (text : List ℕ) (goal : Goal) (at : ℕ) (t : LexicalToken) → IsUtf8 text → IsPlace text at → Reads text goal at t → IsUtf8 t.text
-token_utf8 text goal at t u p h = (h.word, (word_scalars text goal at t u p h, sym h.text))

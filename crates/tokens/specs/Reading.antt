@@ -1,7 +1,7 @@
 -- The tokens of a text at its own places, which are byte offsets; the text is its bytes, as a source keeps it.
-use Rattle.std.specs.Prelude.{ℕ, Bool, true, false, List, drop, IsTrue}
+use Rattle.std.specs.Prelude.{ℕ, Bool, true, List, drop, IsTrue}
 use Rattle.std.specs.Str.{chars}
-use Rattle.tokens.specs.Goals.{Goal, Div, RegExp, TemplateTail}
+use Rattle.tokens.specs.Goals.{Goal}
 use Rattle.tokens.specs.Tokens.{LexicalToken, IsTokenAt}
 
 -- the characters behind a place
@@ -20,9 +20,3 @@ pub data Next (text : List ℕ) (goals : Goal → Bool) : LexicalToken → Lexic
 -- all goals: at `/` and `}` both choices are there
 abbrev pub any_goal : Goal → Bool
 any_goal goal = true
-
--- one goal alone
-abbrev pub div_alone : Goal → Bool
-div_alone Div = true
-div_alone RegExp = false
-div_alone TemplateTail = false

@@ -5,7 +5,7 @@ ghost use Rattle.tokens.specs.Sets.{has_bit};
 
 /// Whether a character of ASCII is in a set, which has a bit for each: the first number those below U+0040.
 #[inline]
-pub fn is_in(set: &[u64; 2], c: char) -> bool
+pub(crate) fn is_in(set: &[u64; 2], c: char) -> bool
     requires { c < 128 }
     ensures { result ≡ has_bit set.now c }
 {

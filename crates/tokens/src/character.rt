@@ -30,7 +30,7 @@ pub fn char_at(text: &str, at: usize) -> Option<CharAt>
 
 /// The character at a place in bytes, if it is one of ASCII.
 #[inline]
-pub fn ascii_char_at(text: &str, at: usize) -> Option<CharAt>
+pub(crate) fn ascii_char_at(text: &str, at: usize) -> Option<CharAt>
     requires { IsPlace text.now at }
     ensures some { IfSome result (λ s. Passed text.now at s.end (s.c ∷ [])) }
     ensures within { IfSome result (λ s. (at < s.end) × (s.end ≤ length text.now)) }

@@ -176,7 +176,7 @@ fn escape(text: &str, at: usize) -> Option<Escaped>
 
 /// The value of a character that ends at this place, with its escape if it is a backslash (11.8.4).
 #[inline]
-pub fn character_value(text: &str, c: char, at: usize) -> Option<Escaped>
+pub(crate) fn character_value(text: &str, c: char, at: usize) -> Option<Escaped>
     requires { IsPlace text.now at }
     ensures some { IfSome result (λ e. IsPieceAt (piece c (behind text.now at)) 0 text.now at e) }
     ensures none { IfNone result (piece c (behind text.now at) ≡ None) }

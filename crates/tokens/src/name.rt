@@ -48,7 +48,7 @@ fn is_part_byte(byte: u8) -> bool
 
 /// Whether the character is an IdentifierStart (11.6), escapes aside.
 #[inline]
-pub fn is_start(c: char) -> bool
+pub(crate) fn is_start(c: char) -> bool
     ensures { result ≡ is_identifier_start c }
 {
     if c.is_ascii() {
@@ -59,7 +59,7 @@ pub fn is_start(c: char) -> bool
 
 /// Whether the character is an IdentifierPart (11.6), escapes aside.
 #[inline]
-pub fn is_part(c: char) -> bool
+pub(crate) fn is_part(c: char) -> bool
     ensures { result ≡ is_identifier_part c }
 {
     if c.is_ascii() {
@@ -70,7 +70,7 @@ pub fn is_part(c: char) -> bool
 
 /// Where the name that begins with this character ends, in bytes; none if no name begins with it.
 #[inline]
-pub fn name_end(text: &str, first: CharAt) -> Option<usize>
+pub(crate) fn name_end(text: &str, first: CharAt) -> Option<usize>
     requires { IsPlace text.now first.end }
     ensures some { (at : ℕ) → Passed text.now at first.end (first.c ∷ []) → IfSome result (λ e. IsWordAt TokenClass.IdentifierName text.now at e) }
     ensures none { (at : ℕ) → Passed text.now at first.end (first.c ∷ []) → IfNone result (NoWordAt TokenClass.IdentifierName text.now at) }
@@ -82,7 +82,7 @@ pub fn name_end(text: &str, first: CharAt) -> Option<usize>
 }
 
 /// Where the IdentifierPart characters from this place on end, in bytes.
-pub fn parts_end(text: &str, at: usize) -> usize
+pub(crate) fn parts_end(text: &str, at: usize) -> usize
     requires { IsPlace text.now at }
     ensures { IsRun is_identifier_part text.now at result }
 {

@@ -230,7 +230,7 @@ fn is_bad_end(c: char) -> bool
 }
 
 /// Where the number at this place ends, in bytes; none if there is none, or an IdentifierStart or a digit follows it.
-pub fn number_end(text: &str, at: usize) -> Option<usize>
+pub(crate) fn number_end(text: &str, at: usize) -> Option<usize>
     requires { IsPlace text.now at }
     ensures some { IfSome result (λ e. IsWordAt TokenClass.NumericLiteral text.now at e) }
     ensures none { IfNone result (NoWordAt TokenClass.NumericLiteral text.now at) }

@@ -143,7 +143,7 @@ fn is_quadruple(b: char, c: char, d: char, e: char) -> bool
 
 /// Where the punctuator that begins with this character ends, in bytes; `?.` and `.` are none before a digit (11.7).
 #[inline]
-pub fn punctuator_end(text: &str, b: CharAt) -> Option<usize>
+pub(crate) fn punctuator_end(text: &str, b: CharAt) -> Option<usize>
     requires { IsPlace text.now b.end }
     ensures some { (at : ℕ) → Passed text.now at b.end (b.c ∷ []) → IfSome result (λ e. IsWordAt TokenClass.Punctuator text.now at e) }
     ensures none { (at : ℕ) → Passed text.now at b.end (b.c ∷ []) → IfNone result (NoWordAt TokenClass.Punctuator text.now at) }

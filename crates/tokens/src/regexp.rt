@@ -92,7 +92,7 @@ fn taken(c: char, part: RegExpState) -> RegExpState
 }
 
 /// Where the regular expression at this place ends, in bytes; none if there is none (11.8.5).
-pub fn regexp_end(text: &str, at: usize) -> Option<usize>
+pub(crate) fn regexp_end(text: &str, at: usize) -> Option<usize>
     requires { IsPlace text.now at }
     ensures some { IfSome result (λ e. IsWordAt TokenClass.RegularExpressionLiteral text.now at e) }
     ensures none { IfNone result (NoWordAt TokenClass.RegularExpressionLiteral text.now at) }

@@ -10,7 +10,7 @@ use crate::character::char_at;
 use crate::escape::character_value;
 
 /// Where the string at this place ends, in bytes; none if there is none (11.8.4).
-pub fn string_end(text: &str, at: usize) -> Option<usize>
+pub(crate) fn string_end(text: &str, at: usize) -> Option<usize>
     requires { IsPlace text.now at }
     ensures some { IfSome result (λ e. IsWordAt TokenClass.StringLiteral text.now at e) }
     ensures none { IfNone result (NoWordAt TokenClass.StringLiteral text.now at) }

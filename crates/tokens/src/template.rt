@@ -8,7 +8,7 @@ use crate::TokenClass;
 use crate::character::char_at;
 
 /// Where the part of a template at this place ends, in bytes; none if there is none (11.8.6).
-pub fn template_end(text: &str, at: usize) -> Option<usize>
+pub(crate) fn template_end(text: &str, at: usize) -> Option<usize>
     requires { IsPlace text.now at }
     ensures some { IfSome result (λ e. IsWordAt TokenClass.Template text.now at e) }
     ensures none { IfNone result (NoWordAt TokenClass.Template text.now at) }

@@ -22,7 +22,7 @@ pub struct Trivia {
 
 /// Skips white space, line terminators and comments (11.2 to 11.4); mostly there are none.
 #[inline]
-pub fn skip_trivia(text: &str, at: usize) -> Trivia
+pub(crate) fn skip_trivia(text: &str, at: usize) -> Trivia
     requires { IsPlace text.now at }
     ensures gap { IsGap text.now at result.end result.has_line_break }
     ensures solid { IsSolid (behind text.now result.end) }
@@ -244,7 +244,7 @@ fn block_rest(text: &str, at: usize) -> Option<Trivia>
 
 /// Whether a comment begins at the place, even one that doesn't end.
 #[inline]
-pub fn comment_begins(text: &str, at: usize) -> bool
+pub(crate) fn comment_begins(text: &str, at: usize) -> bool
     requires { IsPlace text.now at }
     ensures { result ≡ begins_comment (behind text.now at) }
 {

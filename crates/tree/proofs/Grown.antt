@@ -259,11 +259,6 @@ part_total-whole (node k w g s e ps) = refl
 pub waiting_parts : (a b : FlatBuilder) (r : ParentUse) (n : ℕ) (os : List (Option Tree)) (h : PushesParts a b r n os) → length h.numbers ≡ part_count (parts_with_gaps os)
 waiting_parts a b r n os h = omega (arith, length-map h.numbers (named (grown_trees b)), ap length h.show, part_count-gaps os)
 
--- a node without parts
-pub no_items : (os : List (Option Tree)) → length os ≡ 0 → parts_with_gaps os ≡ none
-no_items [] h = refl
-no_items (o ∷ os) h = absurd (cc)
-
 -- only the label of the tree counts
 pub relabelled : (b c : FlatBuilder) (waiting : ℕ) (u t : Tree) (own : Option ℕ) (k : ℕ) → kind_of u ≡ kind_of t → text_of u ≡ text_of t → flags_of u ≡ flags_of t → start_of u ≡ start_of t → stop_of u ≡ stop_of t
     → Finishes b c waiting u own k → Finishes b c waiting t own k

@@ -1,28 +1,10 @@
 -- The numbers of the rows that a node of a finished tree and its parts hold.
-use Rattle.std.proofs.Common.{◌≡◌, ℕ, zero, suc, ◌+◌, ◌≤◌, cond, Some, None, refl, ap, ◌∙◌, arith, add-one}
+use Rattle.std.proofs.Common.{◌≡◌, ℕ, zero, suc, ◌+◌, ◌≤◌, Some, None, refl, ap, ◌∙◌, arith, add-one}
 use Rattle.tree.specs.Tree.{Tree, Parts, node, none, part, gap, kind_of, flags_of, parts_of, part_count, part_at, parts_take}
-use Rattle.tree.specs.declared.node.Node.{Node}
 use Rattle.tree.specs.declared.node_use.NodeUse.{NodeUse}
 use Rattle.tree.specs.declared.node_use.ParentUse.{ParentUse}
-use Rattle.tree.specs.NodeUses.{has_row, own_rows, rows_in, parts_rows, rows_before, use_in}
-use Rattle.tree.specs.Node.{node_tree, node_row}
-use Rattle.tree.specs.Places.{place_tree}
-use Rattle.tree.specs.HeldRows.{HoldsRows, HoldsRowsFrom}
+use Rattle.tree.specs.NodeUses.{own_rows, rows_in, parts_rows, rows_before, use_in}
 use Rattle.tree.proofs.PartWalk.{parts_drop}
-
-pub holds_rows : (a : NodeUse) (r : ℕ) (n : Node) → HoldsRowsFrom a r n → HoldsRows a n
-unfolding HoldsRows HoldsRowsFrom
-holds_rows a r n h = h.0
-
--- the first row in it has some number
-pub holds_rows_from : (a : NodeUse) (n : Node) → HoldsRows a n → (r : ℕ) × HoldsRowsFrom a r n
-unfolding HoldsRows HoldsRowsFrom
-holds_rows_from a n h = (h.row, (h, refl))
-
--- the node's own is the first
-pub own_row_number : (a : NodeUse) (r : ℕ) (n : Node) → HoldsRowsFrom a r n → node_row n ≡ cond (has_row a (kind_of (node_tree n))) (Some r) None
-unfolding HoldsRowsFrom node_tree node_row
-own_row_number a r n h = h.0.own_row ∙ ap (λ i. cond (has_row a (kind_of (place_tree n.place))) (Some i) None) h.1
 
 -- The rows before a place
 
@@ -55,9 +37,6 @@ take_past (part t ps) zero h = absurd (omega (arith, h))
 take_past (part t ps) (suc i) h = ap (part t) (take_past ps i (omega (arith, h)))
 take_past (gap ps) zero h = absurd (omega (arith, h))
 take_past (gap ps) (suc i) h = ap gap (take_past ps i (omega (arith, h)))
-
-pub rows_before-first : (a : ParentUse) (c : ℕ) (ps : Parts) → rows_before a c 0 ps ≡ 0
-rows_before-first a c ps = refl
 
 -- behind a part
 pub rows_before-part : (a : ParentUse) (c i : ℕ) (ps : Parts) (t : Tree) → Some t ≡ part_at ps i → rows_before a c (i + 1) ps ≡ rows_before a c i ps + rows_in (use_in a c i t) t

@@ -1,15 +1,17 @@
 -- The step of each position, from what holds of lower trees.
-use Rattle.std.proofs.Common.{ℕ, suc}
+use Rattle.std.proofs.Common.{ℕ, suc, refl}
 use Rattle.tokens.specs.Reading.{any_goal}
 use Rattle.language.specs.Token.{Token}
+use Rattle.language.specs.ExpressionStart.{ExpressionStart, with_name, with_bracket, with_brace, with_function, with_template, with_parenthesis, with_super, with_new, with_step, with_word, with_sign}
+use Rattle.language.specs.StatementStart.{StatementStart, a_variable, an_if, a_do, a_while, a_for, a_switch, a_try, a_function, a_class, an_expression}
 use Rattle.language.specs.Promises.{IsDetermined}
 use Rattle.language.specs.Following.{IsAlike}
 use Rattle.language.specs.Places.{NextIn, itself}
 use Rattle.language.proofs.texts.TextOffsets.{text_determined}
 use Rattle.language.proofs.texts.TextAlike.{text_alike}
 use Rattle.unambiguity_laws.specs.Laws.{AtMostOneScript}
-use Rattle.unambiguity_laws.proofs.Unique.{Expressions, Unique}
-use Rattle.unambiguity_laws.proofs.TiedSteps.{ExpressionSteps, StatementSteps, OtherSteps, Steps, any_statement, at_most_one_script}
+use Rattle.unambiguity_laws.proofs.Unique.{Expressions, Unique, CoreStep, StatementStep}
+use Rattle.unambiguity_laws.proofs.TiedSteps.{ExpressionSteps, OtherSteps, Steps, at_most_one_script}
 use Rattle.unambiguity_laws.proofs.list_items.PatternLists.{array_parts_unique, argument_pieces_unique, parameter_list_unique, pattern_closed}
 use Rattle.unambiguity_laws.proofs.list_items.TemplateElements.{quasi_closed, template_core}
 use Rattle.unambiguity_laws.proofs.list_items.Elements.{element_step}
@@ -24,11 +26,11 @@ use Rattle.unambiguity_laws.proofs.cores.SuperCores.{super_core}
 use Rattle.unambiguity_laws.proofs.cores.NewCores.{new_core, new_callee}
 use Rattle.unambiguity_laws.proofs.turns.ChainTurns.{chain_turn}
 use Rattle.unambiguity_laws.proofs.cores.NameCores.{name_core}
-use Rattle.unambiguity_laws.proofs.cores.WordCores.{literal_core, this_core, import_core, class_core, function_core, no_core}
+use Rattle.unambiguity_laws.proofs.cores.WordCores.{function_core, lone_core}
 use Rattle.unambiguity_laws.proofs.cores.PrefixCores.{word_core, sign_core, step_core}
 use Rattle.unambiguity_laws.proofs.statements.FunctionBodies.{class_statement, function_statement}
 use Rattle.unambiguity_laws.proofs.list_items.ClassMembers.{member_closed, class_body_closed, method_closed}
-use Rattle.unambiguity_laws.proofs.statements.StatementsByToken.{block_statement, empty_statement, debugger_statement, continue_statement, break_statement, return_statement, throw_statement, statement_step}
+use Rattle.unambiguity_laws.proofs.statements.StatementsByToken.{lone_statement, statement_step}
 use Rattle.unambiguity_laws.proofs.statements.ConditionStatements.{if_statement, do_statement, while_statement}
 use Rattle.unambiguity_laws.proofs.statements.ExpressionStatements.{expression_statement}
 use Rattle.unambiguity_laws.proofs.statements.Declarations.{declarator_step}
@@ -47,52 +49,42 @@ module _ (S : Type 0) (Next : S → Token → S → Type 0) (behind : S → Toke
     groups_end : ParametersGroup S Next behind h
     groups_end = record { gives = λ {o} {x} {mid} {ps} {P} low ran. parameters_group S Next behind det alike u low ran }
 
+    core : (z : ExpressionStart) → CoreStep S Next behind det h z
+    core with_name = name_core S Next behind det alike u
+    core with_bracket = bracket_core S Next behind det alike u (array_parts_unique S Next behind det alike u)
+    core with_brace = brace_core S Next behind det alike u (object_parts_unique S Next behind det alike u)
+    core with_function = function_core S Next behind det alike u (parameter_list_unique S Next behind det alike u)
+    core with_template = template_core S Next behind det alike u
+    core with_parenthesis = parenthesis_core S Next behind det alike u parameters_end groups_end (parameter_list_unique S Next behind det alike u)
+    core with_super = super_core S Next behind det alike u (argument_pieces_unique S Next behind det alike u)
+    core with_new = new_core S Next behind det alike u (argument_pieces_unique S Next behind det alike u)
+    core with_step = step_core S Next behind det alike u
+    core with_word = word_core S Next behind det alike u
+    core with_sign = sign_core S Next behind det alike u
+    core z = lone_core S Next behind det alike u z refl
+
     expressions : ExpressionSteps S Next behind det h
     expressions =
         let called = argument_pieces_unique S Next behind det alike u in
-        let listed = parameter_list_unique S Next behind det alike u in
         record {
           arguments = called;
           chain_turn = chain_turn S Next behind det alike u called;
-          name_core = name_core S Next behind det alike u;
-          literal_core = literal_core S Next behind det alike u;
-          this_core = this_core S Next behind det alike u;
-          bracket_core = bracket_core S Next behind det alike u (array_parts_unique S Next behind det alike u);
-          brace_core = brace_core S Next behind det alike u (object_parts_unique S Next behind det alike u);
-          function_core = function_core S Next behind det alike u listed;
-          class_core = class_core S Next behind det alike u;
-          template_core = template_core S Next behind det alike u;
-          parenthesis_core = parenthesis_core S Next behind det alike u parameters_end groups_end listed;
-          super_core = super_core S Next behind det alike u called;
-          new_core = new_core S Next behind det alike u called;
-          import_core = import_core S Next behind det alike u;
-          step_core = step_core S Next behind det alike u;
-          word_core = word_core S Next behind det alike u;
-          sign_core = sign_core S Next behind det alike u;
-          no_core = no_core S Next behind det alike u;
+          core = core;
           new_callee = new_callee S Next behind det alike u called;
         }
 
-    statements : StatementSteps S Next behind det h
-    statements = record {
-      block_statement = block_statement S Next behind det alike u;
-      empty_statement = empty_statement S Next behind det alike u;
-      variable_statement = variable_statement S Next behind det alike u;
-      if_statement = if_statement S Next behind det alike u;
-      do_statement = do_statement S Next behind det alike u;
-      while_statement = while_statement S Next behind det alike u;
-      for_statement = for_statement S Next behind det alike u;
-      continue_statement = continue_statement S Next behind det alike u;
-      break_statement = break_statement S Next behind det alike u;
-      return_statement = return_statement S Next behind det alike u;
-      throw_statement = throw_statement S Next behind det alike u;
-      switch_statement = switch_statement S Next behind det alike u;
-      try_statement = try_statement S Next behind det alike u;
-      debugger_statement = debugger_statement S Next behind det alike u;
-      function_statement = function_statement S Next behind det alike u (parameter_list_unique S Next behind det alike u);
-      class_statement = class_statement S Next behind det alike u;
-      expression_statement = expression_statement S Next behind det alike u;
-    }
+    statement : (b : StatementStart) → StatementStep S Next behind det h b
+    statement a_variable = variable_statement S Next behind det alike u
+    statement an_if = if_statement S Next behind det alike u
+    statement a_do = do_statement S Next behind det alike u
+    statement a_while = while_statement S Next behind det alike u
+    statement a_for = for_statement S Next behind det alike u
+    statement a_switch = switch_statement S Next behind det alike u
+    statement a_try = try_statement S Next behind det alike u
+    statement a_function = function_statement S Next behind det alike u (parameter_list_unique S Next behind det alike u)
+    statement a_class = class_statement S Next behind det alike u
+    statement an_expression = expression_statement S Next behind det alike u
+    statement b = lone_statement S Next behind det alike u b refl
 
     others : Expressions S Next behind det (suc h) → OtherSteps S Next behind det h
     others x = record {
@@ -104,7 +96,7 @@ module _ (S : Type 0) (Next : S → Token → S → Type 0) (behind : S → Toke
       handler_closed = λ {r} {o} {n} {s} {e} {P} low d. handler_closed S Next behind det alike u low d;
       class_body_closed = λ {o} {n} {s} {e} {P} low d. class_body_closed S Next behind det alike u low d;
       member_closed = λ {o} {n} {s} {e} {P} low d. member_closed S Next behind det alike u low d;
-      statement = λ {a} {p} {d} {r} {o} {n} {s} {e} {P} st low d1 fine. statement_step S Next behind det alike u (any_statement S Next behind det statements) st low d1 fine;
+      statement = λ {a} {p} {d} {r} {o} {n} {s} {e} {P} st low d1 fine. statement_step S Next behind det alike u statement st low d1 fine;
       declarator = λ {i} {b} {o} {n} {s} {e} {P} low d fine. declarator_step S Next behind det alike u x low d fine;
       element = λ y {w} {a} {o} {n} {s} {e} {P} c low it d ends. element_step S Next behind det alike u x y c low it d ends;
       element_ends = λ y z {w} {a} {b} {o} {o'} {n} {m} {s} {e} {k} {P} {Q} c low it d ends it' d' ends'. element_ends_step S Next behind det alike u x y z c low it d ends it' d' ends';

@@ -10,8 +10,7 @@ use Rattle.language.specs.declared.Start.{Start}
 use Rattle.language.specs.Vocabulary.{op_optional}
 use Rattle.language.specs.Pieces.{Role, tagged_quasi, pattern, method, body, block, handler, class_body, member, declarator, script}
 use Rattle.language.specs.Token.{Token}
-use Rattle.language.specs.ExpressionStart.{ExpressionStart, with_name, with_literal, with_this, with_bracket, with_brace, with_function, with_class, with_template, with_parenthesis, with_super, with_new, with_import, with_step, with_word, with_sign, no_start}
-use Rattle.language.specs.StatementStart.{StatementStart, a_block, an_empty, a_variable, an_if, a_do, a_while, a_for, a_continue, a_break, a_return, a_throw, a_switch, a_try, a_debugger, a_function, a_class, an_expression}
+use Rattle.language.specs.ExpressionStart.{ExpressionStart}
 use Rattle.language.specs.Promises.{IsDetermined, FoundAt}
 use Rattle.language.specs.Following.{IsAlike, Finished, Declared, FoundWhere}
 use Rattle.language.specs.Covers.{Reading, element_as, property_as, FoundItem}
@@ -25,7 +24,7 @@ use Rattle.language.proofs.climbing.Suffixes.{argument_pieces}
 use Rattle.language.proofs.texts.TextOffsets.{text_determined}
 use Rattle.language.proofs.texts.TextAlike.{text_alike}
 use Rattle.unambiguity_laws.specs.Laws.{AtMostOneScript}
-use Rattle.unambiguity_laws.proofs.Unique.{is_closed, Expressions, Unique, UniqueParts, Turn, CoreStep, NewCallee, StatementStep}
+use Rattle.unambiguity_laws.proofs.Unique.{is_closed, Expressions, Unique, UniqueParts, Turn, CoreStep, NewCallee}
 use Rattle.unambiguity_laws.proofs.turns.OperatorLoop.{expressions_step}
 
 -- a tree has a node
@@ -33,86 +32,12 @@ some_height : (n : Tree) → 1 ≤ height n
 some_height (node k w g st en ps) = omega arith
 
 module _ (S : Type 0) (Next : S → Token → S → Type 0) (behind : S → Token) (det : IsDetermined S Next behind) where
-  -- What expressions of the next height need: what they begin with, chains and arguments.
+  -- What expressions of the next height need: what they begin with, by their first token, chains and arguments.
   pub record ExpressionSteps (h : ℕ) : Type 0 where
     pub arguments : UniqueParts S Next behind det h argument_pieces
     pub chain_turn : Turn S Next behind det h op_optional
-    pub name_core : CoreStep S Next behind det h with_name
-    pub literal_core : CoreStep S Next behind det h with_literal
-    pub this_core : CoreStep S Next behind det h with_this
-    pub bracket_core : CoreStep S Next behind det h with_bracket
-    pub brace_core : CoreStep S Next behind det h with_brace
-    pub function_core : CoreStep S Next behind det h with_function
-    pub class_core : CoreStep S Next behind det h with_class
-    pub template_core : CoreStep S Next behind det h with_template
-    pub parenthesis_core : CoreStep S Next behind det h with_parenthesis
-    pub super_core : CoreStep S Next behind det h with_super
-    pub new_core : CoreStep S Next behind det h with_new
-    pub import_core : CoreStep S Next behind det h with_import
-    pub step_core : CoreStep S Next behind det h with_step
-    pub word_core : CoreStep S Next behind det h with_word
-    pub sign_core : CoreStep S Next behind det h with_sign
-    pub no_core : CoreStep S Next behind det h no_start
+    pub core : (z : ExpressionStart) → CoreStep S Next behind det h z
     pub new_callee : NewCallee S Next behind det h
-
-  -- what an expression begins with, by its first token
-  any_core : {h : ℕ} → ExpressionSteps h → (z : ExpressionStart) → CoreStep S Next behind det h z
-  any_core c with_name = c.name_core
-  any_core c with_literal = c.literal_core
-  any_core c with_this = c.this_core
-  any_core c with_bracket = c.bracket_core
-  any_core c with_brace = c.brace_core
-  any_core c with_function = c.function_core
-  any_core c with_class = c.class_core
-  any_core c with_template = c.template_core
-  any_core c with_parenthesis = c.parenthesis_core
-  any_core c with_super = c.super_core
-  any_core c with_new = c.new_core
-  any_core c with_import = c.import_core
-  any_core c with_step = c.step_core
-  any_core c with_word = c.word_core
-  any_core c with_sign = c.sign_core
-  any_core c no_start = c.no_core
-
-  -- Statements and declarations of the next height, by their first tokens.
-  pub record StatementSteps (h : ℕ) : Type 0 where
-    pub block_statement : StatementStep S Next behind det h a_block
-    pub empty_statement : StatementStep S Next behind det h an_empty
-    pub variable_statement : StatementStep S Next behind det h a_variable
-    pub if_statement : StatementStep S Next behind det h an_if
-    pub do_statement : StatementStep S Next behind det h a_do
-    pub while_statement : StatementStep S Next behind det h a_while
-    pub for_statement : StatementStep S Next behind det h a_for
-    pub continue_statement : StatementStep S Next behind det h a_continue
-    pub break_statement : StatementStep S Next behind det h a_break
-    pub return_statement : StatementStep S Next behind det h a_return
-    pub throw_statement : StatementStep S Next behind det h a_throw
-    pub switch_statement : StatementStep S Next behind det h a_switch
-    pub try_statement : StatementStep S Next behind det h a_try
-    pub debugger_statement : StatementStep S Next behind det h a_debugger
-    pub function_statement : StatementStep S Next behind det h a_function
-    pub class_statement : StatementStep S Next behind det h a_class
-    pub expression_statement : StatementStep S Next behind det h an_expression
-
-  -- a statement or declaration, by its first token
-  pub any_statement : {h : ℕ} → StatementSteps h → (b : StatementStart) → StatementStep S Next behind det h b
-  any_statement c a_block = c.block_statement
-  any_statement c an_empty = c.empty_statement
-  any_statement c a_variable = c.variable_statement
-  any_statement c an_if = c.if_statement
-  any_statement c a_do = c.do_statement
-  any_statement c a_while = c.while_statement
-  any_statement c a_for = c.for_statement
-  any_statement c a_continue = c.continue_statement
-  any_statement c a_break = c.break_statement
-  any_statement c a_return = c.return_statement
-  any_statement c a_throw = c.throw_statement
-  any_statement c a_switch = c.switch_statement
-  any_statement c a_try = c.try_statement
-  any_statement c a_debugger = c.debugger_statement
-  any_statement c a_function = c.function_statement
-  any_statement c a_class = c.class_statement
-  any_statement c an_expression = c.expression_statement
 
   -- The other positions of the next height.
   pub record OtherSteps (h : ℕ) : Type 0 where
@@ -189,7 +114,7 @@ module _ (S : Type 0) (Next : S → Token → S → Type 0) (behind : S → Toke
       next : Unique S Next behind det h → Unique S Next behind det (suc h)
       next u =
           let c = steps.expression_steps u in
-          let x = expressions_step S Next behind det alike u c.arguments c.chain_turn (any_core S Next behind det c) c.new_callee in
+          let x = expressions_step S Next behind det alike u c.arguments c.chain_turn c.core c.new_callee in
           together S Next behind det x (steps.other_steps u x)
 
   -- so is a script

@@ -1,5 +1,5 @@
 -- What notes say of a tree.
-use Rattle.std.proofs.Common.{◌≡◌, ◌≢◌, ℕ, suc, ◌+◌, ◌<◌, ◌≤◌, Bool, true, false, ◌&&◌, ◌||◌, ◌==◌, List, [], ◌∷◌, ◌++◌, length, take, get_or, IsTrue, refl, sym, ap, ◌∙◌, subst, arith, add-one, Some}
+use Rattle.std.proofs.Common.{◌≡◌, ◌≢◌, ℕ, ◌+◌, ◌<◌, ◌≤◌, Bool, true, false, ◌&&◌, ◌||◌, ◌==◌, List, [], ◌∷◌, ◌++◌, length, take, get_or, IsTrue, refl, sym, ap, ◌∙◌, subst, arith, add-one, Some}
 use Rattle.std.specs.Prelude.{nat_le, unwrap_or, if◌then◌else◌}
 use Rattle.std.specs.List.{list_any, slice_get}
 use Rattle.std.proofs.Math.Seq.{take-suc}
@@ -7,12 +7,10 @@ use Rattle.std.proofs.lemmas.Option.{slice_get_within, unwrap_or-slice_get}
 use Rattle.std.proofs.lemmas.List.{take_all}
 use Rattle.std.proofs.lemmas.List.Folds.{list_any-append}
 use Rattle.std.proofs.lemmas.Bool.Decides.{nat_tests}
-use Rattle.tokens.specs.Alphabet.{one_of, begins_with}
 use Rattle.tokens.specs.declared.token.Goal.{Goal}
 use Rattle.tokens.specs.declared.token.Goal.TheVariants.{Div, RegExp, TemplateTail}
-use Rattle.tree.specs.Tree.{Tree, node, kind_of, text_of, start_of, node_total}
+use Rattle.tree.specs.Tree.{Tree, node, node_total}
 use Rattle.tree.specs.declared.kind.Kind.{Kind}
-use Rattle.tree.specs.declared.kind.Kind.TheVariants.{Literal, TemplateElement}
 use Rattle.tree.specs.Flat.{post_order}
 use Rattle.tree.proofs.Grown.{length-post_order}
 use Rattle.reading_laws.specs.TreeReadings.{is_regexp_at, is_element_after, tree_goal}
@@ -22,9 +20,6 @@ use Rattle.unwrapping.specs.declared.note.Reading.{Reading}
 use Rattle.unwrapping.specs.Readings.{is_regexp, is_part, is_regexp_note, is_part_note, ascend, AreNoted, InOrder, goal_of}
 
 -- ---- the notes of nodes
-
-pub none_noted : (low : ℕ) → AreNoted [] low []
-none_noted low = record { regexps = λ at h. refl; elements = λ at h. refl }
 
 pub noted_on : (ns ms : List Tree) (low : ℕ) (notes others : List Note) → AreNoted ns low notes → AreNoted ms low others → AreNoted (ns ++ ms) low (notes ++ others)
 noted_on ns ms low notes others a b =
@@ -47,88 +42,6 @@ pub noted_all : (n : Tree) (count : ℕ) (notes : List Note) → node_total n �
 noted_all n count notes h a = subst (λ ms. AreNoted ms 0 notes) (take_all count (post_order n) (let l = length-post_order n in omega arith)) a
 
 -- ---- the note of a node
-
-literal_regexp : (at : ℕ) (n : Tree) → kind_of n ≡ Literal → is_regexp_at at n ≡ (at == start_of n && begins_with (one_of "/") (text_of n))
-literal_regexp at (node Literal text flags start stop parts) e = refl
-literal_regexp at (node _ text flags start stop parts) e = absurd cc
-
-other_regexp : (at : ℕ) (n : Tree) → (kind_of n ≡ Literal → ⊥) → is_regexp_at at n ≡ false
-other_regexp at (node Literal text flags start stop parts) e = absurd (e refl)
-other_regexp at (node _ text flags start stop parts) e = refl
-
-element_part : (at : ℕ) (n : Tree) → kind_of n ≡ TemplateElement → is_element_after at n ≡ (suc at == start_of n)
-element_part at (node TemplateElement text flags start stop parts) e = refl
-element_part at (node _ text flags start stop parts) e = absurd cc
-
-other_part : (at : ℕ) (n : Tree) → (kind_of n ≡ TemplateElement → ⊥) → is_element_after at n ≡ false
-other_part at (node TemplateElement text flags start stop parts) e = absurd (e refl)
-other_part at (node _ text flags start stop parts) e = refl
-
-and_false : (a : Bool) → (a && false) ≡ false
-and_false true = refl
-and_false false = refl
-
--- a regular expression
-pub regexp_noted : (m : Tree) (note : Note) → kind_of m ≡ Literal → note.at ≡ start_of m → note.reading ≡ RegularExpression → begins_with (one_of "/") (text_of m) ≡ true → AreNoted (m ∷ []) 0 (note ∷ [])
-regexp_noted m note k s r b =
-    let both : begins_with (one_of "/") (text_of m) ≡ is_regexp note.reading = b ∙ sym (ap is_regexp r) in
-    let start = sym s in
-    record {
-      regexps = λ at h. ap (λ x. x || false) (literal_regexp at m k ∙ (λ i. (at == start i) && both i));
-      elements = λ at h. ap (λ x. x || false) (other_part at m (λ e. no_literal_element (sym k ∙ e)) ∙ sym (ap (λ x. (at == note.at) && x) (ap is_part r) ∙ and_false (at == note.at)));
-    } where
-      no_literal_element : Literal ≡ TemplateElement → ⊥
-      no_literal_element e = cc
-
--- another literal
-pub literal_unnoted : (m : Tree) → kind_of m ≡ Literal → begins_with (one_of "/") (text_of m) ≡ false → AreNoted (m ∷ []) 0 []
-literal_unnoted m k b =
-    record {
-      regexps = λ at h. ap (λ x. x || false) (literal_regexp at m k ∙ ap (λ x. (at == start_of m) && x) b ∙ and_false (at == start_of m));
-      elements = λ at h. ap (λ x. x || false) (other_part at m (λ e. no_literal_element (sym k ∙ e)));
-    } where
-      no_literal_element : Literal ≡ TemplateElement → ⊥
-      no_literal_element e = cc
-
--- an element of a template
-pub part_noted : (m : Tree) (note : Note) → kind_of m ≡ TemplateElement → note.at + 1 ≡ start_of m → note.reading ≡ TemplatePart → AreNoted (m ∷ []) 0 (note ∷ [])
-part_noted m note k s r =
-    record {
-      regexps = λ at h. ap (λ x. x || false) (other_regexp at m (λ e. no_element_literal (sym k ∙ e)) ∙ sym (ap (λ x. (at == note.at) && x) (ap is_regexp r) ∙ and_false (at == note.at)));
-      elements = λ at h. ap (λ x. x || false) (element_part at m k ∙ next at (start_of m) note.at s ∙ sym (ap (λ x. (at == note.at) && x) (ap is_part r) ∙ and_true (at == note.at)));
-    } where
-      no_element_literal : TemplateElement ≡ Literal → ⊥
-      no_element_literal e = cc
-
-      and_true : (a : Bool) → (a && true) ≡ a
-      and_true true = refl
-      and_true false = refl
-
-      next : (at start place : ℕ) → place + 1 ≡ start → (suc at == start) ≡ (at == place)
-      next at start place e = grind (arith, nat_tests)
-
-pub part_unnoted : (m : Tree) → kind_of m ≡ TemplateElement → start_of m < 1 → AreNoted (m ∷ []) 0 []
-part_unnoted m k s =
-    record {
-      regexps = λ at h. ap (λ x. x || false) (other_regexp at m (λ e. no_element_literal (sym k ∙ e)));
-      elements = λ at h. ap (λ x. x || false) (element_part at m k ∙ never at (start_of m) s);
-    } where
-      no_element_literal : TemplateElement ≡ Literal → ⊥
-      no_element_literal e = cc
-
-      never : (at start : ℕ) → start < 1 → (suc at == start) ≡ false
-      never at start e = grind (arith, nat_tests)
-
--- any other node
-pub other_unnoted : (m : Tree) → (kind_of m ≡ Literal → ⊥) → (kind_of m ≡ TemplateElement → ⊥) → AreNoted (m ∷ []) 0 []
-other_unnoted m k l = record { regexps = λ at h. ap (λ x. x || false) (other_regexp at m k); elements = λ at h. ap (λ x. x || false) (other_part at m l) }
-
-pub update_noted : (m : Tree) (note : Note) → (kind_of m ≡ Literal → ⊥) → (kind_of m ≡ TemplateElement → ⊥) → note.reading ≡ Postfix → AreNoted (m ∷ []) 0 (note ∷ [])
-update_noted m note k l r =
-    record {
-      regexps = λ at h. ap (λ x. x || false) (other_regexp at m k ∙ sym (ap (λ x. (at == note.at) && x) (ap is_regexp r) ∙ and_false (at == note.at)));
-      elements = λ at h. ap (λ x. x || false) (other_part at m l ∙ sym (ap (λ x. (at == note.at) && x) (ap is_part r) ∙ and_false (at == note.at)));
-    }
 
 -- ---- the goal at a token
 
@@ -193,16 +106,9 @@ goal_noted n at start note notes a o h e =
     let y : list_any (is_element_after start) (post_order n) ≡ is_part note.reading = a.elements start h ∙ (λ i. (there i && is_part note.reading) || none.1 i) ∙ tidy (is_part note.reading) in
     (λ i. goal_by (x i) (y i)) ∙ by_reading note.reading
 
--- after the token
-pub noted_later : (nodes : List Tree) (at stop : ℕ) (notes : List Note) → AreNoted nodes at notes → at ≤ stop → AreNoted nodes stop notes
-noted_later nodes at stop notes a h = record { regexps = λ p l. a.regexps p (omega arith); elements = λ p l. a.elements p (omega arith) }
-
 pub noted_after : (nodes : List Tree) (at stop : ℕ) (note : Note) (notes : List Note) → AreNoted nodes at (note ∷ notes) → at ≤ stop → note.at < stop → AreNoted nodes stop notes
 noted_after nodes at stop note notes a h lt =
     record {
       regexps = λ p l. a.regexps p (omega arith) ∙ ap (λ x. (x && is_regexp note.reading) || list_any (is_regexp_note p) notes) (off_after p note.at (omega arith));
       elements = λ p l. a.elements p (omega arith) ∙ ap (λ x. (x && is_part note.reading) || list_any (is_part_note p) notes) (off_after p note.at (omega arith));
     }
-
-pub in_order_after : (note : Note) (notes : List Note) → InOrder (note ∷ notes) → InOrder notes
-in_order_after note notes o = (note.at + 1, second_of (nat_le o.0 note.at) (ascend (note.at + 1) notes) o.1)

@@ -27,7 +27,7 @@ use Rattle.language.specs.ExpressionStart.{with_name}
 use Rattle.language.specs.Promises.{IsDetermined, ReadBy, Stops, Found, Absent, FoundAt, AbsentAt}
 use Rattle.language.specs.Grammar.{ways}
 use Rattle.language.specs.Derivation.{Reads, Spells, Runs, step, within, token, laid, same_line, Placed}
-use Rattle.language.specs.NodeForms.{short_arrow}
+use Rattle.language.proofs.table.NodeForms.{short_arrow}
 use Rattle.language.proofs.table.Productions.{spell, starts_led}
 use Rattle.language.proofs.table.Begins.{goes_to, retell}
 use Rattle.language.proofs.climbing.SpineContinuations.{makes}

@@ -16,7 +16,7 @@ use Rattle.language.specs.Token.{Token}
 use Rattle.language.specs.Promises.{IsDetermined}
 use Rattle.language.specs.Grammar.{ways, spellings, starts}
 use Rattle.language.specs.Derivation.{Reads, Spells, direct, grouped, done, step, token, Placed, placed}
-use Rattle.language.specs.NodeForms.{identifier, literal}
+use Rattle.language.proofs.table.NodeForms.{identifier, literal}
 use Rattle.language.proofs.lower_bound.Domination.{settled}
 use Rattle.language.proofs.table.ViewIsComplete.{way_of, made, one, cases}
 use Rattle.language.proofs.table.Productions.{spell}

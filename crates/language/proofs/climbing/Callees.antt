@@ -16,13 +16,13 @@ use Rattle.language.specs.declared.Start.TheVariants.{Any}
 use Rattle.language.specs.declared.Edge.{Edge}
 use Rattle.language.specs.declared.Edge.TheVariants.{Arrow, Postfix, Other, Closed}
 use Rattle.tree.specs.declared.kind.Pair.{Pair}
-use Rattle.tree.specs.Tree.{Tree, node, Parts, none, part, height, parts_of, plain}
+use Rattle.tree.specs.Tree.{Tree, node, Parts, none, part, parts_of, plain}
 use Rattle.language.specs.Vocabulary.{is, takes, takes_number, precedence, op_dot, op_index, op_call, op_template}
 use Rattle.language.specs.Pieces.{Role, expr, word, tagged_quasi, PieceOf, Piece, Slot, fixed, left, lead, tail, callee, lead_chain, lead_pattern, sub, is_tight, settle_piece}
 use Rattle.language.specs.Token.{Token}
 use Rattle.language.specs.Edges.{edge, edge_as_written}
 use Rattle.language.specs.Continuations.{operation, rank_made_by, holds, stops_at, stops}
-use Rattle.language.specs.Promises.{IsDetermined, ReadBy, Stops, Found, FoundAt, Callee, at_member, at_new, AbsentCalleeWithin}
+use Rattle.language.specs.Promises.{IsDetermined, ReadBy, Stops, Found, FoundAt, Callee, at_member, at_new}
 use Rattle.language.specs.Grammar.{ways, spellings}
 use Rattle.language.specs.Derivation.{Among, Reads, Spells, direct, grouped, Runs, Placed}
 use Rattle.language.proofs.climbing.Spine.{is_led, Grows, whole, grow}
@@ -36,7 +36,7 @@ use Rattle.language.proofs.table.OperatorTokens.{reads_dot, reads_index}
 use Rattle.language.proofs.climbing.OperatorNodes.{dot_grows, index_grows, tag_grows}
 use Rattle.language.proofs.climbing.NoContinuation.{ends_where_stops}
 use Rattle.language.proofs.climbing.BinaryTurns.{replaced, retold, regrown}
-use Rattle.language.proofs.climbing.OperatorLoop.{grows_height, Leads, Climbing}
+use Rattle.language.proofs.climbing.OperatorLoop.{Leads, Climbing}
 use Rattle.language.proofs.climbing.Conditionals.{same_sign}
 use Rattle.language.proofs.climbing.Suffixes.{rank_is, suffix_rank, suffix_fits, suffix_stands, callee_tight, computed_flags, stands_callee, no_super, dot_on}
 use Rattle.language.proofs.climbing.Calls.{index_on, tag_on}
@@ -188,10 +188,6 @@ module _ (S : Type 0) (Next : S → Token → S → Type 0) (behind : S → Toke
   -- what begins all at New begins each callee
   pub as_callee : {o : ℕ} {r : Rank} {s0 : S} {m : Tree} {mid : S} {Q : List Pair} → Climbing S Next behind det o New true Any r s0 m mid Q → ClimbingCallee o r s0 m mid Q
   as_callee climb = record { low = climb.low; stands = climb.stands; leads = λ o' e' n' P' d st. climb.leads o' e' n' P' (callee_new S Next behind d) st }
-
-  -- what stands so far is too high already
-  pub callee_high : {o hi : ℕ} {r : Rank} {s0 : S} {m : Tree} {mid : S} {Q : List Pair} → ClimbingCallee o r s0 m mid Q → hi < height m → AbsentCalleeWithin S Next behind o hi s0
-  callee_high {o} c over = record { nothing = λ e' n' P' d st le. (let v = c.leads o e' n' P' d st in let low = grows_height S Next behind det v.grows in omega arith) }
 
   -- Nothing that may stand at New alone and is the leftmost part has `(` behind it: it would go on with that.
   abbrev pub Uncalled : Rank → Tree → S → Type 0

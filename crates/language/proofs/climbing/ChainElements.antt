@@ -23,7 +23,10 @@ use Rattle.language.specs.Expressions.{first_has_optional, has_optional, is_chai
 use Rattle.language.specs.Promises.{IsDetermined, Stops, Found, FoundAt, FoundParts}
 use Rattle.language.specs.Grammar.{ways}
 use Rattle.language.specs.Derivation.{Reads, Spells, direct, grouped, Runs, done, step, opened, closed, within, missing, token}
-use Rattle.language.specs.NodeForms.{Made, super_member, member, super_call, call}
+use Rattle.language.specs.Chosen as chosen
+use Rattle.language.specs.Chosen.{Chosen}
+use Rattle.language.specs.Forms.{Production, form, spelling_of}
+use Rattle.language.proofs.table.NodeForms.{Made}
 use Rattle.language.proofs.lower_bound.Domination.{settled}
 use Rattle.language.proofs.table.RightEdges.{view_of}
 use Rattle.language.proofs.table.LeftRecursiveWays.{bracketed}
@@ -55,12 +58,17 @@ neither false false h k = refl
 neither true b h k = cc
 neither false true h k = cc
 
+form_no_part : (y : Rank) (i : Bool) (f : Start) {k : Kind} {w : List ℕ} {g : Flags} {ps : Parts} {p : Production} → Chosen w g ps (expr Expression true Any) k p → (BeginsPlain (settled (expr y i f) (spelling_of (form p) w g ps)) → first_has_optional ps ≡ false) → (is_chain_part k && (g.optional || first_has_optional ps)) ≡ false
+form_no_part y i f {g = g} {ps = ps} (chosen.super_member o s) u = neither g.optional (first_has_optional ps) o (super_first ps s)
+form_no_part y i f {g = g} {ps = ps} (chosen.super_call o s) u = neither g.optional (first_has_optional ps) o (super_first ps s)
+form_no_part y i f {g = g} {ps = ps} (chosen.member_access o s) u = neither g.optional (first_has_optional ps) o (u plain_first)
+form_no_part y i f {g = g} {ps = ps} (chosen.call o s) u = neither g.optional (first_has_optional ps) o (u plain_first)
+form_no_part y i f (chosen.of_statement s c) u = elim s [ ]
+form_no_part y i f (chosen.of_declaration s c) u = elim s [ ]
+form_no_part y i f _ u = refl
+
 made_no_part : (y : Rank) (i : Bool) (f : Start) {k : Kind} {w : List ℕ} {g : Flags} {ps : Parts} {x : Spelling} → Made k w g ps x → (BeginsPlain (settled (expr y i f) x) → first_has_optional ps ≡ false) → (is_chain_part k && (g.optional || first_has_optional ps)) ≡ false
-made_no_part y i f {g = g} {ps = ps} (super_member o s) u = neither g.optional (first_has_optional ps) o (super_first ps s)
-made_no_part y i f {g = g} {ps = ps} (super_call o s) u = neither g.optional (first_has_optional ps) o (super_first ps s)
-made_no_part y i f {g = g} {ps = ps} (member o s) u = neither g.optional (first_has_optional ps) o (u plain_first)
-made_no_part y i f {g = g} {ps = ps} (call o s) u = neither g.optional (first_has_optional ps) o (u plain_first)
-made_no_part y i f _ u = refl
+made_no_part y i f m u = form_no_part y i f m.chosen (λ b. u (subst (λ x. BeginsPlain (settled (expr y i f) x)) (sym m.is) b))
 
 module _ (S : Type 0) (Next : S → Token → S → Type 0) (behind : S → Token) where
   mutual

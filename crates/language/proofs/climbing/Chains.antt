@@ -14,7 +14,7 @@ use Rattle.language.specs.declared.Start.TheVariants.{Any}
 use Rattle.language.specs.declared.Edge.TheVariants.{Other}
 use Rattle.tree.specs.declared.kind.Flags.{Flags}
 use Rattle.tree.specs.declared.kind.Pair.{Pair}
-use Rattle.tree.specs.Tree.{Tree, node, Parts, none, part, parts_height, bare, bare_parts, plain}
+use Rattle.tree.specs.Tree.{Tree, node, Parts, none, part, bare, bare_parts, plain}
 use Rattle.tree.specs.Uses.{is_lean, used_flags, has_text, implies}
 use Rattle.tree.proofs.Lean.{lean_flags, lean_text}
 use Rattle.language.specs.Vocabulary.{is, takes, takes_number, precedence, Operator, op_dot, op_index, op_call, op_optional, op_none}
@@ -267,12 +267,6 @@ module _ (S : Type 0) (Next : S → Token → S → Type 0) (behind : S → Toke
     pub runs : Runs ways S Next behind o (pieces ps) ps s e P
     pub only : (o' : ℕ) (K' : Kind) (G' : Flags) (pieces' : Parts → List (PieceOf Role)) (ps' : Parts) (e' : S) (P' : List Pair) → Link z K' G' pieces' → Runs ways S Next behind o' (pieces' ps') ps' s e' P' → (e' ≡ e) × (ps' ≡ ps) × (P' ≡ P) × (K' ≡ K) × (G' ≡ G)
 
-  pub record AbsentLink (z : Operator) (s : S) : Type 0 where
-    pub nothing : (o' : ℕ) (K' : Kind) (G' : Flags) (pieces' : Parts → List (PieceOf Role)) (ps' : Parts) (e' : S) (P' : List Pair) → Link z K' G' pieces' → Runs ways S Next behind o' (pieces' ps') ps' s e' P' → ⊥
-
-  pub record AbsentLinkWithin (o hi : ℕ) (z : Operator) (s : S) : Type 0 where
-    pub nothing : (K' : Kind) (G' : Flags) (pieces' : Parts → List (PieceOf Role)) (ps' : Parts) (e' : S) (P' : List Pair) → Link z K' G' pieces' → Runs ways S Next behind o (pieces' ps') ps' s e' P' → parts_height ps' ≤ hi → ⊥
-
   -- What a part of a chain leads to: it stands on the spine of a whole, and is spelled there.
   pub record SpineLeads (o : ℕ) (s0 : S) (y : Rank) (i : Bool) (f : Start) (n : Tree) (e : S) (P : List Pair) (m : Tree) (mid : S) (Q : List Pair) : Type 0 where
     pub g : Start
@@ -289,9 +283,6 @@ module _ (S : Type 0) (Next : S → Token → S → Type 0) (behind : S → Toke
   same_spine : {g g' : Start} {k k' : Kind} {w w' : List ℕ} {fl fl' : Flags} {st st' en en' : ℕ} {ps ps' : Parts} {s e e' : S} → Placed S Next behind (chain_part g) (node k w fl st en ps) s e → Placed S Next behind (chain_part g') (node k' w' fl' st' en' ps') s e' → e ≡ e' → (st ≡ st') × (en ≡ en')
   same_spine {s = s} (placed {t = t} {m = m} nx p) (placed {t = t'} {m = m'} nx' p') h =
       (sym (ap (λ (v : ℕ × ℕ). v.0) p) ∙ det.start s t t' m m' nx nx' ∙ ap (λ (v : ℕ × ℕ). v.0) p', sym (ap (λ (v : ℕ × ℕ). v.1) p) ∙ ap (λ v. (behind v).stop) h ∙ ap (λ (v : ℕ × ℕ). v.1) p')
-
-  moved : {g g' : Start} {n : Tree} {s e : S} → Placed S Next behind (chain_part g) n s e → Placed S Next behind (chain_part g') n s e
-  moved (placed nx p) = placed nx p
 
   -- where the part of a chain is the one that is read, it leads on
   spine_leads : {o o1 : ℕ} {s0 : S} {y : Rank} {i : Bool} {f : Start} {n : Tree} {e : S} {P : List Pair} {m : Tree} {x to : S} {Q U : List Pair} {z : Operator} {K : Kind} {G : Flags} {pieces : Parts → List (PieceOf Role)} {ps : Parts} {st en : ℕ} → FoundLink o1 z x to K G pieces ps U →
@@ -339,14 +330,6 @@ module _ (S : Type 0) (Next : S → Token → S → Type 0) (behind : S → Toke
   base_chained m ps st en h on_name = refl
   base_chained m ps st en h on_brackets = refl
   base_chained m ps st en h on_arguments = refl
-
-  link_symbol : {z : Operator} {K : Kind} {G : Flags} {pieces : Parts → List (PieceOf Role)} → Link z K G pieces → SymbolOf z
-  link_symbol on_dot = record { symbol = Member; is = select_symbol }
-  link_symbol on_index = record { symbol = Member; is = index_symbol }
-  link_symbol on_call = record { symbol = Call; is = call_symbol }
-  link_symbol on_name = record { symbol = LeftHandSide; is = chain_symbol }
-  link_symbol on_brackets = record { symbol = LeftHandSide; is = chain_symbol }
-  link_symbol on_arguments = record { symbol = LeftHandSide; is = chain_symbol }
 
   module _ {y : Rank} {i : Bool} {f : Start} {s0 mid x : S} {m : Tree} {t : Token} (r : ReadBy S Next behind Div mid t x) where
     -- the first part of a chain, behind its base

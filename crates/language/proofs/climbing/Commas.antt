@@ -8,7 +8,6 @@ use Rattle.tree.specs.declared.kind.Kind.TheVariants.{SequenceExpression}
 use Rattle.language.specs.declared.Rank.{Rank}
 use Rattle.language.specs.declared.Rank.TheVariants.{Expression, Assignment, Call, Member}
 use Rattle.language.specs.declared.Start.{Start}
-use Rattle.language.specs.declared.Start.TheVariants.{Any}
 use Rattle.language.specs.declared.Edge.{Edge}
 use Rattle.language.specs.declared.Edge.TheVariants.{Arrow, Postfix, Other, Closed}
 use Rattle.tree.specs.declared.kind.Flags.{Flags}
@@ -33,14 +32,10 @@ use Rattle.language.proofs.table.Begins.{goes_to, retell}
 use Rattle.language.proofs.table.LeftRecursiveWays.{Led, led_binary, led_power, led_assign, led_postfix, led_sequence, led_conditional, led_dot, led_index, led_call, led_tag, led_chain, led_of, linked_of}
 use Rattle.language.proofs.table.Reaches.{reaches, linked_base}
 use Rattle.language.proofs.table.RightEdges.{edged}
-use Rattle.language.proofs.climbing.RightOperands.{no_more_runs}
-use Rattle.language.proofs.list_loops.FirstPieces.{run_none, run_token, run_laid, run_never, run_the_part}
 use Rattle.language.proofs.climbing.NoContinuation.{Ended, goes_where_not}
-use Rattle.language.proofs.table.Tails.{tails_sequence}
-use Rattle.language.proofs.climbing.OperatorLoop.{Climbing, led_on, stops_inside}
+use Rattle.language.proofs.climbing.OperatorLoop.{Climbing, led_on}
 use Rattle.language.proofs.climbing.BinaryTurns.{same_node, same_places}
 use Rattle.language.proofs.table.OperatorTokens.{reads_comma}
-use Rattle.language.proofs.climbing.Conditionals.{same_sign, stops_before}
 use Rattle.language.proofs.climbing.FirstTurn.{grows_start}
 
 rank_is : {y z : Rank} {i j : Bool} {f g : Start} → expr y i f ≡ expr z j g → y ≡ z
@@ -193,56 +188,3 @@ module _ (S : Type 0) (Next : S → Token → S → Type 0) (behind : S → Toke
       refused true c d h k l = cc
       refused false c true h k l = cc
       refused false c false h k l = cc
-
-  -- the next part of a sequence, behind a comma that is read
-  record CommaOn (o : ℕ) (s0 : S) (i : Bool) (f : Start) (n : Tree) (e : S) (P : List Pair) (m : Tree) (Q : List Pair) (qs : Parts) (x : S) (R : List Pair) : Type 0 where
-    st : ℕ
-    en : ℕ
-    item : Tree
-    rest : Parts
-    to : S
-    one : List Pair
-    more : List Pair
-    spelled : Spells ways S Next behind o (expr Assignment i Any) item x to one
-    stopped : Stops S Next behind Assignment i item to
-    runs : Runs ways S Next behind o (comma_pieces i f rest) rest to e more
-    tree : n ≡ node SequenceExpression [] plain st en (part m (join qs (part item rest)))
-    all : P ≡ Q ++ (R ++ (one ++ more))
-
-  module _ {i : Bool} {f : Start} {s0 k x : S} {m : Tree} {Q R : List Pair} {qs : Parts} {t : Token} (r : ReadBy S Next behind Div k t x) (op : operation t ≡ op_comma) where
-    comma_on : {o : ℕ} {n : Tree} {e : S} {P : List Pair} → CommaLeads o s0 i f n e P m Q qs k R → CommaOn o s0 i f n e P m Q qs x R
-    comma_on {o} {n} {e} {P} v = of v.rest v.runs v.tree v.all
-      where
-        of : {W : List Pair} (rest : Parts) → Runs ways S Next behind o (comma_pieces i f rest) rest k e W → n ≡ node SequenceExpression [] plain v.st v.en (part m (join qs rest)) → P ≡ Q ++ (R ++ W) → CommaOn o s0 i f n e P m Q qs x R
-        of none d tree all = let u = no_more_runs S Next behind det d in absurd (comma_goes v.spelled v.stopped (subst (λ c. ReadBy S Next behind Div c t x) u.place r) op)
-        of (gap ps) d tree all = absurd (run_never S Next behind d)
-        of (part u ps) d tree all =
-            let comma = run_token S Next behind d in
-            let v1 = run_the_part S Next behind (run_laid S Next behind comma.runs) in
-            let same = same_sign S Next behind det comma.reads (reads_comma S Next behind r.next op) refl in
-            record {
-              st = v.st;
-              en = v.en;
-              item = u;
-              rest = ps;
-              to = v1.mid;
-              one = v1.one;
-              more = v1.more;
-              spelled = subst (λ c. Spells ways S Next behind o (expr Assignment i Any) u c v1.mid v1.one) same.1 v1.spelled;
-              stopped = item_stops ps u v1.runs tree;
-              runs = v1.runs;
-              tree = tree;
-              all = all ∙ ap (λ c. Q ++ (R ++ c)) v1.pairs;
-            }
-          where
-            none_two : precedence Expression ≡ 2 → precedence Expression ≡ 2 → ⊥
-            none_two a b = omega arith
-
-            item_stops : {to : S} {more : List Pair} (ps : Parts) (u : Tree) → Runs ways S Next behind o (comma_pieces i f ps) ps to e more → n ≡ node SequenceExpression [] plain v.st v.en (part m (join qs (part u ps))) → Stops S Next behind Assignment i u to
-            item_stops none u d tree =
-                let end = run_none S Next behind d in
-                subst (λ c. Stops S Next behind Assignment i u c) (sym end.place)
-                (stops_inside S Next behind det {o = o} {s0 = s0} {e = e} {y = Expression} {i = i} {f = f} {n = n} {P = P} Expression Assignment i u tails_sequence none_two refl (λ a. refl)
-                (ap (λ c. edge_as_written c (behind e)) (ap edge tree ∙ last_edge_join qs u m)) v.stopped whole)
-            item_stops (gap ps) u d tree = absurd (run_never S Next behind d)
-            item_stops (part l ps) u d tree = stops_before S Next behind det Assignment i u (run_token S Next behind d).reads refl refl (λ c b. refl)

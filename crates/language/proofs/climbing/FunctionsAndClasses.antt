@@ -8,9 +8,9 @@ use Rattle.tree.specs.declared.kind.Kind.TheVariants.{TemplateLiteral, BlockStat
 use Rattle.language.specs.declared.Rank.{Rank}
 use Rattle.language.specs.declared.Rank.TheVariants.{Assignment, Primary}
 use Rattle.language.specs.declared.Start.{Start}
-use Rattle.language.specs.declared.Start.TheVariants.{Any, NoBrace}
+use Rattle.language.specs.declared.Start.TheVariants.{NoBrace}
 use Rattle.tree.specs.declared.kind.Pair.{Pair}
-use Rattle.tree.specs.Tree.{Tree, node, Parts, none, part, plain}
+use Rattle.tree.specs.Tree.{Tree, node, Parts, plain}
 use Rattle.language.specs.Vocabulary.{takes}
 use Rattle.language.specs.Pieces.{Role, expr, body, PieceOf}
 use Rattle.language.specs.Token.{Token}
@@ -41,20 +41,6 @@ module _ (S : Type 0) (Next : S → Token → S → Type 0) (behind : S → Toke
     pub climb_template : {o : ℕ} {y : Rank} {i : Bool} {ps : Parts} {to : S} {U : List Pair} {st en : ℕ} → IsTrue (takes y Primary) → FoundParts S Next behind o (chunk_pieces true) s0 to ps U → Placed S Next behind (expr y i f) (node TemplateLiteral [] plain st en ps) s0 to →
         Climbing S Next behind det o y i f Primary s0 (node TemplateLiteral [] plain st en ps) to U
     climb_template low found places = climb_sole S Next behind det (template_production S Next behind det f) r opening low found places
-
-  -- what stands in the parentheses of `import`
-  record ImportRuns (o : ℕ) (m e : S) (ps : Parts) (P : List Pair) : Type 0 where
-    left : Token
-    x : S
-    opens_it : Reads S Next behind Punctuator (codes "(") m left x
-    source : Tree
-    place : S
-    one : List Pair
-    spelled : Spells ways S Next behind o (expr Assignment true Any) source x place one
-    right : Token
-    closes : Reads S Next behind Punctuator (codes ")") place right e
-    parts : ps ≡ part source none
-    pairs : P ≡ one
 
   -- A body begins with `{`.
   pub body_begins : {o : ℕ} {n : Tree} {s e : S} {P : List Pair} → Spells ways S Next behind o body n s e P → (t : Token) × (m : S) × Reads S Next behind Punctuator (codes "{") s t m

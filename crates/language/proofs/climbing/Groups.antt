@@ -27,7 +27,7 @@ use Rattle.language.specs.ExpressionStart.{with_parenthesis}
 use Rattle.language.specs.Promises.{IsDetermined, ReadBy, Stops, Found, FoundParts}
 use Rattle.language.specs.Grammar.{ways, starts}
 use Rattle.language.specs.Derivation.{pair_of, Reads, Spells, grouped, Runs, step, opened, closed, token, laid, same_line, Placed}
-use Rattle.language.specs.NodeForms.{arrow}
+use Rattle.language.proofs.table.NodeForms.{arrow}
 use Rattle.language.proofs.table.Begins.{goes_to, retell}
 use Rattle.language.proofs.table.Productions.{spell}
 use Rattle.language.proofs.table.LeftRecursiveWays.{Led}

@@ -17,7 +17,7 @@ use Rattle.language.specs.declared.Start.{Start}
 use Rattle.language.specs.declared.Start.TheVariants.{Any, NoBrace, Statement}
 use Rattle.tree.specs.declared.kind.Flags.{Flags}
 use Rattle.tree.specs.declared.kind.Pair.{Pair}
-use Rattle.tree.specs.Tree.{Tree, node, Parts, none, bare, plain, start_of, stop_of}
+use Rattle.tree.specs.Tree.{Tree, node, Parts, none, bare, plain}
 use Rattle.tree.specs.Uses.{is_lean, used_flags}
 use Rattle.tree.proofs.Lean.{lean_flags}
 use Rattle.language.specs.Vocabulary.{is, among, takes, takes_number, precedence, is_reserved, is_name, literal_class}
@@ -27,7 +27,10 @@ use Rattle.language.specs.ExpressionStart.{with_name, with_literal, with_parenth
 use Rattle.language.specs.Promises.{is_free, IsDetermined, ReadBy, FoundAt}
 use Rattle.language.specs.Grammar.{ways, spellings, starts}
 use Rattle.language.specs.Derivation.{first, Reads, Spells, direct, Runs, done, step, token, Placed, placed}
-use Rattle.language.specs.NodeForms.{Made, literal, identifier, binary, logical}
+use Rattle.language.specs.Chosen as chosen
+use Rattle.language.specs.Chosen.{Chosen}
+use Rattle.language.specs.Forms.{Production, form}
+use Rattle.language.proofs.table.NodeForms.{Made, literal, identifier}
 use Rattle.language.proofs.table.ViewIsComplete.{way_of, made, one, unless}
 use Rattle.language.proofs.table.OperatorFacts.{binding}
 use Rattle.language.proofs.climbing.Spine.{Core, group, plain as plain_core}
@@ -40,14 +43,17 @@ use Rattle.language.proofs.climbing.OperatorLoop.{Climbing}
 use Rattle.language.proofs.climbing.FirstTurn.{climb_start}
 use Rattle.language.proofs.climbing.BinaryTurns.{same_node}
 
-node_start : {k k' : Kind} {w w' : List ℕ} {g g' : Flags} {st st' en en' : ℕ} {ps ps' : Parts} → node k w g st en ps ≡ node k' w' g' st' en' ps' → (st ≡ st') × (en ≡ en')
-node_start h = (ap start_of h, ap stop_of h)
+-- no form is of a symbol tighter than Primary
+form_rank : {k : Kind} {w : List ℕ} {g : Flags} {ps : Parts} {p : Production} {y : Rank} {i : Bool} {f : Start} → Chosen w g ps (expr y i f) k p → precedence (form p).rank ≤ 22
+form_rank {w = w} (chosen.binary op) = let v = binding w op in let up = v.rises.0 in let most = v.most in omega arith
+form_rank {w = w} (chosen.logical op) = let v = binding w op in let up = v.rises.0 in let most = v.most in omega arith
+form_rank (chosen.of_statement s c) = elim s [ ]
+form_rank (chosen.of_declaration s c) = elim s [ ]
+form_rank _ = omega arith
 
--- no way stands at a symbol tighter than Primary
-made_rank : {k : Kind} {w : List ℕ} {g : Flags} {ps : Parts} {x : Spelling} → Made k w g ps x → precedence x.rank ≤ 22
-made_rank (binary {w = w} op) = let v = binding w op in let up = v.rises.0 in let most = v.most in omega arith
-made_rank (logical {w = w} op) = let v = binding w op in let up = v.rises.0 in let most = v.most in omega arith
-made_rank _ = omega arith
+-- so no way stands at one
+pub made_rank : {k : Kind} {w : List ℕ} {g : Flags} {ps : Parts} {x : Spelling} → Made k w g ps x → precedence x.rank ≤ 22
+made_rank m = subst (λ (x : Spelling). precedence x.rank ≤ 22) (sym m.is) (form_rank m.chosen)
 
 below : (h z : ℕ) → IsTrue (takes_number h z) → z ≤ 22 → IsTrue (takes_number h 22)
 below h z t l = grind (arith, nat_tests)

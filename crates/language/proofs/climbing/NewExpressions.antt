@@ -28,7 +28,7 @@ use Rattle.language.specs.ExpressionStart.{with_new, expression_start}
 use Rattle.language.specs.Promises.{IsDetermined, ReadBy, Stops, FoundParts, Callee, at_member, at_new, FoundCallee}
 use Rattle.language.specs.Grammar.{ways, starts}
 use Rattle.language.specs.Derivation.{Reads, Spells, Runs, done, step, within, token, laid, Placed}
-use Rattle.language.specs.NodeForms.{new_with, new_without, new_target}
+use Rattle.language.proofs.table.NodeForms.{new_with, new_without, new_target}
 use Rattle.language.proofs.climbing.Spine.{Core}
 use Rattle.language.proofs.table.Productions.{spell, starts_led}
 use Rattle.language.proofs.table.Begins.{goes_to, retell}

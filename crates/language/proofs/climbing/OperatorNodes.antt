@@ -19,7 +19,7 @@ use Rattle.language.specs.Token.{Token}
 use Rattle.language.specs.Grammar.{spellings, ways}
 use Rattle.language.specs.Expressions.{assignment, arguments, after_number, selector, first_has_optional, chain_parts, member_link, call_link, sequence, joined, infix_pieces}
 use Rattle.language.specs.Derivation.{Among, first, Reads, Spells, direct, Runs, done, step, within, token, laid, same_line, Placed}
-use Rattle.language.specs.NodeForms.{tagged, member, call, chain, postfix, power, binary, logical, conditional, assign, several}
+use Rattle.language.proofs.table.NodeForms.{tagged, member, call, chain, postfix, power, binary, logical, conditional, assign, several}
 use Rattle.language.proofs.lower_bound.Domination.{settled}
 use Rattle.language.proofs.table.Begins.{goes_to, AllLaid, no_piece, one_laid, number_laid}
 use Rattle.language.proofs.table.LeftRecursiveWays.{callee_rank}

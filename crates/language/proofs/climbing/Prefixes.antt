@@ -25,7 +25,7 @@ use Rattle.language.specs.ExpressionStart.{ExpressionStart, with_word, with_sign
 use Rattle.language.specs.Promises.{IsDetermined, ReadBy, Stops, Found}
 use Rattle.language.specs.Grammar.{ways, starts}
 use Rattle.language.specs.Derivation.{Reads, Spells, Runs, step, token, laid, Placed}
-use Rattle.language.specs.NodeForms.{prefix, unary_word, unary_sign}
+use Rattle.language.proofs.table.NodeForms.{prefix, unary_word, unary_sign}
 use Rattle.language.proofs.table.Productions.{spell}
 use Rattle.language.proofs.table.OperatorFacts.{step_texts}
 use Rattle.language.proofs.table.Begins.{AllLaid, no_piece, one_laid, among_by, goes_to, retell}

@@ -124,15 +124,3 @@ module _ (S : Type 0) (Next : S → Token → S → Type 0) (behind : S → Toke
   pub called : {o : ℕ} (y : Rank) (i : Bool) (f : Start) (qs : Parts) {ps : Parts} {s m e : S} {R : List Pair} {t : Token} → Runs ways S Next behind o (goes_to y i f (arguments qs)) ps s e R → ReadBy S Next behind Div s t m →
       Runs ways S Next behind o (behind_first (goes_to y i f (arguments qs))) ps m e R
   called y i f qs d r = (taken S Next behind det Div (goes_to y i f (arguments qs)) refl refl d r).runs
-
-  pub record ChainedIndex (o : ℕ) (ps : Parts) (m e : S) (R : List Pair) : Type 0 where
-    pub opening : Token
-    pub within : S
-    pub opens : Reads S Next behind Punctuator (codes "[") m opening within
-    pub inside : Bracketed o ps within e R
-
-  pub record ChainedCall (o : ℕ) (f : Start) (qs ps : Parts) (m e : S) (R : List Pair) : Type 0 where
-    pub opening : Token
-    pub within : S
-    pub opens : Reads S Next behind Punctuator (codes "(") m opening within
-    pub inside : Runs ways S Next behind o (behind_first (goes_to Expression true f (arguments qs))) ps within e R

@@ -23,7 +23,8 @@ use Rattle.language.specs.ExpressionStart.{ExpressionStart, with_function, with_
 use Rattle.language.specs.Promises.{IsDetermined, ReadBy, FoundParts}
 use Rattle.language.specs.Grammar.{ways, starts}
 use Rattle.language.specs.Derivation.{Spells, Runs, Placed}
-use Rattle.language.specs.NodeForms.{function, class, template, import_call}
+use Rattle.language.specs.Chosen as chosen
+use Rattle.language.proofs.table.NodeForms.{by_form, function, class, template}
 use Rattle.language.proofs.climbing.Spine.{Core}
 use Rattle.language.proofs.table.Productions.{spell}
 use Rattle.language.proofs.table.Begins.{goes_to, retell}
@@ -202,7 +203,7 @@ module _ (S : Type 0) (Next : S → Token → S → Type 0) (behind : S → Toke
     no_flags = λ g. refl;
     no_group = λ e. cc;
     is_way = λ h j k w g ps qs headed tk. of h j ps headed;
-    spells = λ o h j st en ps s e P tk pl d. spell S Next behind (at Call (term "import" ∷ sign "(" ∷ put (expr Assignment true Any) ∷ sign ")" ∷ [])) import_call refl tk refl (starts_import f (sign "(" ∷ put (expr Assignment true Any) ∷ sign ")" ∷ [])) pl d;
+    spells = λ o h j st en ps s e P tk pl d. spell S Next behind (at Call (term "import" ∷ sign "(" ∷ put (expr Assignment true Any) ∷ sign ")" ∷ [])) (by_form chosen.import_call) refl tk refl (starts_import f (sign "(" ∷ put (expr Assignment true Any) ∷ sign ")" ∷ [])) pl d;
   }
     where
       of : (h : Rank) (j : Bool) {k : Kind} {w : List ℕ} {g : Flags} (ps : Parts) {qs : List (PieceOf Role)} → Headed h j f k w g (bare_parts ps) qs with_import → (k ≡ ImportExpression) × IsTrue (takes h Call) × (qs ≡ import_parts ps)

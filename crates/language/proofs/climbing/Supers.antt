@@ -26,7 +26,7 @@ use Rattle.language.specs.ExpressionStart.{with_super, no_start, expression_star
 use Rattle.language.specs.Promises.{IsDetermined, ReadBy}
 use Rattle.language.specs.Grammar.{ways, spellings}
 use Rattle.language.specs.Derivation.{first, Reads, Spells, direct, Runs, done, step, within, token, Placed, placed}
-use Rattle.language.specs.NodeForms.{super_member, super_call}
+use Rattle.language.proofs.table.NodeForms.{super_member, super_call}
 use Rattle.language.proofs.climbing.Spine.{Core, spine_of, on_spine, grows_on_spine}
 use Rattle.language.proofs.table.ViewIsComplete.{way_of, one}
 use Rattle.language.proofs.table.Productions.{spell, starts_led, way_from}

@@ -30,7 +30,7 @@ use Rattle.language.specs.ExpressionStart.{ExpressionStart, with_bracket, with_b
 use Rattle.language.specs.Promises.{IsDetermined, ReadBy, Stops, Found, Absent, FoundAt, FoundParts}
 use Rattle.language.specs.Grammar.{ways, spellings, starts}
 use Rattle.language.specs.Derivation.{Reads, Spells, direct, Runs, step, within, token, laid, Placed}
-use Rattle.language.specs.NodeForms.{array, object, assign_pattern}
+use Rattle.language.proofs.table.NodeForms.{array, object, assign_pattern}
 use Rattle.language.proofs.climbing.Spine.{Core}
 use Rattle.language.proofs.table.ViewIsComplete.{way_of, one}
 use Rattle.language.proofs.table.Productions.{spell, starts_led}

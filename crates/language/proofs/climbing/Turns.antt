@@ -7,13 +7,13 @@ use Rattle.language.specs.declared.Rank.TheVariants.{Conditional, New}
 use Rattle.language.specs.declared.Start.{Start}
 use Rattle.tree.specs.declared.kind.Flags.{Flags}
 use Rattle.tree.specs.declared.kind.Pair.{Pair}
-use Rattle.tree.specs.Tree.{Tree, node, Parts, height}
+use Rattle.tree.specs.Tree.{Tree, Parts}
 use Rattle.language.specs.Vocabulary.{precedence, Operator, op_arrow, operator_of}
 use Rattle.language.specs.Pieces.{Role, PieceOf}
 use Rattle.language.specs.Token.{Token}
 use Rattle.language.specs.Edges.{edge}
 use Rattle.language.specs.Continuations.{operation, stops}
-use Rattle.language.specs.Promises.{IsDetermined, ReadBy, Absent, AbsentWithin, AbsentAt, AbsentAtWithin, AbsentParts, AbsentPartsWithin}
+use Rattle.language.specs.Promises.{IsDetermined, ReadBy, Absent, AbsentWithin}
 use Rattle.language.proofs.table.OperatorFacts.{binding}
 use Rattle.language.proofs.table.LeftRecursiveWays.{Led}
 use Rattle.language.proofs.climbing.NoContinuation.{goes_where_not}
@@ -41,24 +41,10 @@ right_position w op (two_binds {z = z} {q = q}) =
 right_position w op two_powers = ((λ e. omega arith), (λ e. cc))
 right_position w op two_assigns = ((λ e. omega arith), (λ e. cc))
 
--- a tree has a node
-some_height : (n : Tree) → 1 ≤ height n
-some_height (node k w g st en ps) = omega arith
-
 module _ (S : Type 0) (Next : S → Token → S → Type 0) (behind : S → Token) where
   -- what is absent is so within any limits
   pub within : {o hi : ℕ} {y : Rank} {i : Bool} {f : Start} {s : S} → Absent S Next behind y i f s → AbsentWithin S Next behind o hi y i f s
   within {o} missed = record { nothing = λ e' n' P' d st le. missed.nothing o e' n' P' d st }
-
-  pub at_within : {o hi : ℕ} {a : Role} {s : S} → AbsentAt S Next behind a s → AbsentAtWithin S Next behind o hi a s
-  at_within {o} missed = record { nothing = λ e' n' P' d le. missed.nothing o e' n' P' d }
-
-  pub parts_within : {o hi : ℕ} {pieces : Parts → List (PieceOf Role)} {s : S} → AbsentParts S Next behind pieces s → AbsentPartsWithin S Next behind o hi pieces s
-  parts_within {o} missed = record { nothing = λ e' ps' P' d le. missed.nothing o e' ps' P' d }
-
-  -- no node has no height
-  pub no_height : {o : ℕ} {y : Rank} {i : Bool} {f : Start} {s : S} → AbsentWithin S Next behind o 0 y i f s
-  no_height = record { nothing = λ e' n' P' d st le. (let some = some_height n' in omega arith) }
 
 module _ (S : Type 0) (Next : S → Token → S → Type 0) (behind : S → Token) (det : IsDetermined S Next behind) where
   -- `=>` behind what is no arrow's parameters

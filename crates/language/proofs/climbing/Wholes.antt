@@ -1,44 +1,41 @@
 -- An Expression from its first AssignmentExpression: that alone, or a sequence with it. So what parentheses hold, which is read as a list, is told.
 use Rattle.std.proofs.Common.{◌≡◌, ℕ, ◌≤◌, Bool, true, false, List, [], ◌∷◌, ◌++◌, refl, sym, ap, ◌∙◌, subst, arith}
-use Rattle.std.specs.Prelude.{IsTrue, codes}
+use Rattle.std.specs.Prelude.{IsTrue}
 use Rattle.std.proofs.lemmas.Bool.{and_parts, and_from}
-use Rattle.tokens.specs.declared.token.TokenClass.TheVariants.{Punctuator}
-use Rattle.tokens.specs.declared.token.Goal.TheVariants.{Div}
-use Rattle.tokens.specs.Goals.{allows}
 use Rattle.tree.specs.declared.kind.Kind.{Kind}
 use Rattle.tree.specs.declared.kind.Kind.TheVariants.{SequenceExpression}
 use Rattle.tree.specs.declared.kind.Flags.{Flags}
+use Rattle.language.specs.declared.Start.TheVariants.{Any}
 use Rattle.language.specs.declared.Rank.{Rank}
 use Rattle.language.specs.declared.Rank.TheVariants.{Expression, Assignment}
 use Rattle.language.specs.declared.Start.{Start}
 use Rattle.tree.specs.declared.kind.Pair.{Pair}
-use Rattle.tree.specs.Tree.{Tree, node, Parts, none, part, gap, bare, bare_parts, plain}
+use Rattle.tree.specs.Tree.{Tree, node, Parts, part, bare, bare_parts, plain}
 use Rattle.tree.specs.Uses.{is_lean, used_flags, has_text}
 use Rattle.tree.proofs.Lean.{lean_flags, lean_text}
 use Rattle.language.specs.FirstPart.{others}
-use Rattle.language.specs.Vocabulary.{takes, precedence, op_comma}
+use Rattle.language.specs.Vocabulary.{takes, precedence}
 use Rattle.language.specs.Pieces.{expr, Spelling, at, sub, left, is_none}
 use Rattle.language.specs.Token.{Token}
-use Rattle.language.specs.Edges.{edge, edge_as_written}
 use Rattle.language.specs.Expressions.{sequence}
-use Rattle.language.specs.Continuations.{operation, rank_made_by}
-use Rattle.language.specs.Promises.{IsDetermined, ReadBy, Stops, Found, later_parts, LaterStop}
+use Rattle.language.specs.Promises.{IsDetermined, Found}
 use Rattle.language.specs.Grammar.{ways, spellings}
-use Rattle.language.specs.Derivation.{Reads, Spells, direct, grouped, Runs, Placed, placed}
-use Rattle.language.specs.NodeForms.{Made, binary, logical, several}
+use Rattle.language.specs.Derivation.{Spells, direct, grouped, Runs, Placed, placed}
+use Rattle.language.specs.Chosen as chosen
+use Rattle.language.specs.Chosen.{Chosen}
+use Rattle.language.specs.Forms.{Production, form, spelling_of}
+use Rattle.language.proofs.table.NodeForms.{Made}
 use Rattle.language.proofs.lower_bound.Domination.{settled}
 use Rattle.language.proofs.table.ViewIsComplete.{Way, way_of, made}
 use Rattle.language.proofs.table.OperatorFacts.{binding}
 use Rattle.language.proofs.table.Productions.{way_from}
 use Rattle.language.proofs.table.Begins.{goes_to, retell}
-use Rattle.language.proofs.list_loops.FirstPieces.{run_token, run_laid, run_never, run_part}
-use Rattle.language.proofs.climbing.SpineContinuations.{makes}
+use Rattle.language.proofs.list_loops.FirstPieces.{run_part}
 use Rattle.language.proofs.climbing.OperatorNodes.{none_bare}
 use Rattle.language.proofs.climbing.BinaryTurns.{same_node}
-use Rattle.language.proofs.climbing.Conditionals.{stops_before}
 use Rattle.language.proofs.climbing.Commas.{comma_pieces}
 use Rattle.language.proofs.climbing.Callees.{tight_pieces}
-use Rattle.language.proofs.climbing.Sequences.{takes_all, stops_assignment, comma_any}
+use Rattle.language.proofs.climbing.Sequences.{takes_all}
 
 -- a way of an expression stands at Assignment, but that of a sequence
 data Stood (k : Kind) (ps : Parts) (x : Spelling) : Type 0 where
@@ -49,20 +46,25 @@ high_takes : (z : Rank) → 4 ≤ precedence z → IsTrue (takes Assignment z)
 high_takes Expression h = absurd (omega (arith, h))
 high_takes _ h = refl
 
+form_stood : {k : Kind} {w : List ℕ} {g : Flags} {ps : Parts} {p : Production} → Chosen w g ps (expr Expression true Any) k p → Stood k ps (spelling_of (form p) w g ps)
+form_stood (chosen.several h) = as_several refl refl h
+form_stood {w = w} (chosen.binary {z = z} op) = let v = binding w op in at_assignment (high_takes z v.least)
+form_stood {w = w} (chosen.logical {z = z} op) = let v = binding w op in at_assignment (high_takes z v.least)
+form_stood (chosen.of_statement s c) = elim s [ ]
+form_stood (chosen.of_declaration s c) = elim s [ ]
+form_stood _ = at_assignment refl
+
 stood : {k : Kind} {w : List ℕ} {g : Flags} {ps : Parts} {x : Spelling} → Made k w g ps x → Stood k ps x
-stood (several h) = as_several refl refl h
-stood (binary {w = w} {z = z} op) = let v = binding w op in at_assignment (high_takes z v.least)
-stood (logical {w = w} {z = z} op) = let v = binding w op in at_assignment (high_takes z v.least)
-stood _ = at_assignment refl
+stood {k} {w} {g} {ps} m = subst (Stood k ps) (sym m.is) (form_stood m.chosen)
 
 module _ (S : Type 0) (Next : S → Token → S → Type 0) (behind : S → Token) (det : IsDetermined S Next behind) where
   -- an Expression: an AssignmentExpression, or a sequence
-  data AtExpression (o : ℕ) (i : Bool) (f : Start) (n : Tree) (s e : S) (P : List Pair) : Type 0 where
+  pub data AtExpression (o : ℕ) (i : Bool) (f : Start) (n : Tree) (s e : S) (P : List Pair) : Type 0 where
     single : Spells ways S Next behind o (expr Assignment i f) n s e P → AtExpression o i f n s e P
     sequenced : {st en : ℕ} {m : Tree} {rest : Parts} {k : S} {Q R : List Pair} → n ≡ node SequenceExpression [] plain st en (part m rest) → Placed S Next behind (expr Expression i f) (node SequenceExpression [] plain st en (part m rest)) s e →
         Spells ways S Next behind o (expr Assignment i f) m s k Q → is_none rest ≡ false → Runs ways S Next behind o (comma_pieces i f rest) rest k e R → P ≡ Q ++ R → AtExpression o i f n s e P
 
-  at_expression : {o : ℕ} {i : Bool} {f : Start} {n : Tree} {s e : S} {P : List Pair} → Spells ways S Next behind o (expr Expression i f) n s e P → AtExpression o i f n s e P
+  pub at_expression : {o : ℕ} {i : Bool} {f : Start} {n : Tree} {s e : S} {P : List Pair} → Spells ways S Next behind o (expr Expression i f) n s e P → AtExpression o i f n s e P
   unfolding spellings
   at_expression (grouped p d q) = single (grouped p d q)
   at_expression {o} {i} {f} {n = node k w g st en ps} {s = s} {e = e} {P = P} (direct qs h (placed nx p) d) = let v = way_of h in of v (stood (made k v.listed))
@@ -93,44 +95,3 @@ module _ (S : Type 0) (Next : S → Token → S → Type 0) (behind : S → Toke
       let fit = and_parts _ _ v.fit in
       direct (settled (expr Expression i f) v.spelling) (way_from (expr Expression i f) (node k w g st en ps) v.spelling v.lean v.listed (and_from _ _ (and_from _ _ (takes_all v.spelling.rank) (and_parts _ _ fit.0).1) fit.1)) (placed nx p)
       (retell S Next behind (v.is ∙ tight_pieces Assignment Expression i f refl v.spelling.pieces) d)
-
-  -- what can't go on at Expression can't at Assignment
-  single_stops : (i : Bool) (n : Tree) {e : S} → Stops S Next behind Expression i n e → Stops S Next behind Assignment i n e
-  single_stops i n {e} st t m r = stops_assignment i (edge_as_written (edge n) (behind e)) t (rank_made_by (operation t) t.after_break) (st t m r)
-
-  -- the first part of a sequence is followed by a comma
-  record CommaBehind (o : ℕ) (i : Bool) (f : Start) (rest : Parts) (k e : S) (R : List Pair) : Type 0 where
-    sign : Token
-    x : S
-    reads : Reads S Next behind Punctuator (codes ",") k sign x
-    runs : Runs ways S Next behind o (later_parts i rest) rest x e R
-
-  comma_behind : {o : ℕ} (i : Bool) (f : Start) (rest : Parts) {k e : S} {R : List Pair} → is_none rest ≡ false → Runs ways S Next behind o (comma_pieces i f rest) rest k e R → CommaBehind o i f rest k e R
-  comma_behind i f none some d = cc
-  comma_behind i f (gap ps) some d = absurd (run_never S Next behind d)
-  comma_behind i f (part n ps) some d = let u = run_token S Next behind (retell S Next behind (comma_any i f (part n ps)) d) in record { sign = u.sign; x = u.mid; reads = u.reads; runs = run_laid S Next behind u.runs }
-
-  before_comma : (i : Bool) {k x : S} {t : Token} (n : Tree) → Reads S Next behind Punctuator (codes ",") k t x → Stops S Next behind Assignment i n k
-  before_comma i n h = stops_before S Next behind det Assignment i n h refl refl (λ c u. refl)
-
-  read_comma : {k x : S} {t : Token} → Reads S Next behind Punctuator (codes ",") k t x → ReadBy S Next behind Div k t x × (operation t ≡ op_comma)
-  read_comma {t = t} h =
-      let al : IsTrue (allows Div t.class t.text) = subst (λ v. IsTrue (allows Div v t.text)) (sym h.class) (subst (λ v. IsTrue (allows Div Punctuator v)) (sym h.text) refl) in
-      (record { next = h.next; allowed = al }, makes t h.class h.text refl)
-
-  module _ {i : Bool} {f : Start} {s : S} where
-    -- the first is found
-    module _ {o : ℕ} {k : S} {m : Tree} {Q : List Pair} (found : Found S Next behind o Assignment i f s k m Q) where
-      -- a comma follows
-      module _ {x : S} {t : Token} (comma : Reads S Next behind Punctuator (codes ",") k t x) where
-        -- what is spelled here is a sequence, with what stands behind that comma
-        record Sequenced (o' : ℕ) (n : Tree) (e : S) (P : List Pair) : Type 0 where
-          st : ℕ
-          en : ℕ
-          rest : Parts
-          pairs : List Pair
-          tree : n ≡ node SequenceExpression [] plain st en (part m rest)
-          places : Placed S Next behind (expr Expression i f) (node SequenceExpression [] plain st en (part m rest)) s e
-          runs : Runs ways S Next behind o' (later_parts i rest) rest x e pairs
-          stopped : LaterStop S Next behind i rest e
-          all : P ≡ Q ++ pairs

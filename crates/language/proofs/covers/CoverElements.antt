@@ -21,7 +21,10 @@ use Rattle.language.specs.Expressions.{assignment, selector, after_number}
 use Rattle.language.specs.Promises.{IsDetermined}
 use Rattle.language.specs.Grammar.{ways, spellings}
 use Rattle.language.specs.Derivation.{Among, first, Reads, Spells, direct, grouped, Runs, step, done, within, token, laid, Placed, placed}
-use Rattle.language.specs.NodeForms.{Made, identifier, super_member, member}
+use Rattle.language.specs.Chosen as chosen
+use Rattle.language.specs.Chosen.{Chosen}
+use Rattle.language.specs.Forms.{Production, form, spelling_of}
+use Rattle.language.proofs.table.NodeForms.{identifier, super_member, member}
 use Rattle.language.proofs.lower_bound.Domination.{settled}
 use Rattle.language.proofs.table.ViewIsComplete.{way_of, one}
 use Rattle.language.proofs.table.Productions.{spell, way_from}
@@ -83,28 +86,32 @@ fixed_laid one_laid = one_more refl all_done
 
 module _ (S : Type 0) (Next : S → Token → S → Type 0) (behind : S → Token) (det : IsDetermined S Next behind) where
   -- a name or a member stands at a symbol for left sides as at that of an assignment
-  member_moves : {o : ℕ} {w : List ℕ} {g : Flags} {st en : ℕ} {ps : Parts} {s e : S} {P : List Pair} {x : Spelling} {i i' : Bool} (y y' : Rank) → IsTrue (takes y' Member) → is_tight y ≡ is_tight y' → Made MemberExpression w g (bare_parts ps) x →
-      is_lean (bare (node MemberExpression w g st en ps)) ≡ true → Placed S Next behind (expr y i Any) (node MemberExpression w g st en ps) s e → Runs ways S Next behind o (settled (expr y i Any) x) ps s e P →
+  member_moves : {o : ℕ} {w : List ℕ} {g : Flags} {st en : ℕ} {ps : Parts} {s e : S} {P : List Pair} {p : Production} {i i' : Bool} (y y' : Rank) → IsTrue (takes y' Member) → is_tight y ≡ is_tight y' → Chosen w g (bare_parts ps) (expr Expression true Any) MemberExpression p →
+      is_lean (bare (node MemberExpression w g st en ps)) ≡ true → Placed S Next behind (expr y i Any) (node MemberExpression w g st en ps) s e → Runs ways S Next behind o (settled (expr y i Any) (spelling_of (form p) w g (bare_parts ps))) ps s e P →
       Spells ways S Next behind o (expr y' i' Any) (node MemberExpression w g st en ps) s e P
-  member_moves {g = g} {i = i} {i' = i'} y y' tk tight (super_member op s) lean pl d =
+  member_moves {g = g} {i = i} {i' = i'} y y' tk tight (chosen.super_member op s) lean pl d =
       spell S Next behind (at Member (Rattle.language.specs.Pieces.put Rattle.language.specs.Pieces.base ∷ selector g)) (super_member op s) lean tk refl refl (replaced S Next behind det pl)
       (retell S Next behind (same_pieces y y' i i' Any Any (one_more {p = Rattle.language.specs.Pieces.put Rattle.language.specs.Pieces.base} refl (fixed_selector g))) d)
-  member_moves {g = g} {ps = ps} {i = i} {i' = i'} y y' tk tight (member op s) lean pl d =
+  member_moves {g = g} {ps = ps} {i = i} {i' = i'} y y' tk tight (chosen.member_access op s) lean pl d =
       spell S Next behind (at Member (sub callee ∷ after_number (bare_parts ps) g ++ selector g)) (member op s) lean tk refl refl (replaced S Next behind det pl)
       (retell S Next behind (λ k. sub (expr (cond (tight k) Member Rattle.language.specs.declared.Rank.TheVariants.Call) true Any) ∷ same_pieces y y' i i' Any Any (fixed_join (fixed_laid (number_laid (bare_parts ps) g)) (fixed_selector g)) k) d)
+  member_moves y y' tk tight (chosen.of_statement s c) lean pl d = elim s [ ]
+  member_moves y y' tk tight (chosen.of_declaration s c) lean pl d = elim s [ ]
 
-  identifier_moves : {o : ℕ} {w : List ℕ} {g : Flags} {st en : ℕ} {ps : Parts} {s e : S} {P : List Pair} {x : Spelling} {i i' : Bool} (y y' : Rank) → IsTrue (takes y' Primary) → Made Identifier w g (bare_parts ps) x →
-      is_lean (bare (node Identifier w g st en ps)) ≡ true → Placed S Next behind (expr y i Any) (node Identifier w g st en ps) s e → Runs ways S Next behind o (settled (expr y i Any) x) ps s e P →
+  identifier_moves : {o : ℕ} {w : List ℕ} {g : Flags} {st en : ℕ} {ps : Parts} {s e : S} {P : List Pair} {p : Production} {i i' : Bool} (y y' : Rank) → IsTrue (takes y' Primary) → Chosen w g (bare_parts ps) (expr Expression true Any) Identifier p →
+      is_lean (bare (node Identifier w g st en ps)) ≡ true → Placed S Next behind (expr y i Any) (node Identifier w g st en ps) s e → Runs ways S Next behind o (settled (expr y i Any) (spelling_of (form p) w g (bare_parts ps))) ps s e P →
       Spells ways S Next behind o (expr y' i' Any) (node Identifier w g st en ps) s e P
-  identifier_moves {w = w} y y' tk (identifier h) lean pl d = spell S Next behind (at Primary (tok IdentifierName w ∷ [])) (identifier h) lean tk refl refl (replaced S Next behind det pl) d
+  identifier_moves {w = w} y y' tk (chosen.identifier h) lean pl d = spell S Next behind (at Primary (tok IdentifierName w ∷ [])) (identifier h) lean tk refl refl (replaced S Next behind det pl) d
+  identifier_moves y y' tk (chosen.of_statement s c) lean pl d = elim s [ ]
+  identifier_moves y y' tk (chosen.of_declaration s c) lean pl d = elim s [ ]
 
   pub target_moves : {o : ℕ} {n : Tree} {s e : S} {P : List Pair} {i i' : Bool} (y y' : Rank) → IsTrue (takes y' Primary) → IsTrue (takes y' Member) → is_tight y ≡ is_tight y' → is_target (kind_of n) ≡ true →
       Spells ways S Next behind o (expr y i Any) n s e P → Spells ways S Next behind o (expr y' i' Any) n s e P
   target_moves y y' tk tm tight h (grouped p d q) = grouped p d q
-  target_moves {n = node Identifier w g st en ps} y y' tk tm tight h (direct qs way pl d) =
-      let v = view_of st en way in identifier_moves y y' tk v.made (way_of way).lean pl (retell S Next behind v.is d)
-  target_moves {n = node MemberExpression w g st en ps} y y' tk tm tight h (direct qs way pl d) =
-      let v = view_of st en way in member_moves y y' tm tight v.made (way_of way).lean pl (retell S Next behind v.is d)
+  target_moves {n = node Identifier w g st en ps} {i = i} y y' tk tm tight h (direct qs way pl d) =
+      let v = view_of st en way in identifier_moves y y' tk v.made.chosen (way_of way).lean pl (retell S Next behind (v.is ∙ ap (settled (expr y i Any)) v.made.is) d)
+  target_moves {n = node MemberExpression w g st en ps} {i = i} y y' tk tm tight h (direct qs way pl d) =
+      let v = view_of st en way in member_moves y y' tm tight v.made.chosen (way_of way).lean pl (retell S Next behind (v.is ∙ ap (settled (expr y i Any)) v.made.is) d)
   target_moves {n = node _ w g st en ps} y y' tk tm tight h (direct qs way pl d) = absurd (false≢true h)
 
   -- a name, where names are bound; else a simple target

@@ -6,7 +6,7 @@ use Rattle.tokens.specs.declared.token.TokenClass.TheVariants.{Punctuator}
 use Rattle.tree.specs.declared.kind.Kind.{Kind}
 use Rattle.tree.specs.declared.kind.Kind.TheVariants.{AssignmentExpression, AssignmentPattern}
 use Rattle.tree.specs.declared.kind.Pair.{Pair}
-use Rattle.tree.specs.Tree.{Tree, node, Parts, none, part, kind_of, parts_of, height, plain}
+use Rattle.tree.specs.Tree.{Tree, node, Parts, none, part, kind_of, parts_of, plain}
 use Rattle.language.specs.declared.Rank.{Rank}
 use Rattle.language.specs.declared.Rank.TheVariants.{Expression, Assignment, LeftHandSide}
 use Rattle.language.specs.declared.Start.TheVariants.{Any}
@@ -14,8 +14,8 @@ use Rattle.language.specs.FirstPart.{lead}
 use Rattle.language.specs.Vocabulary.{takes, is_target}
 use Rattle.language.specs.Pieces.{Role, expr, name, pattern, element, with_default, bound}
 use Rattle.language.specs.Token.{Token}
-use Rattle.language.specs.Covers.{is_default, FoundItem, AbsentItemWithin}
-use Rattle.language.specs.Promises.{IsDetermined, Stops, Found, AbsentWithin, FoundAt, AbsentAt}
+use Rattle.language.specs.Covers.{is_default, FoundItem}
+use Rattle.language.specs.Promises.{IsDetermined, Stops, Found, FoundAt, AbsentAt}
 use Rattle.language.specs.Grammar.{ways}
 use Rattle.language.specs.Derivation.{Reads, Spells, Placed, placed}
 use Rattle.language.proofs.climbing.BinaryTurns.{same_node}
@@ -153,17 +153,3 @@ module _ (S : Type 0) (Next : S → Token → S → Type 0) (behind : S → Toke
             let where_is = span w.next w.starts w.stops same.0 places in
             (same.0, w.tree ∙ same_node refl refl refl where_is.0 where_is.1 (λ k. part (before.1 k) (part (same.1 k) none)), w.pairs ∙ (λ k. before.2 k ++ same.2 k))
         of (simple_default w) ends = absurd (unlike_default other w ends)
-
-  -- Within the limits: no expression, and no pattern alone or before `=` and what was read behind it.
-  pub element_deep : {b : Bool} {o h : ℕ} {s : S} → AbsentWithin S Next behind o h Assignment true Any s → ((e' : S) (n' : Tree) (P' : List Pair) → Spells ways S Next behind o (pattern b Any) n' s e' P' → Ends e' → height n' ≤ h → ⊥) →
-      ((e' : S) (n' : Tree) (P' : List Pair) → Defaulted S Next behind det (λ o' l s' e' P'. Spells ways S Next behind o' (pattern b Any) l s' e' P') o n' s e' P' → Ends e' → height n' ≤ h → ⊥) → AbsentItemWithin S Next behind Ends (with_default b) o h s
-  element_deep {b} {o} {h} {s} missed alone defaulted = record { nothing = λ a e' n' P' i d ends low. of (element_form S Next behind det b n' i d) ends low }
-    where
-      of : {e' : S} {n' : Tree} {P' : List Pair} → ElementForm S Next behind det b o n' s e' P' → Ends e' → height n' ≤ h → ⊥
-      of {e'} {n'} {P'} (bare_pattern d) ends low = alone e' n' P' d ends low
-      of {e'} {n'} {P'} (bare_simple w) ends low = missed.nothing e' n' P' (simple_expression S Next behind det b w) (stops Assignment n' e' refl ends) low
-      of {e'} {n'} {P'} (pattern_default w) ends low = defaulted e' n' P' w ends low
-      of {e'} {n'} {P'} (simple_default w) ends low =
-          let m = node AssignmentExpression (codes "=") plain w.st w.en (part w.left (part w.right none)) in
-          let high : height n' ≡ height m = ap height w.tree in
-          missed.nothing e' m P' (default_expression S Next behind det b w) (stops Assignment m e' refl ends) (subst (λ c. c ≤ h) high low)

@@ -12,7 +12,7 @@ use Rattle.language.specs.declared.Start.TheVariants.{Any}
 use Rattle.language.specs.Vocabulary.{takes, is_spread, is_rest}
 use Rattle.language.specs.Pieces.{Role, expr, rest, spread, bound, with_default}
 use Rattle.language.specs.Token.{Token}
-use Rattle.language.specs.Covers.{FoundItem, AbsentItem, element_as, as_expression, as_pattern}
+use Rattle.language.specs.Covers.{FoundItem, element_as, as_expression, as_pattern}
 use Rattle.language.specs.Promises.{IsDetermined, Stops, Found}
 use Rattle.language.specs.Grammar.{ways}
 use Rattle.language.specs.Derivation.{Reads, Spells}
@@ -28,10 +28,6 @@ some_same e = cc
 plainly : (b : Bool) (c : Bool) (k : Kind) {a : Role} → c ≡ false → cond c (Some (rest b false)) (with_default b k) ≡ Some a → with_default b k ≡ Some a
 plainly b true k f h = cc
 plainly b false k f h = h
-
-rested : (k : Kind) → is_rest k ≡ true → k ≡ RestElement
-rested RestElement h = refl
-rested _ h = cc
 
 module _ (S : Type 0) (Next : S → Token → S → Type 0) (behind : S → Token) (det : IsDetermined S Next behind) (Ends : S → Type 0)
     (stops : (y : Rank) (n : Tree) (e : S) → takes y Expression ≡ false → Ends e → Stops S Next behind y true n e) where
@@ -77,9 +73,6 @@ module _ (S : Type 0) (Next : S → Token → S → Type 0) (behind : S → Toke
       spelled = found.spelled;
       only = λ o' a e' n' P' h d ends. found.only o' a e' n' P' (plainly b (is_rest (kind_of n')) (kind_of n') (no_rest b n' h d) h) d ends;
     }
-
-    pub element_missing : {b : Bool} → AbsentItem S Next behind Ends (with_default b) s → AbsentItem S Next behind Ends (element_as (as_pattern b)) s
-    element_missing {b} missed = record { nothing = λ o' a e' n' P' h d ends. missed.nothing o' a e' n' P' (plainly b (is_rest (kind_of n')) (kind_of n') (no_rest b n' h d) h) d ends }
 
   -- where `...` is read, and behind it at x
   module _ {s x : S} {t : Token} (dots : Reads S Next behind Punctuator (codes "...") s t x) where

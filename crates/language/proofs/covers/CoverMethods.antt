@@ -1,5 +1,5 @@
 -- A method, getter or setter of an object: an expression's property, found by its key and its function, and no pattern's (ECMA-262 12.2.6, 14.3).
-use Rattle.std.proofs.Common.{◌≡◌, ℕ, ◌-◌, Bool, true, false, List, [], ◌∷◌, ◌++◌, refl, sym, ap, ◌∙◌, subst, arith}
+use Rattle.std.proofs.Common.{◌≡◌, ℕ, ◌-◌, Bool, true, false, List, [], ◌∷◌, ◌++◌, refl, sym, ap, ◌∙◌, subst}
 use Rattle.std.specs.Prelude.{codes, not, ◌||◌}
 use Rattle.std.proofs.lemmas.Bool.{false≢true}
 use Rattle.tokens.specs.declared.token.TokenClass.TheVariants.{IdentifierName, Punctuator}
@@ -8,7 +8,7 @@ use Rattle.tree.specs.declared.kind.Kind.TheVariants.{Identifier, Property}
 use Rattle.tree.specs.declared.kind.Form.{Form}
 use Rattle.tree.specs.declared.kind.Form.TheVariants.{Get, Set, Method}
 use Rattle.tree.specs.declared.kind.Pair.{Pair}
-use Rattle.tree.specs.Tree.{Tree, node, Parts, none, part, height, bare, plain}
+use Rattle.tree.specs.Tree.{Tree, node, Parts, none, part, bare, plain}
 use Rattle.tree.specs.Uses.{is_lean, is_init}
 use Rattle.language.specs.declared.Rank.{Rank}
 use Rattle.language.specs.declared.Rank.TheVariants.{Expression, Primary}
@@ -16,8 +16,8 @@ use Rattle.language.specs.Vocabulary.{is, takes}
 use Rattle.language.specs.Pieces.{property, method, Spelling, tok, sp, at, put}
 use Rattle.language.specs.Token.{Token}
 use Rattle.language.specs.Expressions.{properties}
-use Rattle.language.specs.Covers.{as_expression, as_pattern, property_as, FoundItem, NoCover, NoCoverWithin}
-use Rattle.language.specs.Promises.{is_free, IsDetermined, Stops, FoundAt, AbsentAt, AbsentAtWithin}
+use Rattle.language.specs.Covers.{as_expression, property_as, FoundItem}
+use Rattle.language.specs.Promises.{is_free, IsDetermined, Stops, FoundAt}
 use Rattle.language.specs.Grammar.{ways, spellings, can_run}
 use Rattle.language.specs.Derivation.{Among, first, Reads, Spells, direct, step, token, laid, Placed, placed}
 use Rattle.language.proofs.lower_bound.Domination.{settled}
@@ -28,7 +28,6 @@ use Rattle.language.proofs.table.PropertyNameWays.{is_accessor, name_key_found}
 use Rattle.language.proofs.covers.CoverProperties.{flags_as, key_pieces, accessor_word, key_runs, method_begins, Called, PropertyAt, by_value, by_name, by_method, by_accessor}
 use Rattle.language.proofs.covers.CoverKeys.{KeyFound, key_at_sign, plain_key_found}
 use Rattle.language.proofs.covers.CoverObjects.{Mark, form_as, short_ends, colon_is, accessor_is, mark_is}
-use Rattle.language.proofs.covers.CoverDefinitions.{method_no_pattern, accessor_no_pattern}
 
 call_colon : codes "(" ≡ codes ":" → ⊥
 call_colon e = false≢true (sym (ap (λ w. is w "(") e))
@@ -109,21 +108,6 @@ module _ (S : Type 0) (Next : S → Token → S → Type 0) (behind : S → Toke
           (same.0, u.tree ∙ same_node refl refl (ap (λ z. flags_as z Method) key.0) where_is.0 where_is.1 (λ i. part (key.2 i) (part (same.1 i) none)), u.pairs ∙ (λ i. key.3 i ++ same.2 i));
     }
 
-    module _ {v : Token} {x : S} (call : Reads S Next behind Punctuator (codes "(") k v x) where
-      -- without a function there: nothing
-      pub no_method : AbsentAt S Next behind (method Method) k → NoCover S Next behind Ends property_as s
-      no_method missed as_expression = record { nothing = λ o' r e' n' P' h d ends. (let u = method_by call (form_as S Next behind det no_dots as_expression n' h d) ends in missed.nothing o' e' u.function u.more (its_function u)) }
-      no_method missed (as_pattern b) = method_no_pattern S Next behind det Ends stops marks no_dots found b call
-
-      pub no_method_within : {o' h : ℕ} → AbsentAtWithin S Next behind o' (h - 1) (method Method) k → NoCoverWithin S Next behind Ends property_as o' h s
-      no_method_within {o'} {h} missed as_expression = record {
-        nothing = λ r e' n' P' i d ends low.
-            let u = method_by call (form_as S Next behind det no_dots as_expression n' i d) ends in
-            let high : height n' ≡ height (node Property [] (flags_as u.computed Method) u.st u.en (part u.name (part u.function none))) = ap height u.tree in
-            missed.nothing e' u.function u.more (its_function u) (omega arith);
-      }
-      no_method_within {o'} missed (as_pattern b) = record { nothing = λ r e' n' P' i d ends low. (method_no_pattern S Next behind det Ends stops marks no_dots found b call).nothing o' r e' n' P' i d ends }
-
   -- behind `get` or `set` another key
   module _ (f : Form) (accesses : is_accessor f ≡ true) {z : S} {t : Token} (word : Reads S Next behind IdentifierName (accessor_word f) s t z) {c : Bool} {o : ℕ} {k : S} {nk : Tree} {PK : List Pair} (found : KeyFound S Next behind det c o z k nk PK) where
     -- the word is a key too, the only one there
@@ -167,12 +151,3 @@ module _ (S : Type 0) (Next : S → Token → S → Type 0) (behind : S → Toke
           let where_is = span u.next u.starts u.stops same.0 places in
           (same.0, u.tree ∙ same_node refl refl (ap (λ y. flags_as y f) key.0) where_is.0 where_is.1 (λ i. part (key.2 i) (part (same.1 i) none)), u.pairs ∙ (λ i. key.3 i ++ same.2 i));
     }
-
-    pub no_accessor_within : {o' h : ℕ} → AbsentAtWithin S Next behind o' (h - 1) (method f) k → NoCoverWithin S Next behind Ends property_as o' h s
-    no_accessor_within {o'} {h} missed as_expression = record {
-      nothing = λ r e' n' P' i d ends low.
-          let u = accessor_by (form_as S Next behind det no_dots as_expression n' i d) ends in
-          let high : height n' ≡ height (node Property [] (flags_as u.computed f) u.st u.en (part u.name (part u.function none))) = ap height u.tree in
-          missed.nothing e' u.function u.more (accessor_function u) (omega arith);
-    }
-    no_accessor_within {o'} missed (as_pattern b) = record { nothing = λ r e' n' P' i d ends low. (accessor_no_pattern S Next behind det Ends stops marks no_dots word_found b found.spelled).nothing o' r e' n' P' i d ends }

@@ -17,7 +17,7 @@ use Rattle.language.specs.Vocabulary.{is, is_reserved}
 use Rattle.language.specs.Pieces.{Role, expr, name, element, property, pattern_property, Spelling, sign, sp, put, put_at, at, only, with_default}
 use Rattle.language.specs.Token.{Token}
 use Rattle.language.specs.Expressions.{assignment, keyed, properties, pattern_properties}
-use Rattle.language.specs.Covers.{Reading, as_expression, as_pattern, property_as, FoundItem, AbsentItem}
+use Rattle.language.specs.Covers.{Reading, as_expression, as_pattern, property_as, FoundItem}
 use Rattle.language.specs.Promises.{is_free, IsDetermined}
 use Rattle.language.specs.Grammar.{ways, spellings}
 use Rattle.language.specs.Derivation.{Among, first, Reads, Spells, direct, Runs, step, within, token, laid, Placed, placed}
@@ -44,9 +44,6 @@ colon_bracket e = false≢true (sym (ap (λ w. is w ":") e))
 
 colon_equals : codes ":" ≡ codes "=" → ⊥
 colon_equals e = false≢true (sym (ap (λ w. is w ":") e))
-
-equals_bracket : codes "=" ≡ codes "[" → ⊥
-equals_bracket e = false≢true (sym (ap (λ w. is w "=") e))
 
 some_same : {a b : Role} → Some a ≡ Some b → a ≡ b
 some_same e = cc
@@ -211,9 +208,6 @@ module _ (S : Type 0) (Next : S → Token → S → Type 0) (behind : S → Toke
               let where_is = span u.next u.starts u.stops same.0 (role_spans a) refl refl places in
               (same.0, u.tree ∙ same_node refl refl (ap (λ z. flags_as z Init) key.0) where_is.0 where_is.1 (λ i. part (key.2 i) (part (same.1 i) none)), u.pairs ∙ (λ i. key.3 i ++ same.2 i));
         }
-
-        pub pair_absent : (a : Reading) → AbsentItem S Next behind Ends (value_as a) x → AbsentItem S Next behind Ends (property_as a) s
-        pair_absent a missed = record { nothing = λ o' r e' n' P' h d ends. (let u = valued_by colon refl refl a refl (form_as a n' h d) ends in missed.nothing o' u.role e' u.value u.more u.it_is (same_value a u) ends) }
 
     -- a name that is key and value, with a default or without
     module _ (Ends : S → Type 0) (marks : (e : S) → Ends e → Mark e) {ok : ℕ} {k : S} {w : List ℕ} {t : Token} (word : Reads S Next behind IdentifierName w s t k) (free : is_reserved w ≡ false)

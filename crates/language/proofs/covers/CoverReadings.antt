@@ -1,5 +1,5 @@
 -- The one fact about a cover, from what was read: each of its readings is found or absent, by its shape (ECMA-262 12.2.10, 12.15.5, 14.2.1).
-use Rattle.std.proofs.Common.{◌≡◌, ℕ, Bool, true, false, cond, List, refl, sym, ap, ◌∙◌, subst}
+use Rattle.std.proofs.Common.{◌≡◌, ℕ, Bool, true, false, List, refl, sym, ap, ◌∙◌, subst}
 use Rattle.std.specs.Prelude.{IsTrue, Option, Some, None, codes}
 use Rattle.tokens.specs.declared.token.TokenClass.TheVariants.{IdentifierName, Punctuator}
 use Rattle.tokens.specs.declared.token.Goal.TheVariants.{Div}
@@ -12,8 +12,8 @@ use Rattle.language.specs.declared.Rank.TheVariants.{Assignment}
 use Rattle.language.specs.declared.Start.TheVariants.{Any}
 use Rattle.language.specs.Pieces.{name, pattern}
 use Rattle.language.specs.Token.{Token}
-use Rattle.language.specs.Covers.{with_parts, pattern_of}
-use Rattle.language.specs.Promises.{is_free, IsDetermined, Found, Absent, FoundAt, AbsentAt}
+use Rattle.language.specs.Covers.{with_parts}
+use Rattle.language.specs.Promises.{is_free, IsDetermined, Found, Absent, AbsentAt}
 use Rattle.language.specs.Derivation.{Reads}
 use Rattle.language.proofs.climbing.Leaves.{name_form}
 use Rattle.language.proofs.covers.PatternsByToken.{no_pattern}
@@ -26,14 +26,6 @@ some_trees e = cc
 kept : (k : Kind) (w : List ℕ) (g : Flags) (st en : ℕ) {m : Tree} (x : Option Parts) → has_default k ≡ false → with_parts k w g st en x ≡ Some m → has_default (kind_of m) ≡ false
 kept k w g st en None f h = cc
 kept k w g st en (Some qs) f h = ap (λ c. has_default (kind_of c)) (sym (some_trees h)) ∙ f
-
-unless_so : {x : Option Tree} {m : Tree} (b : Bool) → cond b x None ≡ Some m → x ≡ Some m
-unless_so true h = h
-unless_so false h = cc
-
-unless_not : {x : Option Tree} {m : Tree} (b : Bool) → cond b None x ≡ Some m → x ≡ Some m
-unless_not true h = cc
-unless_not false h = h
 
 module _ (S : Type 0) (Next : S → Token → S → Type 0) (behind : S → Token) (det : IsDetermined S Next behind) where
   -- a name and a sign aren't read at one place
@@ -69,7 +61,3 @@ module _ (S : Type 0) (Next : S → Token → S → Type 0) (behind : S → Toke
   pub data ReadAs (o : ℕ) (s e : S) (n : Tree) (P : List Pair) : Bool → Type 0 where
     read : Found S Next behind o Assignment true Any s e n P → ReadAs o s e n P true
     not_read : Absent S Next behind Assignment true Any s → ReadAs o s e n P false
-
-  pub data PatternAs (b : Bool) (o : ℕ) (s e : S) (n : Tree) (P : List Pair) : Bool → Type 0 where
-    a_bare : {m : Tree} → pattern_of n ≡ Some m → FoundAt S Next behind o (pattern b Any) s e m P → PatternAs b o s e n P true
-    none_there : AbsentAt S Next behind (pattern b Any) s → PatternAs b o s e n P false

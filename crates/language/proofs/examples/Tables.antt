@@ -1,8 +1,9 @@
 -- Words to write examples of cost tables with, and a judgement of tables that computes.
 use Rattle.std.specs.Prelude.{ℕ, suc, ◌-◌, Bool, true, false, not, cond, ◌&&◌, List, [], ◌∷◌, ◌++◌, nat_eq, nat_le, map, filter, codes, Option, Some, None}
+use Rattle.std.specs.Str.{bytes_eq}
 use Prim.Native.String.{String}
 use Rattle.tree.specs.declared.kind.Kind.{Kind}
-use Rattle.tree.specs.declared.kind.Kind.TheVariants.{SequenceExpression, AssignmentExpression, ArrowFunctionExpression, ConditionalExpression, LogicalExpression, BinaryExpression, UnaryExpression, UpdateExpression, ChainExpression, CallExpression, ImportExpression, MemberExpression, TaggedTemplateExpression, NewExpression, MetaProperty, Identifier, Literal, ThisExpression, ArrayExpression, ObjectExpression, FunctionExpression, ClassExpression, TemplateLiteral}
+use Rattle.tree.specs.Kinds.{type_name}
 use Rattle.tree.specs.Tree.{Tree, kind_of}
 use Rattle.language.specs.Pieces.{Role, script}
 use Rattle.language.specs.Cost.{cells}
@@ -34,33 +35,6 @@ own_row n = (kind_of n, cells n)
 abbrev pub own_rows : Tree → List (Kind × List (Option ℕ))
 own_rows n = map own_row (row_nodes n script)
 
--- the kinds that can have a row, by number
-abbrev pub row_kind : Kind → ℕ
-row_kind SequenceExpression = 1
-row_kind AssignmentExpression = 2
-row_kind ArrowFunctionExpression = 3
-row_kind ConditionalExpression = 4
-row_kind LogicalExpression = 5
-row_kind BinaryExpression = 6
-row_kind UnaryExpression = 7
-row_kind UpdateExpression = 8
-row_kind ChainExpression = 9
-row_kind CallExpression = 10
-row_kind ImportExpression = 11
-row_kind MemberExpression = 12
-row_kind TaggedTemplateExpression = 13
-row_kind NewExpression = 14
-row_kind MetaProperty = 15
-row_kind Identifier = 16
-row_kind Literal = 17
-row_kind ThisExpression = 18
-row_kind ArrayExpression = 19
-row_kind ObjectExpression = 20
-row_kind FunctionExpression = 21
-row_kind ClassExpression = 22
-row_kind TemplateLiteral = 23
-row_kind _ = 0
-
 -- A table passes; or this row, the first, is missing, left over or of another kind; or all are there, and this is the first
 -- with no number where there is a bound, or a number above it, in that order within a row; or the total is above its bound.
 pub data Judgement : Type 0 where
@@ -75,7 +49,7 @@ abbrev pub shape_judged : List (Kind × List (Option ℕ)) → List Tree → ℕ
 shape_judged [] [] r = passes
 shape_judged [] (n ∷ ns) r = misshapen r
 shape_judged (x ∷ xs) [] r = misshapen r
-shape_judged (x ∷ xs) (n ∷ ns) r = cond (nat_eq (row_kind x.0) (row_kind (kind_of n))) (shape_judged xs ns (suc r)) (misshapen r)
+shape_judged (x ∷ xs) (n ∷ ns) r = cond (bytes_eq (type_name x.0) (type_name (kind_of n))) (shape_judged xs ns (suc r)) (misshapen r)
 
 -- a number, or none, beside its bound
 abbrev pub is_given : Option ℕ → Option ℕ → Bool

@@ -2,7 +2,6 @@
 use Rattle.std.proofs.Common.{◌≡◌, ℕ, ◌+◌, ◌≤◌, Bool, true, false, not, ◌||◌, List, [], ◌∷◌, ◌++◌, length, drop, refl, sym, ap, ◌∙◌, subst, arith, IsTrue, append_assoc, append-nil, length-append, length-drop}
 use Rattle.std.specs.List.{list_any, list_all}
 use Rattle.std.specs.Str.{chars, IsUtf8}
-use Rattle.std.proofs.lemmas.Slice.Eq.{bytes_eq-Decides}
 use Rattle.std.proofs.lemmas.Str.{chars-append, chars-nil, encodes-chars, IsUtf8-nil, IsUtf8-append}
 use Rattle.std.proofs.lemmas.List.{drop_at, drop-drop}
 use Rattle.std.proofs.lemmas.Bool.{and_parts, and_from, false≢true}
@@ -20,7 +19,7 @@ use Rattle.language.specs.Token.{Token, as_read, table_text}
 use Rattle.language.specs.Derivation.{Reads}
 use Rattle.language.specs.Cursor.{beginning}
 use Rattle.language.specs.Places.{NextIn, next_in, itself}
-use Rattle.language.specs.Readable.{is_blank, breaks, on_this_line, joins_none, may_precede, is_name_next}
+use Rattle.language.specs.Readable.{is_blank, breaks, on_this_line, joins_none, may_precede}
 use Rattle.language.specs.Printed.{Item, word, blank, name_ahead, joined, items_text, Follows, over, reads, passes, sees, stays, GoesOn}
 
 -- a word of a class in front of a rest, with which it makes no longer token
@@ -223,11 +222,3 @@ text_is_read is r =
     record { last = x.place; follows = x.follows; goes_on = record { token = y.token; place = y.token; next = z.next } }
 
 -- What the test says
-
-name_next : (w : List ℕ) (is : List Item) → is_name_next w is ≡ true → Readable is → Readable (name_ahead w ∷ is)
-name_next w (word IdentifierName v ∷ is) h r = subst (λ x. Readable (name_ahead x ∷ word IdentifierName v ∷ is)) ((bytes_eq-Decides v w).0 h) (a_name r)
-name_next w [] h r = absurd (false≢true h)
-name_next w (word _ v ∷ is) h r = absurd (false≢true h)
-name_next w (blank v ∷ is) h r = absurd (false≢true h)
-name_next w (name_ahead v ∷ is) h r = absurd (false≢true h)
-name_next w (joined ∷ is) h r = absurd (false≢true h)

@@ -13,8 +13,7 @@ use Rattle.language.specs.Vocabulary.{is}
 use Rattle.language.specs.Pieces.{Role, member, Piece, PieceOf, many, lay, line, shallower, sub, sign, never}
 use Rattle.language.specs.Statements.{member_lines}
 use Rattle.language.specs.Token.{Token}
-use Rattle.language.specs.Promises.{IsDetermined, FoundAt, AbsentAt}
-use Rattle.language.specs.Following.{AbsentPartsWhere}
+use Rattle.language.specs.Promises.{IsDetermined, FoundAt}
 use Rattle.language.specs.Grammar.{ways}
 use Rattle.language.specs.Derivation.{Reads, Spells, Runs, step, within, Step, one_more, no_more, laid}
 use Rattle.language.proofs.table.Begins.{goes_to, retell}
@@ -170,13 +169,3 @@ module _ (S : Type 0) (Next : S → Token → S → Type 0) (behind : S → Toke
         back none d = step no_more d
         back (gap ps) d = absurd (run_never S Next behind d)
         back (part n ps) d = absurd (run_never S Next behind d)
-
-  -- neither a member, nor a `;`, nor the closing brace
-  module _ {Fine : Parts → S → Type 0} {mid : S} (no_semicolon : (t : Token) (k : S) → Reads S Next behind Punctuator (codes ";") mid t k → ⊥) (no_brace : (t : Token) (k : S) → Reads S Next behind Punctuator (codes "}") mid t k → ⊥) where
-    pub member_missing : AbsentAt S Next behind member mid → AbsentPartsWhere S Next behind Fine (plain_members closing_brace) mid
-    member_missing missed = record { nothing = λ o' e ps P d fine. of (ahead_of ps d) }
-      where
-        of : {o' : ℕ} {ps : Parts} {e : S} {P : List Pair} → Ahead o' ps mid e P → ⊥
-        of (a_semicolon {t = t} {m = m} r d) = no_semicolon t m r
-        of {o'} (a_member {n = n} {m = j} {A = B} same all p d) = missed.nothing o' j n B p
-        of (a_brace same d) = let c = run_token S Next behind d in no_brace c.sign c.mid c.reads

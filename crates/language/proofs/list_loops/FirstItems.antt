@@ -305,8 +305,3 @@ module _ (S : Type 0) (Next : S → Token → S → Type 0) (behind : S → Toke
   comma_form none d = let z = run_none S Next behind d in no_comma z.place z.pairs
   comma_form (gap ps) d = absurd (run_never S Next behind d)
   comma_form (part n ps) d = let c = run_token S Next behind d in let p = run_the_part S Next behind (run_laid S Next behind c.runs) in a_comma c.reads p.spelled p.runs p.pairs
-
-  -- and each of them runs
-  pub comma_runs : {o : ℕ} {i : Bool} {f : Start} {s e : S} {P : List Pair} {ps : Parts} → CommaForm o i f s e P ps → Runs ways S Next behind o (comma_pieces i f ps) ps s e P
-  comma_runs {o} {i} {f} {s} {e} (no_comma h z) = subst (λ v. Runs ways S Next behind o [] none s e v) (sym z) (subst (λ v. Runs ways S Next behind o [] none s v []) h done)
-  comma_runs {o} {i} {f} {s} {e} (a_comma {n = n} {ps = ps} c p d z) = subst (λ v. Runs ways S Next behind o (comma_pieces i f (part n ps)) (part n ps) s e v) (sym z) (step (token c) (step laid (within p d)))

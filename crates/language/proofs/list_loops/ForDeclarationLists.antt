@@ -9,7 +9,6 @@ use Rattle.language.specs.declared.Rank.TheVariants.{Expression, Assignment}
 use Rattle.language.specs.declared.Start.TheVariants.{Any}
 use Rattle.language.specs.declared.Edge.{Edge}
 use Rattle.language.specs.Vocabulary.{is}
-use Rattle.language.specs.Edges.{edge}
 use Rattle.language.specs.Pieces.{declarator, Piece, lay, space}
 use Rattle.language.specs.Statements.{declarators}
 use Rattle.language.specs.Token.{Token}
@@ -44,10 +43,6 @@ module _ (S : Type 0) (Next : S → Token → S → Type 0) (behind : S → Toke
 
   pub semicolon_declared : {n : Tree} {k : S} → Parted S Next behind det k → Declared S Next behind false n k
   semicolon_declared {n} u = record { stopped = λ v m r. idle_stops S Next behind det Assignment false n refl (λ x b. refl) u.reads v m r; no_value = λ v m r. semicolon_equals (two_signs S Next behind det refl refl u.reads r).0 }
-
-  -- so at the end of a list before `;`
-  pub head_ends : (o : ℕ) (n : Tree) (k e : S) (P : List Pair) → Runs ways S Next behind o (goes_to Expression true Any (no_end (edge n))) none k e P → Parted S Next behind det e → Declared S Next behind false n k
-  head_ends o n k e P d fine = semicolon_declared (subst (λ x. Parted S Next behind det x) (sym (run_none S Next behind d).place) fine)
 
   module _ {Fine : Parts → S → Type 0} {o : ℕ} {mid : S} where
     -- behind the word, before `;`

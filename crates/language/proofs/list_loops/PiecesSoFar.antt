@@ -11,7 +11,7 @@ use Rattle.tree.specs.Tree.{Tree, Parts, none, part, gap, parts_height}
 use Rattle.language.specs.Pieces.{Role, PieceOf, Hint, Ending, tok, ending, lay, sub, absent}
 use Rattle.language.specs.Token.{Token}
 use Rattle.language.specs.Promises.{IsDetermined}
-use Rattle.language.specs.Following.{FoundWhere, AbsentWhere, FoundPartsWhere, AbsentPartsWhere, AbsentPartsWhereWithin}
+use Rattle.language.specs.Following.{FoundWhere, FoundPartsWhere, AbsentPartsWhere}
 use Rattle.language.specs.Grammar.{ways}
 use Rattle.language.specs.Derivation.{Reads, Spells, Runs, done, step, opened, closed, within, missing, Step, token, laid}
 use Rattle.language.proofs.table.Begins.{retell}
@@ -66,16 +66,6 @@ module _ (S : Type 0) (Next : S → Token → S → Type 0) (behind : S → Toke
   -- where nothing runs over what is left, nothing runs over the whole
   pub refused : {Fine : Parts → S → Type 0} {o : ℕ} {all left : Parts → List (PieceOf Role)} {s mid : S} {f : Parts → Parts} {Q : List Pair} → Sofar Fine o all s left mid f Q → AbsentPartsWhere S Next behind (λ ps e. Fine (f ps) e) left mid → AbsentPartsWhere S Next behind Fine all s
   refused {Fine} a missed = record { nothing = λ o' e' ps' P' d fine. (let u = a.leads d fine in missed.nothing o' e' u.rest u.more u.runs (subst (λ w. Fine w e') u.parts fine)) }
-
-  -- the same within the limits
-  pub too_deep : {Fine : Parts → S → Type 0} {o hi : ℕ} {all left : Parts → List (PieceOf Role)} {s mid : S} {f : Parts → Parts} {Q : List Pair} → Sofar Fine o all s left mid f Q → AbsentPartsWhereWithin S Next behind (λ ps e. Fine (f ps) e) o hi left mid →
-      AbsentPartsWhereWithin S Next behind Fine o hi all s
-  too_deep {Fine} {f = f} a missed = record {
-    nothing = λ e' ps' P' d fine le. let u = a.leads d fine in
-        let low = a.higher u.rest in
-        let h = ap parts_height u.parts in
-        missed.nothing e' u.rest u.more u.runs (subst (λ w. Fine w e') u.parts fine) (omega arith);
-  }
 
   -- pieces that are told in another way
   pub retold : {Fine : Parts → S → Type 0} {o : ℕ} {left last : Parts → List (PieceOf Role)} {mid : S} → ((ps : Parts) → left ps ≡ last ps) → Sofar Fine o left mid last mid (λ ps. ps) []
@@ -175,13 +165,6 @@ module _ (S : Type 0) (Next : S → Token → S → Type 0) (behind : S → Toke
           runs = retell S Next behind (ap (λ w. after (part w u.rest)) same.1) (subst (λ w. Runs ways S Next behind o' (after (part u.item u.rest)) u.rest w e u.more) same.0 d');
         };
     higher = λ ps. omega arith;
-  }
-
-  -- a part that is absent where what follows is fine
-  pub part_missing : {Fine : Parts → S → Type 0} {FineNode : Tree → S → Type 0} {a : Role} {after : Parts → List (PieceOf Role)} {mid : S} → AbsentWhere S Next behind FineNode a mid → Fits Fine FineNode a after mid → AbsentPartsWhere S Next behind Fine (λ ps. sub a ∷ after ps) mid
-  part_missing {Fine} {after = after} missed fits = record {
-    nothing = λ o' e ps P d fine. let u = run_part S Next behind d in
-        missed.nothing o' u.mid u.item u.one u.spelled (fits o' u.item u.rest u.mid e u.one u.more u.spelled (retell S Next behind (ap after u.parts) u.runs) (subst (λ w. Fine w e) u.parts fine));
   }
 
   -- a part whose own pieces decide what follows it: these are the pieces where it is next

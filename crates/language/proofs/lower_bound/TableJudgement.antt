@@ -1,14 +1,17 @@
 -- A table is sound exactly where it has the right shape and is judged to pass.
 use Rattle.std.proofs.Common.{◌≡◌, ℕ, zero, suc, ◌+◌, ◌≤◌, Bool, true, false, cond, ◌&&◌, List, [], ◌∷◌, refl, sym, ap, subst, ◌∙◌, arith}
-use Rattle.std.specs.Prelude.{Option, Some, None, map, nat_le, nat_eq, slice_get}
+use Rattle.std.specs.Prelude.{Option, Some, None, map, nat_le, slice_get}
+use Rattle.std.specs.Str.{bytes_eq}
+use Rattle.std.proofs.lemmas.Slice.Eq.{bytes_eq-Decides}
 use Rattle.std.specs.Option.{is_some}
 use Rattle.std.proofs.lemmas.Bool.{and_parts, false≢true}
 use Rattle.std.proofs.lemmas.Bool.Decides.{nat_tests}
 use Rattle.tree.specs.declared.kind.Kind.{Kind}
+use Rattle.tree.specs.Kinds.{type_name}
 use Rattle.tree.specs.Tree.{Tree, kind_of}
 use Rattle.language.specs.Pieces.{Role, script}
 use Rattle.language.specs.Claims.{Table, table_cell, cell_bound, total_bound, row_nodes, contexts, NoGreater, Sound}
-use Rattle.language.proofs.examples.Tables.{Judgement, passes, total_high, misshapen, none_at, high_at, first_of, is_given, is_low, every_cell, row_judged, rows_judged, row_kind, shape_judged, judged}
+use Rattle.language.proofs.examples.Tables.{Judgement, passes, total_high, misshapen, none_at, high_at, first_of, is_given, is_low, every_cell, row_judged, rows_judged, shape_judged, judged}
 
 abbrev pub passing : Judgement → Bool
 passing passes = true
@@ -124,16 +127,13 @@ abbrev is_some_kind : List Kind → Bool
 is_some_kind [] = false
 is_some_kind (k ∷ ks) = true
 
-same_number : (m : ℕ) → nat_eq m m ≡ true
-same_number m = grind (arith, nat_tests)
-
 shape_passes : (xs : List (Kind × List (Option ℕ))) (ns : List Tree) (r : ℕ) → map (λ x. x.0) xs ≡ map kind_of ns → shape_judged xs ns r ≡ passes
 shape_passes [] [] r h = refl
 shape_passes [] (n ∷ ns) r h = absurd (false≢true (ap is_some_kind h))
 shape_passes (x ∷ xs) [] r h = absurd (false≢true (sym (ap is_some_kind h)))
 shape_passes (x ∷ xs) (n ∷ ns) r h =
-    let same : nat_eq (row_kind x.0) (row_kind (kind_of n)) ≡ true = subst (λ k. nat_eq (row_kind x.0) (row_kind k) ≡ true) (ap (first_kind x.0) h) (same_number (row_kind x.0)) in
-    taken (nat_eq (row_kind x.0) (row_kind (kind_of n))) (shape_judged xs ns (suc r)) (misshapen r) same ∙ shape_passes xs ns (suc r) (ap behind_first h)
+    let same : bytes_eq (type_name x.0) (type_name (kind_of n)) ≡ true = (bytes_eq-Decides (type_name x.0) (type_name (kind_of n))).1 (ap (λ ks. type_name (first_kind x.0 ks)) h) in
+    taken (bytes_eq (type_name x.0) (type_name (kind_of n))) (shape_judged xs ns (suc r)) (misshapen r) same ∙ shape_passes xs ns (suc r) (ap behind_first h)
 
 pub passes_by : (t : Table) (n : Tree) → Sound t n → judged t n ≡ passes
 passes_by t n s =

@@ -2,18 +2,17 @@
 use Rattle.std.proofs.Common.{◌≡◌, ℕ, Bool, true, false, cond, List, [], ◌∷◌, ◌++◌, refl}
 use Rattle.std.specs.Prelude.{Option, Some, None, codes, ◌&&◌}
 use Rattle.tree.specs.declared.kind.Kind.{Kind}
-use Rattle.tree.specs.declared.kind.Kind.TheVariants.{RestElement, FunctionExpression, BlockStatement, ClassBody, CatchClause, SwitchCase, VariableDeclarator, AssignmentPattern, ArrayPattern, ObjectPattern}
+use Rattle.tree.specs.declared.kind.Kind.TheVariants.{FunctionExpression, BlockStatement, ClassBody, CatchClause, SwitchCase, VariableDeclarator}
 use Rattle.tree.specs.declared.kind.Flags.{Flags}
 use Rattle.tree.specs.declared.kind.Form.{Form}
 use Rattle.tree.specs.declared.kind.Form.TheVariants.{Init, Get, Set, Method, Shorthand, Constructor}
-use Rattle.tree.specs.Tree.{Tree, node, Parts, none, part, gap, kind_of, plain}
+use Rattle.tree.specs.Tree.{node, Parts, none, part, gap, kind_of, plain}
 use Rattle.language.specs.declared.Rank.TheVariants.{Assignment, Primary}
 use Rattle.language.specs.declared.Start.TheVariants.{Any}
-use Rattle.language.specs.FirstPart.{lead}
 use Rattle.language.specs.Vocabulary.{is_rest, is_pattern}
-use Rattle.language.specs.Pieces.{Role, expr, method, body, block, declarator, switch_case, handler, class_body, element, item, Piece, many, absent, lay, line, deeper, shallower, Spelling, at, only, only_at, put, put_at, sign, term, sp, nothing, bound, with_default, parameters}
+use Rattle.language.specs.Pieces.{Role, expr, method, body, block, declarator, switch_case, handler, class_body, item, Piece, many, absent, lay, line, deeper, shallower, Spelling, at, only, only_at, put, put_at, sign, term, sp, nothing, bound, with_default, parameters}
 use Rattle.language.specs.Statements.{lines, prologue, member_lines, whole, declarator_ways}
-use Rattle.language.specs.Expressions.{assignment, methods}
+use Rattle.language.specs.Expressions.{methods}
 use Rattle.language.specs.Grammar.{spellings, rests, can_run}
 use Rattle.language.specs.Derivation.{Among, first}
 use Rattle.language.proofs.table.StatementWays.{behind_brace, pieces_of_one}
@@ -28,15 +27,6 @@ body_pieces ps = sign "{" ∷ behind_brace ps (prologue true true (lay line ∷ 
 
 abbrev pub class_body_pieces : Parts → List Piece
 class_body_pieces ps = sign "{" ∷ behind_brace ps (many (codes ";") ∷ member_lines ps)
-
-abbrev pub spread_pieces : Parts → List Piece
-spread_pieces ps = sign "..." ∷ assignment ∷ []
-
-abbrev pub rest_pieces : Bool → Bool → Parts → List Piece
-rest_pieces b o ps = sign "..." ∷ cond (o && is_pattern (lead ps)) nothing (put_at (bound b (lead ps)) ∷ [])
-
-abbrev pub element_pieces : Bool → Parts → List Piece
-element_pieces b ps = put_at (bound b (lead ps)) ∷ sp ∷ sign "=" ∷ sp ∷ assignment ∷ []
 
 abbrev pub method_pieces : Form → Parts → List Piece
 method_pieces Get (gap (part b none)) = absent ∷ sign "(" ∷ sign ")" ∷ sp ∷ put body ∷ []
@@ -113,27 +103,6 @@ method_there Method _ h = cc
 method_there Shorthand _ h = cc
 method_there Constructor _ h = cc
 
-rest_kind : (b o : Bool) (k : Kind) (g : Flags) (w : List ℕ) (n : Tree) (ps : Parts) {x : Spelling} → kind_of n ≡ k → Among x (rests b o RestElement (part n ps)) → x.pieces ≡ rest_pieces b o (part n ps)
-rest_kind b false k g w n ps e h = pieces_of_one h
-rest_kind b true k g w (node ArrayPattern v f s t qs) ps e h = elim h [ ]
-rest_kind b true k g w (node ObjectPattern v f s t qs) ps e h = elim h [ ]
-rest_kind b true k g w (node _ v f s t qs) ps e h = pieces_of_one h
-
-rest_way : (b o : Bool) (g : Flags) (w : List ℕ) (ps : Parts) {x : Spelling} → Among x (rests b o RestElement ps) → x.pieces ≡ rest_pieces b o ps
-rest_way b false g w none h = pieces_of_one h
-rest_way b true g w none h = pieces_of_one h
-rest_way b false g w (gap ps) h = pieces_of_one h
-rest_way b true g w (gap ps) h = pieces_of_one h
-rest_way b o g w (part n ps) h = rest_kind b o (kind_of n) g w n ps refl h
-
-rest_there : (b o : Bool) (ps : Parts) → can_run (rest_pieces b o ps) ≡ true → Among (at Primary (rest_pieces b o ps)) (rests b o RestElement ps)
-rest_there b false ps h = first
-rest_there b true none h = first
-rest_there b true (gap ps) h = first
-rest_there b true (part (node ArrayPattern v f s t qs) ps) h = cc
-rest_there b true (part (node ObjectPattern v f s t qs) ps) h = cc
-rest_there b true (part (node _ v f s t qs) ps) h = first
-
 declarator_way : (i b : Bool) (ps : Parts) {x : Spelling} → Among x (declarator_ways i b VariableDeclarator ps) → x.pieces ≡ declarator_pieces i b ps
 declarator_way i true (part n (part e none)) h = at_pieces (bound true (kind_of n)) (sp ∷ sign "=" ∷ sp ∷ put (expr Assignment i Any) ∷ []) h
 declarator_way i false (part n (part e none)) h = elim h [ ]
@@ -200,22 +169,6 @@ one_class_body = record {
   where
     only_one : (k' : Kind) (w : List ℕ) (g : Flags) (ps : Parts) (x : Spelling) → Among x (spellings (class_body) (node k' w g 0 0 ps)) → (k' ≡ ClassBody) × (x.pieces ≡ class_body_pieces ps)
     only_one ClassBody w g ps x h = (refl, pieces_of_one h)
-    only_one _ w g ps x h = elim h [ ]
-
--- an element with a default
-pub one_element : (b : Bool) → OneKind (element b) AssignmentPattern (element_pieces b)
-unfolding spellings
-one_element b = record {
-  position = record { spans = λ t l. refl; settles = λ x. refl; fitting = λ x. refl; ungrouped = λ y i f e. cc };
-  only = only_one;
-  there = λ ps h. at_there (bound b (lead ps)) (sp ∷ sign "=" ∷ sp ∷ assignment ∷ []) h;
-  textless = refl;
-  flagless = λ g. refl;
-  lean = λ ps. refl;
-}
-  where
-    only_one : (k' : Kind) (w : List ℕ) (g : Flags) (ps : Parts) (x : Spelling) → Among x (spellings (element b) (node k' w g 0 0 ps)) → (k' ≡ AssignmentPattern) × (x.pieces ≡ element_pieces b ps)
-    only_one AssignmentPattern w g ps x h = (refl, at_pieces (bound b (lead ps)) (sp ∷ sign "=" ∷ sp ∷ assignment ∷ []) h)
     only_one _ w g ps x h = elim h [ ]
 
 -- a case

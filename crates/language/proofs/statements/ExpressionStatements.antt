@@ -24,11 +24,13 @@ use Rattle.language.specs.Statements.{first_is_string, is_string_literal, end_of
 use Rattle.language.specs.Token.{Token}
 use Rattle.language.specs.StatementStart.{an_expression, statement_start}
 use Rattle.language.specs.Continuations.{of_class, operation, rank_made_by, stops_at}
-use Rattle.language.specs.Promises.{is_free, IsDetermined, ReadBy, Stops, Found, Absent, FoundAt}
-use Rattle.language.specs.Following.{IsAlike, Followed, Finished, may_follow, FoundWhere, AbsentWhere}
+use Rattle.language.specs.Promises.{is_free, IsDetermined, ReadBy, Stops, Found, FoundAt}
+use Rattle.language.specs.Following.{IsAlike, Followed, Finished, may_follow, FoundWhere}
 use Rattle.language.specs.Grammar.{ways, spellings}
 use Rattle.language.specs.Derivation.{first, Reads, Spells, direct, grouped, Runs, done, step, within, Step, token, laid, explicit, implicit, Placed, placed}
-use Rattle.language.specs.NodeForms.{Made, literal}
+use Rattle.language.specs.Chosen as chosen
+use Rattle.language.specs.Chosen.{Chosen}
+use Rattle.language.specs.Forms.{Production, form, spelling_of}
 use Rattle.language.proofs.lower_bound.Domination.{settled}
 use Rattle.language.proofs.table.ViewIsComplete.{way_of, made}
 use Rattle.language.proofs.table.Productions.{way_from, in_true}
@@ -144,14 +146,6 @@ module _ (S : Type 0) (Next : S → Token → S → Type 0) (behind : S → Toke
     look : {o : ℕ} {n : Tree} {e : S} {P : List Pair} → Spells ways S Next behind o a n s e P → Finished S Next behind n e → Seen p r o a n s e P
     look d1 fine = seen fine (other_way S Next behind det stands read begun d1)
 
-    -- no expression, so no such statement
-    pub no_expression : Absent S Next behind Expression true Statement s → AbsentWhere S Next behind (Finished S Next behind) a s
-    no_expression missed = record { nothing = λ o' e' n' P' d1 fine. of (look d1 fine) }
-      where
-        of : {o' : ℕ} {e' : S} {n' : Tree} {P' : List Pair} → Seen p r o' a n' s e' P' → ⊥
-        of {o'} (seen_label {x = x} {mid = mid} {Q = Q} tree pl u c d1 all) = missed.nothing o' mid x Q (name_expression S Next behind det u) (colon_stops x c)
-        of {o'} {P' = P'} (seen_expression {x = x} {mid = mid} tree pl u st end sort) = missed.nothing o' mid x P' u st
-
     module _ {o : ℕ} {x : Tree} {e0 : S} {P : List Pair} (found : Found S Next behind o Expression true Statement s e0 x P)
         (no_label : (o' : ℕ) (n' : Tree) (P' : List Pair) (v : Token) (k : S) → Spells ways S Next behind o' name n' s e0 P' → Reads S Next behind Punctuator (codes ":") e0 v k → ⊥) where
       -- what such a statement is, where its expression is found and no label
@@ -232,13 +226,15 @@ module _ (S : Type 0) (Next : S → Token → S → Type 0) (behind : S → Toke
   as_string : {o : ℕ} {x : Tree} {s e : S} {P : List Pair} → Spells ways S Next behind o (expr Expression true Statement) x s e P → is_string_literal (kind_of x) (text_of x) ≡ true → AsString o x s e P
   unfolding spellings
   as_string (grouped p d q) h = string_group (grouped p d q)
-  as_string {o} {x = node Literal w g st en ps} {s} {e} {P} (direct qs h pl d) lit = let v = way_of h in string_itself (of (made Literal v.listed) v.is v.lean)
+  as_string {o} {x = node Literal w g st en ps} {s} {e} {P} (direct qs h pl d) lit = let v = way_of h in string_itself (let m = made Literal v.listed in of m.chosen (v.is ∙ ap (settled (expr Expression true Statement)) m.is) v.lean)
     where
       replaced : {m : Tree} → Placed S Next behind (expr Expression true Statement) m s e → Placed S Next behind directive_string m s e
       replaced (placed nx p) = placed nx p
 
-      of : {y : Spelling} → Made Literal w g (bare_parts ps) y → qs ≡ settled (expr Expression true Statement) y → is_lean (bare (node Literal w g st en ps)) ≡ true → Spells ways S Next behind o directive_string (node Literal w g st en ps) s e P
-      of (literal c) q lean =
+      of : {p : Production} → Chosen w g (bare_parts ps) (expr Expression true Any) Literal p → qs ≡ settled (expr Expression true Statement) (spelling_of (form p) w g (bare_parts ps)) → is_lean (bare (node Literal w g st en ps)) ≡ true → Spells ways S Next behind o directive_string (node Literal w g st en ps) s e P
+      of (chosen.of_statement s c) q lean = elim s [ ]
+      of (chosen.of_declaration s c) q lean = elim s [ ]
+      of (chosen.literal c) q lean =
           let class : literal_class w ≡ StringLiteral = text_class (literal_class w) lit in
           let z : Spelling = at Primary (tok StringLiteral w ∷ []) in
           direct (settled directive_string z) (way_from directive_string (node Literal w g st en ps) z lean (in_true [] (is_string (literal_class w)) lit first) refl) (replaced pl) (retell S Next behind (q ∙ ap (λ c. tok c w ∷ []) class) d)

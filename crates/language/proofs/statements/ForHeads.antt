@@ -3,19 +3,16 @@ use Rattle.std.proofs.Common.{◌≡◌, ℕ, Bool, true, false, cond, List, [],
 use Rattle.std.specs.Prelude.{Option, Some, codes}
 use Rattle.tokens.specs.declared.token.TokenClass.TheVariants.{IdentifierName, Punctuator}
 use Rattle.tree.specs.declared.kind.Kind.{Kind}
-use Rattle.tree.specs.declared.kind.Flags.{Flags}
-use Rattle.tree.specs.declared.kind.Pair.{Pair}
-use Rattle.tree.specs.Tree.{node, Parts, none, part, bare_parts}
+use Rattle.tree.specs.Tree.{Parts, part, bare_parts}
 use Rattle.language.specs.declared.Rank.TheVariants.{Expression}
 use Rattle.language.specs.declared.Start.TheVariants.{Any}
 use Rattle.language.specs.FirstPart.{others}
-use Rattle.language.specs.Pieces.{Role, expr, head, statement, Piece, PieceOf, settle_piece, tok, put, put_at, sign, sp, bound}
+use Rattle.language.specs.Pieces.{Role, expr, head, statement, Piece, PieceOf, tok, put, sign, sp, bound}
 use Rattle.language.specs.Statements.{is_declaration, for_left, whole}
 use Rattle.language.specs.Expressions.{given}
 use Rattle.language.specs.Token.{Token}
 use Rattle.language.specs.Promises.{IsDetermined}
-use Rattle.language.specs.Grammar.{ways}
-use Rattle.language.specs.Derivation.{Reads, Runs}
+use Rattle.language.specs.Derivation.{Reads}
 use Rattle.language.proofs.table.Begins.{goes_to}
 
 -- the position of the first part: of a `for` with `;`, and of one with `in` or `of`
@@ -45,8 +42,3 @@ module _ (S : Type 0) (Next : S → Token → S → Type 0) (behind : S → Toke
     pub sign : Token
     pub mid : S
     pub reads : Reads S Next behind Punctuator (codes ";") e sign mid
-
-  -- Pieces that begin with a part at the position of its kind.
-  pub record Leads (r : Kind → Option Role) (left last : Parts → List (PieceOf Role)) : Type 0 where
-    pub is : (c : Kind) (w : List ℕ) (g : Flags) (st en : ℕ) (qs ps : Parts) → left (part (node c w g st en qs) ps) ≡ settle_piece Expression true Any (put_at (r c)) ∷ last ps
-    pub no_none : {o : ℕ} {s e : S} {P : List Pair} → Runs ways S Next behind o (left none) none s e P → ⊥

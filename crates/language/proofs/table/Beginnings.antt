@@ -9,7 +9,7 @@ use Rattle.tokens.specs.declared.token.TokenClass.TheVariants.{IdentifierName, P
 use Rattle.tokens.specs.declared.token.Goal.{Goal}
 use Rattle.tokens.specs.Goals.{allows}
 use Rattle.tree.specs.declared.kind.Kind.{Kind}
-use Rattle.tree.specs.declared.kind.Kind.TheVariants.{Literal, ExpressionStatement, BlockStatement, EmptyStatement, DebuggerStatement, ReturnStatement, ThrowStatement, BreakStatement, ContinueStatement, LabeledStatement, IfStatement, SwitchStatement, TryStatement, WhileStatement, DoWhileStatement, ForStatement, ForInStatement, ForOfStatement, VariableDeclaration, FunctionDeclaration, ClassDeclaration, ObjectPattern}
+use Rattle.tree.specs.declared.kind.Kind.TheVariants.{Literal, ExpressionStatement, BlockStatement, LabeledStatement, VariableDeclaration, ObjectPattern}
 use Rattle.tree.specs.declared.kind.Flags.{Flags}
 use Rattle.tree.specs.declared.kind.Pair.{Pair}
 use Rattle.tree.specs.Tree.{Tree, node, Parts, part, kind_of, bare, bare_parts, plain}
@@ -26,13 +26,11 @@ use Rattle.language.specs.Pieces.{Role, expr, chain_part, name, directive_string
 use Rattle.language.specs.Statements.{first_is_string}
 use Rattle.language.specs.Token.{Token}
 use Rattle.language.specs.ExpressionStart.{ExpressionStart, with_brace, with_function, with_class, no_start, expression_start_by, expression_start}
-use Rattle.language.specs.StatementStart.{StatementStart, a_block, an_empty, a_variable, an_if, a_do, a_while, a_for, a_continue, a_break, a_return, a_throw, a_switch, a_try, a_debugger, a_function, a_class, an_expression, is_own, statement_words, declaration_words, statement_signs, statement_start_among, statement_start_by, statement_start}
+use Rattle.language.specs.StatementStart.{StatementStart, a_block, an_empty, a_variable, a_return, a_function, a_class, an_expression, is_own, statement_words, declaration_words, statement_signs, statement_start_among, statement_start_by, statement_start}
 use Rattle.language.specs.Promises.{is_free, IsDetermined, ReadBy}
 use Rattle.language.specs.Grammar.{ways, spellings, starts}
 use Rattle.language.specs.Derivation.{Spells, direct, grouped, Runs, Placed}
-use Rattle.language.specs.NodeForms.{Made, binary, logical}
 use Rattle.language.proofs.lower_bound.Domination.{settled, fits}
-use Rattle.language.proofs.table.OperatorFacts.{binding}
 use Rattle.language.proofs.table.ViewIsComplete.{way_of, made, one, cases}
 use Rattle.language.proofs.climbing.Spine.{Core, on_spine, grows_on_spine, spine_of}
 use Rattle.language.proofs.climbing.FirstTurn.{grows_start}
@@ -40,6 +38,7 @@ use Rattle.language.proofs.table.Begins.{Each, among_by, first_of, goes_to, rete
 use Rattle.language.proofs.table.TokenFirstWays.{identifier_opens, head_object, head_function, head_class, head_object_pattern}
 use Rattle.language.proofs.climbing.LeftmostParts.{Cored, in_group, in_way, core_by, no_spine_core}
 use Rattle.language.proofs.climbing.Leaves.{name_form}
+pub use Rattle.language.proofs.climbing.Leaves.{made_rank}
 use Rattle.language.proofs.climbing.BinaryTurns.{same_node}
 use Rattle.language.proofs.list_loops.FirstPieces.{run_part}
 use Rattle.language.proofs.table.StatementWays.{begins_as, own_class, own_text, may_stand, behind_own, own_pieces, Stands, as_statement, as_item, as_opening, Stated, by_own, by_label, by_expression, by_directive, by_group, stated}
@@ -57,27 +56,9 @@ own_begins true r a_class w h m = refl
 own_begins false r a_class w h m = cc
 own_begins d r a_block w h m = refl
 own_begins d r an_empty w h m = refl
-own_begins true r an_if w h m = refl
-own_begins true r a_do w h m = refl
-own_begins true r a_while w h m = refl
-own_begins true r a_for w h m = refl
-own_begins true r a_continue w h m = refl
-own_begins true r a_break w h m = refl
-own_begins true r a_throw w h m = refl
-own_begins true r a_switch w h m = refl
-own_begins true r a_try w h m = refl
-own_begins true r a_debugger w h m = refl
-own_begins false r an_if w h m = refl
-own_begins false r a_do w h m = refl
-own_begins false r a_while w h m = refl
-own_begins false r a_for w h m = refl
-own_begins false r a_continue w h m = refl
-own_begins false r a_break w h m = refl
-own_begins false r a_throw w h m = refl
-own_begins false r a_switch w h m = refl
-own_begins false r a_try w h m = refl
-own_begins false r a_debugger w h m = refl
 own_begins d r an_expression w h m = cc
+own_begins true r _ w h m = refl
+own_begins false r _ w h m = refl
 
 -- and the goal for operands reads it
 pub own_allowed : (b : StatementStart) (w : List ℕ) → is_own b ≡ true → (is_free (own_class b) ≡ true) ⊎ IsTrue (allows Goal.RegExp (own_class b) (own_text b w))
@@ -91,26 +72,20 @@ abbrev pub text_as : StatementStart → List ℕ → List ℕ
 text_as a_variable w = w
 text_as _ w = []
 
+abbrev is_variable : StatementStart → Bool
+is_variable a_variable = true
+is_variable _ = false
+
+own_has_text : (k : Kind) → is_own (begins_as k) ≡ true → has_text k ≡ is_variable (begins_as k)
+own_has_text VariableDeclaration h = refl
+own_has_text _ h = cc
+
 own_node_text : (k : Kind) (g : Flags) (st en : ℕ) (ps : Parts) {v w : List ℕ} → is_own (begins_as k) ≡ true → is_lean (bare (node k w g st en ps)) ≡ true → v ≡ own_text (begins_as k) w → w ≡ text_as (begins_as k) v
-own_node_text VariableDeclaration g st en ps h l e = sym e
-own_node_text BlockStatement g st en ps {w = w} h l e = lean_text (bare (node BlockStatement w g st en ps)) l refl
-own_node_text EmptyStatement g st en ps {w = w} h l e = lean_text (bare (node EmptyStatement w g st en ps)) l refl
-own_node_text IfStatement g st en ps {w = w} h l e = lean_text (bare (node IfStatement w g st en ps)) l refl
-own_node_text DoWhileStatement g st en ps {w = w} h l e = lean_text (bare (node DoWhileStatement w g st en ps)) l refl
-own_node_text WhileStatement g st en ps {w = w} h l e = lean_text (bare (node WhileStatement w g st en ps)) l refl
-own_node_text ForStatement g st en ps {w = w} h l e = lean_text (bare (node ForStatement w g st en ps)) l refl
-own_node_text ForInStatement g st en ps {w = w} h l e = lean_text (bare (node ForInStatement w g st en ps)) l refl
-own_node_text ForOfStatement g st en ps {w = w} h l e = lean_text (bare (node ForOfStatement w g st en ps)) l refl
-own_node_text ContinueStatement g st en ps {w = w} h l e = lean_text (bare (node ContinueStatement w g st en ps)) l refl
-own_node_text BreakStatement g st en ps {w = w} h l e = lean_text (bare (node BreakStatement w g st en ps)) l refl
-own_node_text ReturnStatement g st en ps {w = w} h l e = lean_text (bare (node ReturnStatement w g st en ps)) l refl
-own_node_text ThrowStatement g st en ps {w = w} h l e = lean_text (bare (node ThrowStatement w g st en ps)) l refl
-own_node_text SwitchStatement g st en ps {w = w} h l e = lean_text (bare (node SwitchStatement w g st en ps)) l refl
-own_node_text TryStatement g st en ps {w = w} h l e = lean_text (bare (node TryStatement w g st en ps)) l refl
-own_node_text DebuggerStatement g st en ps {w = w} h l e = lean_text (bare (node DebuggerStatement w g st en ps)) l refl
-own_node_text FunctionDeclaration g st en ps {w = w} h l e = lean_text (bare (node FunctionDeclaration w g st en ps)) l refl
-own_node_text ClassDeclaration g st en ps {w = w} h l e = lean_text (bare (node ClassDeclaration w g st en ps)) l refl
-own_node_text _ g st en ps h l e = absurd (false≢true h)
+own_node_text k g st en ps {v} {w} h l e = of (begins_as k) e (own_has_text k h)
+  where
+    of : (b : StatementStart) → v ≡ own_text b w → has_text k ≡ is_variable b → w ≡ text_as b v
+    of a_variable e t = sym e
+    of _ e t = lean_text (bare (node k w g st en ps)) l t
 
 own_flags : (k : Kind) (g : Flags) → is_own (begins_as k) ≡ true → used_flags k g ≡ plain
 own_flags BlockStatement g h = refl
@@ -157,12 +132,6 @@ opening_begins d r StringLiteral w h = refl
 opening_begins d r Template w h = refl
 opening_begins d r TokenClass.RegularExpressionLiteral w h = refl
 opening_begins d r End w h = refl
-
--- nothing stands at a symbol tighter than Primary
-pub made_rank : {k : Kind} {w : List ℕ} {g : Flags} {ps : Parts} {x : Spelling} → Made k w g ps x → precedence x.rank ≤ 22
-made_rank (binary {w = w} op) = let v = binding w op in let up = v.rises.0 in let most = v.most in omega arith
-made_rank (logical {w = w} op) = let v = binding w op in let up = v.rises.0 in let most = v.most in omega arith
-made_rank _ = omega arith
 
 -- so nothing but a group stands at Grouped
 pub too_tight : (z : ℕ) → z ≤ 22 → IsTrue (takes_number 23 z) → ⊥

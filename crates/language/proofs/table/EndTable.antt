@@ -1,5 +1,5 @@
 -- Which spellings of the table end in no number: those of chains, patterns, blocks and names, and of what stands at LeftHandSide or tighter.
-use Rattle.std.proofs.Common.{◌≡◌, ℕ, Bool, true, false, cond, not, ◌&&◌, List, [], ◌∷◌, ◌++◌, refl, sym, ap, ◌∙◌, map, filter, arith}
+use Rattle.std.proofs.Common.{◌≡◌, ℕ, Bool, true, false, cond, not, ◌&&◌, ◌||◌, List, [], ◌∷◌, ◌++◌, refl, sym, ap, ◌∙◌, map, filter, arith}
 use Rattle.std.specs.Prelude.{nat_le, codes}
 use Rattle.std.proofs.lemmas.Bool.{and_parts, and_from, false≢true, true≢false}
 use Rattle.std.proofs.lemmas.Bool.Decides.{nat_tests}
@@ -115,6 +115,25 @@ shut_one h = a_shut (λ k. h) no_shuts
 slack_one : {x : Spelling} → nat_le 18 (precedence x.rank) ≡ false → Shuts true (x ∷ [])
 slack_one h = a_slack h no_shuts
 
+not_true : (b : Bool) → not b ≡ true → b ≡ false
+not_true true h = absurd (false≢true h)
+not_true false h = refl
+
+-- no spelling, or one whose last piece is no number or that stands only at looser symbols
+abbrev sole_shut : List Spelling → Bool
+sole_shut [] = true
+sole_shut (x ∷ []) = ends_shut x.pieces || not (nat_le 18 (precedence x.rank))
+sole_shut (x ∷ y ∷ xs) = false
+
+shut_sole : (xs : List Spelling) → sole_shut xs ≡ true → Shuts true xs
+shut_sole [] h = no_shuts
+shut_sole (x ∷ []) h = of (ends_shut x.pieces) refl h
+  where
+    of : (b : Bool) → ends_shut x.pieces ≡ b → (b || not (nat_le 18 (precedence x.rank))) ≡ true → Shuts true (x ∷ [])
+    of true e h = shut_one e
+    of false e h = slack_one (not_true (nat_le 18 (precedence x.rank)) h)
+shut_sole (x ∷ y ∷ xs) h = cc
+
 shut_cond : {e : Bool} (c : Bool) {xs ys : List Spelling} → (c ≡ true → Shuts e xs) → (c ≡ false → Shuts e ys) → Shuts e (cond c xs ys)
 shut_cond true h k = h refl
 shut_cond false h k = k refl
@@ -196,10 +215,6 @@ operator_loose : (w : List ℕ) → loose_operator (operator_of w) ≡ true
 unfolding loose_operator
 operator_loose w = operator_meets loose_operator w operators refl refl
 
-not_true : (b : Bool) → not b ≡ true → b ≡ false
-not_true true h = absurd (false≢true h)
-not_true false h = refl
-
 shut_binary : (w : List ℕ) (o : Operator) → loose_operator o ≡ true → Shuts true (binary_ways w o)
 unfolding loose_operator
 shut_binary w (op_binary false z q) h = slack_one (not_true (nat_le 18 (precedence z)) h)
@@ -257,14 +272,12 @@ pub shut_expressions : (k : Kind) (w : List ℕ) (g : Flags) (ps : Parts) → is
 unfolding expressions
 shut_expressions kind.Literal w g ps h = absurd (true≢false h)
 shut_expressions kind.Identifier w g ps h = shut_cond (is_reserved w) (λ e. no_shuts) (λ e. shut_one refl)
-shut_expressions kind.ThisExpression w g ps h = shut_one refl
 shut_expressions kind.ArrayExpression w g ps h = shut_one (ends_last (sign "[" ∷ elements argument ps) (sign "]"))
 shut_expressions kind.ObjectExpression w g ps h = shut_one (ends_last (sign "{" ∷ listed object_part ps) (sign "}"))
 shut_expressions kind.FunctionExpression w g ps h = a_shut (λ k. shut_function ps k) no_shuts
 shut_expressions kind.ClassExpression w g ps h = a_shut (λ k. shut_class_pieces ps k) no_shuts
 shut_expressions kind.TemplateLiteral w g ps h = a_shut (λ k. shut_chunks true ps k) no_shuts
 shut_expressions kind.ArrowFunctionExpression w g ps h = shut_arrows g ps
-shut_expressions kind.TaggedTemplateExpression w g ps h = shut_one refl
 shut_expressions kind.MemberExpression w g ps h = shut_cond g.optional (λ e. no_shuts) (λ e. shut_cond (is_super (lead_kind ps)) (λ i. shut_one (shut_selector (put base ∷ []) g)) (λ i. shut_one (shut_selector (sub callee ∷ after_number ps g) g)))
 shut_expressions kind.CallExpression w g ps h = shut_cond g.optional (λ e. no_shuts) (λ e. shut_cond (is_super (lead_kind ps)) (λ i. shut_one (shut_arguments (put base ∷ []) (others ps))) (λ i. shut_one (shut_arguments (sub (lead Call) ∷ []) (others ps))))
 shut_expressions kind.NewExpression w g ps h = of (is_none (others ps)) refl
@@ -273,17 +286,15 @@ shut_expressions kind.NewExpression w g ps h = of (is_none (others ps)) refl
     of true e = covered (shut_arguments (term "new" ∷ sp ∷ put (expr Member true Any) ∷ []) (others ps)) (new_covers (others ps) e)
     of false e = shut_one (shut_arguments (term "new" ∷ sp ∷ put (expr Member true Any) ∷ []) (others ps))
 shut_expressions kind.MetaProperty w g ps h = shut_cond (lead_is ps "new" && lead_is (others ps) "target") (λ e. shut_one refl) (λ e. no_shuts)
-shut_expressions kind.ImportExpression w g ps h = shut_one refl
 shut_expressions kind.ChainExpression w g ps h = shut_cond (first_has_optional ps) (λ e. shut_one refl) (λ e. no_shuts)
 shut_expressions kind.UpdateExpression w g ps h = shut_cond (not (is_update_operator w && is_target (lead_kind ps))) (λ e. no_shuts) (λ e. shut_cond g.prefix (λ i. slack_one refl) (λ i. slack_one refl))
 shut_expressions kind.UnaryExpression w g ps h = shut_cond (not (is_prefix w)) (λ e. no_shuts) (λ e. shut_cond (is_word_operator w) (λ i. slack_one refl) (λ i. slack_one refl))
 shut_expressions kind.BinaryExpression w g ps h = shut_binary w (operator_of w) (operator_loose w)
 shut_expressions kind.LogicalExpression w g ps h = shut_logical w (operator_of w) (operator_loose w)
-shut_expressions kind.ConditionalExpression w g ps h = slack_one refl
 shut_expressions kind.AssignmentExpression w g ps h =
     shut_cond (not (is_assignment w)) (λ e. no_shuts) (λ e. shut_cond (is_target (lead_kind ps)) (λ i. slack_one refl) (λ i. shut_cond (is w "=" && is_pattern (lead_kind ps)) (λ j. slack_one refl) (λ j. no_shuts)))
 shut_expressions kind.SequenceExpression w g ps h = shut_cond (is_none (others ps)) (λ e. no_shuts) (λ e. slack_one refl)
-shut_expressions _ w g ps h = no_shuts
+shut_expressions k w g ps h = shut_sole (expressions k w g ps) refl
 
 -- Other spellings
 

@@ -23,7 +23,7 @@ use Rattle.language.specs.Chosen as chosen
 use Rattle.language.specs.Chosen.{Chosen, IsStatement, IsItem}
 use Rattle.language.specs.Forms as made
 use Rattle.language.specs.Forms.{Production, form, spelling_of}
-use Rattle.language.proofs.table.ViewIsComplete.{one, unless, cases}
+use Rattle.language.proofs.table.InLists.{one, unless, cases}
 
 -- a way, by its production
 pub record Formed (a : Role) (k : Kind) (w : List ℕ) (g : Flags) (ps : Parts) (x : Spelling) : Type 0 where
@@ -56,6 +56,9 @@ pub one_of : (b : Bool) (p q : Piece) → cond b p q ∷ [] ≡ cond b (p ∷ []
 one_of true p q = refl
 one_of false p q = refl
 
+pub formed_short_arrow : (w : List ℕ) (g : Flags) (ps : Parts) → at Assignment (put name ∷ arrow_end g) ≡ spelling_of (form made.short_arrow) w g ps
+formed_short_arrow w g ps = ap (λ z. at Assignment (put name ∷ unbroken ∷ sp ∷ sign "=>" ∷ sp ∷ z)) (one_of g.expression (sub (tail Assignment NoBrace)) (put body))
+
 module _ {y : Rank} {i : Bool} {f : Start} {w : List ℕ} {g : Flags} where
   formed_binary : {ps : Parts} {x : Spelling} (o : Operator) → operator_of w ≡ o → Among x (binary_ways w o) → Formed (expr y i f) kind.BinaryExpression w g ps x
   formed_binary (op_binary true z q) e h = elim h [ ]
@@ -70,7 +73,7 @@ module _ {y : Rank} {i : Bool} {f : Start} {w : List ℕ} {g : Flags} where
 
   formed_short : {n b : Tree} {x : Spelling} (c : Bool) → is_identifier (kind_of n) ≡ c → Among x (cond c (at Assignment (put name ∷ arrow_end g) ∷ []) [] ++ at Assignment (open_parameters ∷ parameters (close_parameters ∷ arrow_end g) (part n (part b none))) ∷ []) →
       Formed (expr y i f) kind.ArrowFunctionExpression w g (part n (part b none)) x
-  formed_short true e first = found (chosen.short_arrow refl e) (ap (λ z. at Assignment (put name ∷ unbroken ∷ sp ∷ sign "=>" ∷ sp ∷ z)) (one_of g.expression (sub (tail Assignment NoBrace)) (put body)))
+  formed_short {n = n} {b = b} true e first = found (chosen.short_arrow refl e) (formed_short_arrow w g (part n (part b none)))
   formed_short true e (later h) = by chosen.arrow refl h
   formed_short false e h = by chosen.arrow refl h
 
@@ -89,7 +92,7 @@ formed_class w g ps = ap (λ z. at Primary (term "class" ∷ sp ∷ z)) (append_
 pub formed_braced : (ps : Parts) (before xs : List Piece) → at Primary (before ++ braced ps xs) ≡ at Primary (before ++ (sign "{" ∷ (cond (is_none ps) [] (lay deeper ∷ []) ++ (xs ++ (cond (is_none ps) [] (lay shallower ∷ lay line ∷ []) ++ sign "}" ∷ [])))))
 formed_braced ps before xs = ap (λ z. at Primary (before ++ (sign "{" ∷ z))) (braced_flat (cond (is_none ps) [] (lay deeper ∷ [])) xs (cond (is_none ps) [] (lay shallower ∷ lay line ∷ [])) (sign "}" ∷ []))
 
-formed_expression : (k : Kind) {y : Rank} {i : Bool} {f : Start} {w : List ℕ} {g : Flags} {ps : Parts} {x : Spelling} → Among x (expressions k w g ps) → Formed (expr y i f) k w g ps x
+pub formed_expression : (k : Kind) {y : Rank} {i : Bool} {f : Start} {w : List ℕ} {g : Flags} {ps : Parts} {x : Spelling} → Among x (expressions k w g ps) → Formed (expr y i f) k w g ps x
 unfolding expressions
 formed_expression kind.Identifier h = unless _ h (λ e. by (chosen.identifier e) refl)
 formed_expression kind.Literal h = unless _ h (λ e. by (chosen.literal e) refl)

@@ -16,7 +16,6 @@ use Rattle.language.specs.Pieces.{head, declarator, Piece, tok, Spelling, at, sp
 use Rattle.language.specs.Statements.{declarators, is_one}
 use Rattle.language.specs.Token.{Token}
 use Rattle.language.specs.Promises.{is_free, IsDetermined}
-use Rattle.language.specs.Following.{AbsentWhere}
 use Rattle.language.specs.Grammar.{ways, spellings, can_run}
 use Rattle.language.specs.Derivation.{first, Reads, Spells, direct, Runs, step, token, Placed}
 use Rattle.language.proofs.lower_bound.Domination.{settled}
@@ -103,13 +102,6 @@ module _ (S : Type 0) (Next : S → Token → S → Type 0) (behind : S → Toke
         let x : Spelling = at Primary (tok IdentifierName t.text ∷ sp ∷ declarators (declarator false b) (bare_parts ps)) in
         let run : Runs ways S Next behind o (goes_to Expression true Any x.pieces) ps s e P = step (token read) (retell S Next behind (ap (goes_to Expression true Any) (sym (cond_true (b || is_one (bare_parts ps)) (sp ∷ declarators (declarator false b) (bare_parts ps)) can))) d) in
         direct (settled (head b) x) (way_from (head b) (node VariableDeclaration t.text plain st en ps) x refl (in_true [] (is_declaration_word t.text && (b || is_one (bare_parts ps))) (and_from _ _ word can) first) (runs_can S Next behind Expression true Any x.pieces run)) pl run;
-  }
-
-  -- without such a word there is none
-  pub no_head : {Fine : Tree → S → Type 0} {s : S} (b : Bool) → ((t : Token) (m : S) → Reads S Next behind IdentifierName t.text s t m → is_declaration_word t.text ≡ true → ⊥) → AbsentWhere S Next behind Fine (head b) s
-  no_head {s = s} b missed = record {
-    nothing = λ o' e' n' P' d fine. let u = head_form d in
-        missed u.sign_token u.mid (record { next = u.reads.next; class = u.reads.class; text = refl }) (ap is_declaration_word u.reads.text ∙ u.word);
   }
 
   -- two signs at a place are the same

@@ -1,5 +1,5 @@
 -- The view of the left-recursive ways: what stands at their head, what follows it, and which operator that begins with.
-use Rattle.std.proofs.Common.{◌≡◌, ℕ, Bool, true, false, cond, List, [], ◌∷◌, ◌++◌, refl, sym, ap, ◌∙◌}
+use Rattle.std.proofs.Common.{◌≡◌, ℕ, Bool, true, false, cond, List, [], ◌∷◌, ◌++◌, refl, sym, ap, ◌∙◌, subst}
 use Rattle.std.specs.Prelude.{IsTrue, codes}
 use Rattle.std.proofs.lemmas.Bool.{and_parts, false≢true}
 use Rattle.tokens.specs.declared.token.TokenClass.TheVariants.{IdentifierName, Punctuator}
@@ -17,7 +17,10 @@ use Rattle.language.specs.Pieces.{Role, expr, chain_part, tagged_quasi, word, Pi
 use Rattle.language.specs.Expressions.{arguments, after_number, in_brackets, first_has_optional, chain_parts, chain_element, member_link, call_link, sequence}
 use Rattle.tree.specs.Uses.{implies}
 use Rattle.language.specs.Derivation.{Among}
-use Rattle.language.specs.NodeForms.{Made, template, short_arrow, super_member, super_call, new_target, assign_pattern, tagged, member, call, chain, postfix, power, binary, logical, conditional, assign, several}
+use Rattle.language.specs.Chosen as chosen
+use Rattle.language.specs.Chosen.{Chosen}
+use Rattle.language.specs.Forms.{Production, form, spelling_of}
+use Rattle.language.proofs.table.NodeForms.{Made, steps_target, assigns}
 use Rattle.language.proofs.lower_bound.Domination.{settled, fits}
 use Rattle.language.proofs.table.ViewIsComplete.{one, cases}
 use Rattle.language.proofs.climbing.Spine.{is_led}
@@ -87,26 +90,31 @@ module _ (y : Rank) (i : Bool) (f : Start) where
   by_selector {g = g} {ps = ps} true c o s t h e = record { operator = op_index; led = led_index refl o c s t h (e ∙ laid_apart y i f (number_laid ps g) in_brackets) }
   by_selector {g = g} {ps = ps} false c o s t h e = record { operator = op_dot; led = led_dot refl o c s t h (e ∙ laid_apart y i f (number_laid ps g) (sign "." ∷ put word ∷ [])) }
 
+  form_led : {k : Kind} {w : List ℕ} {g : Flags} {ps : Parts} {b : Role} {rest : List (PieceOf Role)} {p : Production} → Chosen w g ps (expr Expression true Any) k p → IsTrue (fits (expr y i f) (spelling_of (form p) w g ps)) → sub b ∷ rest ≡ settled (expr y i f) (spelling_of (form p) w g ps) → is_led (sub b ∷ rest) ≡ true → LedWay y i f k w g ps b rest
+  form_led (chosen.binary h) fit eq led = record { operator = _; led = led_binary refl h (and_parts _ _ (and_parts _ _ fit).0).0 (and_parts _ _ (and_parts _ _ (and_parts _ _ fit).0).1).0 (head_is eq) (tail_is eq) }
+  form_led (chosen.logical h) fit eq led = record { operator = _; led = led_binary refl h (and_parts _ _ (and_parts _ _ fit).0).0 (and_parts _ _ (and_parts _ _ (and_parts _ _ fit).0).1).0 (head_is eq) (tail_is eq) }
+  form_led (chosen.power h) fit eq led = record { operator = _; led = led_power refl h (and_parts _ _ (and_parts _ _ fit).0).0 (head_is eq) (tail_is eq) }
+  form_led {w = w} (chosen.assign h t) fit eq led = record { operator = _; led = led_assign refl (assigns w h) t (and_parts _ _ (and_parts _ _ fit).0).0 (head_is eq) (tail_is eq) }
+  form_led {w = w} {ps = ps} (chosen.postfix h p) fit eq led = let u = steps_target w (lead_kind ps) h in record { operator = _; led = led_postfix refl u.0 u.1 p (and_parts _ _ (and_parts _ _ fit).0).0 (head_is eq) (tail_is eq) }
+  form_led (chosen.several h) fit eq led = record { operator = _; led = led_sequence refl h (and_parts _ _ (and_parts _ _ fit).0).0 (head_is eq) (tail_is eq) }
+  form_led chosen.conditional fit eq led = record { operator = _; led = led_conditional refl (and_parts _ _ (and_parts _ _ fit).0).0 (head_is eq) (tail_is eq) }
+  form_led {g = g} (chosen.member_access o s) fit eq led = by_selector g.computed refl o s (and_parts _ _ (and_parts _ _ fit).0).0 (head_is eq) (tail_is eq)
+  form_led (chosen.call o s) fit eq led = record { operator = _; led = led_call refl o s (and_parts _ _ (and_parts _ _ fit).0).0 (head_is eq) (tail_is eq) }
+  form_led chosen.tagged fit eq led = record { operator = _; led = led_tag refl (and_parts _ _ (and_parts _ _ fit).0).0 (head_is eq) (tail_is eq) }
+  form_led (chosen.chain c) fit eq led = record { operator = _; led = led_chain refl c (and_parts _ _ (and_parts _ _ fit).0).0 (head_is eq) (tail_is eq) }
+  form_led {ps = ps} chosen.template fit eq led = not_led eq (chunks_unled y i f true ps) led
+  form_led (chosen.short_arrow e h) fit eq led = not_led eq refl led
+  form_led (chosen.super_member o s) fit eq led = not_led eq refl led
+  form_led (chosen.super_call o s) fit eq led = not_led eq refl led
+  form_led (chosen.new_target h) fit eq led = not_led eq refl led
+  form_led (chosen.assign_pattern h p q) fit eq led = not_led eq refl led
+  form_led (chosen.of_statement s c) fit eq led = elim s [ ]
+  form_led (chosen.of_declaration s c) fit eq led = elim s [ ]
+  form_led _ fit eq led = cc
+
   -- each way that is led is one of the view
   pub led_of : {k : Kind} {w : List ℕ} {g : Flags} {ps : Parts} {b : Role} {rest : List (PieceOf Role)} {x : Spelling} → Made k w g ps x → IsTrue (fits (expr y i f) x) → sub b ∷ rest ≡ settled (expr y i f) x → is_led (sub b ∷ rest) ≡ true → LedWay y i f k w g ps b rest
-  led_of (binary h) fit eq led = record { operator = _; led = led_binary refl h (and_parts _ _ (and_parts _ _ fit).0).0 (and_parts _ _ (and_parts _ _ (and_parts _ _ fit).0).1).0 (head_is eq) (tail_is eq) }
-  led_of (logical h) fit eq led = record { operator = _; led = led_binary refl h (and_parts _ _ (and_parts _ _ fit).0).0 (and_parts _ _ (and_parts _ _ (and_parts _ _ fit).0).1).0 (head_is eq) (tail_is eq) }
-  led_of (power h) fit eq led = record { operator = _; led = led_power refl h (and_parts _ _ (and_parts _ _ fit).0).0 (head_is eq) (tail_is eq) }
-  led_of (assign h t) fit eq led = record { operator = _; led = led_assign refl h t (and_parts _ _ (and_parts _ _ fit).0).0 (head_is eq) (tail_is eq) }
-  led_of (postfix h t p) fit eq led = record { operator = _; led = led_postfix refl h t p (and_parts _ _ (and_parts _ _ fit).0).0 (head_is eq) (tail_is eq) }
-  led_of (several h) fit eq led = record { operator = _; led = led_sequence refl h (and_parts _ _ (and_parts _ _ fit).0).0 (head_is eq) (tail_is eq) }
-  led_of conditional fit eq led = record { operator = _; led = led_conditional refl (and_parts _ _ (and_parts _ _ fit).0).0 (head_is eq) (tail_is eq) }
-  led_of {g = g} (member o s) fit eq led = by_selector g.computed refl o s (and_parts _ _ (and_parts _ _ fit).0).0 (head_is eq) (tail_is eq)
-  led_of (call o s) fit eq led = record { operator = _; led = led_call refl o s (and_parts _ _ (and_parts _ _ fit).0).0 (head_is eq) (tail_is eq) }
-  led_of tagged fit eq led = record { operator = _; led = led_tag refl (and_parts _ _ (and_parts _ _ fit).0).0 (head_is eq) (tail_is eq) }
-  led_of (chain c) fit eq led = record { operator = _; led = led_chain refl c (and_parts _ _ (and_parts _ _ fit).0).0 (head_is eq) (tail_is eq) }
-  led_of (template {ps = ps}) fit eq led = not_led eq (chunks_unled y i f true ps) led
-  led_of (short_arrow h) fit eq led = not_led eq refl led
-  led_of (super_member o s) fit eq led = not_led eq refl led
-  led_of (super_call o s) fit eq led = not_led eq refl led
-  led_of (new_target h) fit eq led = not_led eq refl led
-  led_of (assign_pattern h p q) fit eq led = not_led eq refl led
-  led_of _ fit eq led = cc
+  led_of m fit eq led = form_led m.chosen (subst (λ x. IsTrue (fits (expr y i f) x)) m.is fit) (eq ∙ ap (settled (expr y i f)) m.is) led
 
 -- The ways of a part of a chain, above its base: the base has `?.` behind it.
 pub data Below (f : Start) (o : Bool) (ps : Parts) (b : Role) : Type 0 where

@@ -29,6 +29,17 @@ pub data Neat : Bool → List Spelling → Type 0 where
 abbrev pub one : {b : Bool} {x : Spelling} → neat b false fresh x.pieces ≡ true → Neat b (x ∷ [])
 one h = a_spelling h no_spelling
 
+-- no spelling, or one
+abbrev pub sole_neat : Bool → List Spelling → Bool
+sole_neat b [] = true
+sole_neat b (x ∷ []) = neat b false fresh x.pieces
+sole_neat b (x ∷ y ∷ xs) = false
+
+pub neat_sole : {b : Bool} (xs : List Spelling) → sole_neat b xs ≡ true → Neat b xs
+neat_sole [] h = no_spelling
+neat_sole (x ∷ []) h = one h
+neat_sole (x ∷ y ∷ xs) h = cc
+
 pub neat_cond : {b : Bool} (c : Bool) {xs ys : List Spelling} → (c ≡ true → Neat b xs) → (c ≡ false → Neat b ys) → Neat b (cond c xs ys)
 neat_cond true h k = h refl
 neat_cond false h k = k refl
@@ -331,7 +342,6 @@ pub neat_expressions : (k : Kind) (w : List ℕ) (g : Flags) (ps : Parts) → Ne
 unfolding expressions
 neat_expressions kind.Identifier w g ps = neat_cond (is_reserved w) (λ e. no_spelling) (λ e. one refl)
 neat_expressions kind.Literal w g ps = neat_cond (is_name (literal_class w) && not (among w ("true" ∷ "false" ∷ "null" ∷ []))) (λ e. no_spelling) (λ e. one (neat_literal (first_is_open ps) w))
-neat_expressions kind.ThisExpression w g ps = one refl
 neat_expressions kind.ArrayExpression w g ps = one (neat_elements argument neat_argument ps (first_is_open ps) false solid (sign "]" ∷ []) refl bracket_end)
 neat_expressions kind.ObjectExpression w g ps = one (neat_listed object_part neat_object_part ps (first_is_open ps) false solid (sign "}" ∷ []) refl list_brace_end)
 neat_expressions kind.FunctionExpression w g ps = one (neat_function (first_is_open ps) ps)
@@ -344,7 +354,6 @@ neat_expressions kind.CallExpression w g ps =
     neat_cond g.optional (λ e. no_spelling) (λ e. neat_cond (is_super (lead_kind ps)) (λ h. one (neat_arguments true named (others ps) refl)) (λ h. one (neat_call (first_is_open ps) (others ps))))
 neat_expressions kind.NewExpression w g ps = a_spelling (neat_new (first_is_open ps) (others ps)) (neat_cond (is_none (others ps)) (λ e. one (tight_end (first_is_open ps))) (λ e. no_spelling))
 neat_expressions kind.MetaProperty w g ps = neat_cond (lead_is ps "new" && lead_is (others ps) "target") (λ e. one refl) (λ e. no_spelling)
-neat_expressions kind.ImportExpression w g ps = one refl
 neat_expressions kind.ChainExpression w g ps = neat_cond (first_has_optional ps) (λ e. one refl) (λ e. no_spelling)
 neat_expressions kind.UpdateExpression w g ps =
     neat_cond (not (is_update_operator w && is_target (lead_kind ps))) (λ e. no_spelling)
@@ -353,13 +362,12 @@ neat_expressions kind.UnaryExpression w g ps =
     neat_cond (not (is_prefix w)) (λ e. no_spelling) (λ e. neat_cond (is_word_operator w) (λ h. one refl) (λ h. one (neat_sign (first_is_open ps) w (not_prefix (is_prefix w) e) h)))
 neat_expressions kind.BinaryExpression w g ps = neat_binary (first_is_open ps) w (operator_of w)
 neat_expressions kind.LogicalExpression w g ps = neat_logical (first_is_open ps) w (operator_of w)
-neat_expressions kind.ConditionalExpression w g ps = one refl
 neat_expressions kind.AssignmentExpression w g ps =
     neat_cond (not (is_assignment w)) (λ e. no_spelling)
     (λ e. neat_cond (is_target (lead_kind ps)) (λ h. one (neat_assign (first_is_open ps) w))
     (λ h. neat_cond (is w "=" && is_pattern (lead_kind ps)) (λ k. one (neat_infix true false closed w (sub (tail Assignment Any) ∷ []) refl refl)) (λ k. no_spelling)))
 neat_expressions kind.SequenceExpression w g ps = neat_cond (is_none (others ps)) (λ e. no_spelling) (λ e. one (neat_sequence (others ps) true valued refl))
-neat_expressions _ w g ps = no_spelling
+neat_expressions k w g ps = neat_sole (expressions k w g ps) refl
 
 -- parts of chains
 

@@ -20,7 +20,7 @@ use Rattle.language.specs.Edges.{last_edge, ends_in_if}
 use Rattle.language.specs.Grammar.{spellings}
 use Rattle.language.proofs.table.NeatPieces.{Touch, fresh, apart_from, broken, solid, named, valued, closed, stated, dotted, signed, echoed, Sort, an_operand, sort_of, neat, is_item_touch, NeatBehind, is_item_sort, is_item_piece, neat_item, nothing_behind, behind_part, slot_sort, loose_first, echo_followed, item_followed}
 use Rattle.language.proofs.table.NeatLists.{neat_listed, neat_elements, neat_parameters, neat_pattern_element, neat_pattern_part, neat_bound, neat_default, neat_lines, neat_body, neat_members, neat_declarators, neat_braced, neat_chunks}
-use Rattle.language.proofs.table.NeatExpressions.{Neat, no_spelling, one, neat_cond, bracket_end, list_brace_end, body_end, neat_function, neat_class, first_is_open, neat_literal, neat_expressions, neat_spines}
+use Rattle.language.proofs.table.NeatExpressions.{Neat, no_spelling, one, neat_sole, neat_cond, bracket_end, list_brace_end, body_end, neat_function, neat_class, first_is_open, neat_literal, neat_expressions, neat_spines}
 
 neat_unless : {b : Bool} (c : Bool) (qs : List Piece) → neat b false fresh qs ≡ true → Neat b (cond c [] (only qs))
 neat_unless true qs h = no_spelling
@@ -138,7 +138,6 @@ pub neat_statements : (b r : Bool) (k : Kind) (w : List ℕ) (g : Flags) (ps : P
 unfolding statements
 neat_statements b r kind.BlockStatement w g ps = one (neat_braced ps (lines (item r) ps) (λ ys k c s t. neat_lines false (item r) refl ps ys k c s t) b fresh refl)
 neat_statements b r kind.VariableDeclaration w g ps = neat_cond (is w "var") (λ e. one (neat_declaration b w (declarator true true) refl ps (end_of (last_edge ps) ∷ []) (statement_end (behind (last_edge ps))))) (λ e. no_spelling)
-neat_statements b r kind.EmptyStatement w g ps = one refl
 neat_statements b r kind.ExpressionStatement w g ps = neat_cond g.directive (λ e. no_spelling) (λ e. one refl)
 neat_statements b r kind.IfStatement w g none = no_spelling
 neat_statements b r kind.IfStatement w g (gap ps) = no_spelling
@@ -151,24 +150,19 @@ neat_statements b r kind.IfStatement w g (part t (part c (gap (gap ps)))) = no_s
 neat_statements b r kind.IfStatement w g (part t (part c (part a none))) = neat_cond (ends_in_if c) (λ e. no_spelling) (λ e. one refl)
 neat_statements b r kind.IfStatement w g (part t (part c (part a (part n ps)))) = no_spelling
 neat_statements b r kind.IfStatement w g (part t (part c (part a (gap ps)))) = no_spelling
-neat_statements b r kind.DoWhileStatement w g ps = one refl
-neat_statements b r kind.WhileStatement w g ps = one refl
 neat_statements b r kind.ForStatement w g ps = one (neat_for_pieces b r ps)
 neat_statements b r kind.ForInStatement w g ps = one (neat_item b false solid (for_left ps) (sp ∷ term "in" ∷ sp ∷ whole ∷ sign ")" ∷ sp ∷ put (statement r) ∷ []) refl (for_left_item ps) (for_word (codes "in") (expr Expression true Any) r refl))
 neat_statements b r kind.ForOfStatement w g ps = one (neat_item b false solid (for_left ps) (sp ∷ term "of" ∷ sp ∷ put (expr Assignment true Any) ∷ sign ")" ∷ sp ∷ put (statement r) ∷ []) refl (for_left_item ps) (for_word (codes "of") (expr Assignment true Any) r refl))
 neat_statements b r kind.ContinueStatement w g ps = one (neat_word_end b (codes "continue") ps name (behind Rattle.language.specs.declared.Edge.TheVariants.Closed) refl)
 neat_statements b r kind.BreakStatement w g ps = one (neat_word_end b (codes "break") ps name (behind Rattle.language.specs.declared.Edge.TheVariants.Closed) refl)
 neat_statements b r kind.ReturnStatement w g ps = neat_cond r (λ e. one (neat_word_end b (codes "return") ps (expr Expression true Any) (behind (last_edge ps)) refl)) (λ e. no_spelling)
-neat_statements b r kind.ThrowStatement w g ps = one refl
-neat_statements b r kind.LabeledStatement w g ps = one refl
 neat_statements b r kind.SwitchStatement w g ps =
     neat_cond (nat_le (defaults (others ps)) 1) (λ e. one (neat_braced (others ps) (lines (switch_case r) (others ps)) (λ ys k c s t. neat_lines false (switch_case r) refl (others ps) ys k c s t) true apart_from refl)) (λ e. no_spelling)
 neat_statements b r kind.TryStatement w g (part m (part h (gap none))) = one refl
 neat_statements b r kind.TryStatement w g (part m (part h (part f none))) = one refl
 neat_statements b r kind.TryStatement w g (part m (gap (part f none))) = one refl
 neat_statements b r kind.TryStatement w g _ = no_spelling
-neat_statements b r kind.DebuggerStatement w g ps = one refl
-neat_statements b r _ w g ps = no_spelling
+neat_statements b r k w g ps = neat_sole (statements r k w g ps) refl
 
 pub neat_items : (b r : Bool) (k : Kind) (w : List ℕ) (g : Flags) (ps : Parts) → Neat b (items r k w g ps)
 unfolding items

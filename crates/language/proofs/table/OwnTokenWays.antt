@@ -5,7 +5,7 @@ use Rattle.tokens.specs.declared.token.TokenClass.{TokenClass}
 use Rattle.tokens.specs.declared.token.TokenClass.TheVariants.{IdentifierName, Punctuator}
 use Rattle.tokens.specs.declared.token.Goal.{Goal}
 use Rattle.tree.specs.declared.kind.Kind.{Kind}
-use Rattle.tree.specs.declared.kind.Kind.TheVariants.{ExpressionStatement, BlockStatement, EmptyStatement, DebuggerStatement, ReturnStatement, ThrowStatement, BreakStatement, ContinueStatement, IfStatement, SwitchStatement, TryStatement, WhileStatement, DoWhileStatement, ForStatement, ForInStatement, ForOfStatement, VariableDeclaration, FunctionDeclaration, ClassDeclaration}
+use Rattle.tree.specs.declared.kind.Kind.TheVariants.{BlockStatement, ForInStatement, ForOfStatement}
 use Rattle.tree.specs.declared.kind.Pair.{Pair}
 use Rattle.tree.specs.Tree.{Tree, node, Parts, bare, bare_parts, plain}
 use Rattle.tree.specs.Uses.{is_lean}
@@ -14,7 +14,7 @@ use Rattle.language.specs.declared.Start.TheVariants.{Any}
 use Rattle.language.specs.Vocabulary.{among}
 use Rattle.language.specs.Pieces.{Role, at, Spelling}
 use Rattle.language.specs.Token.{Token}
-use Rattle.language.specs.StatementStart.{StatementStart, a_block, an_empty, a_variable, an_if, a_do, a_while, a_for, a_continue, a_break, a_return, a_throw, a_switch, a_try, a_debugger, a_function, a_class, an_expression, is_own, statement_words, declaration_words, statement_signs, statement_start_among, statement_start_by, statement_start}
+use Rattle.language.specs.StatementStart.{StatementStart, a_for, an_expression, is_own, statement_words, declaration_words, statement_signs, statement_start_among, statement_start_by, statement_start}
 use Rattle.language.specs.Promises.{IsDetermined, ReadBy}
 use Rattle.language.specs.Following.{AbsentPartsWhere}
 use Rattle.language.specs.Grammar.{ways, can_run}
@@ -22,30 +22,10 @@ use Rattle.language.specs.Derivation.{Spells, direct, Runs, step, token, Placed,
 use Rattle.language.proofs.lower_bound.Domination.{settled, fits}
 use Rattle.language.proofs.table.Begins.{Each, among_by, goes_to, retell}
 use Rattle.language.proofs.table.Productions.{way_from, runs_can}
-use Rattle.language.proofs.table.StatementWays.{begins_as, own_class, own_text, may_stand, behind_own, own_pieces, Stands, as_statement, as_item, as_opening, own_listed}
+use Rattle.language.proofs.table.StatementWays.{begins_as, kind_as, own_class, own_text, may_stand, behind_own, own_pieces, Stands, as_statement, as_item, as_opening, own_listed}
 use Rattle.language.proofs.table.LoopKinds.{LoopKind, a_loop, a_loop_in, a_loop_of, loop_kind}
 use Rattle.language.proofs.table.Beginnings.{text_as, settled_at, OwnWay, own_way}
 use Rattle.language.proofs.table.SoleWays.{Sole}
-
--- the kind of the statement with such a beginning; of those with `for` the first
-abbrev pub kind_as : StatementStart → Kind
-kind_as a_block = BlockStatement
-kind_as an_empty = EmptyStatement
-kind_as a_variable = VariableDeclaration
-kind_as an_if = IfStatement
-kind_as a_do = DoWhileStatement
-kind_as a_while = WhileStatement
-kind_as a_for = ForStatement
-kind_as a_continue = ContinueStatement
-kind_as a_break = BreakStatement
-kind_as a_return = ReturnStatement
-kind_as a_throw = ThrowStatement
-kind_as a_switch = SwitchStatement
-kind_as a_try = TryStatement
-kind_as a_debugger = DebuggerStatement
-kind_as a_function = FunctionDeclaration
-kind_as a_class = ClassDeclaration
-kind_as an_expression = ExpressionStatement
 
 only_kind : (k : Kind) → is_own (begins_as k) ≡ true → (begins_as k ≡ a_for → ⊥) → k ≡ kind_as (begins_as k)
 only_kind ForInStatement h f = absurd (f refl)
@@ -53,23 +33,8 @@ only_kind ForOfStatement h f = absurd (f refl)
 only_kind _ h f = cc
 
 kind_again : (b : StatementStart) → is_own b ≡ true → begins_as (kind_as b) ≡ b
-kind_again a_block h = refl
-kind_again an_empty h = refl
-kind_again a_variable h = refl
-kind_again an_if h = refl
-kind_again a_do h = refl
-kind_again a_while h = refl
-kind_again a_for h = refl
-kind_again a_continue h = refl
-kind_again a_break h = refl
-kind_again a_return h = refl
-kind_again a_throw h = refl
-kind_again a_switch h = refl
-kind_again a_try h = refl
-kind_again a_debugger h = refl
-kind_again a_function h = refl
-kind_again a_class h = refl
 kind_again an_expression h = cc
+kind_again _ h = refl
 
 -- of a statement that the token begins: its token's class and text, and that it may stand there
 record Begun (d r : Bool) (c : TokenClass) (w : List ℕ) (b : StatementStart) : Type 0 where

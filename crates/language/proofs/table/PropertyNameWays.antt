@@ -17,20 +17,20 @@ use Rattle.tree.proofs.Lean.{lean_flags}
 use Rattle.language.specs.declared.Rank.TheVariants.{Expression, Primary}
 use Rattle.language.specs.declared.Start.TheVariants.{Any}
 use Rattle.language.specs.Vocabulary.{literal_class, is_name}
-use Rattle.language.specs.Pieces.{Role, key, shorthand_key, PieceOf, tok, ahead, sub, Spelling, at, term, sp}
+use Rattle.language.specs.Pieces.{Role, key, PieceOf, tok, sub, Spelling, at, term, sp}
 use Rattle.language.specs.Token.{Token}
 use Rattle.language.specs.Promises.{is_free, IsDetermined, ReadBy, FoundAt}
 use Rattle.language.specs.Grammar.{ways, spellings, keys}
-use Rattle.language.specs.Derivation.{Among, first, Reads, Spells, direct, Runs, done, step, token, seen, Placed, placed}
+use Rattle.language.specs.Derivation.{Among, first, Reads, Spells, direct, Runs, done, step, token, Placed, placed}
 use Rattle.language.proofs.lower_bound.Domination.{settled}
 use Rattle.language.proofs.table.ViewIsComplete.{way_of, one, unless}
 use Rattle.language.proofs.table.Productions.{way_from, in_false}
 use Rattle.language.proofs.table.Begins.{goes_to, retell}
-use Rattle.language.proofs.list_loops.FirstPieces.{run_none, run_token, run_part, run_never}
+use Rattle.language.proofs.list_loops.FirstPieces.{run_none, run_token, run_part}
 use Rattle.language.proofs.climbing.BinaryTurns.{same_node}
 use Rattle.language.proofs.climbing.Leaves.{OneToken}
 use Rattle.language.proofs.table.StatementWays.{pieces_of_one}
-use Rattle.language.proofs.table.PropertyWays.{property_pieces, form_pieces, MemberForm}
+use Rattle.language.proofs.table.PropertyWays.{form_pieces, MemberForm}
 use Rattle.language.proofs.climbing.Conditionals.{read_there}
 use Rattle.tokens.specs.Goals.{allows}
 
@@ -197,32 +197,6 @@ module _ (S : Type 0) (Next : S → Token → S → Type 0) (behind : S → Toke
       let v = u.leaf in
       let same = (det.same Div s t v.sign m p.mid read.next v.reads.next read.allowed (det.free Div s v.sign p.mid v.reads.next (ap is_free v.reads.class ∙ key_free u.class u.is_key))).0 in
       ap is_key_class (ap (λ (x : Token). x.class) same ∙ v.reads.class) ∙ u.is_key
-
-  echo_read : {o : ℕ} {qs : List (PieceOf Role)} {ps : Parts} {e : S} {P : List Pair} → Runs ways S Next behind o (sub shorthand_key ∷ qs) ps s e P → is_key_class t.class ≡ true
-  unfolding spellings
-  echo_read d = let p = run_part S Next behind d in of p.item p.spelled
-    where
-      seen_name : {o : ℕ} {w : List ℕ} {ps : Parts} {e : S} {P : List Pair} → Runs ways S Next behind o (ahead w ∷ []) ps s e P → is_key_class t.class ≡ true
-      seen_name (step (seen {t = v} {e = k} h) d) =
-          let same = (det.same Div s t v m k read.next h.next read.allowed (det.free Div s v k h.next (ap is_free h.class))).0 in
-          ap is_key_class (ap (λ (x : Token). x.class) same ∙ h.class)
-
-      of : {o : ℕ} {e : S} {P : List Pair} (n : Tree) → Spells ways S Next behind o shorthand_key n s e P → is_key_class t.class ≡ true
-      of (node Identifier w g st en ps) (direct qs h pl d) = let v = way_of h in seen_name (retell S Next behind (v.is ∙ ap (settled shorthand_key) (one v.listed)) d)
-      of (node _ w g st en ps) (direct qs h pl d) = elim ((way_of h).listed) [ ]
-
-  first_by : {o : ℕ} {ps : Parts} {e : S} {P : List Pair} (c : Bool) (f : Form) → Runs ways S Next behind o (goes_to Expression true Any (property_pieces c f)) ps s e P → FirstOf t c f
-  first_by true Init d = let u = sign_read refl d in first_bracket refl u.0 u.1
-  first_by false Init d = first_key refl (key_read d)
-  first_by true Method d = let u = sign_read refl d in first_bracket refl u.0 u.1
-  first_by false Method d = first_key refl (key_read d)
-  first_by true Get d = let u = word_read refl d in first_get u.0 u.1
-  first_by false Get d = let u = word_read refl d in first_get u.0 u.1
-  first_by true Set d = let u = word_read refl d in first_set u.0 u.1
-  first_by false Set d = let u = word_read refl d in first_set u.0 u.1
-  first_by true Shorthand d = absurd (run_never S Next behind d)
-  first_by false Shorthand d = first_key refl (echo_read d)
-  first_by c Constructor d = absurd (run_never S Next behind d)
 
   form_first : {o : ℕ} {ps : Parts} {e : S} {P : List Pair} (c : Bool) (f : Form) → Runs ways S Next behind o (goes_to Expression true Any (form_pieces [] c f)) ps s e P → FirstOf t c f
   form_first true Init d = let u = sign_read refl d in first_bracket refl u.0 u.1

@@ -1,8 +1,7 @@
 -- Properties, members of classes and their keys: what spells them, by their flags.
 use Rattle.std.proofs.Common.{◌≡◌, ℕ, Bool, true, false, cond, List, [], ◌∷◌, ◌++◌, refl, ap, ◌∙◌, subst}
 use Rattle.std.specs.Prelude.{not, ◌&&◌, ◌||◌}
-use Rattle.tree.specs.declared.kind.Kind.{Kind}
-use Rattle.tree.specs.declared.kind.Kind.TheVariants.{Identifier, Property, MethodDefinition, AssignmentPattern}
+use Rattle.tree.specs.declared.kind.Kind.TheVariants.{MethodDefinition}
 use Rattle.tree.specs.declared.kind.Flags.{Flags}
 use Rattle.tree.specs.declared.kind.Form.{Form}
 use Rattle.tree.specs.declared.kind.Form.TheVariants.{Init, Get, Set, Method, Shorthand, Constructor}
@@ -11,12 +10,11 @@ use Rattle.tree.specs.Tree.{Tree, node, Parts, none, part, gap, kind_of, text_of
 use Rattle.tree.proofs.Lean.{lean_flags, lean_text}
 use Rattle.language.specs.declared.Rank.TheVariants.{Expression}
 use Rattle.language.specs.declared.Start.TheVariants.{Any}
-use Rattle.language.specs.FirstPart.{lead, others}
 use Rattle.language.specs.Vocabulary.{is, is_identifier}
-use Rattle.language.specs.Pieces.{Role, name, key, shorthand_key, property, pattern_property, element, method, member, Piece, Spelling, put, put_at, sign, term, sp, nothing, with_default}
+use Rattle.language.specs.Pieces.{key, method, member, Piece, Spelling, put, sign, term, sp}
 use Rattle.language.specs.Statements.{is_string_literal, members, class_members}
 use Rattle.language.specs.Strings.{literal_units}
-use Rattle.language.specs.Expressions.{assignment, keyed, properties, shorthand_pattern, pattern_properties}
+use Rattle.language.specs.Expressions.{assignment, keyed}
 use Rattle.language.specs.Token.{Token}
 use Rattle.language.specs.Promises.{IsDetermined}
 use Rattle.language.specs.Grammar.{ways, spellings}
@@ -29,26 +27,6 @@ use Rattle.language.proofs.table.StatementWays.{pieces_of_one}
 -- a key between these pieces, in brackets or not
 abbrev pub keyed_pieces : List Piece → Bool → List Piece → List Piece
 keyed_pieces before computed after = cond computed (before ++ sign "[" ∷ assignment ∷ sign "]" ∷ after) (before ++ put key ∷ after)
-
--- the pieces of a property of an object
-abbrev pub property_pieces : Bool → Form → List Piece
-property_pieces c Init = keyed_pieces [] c (sign ":" ∷ sp ∷ assignment ∷ [])
-property_pieces c Method = keyed_pieces [] c (put (method Method) ∷ [])
-property_pieces c Get = keyed_pieces (term "get" ∷ sp ∷ []) c (put (method Get) ∷ [])
-property_pieces c Set = keyed_pieces (term "set" ∷ sp ∷ []) c (put (method Set) ∷ [])
-property_pieces c Shorthand = cond c nothing (put shorthand_key ∷ put name ∷ [])
-property_pieces c Constructor = nothing
-
--- of an object pattern, whose value has this kind
-abbrev pub shorthand_pieces : Kind → List Piece
-shorthand_pieces Identifier = put shorthand_key ∷ put name ∷ []
-shorthand_pieces AssignmentPattern = put shorthand_key ∷ put (element true) ∷ []
-shorthand_pieces _ = nothing
-
-abbrev pub pattern_property_pieces : Bool → Bool → Form → Kind → List Piece
-pattern_property_pieces b c Init k = keyed_pieces [] c (sign ":" ∷ sp ∷ put_at (with_default b k) ∷ [])
-pattern_property_pieces b c Shorthand k = cond c nothing (shorthand_pieces k)
-pattern_property_pieces b c _ k = nothing
 
 -- the pieces of a member behind these
 abbrev pub form_pieces : List Piece → Bool → Form → List Piece
@@ -77,29 +55,6 @@ keyed_way : (before : List Piece) (c : Bool) (after : List Piece) {x : Spelling}
 keyed_way before true after h = pieces_of_one h
 keyed_way before false after h = pieces_of_one h
 
-property_way : (c : Bool) (f : Form) {x : Spelling} → Among x (properties c f) → x.pieces ≡ property_pieces c f
-property_way c Init h = keyed_way [] c (sign ":" ∷ sp ∷ assignment ∷ []) h
-property_way c Method h = keyed_way [] c (put (method Method) ∷ []) h
-property_way c Get h = keyed_way (term "get" ∷ sp ∷ []) c (put (method Get) ∷ []) h
-property_way c Set h = keyed_way (term "set" ∷ sp ∷ []) c (put (method Set) ∷ []) h
-property_way true Shorthand h = elim h [ ]
-property_way false Shorthand h = pieces_of_one h
-property_way c Constructor h = elim h [ ]
-
-shorthand_way : (k : Kind) {x : Spelling} → Among x (shorthand_pattern k) → x.pieces ≡ shorthand_pieces k
-shorthand_way Identifier h = pieces_of_one h
-shorthand_way AssignmentPattern h = pieces_of_one h
-shorthand_way _ h = elim h [ ]
-
-pattern_property_way : (b c : Bool) (f : Form) (k : Kind) {x : Spelling} → Among x (pattern_properties b c f k) → x.pieces ≡ pattern_property_pieces b c f k
-pattern_property_way b c Init k h = keyed_way [] c (sign ":" ∷ sp ∷ put_at (with_default b k) ∷ []) h
-pattern_property_way b true Shorthand k h = elim h [ ]
-pattern_property_way b false Shorthand k h = shorthand_way k h
-pattern_property_way b c Get k h = elim h [ ]
-pattern_property_way b c Set k h = elim h [ ]
-pattern_property_way b c Method k h = elim h [ ]
-pattern_property_way b c Constructor k h = elim h [ ]
-
 form_way : (before : List Piece) (c : Bool) (f : Form) {x : Spelling} → Among x (members before c f) → x.pieces ≡ form_pieces before c f
 form_way before c Get h = keyed_way (before ++ term "get" ∷ sp ∷ []) c (put (method Get) ∷ []) h
 form_way before c Set h = keyed_way (before ++ term "set" ∷ sp ∷ []) c (put (method Set) ∷ []) h
@@ -107,10 +62,6 @@ form_way before c Init h = keyed_way before c (put (method Method) ∷ []) h
 form_way before c Method h = keyed_way before c (put (method Method) ∷ []) h
 form_way before c Shorthand h = keyed_way before c (put (method Method) ∷ []) h
 form_way before c Constructor h = keyed_way before c (put (method Method) ∷ []) h
-
--- the flags of a property, and of a member
-abbrev pub property_flags : Bool → Form → Flags
-property_flags c f = record plain { computed = c; form = f }
 
 abbrev pub member_flags : Bool → Bool → Form → Flags
 member_flags c s f = record plain { computed = c; is_static = s; form = f }
@@ -136,47 +87,6 @@ member_way c s Init ps h = elim h [ ]
 member_way c s Shorthand ps h = elim h [ ]
 
 module _ (S : Type 0) (Next : S → Token → S → Type 0) (behind : S → Token) (det : IsDetermined S Next behind) where
-  -- what spells a property: its flags, and the pieces that they ask for
-  pub record PropertyForm (o : ℕ) (a : Role) (pieces : Bool → Form → Parts → List Piece) (n : Tree) (s e : S) (P : List Pair) : Type 0 where
-    pub computed : Bool
-    pub form : Form
-    pub st : ℕ
-    pub en : ℕ
-    pub parts : Parts
-    pub tree : n ≡ node Property [] (property_flags computed form) st en parts
-    pub placed : Placed S Next behind a n s e
-    pub runs : Runs ways S Next behind o (goes_to Expression true Any (pieces computed form (bare_parts parts))) parts s e P
-
-  pub property_form : {o : ℕ} {n : Tree} {s e : S} {P : List Pair} → Spells ways S Next behind o property n s e P → PropertyForm o property (λ c f ps. property_pieces c f) n s e P
-  unfolding spellings
-  property_form {n = node Property w g st en ps} (direct qs h pl d) = let v = way_of h in record {
-    computed = g.computed;
-    form = g.form;
-    st = st;
-    en = en;
-    parts = ps;
-    tree = same_node refl (lean_text (bare (node Property w g st en ps)) v.lean refl) (lean_flags (bare (node Property w g st en ps)) v.lean) refl refl refl;
-    placed = pl;
-    runs = retell S Next behind (v.is ∙ ap (goes_to Expression true Any) (property_way g.computed g.form v.listed)) d;
-  }
-  property_form {n = node _ w g st en ps} (direct qs h pl d) = elim ((way_of h).listed) [ ]
-
-  -- the same in an object pattern
-  pub pattern_property_form : {o : ℕ} {b : Bool} {n : Tree} {s e : S} {P : List Pair} → Spells ways S Next behind o (pattern_property b) n s e P →
-      PropertyForm o (pattern_property b) (λ c f ps. pattern_property_pieces b c f (lead (others ps))) n s e P
-  unfolding spellings
-  pattern_property_form {b = b} {n = node Property w g st en ps} (direct qs h pl d) = let v = way_of h in record {
-    computed = g.computed;
-    form = g.form;
-    st = st;
-    en = en;
-    parts = ps;
-    tree = same_node refl (lean_text (bare (node Property w g st en ps)) v.lean refl) (lean_flags (bare (node Property w g st en ps)) v.lean) refl refl refl;
-    placed = pl;
-    runs = retell S Next behind (v.is ∙ ap (goes_to Expression true Any) (pattern_property_way b g.computed g.form (lead (others (bare_parts ps))) v.listed)) d;
-  }
-  pattern_property_form {n = node _ w g st en ps} (direct qs h pl d) = elim ((way_of h).listed) [ ]
-
   -- what spells a member of a class
   pub record MemberForm (o : ℕ) (n : Tree) (s e : S) (P : List Pair) : Type 0 where
     pub computed : Bool

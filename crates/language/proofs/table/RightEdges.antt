@@ -21,7 +21,10 @@ use Rattle.language.specs.Edges.{edge, last_edge, edge_as_written}
 use Rattle.language.specs.Expressions.{arrow_end, sequence, joined}
 use Rattle.language.specs.Grammar.{ways, spellings}
 use Rattle.language.specs.Derivation.{Among, Spells, direct, grouped, Runs, done, step, opened, closed, within, missing}
-use Rattle.language.specs.NodeForms.{Made, identifier, literal, this, array, object, function, class, template, short_arrow, arrow, tagged, super_member, member, super_call, call, new_with, new_without, new_target, import_call, chain, prefix, postfix, unary_word, unary_sign, power, binary, logical, conditional, assign, assign_pattern, several}
+use Rattle.language.specs.Chosen as chosen
+use Rattle.language.specs.Chosen.{Chosen}
+use Rattle.language.specs.Forms.{Production, form, spelling_of}
+use Rattle.language.proofs.table.NodeForms.{Made}
 use Rattle.language.specs.Promises.{IsDetermined}
 use Rattle.language.specs.Continuations.{rank_made_by, holds}
 use Rattle.language.proofs.lower_bound.Domination.{settled, fits}
@@ -127,43 +130,36 @@ module _ (y : Rank) (i : Bool) (f : Start) (last : Token) where
   update_edged true tk = other_edged
   update_edged false tk = postfix_edged tk
 
+  short_ends : (b : Bool) → b ≡ true → Ends Assignment (goes_to y i f (cond b (sub (tail Assignment NoBrace) ∷ []) (put body ∷ [])))
+  short_ends true e = at_last
+  short_ends false e = cc
+
+  form_edged : {k : Kind} {w : List ℕ} {g : Flags} (st en : ℕ) (ps : Parts) {qs : Parts} {p : Production} → Chosen w g qs (expr Expression true Any) k p → IsTrue (fits (expr y i f) (spelling_of (form p) w g qs)) →
+      ((q : Rank) → Ends q (settled (expr y i f) (spelling_of (form p) w g qs)) → LastEdged q ps last) → Edged y (edge (node k w g st en ps)) last
+  form_edged {g = g} st en ps (chosen.short_arrow e a) fit u = arrow_edged ps g.expression (and_parts _ _ (and_parts _ _ fit).0).0 (λ e. u Assignment (more (more (more (more (more (short_ends g.expression e)))))))
+  form_edged {g = g} st en ps {qs} chosen.arrow fit u = arrow_edged ps g.expression (and_parts _ _ (and_parts _ _ fit).0).0 (λ e. u Assignment (more (parameters_end y i f (close_parameters ∷ arrow_end g) qs (more (arrow_ends g e)))))
+  form_edged {g = g} st en ps (chosen.prefix a c) fit u = update_edged g.prefix (and_parts _ _ (and_parts _ _ fit).0).0
+  form_edged {g = g} st en ps (chosen.postfix a c) fit u = update_edged g.prefix (and_parts _ _ (and_parts _ _ fit).0).0
+  form_edged st en ps (chosen.unary_word a b) fit u = right Unary Unary ps (and_parts _ _ (and_parts _ _ fit).0).0 (λ h. omega arith) (omega arith) (u Unary (more (more at_last)))
+  form_edged {w = w} st en ps (chosen.unary_sign a b) fit u = right Unary Unary ps (and_parts _ _ (and_parts _ _ fit).0).0 (λ h. omega arith) (omega arith)
+      (u Unary (more (ends_behind y i f (cond (is w "+") (lay (apart 43) ∷ []) (cond (is w "-") (lay (apart 45) ∷ []) [])) (put (expr Unary true Any) ∷ []) at_last)))
+  form_edged st en ps (chosen.power a) fit u = right Exponentiation Exponentiation ps (and_parts _ _ (and_parts _ _ fit).0).0 (λ h. omega arith) (omega arith) (u Exponentiation (more (more (more (more at_last)))))
+  form_edged {w = w} st en ps (chosen.binary {z = z} {q = q} op) fit u = let b = binding w op in let least = b.least in let most = b.most in let up = b.rises.0 in
+      right z q ps (stands_at (joined w z q) fit) (λ h. omega arith) (omega arith) (u q (more (more (more (more at_last)))))
+  form_edged {w = w} st en ps (chosen.logical {z = z} {q = q} op) fit u = let b = binding w op in let least = b.least in let most = b.most in let up = b.rises.0 in
+      right z q ps (stands_at (joined w z q) fit) (λ h. omega arith) (omega arith) (u q (more (more (more (more at_last)))))
+  form_edged st en ps chosen.conditional fit u = right Conditional Assignment ps (and_parts _ _ (and_parts _ _ fit).0).0 (λ h. omega arith) (omega arith) (u Assignment (more (more (more (more (more (more (more (more at_last)))))))))
+  form_edged st en ps (chosen.assign a b) fit u = right Assignment Assignment ps (and_parts _ _ (and_parts _ _ fit).0).0 (λ h. omega arith) (omega arith) (u Assignment (more (more (more (more at_last)))))
+  form_edged st en ps (chosen.assign_pattern a b c) fit u = right Assignment Assignment ps (and_parts _ _ (and_parts _ _ fit).0).0 (λ h. omega arith) (omega arith) (u Assignment (more (more (more (more at_last)))))
+  form_edged st en ps {qs} (chosen.several a) fit u = right Expression Assignment ps (and_parts _ _ (and_parts _ _ fit).0).0 (λ h. omega arith) (omega arith) (u Assignment (more (sequence_ends y i f (others qs) a)))
+  form_edged st en ps (chosen.of_statement s c) fit u = elim s [ ]
+  form_edged st en ps (chosen.of_declaration s c) fit u = elim s [ ]
+  form_edged st en ps _ fit u = other_edged
+
   -- the edge of a node, by the production that spells it
   way_edged : {k : Kind} {w : List ℕ} {g : Flags} (st en : ℕ) (ps : Parts) {qs : Parts} {x : Spelling} → Made k w g qs x → IsTrue (fits (expr y i f) x) →
       ((q : Rank) → Ends q (settled (expr y i f) x) → LastEdged q ps last) → Edged y (edge (node k w g st en ps)) last
-  way_edged st en ps (identifier a) fit u = other_edged
-  way_edged st en ps (literal a) fit u = other_edged
-  way_edged st en ps this fit u = other_edged
-  way_edged st en ps array fit u = other_edged
-  way_edged st en ps object fit u = other_edged
-  way_edged st en ps function fit u = other_edged
-  way_edged st en ps class fit u = other_edged
-  way_edged st en ps template fit u = other_edged
-  way_edged st en ps (short_arrow {g = g} a) fit u = arrow_edged ps g.expression (and_parts _ _ (and_parts _ _ fit).0).0 (λ e. u Assignment (more (arrow_ends g e)))
-  way_edged st en ps (arrow {g = g} {ps = qs}) fit u = arrow_edged ps g.expression (and_parts _ _ (and_parts _ _ fit).0).0 (λ e. u Assignment (more (parameters_end y i f (close_parameters ∷ arrow_end g) qs (more (arrow_ends g e)))))
-  way_edged st en ps tagged fit u = other_edged
-  way_edged st en ps (super_member a b) fit u = other_edged
-  way_edged st en ps (member a b) fit u = other_edged
-  way_edged st en ps (super_call a b) fit u = other_edged
-  way_edged st en ps (call a b) fit u = other_edged
-  way_edged st en ps new_with fit u = other_edged
-  way_edged st en ps (new_without a) fit u = other_edged
-  way_edged st en ps (new_target a) fit u = other_edged
-  way_edged st en ps import_call fit u = other_edged
-  way_edged st en ps (chain a) fit u = other_edged
-  way_edged st en ps (prefix {g = g} a b c) fit u = update_edged g.prefix (and_parts _ _ (and_parts _ _ fit).0).0
-  way_edged st en ps (postfix {g = g} a b c) fit u = update_edged g.prefix (and_parts _ _ (and_parts _ _ fit).0).0
-  way_edged st en ps (unary_word a b) fit u = right Unary Unary ps (and_parts _ _ (and_parts _ _ fit).0).0 (λ h. omega arith) (omega arith) (u Unary (more (more at_last)))
-  way_edged st en ps (unary_sign {w = w} a b) fit u = right Unary Unary ps (and_parts _ _ (and_parts _ _ fit).0).0 (λ h. omega arith) (omega arith)
-      (u Unary (more (ends_behind y i f (cond (is w "+") (lay (apart 43) ∷ []) (cond (is w "-") (lay (apart 45) ∷ []) [])) (put (expr Unary true Any) ∷ []) at_last)))
-  way_edged st en ps (power a) fit u = right Exponentiation Exponentiation ps (and_parts _ _ (and_parts _ _ fit).0).0 (λ h. omega arith) (omega arith) (u Exponentiation (more (more (more (more at_last)))))
-  way_edged st en ps (binary {w = w} {z = z} {q = q} op) fit u = let b = binding w op in let least = b.least in let most = b.most in let up = b.rises.0 in
-      right z q ps (stands_at (joined w z q) fit) (λ h. omega arith) (omega arith) (u q (more (more (more (more at_last)))))
-  way_edged st en ps (logical {w = w} {z = z} {q = q} op) fit u = let b = binding w op in let least = b.least in let most = b.most in let up = b.rises.0 in
-      right z q ps (stands_at (joined w z q) fit) (λ h. omega arith) (omega arith) (u q (more (more (more (more at_last)))))
-  way_edged st en ps conditional fit u = right Conditional Assignment ps (and_parts _ _ (and_parts _ _ fit).0).0 (λ h. omega arith) (omega arith) (u Assignment (more (more (more (more (more (more (more (more at_last)))))))))
-  way_edged st en ps (assign a b) fit u = right Assignment Assignment ps (and_parts _ _ (and_parts _ _ fit).0).0 (λ h. omega arith) (omega arith) (u Assignment (more (more (more (more at_last)))))
-  way_edged st en ps (assign_pattern a b c) fit u = right Assignment Assignment ps (and_parts _ _ (and_parts _ _ fit).0).0 (λ h. omega arith) (omega arith) (u Assignment (more (more (more (more at_last)))))
-  way_edged st en ps (several {ps = qs} a) fit u = right Expression Assignment ps (and_parts _ _ (and_parts _ _ fit).0).0 (λ h. omega arith) (omega arith) (u Assignment (more (sequence_ends y i f (others qs) a)))
+  way_edged st en ps m fit u = form_edged st en ps m.chosen (subst (λ x. IsTrue (fits (expr y i f) x)) m.is fit) (λ q e. u q (subst (λ x. Ends q (settled (expr y i f) x)) (sym m.is) e))
 
 -- a way of an expression, as a production
 pub record ViewOf (y : Rank) (i : Bool) (f : Start) (k : Kind) (w : List ℕ) (g : Flags) (ps : Parts) (qs : List (PieceOf Role)) : Type 0 where

@@ -46,6 +46,26 @@ begins_as FunctionDeclaration = a_function
 begins_as ClassDeclaration = a_class
 begins_as _ = an_expression
 
+-- the kind of the statement with such a beginning; of those with `for` the first
+abbrev pub kind_as : StatementStart → Kind
+kind_as a_block = BlockStatement
+kind_as an_empty = EmptyStatement
+kind_as a_variable = VariableDeclaration
+kind_as an_if = IfStatement
+kind_as a_do = DoWhileStatement
+kind_as a_while = WhileStatement
+kind_as a_for = ForStatement
+kind_as a_continue = ContinueStatement
+kind_as a_break = BreakStatement
+kind_as a_return = ReturnStatement
+kind_as a_throw = ThrowStatement
+kind_as a_switch = SwitchStatement
+kind_as a_try = TryStatement
+kind_as a_debugger = DebuggerStatement
+kind_as a_function = FunctionDeclaration
+kind_as a_class = ClassDeclaration
+kind_as an_expression = ExpressionStatement
+
 -- the class and the text of its first token; w is the node's text
 abbrev pub own_class : StatementStart → TokenClass
 own_class a_block = Punctuator
@@ -167,20 +187,7 @@ may_more false r b w h = h
 may_more true r a_variable w h = among_by (λ v. among v ("var" ∷ "let" ∷ "const" ∷ []) ≡ true) w ("var" ∷ []) h (refl, tt)
 may_more true r a_function w h = refl
 may_more true r a_class w h = refl
-may_more true r a_block w h = h
-may_more true r an_empty w h = h
-may_more true r an_if w h = h
-may_more true r a_do w h = h
-may_more true r a_while w h = h
-may_more true r a_for w h = h
-may_more true r a_continue w h = h
-may_more true r a_break w h = h
-may_more true r a_return w h = h
-may_more true r a_throw w h = h
-may_more true r a_switch w h = h
-may_more true r a_try w h = h
-may_more true r a_debugger w h = h
-may_more true r an_expression w h = h
+may_more true r _ w h = h
 
 module _ (r : Bool) (w : List ℕ) (g : Flags) where
   as_item_too : {k : Kind} {ps : Parts} {qs : List Piece} → Stated false false r k w g ps qs → Stated false true r k w g ps qs

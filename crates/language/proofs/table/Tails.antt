@@ -48,9 +48,6 @@ by_assign y x h k = grind (arith, nat_tests)
 by_conditional : (y x : ℕ) → (y ≡ 2 → ⊥) → IsTrue (takes_number y 2) → IsTrue (takes_number 1 x) → IsTrue (takes_number y x)
 by_conditional y x n h k = grind (arith, nat_tests)
 
-by_sequence : (y x : ℕ) → IsTrue (takes_number y 0) → IsTrue (takes_number 1 x) → IsTrue (takes_number y x)
-by_sequence y x h k = grind (arith, nat_tests)
-
 by_unary : (y x : ℕ) → IsTrue (takes_number y 16) → IsTrue (takes_number 16 x) → IsTrue (takes_number y x)
 by_unary y x h k = grind (arith, nat_tests)
 
@@ -78,10 +75,6 @@ tails_conditional = record {
   tight = λ h. absurd (omega arith);
   passes = λ y x n h k. by_conditional y x (λ e. n e refl) h k;
 }
-
--- the last part of a sequence
-pub tails_sequence : Tails Expression Assignment
-tails_sequence = record { highest = omega arith; least = omega arith; loose = λ h. omega arith; middle = λ h k. absurd (omega arith); tight = λ h. absurd (omega arith); passes = λ y x n h k. by_sequence y x h k }
 
 -- the operand of a unary operator
 pub tails_unary : Tails Unary Unary

@@ -2,8 +2,9 @@
 use Rattle.std.proofs.Common.{◌≡◌, ℕ, Bool, true, false, cond, List, [], ◌∷◌, ◌++◌, refl, arith}
 use Rattle.std.specs.Prelude.{Option, Some, None, IsTrue, ◌&&◌, not, nat_le, nat_eq}
 use Rattle.std.proofs.lemmas.Bool.{and_parts, and_from}
+use Rattle.std.proofs.lemmas.Bool.Decides.{nat_tests}
 use Rattle.tree.specs.declared.kind.Kind.{Kind}
-use Rattle.tree.specs.declared.kind.Kind.TheVariants.{Program, Identifier, Literal, ThisExpression, Super, ArrayExpression, ObjectExpression, Property, SpreadElement, FunctionExpression, ArrowFunctionExpression, ClassExpression, ClassBody, MethodDefinition, TemplateLiteral, TemplateElement, TaggedTemplateExpression, MemberExpression, CallExpression, NewExpression, MetaProperty, ImportExpression, ChainExpression, UpdateExpression, UnaryExpression, BinaryExpression, LogicalExpression, ConditionalExpression, AssignmentExpression, SequenceExpression, ArrayPattern, ObjectPattern, AssignmentPattern, RestElement, ExpressionStatement, BlockStatement, EmptyStatement, DebuggerStatement, ReturnStatement, ThrowStatement, BreakStatement, ContinueStatement, LabeledStatement, IfStatement, SwitchStatement, SwitchCase, TryStatement, CatchClause, WhileStatement, DoWhileStatement, ForStatement, ForInStatement, ForOfStatement, VariableDeclaration, VariableDeclarator, FunctionDeclaration, ClassDeclaration}
+use Rattle.tree.specs.declared.kind.Kind.TheVariants.{Program, Identifier, Literal, Super, Property, SpreadElement, FunctionExpression, ArrowFunctionExpression, ClassBody, MethodDefinition, TemplateLiteral, TemplateElement, MemberExpression, CallExpression, NewExpression, MetaProperty, ChainExpression, UpdateExpression, UnaryExpression, BinaryExpression, LogicalExpression, AssignmentExpression, SequenceExpression, ArrayPattern, ObjectPattern, AssignmentPattern, RestElement, ExpressionStatement, BlockStatement, ReturnStatement, IfStatement, SwitchStatement, SwitchCase, TryStatement, CatchClause, VariableDeclaration, VariableDeclarator, FunctionDeclaration, ClassDeclaration}
 use Rattle.language.specs.declared.Rank.{Rank}
 use Rattle.language.specs.declared.Rank.TheVariants.{Assignment, New, Member}
 use Rattle.language.specs.declared.Start.{Start}
@@ -35,6 +36,20 @@ Tidy-cond false xs ys h k = k
 
 pub Tidy-only : {t : Bool} (qs : List Piece) → Tidy t (only qs)
 Tidy-only qs = one_way (λ e. omega arith)
+
+-- no spelling, or one, at another symbol than New
+abbrev sole : List Spelling → Bool
+sole [] = true
+sole (x ∷ []) = not (nat_eq (precedence x.rank) 19)
+sole (x ∷ y ∷ xs) = false
+
+Tidy-sole : {t : Bool} (xs : List Spelling) → sole xs ≡ true → Tidy t xs
+Tidy-sole [] h = none_at_all
+Tidy-sole (x ∷ []) h = one_way (λ e. not_new (precedence x.rank) h e)
+  where
+    not_new : (n : ℕ) → not (nat_eq n 19) ≡ true → n ≡ 19 → ⊥
+    not_new n h e = grind (arith, nat_tests)
+Tidy-sole (x ∷ y ∷ xs) h = cc
 
 abbrev pub new_with : List Piece
 new_with = term "new" ∷ sp ∷ put (expr Member true Any) ∷ arguments none
@@ -140,28 +155,19 @@ pub Tidy-expressions : (k : Kind) (w : List ℕ) (g : Flags) (ps : Parts) → Ti
 unfolding expressions
 Tidy-expressions Identifier w g ps = Tidy-cond _ _ _ none_at_all (one_way (λ e. omega arith))
 Tidy-expressions Literal w g ps = Tidy-cond _ _ _ none_at_all (one_way (λ e. omega arith))
-Tidy-expressions ThisExpression w g ps = one_way (λ e. omega arith)
-Tidy-expressions ArrayExpression w g ps = one_way (λ e. omega arith)
-Tidy-expressions ObjectExpression w g ps = one_way (λ e. omega arith)
-Tidy-expressions FunctionExpression w g ps = one_way (λ e. omega arith)
-Tidy-expressions ClassExpression w g ps = one_way (λ e. omega arith)
-Tidy-expressions TemplateLiteral w g ps = one_way (λ e. omega arith)
 Tidy-expressions ArrowFunctionExpression w g ps = Tidy-arrow g ps
-Tidy-expressions TaggedTemplateExpression w g ps = one_way (λ e. omega arith)
 Tidy-expressions MemberExpression w g ps = Tidy-cond _ _ _ none_at_all (Tidy-cond _ _ _ (one_way (λ e. omega arith)) (one_way (λ e. omega arith)))
 Tidy-expressions CallExpression w g ps = Tidy-cond _ _ _ none_at_all (Tidy-cond _ _ _ (one_way (λ e. omega arith)) (one_way (λ e. omega arith)))
 Tidy-expressions NewExpression w g ps = Tidy-new (others ps)
 Tidy-expressions MetaProperty w g ps = Tidy-cond _ _ _ (one_way (λ e. omega arith)) none_at_all
-Tidy-expressions ImportExpression w g ps = one_way (λ e. omega arith)
 Tidy-expressions ChainExpression w g ps = Tidy-cond _ _ _ (one_way (λ e. omega arith)) none_at_all
 Tidy-expressions UpdateExpression w g ps = Tidy-cond _ _ _ none_at_all (Tidy-cond _ _ _ (one_way (λ e. omega arith)) (one_way (λ e. omega arith)))
 Tidy-expressions UnaryExpression w g ps = Tidy-cond _ _ _ none_at_all (Tidy-cond _ _ _ (one_way (λ e. omega arith)) (one_way (λ e. omega arith)))
 Tidy-expressions BinaryExpression w g ps = Tidy-binary w (operator_of w) refl
 Tidy-expressions LogicalExpression w g ps = Tidy-logical w (operator_of w) refl
-Tidy-expressions ConditionalExpression w g ps = one_way (λ e. omega arith)
 Tidy-expressions AssignmentExpression w g ps = Tidy-cond _ _ _ none_at_all (Tidy-assignment (is_target (lead ps)) (is w "=" && is_pattern (lead ps)) _ _)
 Tidy-expressions SequenceExpression w g ps = Tidy-cond _ _ _ none_at_all (one_way (λ e. omega arith))
-Tidy-expressions _ w g ps = none_at_all
+Tidy-expressions k w g ps = Tidy-sole (expressions k w g ps) refl
 
 abbrev pub Tidy-if : {t : Bool} (b : Bool) (qs : List Piece) → Tidy t (cond b (only qs) [])
 Tidy-if b qs = Tidy-cond b (only qs) [] (Tidy-only qs) none_at_all
@@ -181,9 +187,7 @@ Tidy-linked b ps qs = Tidy-cond (first_has_optional ps) _ _ (Tidy-only _) (Tidy-
 
 pub Tidy-statements : {t : Bool} (r : Bool) (k : Kind) (w : List ℕ) (g : Flags) (ps : Parts) → Tidy t (statements r k w g ps)
 unfolding statements
-Tidy-statements r BlockStatement w g ps = Tidy-only _
 Tidy-statements r VariableDeclaration w g ps = Tidy-if _ _
-Tidy-statements r EmptyStatement w g ps = Tidy-only _
 Tidy-statements r ExpressionStatement w g ps = Tidy-unless _ _
 Tidy-statements r IfStatement w g none = none_at_all
 Tidy-statements r IfStatement w g (gap ps) = none_at_all
@@ -196,23 +200,13 @@ Tidy-statements r IfStatement w g (part t (part c (gap (gap ps)))) = none_at_all
 Tidy-statements r IfStatement w g (part t (part c (part a none))) = Tidy-unless _ _
 Tidy-statements r IfStatement w g (part t (part c (part a (part n ps)))) = none_at_all
 Tidy-statements r IfStatement w g (part t (part c (part a (gap ps)))) = none_at_all
-Tidy-statements r DoWhileStatement w g ps = Tidy-only _
-Tidy-statements r WhileStatement w g ps = Tidy-only _
-Tidy-statements r ForStatement w g ps = Tidy-only _
-Tidy-statements r ForInStatement w g ps = Tidy-only _
-Tidy-statements r ForOfStatement w g ps = Tidy-only _
-Tidy-statements r ContinueStatement w g ps = Tidy-only _
-Tidy-statements r BreakStatement w g ps = Tidy-only _
 Tidy-statements r ReturnStatement w g ps = Tidy-if _ _
-Tidy-statements r ThrowStatement w g ps = Tidy-only _
-Tidy-statements r LabeledStatement w g ps = Tidy-only _
 Tidy-statements r SwitchStatement w g ps = Tidy-if _ _
 Tidy-statements r TryStatement w g (part b (part h (gap none))) = Tidy-only _
 Tidy-statements r TryStatement w g (part b (part h (part f none))) = Tidy-only _
 Tidy-statements r TryStatement w g (part b (gap (part f none))) = Tidy-only _
 Tidy-statements r TryStatement w g _ = none_at_all
-Tidy-statements r DebuggerStatement w g ps = Tidy-only _
-Tidy-statements r _ w g ps = none_at_all
+Tidy-statements r k w g ps = Tidy-sole (statements r k w g ps) refl
 
 pub Tidy-items : {t : Bool} (r : Bool) (k : Kind) (w : List ℕ) (g : Flags) (ps : Parts) → Tidy t (items r k w g ps)
 unfolding items

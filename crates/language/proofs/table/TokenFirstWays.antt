@@ -14,7 +14,7 @@ use Rattle.tokens.specs.Goals.{allows}
 use Rattle.tree.specs.declared.kind.Kind.{Kind}
 use Rattle.tree.specs.declared.kind.Kind.TheVariants.{Identifier, Literal, ThisExpression, Super, ArrayExpression, ObjectExpression, FunctionExpression, ArrowFunctionExpression, ClassExpression, TemplateLiteral, TemplateElement, MemberExpression, CallExpression, NewExpression, MetaProperty, ImportExpression, UpdateExpression, UnaryExpression, AssignmentExpression, ArrayPattern, ObjectPattern}
 use Rattle.language.specs.declared.Rank.{Rank}
-use Rattle.language.specs.declared.Rank.TheVariants.{Assignment, Unary, Update, LeftHandSide, New, Call, Member, Primary}
+use Rattle.language.specs.declared.Rank.TheVariants.{Assignment, Unary, Update, LeftHandSide, New, Call, Member, Expression}
 use Rattle.language.specs.declared.Start.{Start}
 use Rattle.language.specs.declared.Start.TheVariants.{Any, NoBrace, Statement}
 use Rattle.tree.specs.declared.kind.Flags.{Flags}
@@ -22,13 +22,18 @@ use Rattle.tree.specs.declared.kind.Pair.{Pair}
 use Rattle.tree.specs.Tree.{Tree, node, Parts, none, part, gap, kind_of, text_of, bare_parts}
 use Rattle.language.specs.FirstPart.{lead as lead_kind, others}
 use Rattle.language.specs.Vocabulary.{is, among, takes, is_target, is_pattern, is_super, is_identifier, is_name, literal_class, is_reserved, is_prefix, is_word_operator, op_assign, op_update, operator_of}
-use Rattle.language.specs.Pieces.{Role, expr, name, word, base, pattern, template_element, PieceOf, Piece, tok, lay, sub, open_parameters, close_parameters, apart, space, sign, term, Spelling, at, is_none, elements, listed, argument, parameters, put}
+use Rattle.language.specs.Pieces.{Role, expr, name, word, base, pattern, template_element, PieceOf, Piece, tok, lay, sub, open_parameters, close_parameters, apart, space, sign, term, Spelling, is_none, elements, listed, argument, parameters, put}
 use Rattle.language.specs.Expressions.{arguments, selector, template_elements, object_part, function_pieces, class_pieces, arrow_end, lead_is}
 use Rattle.language.specs.Token.{Token}
 use Rattle.language.specs.ExpressionStart.{ExpressionStart, with_name, with_literal, with_this, with_bracket, with_brace, with_function, with_class, with_template, with_parenthesis, with_super, with_new, with_import, with_step, with_word, with_sign, no_start, start_words, start_among, expression_start_by, expression_start}
 use Rattle.language.specs.Grammar.{spellings, ways, starts}
 use Rattle.language.specs.Derivation.{Spells, direct, Runs, step, opened, within}
-use Rattle.language.specs.NodeForms.{Made, identifier, literal, this, array, object, function, class, template, short_arrow, arrow, tagged, super_member, member, super_call, call, new_with, new_without, new_target, import_call, chain, prefix, postfix, unary_word, unary_sign, power, binary, logical, conditional, assign, assign_pattern, several}
+use Rattle.language.specs.Chosen as chosen
+use Rattle.language.specs.Chosen.{Chosen}
+use Rattle.language.specs.Forms as made
+use Rattle.language.specs.Forms.{Production, form, spelling_of}
+use Rattle.language.proofs.table.EveryWay.{formed_class, formed_short_arrow}
+use Rattle.language.proofs.table.NodeForms.{Made, steps_target, assigns, is_prefixed}
 use Rattle.language.proofs.lower_bound.Domination.{settled, fits}
 use Rattle.language.proofs.table.ViewIsComplete.{way_of, one, unless}
 use Rattle.language.proofs.climbing.Spine.{is_led}
@@ -104,42 +109,37 @@ module _ (y : Rank) (i : Bool) (f : Start) where
   of_pattern ObjectPattern l h o e t q = record { opening = _; headed = head_object_pattern refl o e l t q }
   of_pattern _ l h o e t q = absurd (false≢true h)
 
+  form_headed : {k : Kind} {w : List ℕ} {g : Flags} {ps : Parts} {qs : List (PieceOf Role)} {p : Production} → Chosen w g ps (expr Expression true Any) k p → IsTrue (fits (expr y i f) (spelling_of (form p) w g ps)) → qs ≡ settled (expr y i f) (spelling_of (form p) w g ps) → is_led qs ≡ false → HeadedWay y i f k w g ps qs
+  form_headed (chosen.identifier h) fit eq un = record { opening = _; headed = head_identifier refl h eq }
+  form_headed (chosen.literal h) fit eq un = record { opening = _; headed = head_literal refl h eq }
+  form_headed chosen.this fit eq un = record { opening = _; headed = head_this refl eq }
+  form_headed chosen.array fit eq un = record { opening = _; headed = head_array refl eq }
+  form_headed {w = w} {g = g} {ps = ps} chosen.object fit eq un = let x : Spelling = spelling_of (form made.object) w g ps in
+      record { opening = _; headed = head_object refl (starts_sign f (codes "{") (behind_one x.pieces) (starts_fit y i f x fit)) eq }
+  form_headed {w = w} {g = g} {ps = ps} chosen.function fit eq un = let x : Spelling = spelling_of (form made.function) w g ps in
+      record { opening = _; headed = head_function refl (starts_term f (codes "function") (behind_one x.pieces) (starts_fit y i f x fit)) eq }
+  form_headed {w = w} {g = g} {ps = ps} chosen.class fit eq un = let x : Spelling = spelling_of (form made.class) w g ps in
+      record { opening = _; headed = head_class refl (starts_term f (codes "class") (behind_one x.pieces) (starts_fit y i f x fit)) (eq ∙ ap (settled (expr y i f)) (sym (formed_class w g ps))) }
+  form_headed chosen.template fit eq un = record { opening = _; headed = head_template refl eq }
+  form_headed {w = w} {g = g} {ps = ps} (chosen.short_arrow e h) fit eq un = record { opening = _; headed = head_short_arrow refl e h (and_parts _ _ (and_parts _ _ fit).0).0 (eq ∙ ap (settled (expr y i f)) (sym (formed_short_arrow w g ps))) }
+  form_headed chosen.arrow fit eq un = record { opening = _; headed = head_arrow refl (and_parts _ _ (and_parts _ _ fit).0).0 eq }
+  form_headed (chosen.super_member o s) fit eq un = record { opening = _; headed = head_super_member refl o s (and_parts _ _ (and_parts _ _ fit).0).0 eq }
+  form_headed (chosen.super_call o s) fit eq un = record { opening = _; headed = head_super_call refl o s (and_parts _ _ (and_parts _ _ fit).0).0 eq }
+  form_headed chosen.new_with fit eq un = record { opening = _; headed = head_new_with refl (and_parts _ _ (and_parts _ _ fit).0).0 eq }
+  form_headed (chosen.new_without h) fit eq un = record { opening = _; headed = head_new_without refl h (and_parts _ _ (and_parts _ _ fit).0).0 eq }
+  form_headed (chosen.new_target h) fit eq un = record { opening = _; headed = head_new_target refl h (and_parts _ _ (and_parts _ _ fit).0).0 eq }
+  form_headed chosen.import_call fit eq un = record { opening = _; headed = head_import refl (and_parts _ _ (and_parts _ _ fit).0).0 eq }
+  form_headed {w = w} {ps = ps} (chosen.prefix h p) fit eq un = let u = steps_target w (lead_kind ps) h in record { opening = _; headed = head_step refl u.0 u.1 p (and_parts _ _ (and_parts _ _ fit).0).0 eq }
+  form_headed {w = w} (chosen.unary_word h v) fit eq un = record { opening = _; headed = head_word refl (is_prefixed w h) v (and_parts _ _ (and_parts _ _ fit).0).0 eq }
+  form_headed {w = w} (chosen.unary_sign h v) fit eq un = record { opening = _; headed = head_sign refl (is_prefixed w h) v (and_parts _ _ (and_parts _ _ fit).0).0 eq }
+  form_headed {w = w} {ps = ps} (chosen.assign_pattern h t c) fit eq un = let u = and_parts (is w "=") _ c in of_pattern (lead_kind ps) refl u.1 (assigns w h) u.0 (and_parts _ _ (and_parts _ _ fit).0).0 eq
+  form_headed (chosen.of_statement s c) fit eq un = elim s [ ]
+  form_headed (chosen.of_declaration s c) fit eq un = elim s [ ]
+  form_headed _ fit eq un = is_led_so eq refl un
+
   -- each way that isn't led is one of these
   pub headed_of : {k : Kind} {w : List ℕ} {g : Flags} {ps : Parts} {qs : List (PieceOf Role)} {x : Spelling} → Made k w g ps x → IsTrue (fits (expr y i f) x) → qs ≡ settled (expr y i f) x → is_led qs ≡ false → HeadedWay y i f k w g ps qs
-  headed_of (identifier h) fit eq un = record { opening = _; headed = head_identifier refl h eq }
-  headed_of (literal h) fit eq un = record { opening = _; headed = head_literal refl h eq }
-  headed_of this fit eq un = record { opening = _; headed = head_this refl eq }
-  headed_of array fit eq un = record { opening = _; headed = head_array refl eq }
-  headed_of (object {ps = ps}) fit eq un = let x : Spelling = at Primary ((sign "{" ∷ listed object_part ps) ++ sign "}" ∷ []) in
-      record { opening = _; headed = head_object refl (starts_sign f (codes "{") (behind_one x.pieces) (starts_fit y i f x fit)) eq }
-  headed_of (function {ps = ps}) fit eq un = let x : Spelling = at Primary (function_pieces ps) in
-      record { opening = _; headed = head_function refl (starts_term f (codes "function") (behind_one x.pieces) (starts_fit y i f x fit)) eq }
-  headed_of (class {ps = ps}) fit eq un = let x : Spelling = at Primary (class_pieces ps) in
-      record { opening = _; headed = head_class refl (starts_term f (codes "class") (behind_one x.pieces) (starts_fit y i f x fit)) eq }
-  headed_of template fit eq un = record { opening = _; headed = head_template refl eq }
-  headed_of (short_arrow h) fit eq un = record { opening = _; headed = head_short_arrow refl refl h (and_parts _ _ (and_parts _ _ fit).0).0 eq }
-  headed_of arrow fit eq un = record { opening = _; headed = head_arrow refl (and_parts _ _ (and_parts _ _ fit).0).0 eq }
-  headed_of (super_member o s) fit eq un = record { opening = _; headed = head_super_member refl o s (and_parts _ _ (and_parts _ _ fit).0).0 eq }
-  headed_of (super_call o s) fit eq un = record { opening = _; headed = head_super_call refl o s (and_parts _ _ (and_parts _ _ fit).0).0 eq }
-  headed_of new_with fit eq un = record { opening = _; headed = head_new_with refl (and_parts _ _ (and_parts _ _ fit).0).0 eq }
-  headed_of (new_without h) fit eq un = record { opening = _; headed = head_new_without refl h (and_parts _ _ (and_parts _ _ fit).0).0 eq }
-  headed_of (new_target h) fit eq un = record { opening = _; headed = head_new_target refl h (and_parts _ _ (and_parts _ _ fit).0).0 eq }
-  headed_of import_call fit eq un = record { opening = _; headed = head_import refl (and_parts _ _ (and_parts _ _ fit).0).0 eq }
-  headed_of (prefix h t p) fit eq un = record { opening = _; headed = head_step refl h t p (and_parts _ _ (and_parts _ _ fit).0).0 eq }
-  headed_of (unary_word h v) fit eq un = record { opening = _; headed = head_word refl h v (and_parts _ _ (and_parts _ _ fit).0).0 eq }
-  headed_of (unary_sign h v) fit eq un = record { opening = _; headed = head_sign refl h v (and_parts _ _ (and_parts _ _ fit).0).0 eq }
-  headed_of (assign_pattern {ps = ps} h e p) fit eq un = of_pattern (lead_kind ps) refl p h e (and_parts _ _ (and_parts _ _ fit).0).0 eq
-  headed_of tagged fit eq un = is_led_so eq refl un
-  headed_of (member o s) fit eq un = is_led_so eq refl un
-  headed_of (call o s) fit eq un = is_led_so eq refl un
-  headed_of (chain c) fit eq un = is_led_so eq refl un
-  headed_of (postfix h t p) fit eq un = is_led_so eq refl un
-  headed_of (power h) fit eq un = is_led_so eq refl un
-  headed_of (binary h) fit eq un = is_led_so eq refl un
-  headed_of (logical h) fit eq un = is_led_so eq refl un
-  headed_of conditional fit eq un = is_led_so eq refl un
-  headed_of (assign h t) fit eq un = is_led_so eq refl un
-  headed_of (several h) fit eq un = is_led_so eq refl un
+  headed_of m fit eq un = form_headed m.chosen (subst (λ x. IsTrue (fits (expr y i f) x)) m.is fit) (eq ∙ ap (settled (expr y i f)) m.is) un
 
 -- an opening is that of the token's class and text
 pub opens : (t : Token) {c : TokenClass} {w : List ℕ} {x : ExpressionStart} → t.class ≡ c → t.text ≡ w → expression_start_by c w ≡ x → expression_start t ≡ x

@@ -63,26 +63,7 @@ opens_any _ = true
 
 headed_opens : {y : Rank} {i : Bool} {f : Start} {k : Kind} {w : List ℕ} {g : Flags} {ps : Parts} {qs : List (PieceOf Role)} {x : ExpressionStart} → Headed y i f k w g ps qs x → opens_any x ≡ true
 headed_opens (headed.head_identifier a b c) = refl
-headed_opens (headed.head_literal a b c) = refl
-headed_opens (headed.head_this a b) = refl
-headed_opens (headed.head_array a b) = refl
-headed_opens (headed.head_object a b c) = refl
-headed_opens (headed.head_function a b c) = refl
-headed_opens (headed.head_class a b c) = refl
-headed_opens (headed.head_template a b) = refl
-headed_opens (headed.head_short_arrow a b c d e) = refl
-headed_opens (headed.head_arrow a b c) = refl
-headed_opens (headed.head_super_member a b c d e) = refl
-headed_opens (headed.head_super_call a b c d e) = refl
-headed_opens (headed.head_new_with a b c) = refl
-headed_opens (headed.head_new_without a b c d) = refl
-headed_opens (headed.head_new_target a b c d) = refl
-headed_opens (headed.head_import a b c) = refl
-headed_opens (headed.head_step a b c d e z) = refl
-headed_opens (headed.head_word a b c d e) = refl
-headed_opens (headed.head_sign a b c d e) = refl
-headed_opens (headed.head_array_pattern a b c d e z) = refl
-headed_opens (headed.head_object_pattern a b c d e z) = refl
+headed_opens _ = refl
 
 module _ (S : Type 0) (Next : S → Token → S → Type 0) (before : S → Token) (det : IsDetermined S Next before) where
   cored_opens : {o : ℕ} {y : Rank} {i : Bool} {f : Start} {n : Tree} {s e : S} {P : List Pair} {x : ExpressionStart} → Cored S Next before det o y i f n s e P x → opens_any x ≡ true

@@ -18,7 +18,7 @@ use Rattle.language.specs.Derivation.{done, within}
 use Rattle.language.proofs.table.Begins.{goes_to}
 use Rattle.language.proofs.list_loops.ParameterLists.{parameter_list}
 use Rattle.language.proofs.texts.TextOffsets.{text_determined}
-use Rattle.unambiguity_laws.proofs.list_items.GroupLists.{AtExpression, single, sequenced, at_expression}
+use Rattle.language.proofs.climbing.Wholes.{AtExpression, single, sequenced, at_expression}
 use Rattle.recursive_descent.specs.Soundness.{RunsIn}
 use Rattle.recursive_descent.specs.SoundnessOfLists.{stood_in, several}
 use Rattle.recursive_descent.specs.CompletenessOfLists.{ListGiven}

@@ -24,10 +24,10 @@ use Rattle.language.specs.Claims.{max_open}
 use Rattle.language.proofs.table.Beginnings.{text_as, own_way}
 use Rattle.language.proofs.table.Begins.{retell}
 use Rattle.language.proofs.table.ItemTokens.{item_starts}
-use Rattle.language.proofs.table.OwnTokenWays.{kind_as, own_sole, statement_spans}
+use Rattle.language.proofs.table.OwnTokenWays.{own_sole, statement_spans}
 use Rattle.language.proofs.list_loops.FirstPieces.{run_laid, run_never}
 use Rattle.language.proofs.table.SoleWays.{same_span, place_node}
-use Rattle.language.proofs.table.StatementWays.{begins_as, behind_own}
+use Rattle.language.proofs.table.StatementWays.{kind_as, begins_as, behind_own}
 use Rattle.language.proofs.texts.TextOffsets.{text_determined}
 use Rattle.parser_tables.specs.declared.functions_and_classes.FunctionOrClass.{FunctionOrClass}
 use Rattle.parser_tables.specs.declared.functions_and_classes.FunctionOrClass.TheVariants as closure

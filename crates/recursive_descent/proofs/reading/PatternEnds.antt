@@ -32,7 +32,7 @@ use Rattle.language.proofs.climbing.OperatorLoop.{grows_height, part_low}
 use Rattle.language.proofs.table.Productions.{way_from, listed}
 use Rattle.language.proofs.climbing.OperatorNodes.{kind_bare}
 use Rattle.language.proofs.table.LeftRecursiveWays.{between}
-use Rattle.language.specs.NodeForms.{assign}
+use Rattle.language.proofs.table.NodeForms.{assign}
 use Rattle.language.specs.Expressions.{infix_pieces}
 use Rattle.language.specs.Grammar.{ways, spellings}
 use Rattle.covers.specs.Patterns.{pattern_tree}

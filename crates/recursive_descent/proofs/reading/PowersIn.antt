@@ -1,6 +1,6 @@
 -- At `**` In doesn't matter: its sides have it.
-use Rattle.std.proofs.Common.{◌≡◌, ℕ, ◌≤◌, ◌<◌, Bool, true, false, cond, List, [], ◌∷◌, ◌++◌, refl, ◌∙◌, arith}
-use Rattle.std.specs.Prelude.{IsTrue}
+use Rattle.std.proofs.Common.{◌≡◌, ℕ, ◌≤◌, ◌<◌, Bool, true, false, cond, List, [], ◌∷◌, ◌++◌, refl, sym, subst, ◌∙◌, arith}
+use Rattle.std.specs.Prelude.{IsTrue, ◌&&◌}
 use Rattle.std.proofs.lemmas.Bool.{and_parts, false≢true, true≢false}
 use Rattle.std.proofs.lemmas.Bool.Decides.{nat_tests}
 use Rattle.tree.specs.declared.kind.Kind.{Kind}
@@ -9,8 +9,9 @@ use Rattle.tree.specs.declared.kind.Flags.{Flags}
 use Rattle.tree.specs.declared.kind.Pair.{Pair}
 use Rattle.tree.specs.Tree.{Tree, node, Parts}
 use Rattle.language.specs.declared.Rank.{Rank}
-use Rattle.language.specs.declared.Rank.TheVariants.{Exponentiation}
+use Rattle.language.specs.declared.Rank.TheVariants.{Expression, Exponentiation}
 use Rattle.language.specs.declared.Start.{Start}
+use Rattle.language.specs.declared.Start.TheVariants.{Any}
 use Rattle.language.specs.FirstPart.{others}
 use Rattle.language.specs.Vocabulary.{is, takes, takes_number, precedence, op_binary, operator_of}
 use Rattle.language.specs.Pieces.{Role, expr, PieceOf, Piece, Slot, fixed, left, lead, tail, callee, lead_chain, lead_pattern, sub, settle_piece, Spelling, argument, sign}
@@ -19,7 +20,11 @@ use Rattle.language.specs.Expressions.{object_part, selector, in_brackets, argum
 use Rattle.language.specs.Promises.{IsDetermined}
 use Rattle.language.specs.Grammar.{ways}
 use Rattle.language.specs.Derivation.{Spells, direct, grouped}
-use Rattle.language.specs.NodeForms.{Made, identifier, literal, this, array, object, function, class, template, short_arrow, arrow, tagged, super_member, member, super_call, call, new_with, new_without, new_target, import_call, chain, prefix, postfix, unary_word, unary_sign, power, binary, logical, conditional, assign, assign_pattern, several}
+use Rattle.language.specs.Chosen as chosen
+use Rattle.language.specs.Chosen.{Chosen}
+use Rattle.language.specs.Forms.{Production, form, spelling_of, pieces_of}
+use Rattle.language.proofs.table.EveryWay.{formed_class}
+use Rattle.language.proofs.table.NodeForms.{Made}
 use Rattle.language.proofs.table.Begins.{retell, goes_to, number_laid, AllLaid, no_piece, one_laid}
 use Rattle.language.proofs.table.FixedPieces.{Fixed, all_done, one_more, is_fixed, fixed_join, fixed_listed, fixed_elements}
 use Rattle.language.proofs.climbing.SingleStarts.{fixed_function, fixed_class, fixed_chunks}
@@ -106,38 +111,40 @@ record Stays (x : Spelling) : Type 0 where
   needs : x.needs_in ≡ false
   pieces : Held x.pieces
 
+abbrev all_held : List Piece → Bool
+all_held [] = true
+all_held (p ∷ qs) = is_held p && all_held qs
+
+each_held : (qs : List Piece) → all_held qs ≡ true → Held qs
+each_held [] h = held_none
+each_held (p ∷ qs) h = let u = and_parts (is_held p) _ h in held_more u.0 (each_held qs u.1)
+
+form_stays : {k : Kind} {w : List ℕ} {g : Flags} {ps : Parts} {p : Production} → Chosen w g ps (expr Expression true Any) k p → takes Exponentiation (form p).rank ≡ true → Stays (spelling_of (form p) w g ps)
+form_stays {ps = ps} chosen.array tk = record { needs = refl; pieces = held (one_more refl (fixed_join (fixed_elements argument (λ n. refl) ps) (one_more refl all_done))) }
+form_stays {ps = ps} chosen.object tk = record { needs = refl; pieces = held (one_more refl (fixed_join (fixed_listed object_part object_fixed ps) (one_more refl all_done))) }
+form_stays {ps = ps} chosen.function tk = record { needs = refl; pieces = held (fixed_function ps) }
+form_stays {w = w} {g = g} {ps = ps} chosen.class tk = record { needs = refl; pieces = subst (λ (x : Spelling). Held x.pieces) (formed_class w g ps) (held (fixed_class ps)) }
+form_stays {ps = ps} chosen.template tk = record { needs = refl; pieces = held (fixed_chunks true ps) }
+form_stays (chosen.short_arrow e h) tk = absurd (false≢true tk)
+form_stays chosen.arrow tk = absurd (false≢true tk)
+form_stays {g = g} (chosen.super_member h k) tk = record { needs = refl; pieces = held (one_more refl (fixed_selector g)) }
+form_stays {g = g} {ps = ps} (chosen.member_access h k) tk = record { needs = refl; pieces = held_more refl (held (fixed_join (fixed_laid (number_laid ps g)) (fixed_selector g))) }
+form_stays {ps = ps} (chosen.super_call h k) tk = record { needs = refl; pieces = held (one_more refl (fixed_arguments (others ps))) }
+form_stays {ps = ps} (chosen.call h k) tk = record { needs = refl; pieces = held_more refl (held (fixed_arguments (others ps))) }
+form_stays {ps = ps} chosen.new_with tk = record { needs = refl; pieces = held (one_more refl (one_more refl (one_more refl (fixed_arguments (others ps))))) }
+form_stays {w = w} (chosen.unary_sign h v) tk = record { needs = refl; pieces = held (one_more refl (sign_fixed (is w "+") (is w "-") _ (one_more refl all_done))) }
+form_stays {w = w} (chosen.binary h) tk = absurd (no_join w h tk)
+form_stays {w = w} (chosen.logical h) tk = absurd (no_join w h tk)
+form_stays chosen.conditional tk = absurd (false≢true tk)
+form_stays (chosen.assign h t) tk = absurd (false≢true tk)
+form_stays (chosen.assign_pattern h t e) tk = absurd (false≢true tk)
+form_stays (chosen.several h) tk = absurd (false≢true tk)
+form_stays (chosen.of_statement s c) tk = elim s [ ]
+form_stays (chosen.of_declaration s c) tk = elim s [ ]
+form_stays {w = w} {g = g} {ps = ps} {p = p} c tk = record { needs = refl; pieces = each_held (pieces_of (form p).items w g ps) refl }
+
 stays : {k : Kind} {w : List ℕ} {g : Flags} {ps : Parts} {x : Spelling} → Made k w g ps x → takes Exponentiation x.rank ≡ true → Stays x
-stays (identifier h) tk = record { needs = refl; pieces = held (one_more refl all_done) }
-stays (literal h) tk = record { needs = refl; pieces = held (one_more refl all_done) }
-stays this tk = record { needs = refl; pieces = held (one_more refl all_done) }
-stays (array {ps = ps}) tk = record { needs = refl; pieces = held (one_more refl (fixed_join (fixed_elements argument (λ n. refl) ps) (one_more refl all_done))) }
-stays (object {ps = ps}) tk = record { needs = refl; pieces = held (one_more refl (fixed_join (fixed_listed object_part object_fixed ps) (one_more refl all_done))) }
-stays (function {ps = ps}) tk = record { needs = refl; pieces = held (fixed_function ps) }
-stays (class {ps = ps}) tk = record { needs = refl; pieces = held (fixed_class ps) }
-stays (template {ps = ps}) tk = record { needs = refl; pieces = held (fixed_chunks true ps) }
-stays (short_arrow h) tk = absurd (false≢true tk)
-stays arrow tk = absurd (false≢true tk)
-stays tagged tk = record { needs = refl; pieces = held_more refl (held (one_more refl all_done)) }
-stays (super_member {g = g} h k) tk = record { needs = refl; pieces = held (one_more refl (fixed_selector g)) }
-stays (member {g = g} {ps = ps} h k) tk = record { needs = refl; pieces = held_more refl (held (fixed_join (fixed_laid (number_laid ps g)) (fixed_selector g))) }
-stays (super_call {ps = ps} h k) tk = record { needs = refl; pieces = held (one_more refl (fixed_arguments (others ps))) }
-stays (call {ps = ps} h k) tk = record { needs = refl; pieces = held_more refl (held (fixed_arguments (others ps))) }
-stays (new_with {ps = ps}) tk = record { needs = refl; pieces = held (one_more refl (one_more refl (one_more refl (fixed_arguments (others ps))))) }
-stays (new_without h) tk = record { needs = refl; pieces = held (one_more refl (one_more refl (one_more refl all_done))) }
-stays (new_target h) tk = record { needs = refl; pieces = held (one_more refl (one_more refl (one_more refl all_done))) }
-stays import_call tk = record { needs = refl; pieces = held (one_more refl (one_more refl (one_more refl (one_more refl all_done)))) }
-stays (chain h) tk = record { needs = refl; pieces = held_more refl held_none }
-stays (prefix h t p) tk = record { needs = refl; pieces = held (one_more refl (one_more refl (one_more refl all_done))) }
-stays (postfix h t p) tk = record { needs = refl; pieces = held_more refl (held (one_more refl (one_more refl all_done))) }
-stays (unary_word h v) tk = record { needs = refl; pieces = held (one_more refl (one_more refl (one_more refl all_done))) }
-stays (unary_sign {w = w} h v) tk = record { needs = refl; pieces = held (one_more refl (sign_fixed (is w "+") (is w "-") _ (one_more refl all_done))) }
-stays (power h) tk = record { needs = refl; pieces = held_more refl (held (one_more refl (one_more refl (one_more refl (one_more refl all_done))))) }
-stays (binary {w = w} h) tk = absurd (no_join w h tk)
-stays (logical {w = w} h) tk = absurd (no_join w h tk)
-stays conditional tk = absurd (false≢true tk)
-stays (assign h t) tk = absurd (false≢true tk)
-stays (assign_pattern h e p) tk = absurd (false≢true tk)
-stays (several h) tk = absurd (false≢true tk)
+stays m tk = subst Stays (sym m.is) (form_stays m.chosen (subst (λ (x : Spelling). takes Exponentiation x.rank ≡ true) m.is tk))
 
 needs_none : (b i : Bool) → b ≡ false → IsTrue (Rattle.tree.specs.Uses.implies b i)
 needs_none false i h = refl

@@ -34,7 +34,7 @@ use Rattle.language.specs.Expressions.{infix_pieces}
 use Rattle.language.specs.Continuations.{operation, rank_made_by}
 use Rattle.language.specs.Places.{NextIn, itself, SpellsIn}
 use Rattle.language.specs.Derivation.{placed, step, within, token, laid}
-use Rattle.language.specs.NodeForms.{assign_pattern}
+use Rattle.language.proofs.table.NodeForms.{assign_pattern}
 use Rattle.language.proofs.table.OperatorFacts.{binding}
 use Rattle.language.proofs.table.OperatorTokens.{op_reads, reads_question}
 use Rattle.language.proofs.climbing.OperatorNodes.{kind_bare, last_runs, power_grows, assign_grows}

@@ -32,7 +32,7 @@ use Rattle.language.specs.Expressions.{object_part, object_pattern_part, templat
 use Rattle.language.specs.Grammar.{starts}
 use Rattle.language.specs.Places.{NextIn, itself, SpellsIn}
 use Rattle.language.specs.Derivation.{Placed, placed, step, token, within, done}
-use Rattle.language.specs.NodeForms.{array, object, template}
+use Rattle.language.proofs.table.NodeForms.{array, object, template}
 use Rattle.language.proofs.table.Begins.{goes_to}
 use Rattle.language.proofs.table.FixedPieces.{Fixed, all_done, one_more, same_pieces, fixed_join, fixed_listed, fixed_elements, fixed_put}
 use Rattle.language.proofs.list_loops.FirstItems.{item_piece, object_role, object_pattern_role, object_pieces, object_pattern_pieces}

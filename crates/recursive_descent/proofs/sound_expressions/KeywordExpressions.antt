@@ -35,7 +35,7 @@ use Rattle.language.specs.Grammar.{spellings, starts}
 use Rattle.language.specs.Places.{NextIn, itself, SpellsIn}
 use Rattle.tokens.specs.Goals.{allows}
 use Rattle.language.specs.Derivation.{first, direct, done, step, within, token, laid, placed}
-use Rattle.language.specs.NodeForms.{new_with, new_without, new_target}
+use Rattle.language.proofs.table.NodeForms.{new_with, new_without, new_target}
 use Rattle.language.proofs.table.Begins.{Each, among_by, retell}
 use Rattle.language.proofs.lower_bound.Domination.{settled}
 use Rattle.language.proofs.climbing.OperatorNodes.{kind_bare, none_bare, last_runs}

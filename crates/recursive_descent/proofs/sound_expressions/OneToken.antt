@@ -30,7 +30,7 @@ use Rattle.language.specs.Expressions.{arrow_end}
 use Rattle.language.specs.Grammar.{starts, spellings}
 use Rattle.language.specs.Places.{NextIn, itself, SpellsIn}
 use Rattle.language.specs.Derivation.{direct, step, token, done, within, placed, first}
-use Rattle.language.specs.NodeForms.{identifier, literal, this, short_arrow}
+use Rattle.language.proofs.table.NodeForms.{identifier, literal, this, short_arrow}
 use Rattle.language.proofs.table.Begins.{among_by}
 use Rattle.language.proofs.lower_bound.Domination.{settled}
 use Rattle.language.proofs.climbing.Leaves.{name_found}

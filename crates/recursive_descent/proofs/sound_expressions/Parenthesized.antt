@@ -33,7 +33,7 @@ use Rattle.language.specs.Grammar.{starts}
 use Rattle.language.specs.Places.{NextIn, itself, SpellsIn}
 use Rattle.language.specs.Promises.{ReadBy}
 use Rattle.language.specs.Derivation.{opened, closed, token, pair_of}
-use Rattle.language.specs.NodeForms.{arrow}
+use Rattle.language.proofs.table.NodeForms.{arrow}
 use Rattle.language.specs.Claims.{max_open}
 use Rattle.language.proofs.table.Begins.{goes_to}
 use Rattle.language.proofs.climbing.Groups.{takes_group}

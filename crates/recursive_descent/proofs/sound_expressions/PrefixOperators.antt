@@ -27,7 +27,7 @@ use Rattle.language.specs.ExpressionStart.{ExpressionStart, with_name, with_lite
 use Rattle.language.specs.Grammar.{starts}
 use Rattle.language.specs.Places.{NextIn, itself, SpellsIn}
 use Rattle.language.specs.Derivation.{step, token, laid, Placed}
-use Rattle.language.specs.NodeForms.{prefix, unary_word, unary_sign}
+use Rattle.language.proofs.table.NodeForms.{prefix, unary_word, unary_sign}
 use Rattle.language.proofs.table.Begins.{AllLaid, no_piece, one_laid, among_by}
 use Rattle.language.proofs.climbing.OperatorNodes.{kind_bare, last_runs, lay_runs}
 use Rattle.language.proofs.table.TokenFirstWays.{unary_space}

@@ -33,7 +33,7 @@ use Rattle.language.specs.Places.{NextIn, itself, SpellsIn}
 use Rattle.language.specs.Continuations.{of_class, operation, rank_made_by}
 use Rattle.language.specs.Promises.{ReadBy}
 use Rattle.language.specs.Derivation.{Reads, Placed, placed, done, step, within, token}
-use Rattle.language.specs.NodeForms.{super_member, super_call}
+use Rattle.language.proofs.table.NodeForms.{super_member, super_call}
 use Rattle.language.proofs.table.Begins.{div_allows, goes_to, retell}
 use Rattle.language.proofs.table.FixedPieces.{all_done, one_more, same_pieces, fixed_join, fixed_listed}
 use Rattle.language.proofs.climbing.OperatorNodes.{kind_bare, none_bare, last_runs, call_grows, tag_grows, link_grows, link_call_grows, base_grows, base_call_grows}

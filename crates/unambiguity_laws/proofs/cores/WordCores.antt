@@ -1,6 +1,7 @@
 -- Leftmost parts that their first word tells: `this`, `import`, functions, classes, literals; and that there is none without an opening.
 use Rattle.std.proofs.Common.{◌≡◌, ℕ, suc, ◌≤◌, Bool, true, false, cond, List, [], ◌∷◌, refl, sym, ap, ◌∙◌, subst}
 use Rattle.std.specs.Prelude.{IsTrue, codes, not, ◌&&◌}
+use Rattle.std.proofs.lemmas.Bool.{false≢true}
 use Rattle.tokens.specs.declared.token.TokenClass.{TokenClass}
 use Rattle.tokens.specs.declared.token.TokenClass.TheVariants.{IdentifierName, Punctuator, NumericLiteral, StringLiteral}
 use Rattle.tokens.specs.declared.token.Goal.{Goal}
@@ -21,12 +22,12 @@ use Rattle.language.specs.declared.Start.TheVariants.{Any, NoBrace, Statement}
 use Rattle.language.specs.Vocabulary.{is_name, among, takes, literal_class}
 use Rattle.language.specs.Pieces.{Role, expr, PieceOf, tok, at}
 use Rattle.language.specs.Token.{Token}
-use Rattle.language.specs.ExpressionStart.{with_literal, with_this, with_function, with_class, with_import, no_start, expression_start}
+use Rattle.language.specs.ExpressionStart.{ExpressionStart, with_literal, with_this, with_function, with_class, with_import, no_start, expression_start}
 use Rattle.language.specs.Promises.{is_free, IsDetermined, ReadBy}
 use Rattle.language.specs.Following.{IsAlike}
 use Rattle.language.specs.Grammar.{ways, starts}
 use Rattle.language.specs.Derivation.{Reads, Runs, Placed, placed}
-use Rattle.language.specs.NodeForms.{this}
+use Rattle.language.proofs.table.NodeForms.{this}
 use Rattle.language.proofs.table.Productions.{spell}
 use Rattle.language.proofs.table.Begins.{retell}
 use Rattle.language.proofs.table.TokenFirstWays.{Headed, head_this, head_literal, head_function, head_class, either_class}
@@ -145,3 +146,20 @@ module _ (S : Type 0) (Next : S → Token → S → Type 0) (behind : S → Toke
           let leaf = leaf_same S Next behind det is k (lean_flags (bare (node _ w g st en ps)) bares ∙ ap (λ v. used_flags v g) k) pl (retell S Next behind v d) same in
           let tree : m ≡ node Literal t.text plain t.start (behind m0).stop none = leaf.1 ∙ ap (λ v. node Literal v plain t.start (behind m0).stop none) text in
           climbed_as S Next behind det leaf.0 tree leaf.2 (climb_literal S Next behind det r (b.reached.taken Primary tk) class (ap (λ v. is_name (literal_class v) && not (among v ("true" ∷ "false" ∷ "null" ∷ []))) (sym text) ∙ c) op)
+
+  -- what needs no lists of its own
+  abbrev pub is_lone : ExpressionStart → Bool
+  is_lone with_literal = true
+  is_lone with_this = true
+  is_lone with_import = true
+  is_lone with_class = true
+  is_lone no_start = true
+  is_lone _ = false
+
+  pub lone_core : (z : ExpressionStart) → is_lone z ≡ true → CoreStep S Next behind det h z
+  lone_core with_literal l = literal_core
+  lone_core with_this l = this_core
+  lone_core with_import l = import_core
+  lone_core with_class l = class_core
+  lone_core no_start l = no_core
+  lone_core _ l = absurd (false≢true l)

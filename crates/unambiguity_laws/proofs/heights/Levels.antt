@@ -1,7 +1,8 @@
 -- How high a node may be for the bytes that spell it, by its position: at most twice as high as the bytes are many, and one, less the level
 -- of the position. The table: what the pieces of each way to spell a node give pays for the node's level.
 use Rattle.std.proofs.Common.{◌≡◌, ℕ, zero, suc, pred, ◌+◌, ◌≤◌, Bool, true, false, cond, List, [], ◌∷◌, ◌++◌, refl, ap, ap₂, ◌∙◌, arith}
-use Rattle.std.specs.Prelude.{map, filter}
+use Rattle.std.specs.Prelude.{map, filter, nat_le}
+use Rattle.std.proofs.lemmas.Bool.Decides.{nat_tests}
 use Rattle.tokens.specs.declared.token.TokenClass.{TokenClass}
 use Rattle.tokens.specs.declared.token.TokenClass.TheVariants.{Template, End}
 use Rattle.language.specs.declared.Rank.{Rank}
@@ -149,6 +150,20 @@ ample_more {x = x} h k = let d = debt_one slot_level x.pieces in one_more (omega
 
 pub ample : {l : ℕ} {x : Spelling} → suc l ≤ gain slot_level x.pieces → Paid l (x ∷ [])
 ample h = ample_more h at_end
+
+-- no spelling, or one that gives enough
+abbrev pub sole_paid : ℕ → List Spelling → Bool
+sole_paid l [] = true
+sole_paid l (x ∷ []) = nat_le (l + debt slot_level x.pieces) (gain slot_level x.pieces)
+sole_paid l (x ∷ y ∷ xs) = false
+
+pub Paid-sole : {l : ℕ} (xs : List Spelling) → sole_paid l xs ≡ true → Paid l xs
+Paid-sole [] h = at_end
+Paid-sole {l} (x ∷ []) h = exact (below (l + debt slot_level x.pieces) (gain slot_level x.pieces) h)
+  where
+    below : (m n : ℕ) → nat_le m n ≡ true → m ≤ n
+    below m n h = grind (arith, nat_tests)
+Paid-sole (x ∷ y ∷ xs) h = cc
 
 pub Paid-cond : {l : ℕ} (b : Bool) (xs ys : List Spelling) → Paid l xs → Paid l ys → Paid l (cond b xs ys)
 Paid-cond true xs ys h k = h

@@ -2,7 +2,7 @@
 use Rattle.std.proofs.Common.{◌≡◌, ℕ, ◌≤◌, Bool, true, false, cond, List, [], ◌∷◌, ◌++◌, refl, arith}
 use Rattle.std.specs.Prelude.{◌&&◌, ◌||◌, nat_eq, nat_le, slice_index_or}
 use Rattle.tree.specs.declared.kind.Kind.{Kind}
-use Rattle.tree.specs.declared.kind.Kind.TheVariants.{Identifier, Literal, ThisExpression, ArrayExpression, ObjectExpression, FunctionExpression, ArrowFunctionExpression, ClassExpression, TemplateLiteral, TaggedTemplateExpression, MemberExpression, CallExpression, NewExpression, MetaProperty, ImportExpression, ChainExpression, UpdateExpression, UnaryExpression, BinaryExpression, LogicalExpression, ConditionalExpression, AssignmentExpression, SequenceExpression}
+use Rattle.tree.specs.declared.kind.Kind.TheVariants.{Identifier, Literal, ArrayExpression, ObjectExpression, FunctionExpression, ArrowFunctionExpression, ClassExpression, TemplateLiteral, MemberExpression, CallExpression, NewExpression, MetaProperty, ChainExpression, UpdateExpression, UnaryExpression, BinaryExpression, LogicalExpression, AssignmentExpression, SequenceExpression}
 use Rattle.tree.specs.declared.kind.Flags.{Flags}
 use Rattle.tree.specs.Tree.{node, Parts, none, part, gap, kind_of}
 use Rattle.tokens.specs.declared.token.TokenClass.TheVariants.{IdentifierName, NumericLiteral, StringLiteral, RegularExpressionLiteral}
@@ -13,7 +13,7 @@ use Rattle.language.specs.Vocabulary.{is, is_target, is_pattern, literal_class, 
 use Rattle.language.specs.Pieces.{expr, word, body, left, tail, callee, lead_chain, lead_pattern, Piece, sub, lay, apart, Spelling, only, at, sign, sp, put, is_none, parameters, pattern_element, separator, open_parameters, close_parameters, listed, elements, argument}
 use Rattle.language.specs.Pieces as piece
 use Rattle.language.specs.Expressions.{expressions, op_arrow, arrow_end, binary_ways, logical_ways, selector, after_number, member_link, call_link, arguments, chain_element, chain_parts, first_has_optional, template_elements, in_brackets, sequence, infix_pieces, object_part, named, class_pieces, function_pieces}
-use Rattle.unambiguity_laws.proofs.heights.Levels.{slot_level, token_gain, gain, gain-append, Paid, at_end, exact, ample, ample_more, Paid-cond, Paid-if, Paid-unless}
+use Rattle.unambiguity_laws.proofs.heights.Levels.{slot_level, token_gain, gain, gain-append, Paid, at_end, exact, ample, ample_more, Paid-sole, Paid-cond, Paid-if, Paid-unless}
 
 -- what a list gives, and the token behind it
 pub gain-closed : (m : ℕ) (xs ys : List Piece) → m ≤ gain slot_level ys → m ≤ gain slot_level (xs ++ ys)
@@ -128,21 +128,18 @@ pub expression_paid : (k : Kind) (w : List ℕ) (g : Flags) (ps : Parts) → Pai
 unfolding expressions
 expression_paid Identifier w g ps = Paid-unless _ _ (exact (omega arith))
 expression_paid Literal w g ps = Paid-unless _ _ (exact (let t = literal_gain w in omega (arith, t)))
-expression_paid ThisExpression w g ps = exact (omega arith)
 expression_paid ArrayExpression w g ps = ample (let e = gain-closed 2 (elements argument ps) (sign "]" ∷ []) (omega arith) in omega (arith, e))
 expression_paid ObjectExpression w g ps = ample (let e = gain-closed 2 (listed object_part ps) (sign "}" ∷ []) (omega arith) in omega (arith, e))
 expression_paid FunctionExpression w g ps = ample (function_gain ps)
 expression_paid ClassExpression w g ps = ample (class_gain ps)
 expression_paid TemplateLiteral w g ps = ample (chunks_gain true ps)
 expression_paid ArrowFunctionExpression w g ps = arrows_paid g ps
-expression_paid TaggedTemplateExpression w g ps = exact (omega arith)
 expression_paid MemberExpression w g ps =
     Paid-unless _ _ (Paid-cond _ _ _ (ample (let s = selector_gain g in omega (arith, s))) (ample (selected_gain g ps)))
 expression_paid CallExpression w g ps =
     Paid-unless _ _ (Paid-cond _ _ _ (ample (omega arith)) (ample (omega arith)))
 expression_paid NewExpression w g ps = ample_more (omega arith) (Paid-if _ _ (exact (omega arith)))
 expression_paid MetaProperty w g ps = Paid-if _ _ (exact (omega arith))
-expression_paid ImportExpression w g ps = exact (omega arith)
 expression_paid ChainExpression w g ps = Paid-if _ _ (exact (omega arith))
 expression_paid UpdateExpression w g ps = Paid-unless _ _ (Paid-cond _ _ _ (exact (omega arith)) (exact (omega arith)))
 expression_paid UnaryExpression w g ps =
@@ -150,10 +147,9 @@ expression_paid UnaryExpression w g ps =
     (ample (let e = gain-closed 1 (cond (is w "+") (lay (apart 43) ∷ []) (cond (is w "-") (lay (apart 45) ∷ []) [])) (put (expr Unary true Any) ∷ []) (omega arith) in omega (arith, e))))
 expression_paid BinaryExpression w g ps = binary_paid w (operator_of w)
 expression_paid LogicalExpression w g ps = logical_paid w (operator_of w)
-expression_paid ConditionalExpression w g ps = exact (omega arith)
 expression_paid AssignmentExpression w g ps = Paid-unless _ _ (assigned_paid w (is_target (lead ps)) (is w "=" && is_pattern (lead ps)))
 expression_paid SequenceExpression w g ps = sequence_paid (others ps)
-expression_paid _ w g ps = at_end
+expression_paid k w g ps = Paid-sole (expressions k w g ps) refl
 
 linked_paid : (o : Bool) (ps : Parts) (qs : List Piece) → 3 ≤ gain slot_level qs → Paid 3 (chain_element o ps qs)
 linked_paid o ps qs h = Paid-cond (first_has_optional ps) _ _ (ample (omega (arith, h))) (Paid-if o _ (ample (omega (arith, h))))

@@ -2,7 +2,7 @@
 use Rattle.std.proofs.Common.{◌≡◌, ℕ, suc, ◌+◌, ◌≤◌, Bool, true, false, cond, List, [], ◌∷◌, ◌++◌, refl, arith}
 use Rattle.std.specs.Prelude.{Option, Some, None, codes}
 use Rattle.tree.specs.declared.kind.Kind.{Kind}
-use Rattle.tree.specs.declared.kind.Kind.TheVariants.{Program, Identifier, Literal, Super, Property, SpreadElement, FunctionExpression, TemplateLiteral, TemplateElement, ArrayPattern, ObjectPattern, AssignmentPattern, RestElement, ClassBody, MethodDefinition, ExpressionStatement, BlockStatement, EmptyStatement, DebuggerStatement, ReturnStatement, ThrowStatement, BreakStatement, ContinueStatement, LabeledStatement, IfStatement, SwitchStatement, SwitchCase, TryStatement, CatchClause, WhileStatement, DoWhileStatement, ForStatement, ForInStatement, ForOfStatement, VariableDeclaration, VariableDeclarator, FunctionDeclaration, ClassDeclaration}
+use Rattle.tree.specs.declared.kind.Kind.TheVariants.{Program, Identifier, Literal, Super, Property, SpreadElement, FunctionExpression, TemplateLiteral, TemplateElement, ArrayPattern, ObjectPattern, AssignmentPattern, RestElement, ClassBody, MethodDefinition, ExpressionStatement, BlockStatement, ReturnStatement, BreakStatement, ContinueStatement, IfStatement, SwitchStatement, SwitchCase, TryStatement, CatchClause, ForStatement, ForInStatement, ForOfStatement, VariableDeclaration, VariableDeclarator, FunctionDeclaration, ClassDeclaration}
 use Rattle.tree.specs.declared.kind.Flags.{Flags}
 use Rattle.tree.specs.declared.kind.Form.{Form}
 use Rattle.tree.specs.declared.kind.Form.TheVariants.{Init, Get, Set, Method, Shorthand, Constructor}
@@ -18,14 +18,13 @@ use Rattle.language.specs.Statements.{statements, items, openings, braced, prolo
 use Rattle.language.specs.Grammar.{ways, ways_bare, spellings}
 use Rattle.language.specs.Derivation.{Among}
 use Rattle.language.proofs.lower_bound.Domination.{ways_of}
-use Rattle.unambiguity_laws.proofs.heights.Levels.{level, slot_level, gain, debt, Paid, at_end, exact, ample, Paid-cond, Paid-if, Paid-unless, among_paid}
+use Rattle.unambiguity_laws.proofs.heights.Levels.{level, slot_level, gain, debt, Paid, at_end, exact, ample, Paid-sole, Paid-cond, Paid-if, Paid-unless, among_paid}
 use Rattle.unambiguity_laws.proofs.heights.LevelsOfExpressions.{gain-closed, literal_gain, chunks_gain, expression_paid, spine_paid}
 
 statement_paid : (r : Bool) (k : Kind) (w : List ℕ) (g : Flags) (ps : Parts) → Paid 1 (statements r k w g ps)
 unfolding statements
 statement_paid r BlockStatement w g ps = ample (omega arith)
 statement_paid r VariableDeclaration w g ps = Paid-if _ _ (ample (omega arith))
-statement_paid r EmptyStatement w g ps = ample (omega arith)
 statement_paid r ExpressionStatement w g ps = Paid-unless _ _ (exact (omega arith))
 statement_paid r IfStatement w g none = at_end
 statement_paid r IfStatement w g (gap ps) = at_end
@@ -38,23 +37,18 @@ statement_paid r IfStatement w g (part t (part c (gap (gap ps)))) = at_end
 statement_paid r IfStatement w g (part t (part c (part a none))) = Paid-unless _ _ (ample (omega arith))
 statement_paid r IfStatement w g (part t (part c (part a (part n ps)))) = at_end
 statement_paid r IfStatement w g (part t (part c (part a (gap ps)))) = at_end
-statement_paid r DoWhileStatement w g ps = ample (omega arith)
-statement_paid r WhileStatement w g ps = ample (omega arith)
 statement_paid r ForStatement w g ps = ample (omega arith)
 statement_paid r ForInStatement w g ps = ample (omega arith)
 statement_paid r ForOfStatement w g ps = ample (omega arith)
 statement_paid r ContinueStatement w g ps = ample (omega arith)
 statement_paid r BreakStatement w g ps = ample (omega arith)
 statement_paid r ReturnStatement w g ps = Paid-if _ _ (ample (omega arith))
-statement_paid r ThrowStatement w g ps = ample (omega arith)
-statement_paid r LabeledStatement w g ps = ample (omega arith)
 statement_paid r SwitchStatement w g ps = Paid-if _ _ (ample (omega arith))
 statement_paid r TryStatement w g (part b (part h (gap none))) = ample (omega arith)
 statement_paid r TryStatement w g (part b (part h (part f none))) = ample (omega arith)
 statement_paid r TryStatement w g (part b (gap (part f none))) = ample (omega arith)
 statement_paid r TryStatement w g _ = at_end
-statement_paid r DebuggerStatement w g ps = ample (omega arith)
-statement_paid r _ w g ps = at_end
+statement_paid r k w g ps = Paid-sole (statements r k w g ps) refl
 
 item_paid : (r : Bool) (k : Kind) (w : List ℕ) (g : Flags) (ps : Parts) → Paid 1 (items r k w g ps)
 unfolding items

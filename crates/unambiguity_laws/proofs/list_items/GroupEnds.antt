@@ -49,7 +49,8 @@ use Rattle.unambiguity_laws.proofs.Unique.{Unique}
 use Rattle.unambiguity_laws.proofs.list_items.ListEnds.{Form, closed, hole, last, more, list_view}
 use Rattle.unambiguity_laws.proofs.list_items.Crossings.{no_element_there, list_ends}
 use Rattle.unambiguity_laws.proofs.list_items.ElementEnds.{at_pattern, at_default}
-use Rattle.unambiguity_laws.proofs.list_items.GroupLists.{AtExpression, single, sequenced, at_expression, argument_is, one_argument, several_arguments}
+use Rattle.language.proofs.climbing.Wholes.{AtExpression, single, sequenced, at_expression}
+use Rattle.unambiguity_laws.proofs.list_items.GroupLists.{argument_is, one_argument, several_arguments}
 
 some_same : {a b : Role} → Some a ≡ Some b → a ≡ b
 some_same e = cc

@@ -33,10 +33,6 @@ module _ (S : Type 0) (Next : S → Token → S → Type 0) (behind : S → Toke
   pub record ClosesOnce (zs : List (PieceOf Role)) : Type 0 where
     pub once : {o o' : ℕ} {mid e e' : S} {P P' : List Pair} → Runs ways S Next behind o zs none mid e P → Runs ways S Next behind o' zs none mid e' P' → (e' ≡ e) × (P' ≡ [])
 
-  -- nothing; a token
-  pub nothing_once : ClosesOnce []
-  nothing_once = record { once = λ d d'. (let z = run_none S Next behind d in let z' = run_none S Next behind d' in (sym z'.place ∙ z.place, z'.pairs)) }
-
   pub token_once : {c : TokenClass} {w : List ℕ} (g : Goal) → IsTrue (allows g c w) → ClosesOnce (tok c w ∷ [])
   token_once {c} {w} g al = record {
     once = λ {o} {o'} {mid} {e} {e'} d d'.

@@ -6,14 +6,14 @@ use Rattle.tokens.specs.declared.token.Goal.{Goal}
 use Rattle.tokens.specs.Goals.{allows}
 use Rattle.tree.specs.declared.kind.Pair.{Pair}
 use Rattle.tree.specs.Tree.{Tree, Parts, none, part, height, parts_height}
-use Rattle.language.specs.Pieces.{Role, PieceOf, Hint, tok, lay, unbroken, sub, never}
+use Rattle.language.specs.Pieces.{Role, PieceOf, Hint, tok, lay, unbroken, sub}
 use Rattle.language.specs.Token.{Token}
 use Rattle.language.specs.Promises.{IsDetermined, FoundParts}
 use Rattle.language.specs.Following.{FoundWhere, FoundPartsWhere}
 use Rattle.language.specs.Grammar.{ways}
 use Rattle.language.specs.Derivation.{Spells, Runs}
 use Rattle.language.proofs.table.Begins.{retell}
-use Rattle.language.proofs.list_loops.FirstPieces.{run_none, run_token, run_part, run_never, run_unbroken}
+use Rattle.language.proofs.list_loops.FirstPieces.{run_none, run_token, run_part, run_unbroken}
 use Rattle.language.proofs.list_loops.PiecesSoFar.{Sofar, Fits, at_first, all_read, token_on, lay_on, part_on}
 use Rattle.language.proofs.statements.OptionalParts.{and_found, unbroken_on}
 
@@ -80,10 +80,6 @@ module _ (S : Type 0) (Next : S → Token → S → Type 0) (behind : S → Toke
           (subst (λ w. FoundPartsWhere S Next behind Fine o (λ ps. sub a ∷ after ps) s e w (v.one ++ v.more)) (sym v.parts)
           (and_found S Next behind det (part_on S Next behind det {Fine = Fine} {after = after} found (fits s)) ((rest v.item low1).found low2 d' fine')));
     }
-
-    -- over what nothing spells nothing runs
-    pub runs_never : {qs : List (PieceOf Role)} → UniqueRuns h Fine (λ ps. never ∷ qs)
-    runs_never = record { found = λ low d fine. absurd (run_never S Next behind d) }
 
   -- whatever may follow
   pub anyhow_found : {h o : ℕ} {left : Parts → List (PieceOf Role)} {ps : Parts} {mid e : S} {P : List Pair} → UniqueRuns h (λ ps e. Unit {0}) left → parts_height ps ≤ h → Runs ways S Next behind o (left ps) ps mid e P → FoundParts S Next behind o left mid e ps P

@@ -1,5 +1,6 @@
 -- Statements and declarations by their first token: those whose first token is their own, from what stands behind it; and which one it is.
 use Rattle.std.proofs.Common.{◌≡◌, ℕ, suc, ◌≤◌, Bool, true, false, List, refl, sym, ap, ◌∙◌, subst, arith}
+use Rattle.std.proofs.lemmas.Bool.{false≢true}
 use Rattle.tree.specs.declared.kind.Pair.{Pair}
 use Rattle.tree.specs.Tree.{Tree, node, Parts, bare_parts, plain, height, parts_height}
 use Rattle.language.specs.declared.Rank.TheVariants.{Expression}
@@ -15,9 +16,9 @@ use Rattle.language.specs.Following.{IsAlike, Followed, Finished, FoundWhere}
 use Rattle.language.specs.Grammar.{ways}
 use Rattle.language.specs.Derivation.{Spells, Placed}
 use Rattle.language.proofs.table.Begins.{goes_to}
-use Rattle.language.proofs.table.StatementWays.{behind_own, Stands}
+use Rattle.language.proofs.table.StatementWays.{kind_as, behind_own, Stands}
 use Rattle.language.proofs.table.Beginnings.{text_as}
-use Rattle.language.proofs.table.OwnTokenWays.{kind_as, own_sole}
+use Rattle.language.proofs.table.OwnTokenWays.{own_sole}
 use Rattle.language.proofs.table.SoleWays.{Sole, Anyhow, sole_found}
 use Rattle.language.proofs.table.ItemTokens.{item_starts}
 use Rattle.language.proofs.climbing.Leaves.{name_form, name_found}
@@ -65,30 +66,51 @@ module _ (S : Type 0) (Next : S → Token → S → Type 0) (behind : S → Toke
         (sole_found S Next behind det sole {FineParts = FineParts} (λ st en ps e f. turn (text_as b t.text) st en ps e f) found (subst (λ w. Placed S Next behind a w s e) v.tree v.placed));
   }
 
-  pub block_statement : StatementStep S Next behind det h a_block
+  block_statement : StatementStep S Next behind det h a_block
   block_statement = own_step a_block refl (λ e. cc) (λ ps e. Unit {0}) (λ w st en ps e f. tt) (λ r. block_items S Next behind det alike u r)
 
-  pub empty_statement : StatementStep S Next behind det h an_empty
+  empty_statement : StatementStep S Next behind det h an_empty
   empty_statement = own_step an_empty refl (λ e. cc) (λ ps e. Unit {0}) (λ w st en ps e f. tt) (λ r. runs_none S Next behind det)
 
-  pub debugger_statement : StatementStep S Next behind det h a_debugger
+  debugger_statement : StatementStep S Next behind det h a_debugger
   debugger_statement = own_step a_debugger refl (λ e. cc) (λ ps e. Unit {0}) (λ w st en ps e f. tt) (λ r. runs_end S Next behind det (λ ps. Rattle.language.specs.Pieces.behind Closed))
 
-  pub continue_statement : StatementStep S Next behind det h a_continue
+  continue_statement : StatementStep S Next behind det h a_continue
   continue_statement = own_step a_continue refl (λ e. cc) (λ ps e. Unit {0}) (λ w st en ps e f. tt)
       (λ r. runs_word S Next behind det (λ ps. Closed) (λ o n s e P d. name_expression S Next behind det d) (name_unique S Next behind det) (λ mid o m ps k e A P d runs fine. tt))
 
-  pub break_statement : StatementStep S Next behind det h a_break
+  break_statement : StatementStep S Next behind det h a_break
   break_statement = own_step a_break refl (λ e. cc) (λ ps e. Unit {0}) (λ w st en ps e f. tt)
       (λ r. runs_word S Next behind det (λ ps. Closed) (λ o n s e P d. name_expression S Next behind det d) (name_unique S Next behind det) (λ mid o m ps k e A P d runs fine. tt))
 
-  pub return_statement : StatementStep S Next behind det h a_return
+  return_statement : StatementStep S Next behind det h a_return
   return_statement = own_step a_return refl (λ e. cc) (λ ps e. Followed S Next behind false e) (λ w st en ps e f. f)
       (λ r. runs_word S Next behind det last_edge (λ o n s e P d. d) whole_unique (λ mid. before_end S Next behind det alike (λ ps. false) Expression true))
 
-  pub throw_statement : StatementStep S Next behind det h a_throw
+  throw_statement : StatementStep S Next behind det h a_throw
   throw_statement = own_step a_throw refl (λ e. cc) (λ ps e. Followed S Next behind false e) (λ w st en ps e f. f)
       (λ r. runs_given S Next behind det last_edge (λ o n s e P d. d) whole_unique (λ mid. before_end S Next behind det alike (λ ps. false) Expression true))
+
+  -- those that need no lists of their own
+  abbrev pub is_lone : StatementStart → Bool
+  is_lone a_block = true
+  is_lone an_empty = true
+  is_lone a_debugger = true
+  is_lone a_continue = true
+  is_lone a_break = true
+  is_lone a_return = true
+  is_lone a_throw = true
+  is_lone _ = false
+
+  pub lone_statement : (b : StatementStart) → is_lone b ≡ true → StatementStep S Next behind det h b
+  lone_statement a_block l = block_statement
+  lone_statement an_empty l = empty_statement
+  lone_statement a_debugger l = debugger_statement
+  lone_statement a_continue l = continue_statement
+  lone_statement a_break l = break_statement
+  lone_statement a_return l = return_statement
+  lone_statement a_throw l = throw_statement
+  lone_statement _ l = absurd (false≢true l)
 
   -- a statement or declaration, by the token with which it begins
   pub statement_step : {a : Role} {p d r : Bool} {o : ℕ} {n : Tree} {s e : S} {P : List Pair} → ((b : StatementStart) → StatementStep S Next behind det h b) → Stands a p d r → height n ≤ suc h → Spells ways S Next behind o a n s e P → Finished S Next behind n e →

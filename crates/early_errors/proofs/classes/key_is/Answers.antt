@@ -9,5 +9,5 @@ returns-then-not-is_quoted c = c.eq.ensures ∙ plain_key (node_tree c.args.key)
 
 pub returns : goal.returns
 returns c =
-    c.is_word.ensures ∙ (λ i. bytes_eq (c.as_slice.ensures.value i) (c.as_bytes.ensures.value i))
+    c.same_units.ensures ∙ (λ i. bytes_eq (c.as_slice.ensures.value i) (c.as_bytes.ensures.value i))
     ∙ quoted_key (node_tree c.args.key) c.in_ok-units.units.items _ c.args.word.now c.is_quoted.result c.is_quoted.ensures c.if-not-is_quoted.false c.text-2.ensures c.in_ok-units.ensures

@@ -10,15 +10,15 @@ returns-then-count-eq0 c =
     let l : part_count ps - 1 ≤ c.args.from = omega (arith, c.part_count-count.ensures, c.if-count-eq0.true) in
     simple-past ps c.args.from l
 
-pub returns-then-not-is_plain : goal.returns-then-not-is_plain
-returns-then-not-is_plain c =
-    sym (simple-step (parts_of (node_tree c.args.node)) c.loop-index.index _ c.is_plain.result false (subst (λ n. c.loop-index.index < n - 1) c.part_count-count.ensures c.loop-index-test.true) c.part.ensures c.is_plain.ensures
-    c.if-not-is_plain.true) ∙ c.loop-index.invariant
+pub returns-then-not-is_simple_parameter : goal.returns-then-not-is_simple_parameter
+returns-then-not-is_simple_parameter c =
+    sym (simple-step (parts_of (node_tree c.args.node)) c.loop-index.index _ c.is_simple_parameter.result false (subst (λ n. c.loop-index.index < n - 1) c.part_count-count.ensures c.loop-index-test.true) c.part.ensures c.is_simple_parameter.ensures
+    c.if-not-is_simple_parameter.true) ∙ c.loop-index.invariant
 
 pub loop-index-preserved : goal.loop-index-preserved
 loop-index-preserved c =
-    sym (simple-step (parts_of (node_tree c.args.node)) c.loop-index.index _ c.is_plain.result true (subst (λ n. c.loop-index.index < n - 1) c.part_count-count.ensures c.loop-index-test.true) c.part.ensures c.is_plain.ensures
-    c.if-not-is_plain.false) ∙ c.loop-index.invariant
+    sym (simple-step (parts_of (node_tree c.args.node)) c.loop-index.index _ c.is_simple_parameter.result true (subst (λ n. c.loop-index.index < n - 1) c.part_count-count.ensures c.loop-index-test.true) c.part.ensures c.is_simple_parameter.ensures
+    c.if-not-is_simple_parameter.false) ∙ c.loop-index.invariant
 
 pub returns : goal.returns
 returns c =

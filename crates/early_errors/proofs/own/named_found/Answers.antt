@@ -13,12 +13,12 @@ use Rattle.early_errors.proofs.own.named_found.Goals as goal
 
 pub returns-in-Label : goal.returns-in-Label
 returns-in-Label c = λ ls h.
-    c.reported.ensures ∙ (λ i. after c.args.found (each DuplicateLabel (places (filter (λ x. stands_label (look c.args.labels.now) ls h x i) (c.requires.names i)))))
-    ∙ sym (ap (after c.args.found) (small_given Label (round c.args.around ls) (node_tree c.args.node) (sym c.requires.own ∙ c.in-Label.is)))
-    ∙ ap (λ o. after c.args.found (named_errors o (round c.args.around ls) (node_tree c.args.node))) (sym c.in-Label.is)
+    c.reported.ensures ∙ (λ i. after c.args.found (each DuplicateLabel (places (filter (λ x. stands_label (look c.args.surroundings.labels.now) ls h x i) (c.requires.names i)))))
+    ∙ sym (ap (after c.args.found) (small_given Label (round c.args.surroundings.around ls) (node_tree c.args.node) (sym c.requires.own ∙ c.in-Label.is)))
+    ∙ ap (λ o. after c.args.found (named_errors o (round c.args.surroundings.around ls) (node_tree c.args.node))) (sym c.in-Label.is)
 
 pub returns-in-FirstNames : goal.returns-in-FirstNames
 returns-in-FirstNames c = λ ls h.
     c.restricted.ensures ∙ ap (λ x. after c.args.found (each EvalOrArguments (places (filter is_restricted x)))) c.requires.names
     ∙ ap (after c.args.found) (restricted_given (node_tree c.args.node) (sym c.requires.own ∙ c.in-FirstNames.is))
-    ∙ ap (λ o. after c.args.found (named_errors o (round c.args.around ls) (node_tree c.args.node))) (sym c.in-FirstNames.is)
+    ∙ ap (λ o. after c.args.found (named_errors o (round c.args.surroundings.around ls) (node_tree c.args.node))) (sym c.in-FirstNames.is)

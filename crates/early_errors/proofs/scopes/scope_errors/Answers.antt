@@ -5,30 +5,19 @@ use Rattle.early_errors.specs.declared.EarlyError.TheVariants.{DuplicateLexicalN
 use Rattle.name_tables.specs.BoundNames.{each_part}
 use Rattle.early_errors.specs.Names.{function_names, lexical_names, body_items}
 use Rattle.early_errors.specs.Owns.{doubled, clash_with, found_of_scope}
-use Rattle.early_errors.specs.declared.scopes.ScopeKind.TheVariants.{Block}
 use Rattle.early_errors.specs.Walk.{after, all_named}
 use Rattle.early_errors.proofs.Least.{after-append}
 use Rattle.name_tables.proofs.Results.{if_ok}
 use Rattle.early_errors.proofs.scopes.scope_errors.Goals as goal
 
-pub returns-in-Program : goal.returns-in-Program
-returns-in-Program c =
+pub returns-in-TopLevel : goal.returns-in-TopLevel
+returns-in-TopLevel c =
     let ps = parts_of (node_tree c.args.node) in
     let ns = all_named c.args.names.now in
     if_ok c.top_errors.result _ _
     (λ r h. h ∙ sym (after-append c.args.found (doubled DuplicateLexicalName ns) (clash_with LexicalNameIsVar ns (each_part function_names ps)))
-    ∙ ap (λ k. after c.args.found (found_of_scope k c.args.is_body ps ns)) (sym c.in-Program.is))
+    ∙ ap (λ k. after c.args.found (found_of_scope k ps ns)) (sym c.in-TopLevel.is))
     c.top_errors.ensures
-
-pub returns-then-is_body : goal.returns-then-is_body
-returns-then-is_body c =
-    let ps = parts_of (node_tree c.args.node) in
-    let ns = all_named c.args.names.now in
-    if_ok c.top_errors-then-is_body.result _ _
-    (λ r h. h ∙ sym (after-append c.args.found (doubled DuplicateLexicalName ns) (clash_with LexicalNameIsVar ns (each_part function_names ps)))
-    ∙ ap (λ b. after c.args.found (found_of_scope Block b ps ns)) (sym c.if-is_body.true)
-    ∙ ap (λ k. after c.args.found (found_of_scope k c.args.is_body ps ns)) (sym c.in-Block.is))
-    c.top_errors-then-is_body.ensures
 
 pub returns-in-Catch : goal.returns-in-Catch
 returns-in-Catch c =
@@ -36,5 +25,5 @@ returns-in-Catch c =
     let ns = all_named c.args.names.now in
     if_ok c.catch_errors.result _ _
     (λ r h. h ∙ sym (after-append c.args.found (doubled CatchParameterConflict ns) (clash_with CatchParameterConflict ns (each_part (lexical_names true) (body_items ps))))
-    ∙ ap (λ k. after c.args.found (found_of_scope k c.args.is_body ps ns)) (sym c.in-Catch.is))
+    ∙ ap (λ k. after c.args.found (found_of_scope k ps ns)) (sym c.in-Catch.is))
     c.catch_errors.ensures

@@ -238,11 +238,11 @@ walk_in_scope-returns-then-has_no_var-clause-found t c =
     let inner = look c.walk_parts.new.walk.vars in
     let clashes = clashing inner error names in
     let free : range_vars (parts_of t) from (c.part_count-to.result - from) ≡ [] = ap (λ n. range_vars (parts_of t) from (n - from)) c.part_count-to.ensures ∙ is_free c.has_no_var.result c.if-has_no_var.true c.has_no_var.ensures in
-    let found = found_of_scope kind c.args.around.is_body (parts_of t) names in
+    let found = found_of_scope kind (parts_of t) names in
     scope-found o c.args.walk.now.found (look c.args.walk.now.vars) z (round first ls) (round others ls) t c.part_count-to.result from c.part_count-to.ensures error names found
     (ap (round first) (sym f.0) ∙ c.contexts_of-rounds.ensures.first ls) (ap (round others) (sym f.1.0) ∙ c.contexts_of-rounds.ensures.others ls)
     (look c.args.walk.now.vars) inner clashes c.in_ok-walk.field-0 c.walk_parts.new.walk.found c.walk_parts-then-has_no_var.new.walk.found
-    (split_given z t kind names error from c.part_count-to.result c.requires.inside (c.scope_kind-kind.ensures ∙ ap scope_kind c.kind.ensures) (ap all_named c.as_slice-declared.ensures.value ∙ c.in_ok-push_scope.ensures ∙ ap (λ l. all_named l ++ names_of_scope kind c.args.around.is_body (parts_of t)) c.requires.names)
+    (split_given z t kind names error from c.part_count-to.result c.requires.inside (c.scope_kind-kind.ensures ∙ ap (λ k. scope_kind k c.args.around.is_body) c.kind.ensures) (ap all_named c.as_slice-declared.ensures.value ∙ c.in_ok-push_scope.ensures ∙ ap (λ l. all_named l ++ names_of_scope kind (parts_of t)) c.requires.names)
     refl c.place_of_scope-from.ensures c.part_count-to.ensures)
     f.1.1.0 f.1.1.1 (λ w. refl) c.in_ok-walk_parts.ensures.vars (λ w. refl) e c.in_ok-walk.ensures
     (c.in_ok-walk_parts.ensures.found ls k ∙ ap (λ n. sooner (after c.in_ok-walk.field-0 (range_errors (round first ls) (round others ls) (parts_of t) 0 n)) (hits (look c.args.walk.now.vars) (range_vars (parts_of t) 0 n))) (from_start from))
@@ -265,11 +265,11 @@ walk_in_scope-returns-clause-found t c =
     let from = c.place_of_scope-from.result in
     let error = c.scope_error.result in
     let names = all_named c.as_slice-declared.result.now in
-    let found = found_of_scope kind c.args.around.is_body (parts_of t) names in
+    let found = found_of_scope kind (parts_of t) names in
     scope-found o c.args.walk.now.found (look c.args.walk.now.vars) z (round first ls) (round others ls) t c.part_count-to.result from c.part_count-to.ensures error names found
     (ap (round first) (sym f.0) ∙ c.contexts_of-rounds.ensures.first ls) (ap (round others) (sym f.1.0) ∙ c.contexts_of-rounds.ensures.others ls)
     (look c.args.walk.now.vars) (look c.walk_parts.new.walk.vars) (look c.open_scope.new.clashes) c.in_ok-walk.field-0 c.walk_parts.new.walk.found c.walk_parts-2.new.walk.found
-    (split_given z t kind names error from c.part_count-to.result c.requires.inside (c.scope_kind-kind.ensures ∙ ap scope_kind c.kind.ensures) (ap all_named c.as_slice-declared.ensures.value ∙ c.in_ok-push_scope.ensures ∙ ap (λ l. all_named l ++ names_of_scope kind c.args.around.is_body (parts_of t)) c.requires.names)
+    (split_given z t kind names error from c.part_count-to.result c.requires.inside (c.scope_kind-kind.ensures ∙ ap (λ k. scope_kind k c.args.around.is_body) c.kind.ensures) (ap all_named c.as_slice-declared.ensures.value ∙ c.in_ok-push_scope.ensures ∙ ap (λ l. all_named l ++ names_of_scope kind (parts_of t)) c.requires.names)
     c.scope_error.ensures c.place_of_scope-from.ensures c.part_count-to.ensures)
     f.1.1.0 f.1.1.1 (λ w. refl) c.in_ok-walk_parts.ensures.vars c.in_ok-open_scope.ensures.entered e c.in_ok-walk.ensures
     (c.in_ok-walk_parts.ensures.found ls k ∙ ap (λ n. sooner (after c.in_ok-walk.field-0 (range_errors (round first ls) (round others ls) (parts_of t) 0 n)) (hits (look c.args.walk.now.vars) (range_vars (parts_of t) 0 n))) (from_start from))

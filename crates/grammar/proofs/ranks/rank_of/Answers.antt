@@ -7,7 +7,7 @@ use Rattle.language.specs.declared.Rank.TheVariants.{Expression, Assignment, Una
 use Rattle.language.specs.Vocabulary.{is_reserved, is_prefix, operator_of}
 use Rattle.grammar.specs.Ranks.{rank_if, is_spelled_literal, binary_symbol, logical_symbol}
 use Rattle.grammar.proofs.ChainParts.{chained_first}
-use Rattle.grammar.proofs.ExpressionRanks.{stands, has_others, unranked}
+use Rattle.grammar.proofs.ExpressionRanks.{stands, has_others, as_plain}
 use Rattle.grammar.proofs.ranks.rank_of.Goals as goal
 
 pub returns-in-Identifier : goal.returns-in-Identifier
@@ -15,30 +15,6 @@ returns-in-Identifier c = c.rank_if.ensures ∙ (ap (λ b. rank_if (not b) Prima
 
 pub returns-in-Literal : goal.returns-in-Literal
 returns-in-Literal c = c.rank_if-in-Literal.ensures ∙ (ap (λ b. rank_if b Primary) (c.is_literal.ensures ∙ ap is_spelled_literal c.text-text.ensures) ∙ stands kind.Literal (node_tree c.args.node) c.in-Literal.ensures)
-
-pub returns-in-ThisExpression : goal.returns-in-ThisExpression
-returns-in-ThisExpression c = stands kind.ThisExpression (node_tree c.args.node) c.in-ThisExpression.ensures
-
-pub returns-in-ArrayExpression : goal.returns-in-ArrayExpression
-returns-in-ArrayExpression c = stands kind.ArrayExpression (node_tree c.args.node) c.in-ArrayExpression.ensures
-
-pub returns-in-ObjectExpression : goal.returns-in-ObjectExpression
-returns-in-ObjectExpression c = stands kind.ObjectExpression (node_tree c.args.node) c.in-ObjectExpression.ensures
-
-pub returns-in-FunctionExpression : goal.returns-in-FunctionExpression
-returns-in-FunctionExpression c = stands kind.FunctionExpression (node_tree c.args.node) c.in-FunctionExpression.ensures
-
-pub returns-in-ClassExpression : goal.returns-in-ClassExpression
-returns-in-ClassExpression c = stands kind.ClassExpression (node_tree c.args.node) c.in-ClassExpression.ensures
-
-pub returns-in-TemplateLiteral : goal.returns-in-TemplateLiteral
-returns-in-TemplateLiteral c = stands kind.TemplateLiteral (node_tree c.args.node) c.in-TemplateLiteral.ensures
-
-pub returns-in-TaggedTemplateExpression : goal.returns-in-TaggedTemplateExpression
-returns-in-TaggedTemplateExpression c = stands kind.TaggedTemplateExpression (node_tree c.args.node) c.in-TaggedTemplateExpression.ensures
-
-pub returns-in-NewExpression : goal.returns-in-NewExpression
-returns-in-NewExpression c = stands kind.NewExpression (node_tree c.args.node) c.in-NewExpression.ensures
 
 pub returns-in-MemberExpression : goal.returns-in-MemberExpression
 returns-in-MemberExpression c = c.rank_if-in-MemberExpression.ensures ∙ (ap (λ g. rank_if (not g.optional) Member) c.flags.ensures ∙ stands kind.MemberExpression (node_tree c.args.node) c.in-MemberExpression.ensures)
@@ -48,9 +24,6 @@ returns-in-MetaProperty c = c.rank_if-in-MetaProperty.ensures ∙ (ap (λ b. ran
 
 pub returns-in-CallExpression : goal.returns-in-CallExpression
 returns-in-CallExpression c = c.rank_if-in-CallExpression.ensures ∙ (ap (λ g. rank_if (not g.optional) Call) c.flags-in-CallExpression.ensures ∙ stands kind.CallExpression (node_tree c.args.node) c.in-CallExpression.ensures)
-
-pub returns-in-ImportExpression : goal.returns-in-ImportExpression
-returns-in-ImportExpression c = stands kind.ImportExpression (node_tree c.args.node) c.in-ImportExpression.ensures
 
 pub returns-in-ChainExpression : goal.returns-in-ChainExpression
 returns-in-ChainExpression c = c.rank_if-in-ChainExpression.ensures ∙ (ap (λ b. rank_if b LeftHandSide) (c.has_optional.ensures ∙ chained_first (parts_of (node_tree c.args.node)) _ c.part.ensures) ∙ stands kind.ChainExpression (node_tree c.args.node) c.in-ChainExpression.ensures)
@@ -67,12 +40,6 @@ returns-in-BinaryExpression c = c.binary_rank.ensures ∙ (ap (λ w. binary_symb
 pub returns-in-LogicalExpression : goal.returns-in-LogicalExpression
 returns-in-LogicalExpression c = c.logical_rank.ensures ∙ (ap (λ w. logical_symbol (operator_of w)) c.text-text.ensures ∙ stands kind.LogicalExpression (node_tree c.args.node) c.in-LogicalExpression.ensures)
 
-pub returns-in-ConditionalExpression : goal.returns-in-ConditionalExpression
-returns-in-ConditionalExpression c = stands kind.ConditionalExpression (node_tree c.args.node) c.in-ConditionalExpression.ensures
-
-pub returns-in-ArrowFunctionExpression : goal.returns-in-ArrowFunctionExpression
-returns-in-ArrowFunctionExpression c = stands kind.ArrowFunctionExpression (node_tree c.args.node) c.in-ArrowFunctionExpression.ensures
-
 pub returns-in-AssignmentExpression : goal.returns-in-AssignmentExpression
 returns-in-AssignmentExpression c = c.rank_if-in-AssignmentExpression.ensures ∙ (ap (λ b. rank_if b Assignment) c.can_assign.ensures ∙ stands kind.AssignmentExpression (node_tree c.args.node) c.in-AssignmentExpression.ensures)
 
@@ -83,4 +50,4 @@ pub returns-in_default : goal.returns-in_default
 returns-in_default c =
     let n = node_tree c.args.node in
     let d = c.in_default in
-    unranked c.kind.result (text_of n) (flags_of n) (parts_of n) (d.not-Identifier, (d.not-Literal, (d.not-ThisExpression, (d.not-ArrayExpression, (d.not-ObjectExpression, (d.not-FunctionExpression, (d.not-ClassExpression, (d.not-TemplateLiteral, (d.not-TaggedTemplateExpression, (d.not-NewExpression, (d.not-MemberExpression, (d.not-MetaProperty, (d.not-CallExpression, (d.not-ImportExpression, (d.not-ChainExpression, (d.not-UpdateExpression, (d.not-UnaryExpression, (d.not-BinaryExpression, (d.not-LogicalExpression, (d.not-ConditionalExpression, (d.not-ArrowFunctionExpression, (d.not-AssignmentExpression, (d.not-SequenceExpression, tt))))))))))))))))))))))) ∙ stands c.kind.result n c.kind.ensures
+    c.plain_rank.ensures ∙ (as_plain c.kind-kind.result (text_of n) (flags_of n) (parts_of n) (d.not-Identifier, (d.not-Literal, (d.not-MemberExpression, (d.not-MetaProperty, (d.not-CallExpression, (d.not-ChainExpression, (d.not-UpdateExpression, (d.not-UnaryExpression, (d.not-BinaryExpression, (d.not-LogicalExpression, (d.not-AssignmentExpression, (d.not-SequenceExpression, tt)))))))))))) ∙ stands c.kind-kind.result n c.kind-kind.ensures)

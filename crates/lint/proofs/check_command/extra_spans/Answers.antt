@@ -13,8 +13,8 @@ pub returns : goal.returns
 returns c = λ text utf8.
     let n = c.args.parsed.now.program in
     let P = c.args.parsed.now.pairs.items in
-    let wrapped : AreWraps n c.in_ok-wraps.wraps.items = subst (λ m. AreWraps m c.in_ok-wraps.wraps.items) c.program-program.ensures c.in_ok-wraps.ensures in
-    are_extra text n P c.in_ok-wraps.wraps.items c.in_ok-spans.spans.items utf8 wrapped
-    (c.in_ok-spans.ensures ∙ (λ j. extra_spans (c.deref-2.ensures.value j) (c.deref.ensures.value j)) ∙ ap (λ gs. extra_spans c.in_ok-wraps.wraps.items gs)
-    (c.in_ok-pair_rows.ensures ∙ ap (λ m. map (grouping (row_starts m)) c.grouping_pairs-pairs.result.now) c.program-program.ensures
+    let wrapped : AreWraps n c.in_ok-wraps.wraps.flags.items = subst (λ m. AreWraps m c.in_ok-wraps.wraps.flags.items) c.program-program.ensures c.in_ok-wraps.ensures in
+    are_extra text n P c.in_ok-wraps.wraps.flags.items c.in_ok-spans.spans.items utf8 wrapped
+    (c.in_ok-spans.ensures ∙ ap (λ gs. extra_spans c.in_ok-wraps.wraps.flags.items gs)
+    (c.deref.ensures.value ∙ c.in_ok-pair_rows.ensures ∙ ap (λ m. map (grouping (row_starts m)) c.grouping_pairs-pairs.result.now) c.program-program.ensures
     ∙ ap (λ ps. map (grouping (row_starts n)) ps) c.grouping_pairs-pairs.ensures))

@@ -13,5 +13,5 @@ returns-in-Ok-clause-answer c = fixed_answer c.args.source.now c.args.parsed c.i
 
 pub returns-in-Ok-clause-writable : goal.returns-in-Ok-clause-writable
 returns-in-Ok-clause-writable c =
-    let wrapped : AreWraps c.args.parsed.program c.in-Ok.wraps.items = subst (λ m. AreWraps m c.in-Ok.wraps.items) c.program.ensures c.in-Ok.ensures in
+    let wrapped : AreWraps c.args.parsed.program c.in-Ok.wraps.flags.items = subst (λ m. AreWraps m c.in-Ok.wraps.flags.items) c.program.ensures c.in-Ok.ensures in
     (reading_script c.args.source.now c.args.parsed.program c.args.parsed.pairs.items c.requires.reading c.requires.small, wrapped)

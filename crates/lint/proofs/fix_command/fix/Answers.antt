@@ -1,8 +1,7 @@
-use Rattle.std.proofs.Common.{◌≡◌, ◌∙◌, sym, ap, subst, string_bytes}
+use Rattle.std.proofs.Common.{◌≡◌, sym, subst, string_bytes}
 use Rattle.std.proofs.lemmas.Str.{IsUtf8-string_bytes}
 use Rattle.language.specs.Claims.{Derives}
 use Rattle.language.specs.Layout.{fixed_text}
-use Rattle.paren_planner.specs.Wrapped.{is_flagged}
 use Rattle.lint.proofs.FixAnswers.{fixes, is_planned}
 use Rattle.lint.proofs.PlannedScripts.{script_derived}
 use Rattle.lint.proofs.fix_command.fix.Goals as goal
@@ -17,7 +16,7 @@ returns-clause-laid c =
     let same = c.program-program.ensures in
     subst (λ m. string_bytes c.in_ok-text.text ≡ fixed_text m) same
     (c.in_ok-text.ensures.fixed is.text c.args.parsed.now.pairs.items (subst (λ m. Derives is.text m c.args.parsed.now.pairs.items) (sym same) is.derived)
-    (is_planned c.program-program.result.now _ (λ r. ap (λ bs. is_flagged bs r) c.deref.ensures.value ∙ c.in_ok-wraps.ensures r)))
+    (is_planned c.program-program.result.now _ c.in_ok-wraps.ensures))
 
 pub returns-clause-fixed : goal.returns-clause-fixed
 returns-clause-fixed c =

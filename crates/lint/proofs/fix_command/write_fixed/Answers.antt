@@ -12,7 +12,7 @@ returns-in-Ok g c =
     let n = c.args.parsed.now.program in
     let is = c.requires.script in
     let same = c.program.ensures in
-    let flags = c.args.wraps.now in
+    let flags = c.args.wraps.now.flags.items in
     let derived : Derives is.text c.program.result.now c.args.parsed.now.pairs.items = subst (λ m. Derives is.text m c.args.parsed.now.pairs.items) (sym same) is.derived in
     let planned : IsPlanned flags c.program.result.now = subst (IsPlanned flags) (sym same) (is_planned n flags c.requires.wraps) in
     subst (λ m. Appends (g.W.Sink.taken c.args.writer.now) (g.W.Sink.taken c.print.new.writer) (fixed_text m) × (g.W.Sink.failed c.print.new.writer ≡ false)) same
@@ -23,7 +23,7 @@ returns-in-Err g c =
     let n = c.args.parsed.now.program in
     let is = c.requires.script in
     let same = c.program.ensures in
-    let flags = c.args.wraps.now in
+    let flags = c.args.wraps.now.flags.items in
     let derived : Derives is.text c.program.result.now c.args.parsed.now.pairs.items = subst (λ m. Derives is.text m c.args.parsed.now.pairs.items) (sym same) is.derived in
     let planned : IsPlanned flags c.program.result.now = subst (IsPlanned flags) (sym same) (is_planned n flags c.requires.wraps) in
     begun (fixed_text n) c.in-Err.field-0 _ _ _

@@ -4,4 +4,4 @@ use Rattle.paren_planner.proofs.extra.extra_pairs.Given as goal
 
 -- the spans so far, with those of the pairs from here on
 abbrev pub invariant-loop-index : goal.invariant-loop-index
-invariant-loop-index l = l.spans.items ++ extra_spans l.wraps (drop l.index l.groupings) ≡ extra_spans l.wraps l.groupings
+invariant-loop-index l = l.spans.items ++ extra_spans l.wraps.flags.items (drop l.index l.groupings) ≡ extra_spans l.wraps.flags.items l.groupings

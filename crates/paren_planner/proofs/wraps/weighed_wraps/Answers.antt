@@ -1,6 +1,6 @@
 use Rattle.std.proofs.Common.{◌∙◌, ap}
 use Rattle.language.specs.Pieces.{script}
-use Rattle.paren_planner.specs.Wrapped.{is_flagged}
+use Rattle.wrap_flags.specs.Flags.{is_flagged}
 use Rattle.paren_planner.proofs.Results.{if_ok}
 use Rattle.paren_planner.proofs.Forwards.{script_flags}
 use Rattle.paren_planner.proofs.WrappedRows.{flagged_wrapped}

@@ -45,17 +45,17 @@ print_parts-returns-in-None-clause-laid g t c = λ W r p st held so e z k.
     direct_by W M m refl q.1
     (c.print_framed.ensures.laid W st held s.front s.opener s.closer (ap (λ x. x.front) f) (ap (λ x. x.opener) f) (ap (λ x. x.closer) f) (first_roles (ways (role_of p) n)) r z q.2 (parts_stand W p n r st M so k q.1 m))
 
-pub print_direct-returns-then-is_word-clause-laid : goal.print_direct-returns-then-is_word-clause-laid
-print_direct-returns-then-is_word-clause-laid g t c = λ W r p st held so e z k.
+pub print_direct-returns-then-is_own_text-clause-laid : goal.print_direct-returns-then-is_own_text-clause-laid
+print_direct-returns-then-is_own_text-clause-laid g t c = λ W r p st held so e z k.
     let n = node_tree c.args.node in
-    word_direct W p n r c.args.depth (site_word p (kind_of n) (parts_of n) ∙ ap (λ s. is_word s (kind_of n) (parts_of n)) e ∙ sym c.is_word.ensures ∙ c.if-is_word.true) z k
+    word_direct W p n r c.args.depth (site_word p (kind_of n) (parts_of n) ∙ ap (λ s. is_word s (kind_of n) (parts_of n)) e ∙ sym c.is_own_text.ensures ∙ c.if-is_own_text.true) z k
     (subst (λ w. Writes (seen (g.O.TextSink.stands c.args.out.now c.args.emitter.now.room) c.args.emitter.now) (seen (g.O.TextSink.stands c.push.new.out c.push.new.self.room) c.push.new.self) w) c.text.ensures c.push.ensures.written)
 
 pub print_direct-returns-clause-laid : goal.print_direct-returns-clause-laid
 print_direct-returns-clause-laid g t c = λ W r p st held so e z k. c.print_parts.ensures.laid W r p st held so e z k
 
-pub print_direct-returns-then-is_word-clause-adds : goal.print_direct-returns-then-is_word-clause-adds
-print_direct-returns-then-is_word-clause-adds g t c = writes_adds c.push.ensures.written
+pub print_direct-returns-then-is_own_text-clause-adds : goal.print_direct-returns-then-is_own_text-clause-adds
+print_direct-returns-then-is_own_text-clause-adds g t c = writes_adds c.push.ensures.written
 
 pub print_framed-returns-clause-laid : goal.print_framed-returns-clause-laid
 print_framed-returns-clause-laid g t c = λ W st held fs os cs ef eo ec xs r h k so.

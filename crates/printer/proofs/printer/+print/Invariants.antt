@@ -15,7 +15,7 @@ use Rattle.printer.proofs.printer.+print.Given as goal
 -- what was passed of the first parts, and what is left of them
 abbrev pub invariant-print_front-loop-index : goal.invariant-print_front-loop-index
 invariant-print_front-loop-index g l = record {
-  laid : (W : ℕ → Bool) → (st : NodeUse) → HoldsRows st l.fn.framed.node → (fs : List (List Bit)) → map (λ p. bits_of p.now) l.fn.framed.frame.now.front.now ≡ map fused fs → (ms : List Mark) → (xs : List Role) → (r : ℕ) → Reads W r l.fn.emitter.wraps.now → parts_fit W (parts_of (node_tree l.fn.framed.node)) xs r ≡ true →
+  laid : (W : ℕ → Bool) → (st : NodeUse) → HoldsRows st l.fn.framed.node → (fs : List (List Bit)) → map (λ p. bits_of p.now) l.fn.framed.frame.now.front.now ≡ map fused fs → (ms : List Mark) → (xs : List Role) → (r : ℕ) → Reads W r l.fn.emitter.wraps.flags.now → parts_fit W (parts_of (node_tree l.fn.framed.node)) xs r ≡ true →
       Stands st (node_tree l.fn.framed.node) (front_marks (text_of (node_tree l.fn.framed.node)) l.fn.framed.frame.now.sites 0 fs (parts_of (node_tree l.fn.framed.node)) ms) (parts_of (node_tree l.fn.framed.node)) xs →
       Gone W st (node_tree l.fn.framed.node) (seen (g.O.TextSink.stands l.fn.out l.fn.emitter.room) l.fn.emitter) (seen (g.O.TextSink.stands l.out l.emitter.room) l.emitter) (front_marks (text_of (node_tree l.fn.framed.node)) l.fn.framed.frame.now.sites 0 fs (parts_of (node_tree l.fn.framed.node)) ms)
       (front_marks (text_of (node_tree l.fn.framed.node)) l.fn.framed.frame.now.sites l.index (drop l.index fs) (parts_after l.index (parts_of (node_tree l.fn.framed.node))) ms)
@@ -26,7 +26,7 @@ invariant-print_front-loop-index g l = record {
 -- the same of the others
 abbrev pub invariant-print_list-loop-index : goal.invariant-print_list-loop-index
 invariant-print_list-loop-index g l = record {
-  laid : (W : ℕ → Bool) → (st : NodeUse) → HoldsRows st l.fn.framed.node → (ms : List Mark) → (xs : List Role) → (r : ℕ) → Reads W r l.fn.emitter.wraps.now → parts_fit W (parts_after (length l.fn.framed.frame.now.front.now) (parts_of (node_tree l.fn.framed.node))) xs r ≡ true →
+  laid : (W : ℕ → Bool) → (st : NodeUse) → HoldsRows st l.fn.framed.node → (ms : List Mark) → (xs : List Role) → (r : ℕ) → Reads W r l.fn.emitter.wraps.flags.now → parts_fit W (parts_after (length l.fn.framed.frame.now.front.now) (parts_of (node_tree l.fn.framed.node))) xs r ≡ true →
       Stands st (node_tree l.fn.framed.node) (chain_marks (text_of (node_tree l.fn.framed.node)) l.fn.framed.frame.now.sites (chain_of l.fn.framed.frame.now.series) (length l.fn.framed.frame.now.front.now) (parts_after (length l.fn.framed.frame.now.front.now) (parts_of (node_tree l.fn.framed.node))) ++ ms) (parts_after (length l.fn.framed.frame.now.front.now) (parts_of (node_tree l.fn.framed.node))) xs →
       Gone W st (node_tree l.fn.framed.node) (seen (g.O.TextSink.stands l.fn.out l.fn.emitter.room) l.fn.emitter) (seen (g.O.TextSink.stands l.out l.emitter.room) l.emitter)
       (chain_marks (text_of (node_tree l.fn.framed.node)) l.fn.framed.frame.now.sites (chain_of l.fn.framed.frame.now.series) (length l.fn.framed.frame.now.front.now) (parts_after (length l.fn.framed.frame.now.front.now) (parts_of (node_tree l.fn.framed.node))) ++ ms)

@@ -23,13 +23,13 @@ print_node-requires g c =
 
 pub returns-clause-laid : goal.returns-clause-laid
 returns-clause-laid g c =
-    let W = wrapped_by c.args.wraps.now in
+    let W = wrapped_by c.args.wraps.now.flags.items in
     let a = seen (g.O.TextSink.stands c.args.out.now c.new-emitter.result.room) c.new-emitter.result in
     let b = seen (g.O.TextSink.stands c.print_node.new.out c.print_node.new.emitter.room) c.print_node.new.emitter in
     subst (λ n. fits W n script 1 ≡ true → Puts (g.O.TextSink.stands c.args.out.now []) (g.O.TextSink.stands c.finish.new.out []) (layout W n script 1 0)) c.finished_root.ensures.tree
     (λ k before sofar h.
     let t = layout W (node_tree c.finished_root.result) script 1 0 in
-    let p = whole_text {a = a} {b = b} c.args.wraps.now (node_tree c.finished_root.result) c.new-emitter.ensures.apart c.new-emitter.ensures.wraps (λ V r u f. c.print_node.ensures.laid V r Script NotEvaluated c.finished_root.ensures.rows refl refl u f) k in
+    let p = whole_text {a = a} {b = b} c.args.wraps.now.flags.items (node_tree c.finished_root.result) c.new-emitter.ensures.apart c.new-emitter.ensures.wraps (λ V r u f. c.print_node.ensures.laid V r Script NotEvaluated c.finished_root.ensures.rows refl refl u f) k in
     subst (Stands before (g.O.TextSink.stands c.finish.new.out [])) (append-nil (sofar ++ t))
     (c.finish.ensures.done before (sofar ++ t) (p before sofar (subst (λ r. Stands before (g.O.TextSink.stands c.args.out.now r) sofar) (sym c.new-emitter.ensures.room) h))))
 

@@ -1,5 +1,0 @@
-use Rattle.std.proofs.Common.{rules}
-use Rattle.paren_planner.proofs.wrap_plan.Plan.flags.Goals as goal
-
-pub returns : goal.returns
-returns c = search rules

@@ -1,0 +1,100 @@
+#![tactic(auto)]
+
+//! The rules that ship with the program: runs of a command with those of `rules`. `check` has them, no other command has any.
+//! - May touch: what `run` of `lint` may, and memory for the boxes. It names no rule: `rules` has the list.
+//! - Contract: `run_with_rules` promises what `lint` promises of a run, with these rules.
+//! - Begin at: `lib.rt`, `run_with_rules`. Definitions: `specs/ShippedRules.antt`.
+
+ghost use Rattle.std.specs.Prelude.{◌≡◌, ◌≢◌, IfErr, false};
+ghost use Rattle.source_text.specs.declared.fault.Fault.TheVariants.{Usage};
+ghost use Rattle.commands.specs.declared.command.Command.TheVariants.{Check};
+ghost use Rattle.shipped_rules.specs.ShippedRules.{FindAs, RunsByRules};
+
+use commands::{Command, Refused};
+use lint::run::run;
+use rules::{RULE_COUNT, Rule, of_each_rule};
+use source_text::{Feed, Sink};
+use std::alloc::Global;
+
+/// Runs `check` with these rules, which find what those of `rules` find.
+fn check_by<F: Feed, S: Feed, W: Sink>(
+    alloc: Global,
+    rules: &[Box<dyn Rule>],
+    file: &mut F,
+    settings: &mut S,
+    output: &mut W,
+) -> Result<u8, Refused>
+    requires shipped { FindAs (λ b. called b) (λ b. finds b) Check rules.now }
+    requires reads { F.failed file.old ≡ false }
+    requires reads_settings { S.failed settings.old ≡ false }
+    requires writes { W.failed output.old ≡ false }
+    ensures told { IfErr result (λ refused. refused.fault ≢ Usage) }
+    ensures answer { RunsByRules Check (record {
+      given = F.left file.old;
+      second = S.left settings.old;
+      before = W.taken output.old;
+      after = W.taken output.new;
+      reader_failed = F.failed file.new;
+      second_failed = S.failed settings.new;
+      writer_failed = W.failed output.new;
+    }) result }
+{
+    run(alloc, Command::Check, rules, file, settings, output)
+}
+
+/// Runs `check` with the rules of `rules`.
+fn check<F: Feed, S: Feed, W: Sink>(
+    alloc: Global,
+    file: &mut F,
+    settings: &mut S,
+    output: &mut W,
+) -> Result<u8, Refused>
+    requires reads { F.failed file.old ≡ false }
+    requires reads_settings { S.failed settings.old ≡ false }
+    requires writes { W.failed output.old ≡ false }
+    ensures told { IfErr result (λ refused. refused.fault ≢ Usage) }
+    ensures answer { RunsByRules Check (record {
+      given = F.left file.old;
+      second = S.left settings.old;
+      before = W.taken output.old;
+      after = W.taken output.new;
+      reader_failed = F.failed file.new;
+      second_failed = S.failed settings.new;
+      writer_failed = W.failed output.new;
+    }) result }
+{
+    let rules: [Box<dyn Rule>; RULE_COUNT] = of_each_rule!(boxed_rule, alloc);
+    check_by(alloc, &rules, file, settings, output)
+}
+
+/// Runs a command over its two readers and a writer, with the rules of `rules` where it is `check`.
+///
+/// # Errors
+///
+/// Those of `lint::run::run`, in its order.
+pub fn run_with_rules<F: Feed, S: Feed, W: Sink>(
+    alloc: Global,
+    command: Command,
+    file: &mut F,
+    second: &mut S,
+    output: &mut W,
+) -> Result<u8, Refused>
+    requires reads { F.failed file.old ≡ false }
+    requires reads_second { S.failed second.old ≡ false }
+    requires writes { W.failed output.old ≡ false }
+    ensures told { IfErr result (λ refused. refused.fault ≢ Usage) }
+    ensures answer { RunsByRules command (record {
+      given = F.left file.old;
+      second = S.left second.old;
+      before = W.taken output.old;
+      after = W.taken output.new;
+      reader_failed = F.failed file.new;
+      second_failed = S.failed second.new;
+      writer_failed = W.failed output.new;
+    }) result }
+{
+    match command {
+        Command::Check => check(alloc, file, second, output),
+        _ => run(alloc, command, &[], file, second, output),
+    }
+}

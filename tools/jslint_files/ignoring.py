@@ -1,0 +1,118 @@
+"""What ignore files say, as gitignore(5) has it: the last pattern that matches decides, and nothing below an ignored folder comes back.
+
+A repository may be a stranger's, so no pattern takes longer than its length times the path's.
+"""
+import re
+
+CLASSES = {
+    'alpha': 'A-Za-z', 'digit': '0-9', 'alnum': 'A-Za-z0-9', 'upper': 'A-Z', 'lower': 'a-z', 'space': r'\s', 'punct': r'!-/:-@\[-`{-~', 'xdigit': '0-9A-Fa-f',
+    'blank': r' \t', 'cntrl': r'\x00-\x1f\x7f', 'print': r'\x20-\x7e', 'graph': r'\x21-\x7e',
+}
+PIECE = re.compile(r'(?P<stars>\*+)|(?P<one>\?)|\\(?P<quoted>[\s\S])|\[(?P<not>[!^]?)(?P<set>\]?(?:\[:\w+:\]|\\[\s\S]|[^\]\\])*)\]|(?P<plain>[^\\[])', re.S)
+STAR, ANY = '*', '**'
+
+
+class Pattern:
+    def __init__(self, segments, is_back, is_folder):
+        self.segments, self.is_back, self.is_folder = segments, is_back, is_folder
+
+
+def pattern_of(line):
+    """A line's pattern; None for a blank line, a comment, and what matches nothing."""
+    text = re.sub(r'(?<!\\) +\Z', '', re.sub(r'\r\Z', '', line))
+    if not text or text.startswith('#'):
+        return None
+    is_back = text.startswith('!')
+    text = text[1:] if is_back else text
+    is_folder = text.endswith('/')
+    text = text[:-1] if is_folder else text
+    is_anchored = '/' in text
+    text = text[1:] if text.startswith('/') else text
+    if not text:
+        return None
+    # (a slash with a backslash before it is one, too)
+    parts = re.sub(r'\\([\s\S])', lambda it: '/' if it[1] == '/' else it[0], text).split('/')
+    segments = [ANY if it == ANY else tokens_of(it) for it in parts]
+    if None in segments:
+        return None
+    return Pattern(segments if is_anchored else [ANY, [STAR] if segments[0] == ANY else segments[0]], is_back, is_folder)
+
+
+def tokens_of(segment):
+    """A segment as stars and tests of one character; None where a bracket or a backslash never ends. A plain name is one text."""
+    if not re.search(r'[*?\\[]', segment):
+        return segment
+    found, at = [], 0
+    while at < len(segment):
+        it = PIECE.match(segment, at)
+        if not it:
+            return None
+        at = it.end()
+        found.append(token_of(it))
+    return found
+
+
+def token_of(it):
+    if it['stars']:
+        return STAR
+    if it['one']:
+        return lambda char: True
+    return test_of(it['not'], it['set']) if it['set'] is not None else (it['quoted'] or it['plain']).__eq__
+
+
+def test_of(is_not, text):
+    source = re.sub(r'\[:(\w+):\]|\\([\s\S])|([\]\\^[])', lambda it: CLASSES.get(it[1], '') if it[1] else '\\' + (it[2] or it[3]), text)
+    try:
+        expression = re.compile(f'[{"^" if is_not else ""}{source}]', re.S)
+    except re.error:
+        return lambda char: False
+    return lambda char: expression.fullmatch(char) is not None
+
+
+def fits(tokens, name):
+    """Whether a segment is a name: after a fault it goes on behind the last star alone."""
+    if isinstance(tokens, str):
+        return tokens == name
+    at, token, star, begun = 0, 0, -1, 0
+    while at < len(name):
+        if token < len(tokens) and tokens[token] == STAR:
+            star, begun = token, at
+            token += 1
+        elif token < len(tokens) and tokens[token](name[at]):
+            at, token = at + 1, token + 1
+        elif star >= 0:
+            begun += 1
+            token, at = star + 1, begun
+        else:
+            return False
+    return all(it == STAR for it in tokens[token:])
+
+
+def matches(segments, names):
+    """Whether segments are a path; at the end of a pattern `**` is one name or more, elsewhere none or more."""
+    # (reached[n]: the segments so far are the first n names)
+    reached = [True] + [False] * len(names)
+    for number, segment in enumerate(segments):
+        further, is_last = [False] * len(reached), number + 1 == len(segments)
+        for count in range(len(reached)):
+            if segment == ANY:
+                further[count] = (reached[count] and not is_last) or (count > 0 and (further[count - 1] or reached[count - 1]))
+            elif count:
+                further[count] = reached[count - 1] and fits(segment, names[count - 1])
+        reached = further
+    return reached[-1]
+
+
+def patterns_of(text):
+    """The patterns of a text, the last first."""
+    return [it for it in map(pattern_of, text.split('\n')) if it][::-1]
+
+
+def verdict(parts, is_folder, patterns_at):
+    """What the nearest file that says anything says of a path whose folders aren't ignored. `patterns_at[n]` are those in the folder of the first n parts."""
+    for depth in range(len(parts) - 1, -1, -1):
+        names = parts[depth:] if patterns_at[depth] else ()
+        for it in patterns_at[depth]:
+            if (not it.is_folder or is_folder) and matches(it.segments, names):
+                return not it.is_back
+    return False

@@ -1,0 +1,229 @@
+"""usage: jslint-files [check] [--settings FILE] [--format FORM] [--color WHEN] [--hints] [--ends] [--unsupported error|note] [--suppressions]
+                    [--max-warnings N] [--project] [--stdin NAME] [--summary] [--jobs N] [--files-from FILE] [--] [FILE ..]
+       jslint-files fix --write|--diff [--drop-comments] [--hints] [--unsupported error|note] [--project] [--stdin NAME] [--summary] [--jobs N]
+                    [--files-from FILE] [--] [FILE ..]
+       jslint-files unwrap --write|--diff [the same, but for --drop-comments] [--] [FILE ..]
+       jslint-files --explain RULE|E1..E21
+       jslint-files --help|--version
+
+`fix` drops comments. So `fix --write` refuses a script that has any, and says how many, unless --drop-comments is there. `unwrap` keeps them.
+
+What `jslint check` finds in several scripts, each report with its file's name, in the order of the files. Or several scripts are rewritten by
+`jslint fix` or `jslint unwrap`.
+
+  FILE                a script, or a pattern such as 'src/**/*.js' (in quotes, so that the shell leaves it alone); ** follows no link to a folder
+  --files-from FILE   the names that FILE has, each ended by a line feed, or by a zero byte if there is any; - is standard input
+  --project           FILE may be a folder, the current one where none is named: its *.js, but for what .gitignore and .jslintignore name, links,
+                      node_modules and .git. Without --settings, each script is checked with the nearest jslint.toml above it. All these files are
+                      looked for up to the folder that has .git
+  --stdin NAME        the script on standard input, as if it were the file NAME. Rewritten, it goes to standard output, or --diff shows how it differs
+  --settings FILE     for each script (jslint check --settings)
+  --format unix       FILE:LINE:COLUMN: RULE TEXT, as GNU's compilers do (this is what is printed without --format)
+  --format pretty     the same with the line and a mark below it, in colours on a terminal (--color always|never|auto; NO_COLOR)
+  --format json       an array in one line, as ESLint's formatter of that name: absolute names, columns in UTF-16 units. --ends adds endLine and endColumn
+                      where they are known: to reports that name what stands at their place
+  --format sarif      SARIF 2.1.0; --format junit: JUnit's XML, a case a script
+  --format github     GitHub's notes, as ::error file=FILE,line=LINE,col=COLUMN,title=RULE::TEXT
+  --hints             adds to a refusal, after `perhaps:`, a guess at what the script has that jslint doesn't read (pretty, sarif, junit: always)
+  --unsupported note  a script that is refused for such a thing, as far as the guess says so, is shown as a note and fails nothing (error: as ever)
+  --suppressions      `// jslint-disable-line RULE, RULE` and `// jslint-disable-next-line` turn reports off, but for no-extra-parens
+  --max-warnings N    the status is 0 also with up to N reports
+  --summary           counts, in a line on standard error
+  --explain WHAT      what the documents say of a rule, or of an early error
+  --write             replaces each script by its rewritten text, if that differs: a new file beside it is renamed. The mode stays. Where a name is a
+                      symbolic link, the file that it leads to is replaced. A script that changed since it was read is refused
+  --diff              prints how the rewritten texts differ, as `diff -u` does, and writes no script
+  --drop-comments     `fix --write` also where comments are lost
+  --jobs N            N scripts side by side; without it, as many as there are processors
+  --version           the program's version
+
+A script that is refused has one line, at 1:1 if the refusal names no place, on standard error where scripts are rewritten; it stays as it is. Control
+characters in a name are shown as \\x1b, those that turn a text round as \\u{202e}. On a terminal, a line on standard error says how far it is after
+the first second. A script named check, fix or unwrap stands behind --. Where the first line of a script ends in CR LF, so do all lines of its fixed text.
+
+The status is 0 where nothing was found; 1 where there is a report or a difference; 2 where a script was refused, the words or the settings make no
+sense, or not all could be written (as ESLint's with --exit-on-fatal-error). After an interruption there is no new file, and each script is whole.
+JSLINT in the environment is the path of the program; else it is the one beside this file. JSLINT_LIBRARY is that of libjslint.so, which answers in this
+process; without both, the one that was installed with the program does. An empty JSLINT_LIBRARY: the program is started for each script.
+"""
+import collections
+import contextlib
+import os
+import re
+import threading
+from concurrent.futures import ThreadPoolExecutor
+
+from . import forms, names as meant
+from .checking import Checker
+from .engine import STACK, Library, engine_of, path_of_program, Program, taken
+from .outcomes import Outcome, Refused
+from .progress import Progress, Tally
+from .project import Project
+from .reading import read
+from .rewriting import Rewriter
+from .rules import explained
+from .streams import Wrong, say, shown, warn
+from .words import has_hints, judge, number_of_jobs, options_of
+
+# How many scripts a thread takes at once, at most.
+MOST_AT_ONCE = 32
+# The forms that are one document, and those that show a part of the text, or need it for their columns.
+DOCUMENTS, TEXT_FORMS = ('json', 'sarif', 'junit'), ('json', 'pretty', 'sarif')
+
+
+class Run:
+    """What is done to each script, and how it is told."""
+
+    def __init__(self, options, names, here):
+        self.options, self.project, self.engine = options, Project(), engine_of(here)
+        self.is_check, is_noted = options['command'] == 'check', options['unsupported'] == 'note'
+        self.names = self.named(names)
+        self.progress, self.tally = Progress(len(self.names)), Tally(options['summary'])
+        if self.is_check:
+            has_ends = options['ends'] or options['format'] in ('pretty', 'sarif')
+            self.worker = Checker(self.engine, self.settings(), has_hints(options), is_noted, options['suppressions'], has_ends)
+        else:
+            self.worker = Rewriter(self.engine, options, is_noted)
+
+    def named(self, names):
+        """The files, in their order."""
+        options = self.options
+        if options['stdin'] is not None:
+            return [options['stdin']]
+        found = meant.expanded(names) + (meant.listed(options['files-from']) if options['files-from'] is not None else [])
+        if options['project']:
+            found = meant.with_folders(found or ['.'] * (options['files-from'] is None), self.project)
+        return meant.once(found) if options['write'] else found
+
+    def settings(self):
+        """What gives the settings for a script. They are refused here once, before any script is read."""
+        name = self.options['settings']
+        if name is not None:
+            try:
+                text = read(name)
+            except Refused as why:
+                raise Wrong(f'{shown(name)}: {why}') from None
+            taken(self.engine, text, name)
+            return lambda _: text
+        if not self.options['project']:
+            return lambda _: b''
+        found = {it: self.project.settings_of(os.path.realpath(it)) for it in {os.path.dirname(it) for it in self.names}}
+        for path, text in sorted(set(filter(None, found.values()))):
+            taken(self.engine, text, path, is_placed=True)
+        texts = {it: settings[1] if settings else b'' for it, settings in found.items()}
+        return lambda it: texts[os.path.dirname(it)]
+
+    def outcome(self, name):
+        """What comes of a file."""
+        done = 'checked' if self.is_check else 'compared' if self.options['diff'] else 'rewritten'
+        try:
+            if name in self.project.faults:
+                raise Refused(self.project.faults[name])
+            came = self.worker.outcome(name, read(0) if self.options['stdin'] is not None else None)
+        except Refused as why:
+            came = Outcome([why.found])
+        except (OSError, MemoryError) as error:
+            came = Outcome([Refused(f'not {done}: {error.strerror if isinstance(error, OSError) else "out of memory"}').found])
+        if not came.is_told() or self.options['format'] not in TEXT_FORMS:
+            came.text = None
+        self.progress.step()
+        return came
+
+    def outcomes(self, names):
+        return [self.outcome(it) for it in names]
+
+    def parts(self, jobs):
+        """Some files and what came of them, in the order of the files."""
+        size = max(1, min(MOST_AT_ONCE, len(self.names) // (8 * jobs)))
+        parts = [self.names[at:at + size] for at in range(0, len(self.names), size)]
+        if isinstance(self.engine, Library):
+            threading.stack_size(STACK)
+        else:
+            # (now, and not while the first script is waited for)
+            import subprocess  # noqa: F401
+        with ThreadPoolExecutor(jobs) as pool:
+            self.progress.begin()
+            left = collections.deque((it, pool.submit(self.outcomes, it)) for it in parts)
+            try:
+                while left:
+                    names, future = left.popleft()
+                    came = future.result()
+                    for it in came:
+                        self.tally.add(it)
+                    yield list(zip(names, came))
+            finally:
+                # (where not all can be written nothing more is begun)
+                for _, it in left:
+                    it.cancel()
+
+    def tell(self, jobs):
+        """Prints what comes of the files."""
+        form = self.form()
+        with contextlib.closing(self.parts(jobs)) as parts:
+            is_document = self.options['format'] in DOCUMENTS
+            for it in form(pair for part in parts for pair in part) if is_document else (self.told(form, part) for part in parts):
+                if it:
+                    self.progress.clear()
+                    say(it)
+        self.progress.clear()
+
+    def told(self, form, part):
+        """What standard output gets of some files. Where scripts are rewritten, standard error gets what is found."""
+        if self.is_check:
+            return ''.join(form(name, came) for name, came in part if came.is_told())
+        for name, came in part:
+            if came.is_told():
+                self.progress.clear()
+                warn(form(name, came))
+            if came.difference or came.rewritten:
+                self.progress.clear()
+                say(came.difference or came.rewritten)
+        return ''
+
+    def form(self):
+        name = self.options['format']
+        if name == 'pretty':
+            return forms.pretty(is_coloured(self.options['color']))
+        if name not in DOCUMENTS:
+            return forms.github if name == 'github' else forms.unix
+        # (a start is shorter without)
+        from . import documents
+        if name == 'sarif':
+            return documents.sarif(self.version())
+        return documents.eslint if name == 'json' else documents.junit
+
+    def version(self):
+        """The program's version, where there is a program."""
+        try:
+            found = re.search(rb'\d+\.\d+\.\d+', self.engine.version())
+        except (Wrong, OSError):
+            return None
+        return found[0].decode() if found else None
+
+    def status(self):
+        most = self.options['max-warnings']
+        return 0 if self.tally.worst == 1 and most is not None and self.tally.reports <= int(most) else self.tally.worst
+
+
+def is_coloured(wish):
+    """As https://no-color.org has it."""
+    return wish == 'always' or wish != 'never' and not os.environ.get('NO_COLOR') and os.environ.get('TERM') != 'dumb' and os.isatty(1)
+
+
+def main(words, here):
+    options, names = options_of(words)
+    if options['help'] or options['version']:
+        say(f'{__doc__.strip()}\n' if options['help'] else Program(path_of_program(here)).version())
+        return 0
+    judge(options, names)
+    if options['explain'] is not None:
+        say(explained(options['explain']))
+        return 0
+    if not names and options['files-from'] is None and options['stdin'] is None and not options['project']:
+        raise Wrong('no file is named (--help)')
+    jobs = number_of_jobs(options['jobs'])
+    run = Run(options, names, here)
+    run.tell(jobs)
+    if options['summary']:
+        warn(run.tally.told(options))
+    return run.status()

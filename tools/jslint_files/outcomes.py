@@ -1,0 +1,76 @@
+"""What is found in a script, why it is refused, and what came of it."""
+import re
+
+# A line of what `check` answers, and all of them.
+REPORT = re.compile(r'^(\d+):(\d+) (\S+) (.*)$', re.M)
+ANSWER = re.compile(r'(?:\d+:\d+ \S+ [^\n]*\n)*')
+PLACED = re.compile(r'(.*) at (\d+):(\d+)', re.S)
+LINE_END = re.compile('\r\n|[\n\r\u2028\u2029]')
+
+
+class Found:
+    """What was found at a place of a script; a refusal has no rule. A `hint` guesses what a refused script has that the profile lacks."""
+
+    hint, is_unsupported, is_noted, is_suppressed, end = None, False, False, False, None
+
+    def __init__(self, line, column, rule, text):
+        self.line, self.column, self.rule, self.text = int(line), int(column), rule, text
+
+    def status(self):
+        return 0 if self.is_suppressed or self.is_noted else 1 if self.rule else 2
+
+    def words(self):
+        """Its rule and its text, and behind it the guess, if there is one."""
+        kind = f'{self.rule} ' if self.rule else 'note: ' if self.is_noted else ''
+        return kind + self.text + (f' (perhaps: {self.hint})' if self.hint else '')
+
+
+class Refused(Exception):
+    """Why a script isn't taken: what is found in it."""
+
+    def __init__(self, text, line=1, column=1):
+        super().__init__(text)
+        self.found = Found(line, column, None, text)
+
+
+class Outcome:
+    """What came of a file: what was found, or the lines that `check` answered; how its rewritten text differs, whether it does, and that text itself, if
+    it goes to standard output; and the file's own text, if that could be read and is asked for."""
+
+    def __init__(self, found=None, answer='', difference=b'', text=None, is_changed=False, rewritten=b''):
+        self.list, self.answer, self.difference, self.text, self.rewritten = found, answer, difference, text, rewritten
+        self.is_changed = is_changed or bool(difference)
+
+    @property
+    def found(self):
+        if self.list is None:
+            self.list = [Found(*it) for it in REPORT.findall(self.answer)]
+        return self.list
+
+    def is_plain(self):
+        """Whether the answer's lines are all that is to be told."""
+        return self.list is None
+
+    def status(self):
+        if self.is_plain():
+            return 1 if self.answer or self.difference else 0
+        return max([1 if self.difference else 0, *(it.status() for it in self.list)])
+
+    def seen(self):
+        """What isn't turned off by a comment."""
+        return [it for it in self.found if not it.is_suppressed]
+
+    def is_told(self):
+        return bool(self.answer if self.is_plain() else self.list)
+
+
+def said(status, err, done):
+    """What the program said where it gave no answer, so that something wasn't done."""
+    first = re.sub('^jslint: ', '', err.decode(errors='replace').split('\n')[0])
+    return f'not {done}: signal {-status}' if status < 0 else first or f'not {done}: status {status}'
+
+
+def refusal(status, err, done):
+    text = said(status, err, done)
+    at = PLACED.fullmatch(text)
+    return Refused(at[1], at[2], at[3]) if at else Refused(text)

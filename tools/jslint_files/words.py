@@ -1,0 +1,86 @@
+"""The words of the command line."""
+import os
+import re
+import shutil
+
+from .streams import Wrong, shown
+
+COMMANDS = ('check', 'fix', 'unwrap')
+FORMS = ('unix', 'pretty', 'json', 'sarif', 'junit', 'github')
+FLAGS = ('help', 'version', 'write', 'diff', 'drop-comments', 'project', 'hints', 'ends', 'suppressions', 'summary')
+VALUES = ('format', 'settings', 'jobs', 'files-from', 'stdin', 'color', 'unsupported', 'max-warnings', 'explain')
+# Those that `check` alone takes.
+CHECKING = ('format', 'settings', 'color', 'ends', 'suppressions', 'max-warnings', 'explain')
+CHOICES = {'format': FORMS, 'unsupported': ('error', 'note'), 'color': ('auto', 'always', 'never')}
+# The forms that show a guess at what a refused script has without being asked for it.
+HINTING = ('pretty', 'sarif', 'junit')
+
+
+def options_of(words):
+    """The command and the options by name, and the names that stand behind them."""
+    values, names = list(words), []
+    options = {'command': values.pop(0) if words and words[0] in COMMANDS else 'check', **dict.fromkeys(FLAGS, False), **dict.fromkeys(VALUES)}
+    while values:
+        word = values.pop(0)
+        name, has_value, value = word[2:].partition('=')
+        if word == '--':
+            names += values
+            break
+        if word == '-h' or word.startswith('--') and name in FLAGS and not has_value:
+            options['help' if word == '-h' else name] = True
+        elif word.startswith('--') and name in VALUES:
+            if not has_value and not values:
+                raise Wrong(f'{word} needs a value')
+            options[name] = value if has_value else values.pop(0)
+        elif word.startswith('-') and word != '-':
+            raise Wrong(f'{shown(word)} is no option; a file of that name stands behind --')
+        else:
+            names.append(word)
+    return options, names
+
+
+def in_words(choices):
+    return f'{", ".join(choices[:-1])} or {choices[-1]}'
+
+
+def judge(options, names):
+    """Refuses options that make no sense, or none together."""
+    command, is_check = options['command'], options['command'] == 'check'
+    for name, choices in CHOICES.items():
+        if options[name] not in (None, *choices):
+            raise Wrong(f'--{name} is {in_words(choices)}')
+    for name in ('write', 'diff') if is_check else CHECKING:
+        if options[name] not in (None, False):
+            raise Wrong(f'--{name} is for {"fix and unwrap" if is_check else "check"}')
+    if options['drop-comments'] and command != 'fix':
+        raise Wrong('--drop-comments is for fix' + (': unwrap keeps them' if command == 'unwrap' else ''))
+    if not is_check:
+        judge_rewriting(options)
+    if options['diff'] and not shutil.which('diff'):
+        raise Wrong('diff is not found')
+    if options['ends'] and options['format'] != 'json':
+        raise Wrong('--ends is for --format json')
+    if options['max-warnings'] is not None and not re.fullmatch('[0-9]{1,9}', options['max-warnings']):
+        raise Wrong('--max-warnings takes a number')
+    if options['stdin'] is not None and (names or options['files-from'] is not None):
+        raise Wrong('--stdin stands for the only script')
+
+
+def judge_rewriting(options):
+    command, is_stdin = options['command'], options['stdin'] is not None
+    if is_stdin and options['write']:
+        raise Wrong('--stdin writes to standard output: --write is for files')
+    if not is_stdin and options['write'] == options['diff']:
+        raise Wrong(f'{command} wants --write or --diff, and not both' if options['diff'] else f'{command} wants --write or --diff')
+
+
+def has_hints(options):
+    return options['hints'] or options['unsupported'] is not None or options['format'] in HINTING
+
+
+def number_of_jobs(text):
+    if text is None:
+        return len(os.sched_getaffinity(0)) if hasattr(os, 'sched_getaffinity') else os.cpu_count() or 1
+    if not re.fullmatch('[1-9][0-9]{0,3}', text):
+        raise Wrong('--jobs takes a number from 1 to 9999')
+    return int(text)
