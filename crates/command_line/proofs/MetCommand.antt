@@ -15,6 +15,7 @@ use Rattle.clap.specs.declared.error.kind.ErrorKind.TheVariants.{DisplayHelp, In
 use Rattle.commands.specs.Commands.{word_of}
 use Rattle.commands.specs.declared.command.Command.{Command}
 use Rattle.commands.specs.declared.command.Command.TheVariants.{Check, Tree, Fix, Unwrap, Cost, Verify}
+use Rattle.commands.specs.declared.command.ReportForm.TheVariants.{Places}
 use Rattle.command_line.specs.CommandLine.{HasFiles, MeetsCommand, command_app, jslint_app}
 use Rattle.command_line.proofs.GivenValues.{is_unflagged, value_of_given}
 
@@ -235,14 +236,14 @@ file = codes "file"
 all_serve : AllByRecursion Serves (built jslint_app).subs
 all_serve =
     let one_file : (command : Command) → Type 0 = λ command. (words : List Text) → leaf_fault (leaf command) words ≡ [] → is_some (first_of file (rows_after (leaf command).rules [] words)) ≡ true in
-    let check : one_file Check = λ words. value_of_wanted file (leaf Check) words refl refl refl in
+    let check : one_file (Check Places) = λ words. value_of_wanted file (leaf (Check Places)) words refl refl refl in
     let tree : one_file Tree = λ words. value_of_wanted file (leaf Tree) words refl refl refl in
     let fix : one_file Fix = λ words. value_of_wanted file (leaf Fix) words refl refl refl in
     let unwrap : one_file Unwrap = λ words. value_of_wanted file (leaf Unwrap) words refl refl refl in
     let cost : one_file Cost = λ words. value_of_wanted file (leaf Cost) words refl refl refl in
     let verify : one_file Verify = λ words. value_of_wanted file (leaf Verify) words refl refl refl in
     let table = λ (words : List Text) (e : leaf_fault (leaf Verify) words ≡ []). value_of_wanted (codes "table") (leaf Verify) words refl refl refl e in (
-      serves Check (leaf Check) refl check,
+      serves (Check Places) (leaf (Check Places)) refl check,
       (
         serves Tree (leaf Tree) refl tree,
         (

@@ -1,12 +1,16 @@
 -- The command line, by clap's own definitions.
-use Rattle.std.specs.Prelude.{◌≡◌, ℕ, Bool, codes, false, true, List, Option, Some, None, is_some, option_map}
+use Rattle.std.specs.Prelude.{◌≡◌, ℕ, Bool, bytes_eq, codes, cond, false, true, List, Option, Some, None, is_some, option_map}
+use Rattle.std.specs.Option.{option_map_or}
 use Rattle.clap.specs.Words.{App, Row, Rule, Text, first_of, new_app, new_rule, with_rule, with_subcommand}
 use Rattle.clap.specs.Simple.{on_top}
+use Rattle.clap.specs.declared.builder.action.ArgAction.TheVariants.{SetTrue}
 use Rattle.clap.specs.declared.error.kind.ErrorKind.{ErrorKind}
 use Rattle.clap.specs.declared.error.kind.ErrorKind.TheVariants.{DisplayHelp, DisplayVersion}
 use Rattle.commands.specs.Commands.{word_of}
 use Rattle.commands.specs.declared.command.Command.{Command}
 use Rattle.commands.specs.declared.command.Command.TheVariants.{Check, Tree, Fix, Unwrap, Cost, Verify}
+use Rattle.commands.specs.declared.command.ReportForm.{ReportForm}
+use Rattle.commands.specs.declared.command.ReportForm.TheVariants.{Places, Spans}
 use Rattle.command_line.specs.declared.line.Line.{Line}
 
 -- an argument that must stand there, by its id: FILE and TABLE
@@ -17,13 +21,17 @@ required_rule id = record (new_rule id) { required = true; value_names = 1 }
 abbrev pub settings_rule : Rule
 settings_rule = record (new_rule (codes "settings")) { long = Some (codes "settings"); value_names = 1 }
 
+-- `--spans`
+abbrev pub spans_rule : Rule
+spans_rule = record (new_rule (codes "spans")) { long = Some (codes "spans"); action = Some SetTrue }
+
 -- a command, by its word, with its FILE
 abbrev pub file_app : Text → App
 file_app word = with_rule (new_app word) (required_rule (codes "file"))
 
 -- a command with its arguments
 abbrev pub command_app : Command → App
-command_app Check = with_rule (file_app (word_of Check)) settings_rule
+command_app (Check form) = with_rule (with_rule (file_app (word_of (Check form))) settings_rule) spans_rule
 command_app Verify = with_rule (file_app (word_of Verify)) (required_rule (codes "table"))
 command_app other = file_app (word_of other)
 
@@ -36,18 +44,35 @@ bare_app = on_top (λ s. record s { has_version = true; subcommand_required = tr
 
 -- with its commands
 abbrev pub jslint_app : App
-jslint_app = with_command (with_command (with_command (with_command (with_command (with_command bare_app Check) Tree) Fix) Unwrap) Cost) Verify
+jslint_app = with_command (with_command (with_command (with_command (with_command (with_command bare_app (Check Places)) Tree) Fix) Unwrap) Cost) Verify
 
 -- the second file of a command by what its words matched: `check` has one where settings are named, `verify` always, no other has one
 abbrev pub HasSecond : Command → List Row → Option Text → Type 0
-HasSecond Check rows second = second ≡ first_of (codes "settings") rows
+HasSecond (Check form) rows second = second ≡ first_of (codes "settings") rows
 HasSecond Verify rows second = (second ≡ first_of (codes "table") rows) × (is_some second ≡ true)
 HasSecond other rows second = second ≡ None
 
--- the subcommand that was met is the line's command, and the line's files are the first values of its arguments
+-- whether a flag was given
+abbrev pub is_set : Text → List Row → Bool
+is_set id rows = option_map_or (λ (value : Text). bytes_eq value (codes "true")) (first_of id rows) false
+
+-- the form of what `check` writes, by what its words matched: with spans where `--spans` was given
+abbrev pub form_of : List Row → ReportForm
+form_of rows = cond (is_set (codes "spans") rows) Spans Places
+
+abbrev pub HasForm : Command → List Row → Type 0
+HasForm (Check form) rows = form ≡ form_of rows
+HasForm other rows = Unit {0}
+
+-- the subcommand that was met is the line's command, in the form that was asked for, and the line's files are the first values of its arguments
 abbrev pub Chooses : Option (Text × List Row) → Line → Type 0
 Chooses met line = (rows : List Row) × (met ≡ Some (word_of line.command, rows)) × (first_of (codes "file") rows ≡ Some line.file.now)
-    × HasSecond line.command rows (option_map (λ s. s.now) line.second)
+    × HasSecond line.command rows (option_map (λ s. s.now) line.second) × HasForm line.command rows
+
+-- the command that a word gives before its flags are looked at
+abbrev pub plain : Command → Command
+plain (Check form) = Check Places
+plain other = other
 
 -- the files that a command must have are among what its words matched
 abbrev pub HasFiles : Command → List Row → Type 0

@@ -38,6 +38,9 @@ pub const FILE: &str = "The script";
 /// What the help says of `--settings`.
 pub const SETTINGS: &str = "Rules and options, as TOML; without it every rule is on";
 
+/// What the help says of `--spans`.
+pub const SPANS: &str = "Lines START END RULE TEXT: where a report is, in bytes from 0";
+
 /// What the help says of the cost table's file.
 pub const TABLE: &str = "A cost table, as `cost` writes it";
 
@@ -46,6 +49,7 @@ pub const AFTER: &str = "\
 Examples:
   jslint check app.js
   jslint check app.js --settings jslint.toml
+  jslint check app.js --spans
   jslint tree app.js
   jslint fix app.js > fixed.js
   jslint unwrap app.js > clean.js

@@ -1,16 +1,17 @@
 //! The words of the command line.
 
-ghost use Rattle.std.specs.Prelude.{◌≡◌, ◌↔◌, IfErr, IfOk, IsOkAnd, Some, [], false, map, true};
-ghost use Rattle.clap.specs.Words.{FailsBy, app_of, fault_of, kind_of, subcommand_of, subcommand_rows_of, takes, with_subcommand};
+ghost use Rattle.std.specs.Prelude.{◌≡◌, IfErr, IfOk, IfSome, IsOkAnd, Some, [], false, map, true};
+ghost use Rattle.clap.specs.Words.{FailsBy, app_of, fault_of, kind_of, rows_of, found_of, subcommand_of, subcommand_rows_of, takes, with_subcommand};
 ghost use Rattle.clap.specs.declared.builder.command.Command.TheViews.{out-Command};
 ghost use Rattle.commands.specs.Commands.{word_of};
 ghost use Rattle.commands.specs.declared.command.Command.TheVariants.{Check, Verify};
-ghost use Rattle.command_line.specs.CommandLine.{Chooses, MeetsCommand, bare_app, command_app, file_app, jslint_app};
+ghost use Rattle.commands.specs.declared.command.ReportForm.TheVariants.{Places};
+ghost use Rattle.command_line.specs.CommandLine.{Chooses, MeetsCommand, bare_app, command_app, file_app, form_of, jslint_app, plain};
 
 use crate::help;
 use clap::error::ErrorKind;
-use clap::{Arg, ArgMatches, Error};
-use commands::Command;
+use clap::{Arg, ArgAction, ArgMatches, Error};
+use commands::{Command, ReportForm};
 use std::alloc::{AllocError, Global};
 
 /// What a command line asks for.
@@ -55,16 +56,22 @@ fn noted_command<'a>(
     }
 }
 
-/// `check`, with its settings.
+/// `check`, with its settings and its flag.
 fn check_command<'a>(alloc: Global) -> Result<clap::Command<'a>, AllocError>
-    ensures shape { IfOk result (λ c. app_of c ≡ command_app Check) }
+    ensures shape { IfOk result (λ c. app_of c ≡ command_app (Check Places)) }
     ensures local { IfOk result (λ c. (out-Command c).has_globals ≡ false) }
 {
     let settings = Arg::new(alloc, "settings")
         .long("settings")
         .value_name("FILE")
         .help(help::SETTINGS);
-    file_command(alloc, "check", help::CHECK)?.arg(settings)
+    let spans = Arg::new(alloc, "spans")
+        .long("spans")
+        .action(ArgAction::SetTrue)
+        .help(help::SPANS);
+    file_command(alloc, "check", help::CHECK)?
+        .arg(settings)?
+        .arg(spans)
 }
 
 /// `verify`, with its TABLE.
@@ -127,9 +134,10 @@ pub(crate) fn jslint_command<'a>(alloc: Global) -> Result<clap::Command<'a>, All
     with_command(jslint, verify_command(alloc))
 }
 
-/// The command of this word, if there is one.
+/// The command of this word, if there is one: `check` with places.
 fn command_of(word: &str) -> Option<Command>
-    ensures { (command : _) → (result ≡ Some command) ↔ (word_of command ≡ word.now) }
+    ensures named { IfSome result (λ command. word_of command ≡ word.now) }
+    ensures found { (command : _) → word_of command ≡ word.now → result ≡ Some (plain command) }
 {
     for command in Command::ALL {
         if command.word() == word {
@@ -139,18 +147,31 @@ fn command_of(word: &str) -> Option<Command>
     None
 }
 
-/// The command that was met, with its files.
+/// The form of what `check` is to write.
+fn form_met(met: &ArgMatches<'_>) -> ReportForm
+    ensures { result ≡ form_of (rows_of (found_of met.now)) }
+{
+    let Some(value) = met.get_str("spans") else {
+        return ReportForm::Places;
+    };
+    if value == "true" {
+        return ReportForm::Spans;
+    }
+    ReportForm::Places
+}
+
+/// The command that was met, in the form that was asked for, with its files.
 fn line_of<'a>(matches: &ArgMatches<'a>) -> Line<'a>
     requires { MeetsCommand (subcommand_rows_of matches.now) }
     ensures { Chooses (subcommand_rows_of matches.now) result }
 {
     let (word, met) = matches.subcommand().unwrap();
-    let command = command_of(word).unwrap();
+    let plain = command_of(word).unwrap();
     let file = met.get_str("file").unwrap();
-    let second = match command {
-        Command::Check => met.get_str("settings"),
-        Command::Verify => met.get_str("table"),
-        Command::Tree | Command::Fix | Command::Unwrap | Command::Cost => None,
+    let (command, second) = match plain {
+        Command::Check(_) => (Command::Check(form_met(met)), met.get_str("settings")),
+        Command::Verify => (plain, met.get_str("table")),
+        Command::Tree | Command::Fix | Command::Unwrap | Command::Cost => (plain, None),
     };
     Line {
         command,

@@ -5,7 +5,7 @@ use Rattle.commands.specs.declared.command.Command.TheVariants.{Check, Tree, Fix
 
 -- the word for a command
 abbrev pub word_of : Command → List ℕ
-word_of Check = codes "check"
+word_of (Check form) = codes "check"
 word_of Tree = codes "tree"
 word_of Fix = codes "fix"
 word_of Unwrap = codes "unwrap"

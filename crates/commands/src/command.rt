@@ -3,11 +3,20 @@
 ghost use Rattle.std.specs.Prelude.{◌≡◌};
 ghost use Rattle.commands.specs.Commands.{word_of};
 
+/// What a line of `check` says of where a report is.
+#[derive(Clone, Copy, Debug, PartialEq, Eq)]
+pub enum ReportForm {
+    /// Line and column of its start.
+    Places,
+    /// Its start and its end, in bytes from 0.
+    Spans,
+}
+
 /// What the program is asked to do with a script.
 #[derive(Clone, Copy, Debug, PartialEq, Eq)]
 pub enum Command {
-    /// Write what the rules find in the script.
-    Check,
+    /// Write what the rules find in the script, in this form.
+    Check(ReportForm),
     /// Write the tree of the script, as JSON, and a line feed.
     Tree,
     /// Write the fixed text of the script.
@@ -21,9 +30,9 @@ pub enum Command {
 }
 
 impl Command {
-    /// Each of them.
+    /// One of each word: `check` with places.
     pub const ALL: [Command; 6] = [
-        Command::Check,
+        Command::Check(ReportForm::Places),
         Command::Tree,
         Command::Fix,
         Command::Unwrap,
@@ -36,7 +45,7 @@ impl Command {
         ensures { result.now ≡ word_of self }
     {
         match self {
-            Command::Check => "check",
+            Command::Check(_) => "check",
             Command::Tree => "tree",
             Command::Fix => "fix",
             Command::Unwrap => "unwrap",

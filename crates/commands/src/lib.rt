@@ -12,6 +12,6 @@ mod refusal;
 mod refused;
 
 pub use bounded_read::{ROOM, read_up_to};
-pub use command::Command;
+pub use command::{Command, ReportForm};
 pub use refusal::{status, write_refusal};
 pub use refused::Refused;

@@ -1,14 +1,16 @@
-use Rattle.std.proofs.Common.{◌≡◌, ◌∙◌, ℕ, ◌+◌, ◌<◌, false, sym, ap, arith, List, [], ◌∷◌, bytes_eq, inl, inr, slice_index_or, true≢false, is_some, length, refl, true, Some, cond, unwrap_or, ◌↔◌}
+use Rattle.std.proofs.Common.{◌≡◌, ◌∙◌, ℕ, zero, suc, ◌+◌, ◌<◌, false, sym, ap, arith, List, [], ◌∷◌, bytes_eq, inl, inr, slice_index_or, true≢false, length, refl, true, Some, cond}
 use Rattle.std.proofs.lemmas.Bool.{cases_lt}
 use Rattle.std.proofs.lemmas.List.{get_or_default}
 use Rattle.std.proofs.lemmas.Slice.Eq.{bytes_eq-Decides}
 use Rattle.commands.specs.Commands.{word_of}
 use Rattle.commands.specs.declared.command.Command.{Command}
 use Rattle.commands.specs.declared.command.Command.TheVariants.{Check, Tree, Fix, Unwrap, Cost, Verify}
+use Rattle.commands.specs.declared.command.ReportForm.TheVariants.{Places}
+use Rattle.command_line.specs.CommandLine.{plain}
 use Rattle.command_line.proofs.line.command_of.Goals as goal
 
 abbrev commands : List Command
-commands = Check ∷ Tree ∷ Fix ∷ Unwrap ∷ Cost ∷ Verify ∷ []
+commands = Check Places ∷ Tree ∷ Fix ∷ Unwrap ∷ Cost ∷ Verify ∷ []
 
 -- the word that was said is not this command's, nor those of the commands before it
 one_more : (word said : List ℕ) (i : ℕ) (e : Command) → i < length commands → said ≡ word_of (slice_index_or commands i e) → bytes_eq said word ≡ false
@@ -24,38 +26,46 @@ one_more word said i e lt at miss before k d below is = elim (cases_lt k i) [
 pub loop-command-preserved : goal.loop-command-preserved
 loop-command-preserved c = one_more c.args.word.now c.word.result.now c.loop-command.command-index _ c.loop-command-test.true c.word.ensures (sym c.eq.ensures ∙ c.if-eq.false) c.loop-command.invariant
 
-pub returns : goal.returns
-returns c = λ command. ((λ some. absurd (true≢false (sym (ap is_some some)))), λ is. absurd (none command is))
-  where
-    none : (command : Command) → word_of command ≡ c.args.word.now → ⊥
-    none Check = c.loop-command.invariant 0 Check (omega (arith, c.loop-command-test.false))
-    none Tree = c.loop-command.invariant 1 Check (omega (arith, c.loop-command-test.false))
-    none Fix = c.loop-command.invariant 2 Check (omega (arith, c.loop-command-test.false))
-    none Unwrap = c.loop-command.invariant 3 Check (omega (arith, c.loop-command-test.false))
-    none Cost = c.loop-command.invariant 4 Check (omega (arith, c.loop-command-test.false))
-    none Verify = c.loop-command.invariant 5 Check (omega (arith, c.loop-command-test.false))
+-- a word that none of them has is no command's
+none : (word : List ℕ) → ((k : ℕ) (d : Command) → k < 6 → word_of (slice_index_or commands k d) ≡ word → ⊥) → (command : Command) → word_of command ≡ word → ⊥
+none word before (Check form) = before 0 (Check form) (omega arith)
+none word before Tree = before 1 Tree (omega arith)
+none word before Fix = before 2 Fix (omega arith)
+none word before Unwrap = before 3 Unwrap (omega arith)
+none word before Cost = before 4 Cost (omega arith)
+none word before Verify = before 5 Verify (omega arith)
 
-abbrev named : List ℕ → Command
-named word =
-    cond (bytes_eq word (word_of Check)) Check (cond (bytes_eq word (word_of Tree)) Tree (cond (bytes_eq word (word_of Fix)) Fix
+pub returns-clause-found : goal.returns-clause-found
+returns-clause-found c = λ command is. absurd (none c.args.word.now (λ k d lt. c.loop-command.invariant k d (omega (arith, c.loop-command-test.false, lt))) command is)
+
+abbrev by_word : List ℕ → Command
+by_word word =
+    cond (bytes_eq word (word_of (Check Places))) (Check Places) (cond (bytes_eq word (word_of Tree)) Tree (cond (bytes_eq word (word_of Fix)) Fix
     (cond (bytes_eq word (word_of Unwrap)) Unwrap (cond (bytes_eq word (word_of Cost)) Cost Verify))))
 
-named_by_word : (command : Command) → named (word_of command) ≡ command
-named_by_word Check = refl
-named_by_word Tree = refl
-named_by_word Fix = refl
-named_by_word Unwrap = refl
-named_by_word Cost = refl
-named_by_word Verify = refl
+plain_by_word : (command : Command) → by_word (word_of command) ≡ plain command
+plain_by_word (Check form) = refl
+plain_by_word Tree = refl
+plain_by_word Fix = refl
+plain_by_word Unwrap = refl
+plain_by_word Cost = refl
+plain_by_word Verify = refl
 
--- no two commands have one word
-only_command : (found : Command) (word said : List ℕ) → said ≡ word_of found → bytes_eq said word ≡ true
-    → (command : Command) → (Some found ≡ Some command) ↔ (word_of command ≡ word)
-only_command found word said is same command =
-    let at : word_of found ≡ word = sym is ∙ (bytes_eq-Decides said word).0 same in (
-      λ some. sym (ap word_of (ap (λ o. unwrap_or o found) some)) ∙ at,
-      λ e. ap Some (sym (named_by_word found) ∙ ap named (at ∙ sym e) ∙ named_by_word command),
-    )
+-- those of the list are plain
+plain_listed : (i : ℕ) (d : Command) → i < 6 → plain (slice_index_or commands i d) ≡ slice_index_or commands i d
+plain_listed zero d lt = refl
+plain_listed (suc zero) d lt = refl
+plain_listed (suc (suc zero)) d lt = refl
+plain_listed (suc (suc (suc zero))) d lt = refl
+plain_listed (suc (suc (suc (suc zero)))) d lt = refl
+plain_listed (suc (suc (suc (suc (suc zero))))) d lt = refl
+plain_listed (suc (suc (suc (suc (suc (suc i)))))) d lt = absurd (omega (arith, lt))
 
-pub returns-then-eq : goal.returns-then-eq
-returns-then-eq c = only_command _ c.args.word.now c.word.result.now c.word.ensures (sym c.eq.ensures ∙ c.if-eq.true)
+pub returns-then-eq-clause-named : goal.returns-then-eq-clause-named
+returns-then-eq-clause-named c = sym c.word.ensures ∙ (bytes_eq-Decides c.word.result.now c.args.word.now).0 (sym c.eq.ensures ∙ c.if-eq.true)
+
+-- two plain commands of one word are one
+pub returns-then-eq-clause-found : goal.returns-then-eq-clause-found
+returns-then-eq-clause-found c = λ command is.
+    let at = sym c.word.ensures ∙ (bytes_eq-Decides c.word.result.now c.args.word.now).0 (sym c.eq.ensures ∙ c.if-eq.true) in
+    ap Some (sym (plain_listed c.loop-command.command-index _ c.loop-command-test.true) ∙ sym (plain_by_word _) ∙ ap by_word (at ∙ sym is) ∙ plain_by_word command)

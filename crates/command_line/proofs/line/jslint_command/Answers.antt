@@ -1,6 +1,7 @@
 use Rattle.std.proofs.Common.{◌≡◌, refl, Result, Ok, Err, IfOk, IsOkAnd}
 use Rattle.clap.specs.Words.{App, app_of, with_subcommand}
 use Rattle.commands.specs.declared.command.Command.TheVariants.{Check, Tree, Fix, Unwrap, Cost, Verify}
+use Rattle.commands.specs.declared.command.ReportForm.TheVariants.{Places}
 use Rattle.command_line.specs.CommandLine.{bare_app, command_app}
 use Rattle.command_line.proofs.line.jslint_command.Goals as goal
 
@@ -19,7 +20,7 @@ last of to added (Err e) app known before p q h = h
 
 pub returns : goal.returns
 returns c =
-    let one = one_more app_of c.check_command.result (command_app Check) bare_app _ _ c.bare_command.ensures c.check_command.ensures.shape c.in_ok-jslint.ensures in
+    let one = one_more app_of c.check_command.result (command_app (Check Places)) bare_app _ _ c.bare_command.ensures c.check_command.ensures.shape c.in_ok-jslint.ensures in
     let two = one_more app_of c.file_command.result (command_app Tree) _ _ _ one c.file_command.ensures.shape c.in_ok-jslint-2.ensures in
     let three = one_more app_of c.noted_command.result (command_app Fix) _ _ _ two c.noted_command.ensures.shape c.in_ok-jslint-3.ensures in
     let four = one_more app_of c.noted_command-2.result (command_app Unwrap) _ _ _ three c.noted_command-2.ensures.shape c.in_ok-jslint-4.ensures in

@@ -8,7 +8,8 @@ use Rattle.clap.proofs.WalkLemmas.{first_value-rows}
 use Rattle.commands.specs.Commands.{word_of}
 use Rattle.commands.specs.declared.command.Command.{Command}
 use Rattle.commands.specs.declared.command.Command.TheVariants.{Check, Tree, Fix, Unwrap, Cost, Verify}
-use Rattle.command_line.specs.CommandLine.{HasFiles, HasSecond}
+use Rattle.commands.specs.declared.command.ReportForm.{ReportForm}
+use Rattle.command_line.specs.CommandLine.{HasFiles, HasForm, HasSecond, form_of, plain}
 use Rattle.command_line.proofs.line.line_of.Goals as goal
 use Rattle.command_line.proofs.line.line_of.Goals.{in-Check, in-Verify, in-Tree}
 
@@ -34,12 +35,29 @@ rows_met : {X : Type 0} (rows : X → List Row) (o : Option X) (x : X) (met : Op
 rows_met rows o x met word r e h is = ap (λ p. unwrap_or p r) (ap (option_map rows) (sym e) ∙ h ∙ ap (option_map (λ (p : Text × List Row). p.1)) is)
 
 has_file : (command : Command) (rows : List Row) → HasFiles command rows → is_some (first_of (codes "file") rows) ≡ true
-has_file Check rows h = h
+has_file (Check form) rows h = h
 has_file Tree rows h = h
 has_file Fix rows h = h
 has_file Unwrap rows h = h
 has_file Cost rows h = h
 has_file Verify rows h = h.0
+
+-- what a word gives before flags are looked at has that word, and its files
+plain_word : (command : Command) → word_of (plain command) ≡ word_of command
+plain_word (Check form) = refl
+plain_word Tree = refl
+plain_word Fix = refl
+plain_word Unwrap = refl
+plain_word Cost = refl
+plain_word Verify = refl
+
+plain_files : (command : Command) (rows : List Row) → HasFiles command rows → HasFiles (plain command) rows
+plain_files (Check form) rows h = h
+plain_files Tree rows h = h
+plain_files Fix rows h = h
+plain_files Unwrap rows h = h
+plain_files Cost rows h = h
+plain_files Verify rows h = h
 
 some_text : (found : Found) (rows : List Row) (id : Text) (o : Option (Bor Text)) → text_of o ≡ first_value found id → rows_of found ≡ rows → text_of o ≡ first_of id rows
 some_text found rows id o e same = e ∙ first_value-rows found id ∙ ap (first_of id) same
@@ -48,21 +66,26 @@ is_there : (o : Option (Bor Text)) (t : Option Text) → text_of o ≡ t → is_
 is_there None t e some = absurd (true≢false (sym (ap is_some e ∙ some)))
 is_there (Some s) t e some = refl
 
-settings : (command : Command) (rows : List Row) (second given : Option (Bor Text)) → command ≡ Check → second ≡ given → text_of given ≡ first_of (codes "settings") rows
-    → HasSecond command rows (text_of second)
-settings command rows second given e d h = rw (e, d) h
+-- a command with its second file and its form, by the command of its word
+abbrev Serves : Command → List Row → Command → Option (Bor Text) → Type 0
+Serves word rows command second = (word_of command ≡ word_of word) × HasSecond command rows (text_of second) × HasForm command rows
 
-table : (command : Command) (rows : List Row) (second given : Option (Bor Text)) → command ≡ Verify → second ≡ given → text_of given ≡ first_of (codes "table") rows → HasFiles command rows
-    → HasSecond command rows (text_of second)
-table command rows second given e d h files =
+settings : (word : Command) (rows : List Row) (command : Command) (given second : Option (Bor Text)) (was form : ReportForm) → word ≡ Check was → command ≡ Check form → second ≡ given
+    → text_of given ≡ first_of (codes "settings") rows → form ≡ form_of rows → Serves word rows command second
+settings word rows command given second was form e d same h by_flag = rw (e, d, same) (refl, h, by_flag)
+
+table : (word : Command) (rows : List Row) (command : Command) (given second : Option (Bor Text)) → word ≡ Verify → command ≡ word → second ≡ given → text_of given ≡ first_of (codes "table") rows
+    → HasFiles word rows → Serves word rows command second
+table word rows command given second e d same h files =
     let both = rw e at files in
-    rw (e, d) (h, ap is_some h ∙ both.1)
+    rw (d, e, same) (refl, (h, ap is_some h ∙ both.1), tt)
 
-no_second : (command : Command) (rows : List Row) (second : Option (Bor Text)) → (command ≡ Tree) ⊎ ((command ≡ Fix) ⊎ ((command ≡ Unwrap) ⊎ (command ≡ Cost))) → second ≡ None → HasSecond command rows (text_of second)
-no_second command rows second (inl e) d = rw (e, d) refl
-no_second command rows second (inr (inl e)) d = rw (e, d) refl
-no_second command rows second (inr (inr (inl e))) d = rw (e, d) refl
-no_second command rows second (inr (inr (inr e))) d = rw (e, d) refl
+no_second : (word : Command) (rows : List Row) (command : Command) (second : Option (Bor Text)) → (word ≡ Tree) ⊎ ((word ≡ Fix) ⊎ ((word ≡ Unwrap) ⊎ (word ≡ Cost))) → command ≡ word → second ≡ None
+    → Serves word rows command second
+no_second word rows command second (inl e) d same = rw (d, e, same) (refl, refl, tt)
+no_second word rows command second (inr (inl e)) d same = rw (d, e, same) (refl, refl, tt)
+no_second word rows command second (inr (inr (inl e))) d same = rw (d, e, same) (refl, refl, tt)
+no_second word rows command second (inr (inr (inr e))) d same = rw (d, e, same) (refl, refl, tt)
 
 pub unwrap-file-requires : goal.unwrap-file-requires
 unwrap-file-requires c =
@@ -78,14 +101,17 @@ returns c =
     let rows_are : rows_of found ≡ rows = rows_met _ _ c.unwrap.result _ _ rows c.unwrap.ensures c.subcommand.ensures.rows c.requires.2 in
     let named : Some (word_of command) ≡ Some c.unwrap.result.0.now = sym (ap (option_map (λ p. p.0.now)) (sym c.unwrap.ensures) ∙ c.subcommand.ensures.name ∙ word_met _ _ (out-ArgMatches c.args.matches.now).subcommand (word_of command) rows c.requires.2) in
     let word_is : word_of command ≡ c.unwrap.result.0.now = ap (λ o. unwrap_or o (word_of command)) named in
-    let command_is : c.unwrap-command.result ≡ command = same_value c.command_of.result c.unwrap-command.result command c.unwrap-command.ensures ((c.command_of.ensures command).1 word_is) in (
+    let plain_is : c.unwrap-plain.result ≡ plain command = same_value c.command_of.result c.unwrap-plain.result (plain command) c.unwrap-plain.ensures (c.command_of.ensures.found command word_is) in
+    let serves : Serves c.unwrap-plain.result rows c.match-plain.command.0 c.match-plain.command.1 = elim c.match-plain.branch [
+      | in-Check w ↦ settings _ rows _ w.get_str-in-Check.result _ _ w.form_met.result w.in-Check.is (ap (λ p. p.0) w.command-is) (ap (λ p. p.1) w.command-is)
+          (some_text found rows (codes "settings") _ w.get_str-in-Check.ensures rows_are) (w.form_met.ensures ∙ ap form_of rows_are)
+      | in-Verify w ↦ table _ rows _ w.get_str-in-Verify.result _ w.in-Verify.is (ap (λ p. p.0) w.command-is) (ap (λ p. p.1) w.command-is)
+          (some_text found rows (codes "table") _ w.get_str-in-Verify.ensures rows_are) (subst (λ k. HasFiles k rows) (sym plain_is) (plain_files command rows c.requires.3))
+      | in-Tree w ↦ no_second _ rows _ _ w.in-Tree.is (ap (λ p. p.0) w.command-is) (ap (λ p. p.1) w.command-is)
+    ] in (
       rows,
-      c.requires.2 ∙ ap (λ k. Some (word_of k, rows)) (sym command_is),
+      c.requires.2 ∙ ap (λ word. Some (word, rows)) (sym (serves.0 ∙ ap word_of plain_is ∙ plain_word command)),
       sym (some_text found rows (codes "file") _ c.get_str.ensures rows_are) ∙ ap text_of c.unwrap-file.ensures,
-      elim c.match-command.branch [
-        | in-Check w ↦ settings _ rows _ w.get_str-second.result w.in-Check.is w.second-is (some_text found rows (codes "settings") _ w.get_str-second.ensures rows_are)
-        | in-Verify w ↦ table _ rows _ w.get_str-second-in-Verify.result w.in-Verify.is w.second-is (some_text found rows (codes "table") _ w.get_str-second-in-Verify.ensures rows_are)
-            (subst (λ k. HasFiles k rows) (sym command_is) c.requires.3)
-        | in-Tree w ↦ no_second _ rows _ w.in-Tree.is w.second-is
-      ],
+      serves.1,
+      serves.2,
     )
