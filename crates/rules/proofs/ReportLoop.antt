@@ -5,7 +5,7 @@ use Rattle.source_text.specs.LineBytes.{after_bytes}
 use Rattle.source_text.specs.Lines.{line_column}
 use Rattle.source_text.proofs.Lines.{line_column_by_bytes}
 use Rattle.rules.specs.Reports.{Report}
-use Rattle.rules.specs.Lines.{place_before, line_of, report_line, report_lines}
+use Rattle.rules.specs.Lines.{place_before, line_of, report_line, report_lines, span_line, span_lines}
 use Rattle.source_text.specs.Located.{IsLocated}
 use Rattle.source_text.specs.declared.line_walker.LineWalker.{LineWalker}
 use Rattle.rules.proofs.Places.{nearest_is_before}
@@ -28,3 +28,12 @@ turn text reports i r before after total line lt item new is old =
     let next : report_lines text (drop i reports) ≡ report_line text r ++ rest =
     rw (add-one i) (ap (report_lines text) (drop-cons reports i r lt) ∙ ap (λ x. report_line text x ++ report_lines text (drop (suc i) reports)) (sym item)) in
     ap (λ x. x ++ rest) new ∙ append_assoc before line rest ∙ ap (λ x. before ++ (x ++ rest)) is ∙ ap (λ x. before ++ x) (sym next) ∙ old
+
+-- the same of lines with spans
+pub span_turn : (reports : List Report) (i : ℕ) (r : Report) (before after total : List ℕ) → i < length reports → r ≡ get_or reports i r
+    → after ≡ before ++ span_line r → before ++ span_lines (drop i reports) ≡ total → after ++ span_lines (drop (i + 1) reports) ≡ total
+span_turn reports i r before after total lt item new old =
+    let rest = span_lines (drop (i + 1) reports) in
+    let next : span_lines (drop i reports) ≡ span_line r ++ rest =
+    rw (add-one i) (ap span_lines (drop-cons reports i r lt) ∙ ap (λ x. span_line x ++ span_lines (drop (suc i) reports)) (sym item)) in
+    ap (λ x. x ++ rest) new ∙ append_assoc before (span_line r) rest ∙ ap (λ x. before ++ x) (sym next) ∙ old

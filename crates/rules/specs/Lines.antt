@@ -26,6 +26,15 @@ abbrev pub report_lines : List ℕ → List Report → List ℕ
 report_lines text [] = []
 report_lines text (report ∷ others) = report_line text report ++ report_lines text others
 
+-- `START END RULE TEXT` and a line feed: the two places as the report has them, in bytes from 0
+abbrev pub span_line : Report → List ℕ
+span_line report = decimal report.start ++ codes " " ++ decimal report.stop ++ codes " " ++ report.rule ++ codes " " ++ report.text ++ 10 ∷ []
+
+-- such a line for each report, in their order
+abbrev pub span_lines : List Report → List ℕ
+span_lines [] = []
+span_lines (report ∷ others) = span_line report ++ span_lines others
+
 -- 1 where there is a report, else 0
 abbrev pub report_status : List Report → ℕ
 report_status [] = 0

@@ -29,7 +29,7 @@ mod view;
 mod walk;
 
 pub use eqeqeq::EqEqEq;
-pub use lines::{report_lines, report_status};
+pub use lines::{report_lines, report_status, span_lines};
 pub use no_debugger::NoDebugger;
 pub use no_empty::NoEmpty;
 pub use no_extra_parens::NoExtraParens;

@@ -1,7 +1,7 @@
 //! The lines of reports.
 
 ghost use Rattle.std.specs.Prelude.{◌≡◌, ◌++◌, IfOk, OnOk, string_bytes};
-ghost use Rattle.rules.specs.Lines.{line_of, report_lines as lines_of, report_status as status_of};
+ghost use Rattle.rules.specs.Lines.{line_of, report_lines as lines_of, report_status as status_of, span_line, span_lines as spans_of};
 
 use crate::report::Report;
 use source_text::{LineWalker, Source};
@@ -44,6 +44,31 @@ fn push_line(here: LineWalker, report: &Report, lines: &mut String) -> Result<()
         report.rule(),
         report.text()
     )
+}
+
+/// The lines of reports with their spans: each as `START END RULE TEXT` and a line feed, in their order. Start and end are those of the
+/// report, in bytes from 0.
+///
+/// # Errors
+///
+/// `AllocError` where memory is refused.
+pub fn span_lines(alloc: Global, reports: &[Report]) -> Result<String, AllocError>
+    ensures { IfOk result (λ lines. string_bytes lines ≡ spans_of reports.now) }
+{
+    let mut lines = String::new(alloc);
+    for report in reports {
+        push_span_line(report, &mut lines)?;
+    }
+    Ok(lines)
+}
+
+/// Appends the line of a report with its span.
+fn push_span_line(report: &Report, lines: &mut String) -> Result<(), AllocError>
+    ensures { OnOk result (string_bytes lines.new ≡ string_bytes lines.old ++ span_line report.now) }
+{
+    let (start, end) = (report.start(), report.end());
+    let (rule, text) = (report.rule(), report.text());
+    writeln!(lines, "{start} {end} {rule} {text}")
 }
 
 /// The exit status of a check: 1 where there is a report, else 0.
