@@ -4,23 +4,25 @@ use Rattle.commands.specs.Refusal.{refusal_line, status_of}
 use Rattle.commands.specs.Refused.{no_memory}
 use Rattle.commands.specs.declared.command.Command.{Command}
 use Rattle.commands.specs.declared.command.Command.TheVariants.{Check, Tree, Fix, Unwrap, Cost, Verify}
+use Rattle.commands.specs.declared.command.ReportForm.TheVariants.{Places, Spans}
 use Rattle.commands.specs.declared.refused.Refused.{Refused}
 use Rattle.embedding.specs.Answers.{AnswersBytes}
 use Rattle.embedding.specs.declared.output.Output.{Output}
 use Rattle.embedding_c.specs.declared.Outcome.{Outcome}
 
 abbrev pub number_of : Command → ℕ
-number_of Check = 0
+number_of (Check Places) = 0
 number_of Tree = 1
 number_of Fix = 2
 number_of Cost = 3
 number_of Verify = 4
 number_of Unwrap = 5
+number_of (Check Spans) = 6
 
 -- the command that a number names
 abbrev pub Names : ℕ → Option Command → Type 0
 Names number (Some command) = number ≡ number_of command
-Names number None = 6 ≤ number
+Names number None = 7 ≤ number
 
 -- the bytes over the front of the room, as far as it goes
 abbrev pub overwritten : List ℕ → List ℕ → List ℕ

@@ -10,7 +10,7 @@ ghost use Rattle.std.specs.Prelude.{◌≡◌, ◌≢◌, length};
 ghost use Rattle.source_text.specs.declared.fault.Fault.TheVariants.{Usage};
 ghost use Rattle.embedding_c.specs.Calls.{Names, Tells, TellsRefusal, flag, overwritten};
 
-use commands::{Command, Refused, status};
+use commands::{Command, Refused, ReportForm, status};
 use embedding::{refusal_text, run_on_bytes};
 use std::alloc::{AllocError, Global};
 
@@ -26,17 +26,18 @@ pub struct Outcome {
     pub is_refusal: u32,
 }
 
-/// The command of a number: 0 `check`, 1 `tree`, 2 `fix`, 3 `cost`, 4 `verify`, 5 `unwrap`.
+/// The command of a number: 0 `check`, 1 `tree`, 2 `fix`, 3 `cost`, 4 `verify`, 5 `unwrap`, 6 `check --spans`.
 fn command_of(number: u32) -> Option<Command>
     ensures { Names number result }
 {
     match number {
-        0 => Some(Command::Check),
+        0 => Some(Command::Check(ReportForm::Places)),
         1 => Some(Command::Tree),
         2 => Some(Command::Fix),
         3 => Some(Command::Cost),
         4 => Some(Command::Verify),
         5 => Some(Command::Unwrap),
+        6 => Some(Command::Check(ReportForm::Spans)),
         _ => None,
     }
 }

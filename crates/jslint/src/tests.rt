@@ -3,10 +3,13 @@ ghost use Rattle.std.specs.Prelude.{◌≡◌, IfOk, false};
 use super::files::{Stop, open_and_run};
 use super::run_arguments;
 use command_line::{Line, ReadFailure};
-use commands::Command;
+use commands::{Command, ReportForm};
 use source_text::{FailurePlan, MemorySink};
 use std::alloc::{AllocError, Global};
 use std::test::Fail;
+
+/// `check`, with places.
+const CHECK: Command = Command::Check(ReportForm::Places);
 
 /// An empty writer in memory with room for 1,024 bytes.
 fn writer(alloc: Global) -> Result<MemorySink, AllocError>
@@ -48,28 +51,16 @@ fn files_that_cannot_be_read(rt: HostRuntime) -> Result<(), Fail> {
         (Command::Fix, "", None, "", ReadFailure::Missing),
         (Command::Fix, "a\0b", None, "a\0b", ReadFailure::Other),
         (Command::Unwrap, ".", None, ".", ReadFailure::Folder),
+        (CHECK, "/dev/null", Some("no"), "no", ReadFailure::Missing),
         (
-            Command::Check,
-            "/dev/null",
-            Some("no"),
-            "no",
-            ReadFailure::Missing,
-        ),
-        (
-            Command::Check,
+            CHECK,
             "/dev/null",
             Some("/usr"),
             "/usr",
             ReadFailure::Folder,
         ),
-        (Command::Check, ".", Some("no"), "no", ReadFailure::Missing),
-        (
-            Command::Check,
-            ".",
-            Some("/dev/null"),
-            ".",
-            ReadFailure::Folder,
-        ),
+        (CHECK, ".", Some("no"), "no", ReadFailure::Missing),
+        (CHECK, ".", Some("/dev/null"), ".", ReadFailure::Folder),
         (
             Command::Verify,
             "/dev/null",

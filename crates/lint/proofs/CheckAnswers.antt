@@ -1,5 +1,5 @@
 -- From what is read and found to what `check` answers.
-use Rattle.std.proofs.Common.{◌≡◌, ◌∙◌, ℕ, List, Bool, map, sym, ap, subst}
+use Rattle.std.proofs.Common.{◌≡◌, ◌∙◌, ℕ, List, Bool, map, refl, sym, ap, subst, Option, Some, Ok, Err}
 use Rattle.std.specs.Str.{IsUtf8}
 use Rattle.tree.specs.declared.kind.Pair.{Pair}
 use Rattle.tree.specs.declared.kind.Span.{Span}
@@ -8,10 +8,20 @@ use Rattle.spellings.specs.Groupings.{grouping, row_starts}
 use Rattle.paren_planner.specs.Plans.{AreWraps}
 use Rattle.paren_planner.specs.Extra.{extra_spans}
 use Rattle.paren_planner.proofs.PairRows.{extra_pairs_are_extra}
+use Rattle.source_text.specs.declared.fault.Fault.{Fault}
+use Rattle.source_text.specs.declared.fault.Fault.TheVariants.{NotUtf8, TooLong, Syntax, TooDeep, Early, OutOfMemory, BadSettings, BadTable, WriteFailed, ReadFailed, UnwrapFailed, Usage}
+use Rattle.commands.specs.declared.command.Command.TheVariants.{Check}
+use Rattle.commands.specs.declared.command.ReportForm.{ReportForm}
+use Rattle.commands.specs.declared.command.ReportForm.TheVariants.{Places, Spans}
 use Rattle.scopes.specs.Found.{Found, found}
+use Rattle.rules.specs.Reports.{Report}
+use Rattle.rules.specs.Lines.{report_lines}
 use Rattle.rules.specs.Rules.{View}
 use Rattle.rules.specs.Settings.{Settings}
-use Rattle.lint.specs.Outputs.{IsExtra, IsView}
+use Rattle.rules.specs.Toml.{settings_of_text}
+use Rattle.lint.specs.declared.answer.Answer.{Answer}
+use Rattle.lint.specs.Outputs.{Checks, IsExtra, IsView}
+use Rattle.lint.specs.Steps.{Answers, ReadsSettings, ReportsLines, output_of, status_of}
 
 -- the pairs that are extra by the wrapped nodes are all of the derivation but the innermost of each wrapped node
 pub are_extra : (text : List ℕ) (n : Tree) (P : List Pair) (wraps : List Bool) (spans : List Span) → IsUtf8 text → AreWraps n wraps
@@ -31,3 +41,49 @@ view_is text n P settings view m f spans is tree scopes extra = record {
   of_extra = subst (IsExtra text n P) (sym (ap (λ (v : View). v.extra) is)) extra;
   of_settings = ap (λ (v : View). v.settings) is;
 }
+
+-- what `check` answers for settings that were read
+checked : (finds : View → List Report) (form : ReportForm) (text : List ℕ) (n : Tree) (P : List Pair) (second output : List ℕ) (settings : Settings) (answer : Answer) → IsUtf8 second
+    → settings_of_text second ≡ Some settings → (lines : ReportsLines finds form text n P settings answer) → output ≡ report_lines text lines.reports → Checks finds text n P second output (status_of answer)
+checked finds form text n P second output settings answer utf8 are lines is = record {
+  settings = settings;
+  utf8 = utf8;
+  are_settings = are;
+  reports = lines.reports;
+  are_reports = lines.are_reports;
+  are_lines = is;
+  is_status = lines.is_status;
+}
+
+pub checks : (finds : View → List Report) (form : ReportForm) (text : List ℕ) (n : Tree) (P : List Pair) (given : Option (List ℕ)) (settings : Settings) (answer : Answer) (failed : Bool)
+    → ReadsSettings given (Ok settings) failed → ReportsLines finds form text n P settings answer → Answers finds (Check form) text n P given (Ok answer) failed
+checks finds Places text n P given settings answer failed read lines =
+    (read.0, (read.1.0, read.1.1, checked finds Places text n P read.1.0 (output_of answer) settings answer read.1.2 read.1.3 lines lines.are_lines))
+checks finds Spans text n P given settings answer failed read lines = (
+  read.0,
+  (
+    read.1.0,
+    read.1.1,
+    record {
+      with_places = report_lines text lines.reports;
+      checks = checked finds Spans text n P read.1.0 (report_lines text lines.reports) settings answer read.1.2 read.1.3 lines refl;
+      are_spans = lines.are_lines;
+    },
+  ),
+)
+
+-- what it refuses of them
+pub settings_refused : (finds : View → List Report) (form : ReportForm) (text : List ℕ) (n : Tree) (P : List Pair) (given : Option (List ℕ)) (fault : Fault) (failed : Bool)
+    → ReadsSettings given (Err fault) failed → Answers finds (Check form) text n P given (Err fault) failed
+settings_refused finds form text n P given ReadFailed failed read = (read, refl)
+settings_refused finds form text n P given OutOfMemory failed read = read
+settings_refused finds form text n P given BadSettings failed read = (read.0, (read.1.0, read.1.1, ((form, refl), read.1.2)))
+settings_refused finds form text n P given (NotUtf8 at) failed read = absurd read
+settings_refused finds form text n P given TooLong failed read = absurd read
+settings_refused finds form text n P given (Syntax at) failed read = absurd read
+settings_refused finds form text n P given TooDeep failed read = absurd read
+settings_refused finds form text n P given (Early number at) failed read = absurd read
+settings_refused finds form text n P given (BadTable row why) failed read = absurd read
+settings_refused finds form text n P given WriteFailed failed read = absurd read
+settings_refused finds form text n P given UnwrapFailed failed read = absurd read
+settings_refused finds form text n P given Usage failed read = absurd read

@@ -10,6 +10,8 @@ use Rattle.source_text.specs.declared.fault.Reason.{Reason}
 use Rattle.source_text.specs.declared.fault.Reason.TheVariants as reason
 use Rattle.commands.specs.declared.command.Command.{Command}
 use Rattle.commands.specs.declared.command.Command.TheVariants.{Check, Tree, Fix, Unwrap, Cost, Verify}
+use Rattle.commands.specs.declared.command.ReportForm.{ReportForm}
+use Rattle.commands.specs.declared.command.ReportForm.TheVariants.{Places, Spans}
 use Rattle.tree.specs.declared.kind.Pair.{Pair}
 use Rattle.tree.specs.declared.kind.Span.{Span}
 use Rattle.tree.specs.Tree.{Tree as SyntaxTree, SameTree}
@@ -32,7 +34,7 @@ use Rattle.rules.specs.Order.{report_cmp}
 use Rattle.rules.specs.Settings.{Settings}
 use Rattle.rules.specs.Toml.{settings_of_text}
 use Rattle.rules.specs.Rules.{View}
-use Rattle.rules.specs.Lines.{report_lines, report_status}
+use Rattle.rules.specs.Lines.{report_lines, report_status, span_lines}
 use Rattle.cost_certificate.specs.Forms.{IsTable, IsBadLine, short, table_text}
 use Rattle.cost_certificate.specs.Faults.{first_fault}
 use Rattle.lint.specs.Fixes.{Fixes}
@@ -69,6 +71,12 @@ pub record Checks (finds : View → List Report) (text : List ℕ) (n : SyntaxTr
   pub are_reports : Reports finds text n P settings reports
   pub are_lines : output ≡ report_lines text reports
   pub is_status : status ≡ report_status reports
+
+-- Of the reports whose lines `check` writes with places, and with its status, the lines with their spans.
+pub record ChecksSpans (finds : View → List Report) (text : List ℕ) (n : SyntaxTree) (P : List Pair) (second output : List ℕ) (status : ℕ) : Type 0 where
+  pub with_places : List ℕ
+  pub checks : Checks finds text n P second with_places status
+  pub are_spans : output ≡ span_lines checks.reports
 
 -- the settings are not UTF-8, or refused
 abbrev pub RefusesSettings : List ℕ → Type 0
@@ -109,7 +117,7 @@ RefusesTable n second row why = ((why ≡ reason.Form) × IsBadLine second row) 
 
 -- the most bytes of its second file that a command takes; none where it reads no second file
 abbrev pub second_limit : Command → Option ℕ
-second_limit Check = Some max_bytes
+second_limit (Check form) = Some max_bytes
 second_limit Verify = Some 2147483648
 second_limit other = None
 
@@ -123,7 +131,8 @@ IsSecond command given second = IsSecondTo (second_limit command) given second
 
 -- what a command writes of a script that a text derives with these pairs, and its status; `finds` is what the boxed rules find in a view
 abbrev pub IsOutput : (View → List Report) → Command → List ℕ → SyntaxTree → List Pair → (second output : List ℕ) (status : ℕ) → Type 0
-IsOutput finds Check text n P second output status = Checks finds text n P second output status
+IsOutput finds (Check Places) text n P second output status = Checks finds text n P second output status
+IsOutput finds (Check Spans) text n P second output status = ChecksSpans finds text n P second output status
 IsOutput finds Tree text n P second output status = (output ≡ tree_line n) × (status ≡ 0)
 IsOutput finds Fix text n P second output status = Fixes text output × (status ≡ 0)
 IsOutput finds Unwrap text n P second output status = Unwraps text output × IsUnwrapped output × (status ≡ 0)
@@ -132,7 +141,7 @@ IsOutput finds Verify text n P second output status = Verifies n P second output
 
 -- why a command refuses a script that was read: its second file is refused, or it isn't unwrapped
 abbrev pub CommandRefuses : Command → List ℕ → SyntaxTree → List Pair → List ℕ → Fault → Type 0
-CommandRefuses command text n P second BadSettings = (command ≡ Check) × RefusesSettings second
+CommandRefuses command text n P second BadSettings = ((form : ReportForm) × (command ≡ Check form)) × RefusesSettings second
 CommandRefuses command text n P second (BadTable row why) = (command ≡ Verify) × RefusesTable n second row why
 CommandRefuses command text n P second TooLong = (command ≡ Unwrap) × RefusesScript text n P TooLong
 CommandRefuses command text n P second UnwrapFailed = (command ≡ Unwrap) × RefusesScript text n P UnwrapFailed

@@ -7,6 +7,8 @@ use Rattle.source_text.specs.declared.fault.Fault.TheVariants.{OutOfMemory, Read
 use Rattle.source_text.specs.declared.fault.Reason.TheVariants as reason
 use Rattle.commands.specs.declared.command.Command.{Command}
 use Rattle.commands.specs.declared.command.Command.TheVariants.{Check, Verify}
+use Rattle.commands.specs.declared.command.ReportForm.{ReportForm}
+use Rattle.commands.specs.declared.command.ReportForm.TheVariants.{Places, Spans}
 use Rattle.commands.specs.declared.refused.Refused.{Refused}
 use Rattle.tree.specs.Tree.{Tree as SyntaxTree}
 use Rattle.tree.specs.declared.kind.Pair.{Pair}
@@ -14,7 +16,7 @@ use Rattle.rules.specs.Reports.{Report}
 use Rattle.rules.specs.Rules.{View}
 use Rattle.rules.specs.Settings.{Settings}
 use Rattle.rules.specs.Toml.{settings_of_text}
-use Rattle.rules.specs.Lines.{report_lines, report_status}
+use Rattle.rules.specs.Lines.{report_lines, report_status, span_lines}
 use Rattle.language.specs.Layout.{fixed_text}
 use Rattle.paren_planner.specs.Plans.{AreWraps}
 use Rattle.cost_table.specs.Tables.{table_of}
@@ -52,19 +54,24 @@ RefusesSettingsBy bytes BadSettings = RefusesSettings bytes
 RefusesSettingsBy bytes OutOfMemory = Unit {0}
 RefusesSettingsBy bytes fault = ⊥
 
--- The lines of a script's reports under settings, and the status.
-pub record ReportsLines (finds : View → List Report) (text : List ℕ) (n : SyntaxTree) (P : List Pair) (settings : Settings) (answer : Answer) : Type 0 where
+-- the lines of reports in a form
+abbrev pub lines_in : ReportForm → List ℕ → List Report → List ℕ
+lines_in Places text reports = report_lines text reports
+lines_in Spans text reports = span_lines reports
+
+-- The lines of a script's reports under settings, in a form, and the status.
+pub record ReportsLines (finds : View → List Report) (form : ReportForm) (text : List ℕ) (n : SyntaxTree) (P : List Pair) (settings : Settings) (answer : Answer) : Type 0 where
   pub reports : List Report
   pub are_reports : Reports finds text n P settings reports
-  pub are_lines : output_of answer ≡ report_lines text reports
+  pub are_lines : output_of answer ≡ lines_in form text reports
   pub is_status : status_of answer ≡ report_status reports
 
 -- settings, from what the second reader has to give
 abbrev pub ReadsSettings : Option (List ℕ) → Result Settings Fault → Bool → Type 0
-ReadsSettings given (Ok settings) failed = (failed ≡ false) × ((second : List ℕ) × IsSecond Check given second × IsUtf8 second × (settings_of_text second ≡ Some settings))
+ReadsSettings given (Ok settings) failed = (failed ≡ false) × ((second : List ℕ) × IsSecond (Check Places) given second × IsUtf8 second × (settings_of_text second ≡ Some settings))
 ReadsSettings given (Err ReadFailed) failed = failed ≡ true
 ReadsSettings given (Err OutOfMemory) failed = failed ≡ false
-ReadsSettings given (Err BadSettings) failed = (failed ≡ false) × ((second : List ℕ) × IsSecond Check given second × RefusesSettings second)
+ReadsSettings given (Err BadSettings) failed = (failed ≡ false) × ((second : List ℕ) × IsSecond (Check Places) given second × RefusesSettings second)
 ReadsSettings given (Err fault) failed = ⊥
 
 -- a table, from what the second reader has to give

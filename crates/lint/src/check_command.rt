@@ -1,19 +1,19 @@
 //! The command `check`: settings, the reports of a script, and their lines.
 
-ghost use Rattle.std.specs.Prelude.{◌≡◌, ◌≤◌, false, length, IfErr, IfOk, Some};
+ghost use Rattle.std.specs.Prelude.{◌≡◌, ◌≤◌, false, length, IfErr, IfOk, Some, string_bytes};
 ghost use Rattle.std.specs.Str.{IsUtf8};
 ghost use Rattle.commands.specs.declared.command.Command.TheVariants.{Check};
 ghost use Rattle.rules.specs.Run.{all_found};
 ghost use Rattle.rules.specs.Toml.{settings_of_text};
 ghost use Rattle.lint.specs.ReadScripts.{IsReading, IsScript};
 ghost use Rattle.lint.specs.Outputs.{IsExtra, Reports};
-ghost use Rattle.lint.specs.Steps.{Answers, ReadsSettings, IsWritable, RefusesSettingsBy, ReportsLines};
+ghost use Rattle.lint.specs.Steps.{Answers, ReadsSettings, IsWritable, RefusesSettingsBy, ReportsLines, lines_in};
 
 use crate::answer::Answer;
-use commands::read_up_to;
+use commands::{ReportForm, read_up_to};
 use paren_planner::{extra_pairs, wraps_by_pairs};
 use parser::Parsed;
-use rules::{Report, Rule, Settings, View, report_lines, report_status, run_rules};
+use rules::{Report, Rule, Settings, View, report_lines, report_status, run_rules, span_lines};
 use scopes::resolve;
 use source_text::{Fault, Feed, MAX_BYTES, Source};
 use spellings::pair_rows;
@@ -82,9 +82,25 @@ fn reports(
     Ok(reports)
 }
 
-/// The lines of a script's reports, and the status: 1 where there is a report, else 0.
+/// The lines of reports in a form.
+fn lines_of(
+    alloc: Global,
+    form: ReportForm,
+    source: &Source<'_>,
+    reports: &[Report],
+) -> Result<String, AllocError>
+    ensures { IfOk result (λ lines. string_bytes lines ≡ lines_in form source.now reports.now) }
+{
+    match form {
+        ReportForm::Places => report_lines(alloc, source, reports),
+        ReportForm::Spans => span_lines(alloc, reports),
+    }
+}
+
+/// The lines of a script's reports in a form, and the status: 1 where there is a report, else 0.
 fn report<'s>(
     alloc: Global,
+    form: ReportForm,
     rules: &[Box<dyn Rule>],
     source: &Source<'_>,
     parsed: &Parsed<'_>,
@@ -92,22 +108,23 @@ fn report<'s>(
 ) -> Result<Answer<'s>, AllocError>
     requires script { IsScript parsed.now.program parsed.now.pairs.items }
     requires utf8 { IsUtf8 source.now }
-    ensures lines { IfOk result (ReportsLines (all_found (λ b. called b) (λ b. finds b) rules.now) source.now parsed.now.program parsed.now.pairs.items settings.now) }
+    ensures lines { IfOk result (ReportsLines (all_found (λ b. called b) (λ b. finds b) rules.now) form source.now parsed.now.program parsed.now.pairs.items settings.now) }
     ensures writable { IfOk result IsWritable }
 {
     let reports = reports(alloc, rules, parsed, settings)?;
-    let lines = report_lines(alloc, source, &reports)?;
+    let lines = lines_of(alloc, form, source, &reports)?;
     Ok(Answer::Text(lines, report_status(&reports)))
 }
 
-/// What `check` answers: the lines of the reports under the settings of the second file, which is read to its end, or to one byte past
-/// the longest text; status 1 where there is a report.
+/// What `check` answers: the lines of the reports in a form, under the settings of the second file, which is read to its end, or to one
+/// byte past the longest text; status 1 where there is a report.
 ///
 /// # Errors
 ///
 /// `BadSettings` where the settings are too long, aren't UTF-8 or are refused; `ReadFailed` where the reader fails; `OutOfMemory`.
 pub(crate) fn check<'s, S: Feed>(
     alloc: Global,
+    form: ReportForm,
     rules: &[Box<dyn Rule>],
     source: &Source<'_>,
     parsed: &Parsed<'_>,
@@ -116,14 +133,14 @@ pub(crate) fn check<'s, S: Feed>(
     requires reading { IsReading source.now parsed.now.program parsed.now.pairs.items }
     requires small { length source.now ≤ 16777216 }
     requires ready { S.failed second.old ≡ false }
-    ensures answer { Answers (all_found (λ b. called b) (λ b. finds b) rules.now) Check source.now parsed.now.program parsed.now.pairs.items (S.left second.old) result (S.failed second.new) }
+    ensures answer { Answers (all_found (λ b. called b) (λ b. finds b) rules.now) (Check form) source.now parsed.now.program parsed.now.pairs.items (S.left second.old) result (S.failed second.new) }
     ensures writable { IfOk result IsWritable }
 {
     let settings = match read_settings(alloc, second) {
         Ok(settings) => settings,
         Err(fault) => return Err(fault),
     };
-    match report(alloc, rules, source, parsed, &settings) {
+    match report(alloc, form, rules, source, parsed, &settings) {
         Ok(answer) => Ok(answer),
         Err(AllocError) => Err(Fault::OutOfMemory),
     }

@@ -96,7 +96,7 @@ pub(crate) fn answer<'s, S: Feed>(
     ensures unread { second_limit command ≡ None → second.new ≡ second.old }
 {
     match command {
-        Command::Check => check(alloc, rules, source, &parsed, second),
+        Command::Check(form) => check(alloc, form, rules, source, &parsed, second),
         Command::Tree => tree(alloc, &parsed),
         Command::Fix => fixed(alloc, source, parsed),
         Command::Unwrap => unwrapped(alloc, source, &parsed),

@@ -1,5 +1,5 @@
 -- What rules find: none of a command but `check`, and the boxes of `check`.
-use Rattle.std.proofs.Common.{◌≡◌, ◌≢◌, ℕ, List, [], ◌∷◌, ◌++◌, Result, cond, refl, sym, subst}
+use Rattle.std.proofs.Common.{◌≡◌, ℕ, List, [], ◌∷◌, ◌++◌, Result, cond, refl, sym, subst}
 use Rattle.std.specs.DynBox.{dyn_box_with}
 use Rattle.std.specs.declared.dyn_box.DynBox.{DynBox}
 use Rattle.lint.specs.Run.{Runs, Seen}
@@ -9,14 +9,15 @@ use Rattle.rules.specs.Run.{all_found, found_by}
 use Rattle.rules.specs.Settings.{is_on}
 use Rattle.commands.specs.declared.command.Command.{Command}
 use Rattle.commands.specs.declared.command.Command.TheVariants.{Check, Tree, Fix, Unwrap, Cost, Verify}
+use Rattle.commands.specs.declared.command.ReportForm.{ReportForm}
 use Rattle.commands.specs.declared.refused.Refused.{Refused}
 use Rattle.rules.specs.NineRules.{NamedRule, nine_rules}
 use Rattle.shipped_rules.specs.ShippedRules.{FindAs, RunsByRules, rules_of}
 
 -- ---- no rules
 
-no_rules : (command : Command) → command ≢ Check → rules_of command ≡ []
-no_rules Check h = absurd (h refl)
+no_rules : (command : Command) → ((form : ReportForm) → command ≡ Check form → ⊥) → rules_of command ≡ []
+no_rules (Check form) h = absurd (h form refl)
 no_rules Tree h = refl
 no_rules Fix h = refl
 no_rules Unwrap h = refl
@@ -24,7 +25,7 @@ no_rules Cost h = refl
 no_rules Verify h = refl
 
 -- a run without rules is one by those of the command
-pub without_rules : (command : Command) (seen : Seen) (result : Result ℕ Refused) → command ≢ Check → Runs (λ view. []) command seen result → RunsByRules command seen result
+pub without_rules : (command : Command) (seen : Seen) (result : Result ℕ Refused) → ((form : ReportForm) → command ≡ Check form → ⊥) → Runs (λ view. []) command seen result → RunsByRules command seen result
 without_rules command seen result h =
     subst (λ rules. Runs (λ view. all_found (λ (r : NamedRule). r.called) (λ (r : NamedRule). r.finds) rules view) command seen result) (sym (no_rules command h))
 
@@ -56,5 +57,5 @@ pub next : {B : Type 0} {called : B → List ℕ} {finds : B → View → List R
 next e es = record { is = λ i view. e.is i view ++ es.is i view }
 
 -- boxes that hold the rules of `check`
-pub by_each : {B : Type 0} {called : B → List ℕ} {finds : B → View → List Report} {bs : List B} → HoldEach called finds bs nine_rules → FindAs called finds Check bs
+pub by_each : {B : Type 0} {called : B → List ℕ} {finds : B → View → List Report} {bs : List B} {form : ReportForm} → HoldEach called finds bs nine_rules → FindAs called finds (Check form) bs
 by_each es = record { is = es.is }

@@ -11,7 +11,7 @@ use Rattle.commands.specs.declared.refused.Refused.{Refused}
 
 -- the rules of a command: `check` has those of `rules`, no other has any
 abbrev pub rules_of : Command → List NamedRule
-rules_of Check = nine_rules
+rules_of (Check form) = nine_rules
 rules_of other = []
 
 -- what the rules of a command find, where the settings don't turn them off

@@ -10,26 +10,27 @@ ghost use Rattle.source_text.specs.declared.fault.Fault.TheVariants.{Usage};
 ghost use Rattle.commands.specs.declared.command.Command.TheVariants.{Check};
 ghost use Rattle.shipped_rules.specs.ShippedRules.{FindAs, RunsByRules};
 
-use commands::{Command, Refused};
+use commands::{Command, Refused, ReportForm};
 use lint::run::run;
 use rules::{RULE_COUNT, Rule, of_each_rule};
 use source_text::{Feed, Sink};
 use std::alloc::Global;
 
-/// Runs `check` with these rules, which find what those of `rules` find.
+/// Runs `check` in a form with these rules, which find what those of `rules` find.
 fn check_by<F: Feed, S: Feed, W: Sink>(
     alloc: Global,
+    form: ReportForm,
     rules: &[Box<dyn Rule>],
     file: &mut F,
     settings: &mut S,
     output: &mut W,
 ) -> Result<u8, Refused>
-    requires shipped { FindAs (λ b. called b) (λ b. finds b) Check rules.now }
+    requires shipped { FindAs (λ b. called b) (λ b. finds b) (Check form) rules.now }
     requires reads { F.failed file.old ≡ false }
     requires reads_settings { S.failed settings.old ≡ false }
     requires writes { W.failed output.old ≡ false }
     ensures told { IfErr result (λ refused. refused.fault ≢ Usage) }
-    ensures answer { RunsByRules Check (record {
+    ensures answer { RunsByRules (Check form) (record {
       given = F.left file.old;
       second = S.left settings.old;
       before = W.taken output.old;
@@ -39,12 +40,13 @@ fn check_by<F: Feed, S: Feed, W: Sink>(
       writer_failed = W.failed output.new;
     }) result }
 {
-    run(alloc, Command::Check, rules, file, settings, output)
+    run(alloc, Command::Check(form), rules, file, settings, output)
 }
 
-/// Runs `check` with the rules of `rules`.
+/// Runs `check` in a form with the rules of `rules`.
 fn check<F: Feed, S: Feed, W: Sink>(
     alloc: Global,
+    form: ReportForm,
     file: &mut F,
     settings: &mut S,
     output: &mut W,
@@ -53,7 +55,7 @@ fn check<F: Feed, S: Feed, W: Sink>(
     requires reads_settings { S.failed settings.old ≡ false }
     requires writes { W.failed output.old ≡ false }
     ensures told { IfErr result (λ refused. refused.fault ≢ Usage) }
-    ensures answer { RunsByRules Check (record {
+    ensures answer { RunsByRules (Check form) (record {
       given = F.left file.old;
       second = S.left settings.old;
       before = W.taken output.old;
@@ -64,7 +66,7 @@ fn check<F: Feed, S: Feed, W: Sink>(
     }) result }
 {
     let rules: [Box<dyn Rule>; RULE_COUNT] = of_each_rule!(boxed_rule, alloc);
-    check_by(alloc, &rules, file, settings, output)
+    check_by(alloc, form, &rules, file, settings, output)
 }
 
 /// Runs a command over its two readers and a writer, with the rules of `rules` where it is `check`.
@@ -94,7 +96,7 @@ pub fn run_with_rules<F: Feed, S: Feed, W: Sink>(
     }) result }
 {
     match command {
-        Command::Check => check(alloc, file, second, output),
+        Command::Check(form) => check(alloc, form, file, second, output),
         _ => run(alloc, command, &[], file, second, output),
     }
 }
