@@ -34,7 +34,10 @@ const accepted = (text) => parse(text, LIMITS).ok;
 const ACCEPTED = TEXTS.filter(accepted);
 const fixedText = ({ tree }) => layout(tree, plan(tree).wrapped);
 
-// What a command writes of a script, with the text of its second file, and the status.
+// What the rules find of a script under settings.
+const reportsOf = ({ tree, pairs }, settings) => runRules({ tree, scopes: resolve(tree), extra: extraPairs(pairs, plan(tree).wrapped), settings: fromToml(Buffer.from(settings)) });
+
+// What a command writes of a script, with the text of its second file, and the status; `spans` is `check --spans`.
 const ANSWERS = {
   fix: (script) => [fixedText(script), 0],
   unwrap: (script) => [unwrapped(script, plan(script.tree)), 0],
@@ -42,14 +45,17 @@ const ANSWERS = {
   cost: ({ tree }) => [writeTable(plan(tree)), 0],
   verify: ({ tree, pairs }) => [`pairs ${pairs.length} least ${plan(tree).total}\n`, 0],
   check: (script, second) => {
-    const { tree, pairs } = script;
-    const reports = runRules({ tree, scopes: resolve(tree), extra: extraPairs(pairs, plan(tree).wrapped), settings: fromToml(Buffer.from(second)) });
+    const reports = reportsOf(script, second);
     const places = linesColumns(Buffer.from(script.text), reports.map((it) => it.start));
     return [reports.map((it, i) => `${places[i]} ${it.rule} ${it.text}\n`).join(''), reports.length > 0 ? 1 : 0];
   },
+  spans: (script, second) => {
+    const reports = reportsOf(script, second);
+    return [reports.map((it) => `${it.start} ${it.end} ${it.rule} ${it.text}\n`).join(''), reports.length > 0 ? 1 : 0];
+  },
 };
 const answer = (command, text, second = '') => ANSWERS[command]({ ...parse(text, LIMITS), text }, second);
-const secondOf = (command, text) => (command === 'check' ? SECOND.get(text) ?? '' : command === 'verify' ? answer('cost', text)[0] : '');
+const secondOf = (command, text) => (command === 'check' || command === 'spans' ? SECOND.get(text) ?? '' : command === 'verify' ? answer('cost', text)[0] : '');
 
 // ---------------------------------------------------------------- beginnings
 
@@ -108,6 +114,7 @@ const RUNS = [
   ['unwrap', 'x = ( // c\n a) + (b)', ''],
   ['tree', 'a;', ''],
   ['check', 'var a = b == 1;', SECOND.get('var a = b == 1;')],
+  ['spans', 'var a = b == 1;', SECOND.get('var a = b == 1;')],
   ['cost', 'a + (b);', ''],
   ['verify', 'a + (b);', TABLE],
 ];
@@ -154,16 +161,16 @@ function workedOf(text) {
     row('fix', text, fixedText(script)),
     row('unwrap', text, answer('unwrap', text)[0]),
     `run\ttree\t${written(text)}\t1\t1\t\t\tOk(0) ${written(shown(json))}`,
-    ...(fromToml(Buffer.from(secondOf('check', text))) === null ? [] : [outcome('check')]),
+    ...(fromToml(Buffer.from(secondOf('check', text))) === null ? [] : [outcome('check'), outcome('spans')]),
     outcome('cost'),
     ...(isShort(secondOf('verify', text)) ? [outcome('verify')] : []),
   ];
 }
 
 const worked = () => [
-  '# Each worked script with what the commands answer: `fix` and `unwrap`, and `tree` by single bytes; the exit status of `check`, `cost` and `verify`,',
-  '# which takes the table that `cost` wrote, and what they write. Then the text of the JSON value of each, and that the copy of a script is equal to it.',
-  '# Made by tools/rows/worked.js.',
+  '# Each worked script with what the commands answer: `fix` and `unwrap`, and `tree` by single bytes; the exit status of `check`, of `check --spans`,',
+  '# `cost` and `verify`, which takes the table that `cost` wrote, and what they write. Then the text of the JSON value of each, and that the copy of a',
+  '# script is equal to it. Made by tools/rows/worked.js.',
   ...ACCEPTED.flatMap(workedOf),
   ...ACCEPTED.map((it) => [it, treeJson(parse(it, LIMITS).tree)]).filter(([, json]) => isShort(json)).map(([it, json]) => row('value text', it, json)),
   ...EXPRESSIONS.filter((it) => parseOnly(it, LIMITS).ok).map((it) => `equal copy\t${written(it)}\t(true, true)true`),
@@ -276,7 +283,7 @@ function gaugedRows(given) {
     return `${given}\t(Ok(${status}), ${Buffer.byteLength(out)}, true)`;
   };
   const { tree } = parse(text, LIMITS);
-  const rows = ['fix', 'unwrap', 'tree', 'check', 'cost'].map((it) => `gauged run\t${it}\t${size(it)}`);
+  const rows = ['fix', 'unwrap', 'tree', 'check', 'spans', 'cost'].map((it) => `gauged run\t${it}\t${size(it)}`);
   return [...rows, `gauged layout\t${given}\t(Ok(()), ${Buffer.byteLength(layout(tree, new Set()))}, true)`, `gauged table\t${given}\t(Ok(()), ${Buffer.byteLength(answer('cost', text)[0])}, true)`];
 }
 

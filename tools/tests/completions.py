@@ -19,7 +19,7 @@ SCRIPTS = {'a.js', 'two words.js'}
 # Words of a command line, the last one unfinished; what is offered for it; and what mustn't be.
 ASKED = [
     ('jslint ', COMMANDS, set()), ('jslint c', {'check', 'cost'}, {'fix'}), ('jslint -', {'--help', '--version'}, {'check'}),
-    ('jslint help ', COMMANDS - {'help'}, SCRIPTS), ('jslint check ', SCRIPTS, COMMANDS), ('jslint check -', {'--settings', '--help'}, {'--version'}),
+    ('jslint help ', COMMANDS - {'help'}, SCRIPTS), ('jslint check ', SCRIPTS, COMMANDS), ('jslint check -', {'--settings', '--spans', '--help'}, {'--version'}),
     ('jslint check --settings ', {'s.toml'}, COMMANDS), ('jslint unwrap ', SCRIPTS, COMMANDS), ('jslint verify ', SCRIPTS, COMMANDS),
     ('jslint verify a.js ', {'table'}, COMMANDS), ('jslint fix -', {'--help'}, {'--settings', '--write'}),
     ('jslint-files ', {'check', 'fix', 'unwrap'} | SCRIPTS, {'tree'}), ('jslint-files -', CHECKING, {'--write'}),

@@ -24,6 +24,10 @@ RULES = sorted(it[:-3] for it in os.listdir(PAGES) if it != 'README.md')
 ONLY_PARENS = b'[rules]\n' + b''.join(b'%s = false\n' % it.encode() for it in RULES if it != 'no-extra-parens')
 
 
+# What is said for a command that is no word.
+WORDS = {'spans': ['check', '--spans']}
+
+
 class Answer:
     """What a call of the program gave."""
 
@@ -74,8 +78,8 @@ def command(name, text, second=None):
 
 
 def by_program(name, text, second):
-    words = [name, '--', file_of('script', text)]
-    if second is not None and name == 'check':
+    words = [*WORDS.get(name, [name]), '--', file_of('script', text)]
+    if second is not None and name in ('check', 'spans'):
         words[1:1] = ['--settings', file_of('settings', second)]
     elif second is not None:
         words.append(file_of('table', second))
@@ -287,7 +291,7 @@ def outcome(answer):
 
 def ordered(name):
     def run(texts, want):
-        second = texts[1].encode() if name in ('check', 'verify') else None
+        second = texts[1].encode() if name in ('check', 'spans', 'verify') else None
         answer = command(name, texts[0].encode(), second)
         return hold(outcome(answer) == want, answer)
     return run
@@ -299,7 +303,7 @@ def check_bytes(texts, want):
 
 
 def embedded(texts, want):
-    answer = command(texts[0], texts[1].encode(), texts[2].encode() if texts[0] in ('check', 'verify') else None)
+    answer = command(texts[0], texts[1].encode(), texts[2].encode() if texts[0] in ('check', 'spans', 'verify') else None)
     return hold(outcome(answer) == want, answer)
 
 
@@ -350,8 +354,8 @@ def split_answer(want):
 def run_of(texts, want, content):
     name, _, reader, writer, second, second_reader = (texts + [''] * 6)[:6]
     answers, bytes_written = split_answer(want)
-    words = [name, '--', device('script', content, reader, want if not fails_at(second_reader) else '')]
-    if name == 'check' and (second or second_reader):
+    words = [*WORDS.get(name, [name]), '--', device('script', content, reader, want if not fails_at(second_reader) else '')]
+    if name in ('check', 'spans') and (second or second_reader):
         words[1:1] = ['--settings', device('settings', second.encode(), second_reader, want)]
     elif name == 'verify':
         words.append(device('table', second.encode(), second_reader, want))
@@ -379,16 +383,22 @@ def json_row(texts, want):
 
 
 # What the commands answer for `((a));`, with settings that turn its reports off, and with its table.
-ASKED = {'check': (0, ''), 'fix': (0, 'a;\n'), 'unwrap': (0, 'a;'), 'cost': (0, 'jslint-cost 2\n1 Identifier\ntotal 0\n'), 'verify': (0, 'pairs 2 least 0\n'), 'tree': (0, None)}
-SECONDS = {'check': b'[rules]\nno-undef = false\nno-extra-parens = false\n', 'verify': ASKED['cost'][1].encode()}
+ASKED = {'check': (0, ''), 'spans': (0, ''), 'fix': (0, 'a;\n'), 'unwrap': (0, 'a;'), 'cost': (0, 'jslint-cost 2\n1 Identifier\ntotal 0\n'), 'verify': (0, 'pairs 2 least 0\n'), 'tree': (0, None)}
+OFF = b'[rules]\nno-undef = false\nno-extra-parens = false\n'
+SECONDS = {'check': OFF, 'spans': OFF, 'verify': ASKED['cost'][1].encode()}
+# And without settings.
+REPORTED = {
+    'check': (1, "1:1 no-extra-parens unnecessary parentheses\n1:2 no-extra-parens unnecessary parentheses\n1:3 no-undef 'a' is not defined\n"),
+    'spans': (1, "0 5 no-extra-parens unnecessary parentheses\n1 4 no-extra-parens unnecessary parentheses\n2 3 no-undef 'a' is not defined\n"),
+}
 
 
 def command_line(texts, want):
     words = texts[0].split(' ')[1:]
-    asked = re.fullmatch(r'\((\w+), "(.*?)", (?:None|Some\("(.*)"\))\)', want)
+    asked = re.fullmatch(r'\((\w+)(?:\((\w+)\))?, "(.*?)", (?:None|Some\("(.*)"\))\)', want)
     with tempfile.TemporaryDirectory(dir=ROOM.name) as folder:
         if asked:
-            name, file, second = asked[1].lower(), asked[2], asked[3]
+            name, file, second = 'spans' if asked[2] == 'Spans' else asked[1].lower(), asked[3], asked[4]
             for it, content in [(second, SECONDS.get(name)), (file, b'((a));')]:
                 if it and not it.startswith('/'):
                     with open(f'{folder}/{it}', 'wb') as to:
@@ -400,17 +410,17 @@ def command_line(texts, want):
         return hold((answer.status, answer.out != '', answer.err != '') == ((0, True, False) if is_shown else (2, False, True)), answer)
     if second == file:
         # (the script is no table and no settings)
-        return hold((answer.out, answer.err) == ('', {'verify': 'jslint: bad table row 0 Form\n', 'check': 'jslint: bad settings\n'}[name]), answer)
+        return hold((answer.out, answer.err) == ('', 'jslint: bad table row 0 Form\n' if name == 'verify' else 'jslint: bad settings\n'), answer)
     if second == '':
         return hold((answer.status, answer.err) == (2, 'jslint: read failed: : missing\n'), answer)
-    status, out = ASKED[name] if second is not None or name != 'check' else (1, '1:1 no-extra-parens unnecessary parentheses\n1:2 no-extra-parens unnecessary parentheses\n1:3 no-undef \'a\' is not defined\n')
+    status, out = (ASKED if second is not None else {**ASKED, **REPORTED})[name]
     return hold((answer.status, answer.err) == (status, '') and answer.out == (out if out is not None else answer.out), answer)
 
 
 # By the row's call; in this order, so that the longest come first.
 CALLS = {
     'begins': begins, 'run': run, 'run bytes': run_bytes, 'fixes': fixes, 'fix': fix, 'unwrap': unwrap, 'pairs': pairs, 'items': items, 'tree': tree, 'alike': alike,
-    'early': early, 'extra': extra, 'plan': plan, 'check': ordered('check'), 'cost': ordered('cost'), 'verify': ordered('verify'),
+    'early': early, 'extra': extra, 'plan': plan, 'check': ordered('check'), 'spans': ordered('spans'), 'cost': ordered('cost'), 'verify': ordered('verify'),
     'check bytes': check_bytes, 'embedded': embedded, 'source': source, 'json': json_row, 'command line': command_line,
 }
 # Calls that say how the program treats its words, files and streams: a library has none.

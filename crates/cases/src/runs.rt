@@ -7,7 +7,7 @@ use crate::case::Case;
 use crate::devices::{bytes_of, plan, push_answer, push_bytes};
 use crate::gauge::Gauge;
 use crate::reports::AnyScript;
-use commands::{Command, Refused, write_refusal};
+use commands::{Command, Refused, ReportForm, write_refusal};
 use lint::run::run;
 use rules::{RULE_COUNT, Rule, of_each_rule};
 use source_text::{FailurePlan, Fault, MAX_PIECE, MemoryFeed, MemorySink, Sink};
@@ -17,10 +17,14 @@ use std::str::from_utf8;
 /// The room of a writer.
 const ROOM: usize = 1_000_000;
 
-/// The command of this word.
+/// `check`, with places.
+const CHECK: Command = Command::Check(ReportForm::Places);
+
+/// The command of this word: `spans` is `check --spans`.
 pub(crate) fn command(word: &str) -> Command {
     match word {
-        "check" => Command::Check,
+        "check" => CHECK,
+        "spans" => Command::Check(ReportForm::Spans),
         "tree" => Command::Tree,
         "unwrap" => Command::Unwrap,
         "cost" => Command::Cost,
@@ -188,14 +192,18 @@ pub(crate) fn push_command(alloc: Global, row: &Case, out: &mut String) -> Resul
     push_both(alloc, Run::new(command(row.text(0)), file, second, ""), out)
 }
 
-/// What `check` answers where a rule of this program's own stands behind the others.
+/// What `check` or `check --spans` answers where a rule of this program's own stands behind the others.
 pub(crate) fn push_with_tenth(
     alloc: Global,
     row: &Case,
     out: &mut String,
 ) -> Result<(), AllocError> {
     let (file, second) = (row.text(1).as_bytes(), row.text(2).as_bytes());
-    let mut run = Run::new(Command::Check, file, second, "");
+    let command = match row.text(0) {
+        "spans by ten" => Command::Check(ReportForm::Spans),
+        _ => CHECK,
+    };
+    let mut run = Run::new(command, file, second, "");
     run.has_tenth = true;
     push_both(alloc, run, out)
 }
@@ -207,7 +215,7 @@ pub(crate) fn push_second_bytes(
     out: &mut String,
 ) -> Result<(), AllocError> {
     let second = bytes_of(alloc, row.text(2))?;
-    let run = Run::new(Command::Check, row.text(1).as_bytes(), &second, "");
+    let run = Run::new(CHECK, row.text(1).as_bytes(), &second, "");
     push_both(alloc, run, out)
 }
 
