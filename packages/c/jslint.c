@@ -2,7 +2,7 @@
 
        cc -o jslint jslint.c libjslint.a
        ./jslint fix|unwrap|tree|cost|check FILE
-       ./jslint check --settings SETTINGS FILE
+       ./jslint check --spans --settings SETTINGS FILE
        ./jslint verify FILE TABLE */
 #include "jslint.h"
 #include <stdio.h>
@@ -85,7 +85,7 @@ static int run(uint32_t command, const char *name, const char *second_name) {
     return status;
 }
 
-/* How many commands there are. */
+/* How many commands have a word of their own. */
 enum { COMMANDS = JSLINT_UNWRAP + 1 };
 
 /* The number of a command's name, or COMMANDS. */
@@ -101,17 +101,19 @@ static uint32_t command_of(const char *name) {
 int main(int count, char **words) {
     const char *names[2] = {NULL, NULL}, *settings = NULL;
     uint32_t command = count > 1 ? command_of(words[1]) : COMMANDS;
-    int files = 0, is_well = command < COMMANDS;
+    int files = 0, has_spans = 0, is_well = command < COMMANDS;
     for (int at = 2; at < count && is_well; at++) {
         if (!strcmp(words[at], "--settings") && command == JSLINT_CHECK && at + 1 < count) {
             settings = words[++at];
+        } else if (!strcmp(words[at], "--spans") && command == JSLINT_CHECK) {
+            has_spans = 1;
         } else if (strcmp(words[at], "--")) {
             is_well = files < 2;
             names[is_well ? files++ : 0] = words[at];
         }
     }
     if (!is_well || files != (command == JSLINT_VERIFY ? 2 : 1)) {
-        return refuse("usage: jslint check [--settings SETTINGS] FILE, jslint fix|unwrap|tree|cost FILE, or jslint verify FILE TABLE");
+        return refuse("usage: jslint check [--spans] [--settings SETTINGS] FILE, jslint fix|unwrap|tree|cost FILE, or jslint verify FILE TABLE");
     }
-    return run(command, names[0], command == JSLINT_CHECK ? settings : names[1]);
+    return run(has_spans ? JSLINT_SPANS : command, names[0], command == JSLINT_CHECK ? settings : names[1]);
 }

@@ -1,4 +1,4 @@
-/* jslint for C: the six commands over bytes in memory. docs/EMBEDDING.md says what is proved of them. */
+/* jslint for C: the six commands over bytes in memory, `check` in two forms. docs/EMBEDDING.md says what is proved of them. */
 #ifndef JSLINT_H
 #define JSLINT_H
 #include <stddef.h>
@@ -7,7 +7,8 @@
 extern "C" {
 #endif
 
-enum jslint_command { JSLINT_CHECK, JSLINT_TREE, JSLINT_FIX, JSLINT_COST, JSLINT_VERIFY, JSLINT_UNWRAP };
+/* JSLINT_SPANS is `check --spans`. */
+enum jslint_command { JSLINT_CHECK, JSLINT_TREE, JSLINT_FIX, JSLINT_COST, JSLINT_VERIFY, JSLINT_UNWRAP, JSLINT_SPANS };
 
 struct jslint_outcome {
     size_t length;       /* how many bytes the answer has; where there is less room, its beginning stands there */
@@ -15,7 +16,7 @@ struct jslint_outcome {
     uint32_t is_refusal; /* 1 where the answer is the line of a refusal, else 0 */
 };
 
-/* Answers a command for a script and a second text, which `check` reads as its settings and `verify` as its cost table; to the other commands it
+/* Answers a command for a script and a second text, which `check` reads as its settings, in either form, and `verify` as its cost table; to the other commands it
    is nothing. What the program would write, to its standard output or as the line of a refusal to its standard error, is put into the room. Where
    the outcome's length is more than the room's, call again with so much room.
 

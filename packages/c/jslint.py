@@ -4,6 +4,7 @@
     jslint.fix('((a))')                                     'a;\\n'
     jslint.unwrap('x = (a); // c')                          'x = a; // c'
     jslint.check('debugger;')                               [Report(line=1, column=1, rule='no-debugger', message='debugger statement')]
+    jslint.spans('debugger;')                               [Span(start=0, end=9, rule='no-debugger', message='debugger statement')]
     jslint.tree('a')['body'][0]['type']                     'ExpressionStatement'
     jslint.verify('(({})).a', jslint.cost('(({})).a'))      (2, 1): the text has two pairs, and each text with its tree has one at least
 
@@ -15,8 +16,9 @@ import json
 import os
 import re
 
-COMMANDS = {'check': 0, 'tree': 1, 'fix': 2, 'cost': 3, 'verify': 4, 'unwrap': 5}
+COMMANDS = {'check': 0, 'tree': 1, 'fix': 2, 'cost': 3, 'verify': 4, 'unwrap': 5, 'spans': 6}
 Report = collections.namedtuple('Report', 'line column rule message')
+Span = collections.namedtuple('Span', 'start end rule message')
 Answer = collections.namedtuple('Answer', 'bytes status is_refusal')
 
 
@@ -70,6 +72,12 @@ def check(text, settings=''):
     """What the rules find; the settings are TOML."""
     lines = re.findall(r'^(\d+):(\d+) (\S+) (.*)$', _output('check', text, settings), re.M)
     return [Report(int(line), int(column), rule, message) for line, column, rule, message in lines]
+
+
+def spans(text, settings=''):
+    """What the rules find, from where to where, in bytes of the text's UTF-8."""
+    lines = [it.split(' ', 3) for it in _output('spans', text, settings).split('\n')[:-1]]
+    return [Span(int(start), int(end), rule, message) for start, end, rule, message in lines]
 
 
 def tree(text):

@@ -3,9 +3,9 @@
 // Nothing here is proved. What it has to keep: the four stretches of memory that a call is handed lie apart, are as long as it says, and stay
 // until the call is back; an instance in which a call did not come back is not called again.
 
-const COMMANDS = { check: 0, tree: 1, fix: 2, cost: 3, verify: 4, unwrap: 5 };
+const COMMANDS = { check: 0, tree: 1, fix: 2, cost: 3, verify: 4, unwrap: 5, spans: 6 };
 // Bytes of room for each byte of text at the first try. Where the answer is longer, the command runs again with all the room that it takes.
-const ROOM = { check: 2, tree: 48, fix: 3, cost: 24, verify: 0, unwrap: 1 };
+const ROOM = { check: 2, tree: 48, fix: 3, cost: 24, verify: 0, unwrap: 1, spans: 2 };
 const LEAST_ROOM = 16384;
 // Of an outcome: its length in 8 bytes, its status and whether it is a refusal in 4 each.
 const OUTCOME = 16;
@@ -158,6 +158,17 @@ function reportsOf(lines, text) {
   });
 }
 
+/** Reports from where to where: their places are bytes, or indices into the string. */
+function spansOf(lines, text, places) {
+  if (lines === '') return [];
+  const string = stringOf(text), at = places === 'indices' ? indices(string, bytesOf(text).length) : null;
+  return lines.slice(0, -1).split('\n').map((each) => {
+    const [, from, to, rule, message] = /^(\d+) (\d+) (\S+) (.*)$/s.exec(each);
+    const [start, end] = [Number(from), Number(to)];
+    return { start: at ? at[start] : start, end: at ? at[end] : end, rule, message };
+  });
+}
+
 /** Whether the engine's stack was used up, or the module's own. Either ends a call half done. */
 const isOutOfStack = (error) => error instanceof RangeError || error instanceof WebAssembly.RuntimeError || error?.name === 'InternalError';
 
@@ -199,6 +210,7 @@ export function commandsOf(module, runDeeper = () => null) {
   return {
     run,
     check: (text, { settings = '' } = {}) => reportsOf(output('check', text, bytesOf(settings)), stringOf(text)),
+    spans: (text, { settings = '', places = 'indices' } = {}) => spansOf(output('spans', text, bytesOf(settings)), text, places),
     fix: (text) => output('fix', text),
     unwrap: (text) => output('unwrap', text),
     treeText: (text) => output('tree', text),

@@ -1,6 +1,7 @@
 /** A script or a second text: a string, or its UTF-8. */
 export type Text = string | Uint8Array;
-export type Command = 'check' | 'tree' | 'fix' | 'cost' | 'verify' | 'unwrap';
+/** `spans` is `check --spans`. */
+export type Command = 'check' | 'tree' | 'fix' | 'cost' | 'verify' | 'unwrap' | 'spans';
 
 /** What a rule finds at a place. Lines and columns count from 1, columns in characters; `index` is the place in the string. */
 export interface Report {
@@ -9,6 +10,14 @@ export interface Report {
   rule: string;
   message: string;
   index: number;
+}
+
+/** What a rule finds, from where to where: indices into the string, or bytes. */
+export interface Span {
+  start: number;
+  end: number;
+  rule: string;
+  message: string;
 }
 
 export type Code = 'syntax' | 'early' | 'deep' | 'utf8' | 'long' | 'settings' | 'table' | 'unwrap' | 'memory' | 'stack';
@@ -39,6 +48,8 @@ export interface Node {
 
 /** What the rules find, by place and rule. The settings are TOML, as the program takes them. */
 export function check(text: Text, options?: { settings?: Text }): Report[];
+/** The same reports, in the same order, from where to where. */
+export function spans(text: Text, options?: { settings?: Text; places?: 'indices' | 'bytes' }): Span[];
 /** The script in one layout, with the fewest parentheses that its tree allows. */
 export function fix(text: Text): string;
 /** The script as it stands, comments kept, without its unnecessary parentheses. */

@@ -3,7 +3,7 @@
 import { run } from '../jslint.mjs';
 import { read, warn, write } from './streams.mjs';
 
-const USAGE = `usage: jslint-with-proofs check [--settings SETTINGS] FILE
+const USAGE = `usage: jslint-with-proofs check [--spans] [--settings SETTINGS] FILE
        jslint-with-proofs fix|unwrap|tree|cost FILE
        jslint-with-proofs verify FILE TABLE
 `;
@@ -12,9 +12,11 @@ const USAGE = `usage: jslint-with-proofs check [--settings SETTINGS] FILE
 function lineOf(words) {
   const [command, ...rest] = words, at = rest.indexOf('--settings');
   const settings = command === 'check' && at >= 0 ? rest.splice(at, 2)[1] : undefined;
+  const marks = rest.indexOf('--'), flag = rest.indexOf('--spans'), hasSpans = command === 'check' && flag >= 0 && (marks < 0 || flag < marks);
+  if (hasSpans) rest.splice(flag, 1);
   const files = rest.filter((it) => it !== '--');
   const isWell = ['check', 'fix', 'unwrap', 'tree', 'cost', 'verify'].includes(command) && files.length === (command === 'verify' ? 2 : 1);
-  return isWell && (at < 0 || settings !== undefined) ? { command, names: [files[0], files[1] ?? settings] } : null;
+  return isWell && (at < 0 || settings !== undefined) ? { command: hasSpans ? 'spans' : command, names: [files[0], files[1] ?? settings] } : null;
 }
 
 function refuse(words) {

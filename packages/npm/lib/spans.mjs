@@ -3,7 +3,8 @@
 // `check` tells where a report begins. Its end is known to the proved code and not told, so it is looked for here, by a lexer that isn't the
 // program's: it tells `/` from a regular expression by the token before, and braces by the token before them. So it may be wrong: it is only tested.
 // On it rest how long an underline is, which reports count as being at a place, and which `)` is tried with a `(`; what is tried is then judged by
-// proved calls (changes.mjs). Once the program tells the ends, this module is all that changes.
+// proved calls (changes.mjs). `check --spans` tells the ends that are proved: once the module in release/ has that command, `spans` of jslint.mjs
+// takes the place of this lexer.
 
 const NAME = /[$_\p{ID_Start}\\#][$\u200c\u200d\p{ID_Continue}\\]*/uy;
 const NUMBER = /(?:0[xX][\da-fA-F_]+|0[oO][0-7_]+|0[bB][01_]+|(?:\d[\d_]*\.?[\d_]*|\.\d[\d_]*)(?:[eE][+-]?[\d_]+)?)n?/y;
