@@ -11,6 +11,7 @@ complete -c jslint -n "not __fish_seen_subcommand_from $commands" -f -a help -d 
 complete -c jslint -n '__fish_seen_subcommand_from help' -f -a "$commands"
 complete -c jslint -n "not __fish_seen_subcommand_from $commands" -l version -d 'Print the version'
 complete -c jslint -n '__fish_seen_subcommand_from check' -l settings -r -F -d 'Rules and options, as TOML'
+complete -c jslint -n '__fish_seen_subcommand_from check' -l spans -d 'Where a report is, in bytes'
 complete -c jslint -s h -l help -d 'Print help'
 
 set -l rewriting fix unwrap
