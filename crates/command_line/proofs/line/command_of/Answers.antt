@@ -1,4 +1,4 @@
-use Rattle.std.proofs.Common.{◌≡◌, ◌∙◌, ℕ, zero, suc, ◌+◌, ◌<◌, false, sym, ap, arith, List, [], ◌∷◌, bytes_eq, inl, inr, slice_index_or, true≢false, length, refl, true, Some, cond}
+use Rattle.std.proofs.Common.{◌≡◌, ◌∙◌, ℕ, zero, suc, ◌+◌, ◌<◌, false, sym, ap, arith, List, [], ◌∷◌, bytes_eq, inl, inr, slice_index_or, true≢false, length, refl, Some, cond}
 use Rattle.std.proofs.lemmas.Bool.{cases_lt}
 use Rattle.std.proofs.lemmas.List.{get_or_default}
 use Rattle.std.proofs.lemmas.Slice.Eq.{bytes_eq-Decides}
