@@ -57,6 +57,7 @@ checked finds form text n P second output settings answer utf8 are lines is = re
 
 pub checks : (finds : View → List Report) (form : ReportForm) (text : List ℕ) (n : Tree) (P : List Pair) (given : Option (List ℕ)) (settings : Settings) (answer : Answer) (failed : Bool)
     → ReadsSettings given (Ok settings) failed → ReportsLines finds form text n P settings answer → Answers finds (Check form) text n P given (Ok answer) failed
+unfolding checked
 checks finds Places text n P given settings answer failed read lines =
     (read.0, (read.1.0, read.1.1, checked finds Places text n P read.1.0 (output_of answer) settings answer read.1.2 read.1.3 lines lines.are_lines))
 checks finds Spans text n P given settings answer failed read lines = (
