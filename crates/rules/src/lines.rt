@@ -52,6 +52,7 @@ fn push_line(here: LineWalker, report: &Report, lines: &mut String) -> Result<()
 /// # Errors
 ///
 /// `AllocError` where memory is refused.
+#[inline(never)]
 pub fn span_lines(alloc: Global, reports: &[Report]) -> Result<String, AllocError>
     ensures { IfOk result (λ lines. string_bytes lines ≡ spans_of reports.now) }
 {

@@ -90,11 +90,11 @@ impl<'w> WrapCursor<'w> {
         ensures flag { result ≡ is_flagged self.old.flags.now 1 }
         ensures others { self.new.flags.now ≡ drop 1 self.old.flags.now }
     {
-        let is_wrapped = self.is_wrapped();
-        if let Some((_, others)) = self.flags.split_first() {
-            self.flags = others;
-        }
-        is_wrapped
+        let Some((first, others)) = self.flags.split_first() else {
+            return false;
+        };
+        self.flags = others;
+        *first
     }
 }
 
