@@ -91,9 +91,9 @@ def texts(room):
 # ---- VS Code
 
 def vscode(_):
-    """Its folder, which isn't tried: settings and commands are those of the server, the schema has the rules, and what the extension requires is named."""
+    """Its folder, which isn't tried: settings and commands are those of the server, and what the extension requires is named or put there."""
     folder = f'{PACKAGES}/vscode'
-    package, schema = (json.loads(text_of(f'{folder}/{it}')) for it in ('package.json', 'jslint-toml.schema.json'))
+    package = json.loads(text_of(f'{folder}/package.json'))
     options = re.search(r'^const OPTIONS = \{\n(.*?)^\};', text_of(f'{PACKAGES}/npm/lib/editor.mjs'), re.M | re.S)[1]
     properties = package['contributes']['configuration']['properties']
     wanted = {f'jslint.{name}': json.loads(value.replace("'", '"')) for name, value in re.findall(r'^  (\w+): \[(\[.*?\]|[^,]*), ', options, re.M)}
@@ -101,8 +101,8 @@ def vscode(_):
     page = text_of(f'{TOP}/docs/EDITORS.md')
     is_well(len(wanted) == 7 and all(f'| `{name.split(".")[1]}` | ' in page for name in wanted), wanted)
     same(package['version'], json.loads(text_of(f'{PACKAGES}/npm/package.json'))['version'])
-    same(sorted(schema['properties']['rules']['properties']), sorted(re.findall(r'^\| \[([\w-]+)\]', text_of(f'{TOP}/docs/rules/README.md'), re.M)))
-    same(sorted(schema['properties']), sorted(re.findall(r'^\| `([\w-]+)` \| (?:an array|a table|`true`)', text_of(f'{TOP}/docs/rules/README.md'), re.M)))
+    copied = re.fullmatch(r'cp (\S+/([\w.]+)) \.', package['scripts']['vscode:prepublish'])
+    is_well(os.path.isfile(f'{folder}/{copied[1]}') and package['contributes']['tomlValidation'] == [{'fileMatch': 'jslint.toml', 'url': f'./{copied[2]}'}], package)
     code = text_of(f'{folder}/extension.js')
     same(set(re.findall(r"require\('([\w-]+)", code)), {'node', 'vscode', *package['dependencies']})
     libraries.node()
