@@ -50,7 +50,7 @@ def server_session(room):
 
 def server_hostile(room):
     """Nonsense, clients that break off, large texts, full devices, signals, odd files."""
-    is_well(node_tests(room, 'hostile') >= 16)
+    is_well(node_tests(room, 'hostile') >= 18)
 
 
 # ---- the words of the documents
