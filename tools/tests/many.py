@@ -121,7 +121,11 @@ def ignore_files(room):
     same(names_in(project(room, '--files-from', '-', given=b'x\na.js\n')[1]), ['x/f.js', 'x/keep.min.js', 'a.js'])
     same(project(room, '--files-from', '-', given=b''), (0, '', ''))
     same(files(room, 'x'), (2, 'x:1:1: read failed: a folder\n', ''))
-    for name, said in [('x/.gitignore', 'links in a circle'), ('x/.jslintignore', 'a folder')]:
+    room.put('.git/info/exclude', 'f.js\na.js\n')
+    room.put('x/.gitignore', '!f.js\n')
+    same(names_in(project(room)[1]), [it for it in all_of if it != 'a.js'])
+    room.run(['rm', '.git/info/exclude', 'x/.gitignore'], status=0)
+    for name, said in [('x/.gitignore', 'links in a circle'), ('x/.jslintignore', 'a folder'), ('.git/info/exclude', 'a folder')]:
         room.run(['rm', '-f', name], status=0)
         os.symlink('.gitignore', room.path(name)) if said != 'a folder' else os.mkdir(room.path(name))
         same(project(room), (2, '', f'jslint-files: {os.path.realpath(room.folder)}/{name}: read failed: {said}\n'))

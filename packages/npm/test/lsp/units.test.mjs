@@ -1,11 +1,12 @@
 // Documents, edits, spans, ignore files, settings, hints and small changes, without a server.
 import assert from 'node:assert/strict';
 import { spawnSync } from 'node:child_process';
-import { mkdtempSync, readFileSync, rmSync, writeFileSync } from 'node:fs';
+import { mkdirSync, mkdtempSync, readFileSync, rmSync, writeFileSync } from 'node:fs';
 import { tmpdir } from 'node:os';
 import path from 'node:path';
 import { test } from 'node:test';
 import { Refused, check, fix, indexOf, tree, unwrap } from '../../jslint.mjs';
+import { Beside } from '../../lib/beside.mjs';
 import { Judge } from '../../lib/changes.mjs';
 import { Document, ENCODINGS } from '../../lib/document.mjs';
 import { applied, editsBetween } from '../../lib/edits.mjs';
@@ -113,6 +114,18 @@ test('ignore files: no pattern takes long', () => {
     assert.equal(isIgnored(Array(8).fill('a'.repeat(200)).join('/'), false, (at) => (at === '' ? list : [])), false);
   }
   assert.ok(performance.now() - begun < 3000);
+});
+
+test('ignore files: in a folder, in those above it, and in .git', () => {
+  const top = mkdtempSync(path.join(tmpdir(), 'jslint-ignore-')), beside = new Beside();
+  try {
+    for (const folder of ['.git/info', 'a/b', 'inner']) mkdirSync(path.join(top, folder), { recursive: true });
+    for (const [name, text] of [['.git/info/exclude', 'x*.js\ny.js\n'], ['.gitignore', '!xa.js\n'], ['a/.jslintignore', '!y.js\n'], ['inner/.git', 'gitdir: elsewhere\n']]) writeFileSync(path.join(top, name), text);
+    const is = (name) => beside.isIgnored(path.join(top, name));
+    assert.deepEqual(['x.js', 'a/b/x.js', 'xa.js', 'y.js', 'a/y.js', 'z.js', 'inner/x.js'].map(is), [true, true, false, true, false, false, false]);
+  } finally {
+    rmSync(top, { recursive: true, force: true });
+  }
 });
 
 test('settings: what is put in is read', () => {
