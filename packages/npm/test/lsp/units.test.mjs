@@ -108,12 +108,12 @@ test('ignore files: a nearer file decides, and nothing comes back below an ignor
 });
 
 test('ignore files: no pattern takes long', () => {
-  const begun = performance.now();
+  const begun = process.cpuUsage();
   for (const line of [`${'*a'.repeat(60)}b`, Array(60).fill('**/*a').join('/'), `/${'**/'.repeat(200)}b`]) {
     const list = patternsOf(line);
     assert.equal(isIgnored(Array(8).fill('a'.repeat(200)).join('/'), false, (at) => (at === '' ? list : [])), false);
   }
-  assert.ok(performance.now() - begun < 3000);
+  assert.ok(process.cpuUsage(begun).user < 3e6);
 });
 
 test('ignore files: in a folder, in those above it, and in .git', () => {
@@ -152,9 +152,9 @@ test('hints: each row', () => {
 });
 
 test('hints: no text takes long', () => {
-  const begun = performance.now();
+  const begun = process.cpuUsage();
   for (const piece of ['class//', 'class{;', 'async(', 'for(var a=', '[{(', '?? ', 'import ', '"\\', 'static ']) for (const end of ['=', '=>', '{', '"']) syntaxHint(piece.repeat(1000).slice(0, 4000) + end, 4000);
-  assert.ok(performance.now() - begun < 3000, `${performance.now() - begun}`);
+  assert.ok(process.cpuUsage(begun).user < 3e6, process.cpuUsage(begun).user);
 });
 
 test('spans: the `)` of a `(`, whatever stands between', () => {
