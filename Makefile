@@ -1,4 +1,5 @@
-# make install PREFIX=..    the program, jslint-files and its library, manual pages, completions, licences and documents; DESTDIR goes in front
+# make install PREFIX=..    the program, jslint-files and its library, manual pages, completions, the schema of the settings, licences and documents;
+#                           DESTDIR goes in front
 # make uninstall PREFIX=..  takes them out again
 # make test                 tools/test
 
@@ -21,7 +22,7 @@ install:
 	@program=$$(./jslint --program) && prefix=$(prefix_in_pages) && \
 	install -d '$(bin)' && install -m 755 "$$program" '$(bin)/jslint' && install -m 755 tools/jslint-files '$(bin)/jslint-files' && \
 	install -d '$(share)/jslint/jslint_files' && install -m 644 tools/jslint_files/*.py '$(share)/jslint/jslint_files' && \
-	install -m 644 packages/npm/lib/hints.json '$(share)/jslint/hints.json' && \
+	install -m 644 packages/npm/lib/hints.json share/jslint/jslint.schema.json '$(share)/jslint' && \
 	rm -rf '$(lib)' && { tools/shared-library '$(lib)/libjslint.so' || :; } && \
 	{ ! command -v python3 >/dev/null || python3 -m compileall -q '$(share)/jslint/jslint_files'; } && \
 	for each in $(PAGES); do \

@@ -13,8 +13,8 @@ What `jslint check` finds in several scripts, each report with its file's name, 
 
   FILE                a script, or a pattern such as 'src/**/*.js' (in quotes, so that the shell leaves it alone); ** follows no link to a folder
   --files-from FILE   the names that FILE has, each ended by a line feed, or by a zero byte if there is any; - is standard input
-  --project           FILE may be a folder, the current one where none is named: its *.js, but for what .gitignore and .jslintignore name, links,
-                      node_modules and .git. Without --settings, each script is checked with the nearest jslint.toml above it. All these files are
+  --project           FILE may be a folder, the current one where none is named: its *.js, but for what .gitignore, .jslintignore and .git/info/exclude
+                      name, links, node_modules and .git. Without --settings, each script is checked with the nearest jslint.toml above it. All these files are
                       looked for up to the folder that has .git
   --stdin NAME        the script on standard input, as if it were the file NAME. Rewritten, it goes to standard output, or --diff shows how it differs
   --settings FILE     for each script (jslint check --settings)

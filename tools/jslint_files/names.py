@@ -37,7 +37,8 @@ def ways(folder, parts):
 
 
 def matching(pattern):
-    """The files that a pattern means. A folder that can't be looked through is one of them, so that it is refused."""
+    """The files that a pattern means, without devices and pipes, which might never end. A folder that can't be looked through is one of them, and a link that
+    leads to nothing, so that they are refused."""
     found, left = set(), [('/' if pattern.startswith('/') else '', [it for it in pattern.split('/') if it])]
     while left:
         path, parts = left.pop()
@@ -48,7 +49,7 @@ def matching(pattern):
                 pass
             except OSError:
                 found.add(path or '.')
-        elif not os.path.isdir(path):
+        elif os.path.isfile(path) or not os.path.exists(path):
             found.add(path)
     return sorted(found)
 

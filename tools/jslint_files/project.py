@@ -7,8 +7,8 @@ from .reading import MOST, read, unread
 from .streams import Wrong, shown
 
 SETTINGS = 'jslint.toml'
-# What the first says goes before what the second says.
-IGNORES = ('.jslintignore', '.gitignore')
+# What the first says goes before what the second says. The third is in the top folder of a repository alone.
+IGNORES = ('.jslintignore', '.gitignore', '.git/info/exclude')
 # Folders that nobody has checked.
 LEFT_OUT = ('.git', 'node_modules')
 

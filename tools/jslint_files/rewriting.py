@@ -142,7 +142,7 @@ class Rewriter:
 
     def outcome(self, name, text=None):
         """What comes of a file, or of a text that is as good as one of that name."""
-        path = os.path.realpath(name)
+        path = os.path.realpath(name) if text is None else None
         if text is None and os.path.exists(name) and not os.path.isfile(path):
             raise Refused(f'not {"rewritten" if self.options["write"] else "compared"}: no regular file')
         given, text = text, read(path) if text is None else text

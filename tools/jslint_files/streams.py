@@ -58,3 +58,12 @@ def shown(name):
     """A name as a line begins with it: what GitHub's runner would take for a command isn't one."""
     text = escaped(name).replace('##[', '#\\x23[')
     return f'./{text}' if text.lstrip().startswith('::') else text
+
+
+def is_folder_gone():
+    """Whether the current folder was removed, so that no name has a path."""
+    try:
+        os.getcwd()
+    except OSError:
+        return True
+    return False

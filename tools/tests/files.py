@@ -224,6 +224,10 @@ def patterns(room):
     for pattern, wanted in rows:
         same(found(pattern), wanted, pattern)
     same(found('*.js', 'a.js', 'a*'), ['-h.js', 'a.js'])
+    # (a pipe that nobody writes to would be waited for)
+    os.mkfifo(room.path('pipe.js'))
+    os.symlink('/dev/zero', room.path('zero.js'))
+    same(found('*.js', '**/z*.js'), ['-h.js', 'a.js', 'src/z.js'])
     same(files(room, 'loop')[1], 'loop:1:1: read failed: links in a circle\n')
     same(files(room, 'src/y.js')[1], 'src/y.js:1:1: read failed: missing\n')
 

@@ -76,7 +76,7 @@ def pages_shown(room):
             _, out, err = room.run([program, *words, f'{TOP}/share/man/man1/{page}'], status=0, GROFF_NO_SGR='1')
             same(err, '', f'{program} {page}')
             text = re.sub('.\b', '', out)
-            is_well('SEE ALSO' in text and (page != 'jslint.1' or re.search(r'^ +E21 +flags of a', text, re.M)), f'{program} {page}: {text[-2000:]}')
+            is_well('SEE ALSO' in text and (page != 'jslint.1' or re.search(r'^ +E21 +flags +of +a', text, re.M)), f'{program} {page}: {text[-2000:]}')
 
 
 def built(room):

@@ -1,5 +1,5 @@
-"""The language server of packages/npm: its own tests, the words that it takes out of the documents, the folder for VS Code, and Neovim and Emacs without
-a screen, set up as docs/EDITORS.md says.
+"""The language server of packages/npm: its own tests, the words that it takes out of the documents, the folder for VS Code, what docs/EDITORS.md says of
+installing it and of other editors' settings, and Neovim and Emacs without a screen, set up as it says; Vim with the recipes of docs/USAGE.md.
 
 Each test is a function that raises where something is wrong, and libraries.Skipped where it can't be tried. Its argument is a room: a folder of its own.
 """
@@ -11,6 +11,8 @@ import shutil
 import subprocess
 
 import libraries
+import recipes
+from debian import server_answers
 from libraries import PACKAGES, TOP, Skipped, ran
 from recipes import is_well, same
 
@@ -50,7 +52,7 @@ def server_session(room):
 
 def server_hostile(room):
     """Nonsense, clients that break off, large texts, full devices, signals, odd files."""
-    is_well(node_tests(room, 'hostile') >= 16)
+    is_well(node_tests(room, 'hostile') >= 18)
 
 
 # ---- the words of the documents
@@ -91,9 +93,9 @@ def texts(room):
 # ---- VS Code
 
 def vscode(_):
-    """Its folder, which isn't tried: settings and commands are those of the server, the schema has the rules, and what the extension requires is named."""
+    """Its folder, which isn't tried: settings and commands are those of the server, and what the extension requires is named or put there."""
     folder = f'{PACKAGES}/vscode'
-    package, schema = (json.loads(text_of(f'{folder}/{it}')) for it in ('package.json', 'jslint-toml.schema.json'))
+    package = json.loads(text_of(f'{folder}/package.json'))
     options = re.search(r'^const OPTIONS = \{\n(.*?)^\};', text_of(f'{PACKAGES}/npm/lib/editor.mjs'), re.M | re.S)[1]
     properties = package['contributes']['configuration']['properties']
     wanted = {f'jslint.{name}': json.loads(value.replace("'", '"')) for name, value in re.findall(r'^  (\w+): \[(\[.*?\]|[^,]*), ', options, re.M)}
@@ -101,12 +103,67 @@ def vscode(_):
     page = text_of(f'{TOP}/docs/EDITORS.md')
     is_well(len(wanted) == 7 and all(f'| `{name.split(".")[1]}` | ' in page for name in wanted), wanted)
     same(package['version'], json.loads(text_of(f'{PACKAGES}/npm/package.json'))['version'])
-    same(sorted(schema['properties']['rules']['properties']), sorted(re.findall(r'^\| \[([\w-]+)\]', text_of(f'{TOP}/docs/rules/README.md'), re.M)))
-    same(sorted(schema['properties']), sorted(re.findall(r'^\| `([\w-]+)` \| (?:an array|a table|`true`)', text_of(f'{TOP}/docs/rules/README.md'), re.M)))
+    copied = re.fullmatch(r'cp (\S+/([\w.]+)) \.', package['scripts']['vscode:prepublish'])
+    is_well(os.path.isfile(f'{folder}/{copied[1]}') and package['contributes']['tomlValidation'] == [{'fileMatch': 'jslint.toml', 'url': f'./{copied[2]}'}], package)
     code = text_of(f'{folder}/extension.js')
     same(set(re.findall(r"require\('([\w-]+)", code)), {'node', 'vscode', *package['dependencies']})
     libraries.node()
     ran([libraries.node(), '--check', f'{folder}/extension.js'])
+
+
+# ---- installing it
+
+def copy_of_package(room):
+    """What docs/USAGE.md and docs/EDITORS.md need of the repository to make the package, in a copy."""
+    for it in ('packages/npm', 'docs'):
+        left = shutil.ignore_patterns('jslint.wasm', 'texts.json', 'LICENSE-*', '*.tgz', 'node_modules')
+        shutil.copytree(f'{TOP}/{it}', f'{room.folder}/top/{it}', ignore=left)
+    for it in ('LICENSE-APACHE', 'LICENSE-MIT'):
+        shutil.copy(f'{TOP}/{it}', f'{room.folder}/top/{it}')
+    os.makedirs(f'{room.folder}/top/release/wasm')
+    shutil.copy(libraries.library('wasm/jslint.wasm'), f'{room.folder}/top/release/wasm/jslint.wasm')
+
+
+def indented(page, heading):
+    """The lines of the first indented block below a heading."""
+    return re.search(r'(?:^    .*\n)+', text_of(f'{TOP}/docs/{page}').partition(f'\n## {heading}\n')[2], re.M)[0].replace('    ', '').splitlines()
+
+
+def installed(room):
+    """As docs/EDITORS.md says: by npm, and from the folder alone; so does docs/USAGE.md where the program doesn't run."""
+    libraries.node()
+    libraries.tool('npm')
+    copy_of_package(room)
+    how = {'PATH': f'{room.folder}/npm/bin:{os.environ["PATH"]}', 'npm_config_prefix': f'{room.folder}/npm', 'npm_config_cache': f'{room.folder}/cache', 'npm_config_offline': 'true', 'npm_config_update_notifier': 'false'}
+    [line] = indented('EDITORS.md', 'Install it')
+    room.run(['sh', '-c', line], at='top', status=0, **how)
+    version = f'jslint-lsp {json.loads(text_of(f"{PACKAGES}/npm/package.json"))["version"]}\n'
+    same(room.run(['jslint-lsp', '--version'], **how), (0, version, ''))
+    server_answers(f'{room.folder}/npm/bin/jslint-lsp')
+    shutil.rmtree(f'{room.folder}/top')
+    copy_of_package(room)
+    room.put('top/a.js', '(a);\n')
+    first, second = indented('USAGE.md', 'Run it')
+    words = re.search(r'start `node \.\.\./(\S+) --stdio`', text_of(f'{TOP}/docs/EDITORS.md'))[1]
+    is_well(f'`{first}`' in text_of(f'{TOP}/docs/EDITORS.md'), first)
+    room.run(['sh', '-c', first], at='top', status=0, **how)
+    same(room.run(['sh', '-c', second.replace('FILE', 'a.js')], at='top', **how), (0, 'a;\n', ''))
+    server_answers(f'{room.folder}/top/{words}')
+
+
+def others(_):
+    """The settings of editors that weren't tried are at least what their files take, and name a command that the package has."""
+    page = text_of(f'{TOP}/docs/EDITORS.md').partition('\n## Others\n')[2].partition('\n## ')[0]
+    commands = json.loads(text_of(f'{PACKAGES}/npm/package.json'))['bin']
+    spans = re.findall(r'`([^`]+)`', page)
+    named = [it for each in spans for it in re.findall(r'"(?:command|cmd)": \[?"([\w-]+)"', each) + re.findall(r"'cmd': \['([\w-]+)'", each) + re.findall(r'^command = "([\w-]+)"', each)]
+    same((len(named), set(named) <= set(commands)), (4, True), named)
+    for each in spans:
+        if each.startswith('{'):
+            json.loads(each)
+        elif each.startswith('"'):
+            json.loads(f'{{{each}}}')
+    is_well(sum(it.startswith(('{', '"')) for it in spans) == 2, spans)
 
 
 # ---- editors
@@ -137,6 +194,29 @@ def neovim(room):
     ended_well(room, [editor, '--headless', '-u', f'{room.folder}/init.lua', '-S', f'{HERE}/nvim.lua', 'a.js'], env)
 
 
+def vim(room):
+    """The recipes of docs/USAGE.md in Vim, or in Neovim, which takes them too: what `:make` finds of a script and of several, and `:Unwrap`."""
+    editor = libraries.tool('vim', 'nvim')
+    how = ['--headless'] if editor.endswith('nvim') else ['-Nes']
+    said = 'call writefile(map(filter(getqflist(), "v:val.valid"), "bufname(v:val.bufnr) . \':\' . v:val.lnum . \':\' . v:val.col . \':\' . v:val.text"), "found")'
+    for name, text in [('src/a.js', recipes.WRONG), ('src/two words.js', recipes.REFUSED), ('ok.js', recipes.RIGHT)]:
+        room.put(name, text)
+
+    def call(number, *commands):
+        room.put('recipe.vim', recipes.block('Vim', 'vim', number))
+        words = ['source recipe.vim', *commands, 'quitall!']
+        room.run([editor, *how, '-u', 'NONE', '-i', 'NONE', *(it for word in words for it in ('-c', word))], status=0)
+        return room.text('found').splitlines()
+
+    reports = [it.replace(' ', ':', 1) for it in recipes.FOUND]
+    same(call(0, 'edit src/a.js', 'silent make!', said), [f'src/a.js:{it}' for it in reports])
+    same(call(0, r'edit src/two\ words.js', 'silent make!', said), ['src/two words.js:2:1:syntax error'])
+    same(call(0, 'edit ok.js', 'silent make!', said), [])
+    same(call(1, 'silent make! src/*.js', said), [f'src/a.js:{it}' for it in reports] + ['src/two words.js:2:1:syntax error'])
+    same(call(2, 'edit src/a.js', 'silent Unwrap', 'write! read', 'call writefile([g:said], "found")'), [''])
+    same([room.text('src/a.js'), room.text('read')], ['let x = 1;\n'] * 2)
+
+
 def emacs(room):
     """The same, but for hover, by eglot."""
     editor = libraries.tool('emacs')
@@ -149,4 +229,4 @@ def emacs(room):
     ended_well(room, [*words, '-l', f'{room.folder}/init.el', '-l', f'{HERE}/emacs.el', 'a.js'], env)
 
 
-TESTS = [server_units, server_session, server_hostile, texts, vscode, neovim, emacs]
+TESTS = [server_units, server_session, server_hostile, texts, vscode, installed, others, neovim, emacs, vim]

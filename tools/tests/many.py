@@ -121,7 +121,11 @@ def ignore_files(room):
     same(names_in(project(room, '--files-from', '-', given=b'x\na.js\n')[1]), ['x/f.js', 'x/keep.min.js', 'a.js'])
     same(project(room, '--files-from', '-', given=b''), (0, '', ''))
     same(files(room, 'x'), (2, 'x:1:1: read failed: a folder\n', ''))
-    for name, said in [('x/.gitignore', 'links in a circle'), ('x/.jslintignore', 'a folder')]:
+    room.put('.git/info/exclude', 'f.js\na.js\n')
+    room.put('x/.gitignore', '!f.js\n')
+    same(names_in(project(room)[1]), [it for it in all_of if it != 'a.js'])
+    room.run(['rm', '.git/info/exclude', 'x/.gitignore'], status=0)
+    for name, said in [('x/.gitignore', 'links in a circle'), ('x/.jslintignore', 'a folder'), ('.git/info/exclude', 'a folder')]:
         room.run(['rm', '-f', name], status=0)
         os.symlink('.gitignore', room.path(name)) if said != 'a folder' else os.mkdir(room.path(name))
         same(project(room), (2, '', f'jslint-files: {os.path.realpath(room.folder)}/{name}: read failed: {said}\n'))
@@ -260,7 +264,31 @@ def words(room):
     ]
     for text, said in rows:
         same(files(room, *text.split(' ')), (2, '', f'jslint-files: {said}\n'), text)
+    odd, shown_ = 'x\udcff\n\u202e', 'x\\xff\\x0a\\u{202e}'
+    rows = [
+        ([f'--{odd}'], f'--{shown_} is no option; a file of that name stands behind --'), (['--settings', odd, 'a.js'], f'{shown_}: read failed: missing'), (['--files-from', odd], f'{shown_}: read failed: missing'),
+        (['--format', odd, 'a.js'], '--format is unix, pretty, json, sarif, junit or github'), (['--jobs', '\u0663', 'a.js'], '--jobs takes a number from 1 to 9999'), (['--max-warnings', '1\n', 'a.js'], '--max-warnings takes a number'),
+        (['--settings', '', 'a.js'], ': read failed: missing'), (['--settings', 'a' * 300, 'a.js'], f'{"a" * 300}: read failed'),
+    ]
+    for given, said in rows:
+        same(files(room, *given), (2, '', f'jslint-files: {said}\n'), given)
+    is_well(files(room, '--explain', odd)[2].startswith(f'jslint-files: {shown_} is no rule'))
+    same(files(room, '', 'a' * 300, odd), (2, f':1:1: read failed: missing\n{"a" * 300}:1:1: read failed\n{shown_}:1:1: read failed: missing\n', ''))
     same((room.text('a.js'), room.names()), (WRONG, ['a.js']))
+
+
+def gone_folder(room):
+    """The current folder was removed: that is said, and what needs none is done."""
+    put(room, ['else/a.js'])
+    gone = (2, '', 'jslint-files: the current folder is gone\n')
+    rows = [
+        ('--project', gone), ('--project .', gone), ('unwrap --write --project', gone), ('unwrap --write a.js', gone), ('--stdin a.js --project', gone), ('--format json a.js', gone), ('a.js', (2, 'a.js:1:1: read failed: missing\n', '')),
+        ("'**/*.js'", (2, '**/*.js:1:1: read failed: missing\n', '')), ('--settings s.toml a.js', (2, '', 'jslint-files: s.toml: read failed: missing\n')), ('--stdin a.js', (1, f'a.js:{FOUND_BUG}', '')), ('unwrap --stdin a.js', (0, BUG, '')),
+        ('fix --stdin a.js', (0, BUG, '')), (f'{room.folder}/else/a.js', (1, f'{room.folder}/else/a.js:{FOUND_BUG}', '')), (f'--project {room.folder}/else', (1, f'{room.folder}/else/a.js:{FOUND_BUG}', '')),
+    ]
+    for text, wanted in rows:
+        os.makedirs(room.path('gone'))
+        same(room.sh(f'cd gone && rmdir ../gone && printf "{BUG}" | jslint-files {text}', TMPDIR='/tmp'), wanted, text)
 
 
 def streams(room):
@@ -664,6 +692,6 @@ def works(process):
 
 
 TESTS = [
-    settings_nearest, settings_refused, ignore_files, ignore_as_git, no_pattern_takes_long, odd_folders, unpermitted, recipe, standard_input, words, streams, long_files, form_pretty, progress, form_junit,
+    settings_nearest, settings_refused, ignore_files, ignore_as_git, no_pattern_takes_long, odd_folders, unpermitted, recipe, standard_input, words, gone_folder, streams, long_files, form_pretty, progress, form_junit,
     form_json_ends, form_sarif, sarif_check, hint_rows, hint_time, unsupported, suppressions, counts, explained, library_and_program, which_library, no_build, shared_library, too_long_for_memory, interrupted,
 ]

@@ -119,6 +119,18 @@ def examples(room):
     examples_of(PAGE, room)
 
 
+# The languages of the code blocks of each recipe, all of which a test tries: here, in many.py, or in language_server.py (Vim).
+TRIED = {
+    'Standard input': ['sh'], 'In place': ['sh'], 'A folder': ['sh'], 'Many files': ['', 'sh', '', '', 'sh'], 'A project': ['sh'], 'A git hook': ['sh', 'sh'], 'make': ['make'],
+    'GitHub Actions': ['yaml'], 'Vim': ['vim', 'vim', 'vim'], 'Emacs': [], 'VS Code': ['json'],
+}
+
+
+def each_is_tried(_):
+    """A recipe that comes anew needs a test, and its place above."""
+    same({it: [language for language, _ in blocks(it)] for it in re.findall('^### (.*)$', PAGE.partition('\n## Recipes\n')[2], re.M)}, TRIED)
+
+
 def readme_examples(room):
     os.symlink(f'{BIN}/jslint', room.path('jslint'))
     with open(f'{TOP}/README.md', encoding='utf-8') as file:
@@ -568,11 +580,11 @@ def pages(room):
         COMP_WORDS=(jslint-files unw) COMP_CWORD=1; _jslint_files; echo "${{COMPREPLY[*]}}"
         COMP_WORDS=(jslint-files unwrap --) COMP_CWORD=2; _jslint_files; echo "${{COMPREPLY[*]}}"'''
     if shutil.which('bash'):
-        wanted = 'verify\n--settings\nunwrap\ngithub\nunwrap\n--write --diff --project --stdin --hints --unsupported --summary --jobs --files-from --help --version --\n'
+        wanted = 'verify\n--settings --spans\nunwrap\ngithub\nunwrap\n--write --diff --project --stdin --hints --unsupported --summary --jobs --files-from --help --version --\n'
         same(room.run(['bash', '-c', completed])[1:], (wanted, ''))
 
 
 TESTS = [
-    examples, readme_examples, settings_example, standard_input, in_place, in_place_endings, with_cr, folder, many_files, redirections, statuses, rewritten, rewritten_odd,
+    examples, readme_examples, each_is_tried, settings_example, standard_input, in_place, in_place_endings, with_cr, folder, many_files, redirections, statuses, rewritten, rewritten_odd,
     gone, forged_names, shown_progress, git_hook, git_rewritten, make, github, editors, editors_rewrite, pages,
 ]

@@ -5,8 +5,8 @@ import { unread } from '../bin/streams.mjs';
 import { isIgnored, patternsOf, verdict } from './ignore.mjs';
 
 export const SETTINGS = 'jslint.toml';
-// (what the first says goes before what the second says)
-export const IGNORES = ['.jslintignore', '.gitignore'];
+// (what the first says goes before what the second says; the third is in the top folder of a repository alone)
+export const IGNORES = ['.jslintignore', '.gitignore', '.git/info/exclude'];
 // The commands take no longer text.
 export const MOST_BYTES = 16777216;
 // Folders that nobody has checked.

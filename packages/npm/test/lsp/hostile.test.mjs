@@ -1,7 +1,7 @@
 // Whatever an editor, a file system or a stranger's text does, the server answers or ends, and makes nothing up.
 import assert from 'node:assert/strict';
 import { spawn, spawnSync } from 'node:child_process';
-import { chmodSync, closeSync, mkdirSync, mkdtempSync, openSync, readFileSync, rmSync, symlinkSync, writeFileSync } from 'node:fs';
+import { chmodSync, closeSync, cpSync, mkdirSync, mkdtempSync, openSync, readFileSync, rmSync, symlinkSync, writeFileSync } from 'node:fs';
 import { tmpdir } from 'node:os';
 import path from 'node:path';
 import { test } from 'node:test';
@@ -134,6 +134,12 @@ test('a text above the limit is refused', () => withClient(async (client) => {
   assert.deepEqual([it.code, it.message], ['long', 'longer than 16777216 bytes']);
 }, { words: [] }));
 
+test('a text of 100 MB is refused, and what follows is answered', () => withClient(async (client) => {
+  const [it] = await client.open('file:///big/d.js', ' '.repeat(100_000_000));
+  assert.deepEqual([it.code, it.message], ['long', 'longer than 16777216 bytes']);
+  assert.deepEqual(codes(await client.open('file:///big/e.js', 'debugger;')), ['no-debugger']);
+}, { words: [] }));
+
 test('a slow check is told as progress, where the editor takes it', () => withClient(async (client) => {
   const uri = 'file:///slow/a.js', ended = client.message((it) => it.method === '$/progress' && it.params.value.kind === 'end');
   client.notify('textDocument/didOpen', { textDocument: { uri, languageId: 'javascript', version: 1, text: 'f((a), b == c);\n'.repeat(30000) } });
@@ -177,6 +183,17 @@ async function statusWith(stdio, input) {
   clearTimeout(timer);
   return status;
 }
+
+test('words that make no sense, help, the version, and a package that is not whole', () => inFolder({}, async (folder) => {
+  const call = (bin, ...words) => { const it = spawnSync(process.execPath, [bin, ...words], { input: '', encoding: 'utf8' }); return [it.status, it.stdout, it.stderr]; };
+  const [status, usage] = call(BIN, '--help');
+  assert.ok(status === 0 && usage.startsWith('usage: jslint-lsp [--stdio]\n'));
+  for (const words of [['--nope'], ['a.js'], ['--stdio', 'x'], ['--clientProcessId=x'], [''], ['--', '--stdio']]) assert.deepEqual(call(BIN, ...words), [2, '', usage], words);
+  assert.match(call(BIN, '--stdio', '--version')[1], /^jslint-lsp \d+\.\d+\.\d+\n$/);
+  for (const name of ['bin', 'lib']) cpSync(path.join(path.dirname(BIN), '..', name), path.join(folder, name), { recursive: true });
+  const said = 'jslint-lsp: jslint.wasm or lib/texts.json is missing: in the repository `node packages/npm/prepack.mjs` puts them here\n';
+  for (const words of [['--stdio'], ['--version']]) assert.deepEqual(call(path.join(folder, 'bin/jslint-lsp.mjs'), ...words), [2, '', said]);
+}));
 
 test('full devices and closed streams: the server ends with status 1', async () => {
   const full = openSync('/dev/full', 'w');
@@ -224,6 +241,8 @@ test('odd names, links in a circle, and what is no file', () => inFolder({
 }, async (folder, uriOf) => {
   for (const [link, to] of [['circle.js', 'circle.js'], ['a', 'b'], ['b', 'a'], ['sub/up', '..'], ['linked.js', 'sub/x.js'], ['gone.js', 'none']]) symlinkSync(to, path.join(folder, link));
   writeFileSync(Buffer.concat([Buffer.from(`${folder}/latin`), Buffer.from([0xe9]), Buffer.from('.js')]), '(a);');
+  // (which would be waited for)
+  spawnSync('mkfifo', [path.join(folder, 'pipe.js')]);
   await withClient(async (client) => {
     const result = await checkWorkspace(client), shown = shownOf(client);
     assert.deepEqual(result, { files: 7, withReports: 7 });

@@ -274,7 +274,7 @@ test('what the editor is asked to watch', async () => {
     await client.open(uriOf('w.js'), '1;');
     const [asked] = client.heard.filter((it) => it.method === 'client/registerCapability');
     assert.deepEqual(asked.params.registrations.map((it) => [it.method, it.registerOptions.section ?? it.registerOptions.watchers.map((each) => each.globPattern)]), [
-      ['workspace/didChangeWatchedFiles', ['**/jslint.toml', '**/.jslintignore', '**/.gitignore']], ['workspace/didChangeConfiguration', 'jslint'],
+      ['workspace/didChangeWatchedFiles', ['**/jslint.toml', '**/.jslintignore', '**/.gitignore', '**/.git/info/exclude']], ['workspace/didChangeConfiguration', 'jslint'],
     ]);
     const found = client.diagnostics(uriOf('w.js'), (it) => it.diagnostics.length === 1);
     client.notify('workspace/didChangeConfiguration', { settings: { jslint: { settings: null } } });

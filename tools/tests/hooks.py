@@ -1,0 +1,160 @@
+"""What pre-commit and GitHub take from the top of the repository: `.pre-commit-hooks.yaml`, by pre-commit itself where it is here, and `action.yml`, whose
+script runs as GitHub's runner has it run.
+
+Each test is a function that raises where something is wrong, and libraries.Skipped where it can't be tried. Its argument is a room: a folder of its own.
+"""
+import json
+import os
+import re
+import shlex
+import shutil
+
+import recipes
+import sarif
+from libraries import tool
+from recipes import FOUND, KEPT, REFUSED, RIGHT, TOP, UNWRAPPED, WRONG, is_well, same
+
+HOOKS, ACTION = '.pre-commit-hooks.yaml', 'action.yml'
+MODULE = 'export {};\n'
+PERHAPS = "syntax error (perhaps: 'export' makes this a module, and only scripts are read)"
+# What a hook takes from its repository. JSLINT names the program, so that no launcher is asked.
+TAKEN = [HOOKS, 'tools/jslint-files', 'tools/jslint_files', 'packages/npm/lib/hints.json']
+
+
+def text_of(name):
+    with open(f'{TOP}/{name}', encoding='utf-8') as file:
+        return file.read()
+
+
+def hooks():
+    """The hooks by their ids."""
+    found = []
+    for begins, key, value in re.findall(r"^(- |  )(\w+): '?(.*?)'?$", text_of(HOOKS), re.M):
+        if begins == '- ':
+            found.append({})
+        found[-1][key] = value
+    return {it['id']: it for it in found}
+
+
+def words_of(hook, args=None):
+    """The words with which pre-commit calls a hook of this repository, before the names."""
+    program, *more = shlex.split(hook['entry'])
+    return [f'{TOP}/{program}', *more, *(re.findall(r'[^\s,]+', hook['args'][1:-1]) if args is None else args)]
+
+
+def program():
+    return {'JSLINT': f'{recipes.BIN}/jslint', 'JSLINT_LIBRARY': ''}
+
+
+def hook_words(room):
+    """Each hook with the names that it is for, and no others; what a project writes as `args` takes the place of the hook's."""
+    found = hooks()
+    same(sorted(found), ['jslint', 'jslint-unwrap'])
+    for it in found.values():
+        wanted = {'language': 'script', 'types': '[file]', 'exclude_types': '[symlink]', 'args': '[--]', 'require_serial': 'true'}
+        same({key: it.get(key) for key in wanted}, wanted)
+        is_well(os.access(f'{TOP}/{shlex.split(it["entry"])[0]}', os.X_OK), it)
+        same([bool(re.search(it['files'], name)) for name in ('a.js', 'b/c.js', '-h.js', 'a.mjs', 'a.jsx', 'a.js.txt', 'js')], [True] * 3 + [False] * 4)
+    room.put('jslint.toml', '[rules]\nno-unused-vars = false\n')
+    os.makedirs(room.path('.git'))
+    names = ['-h.js', 'b.js', 'check']
+    for it in names:
+        room.put(it, KEPT)
+    room.put('m.js', MODULE)
+    call = lambda name, *names_, args=None: room.run([*words_of(found[name], args), *names_], **program())
+    said = ''.join(f'{it}:2:5: prefer-const \'x\' is never reassigned\n{it}:2:9: no-extra-parens unnecessary parentheses\n' for it in names)
+    same(call('jslint', *names, 'm.js'), (2, f'{said}m.js:1:1: syntax error\n', ''))
+    # (as the comment at the head of the file says)
+    args = re.findall(r'[^\s,]+', re.search(r'`args: \[(.*?)\]`', text_of(HOOKS))[1])
+    same(call('jslint', 'm.js', args=args), (0, f'm.js:1:1: note: {PERHAPS}\n', ''))
+    same(call('jslint-unwrap', *names), (0, '', ''))
+    same([room.text(it) for it in names], [UNWRAPPED] * 3)
+    same(call('jslint-unwrap', 'm.js'), (2, '', 'm.js:1:1: syntax error\n'))
+
+
+def by_pre_commit(room):
+    """pre-commit runs both hooks from a clone: what is staged counts, links and other files are left out, and a script that was rewritten fails."""
+    asked = tool('pre-commit')
+    for it in TAKEN:
+        os.makedirs(os.path.dirname(f'{room.folder}/hooks/{it}'), exist_ok=True)
+        (shutil.copytree if os.path.isdir(f'{TOP}/{it}') else shutil.copy)(f'{TOP}/{it}', f'{room.folder}/hooks/{it}')
+    git = lambda *words, at='project', status=0: room.run(['git', *words], at=at, status=status)
+    git('init', '-q', at='hooks')
+    git('add', '.', at='hooks')
+    git('commit', '-q', '-m', 'hooks', at='hooks')
+    tag = git('rev-parse', 'HEAD', at='hooks')[1].strip()
+    for name, text in [('a.js', KEPT), ('-h.js', WRONG), ('two words.js', WRONG), ('b.mjs', WRONG), ('jslint.toml', '[rules]\nno-unused-vars = false\nprefer-const = false\n')]:
+        room.put(f'project/{name}', text)
+    room.put('project/.pre-commit-config.yaml', f'repos:\n- repo: {room.folder}/hooks\n  rev: {tag}\n  hooks:\n  - id: jslint\n  - id: jslint-unwrap\n')
+    git('init', '-q')
+    os.symlink('a.js', room.path('project/link.js'))
+    git('add', '.')
+    how = {'PRE_COMMIT_HOME': f'{room.folder}/cache', **program()}
+    call = lambda *words: room.run([asked, 'run', '--color', 'never', '--verbose', *words], at='project', **how)
+    status, out, _ = call('jslint')
+    is_well(status == 1, out)
+    same(sorted(it for it in out.splitlines() if '.js:' in it), sorted(f'{it}: no-extra-parens unnecessary parentheses' for it in ('-h.js:1:9', 'a.js:2:9', 'two words.js:1:9')))
+    status, out, _ = call('jslint-unwrap')
+    is_well(status == 1 and 'files were modified by this hook' in out, out)
+    same([room.text(f'project/{it}') for it in ('a.js', '-h.js', 'two words.js', 'b.mjs')], [UNWRAPPED, 'let x = 1;\n', 'let x = 1;\n', WRONG])
+    git('add', '.')
+    same([call()[0], call('--all-files')[0]], [0, 0])
+    room.put('project/bad.js', REFUSED)
+    git('add', 'bad.js')
+    status, out, _ = call()
+    is_well(status == 1 and out.count('bad.js:2:1: syntax error\n') == 2, out)
+
+
+def action():
+    """The script of the action, and its inputs with what they are without a word."""
+    text = text_of(ACTION)
+    script = re.search(r'^( +)run: \|\n((?:\1  .*\n|\n)+)', text, re.M)
+    inputs = dict(re.findall(r"^  (\w+):\n    description: .*\n    default: '?(.*?)'?$", text, re.M))
+    passed = dict(re.findall(r'^ +([A-Z]+): \$\{\{ inputs\.(\w+) \}\}$', text, re.M))
+    same(sorted(passed.values()), sorted(inputs))
+    # (no input may stand in the script itself, where a shell would read it)
+    is_well('${{' not in script[2] and re.search(r'^ +(?:- )?shell: bash$', text, re.M), 'an input in the script')
+    return re.sub(rf'^{script[1]}  ', '', script[2], flags=re.M), {name: inputs[it] for name, it in passed.items()}
+
+
+def action_script(room):
+    """It checks what git has, shows what is wrong as notes, and writes SARIF beside that; its inputs are no commands."""
+    bash = tool('bash')
+    text, given = action()
+    room.put('script', text)
+    room.git('init', '-q')
+    for name, content in [('a.js', KEPT), ('sub/-h.js', WRONG), ('ok.js', RIGHT), ('m.mjs', MODULE), ('sub/jslint.toml', '[rules]\nprefer-const = false\n'), ('none.toml', '[rules]\nno-unused-vars = false\n')]:
+        room.put(name, content)
+    room.git('add', '.')
+    room.put('untracked.js', WRONG)
+
+    def call(at='.', **inputs):
+        env = {**given, **inputs, 'GITHUB_ACTION_PATH': TOP, **program()}
+        return room.run([bash, '--noprofile', '--norc', '-eo', 'pipefail', os.path.relpath(room.path('script').decode(), room.path(at).decode())], at=at, **env)
+
+    note = lambda name, line, it: f'::error file={name},line={line},col={it.split(" ")[0].split(":")[1]},title={it.split(" ")[1]}::{it.split(" ", 2)[2]}\n'
+    both = [''.join(note('a.js', 2, it) for it in FOUND), ''.join(note('sub/-h.js', 1, it) for it in FOUND if 'prefer' not in it)]
+    same(call(), (1, ''.join(both), ''))
+    same(call(FILES='sub/*.js\n\n  \nok.js\n'), (1, both[1], ''))
+    same(call(FILES='ok.js'), (0, '', ''))
+    same(call(FILES='no such file'), (0, '', ''))
+    same(call(FILES=' \n'), (2, '::error title=jslint::the input files names no pattern\n', ''))
+    same(call(FILES='*.mjs'), (2, f'::error file=m.mjs,line=1,col=1,title=jslint::{PERHAPS}\n', ''))
+    same(call(FILES='*.mjs', UNSUPPORTED='note'), (0, f'::notice file=m.mjs,line=1,col=1,title=jslint::{PERHAPS}\n', ''))
+    same(call(FILES='*.mjs', UNSUPPORTED=''), (2, '', 'jslint-files: --unsupported is error or note\n'))
+    same(call(SETTINGS='none.toml')[1].count('prefer-const'), 2)
+    same(call(SETTINGS='none'), (2, '', 'jslint-files: none: read failed: missing\n'))
+    for it in ('$(touch made)', '`touch made`', '"; touch made; "', '--help'):
+        call(FILES=it, SETTINGS=it, UNSUPPORTED=it, SARIF=f'out {it}'.replace('/', ''))
+        is_well('made' not in room.names(), it)
+    same(call(SARIF='out.sarif'), (1, ''.join(both), ''))
+    found = json.loads(room.text('out.sarif'))
+    same((sarif.faults(found), len(found['runs'][0]['results'])), ([], 5))
+    same(call(FILES='ok.js', SARIF='/dev/full'), (2, '', 'jslint-files: write failed\n'))
+    is_well(call(FILES='ok.js', SARIF='none/out.sarif')[0], 'a folder that is missing')
+    room.run(['mv', '.git', 'elsewhere'], status=0)
+    status, out, err = call()
+    is_well(status and not out and 'not a git repository' in err, f'{status} {out} {err}')
+
+
+TESTS = [hook_words, by_pre_commit, action_script]

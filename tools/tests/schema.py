@@ -1,0 +1,130 @@
+"""The schema of the settings, by which editors complete and check `jslint.toml`: it takes just what the program takes.
+
+Each test is a function that raises where something is wrong, and libraries.Skipped where it can't be tried. Its argument is a room: a folder of its own.
+"""
+import json
+import os
+import random
+import re
+
+import recipes
+from libraries import Skipped
+from recipes import TOP, is_well, same
+
+PLACE = 'share/jslint/jslint.schema.json'
+# What a schema says to people alone.
+WORDS = {'$schema', 'title', 'description', 'default'}
+TYPES = {'object': dict, 'array': list, 'string': str, 'boolean': bool}
+# Values of each kind that TOML has, but for dates.
+VALUES = [True, False, 0, 1, -1.5, '', 'a', 'true', 'off', [], [''], ['a'], ['a', 'a'], ['a b', 'é"\\\n'], [1], [True], ['a', 1], [[]], {}, {'a': True}]
+# Keys that others' settings have.
+FOREIGN = ['', 'extends', 'env', '$schema', 'plugins', 'ignore', 'include', 'overrides', 'parserOptions', 'severity', 'global', 'semi']
+
+
+def schema():
+    with open(f'{TOP}/{PLACE}', encoding='utf-8') as file:
+        return json.load(file)
+
+
+def is_valid(it, value):
+    """Whether a schema of these few words takes a value. With another word in it, it is to be said here what that means."""
+    unknown = set(it) - WORDS - {'type', 'enum', 'items', 'properties', 'additionalProperties'}
+    is_well(not unknown and it.get('additionalProperties', False) is False, unknown)
+    if 'type' in it and type(value) is not TYPES[it['type']] or 'enum' in it and value not in it['enum']:
+        return False
+    if isinstance(value, list):
+        return all(is_valid(it.get('items', {}), each) for each in value)
+    if isinstance(value, dict):
+        return all(key in it['properties'] and is_valid(it['properties'][key], each) for key, each in value.items())
+    return True
+
+
+def samples(it):
+    """Values that a schema takes, of each form that it names."""
+    if 'enum' in it:
+        return it['enum']
+    if it['type'] == 'array':
+        each = samples(it['items'])
+        return [[], *([one] for one in each), each, each[:1] * 2]
+    if it['type'] == 'object':
+        keys = it['properties']
+        return [{}, *({key: one} for key in keys for one in samples(keys[key])), {key: samples(keys[key])[-1] for key in keys}]
+    return [True, False] if it['type'] == 'boolean' else ['', 'a', 'two words', 'é"\\\n\U0001f600']
+
+
+def beside(keys):
+    """Keys that are nearly of a list."""
+    changes = [str.upper, str.title, lambda it: it + 's', lambda it: it[:-1], lambda it: it.replace('-', '_'), lambda it: it.replace('-', ''), lambda it: f' {it}', lambda it: f'{it}\0']
+    return {change(it) for it in keys for change in changes} | {*FOREIGN, 'é'}
+
+
+def toml(value):
+    if isinstance(value, dict):
+        return '{' + ', '.join(f'{toml(key)} = {toml(each)}' for key, each in value.items()) + '}'
+    return '[' + ', '.join(map(toml, value)) + ']' if isinstance(value, list) else json.dumps(value, ensure_ascii=False)
+
+
+def text_of(settings):
+    return ''.join(f'{toml(key)} = {toml(value)}\n' for key, value in settings.items())
+
+
+def all_settings(it):
+    """Settings that are tried: of each key each value, keys that are nearly one, and some of all that at random."""
+    keys, rules = it['properties'], it['properties']['rules']['properties']
+    found = samples(it)
+    found += [{key: value} for key in keys for value in VALUES]
+    found += [{key: True} for key in beside(keys)] + [{'rules': {key: True}} for key in beside(rules)] + [{'rules': {key: value}} for key in rules for value in VALUES]
+    chance, some = random.Random(5), [*found]
+    for _ in range(200):
+        found.append({key: value for each in chance.sample(some, 3) for key, value in each.items()})
+    return found
+
+
+def by_program(room, settings):
+    """Whether the program takes settings."""
+    room.put('s.toml', text_of(settings))
+    status, out, err = room.run(['jslint', 'check', '--settings', 's.toml', 'a.js'])
+    is_well((status, out, err) in [(0, '', ''), (2, '', 'jslint: bad settings\n')], f'{settings} {status} {out} {err}')
+    return status == 0
+
+
+def as_program(room):
+    """It takes just what the program takes; each key and rule of the documents is in it; `make install` puts it where docs/EDITORS.md says."""
+    room.put('a.js', '')
+    it = schema()
+    verdicts = [(is_valid(it, each), each) for each in all_settings(it)]
+    same([each for is_taken, each in verdicts if by_program(room, each) != is_taken], [])
+    counts = [sum(is_taken is wish for is_taken, _ in verdicts) for wish in (True, False)]
+    is_well(min(counts) > 50, counts)
+    with open(f'{TOP}/docs/rules/README.md', encoding='utf-8') as file:
+        page = file.read()
+    same(sorted(it['properties']['rules']['properties']), sorted(re.findall(r'^\| \[([\w-]+)\]', page, re.M)))
+    same(sorted(it['properties']), sorted(re.findall(r'^\| `([\w-]+)` \| (?:an array|a table|`true`)', page, re.M)))
+    with open(f'{os.path.dirname(recipes.BIN)}/{PLACE}', encoding='utf-8') as file:
+        same(json.load(file), it)
+
+
+def by_validator(_):
+    """It is a schema, and a validator of others takes what is taken here."""
+    try:
+        import jsonschema
+    except ImportError:
+        raise Skipped('there is no python3-jsonschema here') from None
+    it = schema()
+    jsonschema.Draft7Validator.check_schema(it)
+    validator = jsonschema.Draft7Validator(it)
+    same([each for each in all_settings(it) if validator.is_valid(each) != is_valid(it, each)], [])
+
+
+def words(_):
+    """Each key has a description and a default, which it takes itself; those of the rules are the words that `jslint-files` has for them."""
+    it = schema()
+    rules = it['properties'].pop('rules')['properties']
+    keys = [*it['properties'].items(), *rules.items()]
+    same([key for key, each in keys if not each.get('description') or 'default' not in each or not is_valid(each, each['default'])], [])
+    recipes.sys.path.insert(0, f'{TOP}/tools')
+    from jslint_files.rules import RULES
+    same({key: each['description'] for key, each in rules.items()}, RULES)
+
+
+TESTS = [as_program, by_validator, words]
