@@ -1,18 +1,10 @@
 -- The environments that settings name, and the global names of each.
-use Rattle.std.specs.Prelude.{ℕ, Bool, true, false, not, cond, ◌&&◌, ◌||◌, List, [], ◌∷◌, Option, Some, None}
-use Rattle.std.specs.Cmp.Lexicographic.{slice_cmp}
-use Rattle.std.specs.Ordering.{is_lt, nat_cmp}
+use Rattle.std.specs.Prelude.{ℕ, Bool, true, false, cond, ◌&&◌, ◌||◌, List, Option, Some, None}
 use Rattle.language.specs.Vocabulary.{is}
 use Rattle.rules.specs.declared.environment.Environment.{Environment}
 use Rattle.rules.specs.declared.environment.Environment.TheVariants.{Browser, Node, CommonJs, Worker, Es2022, Mocha, Jest}
 use Rattle.rules.specs.declared.environment.Environments.{Environments}
 use Rattle.rules.specs.EnvironmentNames.{is_commonjs_name, is_device_interface, is_document_interface, is_es2022_name, is_event_handler, is_html_interface, is_jest_name, is_mocha_name, is_node_name, is_shared_interface, is_shared_member, is_svg_interface, is_window_member, is_worker_member}
-
--- no text stands behind a greater one
-abbrev pub is_sorted : List (List ℕ) → Bool
-is_sorted [] = true
-is_sorted (x ∷ []) = true
-is_sorted (x ∷ y ∷ rest) = not (is_lt (slice_cmp nat_cmp y x)) && is_sorted (y ∷ rest)
 
 abbrev pub environment_of : List ℕ → Option Environment
 environment_of text =

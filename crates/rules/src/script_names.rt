@@ -96,11 +96,7 @@ pub(crate) fn is_node_name(name: &str) -> bool
 }
 
 /// What a module of CommonJS has (Modules/1.1.1).
-static COMMONJS_NAMES: [&str; 3] = [
-    "exports",
-    "module",
-    "require",
-];
+static COMMONJS_NAMES: [&str; 3] = ["exports", "module", "require"];
 
 /// Whether the name is one that modules of CommonJS have.
 pub(crate) fn is_commonjs_name(name: &str) -> bool
