@@ -86,13 +86,22 @@ function main() {
     for (let k = 0; k < n; k++) { made.push(scopeScript(random)); if (k % 3 === 0) made.push(makeScript(random)); }
     texts.push(...withAdditions(random, made));
   }
-  const count = { texts: 0, scopes: 0, bindings: 0, references: 0, bound: 0, reports: {} };
+  const count = { names: 0, texts: 0, scopes: 0, bindings: 0, references: 0, bound: 0, reports: {} };
   let differ = 0;
   const show = Number(option('show', 10));
   const complain = (text, what, ours, theirs) => {
     differ += 1;
     if (differ <= show) console.log(`${what}: ${JSON.stringify(text)}\n  definitions ${JSON.stringify(ours)}\n  model       ${JSON.stringify(theirs)}`);
   };
+  if (withRules) {
+    const isGlobal = spec.fn('is_global', 'Settings', 'rules');
+    const names = [...new Set([...ENVIRONMENTS.values()].flatMap((it) => [...it]))];
+    for (const [environment, has] of ENVIRONMENTS) {
+      const settings = { off: null, globals: null, environments: flagsOf([environment]), allow_null: false, ignore_underscore: false };
+      for (const name of [...names, 'a', '', 'Windows', 'window ']) if (isGlobal(antt.bytes(name), settings) !== has.has(name)) complain(name, environment, !has.has(name), has.has(name));
+    }
+    count.names = names.length;
+  }
   for (const text of texts) {
     const answer = parseOnly(text);
     if (!answer.ok) continue;
