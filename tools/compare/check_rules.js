@@ -15,20 +15,26 @@ const { makeTexts, nested } = require('./parser.js');
 const { LIMITS, parse } = require('../model/parse.js');
 const { extraPairs, plan } = require('../model/plan.js');
 const { randomSource } = require('../model/random.js');
+const { ENVIRONMENTS } = require('../model/environments.js');
 const { RULE_NAMES, fromToml, runRules } = require('../model/rules.js');
 const { resolve } = require('../model/scopes.js');
 const { linesColumns, words } = require('./scripts.js');
 const { OWN, scopeScript } = require('../rows/scope_texts.js');
 
 
+// Names that some environment has; they stand for `b` in half of the texts.
+const NAMES = ['document', 'process', 'exports', 'importScripts', 'WeakRef', 'describe', 'expect', 'fetch'];
+const renamed = (source, text) => (source.below(2) ? text.replace(/\bb\b/g, source.pick(NAMES)) : text);
+
 // A settings file: mostly a right one.
 function settingsText(source) {
   const lines = [];
   const wrong = source.below(12);
   if (source.below(2)) lines.push(`globals = [${['a', 'b', 'zz', 'Math'].filter(() => source.below(2)).map((it) => JSON.stringify(it)).join(', ')}]`);
+  if (source.below(3) === 0) lines.push(`env = [${[...ENVIRONMENTS.keys()].filter(() => source.below(3) === 0).map((it) => JSON.stringify(it)).join(', ')}]`);
   if (source.below(2)) lines.push(`allow-null = ${source.below(2) === 1}`);
   if (source.below(2)) lines.push(`ignore-underscore = ${source.below(2) === 1}`);
-  if (wrong === 0) lines.push(source.pick(['rule = 1', 'allow-null = "yes"', 'globals = [1]', 'globals = ["a"', 'ignore-underscore = 1', 'x', 'allow-null = true\nallow-null = true']));
+  if (wrong === 0) lines.push(source.pick(['rule = 1', 'allow-null = "yes"', 'globals = [1]', 'globals = ["a"', 'env = ["x"]', 'env = "node"', 'ignore-underscore = 1', 'x', 'allow-null = true\nallow-null = true']));
   if (source.below(2)) {
     lines.push('[rules]');
     for (const name of RULE_NAMES) if (source.below(3) === 0) lines.push(`${name} = ${source.below(2) === 1}`);
@@ -61,7 +67,7 @@ function main() {
   const folder = fs.mkdtempSync(path.join(os.tmpdir(), 'rules-'));
   const file = path.join(folder, 'a.js'), second = path.join(folder, 'settings.toml');
   const counts = { reports: 0, clean: 0, refused: 0, apart: 0 };
-  for (const text of texts) {
+  for (const text of texts.map((it) => renamed(source, it))) {
     const settings = settingsText(source);
     fs.writeFileSync(file, text);
     fs.writeFileSync(second, settings);

@@ -16,6 +16,7 @@ const { makeScript } = require('../compare/early.js');
 const { parseOnly } = require('../model/parse.js');
 const { randomSource } = require('../model/random.js');
 const { resolve } = require('../model/scopes.js');
+const { ENVIRONMENTS } = require('../model/environments.js');
 const { RULE_NAMES, runRules } = require('../model/rules.js');
 const { runInBigStack } = require('../model/bigstack.js');
 const { scopeScript, OWN } = require('../rows/scope_texts.js');
@@ -59,8 +60,10 @@ const plainScopes = (all) => all.scopes.map((s) => ({ ...s, bindings: s.bindings
 
 function settingsOf(random) {
   const off = RULE_NAMES.filter(() => random.below(6) === 0);
-  return { off, globals: ['a', 'b', 'c', 'x'].filter(() => random.below(4) === 0), allowNull: random.below(2) === 0, ignoreUnderscore: random.below(2) === 0 };
+  return { off, globals: ['a', 'b', 'c', 'x'].filter(() => random.below(4) === 0), environments: [...ENVIRONMENTS.keys()].filter(() => random.below(4) === 0), allowNull: random.below(2) === 0, ignoreUnderscore: random.below(2) === 0 };
 }
+
+const flagsOf = (environments) => Object.fromEntries([...ENVIRONMENTS.keys()].map((name) => [name, environments.includes(name)]));
 
 const ORDER = (a, b) => a.start - b.start || (a.rule < b.rule ? -1 : a.rule > b.rule ? 1 : 0) || a.end - b.end || Buffer.compare(Buffer.from(a.text), Buffer.from(b.text));
 
@@ -83,13 +86,22 @@ function main() {
     for (let k = 0; k < n; k++) { made.push(scopeScript(random)); if (k % 3 === 0) made.push(makeScript(random)); }
     texts.push(...withAdditions(random, made));
   }
-  const count = { texts: 0, scopes: 0, bindings: 0, references: 0, bound: 0, reports: {} };
+  const count = { names: 0, texts: 0, scopes: 0, bindings: 0, references: 0, bound: 0, reports: {} };
   let differ = 0;
   const show = Number(option('show', 10));
   const complain = (text, what, ours, theirs) => {
     differ += 1;
     if (differ <= show) console.log(`${what}: ${JSON.stringify(text)}\n  definitions ${JSON.stringify(ours)}\n  model       ${JSON.stringify(theirs)}`);
   };
+  if (withRules) {
+    const isGlobal = spec.fn('is_global', 'Settings', 'rules');
+    const names = [...new Set([...ENVIRONMENTS.values()].flatMap((it) => [...it]))];
+    for (const [environment, has] of ENVIRONMENTS) {
+      const settings = { off: null, globals: null, environments: flagsOf([environment]), allow_null: false, ignore_underscore: false };
+      for (const name of [...names, 'a', '', 'Windows', 'window ']) if (isGlobal(antt.bytes(name), settings) !== has.has(name)) complain(name, environment, !has.has(name), has.has(name));
+    }
+    count.names = names.length;
+  }
   for (const text of texts) {
     const answer = parseOnly(text);
     if (!answer.ok) continue;
@@ -111,10 +123,10 @@ function main() {
       if (JSON.stringify(ours.references[i]) !== JSON.stringify(theirs.references[i])) { complain(text, 'reference ' + i, ours.references[i], theirs.references[i]); break; }
     }
     for (let turn = 0; withRules && turn < 2; turn++) {
-      const s = turn === 0 ? { off: [], globals: [], allowNull: false, ignoreUnderscore: false } : settingsOf(random);
+      const s = turn === 0 ? { off: [], globals: [], environments: [], allowNull: false, ignoreUnderscore: false } : settingsOf(random);
       const extra = (answer.pairs ?? []).filter(() => turn === 0 || random.below(2) === 0).map((p) => ({ start: p.left, end: p.right + 1 }));
-      const want = runRules({ tree: answer.tree, scopes: resolved, extra, settings: { rules: Object.fromEntries(RULE_NAMES.map((r) => [r, !s.off.includes(r)])), globals: s.globals, allowNull: s.allowNull, ignoreUnderscore: s.ignoreUnderscore } });
-      const settings = { off: antt.fromArray(s.off.map(antt.bytes)), globals: antt.fromArray(s.globals.map(antt.bytes)), allow_null: s.allowNull, ignore_underscore: s.ignoreUnderscore };
+      const want = runRules({ tree: answer.tree, scopes: resolved, extra, settings: { rules: Object.fromEntries(RULE_NAMES.map((r) => [r, !s.off.includes(r)])), globals: s.globals, environments: s.environments, allowNull: s.allowNull, ignoreUnderscore: s.ignoreUnderscore } });
+      const settings = { off: antt.fromArray(s.off.map(antt.bytes)), globals: antt.fromArray(s.globals.map(antt.bytes)), environments: flagsOf(s.environments), allow_null: s.allowNull, ignore_underscore: s.ignoreUnderscore };
       const view = { tree, found: f, extra: antt.fromArray(extra), settings };
       const got = RULE_NAMES.filter((r) => isOn(antt.bytes(r), settings)).flatMap((r) => antt.toArray(rules[r](view)))
         .map((r) => ({ start: r.start, end: r.stop, rule: antt.text(r.rule), text: antt.text(r.text) })).sort(ORDER);

@@ -212,8 +212,8 @@ function resolved() {
 
 const SETTINGS = [
   '', '\n', 'globals = ["a"]', 'globals = ["b", "a"]\nallow-null = true\n', 'ignore-underscore = true', 'allow-null = false\nignore-underscore = false', '[rules]\n', '[rules]\nno-var = false\n',
-  '[rules]\nno-var = true\neqeqeq = false', 'globals = ["b"]\n[rules]\nno-var = false\n', 'ignore-underscore = true\nglobals = []\n[rules]\nno-empty = false',
-  '[rules]\nno-such = true', 'rule = 1', 'globals = [1]', 'allow-null = "yes"', 'globals = [', 'a', '[rules', '[rules]\nno-var = 1', 'globals = "a"', 'allow-null = true\nallow-null = true',
+  '[rules]\nno-var = true\neqeqeq = false', 'globals = ["b"]\n[rules]\nno-var = false\n', 'env = ["node"]', 'env = ["mocha", "browser"]\nglobals = ["a"]\nallow-null = true', 'ignore-underscore = true\nglobals = []\n[rules]\nno-empty = false',
+  '[rules]\nno-such = true', 'rule = 1', 'globals = [1]', 'allow-null = "yes"', 'globals = [', 'a', '[rules', '[rules]\nno-var = 1', 'globals = "a"', 'env = ["x"]', 'env = "node"', 'allow-null = true\nallow-null = true',
 ];
 
 function settingsRow(text) {

@@ -1,5 +1,7 @@
 pub mod Reports
 pub mod Order
+pub mod EnvironmentNames
+pub mod Environments
 pub mod Settings
 pub mod BuiltIn
 pub mod Rules

@@ -15,7 +15,7 @@ use Rattle.scopes.specs.Bindings.{Binding}
 use Rattle.scopes.specs.Found.{Found, Reference, Scope}
 use Rattle.rules.specs.BuiltIn.{is_built_in}
 use Rattle.rules.specs.Reports.{Report}
-use Rattle.rules.specs.Settings.{Settings}
+use Rattle.rules.specs.Settings.{Settings, is_global}
 
 -- what rules look at: the script, its scopes, the spans of the extra pairs, the settings
 pub record View : Type 0 where
@@ -102,7 +102,7 @@ no_extra_parens v = map of_extra v.extra
 -- Rules that look at scopes, bindings and references.
 
 abbrev pub is_known : Settings → List ℕ → Bool
-is_known s text = is_built_in text || list_any (λ x. bytes_eq text x) s.globals
+is_known s text = is_built_in text || is_global text s
 
 abbrev pub of_undefined : Settings → Reference → List Report
 of_undefined s r = cond (is_none r.meaning && not (r.typeof_operand || is_known s r.name)) (report "no-undef" r.start r.stop (quoted r.name "is not defined") ∷ []) []

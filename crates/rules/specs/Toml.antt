@@ -7,10 +7,12 @@ use Rattle.std.specs.Cmp.Lexicographic.{slice_cmp}
 use Rattle.std.specs.Ordering.{nat_cmp}
 use Rattle.std.specs.Str.{bytes_eq}
 use Rattle.rules.specs.NineRules.{is_rule, rule_names}
+use Rattle.rules.specs.declared.environment.Environments.{Environments}
+use Rattle.rules.specs.Environments.{environment_of, no_environments, with_environment}
 use Rattle.rules.specs.Settings.{Settings}
 
 unfoldable pub is_key : List ℕ → Bool
-is_key text = bytes_eq text (codes "rules") || (bytes_eq text (codes "globals") || (bytes_eq text (codes "allow-null") || bytes_eq text (codes "ignore-underscore")))
+is_key text = bytes_eq text (codes "rules") || (bytes_eq text (codes "globals") || (bytes_eq text (codes "env") || (bytes_eq text (codes "allow-null") || bytes_eq text (codes "ignore-underscore"))))
 
 abbrev pub knows_keys : Members → Bool
 knows_keys no_members = true
@@ -38,6 +40,15 @@ abbrev pub globals_of : Option Data → Option (List (List ℕ))
 globals_of None = Some []
 globals_of (Some d) = option_and_then set_of (as_array d)
 
+-- these environments and those that an array names
+abbrev pub with_environments : Environments → Items → Option Environments
+with_environments e no_items = Some e
+with_environments e (item d xs) = option_and_then (λ w. option_and_then (λ x. with_environments (with_environment e x) xs) (environment_of w)) (as_str d)
+
+abbrev pub environments_of : Option Data → Option Environments
+environments_of None = Some no_environments
+environments_of (Some d) = option_and_then (with_environments no_environments) (as_array d)
+
 abbrev pub knows_rules : Members → Bool
 knows_rules no_members = true
 knows_rules (member k d ms) = is_rule k && knows_rules ms
@@ -61,8 +72,9 @@ off_of (Some d) = option_and_then off_of_members (as_table d)
 
 abbrev pub settings_of : Members → Option Settings
 settings_of ms = cond (knows_keys ms)
-    (option_and_then (λ o. option_and_then (λ g. option_and_then (λ a. option_map (λ u. record { off = o; globals = g; allow_null = a; ignore_underscore = u })
-    (flag_of (get_member (codes "ignore-underscore") ms))) (flag_of (get_member (codes "allow-null") ms))) (globals_of (get_member (codes "globals") ms))) (off_of (get_member (codes "rules") ms)))
+    (option_and_then (λ o. option_and_then (λ g. option_and_then (λ e. option_and_then (λ a. option_map (λ u. record { off = o; globals = g; environments = e; allow_null = a; ignore_underscore = u })
+    (flag_of (get_member (codes "ignore-underscore") ms))) (flag_of (get_member (codes "allow-null") ms))) (environments_of (get_member (codes "env") ms))) (globals_of (get_member (codes "globals") ms)))
+    (off_of (get_member (codes "rules") ms)))
     None
 
 -- the settings that a text gives: none where it is refused

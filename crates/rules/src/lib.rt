@@ -6,7 +6,9 @@
 
 mod bindings;
 mod built_in;
+mod environment;
 mod eqeqeq;
+mod interface_names;
 mod known_keys;
 mod lines;
 mod new_report;
@@ -22,12 +24,17 @@ mod report;
 mod rule;
 mod rule_list;
 mod run;
+mod script_names;
 mod settings;
 mod settings_from_toml;
+mod sorted_names;
 mod used_bindings;
 mod view;
 mod walk;
+mod window_names;
+mod worker_names;
 
+pub use environment::{Environment, Environments};
 pub use eqeqeq::EqEqEq;
 pub use lines::{report_lines, report_status, span_lines};
 pub use no_debugger::NoDebugger;

@@ -4,11 +4,13 @@ ghost use Rattle.std.specs.Prelude.{◌≡◌, string_bytes};
 ghost use Rattle.std.specs.List.{list_any};
 ghost use Rattle.std.specs.Str.{bytes_eq};
 
+use crate::environment::Environments;
 use std::alloc::Global;
 use std::collections::BTreeSet;
 use std::marker::Model;
 
-/// Which rules are on, which names a script may use without declaring them, and two options of rules.
+/// Which rules are on, which names a script may use without declaring them, in which environments it runs, and two options of
+/// rules.
 ///
 /// The global names stand in a tree by order, not by hash: settings may be a stranger's, who could choose names that hash
 /// alike.
@@ -16,6 +18,7 @@ use std::marker::Model;
 pub struct Settings {
     off: Vec<String>,
     globals: BTreeSet<String>,
+    environments: Environments,
     allow_null: bool,
     ignore_underscore: bool,
 }
@@ -26,7 +29,7 @@ impl Model for Settings {
 
     ghost Value = { Settings };
 
-    ghost view = { λ s. record { off = map string_bytes s.off.items; globals = map string_bytes s.globals.keys; allow_null = s.allow_null; ignore_underscore = s.ignore_underscore } };
+    ghost view = { λ s. record { off = map string_bytes s.off.items; globals = map string_bytes s.globals.keys; environments = s.environments; allow_null = s.allow_null; ignore_underscore = s.ignore_underscore } };
 }
 
 /// Whether the name is among these.
@@ -40,33 +43,36 @@ impl Settings {
     ghost use Rattle.std.specs.Prelude.{◌≡◌, map, string_bytes};
     ghost use Rattle.std.specs.List.{list_any};
     ghost use Rattle.std.specs.Str.{bytes_eq};
-    ghost use Rattle.rules.specs.Settings.{default_settings, is_on};
+    ghost use Rattle.rules.specs.Settings.{default_settings, is_global, is_on};
 
-    /// Settings with these rules turned off, these globals and these two options.
+    /// Settings with these rules turned off, these globals, these environments and these two options.
     pub(crate) fn new(
         off: Vec<String>,
         globals: BTreeSet<String>,
+        environments: Environments,
         allow_null: bool,
         ignore_underscore: bool,
     ) -> Settings
-        ensures { result ≡ record { off = map string_bytes off.items; globals = map string_bytes globals.keys; allow_null = allow_null; ignore_underscore = ignore_underscore } }
+        ensures { result ≡ record { off = map string_bytes off.items; globals = map string_bytes globals.keys; environments = environments; allow_null = allow_null; ignore_underscore = ignore_underscore } }
     {
         Settings {
             off,
             globals,
+            environments,
             allow_null,
             ignore_underscore,
         }
     }
 
-    /// The settings where nothing is said: every rule is on, there are no global names, both options are off. Takes no
-    /// memory.
+    /// The settings where nothing is said: every rule is on, there are no global names and no environments, both options are
+    /// off. Takes no memory.
     pub fn default_settings(alloc: Global) -> Settings
         ensures { result ≡ default_settings }
     {
         Settings {
             off: Vec::new(alloc),
             globals: BTreeSet::new(alloc),
+            environments: Environments::none(),
             allow_null: false,
             ignore_underscore: false,
         }
@@ -80,10 +86,17 @@ impl Settings {
     }
 
     /// Whether `globals` has the name.
-    pub fn is_global(&self, name: &str) -> bool
+    fn has_global(&self, name: &str) -> bool
         ensures { result ≡ list_any (λ x. bytes_eq name.now x) self.now.globals }
     {
         self.globals.contains(name)
+    }
+
+    /// Whether `globals` has the name, or one of the environments.
+    pub fn is_global(&self, name: &str) -> bool
+        ensures { result ≡ is_global name.now self.now }
+    {
+        self.has_global(name) || self.environments.has_name(name)
     }
 
     /// Whether `eqeqeq` leaves comparisons with `null` alone.

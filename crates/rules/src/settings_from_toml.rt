@@ -4,9 +4,11 @@ ghost use Rattle.std.specs.Prelude.{◌≡◌, Some, None, Err, codes, map, opti
 ghost use Rattle.toml.specs.Data.{get_member};
 ghost use Rattle.toml.specs.Errors.{IsMemory};
 ghost use Rattle.toml.specs.View.{array_view, items_view, table_view, view};
-ghost use Rattle.rules.specs.Toml.{flag_of, globals_of, off_among, off_of, off_of_members, on_of, set_of, settings_of};
+ghost use Rattle.rules.specs.Toml.{environments_of, flag_of, globals_of, off_among, off_of, off_of_members, on_of, set_of, settings_of, with_environments};
+ghost use Rattle.rules.specs.Environments.{no_environments};
 ghost use Rattle.rules.specs.Refusals.{IsRefusal};
 
+use crate::environment::{Environment, Environments};
 use crate::known_keys::{knows_keys, knows_rules};
 use crate::rule_list::RULE_NAMES;
 use crate::settings::Settings;
@@ -73,6 +75,36 @@ fn globals(alloc: Global, table: &Table) -> Result<BTreeSet<String>, Fault>
         Some(value) => match value.as_array() {
             Some(array) => set(alloc, array.as_slice()),
             None => Err(Fault::BadSettings),
+        },
+    }
+}
+
+/// The environments that an array names: none if another string or value is among them.
+fn named_environments(values: &[Value]) -> Option<Environments>
+    ensures { result ≡ with_environments no_environments (items_view values.now) }
+{
+    let mut environments = Environments::none();
+    for value in values {
+        let Some(name) = value.as_str() else {
+            return None;
+        };
+        let Some(environment) = Environment::named(name) else {
+            return None;
+        };
+        environments = environments.with(environment);
+    }
+    Some(environments)
+}
+
+/// The environments at `env`: none if it is left out; refused, as `None`, if it is no array of their names.
+fn environments(table: &Table) -> Option<Environments>
+    ensures { result ≡ environments_of (get_member (codes "env") (table_view table.now)) }
+{
+    match look(table, "env") {
+        None => Some(Environments::none()),
+        Some(value) => match value.as_array() {
+            Some(array) => named_environments(array.as_slice()),
+            None => None,
         },
     }
 }
@@ -144,13 +176,16 @@ fn settings_of(alloc: Global, table: &Table) -> Result<Settings, Fault>
     }
     let off = off(alloc, table)?;
     let globals = globals(alloc, table)?;
+    let Some(environments) = environments(table) else {
+        return Err(Fault::BadSettings);
+    };
     let Some(allow_null) = flag(table, "allow-null") else {
         return Err(Fault::BadSettings);
     };
     let Some(ignore_underscore) = flag(table, "ignore-underscore") else {
         return Err(Fault::BadSettings);
     };
-    Ok(Settings::new(off, globals, allow_null, ignore_underscore))
+    Ok(Settings::new(off, globals, environments, allow_null, ignore_underscore))
 }
 
 impl Settings {
@@ -159,13 +194,13 @@ impl Settings {
     ghost use Rattle.rules.specs.Refusals.{RefusesToml};
 
     /// The settings of a TOML text: `rules`, a table of names of rules, each true or false; `globals`, an array of
-    /// strings; `allow-null` and `ignore-underscore`, each true or false; each key at most once, and left out as in
-    /// `default_settings`.
+    /// strings; `env`, an array of names of environments; `allow-null` and `ignore-underscore`, each true or false; each
+    /// key at most once, and left out as in `default_settings`.
     ///
     /// # Errors
     ///
     /// `BadSettings` where the text has more than 16,777,216 bytes, which is seen before it is read, isn't TOML, or has
-    /// another key, another rule or a value of another kind, and nowhere else; `OutOfMemory`. No other fault.
+    /// another key, another rule, another environment or a value of another kind, and nowhere else; `OutOfMemory`. No other fault.
     pub fn from_toml(alloc: Global, text: &str) -> Result<Settings, Fault>
         ensures ok { IfOk result (λ s. settings_of_text text.now ≡ Some s) }
         ensures refused { IfErr result (RefusesToml text.now) }

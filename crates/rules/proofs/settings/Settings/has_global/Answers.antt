@@ -2,7 +2,7 @@ use Rattle.std.proofs.Common.{ap, ◌∙◌}
 use Rattle.std.specs.List.{list_any}
 use Rattle.std.specs.Str.{bytes_eq}
 use Rattle.rules.proofs.Lists.{any_at}
-use Rattle.rules.proofs.settings.Settings.is_global.Goals as goal
+use Rattle.rules.proofs.settings.Settings.has_global.Goals as goal
 
 pub returns : goal.returns
 returns c = c.contains.ensures ∙ any_at c.args.name.now c.self.inside.globals.keys ∙ ap (λ s. list_any (λ x. bytes_eq c.args.name.now x) s.globals) c.self.view_is

@@ -1,0 +1,9 @@
+use Rattle.std.proofs.Common.{ap, ◌∙◌}
+use Rattle.std.specs.List.{list_any}
+use Rattle.std.specs.Str.{bytes_eq}
+use Rattle.rules.specs.EnvironmentNames.{is_shared_member}
+use Rattle.rules.proofs.worker_names.is_shared_member.Goals as goal
+
+pub returns : goal.returns
+unfolding is_shared_member
+returns c = c.is_among.ensures ∙ ap (list_any (λ known. bytes_eq c.args.name.now known.now)) c.as_slice.ensures
