@@ -47,7 +47,7 @@ fails app words e shape kinds = subst (λ (a : App). HasKind (fault_of a words) 
 pub returns-in_err-matches-clause-kinds : goal.returns-in_err-matches-clause-kinds
 returns-in_err-matches-clause-kinds c =
     let p = err_from_is_err_and c.from_residual-in_err-matches.result c.from_residual-in_err-matches.ensures.1 in
-    rw (p.1, p.2) (fails _ (map (λ w. w.now) c.args.words.now) _ c.in_ok-jslint.ensures.shape c.in_err-matches.ensures.kinds)
+    rw (p.1, p.2) (fails _ (map (λ w. w.now) c.args.words.now) c.in_err-matches.field-0.0 c.in_ok-jslint.ensures.shape c.in_err-matches.ensures.kinds)
 
 pub returns-clause-meets : goal.returns-clause-meets
 returns-clause-meets c = meets_command (map (λ w. w.now) c.args.words.now)
