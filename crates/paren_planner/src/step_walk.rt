@@ -62,7 +62,14 @@ pub(crate) fn visit_node(
         steps.push(Step::Passed(row_count(node)))?;
         return Ok(true);
     }
-    visit_at(node, context, pairs, steps)
+    visit_at(
+        node,
+        context.above,
+        context.slot,
+        context.in_chain,
+        pairs,
+        steps,
+    )
 }
 
 /// The same of an identifier or a literal.
@@ -79,13 +86,27 @@ fn visit_atom(
     ensures { IfOk result (λ free. Noted (may_pass pairs.now) (role_of context.entry.above.now) (slot_of context.entry.slot.now) (node_tree node.entry) free steps.old steps.new) }
 {
     if !is_leaf(node, widest_of(context.slot)) {
-        return visit_at(node, context, pairs, steps);
+        return visit_at(
+            node,
+            context.above,
+            context.slot,
+            context.in_chain,
+            pairs,
+            steps,
+        );
     }
     if !has_row(context.slot) {
         return Ok(true);
     }
     if !takes_atom(context.slot) {
-        return visit_at(node, context, pairs, steps);
+        return visit_at(
+            node,
+            context.above,
+            context.slot,
+            context.in_chain,
+            pairs,
+            steps,
+        );
     }
     steps.push(Step::Free(node.kind(), Rank::Primary))?;
     Ok(true)
@@ -96,24 +117,26 @@ fn visit_atom(
 #[inline(never)]
 fn visit_at(
     node: Node,
-    context: NodeContext,
+    above: &Position,
+    slot: &Slot,
+    in_chain: bool,
     pairs: &TextPairs,
     steps: &mut Steps,
 ) -> Result<bool, AllocError>
-    requires chain { context.in_chain ≡ true → has_optional (node_tree node) ≡ true }
-    requires passing { may_pass pairs.now ≡ true → PassingBelow (pairs_of pairs.now) node (settled_at (role_of context.above.now) (slot_of context.slot.now)) }
-    ensures { IfOk result (λ free. Noted (may_pass pairs.now) (role_of context.entry.above.now) (slot_of context.entry.slot.now) (node_tree node.entry) free steps.old steps.new) }
+    requires chain { in_chain ≡ true → has_optional (node_tree node) ≡ true }
+    requires passing { may_pass pairs.now ≡ true → PassingBelow (pairs_of pairs.now) node (settled_at (role_of above.now) (slot_of slot.now)) }
+    ensures { IfOk result (λ free. Noted (may_pass pairs.now) (role_of above.now) (slot_of slot.now) (node_tree node.entry) free steps.old steps.new) }
 {
-    let own = widest_of(context.slot);
-    let Some(production) = node_production(node, own, context.in_chain) else {
-        steps.push(Step::Leaf(node_step(node, context, None)))?;
+    let own = widest_of(slot);
+    let Some(production) = node_production(node, own, in_chain) else {
+        steps.push(Step::Leaf(node_step(node, above, slot, None)))?;
         return Ok(false);
     };
-    if is_settled(context.slot) && has_fixed_slots(&production) {
+    if is_settled(slot) && has_fixed_slots(&production) {
         return visit_parts(node, &own, &production, pairs, steps);
     }
     let requirements = production.requirements();
-    let visit = node_step(node, context, Some(requirements));
+    let visit = node_step(node, above, slot, Some(requirements));
     if node.part_count() == 0 {
         steps.push(Step::Leaf(visit))?;
         return Ok(false);
@@ -239,14 +262,19 @@ fn widest_of(slot: &Slot) -> Position
 
 /// The step of a node where it stands.
 #[inline(always)]
-fn node_step(node: Node, context: NodeContext, requirements: Option<Requirements>) -> NodeStep
-    ensures visit { IsVisit (role_of context.entry.above.now) (slot_of context.entry.slot.now) (node_tree node.entry) result }
+fn node_step(
+    node: Node,
+    above: &Position,
+    slot: &Slot,
+    requirements: Option<Requirements>,
+) -> NodeStep
+    ensures visit { IsVisit (role_of above.now) (slot_of slot.now) (node_tree node.entry) result }
     ensures requirements { result.requirements ≡ requirements }
 {
     NodeStep {
         kind: node.kind(),
-        above: *context.above,
-        slot: *context.slot,
+        above: *above,
+        slot: *slot,
         requirements,
     }
 }

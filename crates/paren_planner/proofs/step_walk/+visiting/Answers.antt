@@ -104,18 +104,18 @@ visit_atom-returns t c =
 
 pub visit_at-returns-in_default : goal.visit_at-returns-in_default
 visit_at-returns-in_default t c =
-    noted_unspelled (may_pass c.args.pairs.now) (role_of c.args.context.above.now) (role_of c.widest_of-own.result) (slot_of c.args.context.slot.now) (node_tree c.args.node) c.node_step.result c.args.steps.now c.push.new.self
-    c.node_step.ensures.visit c.node_step.ensures.requirements (c.widest_of-own.ensures (role_of c.args.context.above.now)) c.in_default.ensures.ways c.in_ok-push.ensures.items
+    noted_unspelled (may_pass c.args.pairs.now) (role_of c.args.above.now) (role_of c.widest_of-own.result) (slot_of c.args.slot.now) (node_tree c.args.node) c.node_step.result c.args.steps.now c.push.new.self
+    c.node_step.ensures.visit c.node_step.ensures.requirements (c.widest_of-own.ensures (role_of c.args.above.now)) c.in_default.ensures.ways c.in_ok-push.ensures.items
 
 pub visit_at-returns-then-part_count-eq0 : goal.visit_at-returns-then-part_count-eq0
 visit_at-returns-then-part_count-eq0 t c =
-    noted_alone (may_pass c.args.pairs.now) (role_of c.args.context.above.now) (role_of c.widest_of-own.result) (slot_of c.args.context.slot.now) (node_tree c.args.node) c.node_step-visit.result (spelled_by c.args.node c.widest_of-own.result c.in-Some.production) c.args.steps.now c.push-then-part_count-eq0.new.self
-    c.node_step-visit.ensures.visit (c.node_step-visit.ensures.requirements ∙ ap (λ l. Some l) c.requirements-requirements.ensures) (c.widest_of-own.ensures (role_of c.args.context.above.now)) c.in-Some.ensures.ways (sym c.part_count.ensures ∙ c.if-part_count-eq0.true) c.in_ok-push-2.ensures.items
+    noted_alone (may_pass c.args.pairs.now) (role_of c.args.above.now) (role_of c.widest_of-own.result) (slot_of c.args.slot.now) (node_tree c.args.node) c.node_step-visit.result (spelled_by c.args.node c.widest_of-own.result c.in-Some.production) c.args.steps.now c.push-then-part_count-eq0.new.self
+    c.node_step-visit.ensures.visit (c.node_step-visit.ensures.requirements ∙ ap (λ l. Some l) c.requirements-requirements.ensures) (c.widest_of-own.ensures (role_of c.args.above.now)) c.in-Some.ensures.ways (sym c.part_count.ensures ∙ c.if-part_count-eq0.true) c.in_ok-push-2.ensures.items
 
 pub visit_at-returns : goal.visit_at-returns
 visit_at-returns t c =
-    noted_around (may_pass c.args.pairs.now) (role_of c.args.context.above.now) (role_of c.widest_of-own.result) (slot_of c.args.context.slot.now) (node_tree c.args.node) c.node_step-visit.result (spelled_by c.args.node c.widest_of-own.result c.in-Some.production) _ c.args.steps.now c.push-2.new.self c.visit_parts-2.new.steps c.push-3.new.self
-    c.node_step-visit.ensures.visit (c.node_step-visit.ensures.requirements ∙ ap (λ l. Some l) c.requirements-requirements.ensures) (c.widest_of-own.ensures (role_of c.args.context.above.now)) c.in-Some.ensures.ways c.in_ok-push-3.ensures.items c.in_ok-are_free.ensures c.in_ok-push-4.ensures.items
+    noted_around (may_pass c.args.pairs.now) (role_of c.args.above.now) (role_of c.widest_of-own.result) (slot_of c.args.slot.now) (node_tree c.args.node) c.node_step-visit.result (spelled_by c.args.node c.widest_of-own.result c.in-Some.production) _ c.args.steps.now c.push-2.new.self c.visit_parts-2.new.steps c.push-3.new.self
+    c.node_step-visit.ensures.visit (c.node_step-visit.ensures.requirements ∙ ap (λ l. Some l) c.requirements-requirements.ensures) (c.widest_of-own.ensures (role_of c.args.above.now)) c.in-Some.ensures.ways c.in_ok-push-3.ensures.items c.in_ok-are_free.ensures c.in_ok-push-4.ensures.items
 
 pub visit_at-set-requires : goal.visit_at-set-requires
 visit_at-set-requires t c = (
@@ -126,12 +126,12 @@ visit_at-set-requires t c = (
 
 pub visit_at-returns-then-is_free : goal.visit_at-returns-then-is_free
 visit_at-returns-then-is_free t c =
-    let s = slot_of c.args.context.slot.now in
+    let s = slot_of c.args.slot.now in
     let l = c.requirements-requirements.ensures in
     let v = c.node_step-visit.ensures.visit in
-    noted_free (may_pass c.args.pairs.now) (role_of c.args.context.above.now) (role_of c.widest_of-own.result) s (node_tree c.args.node) c.node_step-visit.result (spelled_by c.args.node c.widest_of-own.result c.in-Some.production)
+    noted_free (may_pass c.args.pairs.now) (role_of c.args.above.now) (role_of c.widest_of-own.result) s (node_tree c.args.node) c.node_step-visit.result (spelled_by c.args.node c.widest_of-own.result c.in-Some.production)
     c.node_step-visit.result.kind _ c.len-index.result c.args.steps.now c.push-2.new.self c.visit_parts-2.new.steps c.set.new.self
-    v.kind (c.widest_of-own.ensures (role_of c.args.context.above.now)) c.in-Some.ensures.ways
+    v.kind (c.widest_of-own.ensures (role_of c.args.above.now)) c.in-Some.ensures.ways
     (ap (λ u. is_plain_outline (planned.outline_of u)) (sym l) ∙ c.is_free.ensures.plain c.if-is_free.true) (ap has_row_at (sym v.slot) ∙ c.is_free.ensures.row c.if-is_free.true) (ap (λ u. slot_free s u.rank) (sym l) ∙ ap (λ u. slot_free u c.requirements-requirements.result.rank) (sym v.slot) ∙ c.is_free.ensures.slot c.if-is_free.true)
     c.if-are_free.true c.len-index.ensures.value c.in_ok-push-3.ensures.items c.in_ok-are_free.ensures
     (c.set.ensures ∙ ap (λ u. set c.visit_parts-2.new.steps c.len-index.result (Free c.node_step-visit.result.kind u.rank)) l)
@@ -145,15 +145,15 @@ pub visit_at-returns-then-has_fixed_slots : goal.visit_at-returns-then-has_fixed
 visit_at-returns-then-has_fixed_slots t c =
     let n = node_tree c.args.node in
     let x = outline_of c.in-Some.production in
-    noted_through c.visit_parts.result (may_pass c.args.pairs.now) (role_of c.args.context.above.now) (role_of c.widest_of-own.result) (slot_of c.args.context.slot.now) n (spelled_by c.args.node c.widest_of-own.result c.in-Some.production) c.args.steps.now c.visit_parts.new.steps
-    (c.widest_of-own.ensures (role_of c.args.context.above.now)) c.in-Some.ensures.ways (sym c.is_settled.ensures ∙ c.if-is_settled.true) (outline_fixed x (parts_after x.from (parts_of n)) (c.has_fixed_slots.ensures c.if-has_fixed_slots.true)) c.visit_parts.ensures
+    noted_through c.visit_parts.result (may_pass c.args.pairs.now) (role_of c.args.above.now) (role_of c.widest_of-own.result) (slot_of c.args.slot.now) n (spelled_by c.args.node c.widest_of-own.result c.in-Some.production) c.args.steps.now c.visit_parts.new.steps
+    (c.widest_of-own.ensures (role_of c.args.above.now)) c.in-Some.ensures.ways (sym c.is_settled.ensures ∙ c.if-is_settled.true) (outline_fixed x (parts_after x.from (parts_of n)) (c.has_fixed_slots.ensures c.if-has_fixed_slots.true)) c.visit_parts.ensures
 
 pub visit_at-visit_parts-requires : goal.visit_at-visit_parts-requires
 visit_at-visit_parts-requires t c = (
   search rules,
   (
     c.in-Some.ensures.chain,
-    λ m. passing_parts (pairs_of c.args.pairs.now) c.args.node _ (role_of c.widest_of-own.result) (spelled_by c.args.node c.widest_of-own.result c.in-Some.production) (c.widest_of-own.ensures (role_of c.args.context.above.now)) c.in-Some.ensures.ways (c.requires.passing m),
+    λ m. passing_parts (pairs_of c.args.pairs.now) c.args.node _ (role_of c.widest_of-own.result) (spelled_by c.args.node c.widest_of-own.result c.in-Some.production) (c.widest_of-own.ensures (role_of c.args.above.now)) c.in-Some.ensures.ways (c.requires.passing m),
   ),
 )
 
@@ -162,6 +162,6 @@ visit_at-visit_parts-requires-2 t c = (
   search rules,
   (
     c.in-Some.ensures.chain,
-    λ m. passing_parts (pairs_of c.args.pairs.now) c.args.node _ (role_of c.widest_of-own.result) (spelled_by c.args.node c.widest_of-own.result c.in-Some.production) (c.widest_of-own.ensures (role_of c.args.context.above.now)) c.in-Some.ensures.ways (c.requires.passing m),
+    λ m. passing_parts (pairs_of c.args.pairs.now) c.args.node _ (role_of c.widest_of-own.result) (spelled_by c.args.node c.widest_of-own.result c.in-Some.production) (c.widest_of-own.ensures (role_of c.args.above.now)) c.in-Some.ensures.ways (c.requires.passing m),
   ),
 )
