@@ -291,7 +291,7 @@ def outcome(answer):
 
 def ordered(name):
     def run(texts, want):
-        second = texts[1].encode() if name in ('check', 'spans', 'verify') else None
+        second = texts[1].encode() if name in ('check', 'spans', 'verify', 'same') else None
         answer = command(name, texts[0].encode(), second)
         return hold(outcome(answer) == want, answer)
     return run
