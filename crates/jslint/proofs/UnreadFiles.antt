@@ -14,7 +14,7 @@ use Rattle.jslint.specs.declared.files.Stop.{Stop}
 use Rattle.jslint.specs.declared.files.Stop.TheVariants.{Refuses, Unread}
 
 -- a line that names a second file has one
-pub has_second : (line : Line) (name : Text) → second_name line ≡ Some name → line.second ≡ None → ⊥
+has_second : (line : Line) (name : Text) → second_name line ≡ Some name → line.second ≡ None → ⊥
 has_second line name named none = true≢false (sym (ap is_some named) ∙ ap (λ (second : Option (Bor Text)). is_some (option_map (λ s. s.now) second)) none)
 
 -- a run over one file
@@ -85,7 +85,7 @@ same_run : (gives : Contents) (line : Line) (before after : Option (List ℕ)) (
 same_run gives line before after failed refused is run = without_place refused.in_second refused.fault refused.line refused.column line.command _ is run.runs
 
 -- which of the two files failed, by whether the second did
-pub which_failed : (gives : Contents) (line : Line) (before after : Option (List ℕ)) (failed : Bool) (refused : Refused) (unread : Text) (run : RunsOpened gives line before after failed (Err refused))
+which_failed : (gives : Contents) (line : Line) (before after : Option (List ℕ)) (failed : Bool) (refused : Refused) (unread : Text) (run : RunsOpened gives line before after failed (Err refused))
     → (run.second_failed ≡ true → second_name line ≡ Some unread) → (run.second_failed ≡ false → unread ≡ line.file.now)
     → refused.fault ≡ ReadFailed → IsOfFailed line run.reader_failed run.second_failed unread
 which_failed gives line before after failed refused unread run named alone is =
@@ -95,7 +95,7 @@ which_failed gives line before after failed refused unread run named alone is =
     ]
 
 -- what becomes of a refusal
-pub stopped : (gives : Contents) (line : Line) (before after : Option (List ℕ)) (failed : Bool) (refused : Refused) (unread : Text) (run : RunsOpened gives line before after failed (Err refused))
+stopped : (gives : Contents) (line : Line) (before after : Option (List ℕ)) (failed : Bool) (refused : Refused) (unread : Text) (run : RunsOpened gives line before after failed (Err refused))
     → (refused.fault ≡ ReadFailed → IsOfFailed line run.reader_failed run.second_failed unread) → (stop : Stop) → StopsBy refused unread stop → RunsOnce gives line before after failed (Err stop)
 stopped gives line before after failed refused unread run which (Refuses same) (other, is) =
     (subst (λ r. r.fault ≡ ReadFailed → ⊥) (sym is) other, subst (λ r. RunsOpened gives line before after failed (Err r)) (sym is) run)
@@ -112,3 +112,37 @@ stopped gives line before after failed refused unread run which (Unread name fai
   },
   subst (IsOfFailed line run.reader_failed run.second_failed) (sym named) (which is),
 )
+
+-- of a run over one file
+pub stopped_one : (gives : Contents) (line : Line) (before after given : Option (List ℕ)) (failed reader_failed : Bool) (refused : Refused) → line.second ≡ None → gives line.file.now given
+    → RunsByRules line.command (record {
+      given = given;
+      second = Some [];
+      before = before;
+      after = after;
+      reader_failed = reader_failed;
+      second_failed = false;
+      writer_failed = failed;
+    }) (Err refused) → (stop : Stop) → StopsBy refused line.file.now stop → RunsOnce gives line before after failed (Err stop)
+unfolding run_of_one
+stopped_one gives line before after given failed reader_failed refused alone is runs stop by =
+    let run = run_of_one gives line before after given failed reader_failed (Err refused) alone is runs in
+    stopped gives line before after failed refused line.file.now run (which_failed gives line before after failed refused line.file.now run (λ fails. absurd (true≢false (sym fails))) (λ well. refl)) stop by
+
+-- and of one over two
+pub stopped_two : (gives : Contents) (line : Line) (name unread : Text) (before after given second : Option (List ℕ)) (failed reader_failed second_failed : Bool) (refused : Refused)
+    → second_name line ≡ Some name → gives line.file.now given → gives name second
+    → RunsByRules line.command (record {
+      given = given;
+      second = second;
+      before = before;
+      after = after;
+      reader_failed = reader_failed;
+      second_failed = second_failed;
+      writer_failed = failed;
+    }) (Err refused)
+    → (second_failed ≡ true → second_name line ≡ Some unread) → (second_failed ≡ false → unread ≡ line.file.now) → (stop : Stop) → StopsBy refused unread stop → RunsOnce gives line before after failed (Err stop)
+unfolding run_of_two
+stopped_two gives line name unread before after given second failed reader_failed second_failed refused named is also runs of_second of_first stop by =
+    let run = run_of_two gives line name before after given second failed reader_failed second_failed (Err refused) named is also runs in
+    stopped gives line before after failed refused unread run (which_failed gives line before after failed refused unread run of_second of_first) stop by

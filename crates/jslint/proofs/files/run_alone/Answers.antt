@@ -1,5 +1,4 @@
-use Rattle.std.proofs.Common.{Err, refl, sym, true≢false}
-use Rattle.jslint.proofs.UnreadFiles.{run_of_one, stopped, which_failed}
+use Rattle.jslint.proofs.UnreadFiles.{run_of_one, stopped_one}
 use Rattle.jslint.proofs.files.run_alone.Goals as goal
 
 pub returns-in-Ok-clause-answer : goal.returns-in-Ok-clause-answer
@@ -7,6 +6,4 @@ returns-in-Ok-clause-answer g c = run_of_one _ c.args.line _ _ _ _ _ _ c.require
 
 -- the script's file failed, or none did
 pub returns-in-Err-clause-answer : goal.returns-in-Err-clause-answer
-returns-in-Err-clause-answer g c =
-    let run = run_of_one _ c.args.line _ _ _ _ _ (Err c.in-Err.refused) c.requires.alone c.requires.given c.in-Err.ensures.answer in
-    stopped _ c.args.line _ _ _ c.in-Err.refused c.args.line.file.now run (which_failed _ c.args.line _ _ _ c.in-Err.refused c.args.line.file.now run (λ failed. absurd (true≢false (sym failed))) (λ well. refl)) c.stop_of.result c.stop_of.ensures
+returns-in-Err-clause-answer g c = stopped_one _ c.args.line _ _ _ _ _ c.in-Err.refused c.requires.alone c.requires.given c.in-Err.ensures.answer c.stop_of.result c.stop_of.ensures
