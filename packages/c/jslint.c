@@ -3,7 +3,10 @@
        cc -o jslint jslint.c libjslint.a
        ./jslint fix|unwrap|tree|cost|check FILE
        ./jslint check --spans --settings SETTINGS FILE
-       ./jslint verify FILE TABLE */
+       ./jslint verify FILE TABLE
+       ./jslint same FILE OTHER
+
+   `-` is standard input, as one of the files. */
 #include "jslint.h"
 #include <stdio.h>
 #include <stdlib.h>
@@ -30,9 +33,9 @@ static int reserve(struct bytes *bytes, size_t capacity) {
     return 1;
 }
 
-/* Reads a file to its end, no name as an empty one. Answers what went wrong, if anything did. */
+/* Reads a file to its end, no name as an empty one and `-` as standard input. Answers what went wrong, if anything did. */
 static const char *read_file(const char *name, struct bytes *bytes) {
-    FILE *file = name ? fopen(name, "rb") : NULL;
+    FILE *file = !name ? NULL : strcmp(name, "-") ? fopen(name, "rb") : stdin;
     const char *wrong = reserve(bytes, 1 << 16) ? NULL : "out of memory";
     if (name && !file) {
         return "read failed";
@@ -85,12 +88,12 @@ static int run(uint32_t command, const char *name, const char *second_name) {
     return status;
 }
 
-/* How many commands have a word of their own. */
-enum { COMMANDS = JSLINT_UNWRAP + 1 };
+/* How many commands there are. */
+enum { COMMANDS = JSLINT_SAME + 1 };
 
-/* The number of a command's name, or COMMANDS. */
+/* The number of a command's name, or COMMANDS. (`check --spans` has no name of its own.) */
 static uint32_t command_of(const char *name) {
-    static const char *const names[COMMANDS] = {"check", "tree", "fix", "cost", "verify", "unwrap"};
+    static const char *const names[COMMANDS] = {"check", "tree", "fix", "cost", "verify", "unwrap", "", "same"};
     uint32_t command = 0;
     while (command < COMMANDS && strcmp(name, names[command])) {
         command++;
@@ -101,7 +104,7 @@ static uint32_t command_of(const char *name) {
 int main(int count, char **words) {
     const char *names[2] = {NULL, NULL}, *settings = NULL;
     uint32_t command = count > 1 ? command_of(words[1]) : COMMANDS;
-    int files = 0, has_spans = 0, is_well = command < COMMANDS;
+    int files = 0, has_spans = 0, is_well = command < COMMANDS && command != JSLINT_SPANS, has_two = command == JSLINT_VERIFY || command == JSLINT_SAME;
     for (int at = 2; at < count && is_well; at++) {
         if (!strcmp(words[at], "--settings") && command == JSLINT_CHECK && at + 1 < count) {
             settings = words[++at];
@@ -112,8 +115,12 @@ int main(int count, char **words) {
             names[is_well ? files++ : 0] = words[at];
         }
     }
-    if (!is_well || files != (command == JSLINT_VERIFY ? 2 : 1)) {
-        return refuse("usage: jslint check [--spans] [--settings SETTINGS] FILE, jslint fix|unwrap|tree|cost FILE, or jslint verify FILE TABLE");
+    if (!is_well || files != (has_two ? 2 : 1)) {
+        return refuse("usage: jslint check [--spans] [--settings SETTINGS] FILE, jslint fix|unwrap|tree|cost FILE, jslint verify FILE TABLE, or jslint same FILE OTHER");
     }
-    return run(has_spans ? JSLINT_SPANS : command, names[0], command == JSLINT_CHECK ? settings : names[1]);
+    const char *second = command == JSLINT_CHECK ? settings : names[1];
+    if (second && !strcmp(names[0], "-") && !strcmp(second, "-")) {
+        return refuse("read failed: -: both files are standard input");
+    }
+    return run(has_spans ? JSLINT_SPANS : command, names[0], second);
 }

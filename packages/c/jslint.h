@@ -1,4 +1,4 @@
-/* jslint for C: the six commands over bytes in memory, `check` in two forms. docs/EMBEDDING.md says what is proved of them. */
+/* jslint for C: the seven commands over bytes in memory, `check` in two forms. docs/EMBEDDING.md says what is proved of them. */
 #ifndef JSLINT_H
 #define JSLINT_H
 #include <stddef.h>
@@ -8,7 +8,7 @@ extern "C" {
 #endif
 
 /* JSLINT_SPANS is `check --spans`. */
-enum jslint_command { JSLINT_CHECK, JSLINT_TREE, JSLINT_FIX, JSLINT_COST, JSLINT_VERIFY, JSLINT_UNWRAP, JSLINT_SPANS };
+enum jslint_command { JSLINT_CHECK, JSLINT_TREE, JSLINT_FIX, JSLINT_COST, JSLINT_VERIFY, JSLINT_UNWRAP, JSLINT_SPANS, JSLINT_SAME };
 
 struct jslint_outcome {
     size_t length;       /* how many bytes the answer has; where there is less room, its beginning stands there */
@@ -16,8 +16,8 @@ struct jslint_outcome {
     uint32_t is_refusal; /* 1 where the answer is the line of a refusal, else 0 */
 };
 
-/* Answers a command for a script and a second text, which `check` reads as its settings, in either form, and `verify` as its cost table; to the other commands it
-   is nothing. What the program would write, to its standard output or as the line of a refusal to its standard error, is put into the room. Where
+/* Answers a command for a script and a second text, which `check` reads as its settings, in either form, `verify` as its cost table and `same` as the
+   script to compare with; to the other commands it is nothing. What the program would write, to its standard output or as the line of a refusal to its standard error, is put into the room. Where
    the outcome's length is more than the room's, call again with so much room.
 
    The caller keeps all memory. The four stretches lie apart, and none of the pointers is null, even where a length is 0. A number of no command

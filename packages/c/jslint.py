@@ -6,6 +6,7 @@
     jslint.check('debugger;')                               [Report(line=1, column=1, rule='no-debugger', message='debugger statement')]
     jslint.spans('debugger;')                               [Span(start=0, end=9, rule='no-debugger', message='debugger statement')]
     jslint.tree('a')['body'][0]['type']                     'ExpressionStatement'
+    jslint.same('a + (b)', 'a + b; // c')                   True: the two have one tree
     jslint.verify('(({})).a', jslint.cost('(({})).a'))      (2, 1): the text has two pairs, and each text with its tree has one at least
 
 A text that is refused raises Refused, with the program's own words. The thread that calls needs a stack of 6 MiB (`threading.stack_size`).
@@ -16,7 +17,7 @@ import json
 import os
 import re
 
-COMMANDS = {'check': 0, 'tree': 1, 'fix': 2, 'cost': 3, 'verify': 4, 'unwrap': 5, 'spans': 6}
+COMMANDS = {'check': 0, 'tree': 1, 'fix': 2, 'cost': 3, 'verify': 4, 'unwrap': 5, 'spans': 6, 'same': 7}
 Report = collections.namedtuple('Report', 'line column rule message')
 Span = collections.namedtuple('Span', 'start end rule message')
 Answer = collections.namedtuple('Answer', 'bytes status is_refusal')
@@ -27,7 +28,7 @@ class Outcome(ctypes.Structure):
 
 
 class Refused(Exception):
-    """A text that was refused: the words of the program, as `syntax error at 1:9`, and its status."""
+    """A text that was refused: the words of the program, as `syntax error at 1:9`, and its status. Of the other text of `same` they begin with `second file: `."""
 
     def __init__(self, words, status):
         super().__init__(words)
@@ -93,3 +94,11 @@ def cost(text):
 def verify(text, table):
     """Of a table from anyone: the pairs of the text, and the fewest that a text with its tree has."""
     return tuple(int(it) for it in re.fullmatch(r'pairs (\d+) least (\d+)\n', _output('verify', text, table)).groups())
+
+
+def same(text, other):
+    """Whether two scripts have one tree, places aside."""
+    answer = run('same', text.encode(), other.encode())
+    if answer.is_refusal:
+        raise Refused(answer.bytes.decode()[len('jslint: '):-1], answer.status)
+    return answer.status == 0

@@ -3,9 +3,9 @@
 // Nothing here is proved. What it has to keep: the four stretches of memory that a call is handed lie apart, are as long as it says, and stay
 // until the call is back; an instance in which a call did not come back is not called again.
 
-const COMMANDS = { check: 0, tree: 1, fix: 2, cost: 3, verify: 4, unwrap: 5, spans: 6 };
+const COMMANDS = { check: 0, tree: 1, fix: 2, cost: 3, verify: 4, unwrap: 5, spans: 6, same: 7 };
 // Bytes of room for each byte of text at the first try. Where the answer is longer, the command runs again with all the room that it takes.
-const ROOM = { check: 2, tree: 48, fix: 3, cost: 24, verify: 0, unwrap: 1, spans: 2 };
+const ROOM = { check: 2, tree: 48, fix: 3, cost: 24, verify: 0, unwrap: 1, spans: 2, same: 0 };
 const LEAST_ROOM = 16384;
 // Of an outcome: its length in 8 bytes, its status and whether it is a refusal in 4 each.
 const OUTCOME = 16;
@@ -27,6 +27,9 @@ const REFUSALS = [
   [/^out of stack$/, 'stack', []],
 ];
 
+// What stands before them where the other text of `same` is refused.
+const SECOND = 'second file: ';
+
 /** A text that was refused, or one for which the engine had too little stack or memory. */
 export class Refused extends Error {
   constructor(command, words, status) {
@@ -34,8 +37,9 @@ export class Refused extends Error {
     this.name = 'Refused';
     this.command = command;
     this.status = status;
+    this.inSecond = words.startsWith(SECOND);
     for (const [form, code, names] of REFUSALS) {
-      const found = form.exec(words);
+      const found = form.exec(this.inSecond ? words.slice(SECOND.length) : words);
       if (found === null) continue;
       this.code = code;
       names.forEach((name, at) => { this[name] = /^\d+$/.test(found[at + 1]) ? Number(found[at + 1]) : found[at + 1]; });
@@ -200,12 +204,15 @@ export function commandsOf(module, runDeeper = () => null) {
     return answer === null ? OUT_OF_MEMORY : { text: decode(answer.bytes), status: answer.status, isRefusal: answer.isRefusal };
   }
 
-  /** What a command writes for a text; a refusal is thrown. */
-  function output(command, text, second) {
+  /** What a command answers for a text; a refusal is thrown. */
+  function accepted(command, text, second) {
     const answer = run(command, bytesOf(text), second);
     if (answer.isRefusal) throw new Refused(command, answer.text.slice('jslint: '.length, -1), answer.status);
-    return answer.text;
+    return answer;
   }
+
+  /** What it writes. */
+  const output = (command, text, second) => accepted(command, text, second).text;
 
   return {
     run,
@@ -220,6 +227,7 @@ export function commandsOf(module, runDeeper = () => null) {
       return program;
     },
     cost: (text) => output('cost', text),
+    same: (text, other) => accepted('same', text, bytesOf(other)).status === 0,
     verify(text, table) {
       const [, pairs, least] = /^pairs (\d+) least (\d+)\n$/.exec(output('verify', text, bytesOf(table)));
       return { pairs: Number(pairs), least: Number(least) };

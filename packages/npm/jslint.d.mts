@@ -1,7 +1,7 @@
 /** A script or a second text: a string, or its UTF-8. */
 export type Text = string | Uint8Array;
 /** `spans` is `check --spans`. */
-export type Command = 'check' | 'tree' | 'fix' | 'cost' | 'verify' | 'unwrap' | 'spans';
+export type Command = 'check' | 'tree' | 'fix' | 'cost' | 'verify' | 'unwrap' | 'spans' | 'same';
 
 /** What a rule finds at a place. Lines and columns count from 1, columns in characters; `index` is the place in the string. */
 export interface Report {
@@ -27,6 +27,8 @@ export class Refused extends Error {
   command: Command;
   status: 1 | 2;
   code: Code;
+  /** Whether it is the other text of `same` that is refused. */
+  inSecond: boolean;
   /** The place of a syntax error or an early error. */
   line?: number;
   column?: number;
@@ -62,6 +64,8 @@ export function treeText(text: Text): string;
 export function cost(text: Text): string;
 /** Checks such a table, whoever made it: the pairs of the text, and the fewest that a text with its tree has. */
 export function verify(text: Text, table: Text): { pairs: number; least: number };
+/** Whether two scripts have one tree, places aside. */
+export function same(text: Text, other: Text): boolean;
 /** The index into the string of a line and a column. */
 export function indexOf(text: string, line: number, column: number): number;
 /** A command as the program runs it: what it writes, and its exit status. */

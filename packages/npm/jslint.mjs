@@ -37,5 +37,5 @@ function runDeeper(command, text, second) {
   return threads.receiveMessageOnPort(deeper.port)?.message ?? null;
 }
 
-export const { run, check, spans, fix, unwrap, tree, treeText, cost, verify } = commandsOf(module, threads ? runDeeper : undefined);
+export const { run, check, spans, fix, unwrap, tree, treeText, cost, verify, same } = commandsOf(module, threads ? runDeeper : undefined);
 export { Refused, indexOf } from './core.mjs';

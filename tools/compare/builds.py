@@ -4,7 +4,7 @@
     tools/compare/builds.py PROGRAM [--scripts N] [--seed N] [--jobs N] [FOLDER ..]
 
 First each row of crates/cases/data that the command line can say, by PROGRAM alone. Then N scripts (4,000) of the files `*.js` below the folders, of at most
-1,000,000 bytes, in an order that looks like none: the six commands by both, byte for byte, with standard error and status; `verify` is given what `cost` wrote.
+1,000,000 bytes, in an order that looks like none: each command by both, byte for byte, with standard error and status; `verify` is given what `cost` wrote, `same` the script itself.
 Status 1 where anything differs.
 """
 import argparse
@@ -32,10 +32,12 @@ def of_script(given):
     """Whether a script was read, and the commands to which the two answer otherwise."""
     path, one, other = given
     differ, status, table = [], 2, b''
-    for command in ('check', 'tree', 'fix', 'unwrap', 'cost', 'verify'):
+    for command in ('check', 'tree', 'fix', 'unwrap', 'cost', 'verify', 'same'):
         words = [command, '--', path]
         if command == 'verify':
             words.append(rows.file_of('table', table))
+        if command == 'same':
+            words.append(path)
         mine, theirs = answer(one, words), answer(other, words)
         differ += [] if mine == theirs else [f'{command} {path}: {mine[0]} {mine[2][:80]} {len(mine[1])} bytes, {theirs[0]} {theirs[2][:80]} {len(theirs[1])} bytes']
         if command == 'cost':

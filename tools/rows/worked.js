@@ -7,6 +7,7 @@ const fs = require('node:fs');
 const path = require('node:path');
 const { EXPRESSIONS, NEAR_LIMITS, SECOND, TABLE, TEXTS } = require('./worked_texts.js');
 const { runInBigStack } = require('../model/bigstack.js');
+const { canon } = require('../model/canon.js');
 const { treeJson } = require('../model/json.js');
 const { LIMITS, parse, parseOnly } = require('../model/parse.js');
 const { extraPairs, plan, writeTable } = require('../model/plan.js');
@@ -53,6 +54,7 @@ const ANSWERS = {
     const reports = reportsOf(script, second);
     return [reports.map((it) => `${it.start} ${it.end} ${it.rule} ${it.text}\n`).join(''), reports.length > 0 ? 1 : 0];
   },
+  same: ({ tree }, second) => ['', canon(tree) === canon(parse(second, LIMITS).tree) ? 0 : 1],
 };
 const answer = (command, text, second = '') => ANSWERS[command]({ ...parse(text, LIMITS), text }, second);
 const secondOf = (command, text) => (command === 'check' || command === 'spans' ? SECOND.get(text) ?? '' : command === 'verify' ? answer('cost', text)[0] : '');
@@ -117,8 +119,10 @@ const RUNS = [
   ['spans', 'var a = b == 1;', SECOND.get('var a = b == 1;')],
   ['cost', 'a + (b);', ''],
   ['verify', 'a + (b);', TABLE],
+  ['same', 'a + (b);', '(a)+b'],
+  ['same', 'a + (b);', 'a - b'],
 ];
-const fault = (kind) => `Err(Refused { fault: ${kind}, line: 0, column: 0 }) `;
+const fault = (kind) => `Err(Refused { fault: ${kind}, in_second: false, line: 0, column: 0 }) `;
 
 // A run, by the plans of the reader, of the writer and of the second reader.
 const run = ([command, text, second], plans, found) => `run\t${[command, text, plans[0], plans[1], second, plans[2]].map(written).join('\t')}\t${written(found)}`;
@@ -149,8 +153,9 @@ const failures = () => [
 
 const isShort = (text) => Buffer.byteLength(text) < 1000;
 
-function workedOf(text) {
+function workedOf(text, at) {
   const script = parse(text, LIMITS);
+  const compared = (other) => row('same', text, other) + `\t${answer('same', text, other)[1]} `;
   const of = (command) => answer(command, text, secondOf(command, text));
   const outcome = (command) => {
     const [out, status] = of(command);
@@ -164,13 +169,15 @@ function workedOf(text) {
     ...(fromToml(Buffer.from(secondOf('check', text))) === null ? [] : [outcome('check'), outcome('spans')]),
     outcome('cost'),
     ...(isShort(secondOf('verify', text)) ? [outcome('verify')] : []),
+    ...(isShort(fixedText(script)) ? [compared(fixedText(script))] : []),
+    compared(ACCEPTED[(at + 1) % ACCEPTED.length]),
   ];
 }
 
 const worked = () => [
   '# Each worked script with what the commands answer: `fix` and `unwrap`, and `tree` by single bytes; the exit status of `check`, of `check --spans`,',
-  '# `cost` and `verify`, which takes the table that `cost` wrote, and what they write. Then the text of the JSON value of each, and that the copy of a',
-  '# script is equal to it. Made by tools/rows/worked.js.',
+  '# `cost` and `verify`, which takes the table that `cost` wrote, and what they write; and of `same`, with the fixed text and with the next script.',
+  '# Then the text of the JSON value of each, and that the copy of a script is equal to it. Made by tools/rows/worked.js.',
   ...ACCEPTED.flatMap(workedOf),
   ...ACCEPTED.map((it) => [it, treeJson(parse(it, LIMITS).tree)]).filter(([, json]) => isShort(json)).map(([it, json]) => row('value text', it, json)),
   ...EXPRESSIONS.filter((it) => parseOnly(it, LIMITS).ok).map((it) => `equal copy\t${written(it)}\t(true, true)true`),
@@ -283,7 +290,7 @@ function gaugedRows(given) {
     return `${given}\t(Ok(${status}), ${Buffer.byteLength(out)}, true)`;
   };
   const { tree } = parse(text, LIMITS);
-  const rows = ['fix', 'unwrap', 'tree', 'check', 'spans', 'cost'].map((it) => `gauged run\t${it}\t${size(it)}`);
+  const rows = ['fix', 'unwrap', 'tree', 'check', 'spans', 'cost', 'same'].map((it) => `gauged run\t${it}\t${size(it)}`);
   return [...rows, `gauged layout\t${given}\t(Ok(()), ${Buffer.byteLength(layout(tree, new Set()))}, true)`, `gauged table\t${given}\t(Ok(()), ${Buffer.byteLength(answer('cost', text)[0])}, true)`];
 }
 

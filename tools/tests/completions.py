@@ -11,7 +11,7 @@ import recipes
 from libraries import tool
 from recipes import is_well, same
 
-COMMANDS = {'check', 'cost', 'fix', 'help', 'tree', 'unwrap', 'verify'}
+COMMANDS = {'check', 'cost', 'fix', 'help', 'same', 'tree', 'unwrap', 'verify'}
 SHARED = {'--jobs', '--files-from', '--help', '--version', '--project', '--stdin', '--hints', '--unsupported', '--summary'}
 REWRITING = {'--write', '--diff'} | SHARED
 CHECKING = {'--settings', '--format', '--color', '--ends', '--suppressions', '--max-warnings', '--explain'} | SHARED
@@ -20,7 +20,7 @@ SCRIPTS = {'a.js', 'two words.js'}
 ASKED = [
     ('jslint ', COMMANDS, set()), ('jslint c', {'check', 'cost'}, {'fix'}), ('jslint -', {'--help', '--version'}, {'check'}),
     ('jslint help ', COMMANDS - {'help'}, SCRIPTS), ('jslint check ', SCRIPTS, COMMANDS), ('jslint check -', {'--settings', '--spans', '--help'}, {'--version'}),
-    ('jslint check --settings ', {'s.toml'}, COMMANDS), ('jslint unwrap ', SCRIPTS, COMMANDS), ('jslint verify ', SCRIPTS, COMMANDS),
+    ('jslint check --settings ', {'s.toml'}, COMMANDS), ('jslint unwrap ', SCRIPTS, COMMANDS), ('jslint verify ', SCRIPTS, COMMANDS), ('jslint same a.js ', SCRIPTS, COMMANDS),
     ('jslint verify a.js ', {'table'}, COMMANDS), ('jslint fix -', {'--help'}, {'--settings', '--write'}),
     ('jslint-files ', {'check', 'fix', 'unwrap'} | SCRIPTS, {'tree'}), ('jslint-files -', CHECKING, {'--write'}),
     ('jslint-files check -', CHECKING, {'--write'}), ('jslint-files fix -', REWRITING | {'--drop-comments'}, {'--settings', '--format'}),

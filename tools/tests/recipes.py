@@ -143,7 +143,9 @@ def standard_input(room):
     room.git('add', 'a.js')
     room.git('commit', '-q', '-m', 'a')
     room.put('a.js', RIGHT)
-    same(room.sh(block('Standard input', 'sh')), (1, ''.join(f'{it}\n' for it in FOUND), ''))
+    same(room.sh(block('Standard input', 'sh')), (0, ''.join(f'{it}\n' for it in [*FOUND, 'not only the layout changed']), ''))
+    room.put('a.js', 'let x = 1; // b\n')
+    same(room.sh(block('Standard input', 'sh')), (0, ''.join(f'{it}\n' for it in FOUND), ''))
 
 
 def in_place(room):
@@ -266,7 +268,7 @@ def redirections(room):
     room.put('a.js', '(a) + b;\n')
     room.put('table', 'jslint-cost 2\n1 BinaryExpression 0 0 0 0 0 - - -\n2 Identifier\n3 Identifier\ntotal 0\n')
     lost = (2, '', 'jslint: write failed\n')
-    for words in ('check a.js', 'fix a.js', 'unwrap a.js', 'tree a.js', 'cost a.js', 'verify a.js table', '--help', '--version'):
+    for words in ('check a.js', 'fix a.js', 'unwrap a.js', 'tree a.js', 'cost a.js', 'verify a.js table', 'check - <a.js', '--help', '--version'):
         same(room.sh(f'jslint {words} >/dev/full'), lost, words)
         same(room.sh(f'jslint {words} >&-'), lost, words)
         same(room.sh(f'jslint {words} >/dev/full 2>&-'), (2, '', ''), words)
@@ -275,6 +277,8 @@ def redirections(room):
         ('fix /dev/stdin <&-', '/dev/stdin: missing'), ('fix .', '.: a folder'), ('unwrap .', '.: a folder'), ('fix none.js', 'none.js: missing'), ('unwrap none.js', 'none.js: missing'),
         ('fix a.js/b.js', 'a.js/b.js: missing'), ('fix round', 'round: links in a circle'), ('check --settings . a.js', '.: a folder'),
         ('check --settings none a.js', 'none: missing'), ('check --settings none .', 'none: missing'), ('verify a.js .', '.: a folder'),
+        ('fix - <&-', '-'), ('fix - <.', '-: a folder'), ('fix - 0>/dev/null', '-'), ('same a.js - <&-', '-'), ('same - a.js <&-', '-'), ('check --settings table - <&-', '-'), ('verify a.js - <.', '-: a folder'), ('same none.js - <a.js', 'none.js: missing'),
+        ('same - - <a.js', '-: both files are standard input'), ('verify - - <&-', '-: both files are standard input'), ('check --settings - - <a.js', '-: both files are standard input'), ('same a.js none', 'none: missing'), ('same . a.js', '.: a folder'),
         ('verify a.js none', 'none: missing'), ('verify none.js .', 'none.js: missing'), ('fix "$(printf "no\\njslint: \\033[1m")"', 'no\\x0ajslint: \\x1b[1m: missing'),
     ]
     for words, why in unread:
@@ -284,10 +288,16 @@ def redirections(room):
     for words, tip in [('app.js', 'app.js'), ('src/app', 'src/app'), ('a.js b.js', 'a.js'), ('app', None), ('"a b.js"', None), ('"a;b.js"', None), ('-a.js', None), ('check', None)]:
         status, out, err = room.sh(f'jslint {words}')
         is_well((status, out) == (2, '') and (err.endswith(f"'--help'.\n\n  tip: jslint check {tip}\n") if tip else 'tip: jslint' not in err), f'{words} {err}')
-    for words in ('(printf "(a"; sleep 0.2; printf ") + b;") | jslint fix /dev/stdin', 'jslint fix /dev/stdin <a.js', 'cat a.js | jslint fix /dev/stdin | cat', 'jslint fix a.js </dev/null', 'cat a.js | jslint unwrap /dev/stdin'):
+    for words in ('(printf "(a"; sleep 0.2; printf ") + b;") | jslint fix /dev/stdin', 'jslint fix /dev/stdin <a.js', 'cat a.js | jslint fix /dev/stdin | cat', 'jslint fix a.js </dev/null', 'cat a.js | jslint unwrap /dev/stdin', '(printf "(a"; sleep 0.2; printf ") + b;") | jslint fix -', 'jslint fix - <a.js', 'cat a.js | jslint unwrap -- - | cat'):
         same(room.sh(words), (0, 'a + b;\n', ''), words)
     same(room.sh('printf "(a) // b" | jslint unwrap /dev/stdin | cat'), (0, 'a // b', ''))
     same(room.sh('jslint verify a.js /dev/stdin <table'), (0, 'pairs 1 least 0\n', ''))
+    same([room.sh(f'jslint {it}') for it in ('verify a.js - <table', 'verify - table <a.js')], [(0, 'pairs 1 least 0\n', '')] * 2)
+    room.put('-', 'b;\n')
+    for words, status in [('same a.js - <a.js', 0), ('same - a.js <a.js', 0), ('same ./- - <a.js', 1), ('same - ./- <a.js', 1), ('same ./- - </dev/null', 1), ('same a.js ./-', 1), ('same ./- ./-', 0), ('same a.js a.js <&-', 0), ('same a.js a.js >&-', 0)]:
+        same(room.sh(f'jslint {words}'), (status, '', ''), words)
+    same(room.sh('printf "a +" | jslint same a.js -'), (2, '', 'jslint: second file: syntax error at 1:4\n'))
+    same(room.sh('printf "\\377" | jslint same a.js -'), (2, '', 'jslint: second file: not UTF-8 at byte 0\n'))
 
 
 def statuses(room):

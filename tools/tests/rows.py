@@ -291,7 +291,7 @@ def outcome(answer):
 
 def ordered(name):
     def run(texts, want):
-        second = texts[1].encode() if name in ('check', 'spans', 'verify') else None
+        second = texts[1].encode() if name in ('check', 'spans', 'verify', 'same') else None
         answer = command(name, texts[0].encode(), second)
         return hold(outcome(answer) == want, answer)
     return run
@@ -303,7 +303,7 @@ def check_bytes(texts, want):
 
 
 def embedded(texts, want):
-    answer = command(texts[0], texts[1].encode(), texts[2].encode() if texts[0] in ('check', 'spans', 'verify') else None)
+    answer = command(texts[0], texts[1].encode(), texts[2].encode() if texts[0] in ('check', 'spans', 'verify', 'same') else None)
     return hold(outcome(answer) == want, answer)
 
 
@@ -318,10 +318,10 @@ def source(texts, want):
 
 def line_of(want):
     """The status and what is on standard error where a run answers so."""
-    match = re.fullmatch(r'Err\(Refused \{ fault: (\w+)(?:\((.*)\))?, line: (\d+), column: (\d+) \}\)', want)
+    match = re.fullmatch(r'Err\(Refused \{ fault: (\w+)(?:\((.*)\))?, in_second: (\w+), line: (\d+), column: (\d+) \}\)', want)
     if not match:
         return int(re.fullmatch(r'Ok\((\d+)\)', want)[1]), ''
-    name, has, at = match[1], match[2], f' at {match[3]}:{match[4]}'
+    name, has, at = match[1], match[2], f' at {match[4]}:{match[5]}'
     words = {
         'Syntax': 'syntax error' + at, 'TooLong': 'longer than 16777216 bytes', 'TooDeep': 'nested too deep',
         # (what can't be read is this folder, as `device` has it)
@@ -331,7 +331,7 @@ def line_of(want):
         words[name] = f'early error E{has.split(",")[0]}{at}'
     if name == 'BadTable':
         words[name] = 'bad table row {} {}'.format(*has.split(', '))
-    return 1 if name == 'BadTable' else 2, f'jslint: {words[name]}\n'
+    return 1 if name == 'BadTable' else 2, f'jslint: {"second file: " if match[3] == "true" else ""}{words[name]}\n'
 
 
 def fails_at(plan):
@@ -357,8 +357,8 @@ def run_of(texts, want, content):
     words = [*WORDS.get(name, [name]), '--', device('script', content, reader, want if not fails_at(second_reader) else '')]
     if name in ('check', 'spans') and (second or second_reader):
         words[1:1] = ['--settings', device('settings', second.encode(), second_reader, want)]
-    elif name == 'verify':
-        words.append(device('table', second.encode(), second_reader, want))
+    elif name in ('verify', 'same'):
+        words.append(device('second', second.encode(), second_reader, want))
     room = len(bytes_written.encode()) if 'WriteFailed' in answers else None
     answer = call(words, room=room)
     return hold((answer.status, answer.err) == line_of(answers) and written(answer.out) == bytes_written, answer)
@@ -383,9 +383,9 @@ def json_row(texts, want):
 
 
 # What the commands answer for `((a));`, with settings that turn its reports off, and with its table.
-ASKED = {'check': (0, ''), 'spans': (0, ''), 'fix': (0, 'a;\n'), 'unwrap': (0, 'a;'), 'cost': (0, 'jslint-cost 2\n1 Identifier\ntotal 0\n'), 'verify': (0, 'pairs 2 least 0\n'), 'tree': (0, None)}
+ASKED = {'check': (0, ''), 'spans': (0, ''), 'fix': (0, 'a;\n'), 'unwrap': (0, 'a;'), 'cost': (0, 'jslint-cost 2\n1 Identifier\ntotal 0\n'), 'verify': (0, 'pairs 2 least 0\n'), 'tree': (0, None), 'same': (0, '')}
 OFF = b'[rules]\nno-undef = false\nno-extra-parens = false\n'
-SECONDS = {'check': OFF, 'spans': OFF, 'verify': ASKED['cost'][1].encode()}
+SECONDS = {'check': OFF, 'spans': OFF, 'verify': ASKED['cost'][1].encode(), 'same': b'a'}
 # And without settings.
 REPORTED = {
     'check': (1, "1:1 no-extra-parens unnecessary parentheses\n1:2 no-extra-parens unnecessary parentheses\n1:3 no-undef 'a' is not defined\n"),
@@ -397,18 +397,23 @@ def command_line(texts, want):
     words = texts[0].split(' ')[1:]
     asked = re.fullmatch(r'\((\w+)(?:\((\w+)\))?, "(.*?)", (?:None|Some\("(.*)"\))\)', want)
     with tempfile.TemporaryDirectory(dir=ROOM.name) as folder:
+        given = b'((a));'
         if asked:
             name, file, second = 'spans' if asked[2] == 'Spans' else asked[1].lower(), asked[3], asked[4]
             for it, content in [(second, SECONDS.get(name)), (file, b'((a));')]:
+                # (what `-` stands for is standard input, not a file of that name)
+                given = content if it == '-' else given
                 if it and not it.startswith('/'):
                     with open(f'{folder}/{it}', 'wb') as to:
-                        to.write(content)
-        ran = subprocess.run([PROGRAM, *words], cwd=folder, input=b'((a));', stdout=subprocess.PIPE, stderr=subprocess.PIPE)
+                        to.write(b')' if it == '-' else content)
+        ran = subprocess.run([PROGRAM, *words], cwd=folder, input=given, stdout=subprocess.PIPE, stderr=subprocess.PIPE)
     answer = Answer(ran.returncode, ran.stdout.decode(), ran.stderr.decode())
     if not asked:
         is_shown = want in ('DisplayHelp', 'DisplayVersion')
         return hold((answer.status, answer.out != '', answer.err != '') == ((0, True, False) if is_shown else (2, False, True)), answer)
-    if second == file:
+    if second == file == '-':
+        return hold((answer.status, answer.out, answer.err) == (2, '', 'jslint: read failed: -: both files are standard input\n'), answer)
+    if second == file and name != 'same':
         # (the script is no table and no settings)
         return hold((answer.out, answer.err) == ('', 'jslint: bad table row 0 Form\n' if name == 'verify' else 'jslint: bad settings\n'), answer)
     if second == '':
@@ -420,7 +425,7 @@ def command_line(texts, want):
 # By the row's call; in this order, so that the longest come first.
 CALLS = {
     'begins': begins, 'run': run, 'run bytes': run_bytes, 'fixes': fixes, 'fix': fix, 'unwrap': unwrap, 'pairs': pairs, 'items': items, 'tree': tree, 'alike': alike,
-    'early': early, 'extra': extra, 'plan': plan, 'check': ordered('check'), 'spans': ordered('spans'), 'cost': ordered('cost'), 'verify': ordered('verify'),
+    'early': early, 'extra': extra, 'plan': plan, 'check': ordered('check'), 'spans': ordered('spans'), 'cost': ordered('cost'), 'verify': ordered('verify'), 'same': ordered('same'),
     'check bytes': check_bytes, 'embedded': embedded, 'source': source, 'json': json_row, 'command line': command_line,
 }
 # Calls that say how the program treats its words, files and streams: a library has none.

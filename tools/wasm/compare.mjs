@@ -4,7 +4,7 @@
 //
 // FOLDER is packages/npm with its module. Of folders it takes the files *.js. Without files: those of Debian's packages (../compare/scripts.js), or with
 // --n generated texts: COUNT of each kind of ../compare/program.js, and the strewn scripts of ../compare/unwrap.js. `check` runs with settings too,
-// `verify` on the table of `cost`, and on that table with another total. Prints a line for each difference, and then how many answers were compared;
+// `verify` on the table of `cost`, and on that table with another total; `same` with the fixed text, and that with another statement. Prints a line for each difference, and then how many answers were compared;
 // status 1 where any differs.
 import { spawnSync } from 'node:child_process';
 import { mkdtempSync, readFileSync, readdirSync, rmSync, statSync, writeFileSync } from 'node:fs';
@@ -39,7 +39,7 @@ function generated(count, seed) {
 function answered(room, command, file, second) {
   const more = join(room, 'second');
   if (second !== undefined) writeFileSync(more, second);
-  const words = second === undefined ? [file] : command === 'verify' ? [file, more] : ['--settings', more, file];
+  const words = second === undefined ? [file] : command === 'verify' || command === 'same' ? [file, more] : ['--settings', more, file];
   return spawnSync(values.program, [command, ...words], { maxBuffer: MOST_OUTPUT });
 }
 
@@ -59,7 +59,9 @@ function compare(room, command, { file, name, text }, second) {
 function compareAll(room, file, name = file) {
   const script = { file, name, text: readFileSync(file) };
   counts.scripts++;
-  for (const command of ['check', 'tree', 'fix', 'unwrap']) compare(room, command, script);
+  for (const command of ['check', 'tree', 'unwrap']) compare(room, command, script);
+  const fixed = compare(room, 'fix', script);
+  if (!fixed.isRefusal) for (const more of ['', 'a;']) compare(room, 'same', script, Buffer.from(fixed.text + more));
   compare(room, 'check', script, SETTINGS);
   const table = compare(room, 'cost', script);
   if (table.isRefusal) return;

@@ -84,6 +84,7 @@ pub(crate) fn push_line(alloc: Global, row: &Case, out: &mut String) -> Result<(
     let status = write_refusal(
         &Refused {
             fault,
+            in_second: row.text(5) == "second",
             line,
             column,
         },

@@ -29,6 +29,7 @@ pub(crate) fn command(word: &str) -> Command {
         "unwrap" => Command::Unwrap,
         "cost" => Command::Cost,
         "verify" => Command::Verify,
+        "same" => Command::Same,
         _ => Command::Fix,
     }
 }

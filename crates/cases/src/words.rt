@@ -113,6 +113,7 @@ fn failure(word: &str) -> ReadFailure {
         "Folder" => ReadFailure::Folder,
         "NotPermitted" => ReadFailure::NotPermitted,
         "LinkCircle" => ReadFailure::LinkCircle,
+        "Twice" => ReadFailure::Twice,
         _ => ReadFailure::Other,
     }
 }

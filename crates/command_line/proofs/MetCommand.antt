@@ -14,7 +14,7 @@ use Rattle.clap.specs.declared.error.kind.ErrorKind.{ErrorKind}
 use Rattle.clap.specs.declared.error.kind.ErrorKind.TheVariants.{DisplayHelp, InvalidSubcommand}
 use Rattle.commands.specs.Commands.{word_of}
 use Rattle.commands.specs.declared.command.Command.{Command}
-use Rattle.commands.specs.declared.command.Command.TheVariants.{Check, Tree, Fix, Unwrap, Cost, Verify}
+use Rattle.commands.specs.declared.command.Command.TheVariants.{Check, Tree, Fix, Unwrap, Cost, Verify, Same}
 use Rattle.commands.specs.declared.command.ReportForm.TheVariants.{Places}
 use Rattle.command_line.specs.CommandLine.{HasFiles, MeetsCommand, command_app, jslint_app}
 use Rattle.command_line.proofs.GivenValues.{is_unflagged, value_of_given}
@@ -242,7 +242,9 @@ all_serve =
     let unwrap : one_file Unwrap = λ words. value_of_wanted file (leaf Unwrap) words refl refl refl in
     let cost : one_file Cost = λ words. value_of_wanted file (leaf Cost) words refl refl refl in
     let verify : one_file Verify = λ words. value_of_wanted file (leaf Verify) words refl refl refl in
-    let table = λ (words : List Text) (e : leaf_fault (leaf Verify) words ≡ []). value_of_wanted (codes "table") (leaf Verify) words refl refl refl e in (
+    let same : one_file Same = λ words. value_of_wanted file (leaf Same) words refl refl refl in
+    let table = λ (words : List Text) (e : leaf_fault (leaf Verify) words ≡ []). value_of_wanted (codes "table") (leaf Verify) words refl refl refl e in
+    let other = λ (words : List Text) (e : leaf_fault (leaf Same) words ≡ []). value_of_wanted (codes "other") (leaf Same) words refl refl refl e in (
       serves (Check Places) (leaf (Check Places)) refl check,
       (
         serves Tree (leaf Tree) refl tree,
@@ -252,7 +254,10 @@ all_serve =
             serves Unwrap (leaf Unwrap) refl unwrap,
             (
               serves Cost (leaf Cost) refl cost,
-              (serves Verify (leaf Verify) refl (λ words e. (verify words e, table words e)), (serves_help (built_leaf help_shape) refl refl, tt)),
+              (
+                serves Verify (leaf Verify) refl (λ words e. (verify words e, table words e)),
+                (serves Same (leaf Same) refl (λ words e. (same words e, other words e)), (serves_help (built_leaf help_shape) refl refl, tt)),
+              ),
             ),
           ),
         ),

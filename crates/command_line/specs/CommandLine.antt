@@ -8,12 +8,12 @@ use Rattle.clap.specs.declared.error.kind.ErrorKind.{ErrorKind}
 use Rattle.clap.specs.declared.error.kind.ErrorKind.TheVariants.{DisplayHelp, DisplayVersion}
 use Rattle.commands.specs.Commands.{word_of}
 use Rattle.commands.specs.declared.command.Command.{Command}
-use Rattle.commands.specs.declared.command.Command.TheVariants.{Check, Tree, Fix, Unwrap, Cost, Verify}
+use Rattle.commands.specs.declared.command.Command.TheVariants.{Check, Tree, Fix, Unwrap, Cost, Verify, Same}
 use Rattle.commands.specs.declared.command.ReportForm.{ReportForm}
 use Rattle.commands.specs.declared.command.ReportForm.TheVariants.{Places, Spans}
 use Rattle.command_line.specs.declared.line.Line.{Line}
 
--- an argument that must stand there, by its id: FILE and TABLE
+-- an argument that must stand there, by its id: FILE, TABLE and OTHER
 abbrev pub required_rule : Text → Rule
 required_rule id = record (new_rule id) { required = true; value_names = 1 }
 
@@ -33,6 +33,7 @@ file_app word = with_rule (new_app word) (required_rule (codes "file"))
 abbrev pub command_app : Command → App
 command_app (Check form) = with_rule (with_rule (file_app (word_of (Check form))) settings_rule) spans_rule
 command_app Verify = with_rule (file_app (word_of Verify)) (required_rule (codes "table"))
+command_app Same = with_rule (file_app (word_of Same)) (required_rule (codes "other"))
 command_app other = file_app (word_of other)
 
 abbrev pub with_command : App → Command → App
@@ -44,12 +45,13 @@ bare_app = on_top (λ s. record s { has_version = true; subcommand_required = tr
 
 -- with its commands
 abbrev pub jslint_app : App
-jslint_app = with_command (with_command (with_command (with_command (with_command (with_command bare_app (Check Places)) Tree) Fix) Unwrap) Cost) Verify
+jslint_app = with_command (with_command (with_command (with_command (with_command (with_command (with_command bare_app (Check Places)) Tree) Fix) Unwrap) Cost) Verify) Same
 
--- the second file of a command by what its words matched: `check` has one where settings are named, `verify` always, no other has one
+-- the second file of a command by what its words matched: `check` has one where settings are named, `verify` and `same` always, no other has one
 abbrev pub HasSecond : Command → List Row → Option Text → Type 0
 HasSecond (Check form) rows second = second ≡ first_of (codes "settings") rows
 HasSecond Verify rows second = (second ≡ first_of (codes "table") rows) × (is_some second ≡ true)
+HasSecond Same rows second = (second ≡ first_of (codes "other") rows) × (is_some second ≡ true)
 HasSecond other rows second = second ≡ None
 
 -- whether a flag was given
@@ -77,6 +79,7 @@ plain other = other
 -- the files that a command must have are among what its words matched
 abbrev pub HasFiles : Command → List Row → Type 0
 HasFiles Verify rows = (is_some (first_of (codes "file") rows) ≡ true) × (is_some (first_of (codes "table") rows) ≡ true)
+HasFiles Same rows = (is_some (first_of (codes "file") rows) ≡ true) × (is_some (first_of (codes "other") rows) ≡ true)
 HasFiles other rows = is_some (first_of (codes "file") rows) ≡ true
 
 -- the subcommand that was met is a command, and has its files

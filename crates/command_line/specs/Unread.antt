@@ -4,7 +4,7 @@ use Rattle.commands.specs.Refusal.{fault_words}
 use Rattle.source_text.specs.declared.fault.Fault.TheVariants.{ReadFailed}
 use Rattle.command_line.specs.Shown.{escaped_name}
 use Rattle.command_line.specs.declared.unread.ReadFailure.{ReadFailure}
-use Rattle.command_line.specs.declared.unread.ReadFailure.TheVariants.{Missing, Folder, NotPermitted, LinkCircle, Other}
+use Rattle.command_line.specs.declared.unread.ReadFailure.TheVariants.{Missing, Folder, NotPermitted, LinkCircle, Twice, Other}
 
 -- what stands behind the name: nothing where the reason isn't known
 abbrev pub failure_words : ReadFailure → List ℕ
@@ -12,6 +12,7 @@ failure_words Missing = codes ": missing"
 failure_words Folder = codes ": a folder"
 failure_words NotPermitted = codes ": not permitted"
 failure_words LinkCircle = codes ": links in a circle"
+failure_words Twice = codes ": both files are standard input"
 failure_words Other = []
 
 -- the words before the name

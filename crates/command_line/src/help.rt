@@ -32,6 +32,9 @@ pub const COST: &str = "Write the cost table: how many parentheses each part nee
 /// What the help says of `verify`.
 pub const VERIFY: &str = "Check a cost table: how many pairs the script has, and needs at least";
 
+/// What the help says of `same`.
+pub const SAME: &str = "Compare two scripts: status 0 if they have one tree, 1 if not";
+
 /// What the help says of the script's file.
 pub const FILE: &str = "The script";
 
@@ -44,6 +47,9 @@ pub const SPANS: &str = "Lines START END RULE TEXT: where a report is, in bytes 
 /// What the help says of the cost table's file.
 pub const TABLE: &str = "A cost table, as `cost` writes it";
 
+/// What the help says of the other script's file.
+pub const OTHER: &str = "The script that FILE is compared with";
+
 /// What stands below the commands.
 pub const AFTER: &str = "\
 Examples:
@@ -55,7 +61,9 @@ Examples:
   jslint unwrap app.js > clean.js
   jslint cost app.js > app.cost
   jslint verify app.js app.cost
+  jslint same app.js clean.js
   jslint check -- -h.js
+  git show HEAD:app.js | jslint check -
 
 `fix` drops comments, `unwrap` keeps them.
 
@@ -64,9 +72,10 @@ A name that may begin with `-` goes after `--`, or it is read as an option:
 
 Limits: 16,777,216 bytes of a script in UTF-8, and of settings; a tree of height
 600; 1,200 parentheses open at one point that group or hold an arrow's
-parameters. /dev/stdin reads standard input; `-` is the name of a file.
+parameters. `-` is standard input, as FILE or in the place of a second file;
+`./-` is a file of that name.
 
 Exit status:
-  0  done, and `check` had no report
-  1  `check` had a report, or `verify` found the table wrong
+  0  done; `check` had no report, and `same` found one tree
+  1  `check` had a report, `verify` found the table wrong, or `same` two trees
   2  refused: standard error says why";

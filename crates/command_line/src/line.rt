@@ -4,7 +4,7 @@ ghost use Rattle.std.specs.Prelude.{◌≡◌, IfErr, IfOk, IfSome, IsOkAnd, Som
 ghost use Rattle.clap.specs.Words.{FailsBy, app_of, fault_of, kind_of, rows_of, found_of, subcommand_of, subcommand_rows_of, takes, with_subcommand};
 ghost use Rattle.clap.specs.declared.builder.command.Command.TheViews.{out-Command};
 ghost use Rattle.commands.specs.Commands.{word_of};
-ghost use Rattle.commands.specs.declared.command.Command.TheVariants.{Check, Verify};
+ghost use Rattle.commands.specs.declared.command.Command.TheVariants.{Check, Same, Verify};
 ghost use Rattle.commands.specs.declared.command.ReportForm.TheVariants.{Places};
 ghost use Rattle.command_line.specs.CommandLine.{Chooses, MeetsCommand, bare_app, command_app, file_app, form_of, jslint_app, plain};
 
@@ -20,7 +20,8 @@ pub struct Line<'a> {
     pub command: Command,
     /// The script.
     pub file: &'a str,
-    /// The settings of `check`, where they are given, and the table of `verify`. No other command has a second file.
+    /// The settings of `check`, where they are given, the table of `verify`, and the other script of `same`. No other command has a second
+    /// file.
     pub second: Option<&'a str>,
 }
 
@@ -86,6 +87,18 @@ fn verify_command<'a>(alloc: Global) -> Result<clap::Command<'a>, AllocError>
     file_command(alloc, "verify", help::VERIFY)?.arg(table)
 }
 
+/// `same`, with its OTHER.
+fn same_command<'a>(alloc: Global) -> Result<clap::Command<'a>, AllocError>
+    ensures shape { IfOk result (λ c. app_of c ≡ command_app Same) }
+    ensures local { IfOk result (λ c. (out-Command c).has_globals ≡ false) }
+{
+    let other = Arg::new(alloc, "other")
+        .required(true)
+        .value_name("OTHER")
+        .help(help::OTHER);
+    file_command(alloc, "same", help::SAME)?.arg(other)
+}
+
 /// This command with one more below it, if there is one.
 fn with_command<'a>(
     command: clap::Command<'a>,
@@ -131,7 +144,8 @@ pub(crate) fn jslint_command<'a>(alloc: Global) -> Result<clap::Command<'a>, All
         noted_command(alloc, "unwrap", help::UNWRAP, help::UNWRAP_NOTE),
     )?;
     let jslint = with_command(jslint, file_command(alloc, "cost", help::COST))?;
-    with_command(jslint, verify_command(alloc))
+    let jslint = with_command(jslint, verify_command(alloc))?;
+    with_command(jslint, same_command(alloc))
 }
 
 /// The command of this word, if there is one: `check` with places.
@@ -171,6 +185,7 @@ fn line_of<'a>(matches: &ArgMatches<'a>) -> Line<'a>
     let (command, second) = match plain {
         Command::Check(_) => (Command::Check(form_met(met)), met.get_str("settings")),
         Command::Verify => (plain, met.get_str("table")),
+        Command::Same => (plain, met.get_str("other")),
         Command::Tree | Command::Fix | Command::Unwrap | Command::Cost => (plain, None),
     };
     Line {

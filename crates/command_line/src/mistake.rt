@@ -152,12 +152,12 @@ pub fn explain<R: AllocGlobal + Print + Eprint, W: Sink>(
     requires { W.failed errors.old ≡ false }
     ensures mistake { is_asked_for (kind_of error.now) ≡ false → result ≡ 2 }
     ensures memory { kind_of error.now ≡ ErrorKind.OutOfMemory →
-        WritesLine (refusal_line (record { fault = OutOfMemory; line = 0; column = 0 })) (W.taken errors.old) (W.taken errors.new) (W.failed errors.new) }
+        WritesLine (refusal_line (record { fault = OutOfMemory; in_second = false; line = 0; column = 0 })) (W.taken errors.old) (W.taken errors.new) (W.failed errors.new) }
     ensures said { is_asked_for (kind_of error.now) ≡ false →
         WritesMistake (tip_of (kind_of error.now) (map (λ w. w.now) words.now)) (W.taken errors.old) (W.taken errors.new) (W.failed errors.new) }
     ensures shown { result ≡ 0 → W.taken errors.new ≡ W.taken errors.old }
     ensures lost { is_asked_for (kind_of error.now) ≡ true → result ≢ 0 →
-        WritesLine (refusal_line (record { fault = WriteFailed; line = 0; column = 0 })) (W.taken errors.old) (W.taken errors.new) (W.failed errors.new) }
+        WritesLine (refusal_line (record { fault = WriteFailed; in_second = false; line = 0; column = 0 })) (W.taken errors.old) (W.taken errors.new) (W.failed errors.new) }
     ensures status { result ≢ 0 → result ≡ 2 }
 {
     if error.kind() == ErrorKind::OutOfMemory {

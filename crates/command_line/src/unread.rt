@@ -19,6 +19,8 @@ pub enum ReadFailure {
     NotPermitted,
     /// Its name leads from link to link without end.
     LinkCircle,
+    /// It is standard input, and so is the other file.
+    Twice,
     /// Any other reason, or none is told.
     Other,
 }
@@ -26,13 +28,14 @@ pub enum ReadFailure {
 /// What is said behind the name.
 fn failure_words(failure: ReadFailure) -> &'static str
     ensures words { result.now ≡ failure_words failure }
-    ensures short { length result.now ≤ 19 }
+    ensures short { length result.now ≤ 31 }
 {
     match failure {
         ReadFailure::Missing => ": missing",
         ReadFailure::Folder => ": a folder",
         ReadFailure::NotPermitted => ": not permitted",
         ReadFailure::LinkCircle => ": links in a circle",
+        ReadFailure::Twice => ": both files are standard input",
         ReadFailure::Other => "",
     }
 }

@@ -40,8 +40,13 @@ fault_words ReadFailed place = codes "read failed"
 fault_words UnwrapFailed place = codes "can't be unwrapped"
 fault_words Usage place = []
 
+-- that a refusal speaks of the second script
+abbrev pub script_words : Bool → List ℕ
+script_words true = codes "second file: "
+script_words false = []
+
 abbrev pub refusal_words : Refused → List ℕ
-refusal_words refused = fault_words refused.fault (place_words refused.line refused.column)
+refusal_words refused = script_words refused.in_second ++ fault_words refused.fault (place_words refused.line refused.column)
 
 -- the line of a refusal, with its line feed
 abbrev pub refusal_line : Refused → List ℕ

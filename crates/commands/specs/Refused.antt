@@ -1,5 +1,5 @@
 -- The place that a refusal speaks of.
-use Rattle.std.specs.Prelude.{ℕ, List}
+use Rattle.std.specs.Prelude.{ℕ, List, false}
 use Rattle.source_text.specs.Source.{IsPlace}
 use Rattle.source_text.specs.Lines.{line_column}
 use Rattle.source_text.specs.declared.fault.Fault.{Fault}
@@ -20,4 +20,4 @@ HasPlace text other = Unit {0}
 
 -- memory is refused
 abbrev pub no_memory : Refused
-no_memory = record { fault = OutOfMemory; line = 0; column = 0 }
+no_memory = record { fault = OutOfMemory; in_second = false; line = 0; column = 0 }

@@ -27,17 +27,20 @@ pub enum Command {
     Cost,
     /// Check a cost table against the script.
     Verify,
+    /// Tell by the status whether another script has the same tree.
+    Same,
 }
 
 impl Command {
     /// One of each word: `check` with places.
-    pub const ALL: [Command; 6] = [
+    pub const ALL: [Command; 7] = [
         Command::Check(ReportForm::Places),
         Command::Tree,
         Command::Fix,
         Command::Unwrap,
         Command::Cost,
         Command::Verify,
+        Command::Same,
     ];
 
     /// The word for it on the command line.
@@ -51,6 +54,7 @@ impl Command {
             Command::Unwrap => "unwrap",
             Command::Cost => "cost",
             Command::Verify => "verify",
+            Command::Same => "same",
         }
     }
 }

@@ -2,7 +2,7 @@
 
 ghost use Rattle.std.specs.Prelude.{◌≡◌, ◌≢◌, ◌≤◌, ◌+◌, ◌++◌, false, length};
 ghost use Rattle.std.specs.Fmt.{decimal};
-ghost use Rattle.commands.specs.Refusal.{WritesLine, place_words, reason_words, refusal_line, refusal_words, status_of};
+ghost use Rattle.commands.specs.Refusal.{WritesLine, fault_words, place_words, reason_words, refusal_line, script_words, status_of};
 
 use crate::refused::Refused;
 use source_text::{Fault, OutputBuffer, Reason, Sink, write_text};
@@ -32,7 +32,7 @@ fn reason_name(reason: Reason) -> &'static str
 
 /// Adds a number, which has at most 20 digits.
 fn push_number(line: &mut OutputBuffer, number: usize)
-    requires { length line.old ≤ 76 }
+    requires { length line.old ≤ 79 }
     ensures digits { line.new ≡ line.old ++ decimal number }
     ensures short { length line.new ≤ length line.old + 20 }
 {
@@ -41,7 +41,7 @@ fn push_number(line: &mut OutputBuffer, number: usize)
 
 /// Adds the line and the column.
 fn push_line_column(line: &mut OutputBuffer, refused: &Refused)
-    requires { length line.old ≤ 54 }
+    requires { length line.old ≤ 58 }
     ensures words { line.new ≡ line.old ++ place_words refused.now.line refused.now.column }
     ensures short { length line.new ≤ length line.old + 41 }
 {
@@ -50,12 +50,23 @@ fn push_line_column(line: &mut OutputBuffer, refused: &Refused)
     push_number(line, refused.column as usize);
 }
 
-/// Adds what the refusal says.
+/// Adds that the refusal speaks of the second script, where it does.
+fn push_script(line: &mut OutputBuffer, in_second: bool)
+    requires { length line.old ≡ 8 }
+    ensures words { line.new ≡ line.old ++ script_words in_second }
+    ensures short { length line.new ≤ 21 }
+{
+    if in_second {
+        line.push_text("second file: ");
+    }
+}
+
+/// Adds what the fault says.
 fn push_words(line: &mut OutputBuffer, refused: &Refused)
-    requires start { length line.old ≡ 8 }
+    requires start { length line.old ≤ 21 }
     requires known { refused.now.fault ≢ Fault.Usage }
-    ensures words { line.new ≡ line.old ++ refusal_words refused.now }
-    ensures short { length line.new ≤ 95 }
+    ensures words { line.new ≡ line.old ++ fault_words refused.now.fault (place_words refused.now.line refused.now.column) }
+    ensures short { length line.new ≤ 108 }
 {
     match refused.fault {
         Fault::NotUtf8(at) => {
@@ -99,6 +110,7 @@ pub fn write_refusal<W: Sink>(refused: &Refused, writer: &mut W) -> u8
 {
     let mut line = OutputBuffer::new();
     line.push_text("jslint: ");
+    push_script(&mut line, refused.in_second);
     push_words(&mut line, refused);
     line.push(b'\n');
     let _ = write_text(line.as_bytes(), writer);

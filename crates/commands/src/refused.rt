@@ -1,6 +1,6 @@
 //! Refusals of a run, with the line and the column that they speak of.
 
-ghost use Rattle.std.specs.Prelude.{◌≡◌};
+ghost use Rattle.std.specs.Prelude.{◌≡◌, false};
 
 use source_text::Fault;
 use std::alloc::{AllocError, AllocFailed};
@@ -9,6 +9,8 @@ use std::alloc::{AllocError, AllocFailed};
 #[derive(Clone, Copy, Debug, PartialEq, Eq)]
 pub struct Refused {
     pub fault: Fault,
+    /// Whether it speaks of the text of the second script.
+    pub in_second: bool,
     pub line: u32,
     pub column: u32,
 }
@@ -16,10 +18,11 @@ pub struct Refused {
 impl Refused {
     /// A refusal that speaks of no place.
     pub fn at_no_place(fault: Fault) -> Refused
-        ensures { result ≡ record { fault = fault; line = 0; column = 0 } }
+        ensures { result ≡ record { fault = fault; in_second = false; line = 0; column = 0 } }
     {
         Refused {
             fault,
+            in_second: false,
             line: 0,
             column: 0,
         }

@@ -18,7 +18,7 @@ use std::alloc::{AllocError, Global};
 pub struct Output {
     /// All that it wrote.
     pub bytes: Vec<u8>,
-    /// 1 where `check` has a report, else 0.
+    /// 1 where `check` has a report or `same` has two trees, else 0.
     pub status: u8,
 }
 
@@ -34,7 +34,8 @@ fn refusal_in_memory(refused: Refused) -> Refused
     }
 }
 
-/// Runs a command over the bytes of a script and of a second text, which `check` reads as its settings and `verify` as its table.
+/// Runs a command over the bytes of a script and of a second text, which `check` reads as its settings, `verify` as its table and `same` as
+/// its other script.
 ///
 /// # Errors
 ///

@@ -3,7 +3,7 @@ use Rattle.std.specs.Prelude.{◌≡◌, ◌≤◌, ◌⊎◌, ℕ, List, ◌++�
 use Rattle.commands.specs.Refusal.{refusal_line, status_of}
 use Rattle.commands.specs.Refused.{no_memory}
 use Rattle.commands.specs.declared.command.Command.{Command}
-use Rattle.commands.specs.declared.command.Command.TheVariants.{Check, Tree, Fix, Unwrap, Cost, Verify}
+use Rattle.commands.specs.declared.command.Command.TheVariants.{Check, Tree, Fix, Unwrap, Cost, Verify, Same}
 use Rattle.commands.specs.declared.command.ReportForm.TheVariants.{Places, Spans}
 use Rattle.commands.specs.declared.refused.Refused.{Refused}
 use Rattle.embedding.specs.Answers.{AnswersBytes}
@@ -18,11 +18,12 @@ number_of Cost = 3
 number_of Verify = 4
 number_of Unwrap = 5
 number_of (Check Spans) = 6
+number_of Same = 7
 
 -- the command that a number names
 abbrev pub Names : ℕ → Option Command → Type 0
 Names number (Some command) = number ≡ number_of command
-Names number None = 7 ≤ number
+Names number None = 8 ≤ number
 
 -- the bytes over the front of the room, as far as it goes
 abbrev pub overwritten : List ℕ → List ℕ → List ℕ

@@ -26,7 +26,7 @@ pub struct Outcome {
     pub is_refusal: u32,
 }
 
-/// The command of a number: 0 `check`, 1 `tree`, 2 `fix`, 3 `cost`, 4 `verify`, 5 `unwrap`, 6 `check --spans`.
+/// The command of a number: 0 `check`, 1 `tree`, 2 `fix`, 3 `cost`, 4 `verify`, 5 `unwrap`, 6 `check --spans`, 7 `same`.
 fn command_of(number: u32) -> Option<Command>
     ensures { Names number result }
 {
@@ -38,6 +38,7 @@ fn command_of(number: u32) -> Option<Command>
         4 => Some(Command::Verify),
         5 => Some(Command::Unwrap),
         6 => Some(Command::Check(ReportForm::Spans)),
+        7 => Some(Command::Same),
         _ => None,
     }
 }
@@ -67,8 +68,8 @@ fn tell_refusal(alloc: Global, refused: &Refused, room: &mut [u8]) -> Outcome
     }
 }
 
-/// Answers a command for a script and a second text, which `check` reads as its settings and `verify` as its table: the answer's beginning, as
-/// far as there is room, how long it is, its status, and whether it is a refusal. A number of no command has no answer: length 0, status 2 and
+/// Answers a command for a script and a second text, which `check` reads as its settings, `verify` as its table and `same` as its other script:
+/// the answer's beginning, as far as there is room, how long it is, its status, and whether it is a refusal. A number of no command has no answer: length 0, status 2 and
 /// a refusal, and nothing is put into the room.
 #[unsafe(no_mangle)]
 pub extern "C" fn jslint_answer(

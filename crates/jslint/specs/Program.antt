@@ -1,5 +1,6 @@
 -- Runs of a command by the program.
-use Rattle.std.specs.Prelude.{◌≡◌, ◌≢◌, ◌⊎◌, List, [], ℕ, Bool, false, true, Option, None, Some, Result, Ok, Err, option_map}
+use Rattle.std.specs.Prelude.{◌≡◌, ◌≢◌, ◌⊎◌, ◌&&◌, List, [], ℕ, Bool, false, true, Option, None, Some, IfSome, Result, Ok, Err, option_map}
+use Rattle.std.specs.Option.{option_map_or}
 use Rattle.std.specs.Io.KnownBytes.{Keeps}
 use Rattle.std.specs.declared.io.ErrorKind.{ErrorKind as IoErrorKind}
 use Rattle.std.specs.declared.io.ErrorKind.TheVariants as io_error_kind
@@ -14,28 +15,43 @@ use Rattle.command_line.specs.Tip.{WritesMistake, tip_of}
 use Rattle.command_line.specs.Unread.{unread_line}
 use Rattle.command_line.specs.declared.line.Line.{Line}
 use Rattle.command_line.specs.declared.unread.ReadFailure.{ReadFailure}
-use Rattle.command_line.specs.declared.unread.ReadFailure.TheVariants.{Missing, Folder, NotPermitted, LinkCircle, Other}
+use Rattle.command_line.specs.declared.unread.ReadFailure.TheVariants.{Missing, Folder, NotPermitted, LinkCircle, Twice, Other}
 use Rattle.shipped_rules.specs.ShippedRules.{RunsByRules}
 use Rattle.commands.specs.Refusal.{WritesLine, refusal_line, status_of}
 use Rattle.commands.specs.declared.refused.Refused.{Refused}
+use Rattle.jslint.specs.Opened.{is_input}
 use Rattle.jslint.specs.declared.files.Stop.{Stop}
 use Rattle.jslint.specs.declared.files.Stop.TheVariants.{Refuses, Unread}
 
 -- a file can't be opened or read
 abbrev pub no_file : Refused
-no_file = record { fault = ReadFailed; line = 0; column = 0 }
+no_file = record { fault = ReadFailed; in_second = false; line = 0; column = 0 }
 
 -- the name of the second file, where there is one
 abbrev pub second_name : Line → Option Text
 second_name line = option_map (λ s. s.now) line.second
 
--- A run over the files of a line, which were opened, by what the writer took before and after, and whether it has failed. Of the bytes of
--- the files nothing is known but that a second file that isn't named is empty, and doesn't fail.
-pub record RunsOpened (line : Line) (before after : Option (List ℕ)) (failed : Bool) (result : Result ℕ Refused) : Type 0 where
+-- whether both files of a line are standard input
+abbrev pub is_twice : Line → Bool
+is_twice line = option_map_or (λ (name : Text). is_input line.file.now && is_input name) (second_name line) false
+
+-- the name of a file of a line
+abbrev pub IsNamed : Line → Text → Type 0
+IsNamed line name = (name ≡ line.file.now) ⊎ (second_name line ≡ Some name)
+
+-- What there is to read under a name: of an opened file, or of standard input for `-`.
+abbrev pub Contents : Type 1
+Contents = Text → Option (List ℕ) → Type 0
+
+-- A run over the files of a line, which were opened, by what the writer took before and after, and whether it has failed. What was read is
+-- what there is to read under their names; a second file that isn't named is empty, and doesn't fail.
+pub record RunsOpened (gives : Contents) (line : Line) (before after : Option (List ℕ)) (failed : Bool) (result : Result ℕ Refused) : Type 0 where
   pub given : Option (List ℕ)
   pub second : Option (List ℕ)
   pub reader_failed : Bool
   pub second_failed : Bool
+  pub is_given : gives line.file.now given
+  pub is_second : IfSome (second_name line) (λ name. gives name second)
   pub unnamed : line.second ≡ None → (second ≡ Some []) × (second_failed ≡ false)
   pub runs : RunsByRules line.command (record {
     given = given;
@@ -50,7 +66,7 @@ pub record RunsOpened (line : Line) (before after : Option (List ℕ)) (failed :
 -- the name of a file that can't be opened is that of a file of the line, and nothing was written
 abbrev pub IsUnopened : Line → Option (List ℕ) → Option (List ℕ) → Bool → Text → Type 0
 IsUnopened line before after failed name =
-    (failed ≡ false) × Keeps before after × ((name ≡ line.file.now) ⊎ (second_name line ≡ Some name))
+    (failed ≡ false) × Keeps before after × IsNamed line name
 
 -- the name is that of the file whose reader failed
 abbrev pub IsOfFailed : Line → Bool → Bool → Text → Type 0
@@ -58,16 +74,26 @@ IsOfFailed line reader_failed second_failed name =
     ((reader_failed ≡ true) × (name ≡ line.file.now)) ⊎ ((second_failed ≡ true) × (second_name line ≡ Some name))
 
 -- a run over opened files was refused since one failed, and that is the file of this name
-abbrev pub IsUnread : Line → Option (List ℕ) → Option (List ℕ) → Bool → Text → Type 0
-IsUnread line before after failed name =
-    (run : RunsOpened line before after failed (Err no_file)) × IsOfFailed line run.reader_failed run.second_failed name
+abbrev pub IsUnread : Contents → Line → Option (List ℕ) → Option (List ℕ) → Bool → Text → Type 0
+IsUnread gives line before after failed name =
+    (run : RunsOpened gives line before after failed (Err no_file)) × IsOfFailed line run.reader_failed run.second_failed name
 
 -- A run over the files of a line: its status; or its refusal; or the name of the file that can't be opened or read, for which there is no
 -- other refusal.
-abbrev pub RunsOnFiles : Line → Option (List ℕ) → Option (List ℕ) → Bool → Result ℕ Stop → Type 0
-RunsOnFiles line before after failed (Ok status) = RunsOpened line before after failed (Ok status)
-RunsOnFiles line before after failed (Err (Refuses refused)) = (refused.fault ≢ ReadFailed) × RunsOpened line before after failed (Err refused)
-RunsOnFiles line before after failed (Err (Unread name failure)) = IsUnopened line before after failed name.now ⊎ IsUnread line before after failed name.now
+abbrev pub RunsOnce : Contents → Line → Option (List ℕ) → Option (List ℕ) → Bool → Result ℕ Stop → Type 0
+RunsOnce gives line before after failed (Ok status) = RunsOpened gives line before after failed (Ok status)
+RunsOnce gives line before after failed (Err (Refuses refused)) = (refused.fault ≢ ReadFailed) × RunsOpened gives line before after failed (Err refused)
+RunsOnce gives line before after failed (Err (Unread name failure)) = IsUnopened line before after failed name.now ⊎ IsUnread gives line before after failed name.now
+
+-- a line whose files are both standard input is refused for that; nothing was written
+abbrev pub RefusesTwice : Line → Option (List ℕ) → Option (List ℕ) → Bool → Result ℕ Stop → Type 0
+RefusesTwice line before after failed (Err (Unread name Twice)) = (failed ≡ false) × Keeps before after × (name.now ≡ line.file.now)
+RefusesTwice line before after failed other = ⊥
+
+-- a run over the files of a line: standard input is read once
+abbrev pub RunsOnFiles : Contents → Line → Option (List ℕ) → Option (List ℕ) → Bool → Result ℕ Stop → Type 0
+RunsOnFiles gives line before after failed result =
+    ((is_twice line ≡ true) × RefusesTwice line before after failed result) ⊎ ((is_twice line ≡ false) × RunsOnce gives line before after failed result)
 
 -- what becomes of a refusal of a run over opened files, by the name of the file that failed, where one did
 abbrev pub StopsBy : Refused → Text → Stop → Type 0
@@ -110,7 +136,7 @@ GetsLine line writer = WritesLine line writer.before writer.after writer.failed
 
 -- a fault that speaks of no place
 abbrev pub at_no_place : Fault → Refused
-at_no_place fault = record { fault = fault; line = 0; column = 0 }
+at_no_place fault = record { fault = fault; in_second = false; line = 0; column = 0 }
 
 -- a run's status is the program's, or its refusal is, which is said in a line; for a file that can't be opened or read the line has its
 -- name, and why, as far as the system told
@@ -120,14 +146,14 @@ Ends (Err (Refuses refused)) errors status = (status ≡ status_of refused.fault
 Ends (Err (Unread name failure)) errors status = (status ≡ status_of ReadFailed) × GetsLine (unread_line name.now failure) errors
 
 -- a line was run over its files
-abbrev pub RunsLine : Line → Written → Written → ℕ → Type 0
-RunsLine line output errors status =
-    (answer : Result ℕ Stop) × RunsOnFiles line output.before output.after output.failed answer × Ends answer errors status
+abbrev pub RunsLine : Contents → Line → Written → Written → ℕ → Type 0
+RunsLine gives line output errors status =
+    (answer : Result ℕ Stop) × RunsOnFiles gives line output.before output.after output.failed answer × Ends answer errors status
 
 -- the words are a line, which was run
-abbrev pub RunsWords : List Text → Written → Written → ℕ → Type 0
-RunsWords words output errors status =
-    (line : Line) × Chooses (subcommand_of jslint_app words) line × RunsLine line output errors status
+abbrev pub RunsWords : Contents → List Text → Written → Written → ℕ → Type 0
+RunsWords gives words output errors status =
+    (line : Line) × Chooses (subcommand_of jslint_app words) line × RunsLine gives line output errors status
 
 -- Why the words are no line was said: memory was refused, which has its line; help or the version was asked for, and shown or not, which
 -- has its line too; or the words are wrong, and what is said ends with a tip, where there is one.
@@ -143,13 +169,13 @@ ExplainsWords words output errors status =
     IsKept output × ((error : Error) × HasKind (fault_of jslint_app words) error × Explains words (kind_of error) errors status)
 
 -- what the program does by its words, its name first
-abbrev pub Obeys : List Text → Written → Written → ℕ → Type 0
-Obeys words output errors status = RunsWords words output errors status ⊎ ExplainsWords words output errors status
+abbrev pub Obeys : Contents → List Text → Written → Written → ℕ → Type 0
+Obeys gives words output errors status = RunsWords gives words output errors status ⊎ ExplainsWords words output errors status
 
 -- why there are no words was said: memory was refused for them, or one isn't UTF-8
 abbrev pub NoWordsSaid : Written → ℕ → Type 0
 NoWordsSaid errors status = (status ≡ 2) × (GetsLine (refusal_line (at_no_place OutOfMemory)) errors ⊎ GetsLine not_utf8_line errors)
 
 -- what the program does by the words that the system has for it
-abbrev pub Answers : Written → Written → ℕ → Type 0
-Answers output errors status = ((words : List Text) × Obeys words output errors status) ⊎ (IsKept output × NoWordsSaid errors status)
+abbrev pub Answers : Contents → Written → Written → ℕ → Type 0
+Answers gives output errors status = ((words : List Text) × Obeys gives words output errors status) ⊎ (IsKept output × NoWordsSaid errors status)

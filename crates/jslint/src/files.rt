@@ -1,14 +1,14 @@
 //! The files of a line: they are opened, the command is run over them, and one that can't be read is named.
 
-ghost use Rattle.std.specs.Prelude.{◌≡◌, IfErr, IfOk, Some, false};
-ghost use Rattle.jslint.specs.Program.{IsTold, RunsOnFiles, StopsBy, failure_of, second_name};
+ghost use Rattle.std.specs.Prelude.{◌≡◌, IfErr, IfSome, None, Some, false};
+ghost use Rattle.jslint.specs.Opened.{Gives};
+ghost use Rattle.jslint.specs.Program.{IsNamed, IsTold, RunsOnFiles, RunsOnce, StopsBy, is_twice, second_name};
 
+use crate::opened::{Opened, failure_behind, input_failure, is_input, open};
 use command_line::{Line, ReadFailure};
 use commands::Refused;
 use shipped_rules::run_with_rules;
 use source_text::{Device, DeviceFault, Fault, Feed, Sink};
-use std::fs;
-use std::io::ErrorKind;
 use std::rt::Files;
 
 /// Why a run has no status.
@@ -42,37 +42,6 @@ impl Feed for NoFile {
     }
 }
 
-/// Why a file can't be opened, by the kind of the system's error.
-fn failure_of(kind: ErrorKind) -> ReadFailure
-    ensures { result ≡ failure_of kind }
-{
-    match kind {
-        ErrorKind::NotFound | ErrorKind::NotADirectory => ReadFailure::Missing,
-        ErrorKind::IsADirectory => ReadFailure::Folder,
-        ErrorKind::PermissionDenied => ReadFailure::NotPermitted,
-        ErrorKind::FilesystemLoop => ReadFailure::LinkCircle,
-        _ => ReadFailure::Other,
-    }
-}
-
-/// Opens a file for reading.
-fn open<R: Files>(rt: &R, name: &str) -> Result<Device<R::File>, ReadFailure>
-    ensures { IfOk result (λ file. ⟦<Device<R::File> as Feed>⟧.failed file ≡ false) }
-{
-    match fs::open(rt, name) {
-        Ok(file) => Ok(Device::of_reader(file)),
-        Err(error) => Err(failure_of(error.kind())),
-    }
-}
-
-/// Why a file that was opened can't be read. A device keeps no error, so this looks again at what has the name.
-fn failure_behind<R: Files>(rt: &R, name: &str) -> ReadFailure {
-    match fs::metadata(rt, name) {
-        Ok(found) if found.is_dir() => ReadFailure::Folder,
-        _ => ReadFailure::Other,
-    }
-}
-
 /// The file that can't be read, or the refusal, which is none of a file then.
 fn stop_of<'a, R: Files>(rt: &R, refused: Refused, unread: &'a str) -> Stop<'a>
     ensures { StopsBy refused unread.entry.now result }
@@ -84,16 +53,18 @@ fn stop_of<'a, R: Files>(rt: &R, refused: Refused, unread: &'a str) -> Stop<'a>
 }
 
 /// Runs the command over the script alone.
-fn run_alone<'a, R: Files + AllocGlobal, W: Sink>(
+fn run_alone<'a, R: Files + Input + AllocGlobal, W: Sink>(
     rt: &R,
     line: Line<'a>,
-    file: &mut Device<R::File>,
+    file: &mut Opened<Device<R::File>, Device<R::Reader>>,
     output: &mut W,
 ) -> Result<u8, Stop<'a>>
-    requires reads { ⟦<Device<R::File> as Feed>⟧.failed file.old ≡ false }
+    requires alone { line.second ≡ None }
+    requires given { Gives R.File.remaining R.Reader.remaining line.file.now (⟦<Opened<Device<R::File>, Device<R::Reader>> as Feed>⟧.left file.old) }
+    requires reads { ⟦<Opened<Device<R::File>, Device<R::Reader>> as Feed>⟧.failed file.old ≡ false }
     requires writes { W.failed output.old ≡ false }
     ensures told { IfErr result (λ stop. IsTold stop) }
-    ensures answer { RunsOnFiles line.entry (W.taken output.old) (W.taken output.new) (W.failed output.new) result }
+    ensures answer { RunsOnce (Gives R.File.remaining R.Reader.remaining) line.entry (W.taken output.old) (W.taken output.new) (W.failed output.new) result }
 {
     match run_with_rules(rt.alloc(), line.command, file, &mut NoFile, output) {
         Ok(status) => Ok(status),
@@ -102,18 +73,19 @@ fn run_alone<'a, R: Files + AllocGlobal, W: Sink>(
 }
 
 /// Opens the second file, and runs the command over both.
-fn run_both<'a, R: Files + AllocGlobal, W: Sink>(
+fn run_both<'a, R: Files + Input + AllocGlobal, W: Sink>(
     rt: &R,
     line: Line<'a>,
-    file: &mut Device<R::File>,
+    file: &mut Opened<Device<R::File>, Device<R::Reader>>,
     name: &'a str,
     output: &mut W,
 ) -> Result<u8, Stop<'a>>
     requires second { second_name line ≡ Some name.now }
-    requires reads { ⟦<Device<R::File> as Feed>⟧.failed file.old ≡ false }
+    requires given { Gives R.File.remaining R.Reader.remaining line.file.now (⟦<Opened<Device<R::File>, Device<R::Reader>> as Feed>⟧.left file.old) }
+    requires reads { ⟦<Opened<Device<R::File>, Device<R::Reader>> as Feed>⟧.failed file.old ≡ false }
     requires writes { W.failed output.old ≡ false }
     ensures told { IfErr result (λ stop. IsTold stop) }
-    ensures answer { RunsOnFiles line.entry (W.taken output.old) (W.taken output.new) (W.failed output.new) result }
+    ensures answer { RunsOnce (Gives R.File.remaining R.Reader.remaining) line.entry (W.taken output.old) (W.taken output.new) (W.failed output.new) result }
 {
     let mut second = match open(rt, name) {
         Ok(second) => second,
@@ -132,16 +104,46 @@ fn run_both<'a, R: Files + AllocGlobal, W: Sink>(
     }
 }
 
-/// Opens the files, the script first, and runs the command.
-pub(crate) fn open_and_run<'a, R: Files + AllocGlobal, W: Sink>(
+/// The name of the line's file that is standard input, if one is.
+fn input_name<'a>(line: Line<'a>) -> Option<&'a str>
+    ensures { IfSome result (λ name. IsNamed line.entry name.now) }
+{
+    if is_input(line.file) {
+        return Some(line.file);
+    }
+    match line.second {
+        Some(name) if is_input(name) => Some(name),
+        _ => None,
+    }
+}
+
+/// The name and the failure of a standard input that is named and can't be read.
+fn unread_input<'a, R: Input>(rt: &R, line: Line<'a>) -> Option<(&'a str, ReadFailure)>
+    ensures { IfSome result (λ unread. IsNamed line.entry unread.0.now) }
+{
+    let Some(name) = input_name(line) else {
+        return None;
+    };
+    match input_failure(rt) {
+        Some(failure) => Some((name, failure)),
+        None => None,
+    }
+}
+
+/// Opens the files, the script first, and runs the command. Standard input is asked before: a file that is opened takes the place of one
+/// that is closed.
+fn run_once<'a, R: Files + Input + AllocGlobal, W: Sink>(
     rt: &R,
     line: Line<'a>,
     output: &mut W,
 ) -> Result<u8, Stop<'a>>
     requires { W.failed output.old ≡ false }
     ensures told { IfErr result (λ stop. IsTold stop) }
-    ensures answer { RunsOnFiles line.entry (W.taken output.old) (W.taken output.new) (W.failed output.new) result }
+    ensures answer { RunsOnce (Gives R.File.remaining R.Reader.remaining) line.entry (W.taken output.old) (W.taken output.new) (W.failed output.new) result }
 {
+    if let Some((name, failure)) = unread_input(rt, line) {
+        return Err(Stop::Unread(name, failure));
+    }
     let mut file = match open(rt, line.file) {
         Ok(file) => file,
         Err(failure) => return Err(Stop::Unread(line.file, failure)),
@@ -150,4 +152,30 @@ pub(crate) fn open_and_run<'a, R: Files + AllocGlobal, W: Sink>(
         Some(name) => run_both(rt, line, &mut file, name, output),
         None => run_alone(rt, line, &mut file, output),
     }
+}
+
+/// Whether both files of a line are standard input.
+fn is_twice(line: Line<'_>) -> bool
+    ensures { result ≡ is_twice line.entry }
+{
+    match line.second {
+        Some(name) => is_input(line.file) && is_input(name),
+        None => false,
+    }
+}
+
+/// Runs the command over the files of a line, unless both are standard input, which can be read once.
+pub(crate) fn open_and_run<'a, R: Files + Input + AllocGlobal, W: Sink>(
+    rt: &R,
+    line: Line<'a>,
+    output: &mut W,
+) -> Result<u8, Stop<'a>>
+    requires { W.failed output.old ≡ false }
+    ensures told { IfErr result (λ stop. IsTold stop) }
+    ensures answer { RunsOnFiles (Gives R.File.remaining R.Reader.remaining) line.entry (W.taken output.old) (W.taken output.new) (W.failed output.new) result }
+{
+    if is_twice(line) {
+        return Err(Stop::Unread(line.file, ReadFailure::Twice));
+    }
+    run_once(rt, line, output)
 }

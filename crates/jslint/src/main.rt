@@ -1,14 +1,17 @@
 #![tactic(auto)]
 
 //! The program `jslint`: its words, its files, its streams and its exit status.
-//! - May touch: files, standard output and standard error. It opens them and hands on.
-//! - Contract: `Answers` in `specs/Program.antt`: a run on the file that is opened, with the status and the line of
-//!   its answer.
-//! - Begin at: `main.rt`, `main`; `files.rt`, `open_and_run`; what isn't public is tested in `tests.rt`.
+//! - May touch: files and the three standard streams. It opens them and hands on.
+//! - Contract: `Answers` in `specs/Program.antt`: a run on the file that is opened, or on standard input for `-`, with
+//!   the status and the line of its answer.
+//! - Begin at: `main.rt`, `main`; `files.rt`, `open_and_run`; `opened.rt`, `open`; what isn't public is tested in
+//!   `tests.rt`.
 
 mod files;
+mod opened;
 
 ghost use Rattle.std.specs.Prelude.{◌≡◌, false, map};
+ghost use Rattle.jslint.specs.Opened.{Gives};
 ghost use Rattle.jslint.specs.Program.{Answers, NoWordsSaid, Obeys, RunsLine, written};
 
 use command_line::{Line, command_line, explain, explain_not_utf8, explain_unread};
@@ -53,7 +56,7 @@ fn explain_no_words<W: Sink>(why: NoWords, errors: &mut W) -> u8
 }
 
 /// Runs a line over its files, and says why where it is refused. Answers the exit status.
-fn run_line<R: Files + AllocGlobal, O: Sink, W: Sink>(
+fn run_line<R: Files + Input + AllocGlobal, O: Sink, W: Sink>(
     rt: &R,
     line: Line,
     output: &mut O,
@@ -61,7 +64,7 @@ fn run_line<R: Files + AllocGlobal, O: Sink, W: Sink>(
 ) -> u8
     requires writes { O.failed output.old ≡ false }
     requires tells { W.failed errors.old ≡ false }
-    ensures { RunsLine line.entry (written O.taken O.failed output.old output.new) (written W.taken W.failed errors.old errors.new) result }
+    ensures { RunsLine (Gives R.File.remaining R.Reader.remaining) line.entry (written O.taken O.failed output.old output.new) (written W.taken W.failed errors.old errors.new) result }
 {
     match open_and_run(rt, line, output) {
         Ok(status) => status,
@@ -71,7 +74,7 @@ fn run_line<R: Files + AllocGlobal, O: Sink, W: Sink>(
 }
 
 /// Does what the words ask for, and answers the exit status.
-fn run_arguments<R: Files + AllocGlobal + Print + Eprint, O: Sink, W: Sink>(
+fn run_arguments<R: Files + Input + AllocGlobal + Print + Eprint, O: Sink, W: Sink>(
     rt: &R,
     words: &[&str],
     output: &mut O,
@@ -79,7 +82,7 @@ fn run_arguments<R: Files + AllocGlobal + Print + Eprint, O: Sink, W: Sink>(
 ) -> u8
     requires writes { O.failed output.old ≡ false }
     requires tells { W.failed errors.old ≡ false }
-    ensures { Obeys (map (λ w. w.now) words.now) (written O.taken O.failed output.old output.new) (written W.taken W.failed errors.old errors.new) result }
+    ensures { Obeys (Gives R.File.remaining R.Reader.remaining) (map (λ w. w.now) words.now) (written O.taken O.failed output.old output.new) (written W.taken W.failed errors.old errors.new) result }
 {
     match command_line(rt.alloc(), words) {
         Ok(line) => run_line(rt, line, output, errors),
@@ -96,14 +99,14 @@ fn lent<'a>(alloc: Global, words: &'a [String]) -> Result<Vec<&'a str>, NoWords>
 }
 
 /// Does what the words of the command line ask for, and answers the exit status.
-fn obey_own_words<R: Env + Files + AllocGlobal + Print + Eprint, O: Sink, W: Sink>(
+fn obey_own_words<R: Env + Files + Input + AllocGlobal + Print + Eprint, O: Sink, W: Sink>(
     rt: &R,
     output: &mut O,
     errors: &mut W,
 ) -> u8
     requires writes { O.failed output.old ≡ false }
     requires tells { W.failed errors.old ≡ false }
-    ensures { Answers (written O.taken O.failed output.old output.new) (written W.taken W.failed errors.old errors.new) result }
+    ensures { Answers (Gives R.File.remaining R.Reader.remaining) (written O.taken O.failed output.old output.new) (written W.taken W.failed errors.old errors.new) result }
 {
     let owned = match arguments(rt) {
         Ok(owned) => owned,

@@ -5,3 +5,4 @@ pub mod OneScript
 pub mod VerifyAnswers
 pub mod CheckAnswers
 pub mod PlannedScripts
+pub mod SameAnswers

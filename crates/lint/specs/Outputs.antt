@@ -1,5 +1,5 @@
 -- What each command writes of a script, its exit status, and how it refuses one.
-use Rattle.std.specs.Prelude.{◌≡◌, ◌≤◌, ◌+◌, ℕ, Bool, List, [], ◌∷◌, ◌++◌, length, take, codes, Option, Some, None, IfSome, ◌⊎◌}
+use Rattle.std.specs.Prelude.{◌≡◌, ◌≤◌, ◌+◌, ℕ, zero, suc, Bool, List, [], ◌∷◌, ◌++◌, length, take, codes, Option, Some, None, IfSome, ◌⊎◌}
 use Rattle.std.specs.Fmt.{decimal}
 use Rattle.std.specs.Str.{IsUtf8}
 use Rattle.std.specs.List.Sorted.{IsPermutation, IsSorted}
@@ -9,7 +9,7 @@ use Rattle.source_text.specs.declared.fault.Fault.TheVariants.{TooLong, BadSetti
 use Rattle.source_text.specs.declared.fault.Reason.{Reason}
 use Rattle.source_text.specs.declared.fault.Reason.TheVariants as reason
 use Rattle.commands.specs.declared.command.Command.{Command}
-use Rattle.commands.specs.declared.command.Command.TheVariants.{Check, Tree, Fix, Unwrap, Cost, Verify}
+use Rattle.commands.specs.declared.command.Command.TheVariants.{Check, Tree, Fix, Unwrap, Cost, Verify, Same}
 use Rattle.commands.specs.declared.command.ReportForm.{ReportForm}
 use Rattle.commands.specs.declared.command.ReportForm.TheVariants.{Places, Spans}
 use Rattle.tree.specs.declared.kind.Pair.{Pair}
@@ -37,6 +37,7 @@ use Rattle.rules.specs.Rules.{View}
 use Rattle.rules.specs.Lines.{report_lines, report_status, span_lines}
 use Rattle.cost_certificate.specs.Forms.{IsTable, IsBadLine, short, table_text}
 use Rattle.cost_certificate.specs.Faults.{first_fault}
+use Rattle.lint.specs.ReadScripts.{IsReading}
 use Rattle.lint.specs.Fixes.{Fixes}
 use Rattle.lint.specs.Unwraps.{Unwraps, IsUnwrapped, RefusesScript}
 
@@ -113,12 +114,29 @@ pub record Verifies (n : SyntaxTree) (P : List Pair) (second output : List ℕ) 
 abbrev pub RefusesTable : SyntaxTree → List ℕ → ℕ → Reason → Type 0
 RefusesTable n second row why = ((why ≡ reason.Form) × IsBadLine second row) ⊎ ((table : Table) × IsTable second table × (first_fault table n ≡ Some (row, why)))
 
+-- ---- same
+
+-- whether two trees are one, places aside: 0 where they are, 1 where they aren't
+abbrev pub TellsSame : SyntaxTree → SyntaxTree → ℕ → Type 0
+TellsSame m n zero = SameTree m n
+TellsSame m n (suc zero) = SameTree m n → ⊥
+TellsSame m n (suc (suc other)) = ⊥
+
+-- The second file is the text of a script, within the longest text, which derives one tree, and the status says whether that is this one.
+pub record Compares (n : SyntaxTree) (second : List ℕ) (status : ℕ) : Type 0 where
+  pub short : length second ≤ max_bytes
+  pub tree : SyntaxTree
+  pub pairs : List Pair
+  pub reading : IsReading second tree pairs
+  pub told : TellsSame tree n status
+
 -- ---- each command
 
 -- the most bytes of its second file that a command takes; none where it reads no second file
 abbrev pub second_limit : Command → Option ℕ
 second_limit (Check form) = Some max_bytes
 second_limit Verify = Some 2147483648
+second_limit Same = Some max_bytes
 second_limit other = None
 
 -- what was read of a second file: all that its reader has to give, but no more than one byte past the limit
@@ -138,6 +156,7 @@ IsOutput finds Fix text n P second output status = Fixes text output × (status 
 IsOutput finds Unwrap text n P second output status = Unwraps text output × IsUnwrapped output × (status ≡ 0)
 IsOutput finds Cost text n P second output status = Costs n output × (status ≡ 0)
 IsOutput finds Verify text n P second output status = Verifies n P second output × (status ≡ 0)
+IsOutput finds Same text n P second output status = Compares n second status × (output ≡ [])
 
 -- why a command refuses a script that was read: its second file is refused, or it isn't unwrapped
 abbrev pub CommandRefuses : Command → List ℕ → SyntaxTree → List Pair → List ℕ → Fault → Type 0

@@ -1,5 +1,5 @@
 -- A run of a command: what was read, what was written, and what the answer says of both.
-use Rattle.std.specs.Prelude.{◌≡◌, ◌≤◌, ℕ, List, Bool, true, false, length, Option, IfSome, IsSome, Result, Ok, Err, ◌⊎◌}
+use Rattle.std.specs.Prelude.{◌≡◌, ◌≢◌, ◌≤◌, ℕ, List, Bool, true, false, length, Option, IfSome, IsSome, Result, Ok, Err, ◌⊎◌}
 use Rattle.std.specs.Str.{IsUtf8}
 use Rattle.std.specs.Io.KnownBytes.{Appends, Keeps}
 use Rattle.source_text.specs.Source.{IsRefusal, max_bytes}
@@ -7,6 +7,7 @@ use Rattle.source_text.specs.Writing.{AppendsBeginning}
 use Rattle.source_text.specs.declared.fault.Fault.{Fault}
 use Rattle.source_text.specs.declared.fault.Fault.TheVariants.{NotUtf8, TooLong, OutOfMemory, ReadFailed, WriteFailed, BadSettings, BadTable, UnwrapFailed}
 use Rattle.commands.specs.declared.command.Command.{Command}
+use Rattle.commands.specs.declared.command.Command.TheVariants.{Same}
 use Rattle.commands.specs.declared.refused.Refused.{Refused}
 use Rattle.commands.specs.Refused.{place_of}
 use Rattle.tree.specs.Tree.{Tree as SyntaxTree}
@@ -107,7 +108,18 @@ Refuses finds command seen UnwrapFailed place = NoneFailed seen × NothingWritte
 Refuses finds command seen TooLong place = NoneFailed seen × NothingWritten seen × (RefusesFirst seen TooLong place ⊎ (RefusesAfter command seen TooLong × (place ≡ (0, 0))))
 Refuses finds command seen fault place = NoneFailed seen × NothingWritten seen × RefusesFirst seen fault place
 
+-- `same` refuses its second script: the text of the second file is refused, at this place
+abbrev pub RefusesSecond : Command → Seen → Fault → ℕ × ℕ → Type 0
+RefusesSecond command seen fault place =
+    (command ≡ Same) × (fault ≢ OutOfMemory) × NoneFailed seen × NothingWritten seen
+    × ((read : ReadsBoth command seen.given seen.second) × RefusesText read.second fault × (place ≡ place_of read.second fault))
+
+-- a refusal, of the second script or not
+abbrev pub RefusesIn : Bool → (View → List Report) → Command → Seen → Fault → ℕ × ℕ → Type 0
+RefusesIn true finds command seen fault place = RefusesSecond command seen fault place
+RefusesIn false finds command seen fault place = Refuses finds command seen fault place
+
 -- a run: the whole output and its status, or a refusal
 abbrev pub Runs : (View → List Report) → Command → Seen → Result ℕ Refused → Type 0
 Runs finds command seen (Ok status) = NoneFailed seen × WritesOutput finds command seen status
-Runs finds command seen (Err refused) = Refuses finds command seen refused.fault (refused.line, refused.column)
+Runs finds command seen (Err refused) = RefusesIn refused.in_second finds command seen refused.fault (refused.line, refused.column)

@@ -1,15 +1,16 @@
 -- The steps of a run, from what was read to what is written.
-use Rattle.std.specs.Prelude.{◌≡◌, ◌≤◌, ◌+◌, ℕ, List, Bool, true, false, length, take, Option, Some, IfSome, IsSome, Result, Ok, Err, string_bytes}
+use Rattle.std.specs.Prelude.{◌≡◌, ◌≢◌, ◌⊎◌, ◌≤◌, ◌+◌, ℕ, List, [], Bool, true, false, length, take, Option, Some, IfSome, IsSome, Result, Ok, Err, string_bytes}
 use Rattle.std.specs.Str.{IsUtf8}
 use Rattle.source_text.specs.Source.{max_bytes}
 use Rattle.source_text.specs.declared.fault.Fault.{Fault}
 use Rattle.source_text.specs.declared.fault.Fault.TheVariants.{OutOfMemory, ReadFailed, BadSettings, BadTable}
 use Rattle.source_text.specs.declared.fault.Reason.TheVariants as reason
 use Rattle.commands.specs.declared.command.Command.{Command}
-use Rattle.commands.specs.declared.command.Command.TheVariants.{Check, Verify}
+use Rattle.commands.specs.declared.command.Command.TheVariants.{Check, Verify, Same}
 use Rattle.commands.specs.declared.command.ReportForm.{ReportForm}
 use Rattle.commands.specs.declared.command.ReportForm.TheVariants.{Places, Spans}
 use Rattle.commands.specs.declared.refused.Refused.{Refused}
+use Rattle.commands.specs.Refused.{no_memory, place_of}
 use Rattle.tree.specs.Tree.{Tree as SyntaxTree}
 use Rattle.tree.specs.declared.kind.Pair.{Pair}
 use Rattle.rules.specs.Reports.{Report}
@@ -25,8 +26,8 @@ use Rattle.cost_certificate.specs.Forms.{short, table_text, IsTable, IsBadLine}
 use Rattle.lint.specs.declared.answer.Answer.{Answer}
 use Rattle.lint.specs.declared.answer.Answer.TheVariants.{Text, Unchanged, Fixed, Table}
 use Rattle.lint.specs.ReadScripts.{IsScript}
-use Rattle.lint.specs.Outputs.{second_limit, IsSecond, IsOutput, CommandRefuses, RefusesSettings, Reports}
-use Rattle.lint.specs.Run.{Seen, NothingWritten, HasOutput, Refuses}
+use Rattle.lint.specs.Outputs.{Compares, second_limit, IsSecond, IsOutput, CommandRefuses, RefusesSettings, Reports}
+use Rattle.lint.specs.Run.{Seen, NothingWritten, HasOutput, RefusesIn, RefusesText}
 
 -- what an answer writes, and its status
 abbrev pub output_of : Answer → List ℕ
@@ -94,6 +95,28 @@ Answers finds command text n P given (Err fault) failed = (failed ≡ false) × 
 abbrev pub AnswersAlone : Command → List ℕ → SyntaxTree → List Pair → Result Answer Fault → Type 0
 AnswersAlone command text n P result = (finds : View → List Report) (given : Option (List ℕ)) → Answers finds command text n P given result false
 
+-- a refusal as one of the second script; that memory is refused speaks of none
+abbrev pub IsOfOther : Refused → Refused → Type 0
+IsOfOther refused result =
+    ((refused.fault ≡ OutOfMemory) × (result ≡ no_memory))
+    ⊎ ((refused.fault ≢ OutOfMemory) × (result ≡ record { fault = refused.fault; in_second = true; line = refused.line; column = refused.column }))
+
+-- these bytes are refused as the text of the second script
+abbrev pub RefusesAsSecond : List ℕ → Refused → Type 0
+RefusesAsSecond bytes refused =
+    (refused.in_second ≡ true) × (refused.fault ≢ OutOfMemory) × RefusesText bytes refused.fault × ((refused.line, refused.column) ≡ place_of bytes refused.fault)
+
+-- why the bytes of the second file are no script to compare with
+abbrev pub RefusesOther : List ℕ → Refused → Type 0
+RefusesOther bytes refused = (refused ≡ no_memory) ⊎ RefusesAsSecond bytes refused
+
+-- what `same` answers of a script, by what its second reader has to give
+abbrev pub AnswersSame : SyntaxTree → Option (List ℕ) → Result Answer Refused → Bool → Type 0
+AnswersSame n given (Ok answer) failed = (failed ≡ false) × ((second : List ℕ) × IsSecond Same given second × Compares n second (status_of answer) × (output_of answer ≡ []))
+AnswersSame n given (Err refused) failed =
+    ((failed ≡ true) × (refused ≡ record { fault = ReadFailed; in_second = false; line = 0; column = 0 }))
+    ⊎ ((failed ≡ false) × ((refused ≡ no_memory) ⊎ ((second : List ℕ) × IsSecond Same given second × RefusesAsSecond second refused)))
+
 -- bytes that were read up to one byte past the longest text
 abbrev pub IsRead : Option (List ℕ) → List ℕ → Type 0
 IsRead given bytes = IfSome given (λ xs. bytes ≡ take (max_bytes + 1) xs)
@@ -112,4 +135,4 @@ abbrev pub AnswersBytes : (View → List Report) → Command → List ℕ → Op
 AnswersBytes finds command bytes second (Ok answer) failed =
     (failed ≡ false) × ((given : Option (List ℕ)) → IsRead given bytes → HasOutput finds command given second (output_of answer) (status_of answer))
 AnswersBytes finds command bytes second (Err refused) failed =
-    (seen : Seen) → IsBefore bytes second failed seen → Refuses finds command seen refused.fault (refused.line, refused.column)
+    (seen : Seen) → IsBefore bytes second failed seen → RefusesIn refused.in_second finds command seen refused.fault (refused.line, refused.column)

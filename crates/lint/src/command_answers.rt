@@ -1,7 +1,7 @@
 //! What each command answers of a script.
 
-ghost use Rattle.std.specs.Prelude.{◌≡◌, ◌≤◌, false, length, IfOk, None, string_bytes};
-ghost use Rattle.commands.specs.declared.command.Command.TheVariants.{Fix, Tree, Unwrap};
+ghost use Rattle.std.specs.Prelude.{◌≡◌, ◌≢◌, ◌≤◌, false, length, IfOk, None, string_bytes};
+ghost use Rattle.commands.specs.declared.command.Command.TheVariants.{Fix, Same, Tree, Unwrap};
 ghost use Rattle.rules.specs.Run.{all_found};
 ghost use Rattle.lint.specs.ReadScripts.{IsReading};
 ghost use Rattle.lint.specs.Outputs.{second_limit, tree_line as tree_line_of};
@@ -74,7 +74,7 @@ fn unwrapped<'s>(
     }
 }
 
-/// What a command answers of the script that a text is. The second file is read by `check` and by `verify` alone.
+/// What a command but `same` answers of the script that a text is. The second file is read by `check` and by `verify` alone.
 ///
 /// # Errors
 ///
@@ -88,6 +88,7 @@ pub(crate) fn answer<'s, S: Feed>(
     parsed: Parsed<'s>,
     second: &mut S,
 ) -> Result<Answer<'s>, Fault>
+    requires other { command ≢ Same }
     requires reading { IsReading source.now parsed.program parsed.pairs.items }
     requires small { length source.now ≤ 16777216 }
     requires ready { S.failed second.old ≡ false }
@@ -102,5 +103,6 @@ pub(crate) fn answer<'s, S: Feed>(
         Command::Unwrap => unwrapped(alloc, source, &parsed),
         Command::Cost => cost(alloc, parsed),
         Command::Verify => verify(alloc, &parsed, second),
+        Command::Same => unreachable!(),
     }
 }

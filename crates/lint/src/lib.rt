@@ -13,7 +13,9 @@ mod check_command;
 mod command_answers;
 mod cost_commands;
 mod fix_command;
+mod refusals;
 pub mod run;
+mod same_command;
 mod script_reader;
 mod unwrap;
 

@@ -1,7 +1,6 @@
 //! A run of a command: read all, answer, write all.
 
 ghost use Rattle.std.specs.Prelude.{IfErr, IfOk, ◌≡◌, ◌≢◌, None, false};
-ghost use Rattle.commands.specs.Refused.{HasPlace, place_of};
 ghost use Rattle.rules.specs.Run.{all_found};
 ghost use Rattle.lint.specs.Outputs.{second_limit};
 ghost use Rattle.lint.specs.Run.{Runs};
@@ -9,30 +8,13 @@ ghost use Rattle.lint.specs.Steps.{AnswersBytes, IsWritable};
 
 use crate::answer::Answer;
 use crate::command_answers::answer;
+use crate::refusals::refused_at;
+use crate::same_command::same;
 use crate::script_reader::read_script;
 use commands::{Command, Refused, read_up_to};
 use rules::Rule;
 use source_text::{DeviceFault, Fault, Feed, MAX_BYTES, Sink, Source};
 use std::alloc::Global;
-
-/// A refusal of a text, with the line and the column of its place.
-fn refused_at(source: &Source<'_>, fault: Fault) -> Refused
-    requires { HasPlace source.now fault }
-    ensures fault { result.fault ≡ fault }
-    ensures place { (result.line, result.column) ≡ place_of source.now fault }
-{
-    match fault {
-        Fault::Syntax(at) | Fault::Early(_, at) => {
-            let (line, column) = source.line_column(at);
-            Refused {
-                fault,
-                line,
-                column,
-            }
-        }
-        _ => Refused::at_no_place(fault),
-    }
-}
 
 /// What a command answers for the bytes of the first file: the script is read before the second file.
 fn answer_bytes<'s, S: Feed>(
@@ -56,21 +38,25 @@ fn answer_bytes<'s, S: Feed>(
         Ok(parsed) => parsed,
         Err(fault) => return Err(refused_at(&source, fault)),
     };
-    match answer(alloc, command, rules, &source, parsed, second) {
-        Ok(answer) => Ok(answer),
-        Err(fault) => Err(Refused::at_no_place(fault)),
+    match command {
+        Command::Same => same(alloc, &parsed, second),
+        _ => match answer(alloc, command, rules, &source, parsed, second) {
+            Ok(answer) => Ok(answer),
+            Err(fault) => Err(Refused::at_no_place(fault)),
+        },
     }
 }
 
 /// Runs a command. The first file is read to its end, or to one byte past the longest text, and has to be a script; then `check` reads its
-/// settings and `verify` its table, which is no other command's matter. All that takes memory is done before anything is written: the
+/// settings, `verify` its table and `same` its other script; no other command has a second file. All that takes memory is done before anything is written: the
 /// texts of `fix` and `cost` are made by a plan as they are written. The rules of `check` are those that are handed in. Answers the exit status: 1 where `check` has a
-/// report, else 0.
+/// report or `same` has two trees, else 0.
 ///
 /// # Errors
 ///
 /// `ReadFailed` and `WriteFailed` where a device fails; `TooLong` and `NotUtf8` where the first file holds no source text; `Syntax` and
-/// `Early`, with line and column, and `TooDeep` where it is no script; `BadSettings` and `BadTable` where the second file is refused;
+/// `Early`, with line and column, and `TooDeep` where it is no script; `BadSettings` and `BadTable` where the second file is refused, and, of the second
+/// script, what a first one is refused for;
 /// `TooLong` also where the text that `unwrap` would write is longer than a source text may be, and `UnwrapFailed` where it isn't the same
 /// script with the fewest pairs, of which none is known; `OutOfMemory`. The first of these is answered. Nothing is written but where the
 /// writer fails: then a beginning of the output.

@@ -8,7 +8,7 @@ use Rattle.rules.specs.Rules.{View}
 use Rattle.rules.specs.Run.{all_found, found_by}
 use Rattle.rules.specs.Settings.{is_on}
 use Rattle.commands.specs.declared.command.Command.{Command}
-use Rattle.commands.specs.declared.command.Command.TheVariants.{Check, Tree, Fix, Unwrap, Cost, Verify}
+use Rattle.commands.specs.declared.command.Command.TheVariants.{Check, Tree, Fix, Unwrap, Cost, Verify, Same}
 use Rattle.commands.specs.declared.command.ReportForm.{ReportForm}
 use Rattle.commands.specs.declared.refused.Refused.{Refused}
 use Rattle.rules.specs.NineRules.{NamedRule, nine_rules}
@@ -23,6 +23,7 @@ no_rules Fix h = refl
 no_rules Unwrap h = refl
 no_rules Cost h = refl
 no_rules Verify h = refl
+no_rules Same h = refl
 
 -- a run without rules is one by those of the command
 pub without_rules : (command : Command) (seen : Seen) (result : Result ℕ Refused) → ((form : ReportForm) → command ≡ Check form → ⊥) → Runs (λ view. []) command seen result → RunsByRules command seen result

@@ -6,6 +6,7 @@ import { read, warn, write } from './streams.mjs';
 const USAGE = `usage: jslint-with-proofs check [--spans] [--settings SETTINGS] FILE
        jslint-with-proofs fix|unwrap|tree|cost FILE
        jslint-with-proofs verify FILE TABLE
+       jslint-with-proofs same FILE OTHER
 `;
 
 /** The command and the names of its files, or null where these are no words of the program. */
@@ -15,7 +16,7 @@ function lineOf(words) {
   const marks = rest.indexOf('--'), flag = rest.indexOf('--spans'), hasSpans = command === 'check' && flag >= 0 && (marks < 0 || flag < marks);
   if (hasSpans) rest.splice(flag, 1);
   const files = rest.filter((it) => it !== '--');
-  const isWell = ['check', 'fix', 'unwrap', 'tree', 'cost', 'verify'].includes(command) && files.length === (command === 'verify' ? 2 : 1);
+  const isWell = ['check', 'fix', 'unwrap', 'tree', 'cost', 'verify', 'same'].includes(command) && files.length === (['verify', 'same'].includes(command) ? 2 : 1);
   return isWell && (at < 0 || settings !== undefined) ? { command: hasSpans ? 'spans' : command, names: [files[0], files[1] ?? settings] } : null;
 }
 
@@ -41,9 +42,10 @@ function main(words) {
     warn(USAGE);
     return 2;
   }
+  if (line.names[0] === '-' && line.names[1] === '-') return refuse('read failed: -: both files are standard input');
   let texts;
   try {
-    texts = line.names.map((it) => (it === undefined ? new Uint8Array(0) : read(it)));
+    texts = line.names.map((it) => (it === undefined ? new Uint8Array(0) : read(it === '-' ? '/dev/stdin' : it)));
   } catch {
     return refuse('read failed');
   }

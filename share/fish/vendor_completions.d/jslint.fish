@@ -1,12 +1,13 @@
 # fish completion for jslint and jslint-files
 
-set -l commands check tree fix unwrap cost verify help
+set -l commands check tree fix unwrap cost verify same help
 complete -c jslint -n "not __fish_seen_subcommand_from $commands" -f -a check -d 'Report what the rules find'
 complete -c jslint -n "not __fish_seen_subcommand_from $commands" -f -a tree -d 'Write the tree as JSON, in the form of ESTree'
 complete -c jslint -n "not __fish_seen_subcommand_from $commands" -f -a fix -d 'Write the script in one layout: the fewest parentheses, no comments'
 complete -c jslint -n "not __fish_seen_subcommand_from $commands" -f -a unwrap -d 'Write the script without its unnecessary parentheses, comments kept'
 complete -c jslint -n "not __fish_seen_subcommand_from $commands" -f -a cost -d 'Write the cost table'
 complete -c jslint -n "not __fish_seen_subcommand_from $commands" -f -a verify -d 'Check a cost table'
+complete -c jslint -n "not __fish_seen_subcommand_from $commands" -f -a same -d 'Compare two scripts'
 complete -c jslint -n "not __fish_seen_subcommand_from $commands" -f -a help -d 'Print help'
 complete -c jslint -n '__fish_seen_subcommand_from help' -f -a "$commands"
 complete -c jslint -n "not __fish_seen_subcommand_from $commands" -l version -d 'Print the version'

@@ -1,9 +1,11 @@
 use Rattle.std.proofs.Common.{◌≡◌, ◌∙◌, ap, sym, refl, subst, map, List, [], true}
 use Rattle.std.proofs.lemmas.Result.{err_from_is_err_and}
-use Rattle.clap.specs.Words.{App, HasMatchesOf, Text, fault_of, is_simple, subcommand_of, subcommand_rows_of, takes}
+use Rattle.clap.specs.Words.{App, HasKind, HasMatchesOf, Text, fault_of, is_simple, subcommand_of, subcommand_rows_of, takes}
 use Rattle.clap.specs.Faults.{is_simple_and_free}
+use Rattle.clap.specs.declared.error.Error.{Error}
 use Rattle.clap.specs.declared.parser.matches.ArgMatches.{ArgMatches}
-use Rattle.command_line.specs.CommandLine.{MeetsCommand, jslint_app}
+use Rattle.command_line.specs.CommandLine.{Chooses, MeetsCommand, jslint_app}
+use Rattle.command_line.specs.declared.line.Line.{Line}
 use Rattle.command_line.proofs.MetCommand.{meets_command}
 use Rattle.command_line.proofs.line.command_line.Goals as goal
 
@@ -28,6 +30,27 @@ met : (app : App) (words : List Text) (m : ArgMatches) → app ≡ jslint_app �
 met app words m shape matches none =
     let same = matches (ap is_simple shape ∙ jslint_is_simple) in
     subst MeetsCommand (sym (same.1 ∙ ap (λ (a : App). subcommand_of a words) shape)) (meets_command words (no_fault app words shape none))
+
+-- the line that was chosen of what was met is that of the words
+chosen : (app : App) (words : List Text) (m : ArgMatches) (line : Line) → app ≡ jslint_app → HasMatchesOf app words m → Chooses (subcommand_rows_of m) line → Chooses (subcommand_of jslint_app words) line
+chosen app words m line shape matches chooses =
+    let same = matches (ap is_simple shape ∙ jslint_is_simple) in
+    subst (λ met. Chooses met line) (same.1 ∙ ap (λ (a : App). subcommand_of a words) shape) chooses
+
+pub returns-clause-ok : goal.returns-clause-ok
+returns-clause-ok c = chosen _ (map (λ w. w.now) c.args.words.now) c.in_ok-matches.matches c.line_of.result c.in_ok-jslint.ensures.shape c.in_ok-matches.ensures.matches c.line_of.ensures
+
+-- a line that `clap` refuses has one of its faults
+fails : (app : App) (words : List Text) (e : Error) → app ≡ jslint_app → (is_simple_and_free app ≡ true → HasKind (fault_of app words) e) → HasKind (fault_of jslint_app words) e
+fails app words e shape kinds = subst (λ (a : App). HasKind (fault_of a words) e) shape (kinds (ap is_simple_and_free shape ∙ simple))
+
+pub returns-in_err-matches-clause-kinds : goal.returns-in_err-matches-clause-kinds
+returns-in_err-matches-clause-kinds c =
+    let p = err_from_is_err_and c.from_residual-in_err-matches.result c.from_residual-in_err-matches.ensures.1 in
+    rw (p.1, p.2) (fails _ (map (λ w. w.now) c.args.words.now) c.in_err-matches.field-0.0 c.in_ok-jslint.ensures.shape c.in_err-matches.ensures.kinds)
+
+pub returns-clause-meets : goal.returns-clause-meets
+returns-clause-meets c = meets_command (map (λ w. w.now) c.args.words.now)
 
 pub returns-clause-kinds : goal.returns-clause-kinds
 returns-clause-kinds c = no_fault _ (map (λ w. w.now) c.args.words.now) c.in_ok-jslint.ensures.shape c.in_ok-matches.ensures.kinds

@@ -1,6 +1,6 @@
 use Rattle.std.proofs.Common.{◌≡◌, refl, Result, Ok, Err, IfOk, IsOkAnd}
 use Rattle.clap.specs.Words.{App, app_of, with_subcommand}
-use Rattle.commands.specs.declared.command.Command.TheVariants.{Check, Tree, Fix, Unwrap, Cost, Verify}
+use Rattle.commands.specs.declared.command.Command.TheVariants.{Check, Tree, Fix, Unwrap, Cost, Verify, Same}
 use Rattle.commands.specs.declared.command.ReportForm.TheVariants.{Places}
 use Rattle.command_line.specs.CommandLine.{bare_app, command_app}
 use Rattle.command_line.proofs.line.jslint_command.Goals as goal
@@ -25,4 +25,5 @@ returns c =
     let three = one_more app_of c.noted_command.result (command_app Fix) _ _ _ two c.noted_command.ensures.shape c.in_ok-jslint-3.ensures in
     let four = one_more app_of c.noted_command-2.result (command_app Unwrap) _ _ _ three c.noted_command-2.ensures.shape c.in_ok-jslint-4.ensures in
     let five = one_more app_of c.file_command-2.result (command_app Cost) _ _ _ four c.file_command-2.ensures.shape c.in_ok-jslint-5.ensures in
-    record { shape = last app_of app_of c.verify_command.result c.with_command-6.result (command_app Verify) _ _ five c.verify_command.ensures.shape c.with_command-6.ensures }
+    let six = one_more app_of c.verify_command.result (command_app Verify) _ _ _ five c.verify_command.ensures.shape c.in_ok-jslint-6.ensures in
+    record { shape = last app_of app_of c.same_command.result c.with_command-7.result (command_app Same) _ _ six c.same_command.ensures.shape c.with_command-7.ensures }

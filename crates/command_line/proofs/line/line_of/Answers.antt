@@ -7,11 +7,11 @@ use Rattle.clap.specs.declared.parser.matches.Found.{Found}
 use Rattle.clap.proofs.WalkLemmas.{first_value-rows}
 use Rattle.commands.specs.Commands.{word_of}
 use Rattle.commands.specs.declared.command.Command.{Command}
-use Rattle.commands.specs.declared.command.Command.TheVariants.{Check, Tree, Fix, Unwrap, Cost, Verify}
+use Rattle.commands.specs.declared.command.Command.TheVariants.{Check, Tree, Fix, Unwrap, Cost, Verify, Same}
 use Rattle.commands.specs.declared.command.ReportForm.{ReportForm}
 use Rattle.command_line.specs.CommandLine.{HasFiles, HasForm, HasSecond, form_of, plain}
 use Rattle.command_line.proofs.line.line_of.Goals as goal
-use Rattle.command_line.proofs.line.line_of.Goals.{in-Check, in-Verify, in-Tree}
+use Rattle.command_line.proofs.line.line_of.Goals.{in-Check, in-Verify, in-Same, in-Tree}
 
 abbrev text_of : Option (Bor Text) → Option Text
 text_of = option_map (λ s. s.now)
@@ -41,6 +41,7 @@ has_file Fix rows h = h
 has_file Unwrap rows h = h
 has_file Cost rows h = h
 has_file Verify rows h = h.0
+has_file Same rows h = h.0
 
 -- what a word gives before flags are looked at has that word, and its files
 plain_word : (command : Command) → word_of (plain command) ≡ word_of command
@@ -50,6 +51,7 @@ plain_word Fix = refl
 plain_word Unwrap = refl
 plain_word Cost = refl
 plain_word Verify = refl
+plain_word Same = refl
 
 plain_files : (command : Command) (rows : List Row) → HasFiles command rows → HasFiles (plain command) rows
 plain_files (Check form) rows h = h
@@ -58,6 +60,7 @@ plain_files Fix rows h = h
 plain_files Unwrap rows h = h
 plain_files Cost rows h = h
 plain_files Verify rows h = h
+plain_files Same rows h = h
 
 some_text : (found : Found) (rows : List Row) (id : Text) (o : Option (Bor Text)) → text_of o ≡ first_value found id → rows_of found ≡ rows → text_of o ≡ first_of id rows
 some_text found rows id o e same = e ∙ first_value-rows found id ∙ ap (first_of id) same
@@ -77,6 +80,12 @@ settings word rows command given second was form e d same h by_flag = rw (e, d, 
 table : (word : Command) (rows : List Row) (command : Command) (given second : Option (Bor Text)) → word ≡ Verify → command ≡ word → second ≡ given → text_of given ≡ first_of (codes "table") rows
     → HasFiles word rows → Serves word rows command second
 table word rows command given second e d same h files =
+    let both = rw e at files in
+    rw (d, e, same) (refl, (h, ap is_some h ∙ both.1), tt)
+
+other : (word : Command) (rows : List Row) (command : Command) (given second : Option (Bor Text)) → word ≡ Same → command ≡ word → second ≡ given → text_of given ≡ first_of (codes "other") rows
+    → HasFiles word rows → Serves word rows command second
+other word rows command given second e d same h files =
     let both = rw e at files in
     rw (d, e, same) (refl, (h, ap is_some h ∙ both.1), tt)
 
@@ -107,6 +116,8 @@ returns c =
           (some_text found rows (codes "settings") _ w.get_str-in-Check.ensures rows_are) (w.form_met.ensures ∙ ap form_of rows_are)
       | in-Verify w ↦ table _ rows _ w.get_str-in-Verify.result _ w.in-Verify.is (ap (λ p. p.0) w.command-is) (ap (λ p. p.1) w.command-is)
           (some_text found rows (codes "table") _ w.get_str-in-Verify.ensures rows_are) (subst (λ k. HasFiles k rows) (sym plain_is) (plain_files command rows c.requires.3))
+      | in-Same w ↦ other _ rows _ w.get_str-in-Same.result _ w.in-Same.is (ap (λ p. p.0) w.command-is) (ap (λ p. p.1) w.command-is)
+          (some_text found rows (codes "other") _ w.get_str-in-Same.ensures rows_are) (subst (λ k. HasFiles k rows) (sym plain_is) (plain_files command rows c.requires.3))
       | in-Tree w ↦ no_second _ rows _ _ w.in-Tree.is (ap (λ p. p.0) w.command-is) (ap (λ p. p.1) w.command-is)
     ] in (
       rows,

@@ -1,11 +1,11 @@
 use Rattle.std.proofs.Common.{◌≡◌, List, ◌++◌, ◌∙◌, ℕ, ap, rules}
 use Rattle.source_text.specs.declared.fault.Fault.{Fault}
-use Rattle.commands.specs.Refusal.{fault_words, place_words, refusal_words}
+use Rattle.commands.specs.Refusal.{fault_words, place_words}
 use Rattle.commands.specs.declared.refused.Refused.{Refused}
 use Rattle.commands.proofs.JoinedTexts.{one_piece, two_pieces, four_pieces}
 use Rattle.commands.proofs.refusal.push_words.Goals as goal
 
-said : (refused : Refused) (fault : Fault) → refused.fault ≡ fault → refusal_words refused ≡ fault_words fault (place_words refused.line refused.column)
+said : (refused : Refused) (fault : Fault) → refused.fault ≡ fault → fault_words refused.fault (place_words refused.line refused.column) ≡ fault_words fault (place_words refused.line refused.column)
 said refused fault is = ap (λ (f : Fault). fault_words f (place_words refused.line refused.column)) is
 
 pub returns-in-NotUtf8-clause-words : goal.returns-in-NotUtf8-clause-words

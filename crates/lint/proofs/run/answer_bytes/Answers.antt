@@ -1,5 +1,6 @@
 use Rattle.lint.specs.ReadScripts.{IsReading}
 use Rattle.lint.proofs.RunAnswers.{refused_bytes, refused_text, refused_behind, answers_behind}
+use Rattle.lint.proofs.SameAnswers.{same_behind}
 use Rattle.lint.proofs.run.answer_bytes.Goals as goal
 
 pub returns-in-Err-clause-answer : goal.returns-in-Err-clause-answer
@@ -9,7 +10,7 @@ returns-in-Err-clause-answer g c = λ seen before.
 pub returns-in-Err-read_script-clause-answer : goal.returns-in-Err-read_script-clause-answer
 returns-in-Err-read_script-clause-answer g c = λ seen before.
     let ok = c.in-Ok.ensures.ok in
-    rw c.refused_at.ensures.fault
+    rw (c.refused_at.ensures.fault, c.refused_at.ensures.first)
     (refused_text _ c.args.command c.args.bytes.now _ c.in-Err-read_script.fault _ _ seen c.in-Ok.source ok.0 c.requires.ready (ok.1, ok.2) c.in-Err-read_script.ensures.refused c.refused_at.ensures.place before)
 
 pub returns-in-Ok-answer-clause-answer : goal.returns-in-Ok-answer-clause-answer
@@ -27,3 +28,10 @@ returns-in-Err-answer-clause-answer g c = λ seen before.
     let reading : IsReading c.in-Ok.source parsed.program parsed.pairs.items = record { accepted = c.in-Ok-read_script.ensures.accepted; only = c.in-Ok-read_script.ensures.only } in
     rw c.at_no_place-in-Err-answer.ensures
     (refused_behind _ c.args.command c.args.bytes.now _ parsed.program parsed.pairs.items c.in-Err-answer.fault _ seen c.in-Ok.source ok.0 (ok.1, ok.2) reading c.in-Err-answer.ensures.answer before)
+
+pub returns-in-Same-clause-answer : goal.returns-in-Same-clause-answer
+returns-in-Same-clause-answer g c =
+    let ok = c.in-Ok.ensures.ok in
+    let parsed = c.in-Ok-read_script.parsed in
+    let reading : IsReading c.in-Ok.source parsed.program parsed.pairs.items = record { accepted = c.in-Ok-read_script.ensures.accepted; only = c.in-Ok-read_script.ensures.only } in
+    same_behind _ c.args.command c.args.bytes.now _ parsed.program parsed.pairs.items c.same.result _ c.in-Ok.source c.in-Same.is ok.0 (ok.1, ok.2) reading c.same.ensures.answer

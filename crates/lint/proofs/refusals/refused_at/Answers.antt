@@ -1,5 +1,5 @@
 use Rattle.std.proofs.Common.{rules}
-use Rattle.lint.proofs.run.refused_at.Goals as goal
+use Rattle.lint.proofs.refusals.refused_at.Goals as goal
 
 pub returns-in_default : goal.returns-in_default
 returns-in_default c = search rules
