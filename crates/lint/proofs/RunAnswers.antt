@@ -1,11 +1,13 @@
 -- From what was read to the answer of a run.
-use Rattle.std.proofs.Common.{◌≡◌, ◌≢◌, ◌<◌, ◌≤◌, ◌+◌, ℕ, List, length, arith, refl, ap, sym, subst, ◌∙◌, Bool, false, Some, None, Ok, Err, inl, inr}
+use Rattle.std.proofs.Common.{◌≡◌, ◌≢◌, ◌<◌, ◌≤◌, ◌+◌, ℕ, List, length, arith, refl, ap, sym, subst, ◌∙◌, Bool, false, Some, None, Result, Ok, Err, inl, inr}
 use Rattle.std.proofs.lemmas.List.{length-take, take_all}
 use Rattle.std.specs.declared.option.Option.{Option}
 use Rattle.source_text.specs.Source.{max_bytes, IsRefusal}
 use Rattle.source_text.specs.declared.fault.Fault.{Fault}
 use Rattle.source_text.specs.declared.fault.Fault.TheVariants.{NotUtf8, TooLong, Syntax, TooDeep, Early, OutOfMemory, BadSettings, BadTable, WriteFailed, ReadFailed, UnwrapFailed, Usage}
 use Rattle.commands.specs.declared.command.Command.{Command}
+use Rattle.commands.specs.declared.command.Command.TheVariants.{Same}
+use Rattle.commands.specs.declared.refused.Refused.{Refused}
 use Rattle.commands.specs.Refused.{place_of}
 use Rattle.tree.specs.declared.kind.Pair.{Pair}
 use Rattle.tree.specs.Tree.{Tree as SyntaxTree}
@@ -13,8 +15,8 @@ use Rattle.rules.specs.Reports.{Report}
 use Rattle.rules.specs.Rules.{View}
 use Rattle.lint.specs.declared.answer.Answer.{Answer}
 use Rattle.lint.specs.ReadScripts.{IsReading, RefusesReading}
-use Rattle.lint.specs.Run.{IsSource, IsGiven, ReadsScript, ReadsBoth, HasOutput, Seen, Refuses}
-use Rattle.lint.specs.Steps.{IsRead, IsBefore, Answers, output_of, status_of}
+use Rattle.lint.specs.Run.{IsSource, IsGiven, ReadsScript, ReadsBoth, HasOutput, Seen, Refuses, RefusesIn}
+use Rattle.lint.specs.Steps.{IsRead, IsBefore, Answers, AnswersBytes, AnswersSame, output_of, status_of}
 
 -- where the bytes are no more than a text may have, they are all
 pub all_read : (given : Option (List ℕ)) (bytes : List ℕ) → IsRead given bytes → length bytes ≤ max_bytes → IsGiven given bytes
@@ -139,3 +141,43 @@ module _ (finds : View → List Report) (command : Command) (bytes : List ℕ) (
 
   pub refused_bytes : (fault : Fault) (failed : Bool) (seen : Seen) → failed ≡ false → IsRefusal bytes fault → IsBefore bytes second failed seen → Refuses finds command seen fault (0, 0)
   refused_bytes fault failed seen none refused before = bytes_refused fault seen refused (subst (λ f. IsBefore bytes second f seen) none before)
+
+-- ---- `same`
+
+-- what `same` refuses behind a script
+same_refused : (finds : View → List Report) (bytes : List ℕ) (second : Option (List ℕ)) (n : SyntaxTree) (P : List Pair) (refused : Refused) (failed : Bool) (seen : Seen) → IsSource bytes → IsReading bytes n P
+    → AnswersSame n second (Err refused) failed → IsBefore bytes second failed seen → RefusesIn refused.in_second finds Same seen refused.fault (refused.line, refused.column)
+unfolding both_read script_read
+same_refused finds bytes second n P refused failed seen source reading (inl answers) before =
+    subst (λ (r : Refused). RefusesIn r.in_second finds Same seen r.fault (r.line, r.column)) (sym answers.1)
+    (before.writer, before.kept, inr (before.reader, before.of_failed ∙ answers.0, refl, script_read seen.given bytes n P before.read source reading), refl)
+same_refused finds bytes second n P refused failed seen source reading (inr (well, inl memory)) before =
+    subst (λ (r : Refused). RefusesIn r.in_second finds Same seen r.fault (r.line, r.column)) (sym memory)
+    ((before.reader, before.of_failed ∙ well, before.writer), before.kept, refl)
+same_refused finds bytes second n P refused failed seen source reading (inr (well, inr other)) before =
+    subst (λ (b : Bool). RefusesIn b finds Same seen refused.fault (refused.line, refused.column)) (sym other.2.0) (
+      refl,
+      other.2.1,
+      (before.reader, before.of_failed ∙ well, before.writer),
+      before.kept,
+      (both_read finds Same bytes second seen n P failed other.0 source reading before other.1, other.2.2, other.2.3),
+    )
+
+-- what it answers
+same_answers : (finds : View → List Report) (bytes : List ℕ) (second : Option (List ℕ)) (n : SyntaxTree) (P : List Pair) (result : Result Answer Refused) (failed : Bool) → IsSource bytes → IsReading bytes n P
+    → AnswersSame n second result failed → AnswersBytes finds Same bytes second result failed
+unfolding script_read
+same_answers finds bytes second n P (Ok answer) failed source reading answers = (
+  answers.0,
+  λ given read. record {
+    read = record { script = script_read given bytes n P read source reading; second = answers.1.0; is_second = answers.1.1 };
+    is_output = (answers.1.2, answers.1.3);
+  },
+)
+same_answers finds bytes second n P (Err refused) failed source reading answers = λ seen before. same_refused finds bytes second n P refused failed seen source reading answers before
+
+-- the same of the text that the bytes are, and of a command that is `same`
+pub same_behind : (finds : View → List Report) (command : Command) (bytes : List ℕ) (second : Option (List ℕ)) (n : SyntaxTree) (P : List Pair) (result : Result Answer Refused) (failed : Bool) (text : List ℕ) → command ≡ Same → text ≡ bytes
+    → IsSource bytes → IsReading text n P → AnswersSame n second result failed → AnswersBytes finds command bytes second result failed
+same_behind finds command bytes second n P result failed text is same source reading answers =
+    subst (λ (k : Command). AnswersBytes finds k bytes second result failed) (sym is) (same_answers finds bytes second n P result failed source (subst (λ (t : List ℕ). IsReading t n P) same reading) answers)

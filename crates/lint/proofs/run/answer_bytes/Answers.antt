@@ -1,6 +1,5 @@
 use Rattle.lint.specs.ReadScripts.{IsReading}
-use Rattle.lint.proofs.RunAnswers.{refused_bytes, refused_text, refused_behind, answers_behind}
-use Rattle.lint.proofs.SameAnswers.{same_behind}
+use Rattle.lint.proofs.RunAnswers.{refused_bytes, refused_text, refused_behind, answers_behind, same_behind}
 use Rattle.lint.proofs.run.answer_bytes.Goals as goal
 
 pub returns-in-Err-clause-answer : goal.returns-in-Err-clause-answer
@@ -21,8 +20,8 @@ returns-in-Ok-answer-clause-answer g c =
     let answers = c.in-Ok-answer.ensures.answer in
     (answers.0, λ given read. answers_behind _ c.args.command c.args.bytes.now _ parsed.program parsed.pairs.items c.in-Ok-answer.answer _ given c.in-Ok.source ok.0 (ok.1, ok.2) reading answers read)
 
-pub returns-in-Err-answer-clause-answer : goal.returns-in-Err-answer-clause-answer
-returns-in-Err-answer-clause-answer g c = λ seen before.
+pub returns-clause-answer : goal.returns-clause-answer
+returns-clause-answer g c = λ seen before.
     let ok = c.in-Ok.ensures.ok in
     let parsed = c.in-Ok-read_script.parsed in
     let reading : IsReading c.in-Ok.source parsed.program parsed.pairs.items = record { accepted = c.in-Ok-read_script.ensures.accepted; only = c.in-Ok-read_script.ensures.only } in

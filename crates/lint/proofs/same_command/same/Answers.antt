@@ -10,13 +10,13 @@ returns-in-Err-clause-answer g c = unread c.args.parsed.now.program (g.S.Feed.le
 
 pub returns-in-Ok-compare-clause-answer : goal.returns-in-Ok-compare-clause-answer
 returns-in-Ok-compare-clause-answer g c =
-    let compared = subst (λ (m : Tree). Compares m c.in-Ok.bytes.items c.in-Ok-compare.status) c.program.ensures (subst (λ (bytes : List ℕ). Compares c.program.result.now bytes c.in-Ok-compare.status) c.deref.ensures.value c.in-Ok-compare.ensures) in
-    (c.in-Ok.ensures.1, (c.in-Ok.bytes.items, c.in-Ok.ensures.0, compared, c.new.ensures))
+    let compared = subst (λ (m : Tree). Compares m c.in-Ok.bytes.items c.in-Ok-compare.status) c.program.ensures (subst (λ (bytes : List ℕ). Compares c.program.result.now bytes c.in-Ok-compare.status) c.deref.ensures.value c.in-Ok-compare.ensures.status) in
+    (c.in-Ok.ensures.1, (c.in-Ok.bytes.items, c.in-Ok.ensures.0, compared, c.new.ensures.bytes))
 
-pub returns-in-Err-compare-clause-answer : goal.returns-in-Err-compare-clause-answer
-returns-in-Err-compare-clause-answer g c =
+pub returns-clause-answer : goal.returns-clause-answer
+returns-clause-answer g c =
     refused_other c.args.parsed.now.program (g.S.Feed.left c.args.second.now) _ c.in-Ok.bytes.items c.in-Err-compare.refused c.in-Ok.ensures.1 c.in-Ok.ensures.0
-    (subst (λ (bytes : List ℕ). RefusesOther bytes c.in-Err-compare.refused) c.deref.ensures.value c.in-Err-compare.ensures)
+    (subst (λ (bytes : List ℕ). RefusesOther bytes c.in-Err-compare.refused) c.deref.ensures.value c.in-Err-compare.ensures.refused)
 
-pub returns-in-Err-compare-clause-told : goal.returns-in-Err-compare-clause-told
-returns-in-Err-compare-clause-told g c = other_told _ c.in-Err-compare.refused c.in-Err-compare.ensures
+pub returns-clause-told : goal.returns-clause-told
+returns-clause-told g c = other_told _ c.in-Err-compare.refused c.in-Err-compare.ensures.refused
