@@ -9,7 +9,7 @@ use Rattle.commands.specs.declared.command.Command.{Command}
 use Rattle.commands.specs.declared.refused.Refused.{Refused}
 use Rattle.command_line.specs.declared.line.Line.{Line}
 use Rattle.shipped_rules.specs.ShippedRules.{RunsByRules}
-use Rattle.jslint.specs.Program.{Contents, IsOfFailed, RunsOnce, RunsOpened, StopsBy, no_file, second_name}
+use Rattle.jslint.specs.Program.{Contents, IsOfFailed, RunsOnce, RunsOpened, RunsOver, StopsBy, no_file, second_name}
 use Rattle.jslint.specs.declared.files.Stop.{Stop}
 use Rattle.jslint.specs.declared.files.Stop.TheVariants.{Refuses, Unread}
 
@@ -19,15 +19,7 @@ has_second line name named none = true≢false (sym (ap is_some named) ∙ ap (�
 
 -- a run over one file
 pub run_of_one : (gives : Contents) (line : Line) (before after given : Option (List ℕ)) (failed reader_failed : Bool) (result : Result ℕ Refused) → line.second ≡ None → gives line.file.now given
-    → RunsByRules line.command (record {
-      given = given;
-      second = Some [];
-      before = before;
-      after = after;
-      reader_failed = reader_failed;
-      second_failed = false;
-      writer_failed = failed;
-    }) result → RunsOpened gives line before after failed result
+    → RunsOver line given (Some []) before after reader_failed false failed result → RunsOpened gives line before after failed result
 run_of_one gives line before after given failed reader_failed result alone is runs = record {
   given = given;
   second = Some [];
@@ -42,15 +34,7 @@ run_of_one gives line before after given failed reader_failed result alone is ru
 -- a run over two
 pub run_of_two : (gives : Contents) (line : Line) (name : Text) (before after given second : Option (List ℕ)) (failed reader_failed second_failed : Bool) (result : Result ℕ Refused)
     → second_name line ≡ Some name → gives line.file.now given → gives name second
-    → RunsByRules line.command (record {
-      given = given;
-      second = second;
-      before = before;
-      after = after;
-      reader_failed = reader_failed;
-      second_failed = second_failed;
-      writer_failed = failed;
-    }) result → RunsOpened gives line before after failed result
+    → RunsOver line given second before after reader_failed second_failed failed result → RunsOpened gives line before after failed result
 run_of_two gives line name before after given second failed reader_failed second_failed result named is also runs = record {
   given = given;
   second = second;
@@ -73,15 +57,7 @@ without_place true fault at column command seen is run =
 
 -- the same run, with the refusal that says no more than this
 same_run : (gives : Contents) (line : Line) (before after : Option (List ℕ)) (failed : Bool) (refused : Refused) → refused.fault ≡ ReadFailed → (run : RunsOpened gives line before after failed (Err refused))
-    → RunsByRules line.command (record {
-      given = run.given;
-      second = run.second;
-      before = before;
-      after = after;
-      reader_failed = run.reader_failed;
-      second_failed = run.second_failed;
-      writer_failed = failed;
-    }) (Err no_file)
+    → RunsOver line run.given run.second before after run.reader_failed run.second_failed failed (Err no_file)
 same_run gives line before after failed refused is run = without_place refused.in_second refused.fault refused.line refused.column line.command _ is run.runs
 
 -- which of the two files failed, by whether the second did
@@ -115,15 +91,7 @@ stopped gives line before after failed refused unread run which (Unread name fai
 
 -- of a run over one file
 pub stopped_one : (gives : Contents) (line : Line) (before after given : Option (List ℕ)) (failed reader_failed : Bool) (refused : Refused) → line.second ≡ None → gives line.file.now given
-    → RunsByRules line.command (record {
-      given = given;
-      second = Some [];
-      before = before;
-      after = after;
-      reader_failed = reader_failed;
-      second_failed = false;
-      writer_failed = failed;
-    }) (Err refused) → (stop : Stop) → StopsBy refused line.file.now stop → RunsOnce gives line before after failed (Err stop)
+    → RunsOver line given (Some []) before after reader_failed false failed (Err refused) → (stop : Stop) → StopsBy refused line.file.now stop → RunsOnce gives line before after failed (Err stop)
 unfolding run_of_one
 stopped_one gives line before after given failed reader_failed refused alone is runs stop by =
     let run = run_of_one gives line before after given failed reader_failed (Err refused) alone is runs in
@@ -132,15 +100,7 @@ stopped_one gives line before after given failed reader_failed refused alone is 
 -- and of one over two
 pub stopped_two : (gives : Contents) (line : Line) (name unread : Text) (before after given second : Option (List ℕ)) (failed reader_failed second_failed : Bool) (refused : Refused)
     → second_name line ≡ Some name → gives line.file.now given → gives name second
-    → RunsByRules line.command (record {
-      given = given;
-      second = second;
-      before = before;
-      after = after;
-      reader_failed = reader_failed;
-      second_failed = second_failed;
-      writer_failed = failed;
-    }) (Err refused)
+    → RunsOver line given second before after reader_failed second_failed failed (Err refused)
     → (second_failed ≡ true → second_name line ≡ Some unread) → (second_failed ≡ false → unread ≡ line.file.now) → (stop : Stop) → StopsBy refused unread stop → RunsOnce gives line before after failed (Err stop)
 unfolding run_of_two
 stopped_two gives line name unread before after given second failed reader_failed second_failed refused named is also runs of_second of_first stop by =

@@ -43,6 +43,18 @@ IsNamed line name = (name ≡ line.file.now) ⊎ (second_name line ≡ Some name
 abbrev pub Contents : Type 1
 Contents = Text → Option (List ℕ) → Type 0
 
+-- a run of a line's command, by what its two readers have to give and what its writer took, and which of them has failed
+abbrev pub RunsOver : Line → (given second before after : Option (List ℕ)) → (reader_failed second_failed writer_failed : Bool) → Result ℕ Refused → Type 0
+RunsOver line given second before after reader_failed second_failed writer_failed result = RunsByRules line.command (record {
+  given = given;
+  second = second;
+  before = before;
+  after = after;
+  reader_failed = reader_failed;
+  second_failed = second_failed;
+  writer_failed = writer_failed;
+}) result
+
 -- A run over the files of a line, which were opened, by what the writer took before and after, and whether it has failed. What was read is
 -- what there is to read under their names; a second file that isn't named is empty, and doesn't fail.
 pub record RunsOpened (gives : Contents) (line : Line) (before after : Option (List ℕ)) (failed : Bool) (result : Result ℕ Refused) : Type 0 where
@@ -53,15 +65,7 @@ pub record RunsOpened (gives : Contents) (line : Line) (before after : Option (L
   pub is_given : gives line.file.now given
   pub is_second : IfSome (second_name line) (λ name. gives name second)
   pub unnamed : line.second ≡ None → (second ≡ Some []) × (second_failed ≡ false)
-  pub runs : RunsByRules line.command (record {
-    given = given;
-    second = second;
-    before = before;
-    after = after;
-    reader_failed = reader_failed;
-    second_failed = second_failed;
-    writer_failed = failed;
-  }) result
+  pub runs : RunsOver line given second before after reader_failed second_failed failed result
 
 -- the name of a file that can't be opened is that of a file of the line, and nothing was written
 abbrev pub IsUnopened : Line → Option (List ℕ) → Option (List ℕ) → Bool → Text → Type 0
