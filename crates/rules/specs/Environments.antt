@@ -38,14 +38,8 @@ is_browser_name text =
 abbrev pub is_worker_name : List ℕ → Bool
 is_worker_name text = is_shared_name text || is_worker_member text
 
--- one of those that run scripts has a global of this name
-unfoldable pub has_host_name : Environments → List ℕ → Bool
-has_host_name e text = (e.browser && is_browser_name text) || ((e.node && is_node_name text) || ((e.commonjs && is_commonjs_name text) || (e.worker && is_worker_name text)))
-
--- the edition or one of the libraries for tests has
-unfoldable pub has_other_name : Environments → List ℕ → Bool
-has_other_name e text = (e.es2022 && is_es2022_name text) || ((e.mocha && is_mocha_name text) || (e.jest && is_jest_name text))
-
 -- one of these has a global of this name
 unfoldable pub has_name : Environments → List ℕ → Bool
-has_name e text = has_host_name e text || has_other_name e text
+has_name e text =
+    (e.browser && is_browser_name text) || ((e.node && is_node_name text) || ((e.commonjs && is_commonjs_name text) || ((e.worker && is_worker_name text) || ((e.es2022 && is_es2022_name text) || ((e.mocha && is_mocha_name text)
+    || (e.jest && is_jest_name text))))))

@@ -66,7 +66,7 @@ pub struct Environments {
 
 impl Environments {
     ghost use Rattle.std.specs.Prelude.{◌≡◌};
-    ghost use Rattle.rules.specs.Environments.{has_host_name, has_name, has_other_name, no_environments, with_environment};
+    ghost use Rattle.rules.specs.Environments.{has_name, no_environments, with_environment};
 
     /// None.
     pub(crate) fn none() -> Environments
@@ -101,27 +101,15 @@ impl Environments {
     }
 
     /// Whether one of these has a global of this name.
+    #[tactic(auto, unfolding(crate::specs::Environments::has_name))]
     pub(crate) fn has_name(self, name: &str) -> bool
         ensures { result ≡ has_name self name.now }
-    {
-        self.has_host_name(name) || self.has_other_name(name)
-    }
-
-    /// Whether one of those that run scripts has.
-    fn has_host_name(self, name: &str) -> bool
-        ensures { result ≡ has_host_name self name.now }
     {
         (self.browser && is_browser_name(name))
             || (self.node && is_node_name(name))
             || (self.commonjs && is_commonjs_name(name))
             || (self.worker && is_worker_name(name))
-    }
-
-    /// Whether the edition or one of the libraries for tests has.
-    fn has_other_name(self, name: &str) -> bool
-        ensures { result ≡ has_other_name self name.now }
-    {
-        (self.es2022 && is_es2022_name(name))
+            || (self.es2022 && is_es2022_name(name))
             || (self.mocha && is_mocha_name(name))
             || (self.jest && is_jest_name(name))
     }
