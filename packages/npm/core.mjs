@@ -132,14 +132,13 @@ export function indexOf(text, line, column) {
 /** For each byte of a text's UTF-8, and for the place after the last, the index into the string. */
 function indices(text, length) {
   const found = new Uint32Array(length + 1);
-  let byte = 0;
-  for (let at = 0; at < text.length;) {
-    const code = text.codePointAt(at), bytes = code < 0x80 ? 1 : code < 0x800 ? 2 : code < 0x10000 ? 3 : 4;
-    found.fill(at, byte, byte + bytes);
-    byte += bytes;
+  for (let at = 0, byte = 0; at < text.length;) {
+    const code = text.codePointAt(at), end = byte + (code < 0x80 ? 1 : code < 0x800 ? 2 : code < 0x10000 ? 3 : 4);
+    // (`fill` is slow for so few)
+    while (byte < end) found[byte++] = at;
     at += code > 0xffff ? 2 : 1;
   }
-  found[byte] = text.length;
+  found[length] = text.length;
   return found;
 }
 
@@ -165,7 +164,9 @@ function reportsOf(lines, text) {
 /** Reports from where to where: their places are bytes, or indices into the string. */
 function spansOf(lines, text, places) {
   if (lines === '') return [];
-  const string = stringOf(text), at = places === 'indices' ? indices(string, bytesOf(text).length) : null;
+  const string = stringOf(text), length = places === 'indices' ? bytesOf(text).length : string.length;
+  // (in a text of ASCII both are the same)
+  const at = length === string.length ? null : indices(string, length);
   return lines.slice(0, -1).split('\n').map((each) => {
     const [, from, to, rule, message] = /^(\d+) (\d+) (\S+) (.*)$/s.exec(each);
     const [start, end] = [Number(from), Number(to)];

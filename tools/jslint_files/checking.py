@@ -1,4 +1,5 @@
 """What is found in a script."""
+import bisect
 import re
 
 from .hints import add_hint
@@ -7,8 +8,9 @@ from .reading import PART, read
 from .suppressions import suppressed
 from .traces import TRACES
 
-# What a report says first of the name that it is about, which stands at its place.
-NAME = re.compile("'([^']+)' ")
+# A line of what `check --spans` answers, and what ends a line of a script.
+SPAN = re.compile(r'^(\d+) (\d+) (\S+) (.*)$', re.M)
+BYTES_OF_LINE_END = re.compile(rb'\r\n|[\n\r]|\xe2\x80[\xa8\xa9]')
 # Of a script with no such word no comment turns a report off.
 TURNS_OFF = b'jslint-disable-'
 
@@ -40,8 +42,8 @@ class Checker:
 
     def outcome(self, name, text=None):
         """What is found in a file, or in a text that is as good as one of that name."""
-        text = read(name) if text is None else text
-        status, out, err = self.engine.run('check', text, self.settings_for(name))
+        text, settings = read(name) if text is None else text, self.settings_for(name)
+        status, out, err = self.engine.run('check', text, settings)
         answer = answer_of(status, out, err)
         if answer is None:
             found = refusal(status, err, 'checked').found
@@ -49,22 +51,32 @@ class Checker:
                 add_hint(found, text, self.is_noted)
             return Outcome([found], text=text)
         came = Outcome(answer=answer, text=text)
+        if answer and self.has_ends:
+            self.add_ends(came.found, text, settings)
         if self.has_suppressions and TURNS_OFF in text:
             came.list = suppressed(came.found, text.decode(), self.fixed)
-        if answer and self.has_ends:
-            add_ends(came.found, text)
         return came
 
+    def add_ends(self, found, text, settings):
+        """Puts to each report where it ends. A program or a library that doesn't say that of just these reports leaves them as they are."""
+        status, out, err = self.engine.run('spans', text, settings)
+        spans = SPAN.findall(out.decode(errors='replace')) if status == 1 and not err else []
+        places = places_at(text, {int(it) for span in spans for it in span[:2]})
+        if [(*places[int(start)], rule, words) for start, _, rule, words in spans] == [(it.line, it.column, it.rule, it.text) for it in found]:
+            for it, (_, end, _, _) in zip(found, spans):
+                it.end = places[int(end)]
 
-def add_ends(found, text):
-    """Puts the end to each report that names what stands at its place. No other end is known: the program tells where a report begins."""
-    lines = None
-    for it in found:
-        name = NAME.match(it.text) if it.rule else None
-        if name:
-            lines = lines or lines_of(text.decode(errors='replace'))
-            if lines[it.line - 1].startswith(name[1], it.column - 1):
-                it.end = it.column + len(name[1])
+
+def places_at(text, offsets):
+    """The line and the column of each of these bytes of a text, which are looked for in their order: no text takes long."""
+    starts, found, at, line, column = [0, *(it.end() for it in BYTES_OF_LINE_END.finditer(text))], {}, 0, 1, 1
+    for offset in sorted(offsets):
+        number = bisect.bisect_right(starts, offset)
+        if number != line:
+            line, at, column = number, starts[number - 1], 1
+        column += len(text[at:offset].decode(errors='replace'))
+        at, found[offset] = offset, (line, column)
+    return found
 
 
 def lines_of(text):

@@ -22,14 +22,15 @@ def as_message(it, columns, ends):
     message = {'ruleId': it.rule, **fatal, 'severity': 1 if it.is_noted else 2, 'message': it.text}
     message.update(line=it.line, column=columns.units_at(it.line, it.column))
     if it.end:
-        message.update(endLine=it.line, endColumn=ends.units_at(it.line, it.end))
+        message.update(endLine=it.end[0], endColumn=ends[it.end])
     return {**message, 'hint': it.hint} if it.hint else message
 
 
 def as_eslint(name, outcome):
     """A file's element of the array that ESLint's formatter writes. A `hint` is more than that has."""
     source = text_of(outcome) if outcome.found else None
-    columns, ends, seen = Columns(source or ''), Columns(source or ''), outcome.seen()
+    columns, of_ends, seen = Columns(source or ''), Columns(source or ''), outcome.seen()
+    ends = {it: of_ends.units_at(*it) for it in sorted({each.end for each in outcome.found if each.end})}
     messages = [(it, as_message(it, columns, ends)) for it in outcome.found]
     directive = {'suppressions': [{'kind': 'directive', 'justification': ''}]}
     noted = sum(it.is_noted for it in seen)
@@ -54,15 +55,21 @@ def artifact(name):
     return {'uri': f'file://{path}'} if os.path.isabs(name) else {'uri': path, 'uriBaseId': '%SRCROOT%'}
 
 
+def region_of(it, has_mark):
+    """From where to where a report is, if its end is known. A byte order mark is no character of the text."""
+    column_of = lambda line, column: max(1, column - (has_mark and line == 1))
+    region = {'startLine': it.line, 'startColumn': column_of(it.line, it.column)}
+    if it.end:
+        region.update({'endLine': it.end[0]} if it.end[0] != it.line else {}, endColumn=column_of(*it.end))
+    return region
+
+
 def as_result(name, it, has_mark, ids):
     rule = it.rule or 'refused'
-    # (a byte order mark is no character of the text)
-    shift = 1 if has_mark and it.line == 1 else 0
-    region = {'startLine': it.line, 'startColumn': max(1, it.column - shift), **({'endColumn': max(1, it.end - shift)} if it.end else {})}
     result = {
         'ruleId': rule, 'ruleIndex': ids.index(rule), 'level': 'warning' if it.rule else 'note' if it.is_noted else 'error',
         'message': {'text': it.text + (f' (perhaps: {it.hint})' if it.hint else '')},
-        'locations': [{'physicalLocation': {'artifactLocation': artifact(name), 'region': region}}],
+        'locations': [{'physicalLocation': {'artifactLocation': artifact(name), 'region': region_of(it, has_mark)}}],
     }
     return {**result, 'suppressions': [{'kind': 'inSource'}]} if it.is_suppressed else result
 

@@ -7,7 +7,9 @@ from .outcomes import said
 from .streams import Wrong, put, shown
 from .traces import TRACES
 
-COMMANDS = {'check': 0, 'tree': 1, 'fix': 2, 'cost': 3, 'verify': 4, 'unwrap': 5}
+COMMANDS = {'check': 0, 'tree': 1, 'fix': 2, 'cost': 3, 'verify': 4, 'unwrap': 5, 'spans': 6}
+# The program's words for a command that isn't one of its own.
+WORDS = {'spans': ('check', '--spans')}
 # The stack of a thread that calls the library: scripts at both limits of nesting take 6 MiB.
 STACK = 16 << 20
 # Room for an answer that each thread has at first, and the most that one keeps.
@@ -62,7 +64,7 @@ class Program:
     def run(self, command, text, settings=b'', out=None):
         """What it answers for a text: its status, and its two streams; the first goes to a file where one is given."""
         from subprocess import PIPE
-        words, passed = [self.path, command], ()
+        words, passed = [self.path, *WORDS.get(command, (command,))], ()
         if settings:
             passed = (self.file_of(settings),)
             words += ['--settings', f'/dev/fd/{passed[0]}']

@@ -75,7 +75,8 @@ def excerpt(found, line, paint):
     start = max(0, found.column - 1 - MOST_SHOWN // 2)
     # (GitHub's runner would take `##[` for a command)
     shown_part = lambda begin, end: escaped(line[begin:end].replace('\t', ' ')).replace('##[', '#\\x23[')
-    end = min(max(found.end or 0, found.column + 1), start + MOST_SHOWN + 1)
+    last = len(line) + 1 if found.end and found.end[0] > found.line else found.end[1] if found.end else 0
+    end = min(max(last, found.column + 1), start + MOST_SHOWN + 1)
     lead = ' ' * (width_of(shown_part(start, found.column - 1)) + bool(start))
     mark = '^' * max(1, width_of(shown_part(found.column - 1, end - 1)))
     part = shown_part(start, start + MOST_SHOWN)

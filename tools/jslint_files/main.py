@@ -20,8 +20,8 @@ What `jslint check` finds in several scripts, each report with its file's name, 
   --settings FILE     for each script (jslint check --settings)
   --format unix       FILE:LINE:COLUMN: RULE TEXT, as GNU's compilers do (this is what is printed without --format)
   --format pretty     the same with the line and a mark below it, in colours on a terminal (--color always|never|auto; NO_COLOR)
-  --format json       an array in one line, as ESLint's formatter of that name: absolute names, columns in UTF-16 units. --ends adds endLine and endColumn
-                      where they are known: to reports that name what stands at their place
+  --format json       an array in one line, as ESLint's formatter of that name: absolute names, columns in UTF-16 units. --ends adds endLine and endColumn,
+                      by jslint check --spans
   --format sarif      SARIF 2.1.0; --format junit: JUnit's XML, a case a script
   --format github     GitHub's notes, as ::error file=FILE,line=LINE,col=COLUMN,title=RULE::TEXT
   --hints             adds to a refusal, after `perhaps:`, a guess at what the script has that jslint doesn't read (pretty, sarif, junit: always)

@@ -9,7 +9,8 @@ LINE_END = re.compile('\r\n|[\n\r\u2028\u2029]')
 
 
 class Found:
-    """What was found at a place of a script; a refusal has no rule. A `hint` guesses what a refused script has that the profile lacks."""
+    """What was found at a place of a script; a refusal has no rule. Its `end`, if that was asked for, is a line and a column. A `hint` guesses what a refused
+    script has that the profile lacks."""
 
     hint, is_unsupported, is_noted, is_suppressed, end = None, False, False, False, None
 

@@ -26,7 +26,7 @@ PACKED = {
     'jslint.d.mts', 'jslint.mjs', 'jslint.wasm', 'package.json', 'worker.mjs', 'lib/hints.json', 'lib/texts.json',
     *(f'lib/{it}.mjs' for it in (
         'actions', 'beside', 'changes', 'checking', 'connection', 'document', 'editor', 'edits', 'engine', 'frames', 'hints', 'ignore', 'jobs', 'progress', 'protocol', 'rewriting', 'server',
-        'settings', 'shown', 'spans', 'thread', 'workspace')),
+        'settings', 'shown', 'thread', 'workspace')),
 }
 # Where the libraries are, or why there are none.
 PLACE, WHY = None, None
@@ -144,7 +144,7 @@ def python_example(room):
     with open(f'{folder}/jslint.py', encoding='utf-8') as file:
         said = file.read()
     wanted = re.findall(r'^    (jslint\.\S.*?)  +(\S.*)$', said, re.M)
-    is_well(len(wanted) == 5, wanted)
+    is_well(len(wanted) == 6, wanted)
     asked = '\n'.join(f'print(repr({call}))' for call, _ in wanted)
     out, _ = ran([sys.executable, '-c', f'import jslint\n{asked}'], cwd=folder)
     for found, (call, want) in zip(out.splitlines(), wanted):

@@ -22,7 +22,7 @@ from libraries import Skipped, tool
 from recipes import RIGHT, TOP, WRONG, is_well, same
 
 sys.path.insert(0, f'{TOP}/tools')
-from jslint_files import hints, ignoring  # noqa: E402
+from jslint_files import checking, hints, ignoring  # noqa: E402
 from jslint_files.rules import RULES  # noqa: E402
 
 BUG, CLEAN, MODULE = 'debugger;\n', 'globalThis.a = 1;\n', 'export {};\n'
@@ -344,10 +344,12 @@ def form_pretty(room):
     same(lines[:2], ['a.js:3:1: refused syntax error', '    3 | \\x1b[31mabc\\u{202e}'])
     room.put('a.js', '/* \u6f22\u5b57 */\tdebugger;\n' + 'a' * 300 + '; debugger;\nlet abc = 1;\n')
     lines = files(room, '--format', 'pretty', 'a.js')[1].splitlines()
-    same(lines[1:3], ['    1 | /* \u6f22\u5b57 */ debugger;', '      | ' + ' ' * 11 + '^'])
+    same(lines[1:3], ['    1 | /* \u6f22\u5b57 */ debugger;', '      | ' + ' ' * 11 + '^' * 9])
     same((lines[4], lines[5]), ('    2 | ' + 'a' * 100 + '\u2026', '      | ' + '^' * 100))
     is_well(lines[8].endswith('^') and lines[7].startswith('    2 | \u2026') and lines[7].endswith('; debugger;'), lines)
     same(lines[-2:], ['    3 | let abc = 1;', '      |     ^^^'])
+    room.put('b.js', 'x = (1 +\n2);' + ' ' * 30 + '(a);')
+    same(files(room, '--format', 'pretty', 'b.js')[1].splitlines()[4:6], ['    1 | x = (1 +', '      |     ^^^^'])
     is_well('\x1b[' not in files(room, '--format', 'pretty', 'a.js')[1])
     is_well('\x1b[32;1m^' in files(room, '--format', 'pretty', '--color', 'always', 'a.js', NO_COLOR='1')[1])
     for more, wanted in [({}, True), ({'NO_COLOR': '1'}, False), ({'NO_COLOR': ''}, True), ({'TERM': 'dumb'}, False)]:
@@ -394,13 +396,53 @@ def form_junit(room):
     same(xml.etree.ElementTree.fromstring(files(room, '--format', 'junit', '--unsupported', 'note', 'm.js', status=0)[1])[0][0][0].tag, 'skipped')
 
 
+def ends_in(text, words):
+    """What a text has from where to where, by rules, in the words of `--format json --ends`."""
+    lines, found = re.split('\r\n|[\n\r\u2028\u2029]', text.removeprefix('\ufeff')), {}
+    for rule, line, column, to_line, to_column in words:
+        units = [it.encode('utf-16-le') for it in lines[line - 1:to_line]]
+        units[-1] = units[-1][:2 * (to_column - 1)]
+        units[0] = units[0][2 * (column - 1):]
+        found.setdefault(rule, []).append('|'.join(it.decode('utf-16-le') for it in units))
+    return found
+
+
 def form_json_ends(room):
-    """Where a report names what stands at its place, in UTF-16 units; nothing else is said to be known."""
-    room.put('a.js', '\ufeff"\U0001f600"; \U00010400 == abc;\n')
-    found = json.loads(files(room, '--format', 'json', '--ends', 'a.js', status=1)[1])[0]['messages']
-    ends = {(it['ruleId'], it['column']): (it.get('endLine'), it.get('endColumn')) for it in found}
-    same(ends, {('eqeqeq', 7): (None, None), ('no-undef', 7): (1, 9), ('no-undef', 13): (1, 16)})
-    is_well(all('endLine' not in it for it in json.loads(files(room, '--format', 'json', 'a.js')[1])[0]['messages']))
+    """What is reported, from its start to its end, in UTF-16 units: behind characters of one to four bytes and a byte order mark, over lines of each kind,
+    of pairs in pairs. Without --ends nothing of it is there."""
+    rows = [
+        ('\ufeff"\U0001f600"; \U00010400 == abc;\n', {'eqeqeq': ['\U00010400 == abc'], 'no-undef': ['\U00010400', 'abc']}),
+        ('/* \u6f22 */ ((a +\r\n\u2028 b));\rdebugger', {'no-extra-parens': ['((a +|| b))', '(a +|| b)'], 'no-undef': ['a', 'b'], 'no-debugger': ['debugger']}),
+        ('var \u00e9 = 1;\nif (\u00e9 == \u00e9 != 0) {\u2029 }\nswitch (0) {}', {'no-var': ['var \u00e9 = 1;'], 'eqeqeq': ['\u00e9 == \u00e9', '\u00e9 == \u00e9 != 0'], 'no-empty': ['{| }', 'switch (0) {}']}),
+        ('let \u6f22 = 1, \U0001f600;', {}), ('(a)' + ';(a)' * 3000, {'no-extra-parens': ['(a)'] * 3001, 'no-undef': ['a'] * 3001}),
+    ]
+    for text, wanted in rows:
+        room.put('a.js', text)
+        found = json.loads(files(room, '--format', 'json', '--ends', 'a.js')[1])[0]['messages']
+        is_well(all('endLine' in it for it in found if it['ruleId']), text[:50])
+        same(ends_in(text, [[it[key] for key in ('ruleId', 'line', 'column', 'endLine', 'endColumn')] for it in found if it['ruleId']]), wanted, text[:50])
+        is_well(all('endLine' not in it for it in json.loads(files(room, '--format', 'json', 'a.js')[1])[0]['messages']))
+
+
+def ends_unknown(room):
+    """Of a program that doesn't tell ends, or that tells those of other reports, there are none, and all else is as ever."""
+    room.put('a.js', 'debugger;\n(a);\n')
+    wanted = files(room, '--format', 'json', 'a.js')
+    for says in ('exit 2', 'echo "jslint: out of memory" >&2; exit 2', 'echo "0 9 no-debugger debugger statement"; exit 1', 'printf "0 9 no-debugger debugger statement\n10 13 no-var unnecessary parentheses\n11 12 no-undef x\n"; exit 1',
+                 'printf "1 9 no-debugger debugger statement\n10 13 no-extra-parens unnecessary parentheses\n11 12 no-undef \\047a\\047 is not defined\n"; exit 1', 'echo x; exit 1', 'kill -9 $$'):
+        how = program(room, f'case "$*" in *--spans*) {says} ;; esac; exec "$JSLINT_REAL" "$@"')
+        same(files(room, '--format', 'json', '--ends', 'a.js', **how), wanted, says)
+        is_well('^\n' in files(room, '--format', 'pretty', 'a.js', **how)[1], says)
+
+
+def ends_time(_):
+    """No text takes long: many places of one long line, or of many lines."""
+    begun = time.process_time()
+    for text in ('\u00e9;' * 400_000, '\u00e9\u2028' * 200_000, '\u00e9\r\n' * 200_000):
+        given = text.encode()
+        places = checking.places_at(given, {*range(0, len(given), 5)} | {len(given)})
+        is_well(places[0] == (1, 1) and len(places) > 100_000)
+    is_well(time.process_time() - begun < 20)
 
 
 def form_sarif(room):
@@ -421,6 +463,10 @@ def form_sarif(room):
     same([it['ruleId'] for it in run['results'] if 'suppressions' in it], ['no-var'])
     same([it['locations'][0]['physicalLocation']['region']['startColumn'] for it in run['results'] if it['ruleId'] in ('no-debugger', 'no-var')], [1, 11])
     same(run['invocations'], [{'executionSuccessful': False}])
+    room.put('c.js', '\ufeffx = (1 +\n2);')
+    log = json.loads(files(room, '--format', 'sarif', 'c.js')[1])
+    regions = [it['locations'][0]['physicalLocation']['region'] for it in log['runs'][0]['results'] if it['ruleId'] == 'no-extra-parens']
+    same((regions, sarif.faults(log)), ([{'startLine': 1, 'startColumn': 5, 'endLine': 2, 'endColumn': 3}], []))
 
 
 # Changes of the record, by the path to a value and what becomes of it; None takes it out.
@@ -693,5 +739,5 @@ def works(process):
 
 TESTS = [
     settings_nearest, settings_refused, ignore_files, ignore_as_git, no_pattern_takes_long, odd_folders, unpermitted, recipe, standard_input, words, gone_folder, streams, long_files, form_pretty, progress, form_junit,
-    form_json_ends, form_sarif, sarif_check, hint_rows, hint_time, unsupported, suppressions, counts, explained, library_and_program, which_library, no_build, shared_library, too_long_for_memory, interrupted,
+    form_json_ends, ends_unknown, ends_time, form_sarif, sarif_check, hint_rows, hint_time, unsupported, suppressions, counts, explained, library_and_program, which_library, no_build, shared_library, too_long_for_memory, interrupted,
 ]

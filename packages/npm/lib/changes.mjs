@@ -6,7 +6,6 @@
 //
 // What a changed text does when it runs is nowhere proved.
 import { applied, editsBetween } from './edits.mjs';
-import { pairEnd } from './spans.mjs';
 
 const WORD = /[$_\p{ID_Continue}\u200c\u200d\\#]/u;
 const OPERATOR = /[+\-/*<>=&|?!.%^]/;
@@ -17,10 +16,8 @@ function runTogether(left, right) {
   return (WORD.test(left) && (WORD.test(right) || right === '.')) || (OPERATOR.test(left) && OPERATOR.test(right));
 }
 
-/** The edits that take out the pair whose `(` is at an index, with the blanks inside beside it; null where no `)` is found. */
-function pairEdits(text, start) {
-  const end = pairEnd(text, start);
-  if (end === null) return null;
+/** The edits that take out a pair, with the blanks inside beside it. */
+function pairEdits(text, { start, end }) {
   const inner = text.slice(start + 1, end - 1), lead = /^[ \t]*/.exec(inner)[0].length, trail = lead < inner.length ? /[ \t]*$/.exec(inner)[0].length : 0;
   const first = start + 1 + lead, last = end - 1 - trail;
   return [
@@ -99,14 +96,18 @@ export class Judge {
     return other !== null && withoutBlanks(other) === withoutBlanks(unwrapped);
   }
 
-  /** The edits that take out one pair, or null: the tree stays, and each comment. */
+  /** The reports of a rule, under no settings. */
+  reportsOf(rule) {
+    return (this.own('spans') ?? []).filter((it) => it.rule === rule);
+  }
+
+  /** The edits that take out the reported pair whose `(` is at an index, or null: the tree stays, and each comment. */
   withoutPair(start) {
-    const edits = pairEdits(this.text, start);
-    if (edits === null) return null;
-    const candidate = applied(this.text, edits);
+    const pairs = this.once('pairs', () => new Map(this.reportsOf('no-extra-parens').map((it) => [it.start, it]))), pair = pairs.get(start);
+    if (!pair) return null;
+    const edits = pairEdits(this.text, pair), candidate = applied(this.text, edits);
     if (candidate === null || !this.hasSameTree(candidate)) return null;
-    // (the `)` that was found is the text's own, unless it stands in a comment)
-    return !mayHaveComments(this.text.slice(start, edits[1].end)) || this.hasSameComments(candidate) ? edits : null;
+    return !mayHaveComments(this.text.slice(start, pair.end)) || this.hasSameComments(candidate) ? edits : null;
   }
 
   /** The edits of the unwrapped text that lie in a stretch, if they alone keep the tree and each comment; else none. */
@@ -120,7 +121,7 @@ export class Judge {
 
   /**
    * The edit that makes a `let` declaration with a name at an index one with `const`, and whether it is at the top; or null. It is offered where
-   * - `check` reports each of its names: no reference writes it, and it has a value from the start, and
+   * - `check --spans` reports each of its names: no reference writes it, and it has a value from the start, and
    * - the two fixed texts differ in this one word: so the trees differ in the kind of this declaration alone.
    * Not shown: what `eval` writes, so a text with this word gets no offer; and for a name at the top, what other scripts write.
    */
@@ -128,7 +129,7 @@ export class Judge {
     const { text } = this;
     if (/\beval\b/.test(text)) return null;
     const lets = this.once('lets', () => letDeclarations(this.own('tree') ?? { body: [] }));
-    const reported = this.once('reported', () => new Set((this.own('check') ?? []).filter((it) => it.rule === 'prefer-const').map((it) => it.index)));
+    const reported = this.once('reported', () => new Set(this.reportsOf('prefer-const').map((it) => it.start)));
     const it = lets.find((each) => each.names.includes(name));
     if (!it || !text.startsWith('let', it.start) || !it.names.every((each) => reported.has(each))) return null;
     const edits = [{ start: it.start, end: it.start + 'let'.length, text: 'const' }];

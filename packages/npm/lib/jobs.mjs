@@ -3,13 +3,14 @@ import { Refused, indexOf } from '../core.mjs';
 import { Judge, mayHaveComments } from './changes.mjs';
 import { editsBetween } from './edits.mjs';
 import { earlyHint, syntaxHint } from './hints.mjs';
-import { withSpans } from './spans.mjs';
 
 const HALF_PAIR = /(?:[^\ud800-\udbff]|^)[\udc00-\udfff]|[\ud800-\udbff](?![\udc00-\udfff])/;
 // How many lines of refused settings are taken away one by one.
 const MOST_LINES = 500;
 // No more reports of one text than this are handed on.
 const MOST_REPORTS = 20000;
+// How much of a report of these rules is underlined: `var` and `(`, where all that they hold is reported.
+const UNDERLINED = { 'no-var': 'var'.length, 'no-extra-parens': 1 };
 
 /** A refusal in the program's words, with its place, and a hint where there is one. */
 function refusalOf(error, text) {
@@ -57,12 +58,12 @@ export class Jobs {
     return !HALF_PAIR.test(settings) && answered(() => this.commands.check('', { settings })) !== null;
   }
 
-  /** The reports with their spans, and how many more there are. */
+  /** The reports, from where to where each is underlined, and how many more there are. */
   check({ text, settings }) {
     if (HALF_PAIR.test(settings)) return { refusal: { code: 'settings', message: 'bad settings', start: 0 } };
     return tried(text, () => {
-      const all = this.commands.check(text, { settings }), reports = all.slice(0, MOST_REPORTS);
-      return { reports: withSpans(text, reports), left: all.length - reports.length };
+      const all = this.commands.spans(text, { settings }), reports = all.slice(0, MOST_REPORTS);
+      return { reports: reports.map((it) => ({ ...it, end: it.start + (UNDERLINED[it.rule] ?? it.end - it.start) })), left: all.length - reports.length };
     });
   }
 

@@ -3,20 +3,19 @@
 import assert from 'node:assert/strict';
 import { readFileSync, readdirSync } from 'node:fs';
 import path from 'node:path';
-import { Refused, check, fix, tree, unwrap } from '../../jslint.mjs';
+import { Refused, fix, spans, tree, unwrap } from '../../jslint.mjs';
 import { Judge } from '../../lib/changes.mjs';
 import { applied, editsBetween } from '../../lib/edits.mjs';
-import { tokens } from '../../lib/spans.mjs';
 
 const MOST_LENGTH = 80000;
 const answered = (call) => { try { return call(); } catch (error) { if (error instanceof Refused) return null; throw error; } };
-const judgeOf = (text) => new Judge({ check, fix, tree, unwrap }, answered, text);
+const judgeOf = (text) => new Judge({ fix, spans, tree, unwrap }, answered, text);
 /** The tree without places. */
 const shape = (text) => JSON.stringify(tree(text), (key, value) => (key === 'start' || key === 'end' ? undefined : value));
 const count = (text, pattern) => (text.match(pattern) ?? []).length;
 /** What isn't a parenthesis or a blank: it all stays where a pair goes, comments too. */
 const others = (text) => text.replace(/[()\s]/g, '');
-const sum = { files: 0, refused: 0, unwrapped: 0, edits: 0, pairs: 0, alone: 0, lets: 0, toConst: 0, lexed: 0 };
+const sum = { files: 0, refused: 0, unwrapped: 0, edits: 0, pairs: 0, alone: 0, lets: 0, toConst: 0 };
 
 function tryPairs(text, starts, before, file) {
   const judge = judgeOf(text);
@@ -41,18 +40,16 @@ function tryLets(text, names, before, file) {
 }
 
 function tryFile(file) {
-  const text = readFileSync(file, 'utf8'), reports = text.length > MOST_LENGTH ? null : answered(() => check(text));
+  const text = readFileSync(file, 'utf8'), reports = text.length > MOST_LENGTH ? null : answered(() => spans(text));
   if (reports === null) {
     sum.refused++;
     return;
   }
   sum.files++;
-  const before = shape(text), to = unwrap(text), edits = editsBetween(text, to), of = (rule, most) => reports.filter((it) => it.rule === rule).slice(0, most).map((it) => it.index);
+  const before = shape(text), to = unwrap(text), edits = editsBetween(text, to), of = (rule, most) => reports.filter((it) => it.rule === rule).slice(0, most).map((it) => it.start);
   assert.equal(applied(text, edits), to);
   sum.unwrapped += edits.length > 0;
   sum.edits += edits.length;
-  const last = [...tokens(text, 0)].at(-1)?.[2] ?? 0;
-  sum.lexed += /^(?:\s|\/\/.*|\/\*[\s\S]*?\*\/)*$/.test(text.slice(last));
   tryPairs(text, of('no-extra-parens', 8), before, file);
   tryLets(text, of('prefer-const', 5), before, file);
 }

@@ -87,9 +87,9 @@ test('underlines', async () => {
   await withClient(async (client) => {
     const found = await client.open(uriOf('under.js'), 'var ab = cde == (1);\nif (x.y[z == 1] != /=/) { /* } */ }\nswitch (q) {}\na == b == c; debugger;\n');
     assert.deepEqual(found.map(short), [
-      '0:0-0:3 no-var', '0:4-0:6 no-unused-vars', '0:9-0:15 eqeqeq', '0:9-0:12 no-undef', '0:16-0:17 no-extra-parens',
-      '1:4-1:18 eqeqeq', '1:4-1:5 no-undef', '1:8-1:12 eqeqeq', '1:8-1:9 no-undef', '1:24-1:35 no-empty',
-      '2:0-2:6 no-empty', '2:8-2:9 no-undef', '3:0-3:4 eqeqeq', '3:0-3:9 eqeqeq', '3:0-3:1 no-undef', '3:5-3:6 no-undef', '3:10-3:11 no-undef', '3:13-3:21 no-debugger',
+      '0:0-0:3 no-var', '0:4-0:6 no-unused-vars', '0:9-0:19 eqeqeq', '0:9-0:12 no-undef', '0:16-0:17 no-extra-parens',
+      '1:4-1:22 eqeqeq', '1:4-1:5 no-undef', '1:8-1:14 eqeqeq', '1:8-1:9 no-undef', '1:24-1:35 no-empty',
+      '2:0-2:13 no-empty', '2:8-2:9 no-undef', '3:0-3:6 eqeqeq', '3:0-3:11 eqeqeq', '3:0-3:1 no-undef', '3:5-3:6 no-undef', '3:10-3:11 no-undef', '3:13-3:22 no-debugger',
     ]);
   });
 });

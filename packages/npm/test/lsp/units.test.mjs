@@ -1,11 +1,11 @@
-// Documents, edits, spans, ignore files, settings, hints and small changes, without a server.
+// Documents, edits, underlines, ignore files, settings, hints and small changes, without a server.
 import assert from 'node:assert/strict';
 import { spawnSync } from 'node:child_process';
 import { mkdirSync, mkdtempSync, readFileSync, rmSync, writeFileSync } from 'node:fs';
 import { tmpdir } from 'node:os';
 import path from 'node:path';
 import { test } from 'node:test';
-import { Refused, check, fix, indexOf, tree, unwrap } from '../../jslint.mjs';
+import { Refused, check, fix, indexOf, spans, tree, unwrap } from '../../jslint.mjs';
 import { Beside } from '../../lib/beside.mjs';
 import { Judge } from '../../lib/changes.mjs';
 import { Document, ENCODINGS } from '../../lib/document.mjs';
@@ -16,11 +16,10 @@ import { earlyHint, syntaxHint } from '../../lib/hints.mjs';
 import { isIgnored, patternsOf } from '../../lib/ignore.mjs';
 import { Jobs } from '../../lib/jobs.mjs';
 import { settingsWith } from '../../lib/settings.mjs';
-import { pairEnd, withSpans } from '../../lib/spans.mjs';
 
 const answered = (call) => { try { return call(); } catch (error) { if (error instanceof Refused) return null; throw error; } };
-const judge = (text) => new Judge({ check, fix, tree, unwrap }, answered, text);
-const jobs = new Jobs({ check, fix, tree, unwrap });
+const judge = (text) => new Judge({ fix, spans, tree, unwrap }, answered, text);
+const jobs = new Jobs({ check, fix, spans, tree, unwrap });
 
 let seed = Number(process.env.SEED ?? 20261128);
 const random = (most) => { seed = (seed * 1103515245 + 12345) % 2147483648; return seed % most; };
@@ -157,22 +156,19 @@ test('hints: no text takes long', () => {
   assert.ok(process.cpuUsage(begun).user < 3e6, process.cpuUsage(begun).user);
 });
 
-test('spans: the `)` of a `(`, whatever stands between', () => {
-  for (const inner of ['a', 'a /* ) */', '")"', "'\\')'", '`)${")"})`', '/[)]/', '/\\)/', 'a / b / c', '{ a: ")" }', 'a[(b)]', '() => { /)/ }', 'a++ / (1) / 2', 'function () { if (b) /)/.c; }', '// )\n a', '`${`)${1}`}`']) {
-    const text = `x = (${inner})); (y)`;
-    assert.equal(pairEnd(text, 4), 6 + inner.length, text);
-  }
-  for (const text of ['(', '(a', '(]', '("', '(`', '(#', '(a}']) assert.equal(pairEnd(text, 0), null, text);
+test('underlines: all that is reported, but of a declaration `var` alone, and of a pair its `(`', () => {
+  const underlined = (text) => jobs.check({ text, settings: '' }).reports.map((it) => [it.rule, text.slice(it.start, it.end)]);
+  assert.deepEqual(underlined('/* é漢😀 */ var 漢 = ((1));'), [['no-var', 'var'], ['no-unused-vars', '漢'], ['no-extra-parens', '('], ['no-extra-parens', '(']]);
+  assert.deepEqual(underlined(''), []);
+  assert.deepEqual(underlined("'😀' == 1 != 2;\nif (0) {\n}\ndebugger\nswitch (0) {}"),
+    [['eqeqeq', "'😀' == 1"], ['eqeqeq', "'😀' == 1 != 2"], ['no-empty', '{\n}'], ['no-debugger', 'debugger'], ['no-empty', 'switch (0) {}']]);
+  assert.deepEqual(underlined('let a = 1;'), [['no-unused-vars', 'a'], ['prefer-const', 'a']]);
 });
 
-test('spans: one token of 8 million characters', () => {
-  const long = 'a'.repeat(8e6);
-  for (const text of [`(\`${long}\`)`, `("${long}")`, `(/${long}/)`, `(/*${long}*/ a)`, `(${long})`, `(${' '.repeat(8e6)})`]) {
-    const end = pairEnd(text, 0);
-    assert.ok(end === null || end === text.length);
-    assert.equal(withSpans(text, [{ rule: 'eqeqeq', message: '', index: 0 }]).length, 1);
-  }
-  assert.equal(withSpans(`{${long}}`, [{ rule: 'no-empty', message: '', index: 0 }])[0].start, 0);
+test('underlines: no text takes long', () => {
+  const begun = process.cpuUsage();
+  for (const text of ["'é';(1);".repeat(20000), `(\`${'é'.repeat(4e6)}\`)`, `(/*${'é'.repeat(4e6)}*/ 1)`]) assert.ok(jobs.check({ text, settings: '' }).reports.length > 0);
+  assert.ok(process.cpuUsage(begun).user < 10e6, process.cpuUsage(begun).user);
 });
 
 test('one pair: taken out where the tree stays, and not where it does not', () => {
