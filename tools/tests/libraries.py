@@ -229,7 +229,7 @@ def node_readme(room):
     wanted = re.findall(r'^(\w+\(.*);\s+// (\S.*)$', blocks, re.M)
     is_well(len(wanted) >= 8, wanted)
     checks = '\n'.join(f'assert.deepEqual({call}, {want});' for call, want in wanted)
-    asked = f"import assert from 'node:assert/strict';\nimport {{ check, cost, fix, tree, unwrap, verify }} from './jslint.mjs';\n{checks}"
+    asked = f"import assert from 'node:assert/strict';\nimport {{ check, cost, fix, spans, tree, unwrap, verify }} from './jslint.mjs';\n{checks}"
     ran([program, '--input-type=module', '-e', asked], cwd=made)
 
 
