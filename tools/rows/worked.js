@@ -139,7 +139,7 @@ function failuresOf(given) {
   const writes = callsOf(out).slice(0, -1).map((k) => run(given, ['', `1 ${k}`, ''], fault('WriteFailed') + out.slice(0, k - 1)));
   return [
     ...first, run(given, [`1 ${callsOf(text).length + 1}`, '', ''], whole), ...other, ...writes, run(given, ['', `1 ${callsOf(out).length}`, ''], whole),
-    run(given, ['', '0', ''], fault('WriteFailed')), run(given, ['1', '1', '1'], whole),
+    run(given, ['', '0', ''], out === '' ? whole : fault('WriteFailed')), run(given, ['1', '1', '1'], whole),
   ];
 }
 
