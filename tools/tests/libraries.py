@@ -144,7 +144,7 @@ def python_example(room):
     with open(f'{folder}/jslint.py', encoding='utf-8') as file:
         said = file.read()
     wanted = re.findall(r'^    (jslint\.\S.*?)  +(\S.*)$', said, re.M)
-    is_well(len(wanted) == 6, wanted)
+    is_well(len(wanted) == 7, wanted)
     asked = '\n'.join(f'print(repr({call}))' for call, _ in wanted)
     out, _ = ran([sys.executable, '-c', f'import jslint\n{asked}'], cwd=folder)
     for found, (call, want) in zip(out.splitlines(), wanted):
@@ -229,7 +229,7 @@ def node_readme(room):
     wanted = re.findall(r'^(\w+\(.*);\s+// (\S.*)$', blocks, re.M)
     is_well(len(wanted) >= 8, wanted)
     checks = '\n'.join(f'assert.deepEqual({call}, {want});' for call, want in wanted)
-    asked = f"import assert from 'node:assert/strict';\nimport {{ check, cost, fix, spans, tree, unwrap, verify }} from './jslint.mjs';\n{checks}"
+    asked = f"import assert from 'node:assert/strict';\nimport {{ check, cost, fix, same, spans, tree, unwrap, verify }} from './jslint.mjs';\n{checks}"
     ran([program, '--input-type=module', '-e', asked], cwd=made)
 
 
