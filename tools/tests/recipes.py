@@ -205,7 +205,9 @@ def in_place_endings(room):
 def interrupted(room, text, path, number):
     """The status of a shell whose whole group gets a signal when the stand-in of a command has begun: as at a terminal."""
     how = {'cwd': room.folder, 'env': {'PATH': path, 'LC_ALL': 'C.UTF-8'}, 'stdin': subprocess.DEVNULL, 'stdout': subprocess.DEVNULL, 'stderr': subprocess.DEVNULL}
-    shell = subprocess.Popen(['sh', '-c', text], start_new_session=True, **how)
+    # (what a shell starts with `&` ignores some signals, and a shell that ignores one can't trap it)
+    heed = lambda: [signal.signal(it, signal.SIG_DFL) for it in (signal.SIGHUP, signal.SIGINT, signal.SIGQUIT, signal.SIGTERM)]
+    shell = subprocess.Popen(['sh', '-c', text], start_new_session=True, preexec_fn=heed, **how)
     while shell.poll() is None and not os.path.exists(room.path('stubs/begun')):
         time.sleep(0.02)
     os.killpg(shell.pid, number)
