@@ -17,7 +17,7 @@ failure_words Other = []
 
 -- the words before the name
 abbrev pub unread_words : List ℕ
-unread_words = codes "jslint: " ++ fault_words ReadFailed [] ++ codes ": "
+unread_words = codes "jslint: " ++ fault_words ReadFailed 0 0 ++ codes ": "
 
 -- the line, with its line feed
 abbrev pub unread_line : List ℕ → ReadFailure → List ℕ

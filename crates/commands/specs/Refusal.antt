@@ -1,5 +1,5 @@
 -- The line and the exit status of a refusal.
-use Rattle.std.specs.Prelude.{ℕ, List, [], ◌∷◌, ◌++◌, Bool, true, false, Option, codes}
+use Rattle.std.specs.Prelude.{ℕ, zero, suc, List, [], ◌∷◌, ◌++◌, Bool, true, false, Option, codes}
 use Rattle.std.specs.Fmt.{decimal}
 use Rattle.std.specs.Io.KnownBytes.{Appends}
 use Rattle.source_text.specs.declared.fault.Fault.{Fault}
@@ -25,20 +25,25 @@ reason_words reason.Total = codes "Total"
 abbrev pub place_words : ℕ → ℕ → List ℕ
 place_words line column = decimal line ++ codes ":" ++ decimal column
 
--- what a fault says, given the words of its place; a usage error has words of its own, by the command line
-abbrev pub fault_words : Fault → List ℕ → List ℕ
-fault_words (NotUtf8 at) place = codes "not UTF-8 at byte " ++ decimal at
-fault_words TooLong place = codes "longer than 16777216 bytes"
-fault_words (Syntax at) place = codes "syntax error at " ++ place
-fault_words TooDeep place = codes "nested too deep"
-fault_words (Early number at) place = codes "early error E" ++ decimal number ++ codes " at " ++ place
-fault_words OutOfMemory place = codes "out of memory"
-fault_words BadSettings place = codes "bad settings"
-fault_words (BadTable row why) place = codes "bad table row " ++ decimal row ++ codes " " ++ reason_words why
-fault_words WriteFailed place = codes "write failed"
-fault_words ReadFailed place = codes "read failed"
-fault_words UnwrapFailed place = codes "can't be unwrapped"
-fault_words Usage place = []
+-- the same behind what is there; nothing where there is no place
+abbrev pub at_place_words : ℕ → ℕ → List ℕ
+at_place_words zero column = []
+at_place_words (suc line) column = codes " at " ++ place_words (suc line) column
+
+-- what a fault says, given the line and the column of its place; a usage error has words of its own, by the command line
+abbrev pub fault_words : Fault → ℕ → ℕ → List ℕ
+fault_words (NotUtf8 at) line column = codes "not UTF-8 at byte " ++ decimal at
+fault_words TooLong line column = codes "longer than 16777216 bytes"
+fault_words (Syntax at) line column = codes "syntax error at " ++ place_words line column
+fault_words TooDeep line column = codes "nested too deep"
+fault_words (Early number at) line column = codes "early error E" ++ decimal number ++ codes " at " ++ place_words line column
+fault_words OutOfMemory line column = codes "out of memory"
+fault_words BadSettings line column = codes "bad settings" ++ at_place_words line column
+fault_words (BadTable row why) line column = codes "bad table row " ++ decimal row ++ codes " " ++ reason_words why
+fault_words WriteFailed line column = codes "write failed"
+fault_words ReadFailed line column = codes "read failed"
+fault_words UnwrapFailed line column = codes "can't be unwrapped"
+fault_words Usage line column = []
 
 -- that a refusal speaks of the second script
 abbrev pub script_words : Bool → List ℕ
@@ -46,7 +51,7 @@ script_words true = codes "second file: "
 script_words false = []
 
 abbrev pub refusal_words : Refused → List ℕ
-refusal_words refused = script_words refused.in_second ++ fault_words refused.fault (place_words refused.line refused.column)
+refusal_words refused = script_words refused.in_second ++ fault_words refused.fault refused.line refused.column
 
 -- the line of a refusal, with its line feed
 abbrev pub refusal_line : Refused → List ℕ

@@ -2,7 +2,7 @@
 
 ghost use Rattle.std.specs.Prelude.{◌≡◌, ◌≢◌, ◌≤◌, ◌+◌, ◌++◌, false, length};
 ghost use Rattle.std.specs.Fmt.{decimal};
-ghost use Rattle.commands.specs.Refusal.{WritesLine, fault_words, place_words, reason_words, refusal_line, script_words, status_of};
+ghost use Rattle.commands.specs.Refusal.{WritesLine, at_place_words, fault_words, place_words, reason_words, refusal_line, script_words, status_of};
 
 use crate::refused::Refused;
 use source_text::{Fault, OutputBuffer, Reason, Sink, write_text};
@@ -50,6 +50,19 @@ fn push_line_column(line: &mut OutputBuffer, refused: &Refused)
     push_number(line, refused.column as usize);
 }
 
+/// Adds ` at `, the line and the column, where there is a place.
+fn push_any_place(line: &mut OutputBuffer, refused: &Refused)
+    requires { length line.old ≤ 54 }
+    ensures words { line.new ≡ line.old ++ at_place_words refused.now.line refused.now.column }
+    ensures short { length line.new ≤ length line.old + 45 }
+{
+    if refused.line == 0 {
+        return;
+    }
+    line.push_text(" at ");
+    push_line_column(line, refused);
+}
+
 /// Adds that the refusal speaks of the second script, where it does.
 fn push_script(line: &mut OutputBuffer, in_second: bool)
     requires { length line.old ≡ 8 }
@@ -65,7 +78,7 @@ fn push_script(line: &mut OutputBuffer, in_second: bool)
 fn push_words(line: &mut OutputBuffer, refused: &Refused)
     requires start { length line.old ≤ 21 }
     requires known { refused.now.fault ≢ Fault.Usage }
-    ensures words { line.new ≡ line.old ++ fault_words refused.now.fault (place_words refused.now.line refused.now.column) }
+    ensures words { line.new ≡ line.old ++ fault_words refused.now.fault refused.now.line refused.now.column }
     ensures short { length line.new ≤ 108 }
 {
     match refused.fault {
@@ -86,7 +99,10 @@ fn push_words(line: &mut OutputBuffer, refused: &Refused)
             push_line_column(line, refused);
         }
         Fault::OutOfMemory => line.push_text("out of memory"),
-        Fault::BadSettings => line.push_text("bad settings"),
+        Fault::BadSettings => {
+            line.push_text("bad settings");
+            push_any_place(line, refused);
+        }
         Fault::BadTable(row, reason) => {
             line.push_text("bad table row ");
             push_number(line, row as usize);

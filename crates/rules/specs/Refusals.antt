@@ -1,17 +1,38 @@
 -- How the reading of settings is refused.
-use Rattle.std.specs.Prelude.{◌≡◌, ℕ, List, None}
-use Rattle.source_text.specs.declared.fault.Fault.{Fault}
-use Rattle.source_text.specs.declared.fault.Fault.TheVariants.{BadSettings, OutOfMemory}
-use Rattle.rules.specs.Toml.{settings_of_text}
+use Rattle.std.specs.Prelude.{◌≡◌, ◌<◌, ◌≤◌, ◌⊎◌, ℕ, List, length, Some, None}
+use Rattle.toml.specs.Data.{Members}
+use Rattle.toml.specs.Errors.{IsMemory, span_start}
+use Rattle.toml.specs.Parse.{parse_document}
+use Rattle.toml.specs.declared.de.error.Error.{Error}
+use Rattle.source_text.specs.Source.{IsPlace, max_bytes}
+use Rattle.rules.specs.declared.settings_error.SettingsError.{SettingsError}
+use Rattle.rules.specs.declared.settings_error.SettingsError.TheVariants.{Memory, NotToml, Unfit}
+use Rattle.rules.specs.Toml.{settings_of}
 
--- the two refusals that there are
-abbrev pub IsRefusal : Fault → Type 0
-IsRefusal BadSettings = Unit {0}
-IsRefusal OutOfMemory = Unit {0}
-IsRefusal _ = ⊥
+-- the two refusals of a table
+abbrev pub IsRefusal : SettingsError → Type 0
+IsRefusal Memory = Unit {0}
+IsRefusal (NotToml at) = ⊥
+IsRefusal Unfit = Unit {0}
 
--- settings are bad only where the text gives none; else memory is refused
-abbrev pub RefusesToml : List ℕ → Fault → Type 0
-RefusesToml text BadSettings = settings_of_text text ≡ None
-RefusesToml text OutOfMemory = Unit {0}
-RefusesToml text _ = ⊥
+-- the last place of a text that isn't behind an offset
+pub record IsPlaceBefore (text : List ℕ) (offset at : ℕ) : Type 0 where
+  pub is_place : IsPlace text at
+  pub before : at ≤ offset
+  pub last : (i : ℕ) → at < i → i ≤ offset → ¬ (IsPlace text i)
+
+-- what an error of `toml` says of a text: memory is refused, or the text is no TOML, and where its span starts
+abbrev pub IsTomlRefusal : List ℕ → Error → SettingsError → Type 0
+IsTomlRefusal text error Memory = IsMemory error
+IsTomlRefusal text error (NotToml at) = (¬ (IsMemory error)) × IsPlaceBefore text (span_start error) at
+IsTomlRefusal text error Unfit = ⊥
+
+-- a TOML text that gives no settings
+abbrev pub GivesNone : List ℕ → Type 0
+GivesNone text = (ms : Members) × (parse_document text ≡ Some ms) × (settings_of ms ≡ None)
+
+-- why a text is refused, but for memory: its length is looked at first; where it is no TOML, a place of it is told
+abbrev pub RefusesToml : List ℕ → SettingsError → Type 0
+RefusesToml text Memory = Unit {0}
+RefusesToml text (NotToml at) = (length text ≤ max_bytes) × (parse_document text ≡ None) × IsPlace text at
+RefusesToml text Unfit = (max_bytes < length text) ⊎ GivesNone text

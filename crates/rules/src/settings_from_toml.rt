@@ -2,31 +2,29 @@
 
 ghost use Rattle.std.specs.Prelude.{◌≡◌, Some, None, Err, codes, map, option_map, string_bytes, IfOk, IfErr};
 ghost use Rattle.toml.specs.Data.{get_member};
-ghost use Rattle.toml.specs.Errors.{IsMemory};
 ghost use Rattle.toml.specs.View.{array_view, items_view, table_view, view};
 ghost use Rattle.rules.specs.Toml.{environments_of, flag_of, globals_of, off_among, off_of, off_of_members, on_of, set_of, settings_of, with_environments};
 ghost use Rattle.rules.specs.Environments.{no_environments};
-ghost use Rattle.rules.specs.Refusals.{IsRefusal};
+ghost use Rattle.rules.specs.Refusals.{IsRefusal, IsTomlRefusal};
 
 use crate::environment::{Environment, Environments};
 use crate::known_keys::{knows_keys, knows_rules};
 use crate::rule_list::RULE_NAMES;
 use crate::settings::Settings;
-use source_text::{Fault, MAX_BYTES};
+use crate::settings_error::SettingsError;
+use source_text::MAX_BYTES;
 use std::alloc::Global;
 use std::collections::BTreeSet;
 use toml::value::Array;
 use toml::{Table, Value};
 
-/// The fault of a text that TOML refused: memory, or bad settings.
-fn refusal(error: &toml::de::Error) -> Fault
-    ensures bad { result ≡ Fault.BadSettings → ¬ IsMemory error.now }
-    ensures only { IsRefusal result }
+/// The error of a text that `toml` refused: memory, or that the text is no TOML, with the place at which the error's span starts.
+fn toml_refusal(text: &str, error: &toml::de::Error) -> SettingsError
+    ensures { IsTomlRefusal text.now error.now result }
 {
-    if error.is_memory() {
-        Fault::OutOfMemory
-    } else {
-        Fault::BadSettings
+    match error.span() {
+        Some(span) => SettingsError::NotToml(text.floor_char_boundary(span.start)),
+        None => SettingsError::Memory,
     }
 }
 
@@ -48,15 +46,15 @@ fn flag(table: &Table, key: &str) -> Option<bool>
 }
 
 /// The strings of an array, as a set.
-fn set(alloc: Global, values: &[Value]) -> Result<BTreeSet<String>, Fault>
+fn set(alloc: Global, values: &[Value]) -> Result<BTreeSet<String>, SettingsError>
     ensures ok { IfOk result (λ s. set_of (items_view values.now) ≡ Some (map string_bytes s.keys)) }
-    ensures bad { result ≡ Err Fault.BadSettings → set_of (items_view values.now) ≡ None }
+    ensures bad { result ≡ Err SettingsError.Unfit → set_of (items_view values.now) ≡ None }
     ensures only { IfErr result IsRefusal }
 {
     let mut set = BTreeSet::new(alloc);
     for value in values {
         let Some(text) = value.as_str() else {
-            return Err(Fault::BadSettings);
+            return Err(SettingsError::Unfit);
         };
         let string = String::from_str(alloc, text)?;
         set.insert(string)?;
@@ -65,16 +63,16 @@ fn set(alloc: Global, values: &[Value]) -> Result<BTreeSet<String>, Fault>
 }
 
 /// The names at `globals`: none if it is left out; refused if it is no array of strings.
-fn globals(alloc: Global, table: &Table) -> Result<BTreeSet<String>, Fault>
+fn globals(alloc: Global, table: &Table) -> Result<BTreeSet<String>, SettingsError>
     ensures ok { IfOk result (λ s. globals_of (get_member (codes "globals") (table_view table.now)) ≡ Some (map string_bytes s.keys)) }
-    ensures bad { result ≡ Err Fault.BadSettings → globals_of (get_member (codes "globals") (table_view table.now)) ≡ None }
+    ensures bad { result ≡ Err SettingsError.Unfit → globals_of (get_member (codes "globals") (table_view table.now)) ≡ None }
     ensures only { IfErr result IsRefusal }
 {
     match look(table, "globals") {
         None => Ok(BTreeSet::new(alloc)),
         Some(value) => match value.as_array() {
             Some(array) => set(alloc, array.as_slice()),
-            None => Err(Fault::BadSettings),
+            None => Err(SettingsError::Unfit),
         },
     }
 }
@@ -120,15 +118,15 @@ fn rule_on(table: &Table, name: &str) -> Option<bool>
 }
 
 /// Those of these rules that are off.
-fn off_among(alloc: Global, names: &[&str], table: &Table) -> Result<Vec<String>, Fault>
+fn off_among(alloc: Global, names: &[&str], table: &Table) -> Result<Vec<String>, SettingsError>
     ensures ok { IfOk result (λ v. off_among (map (λ n. n.now) names.now) (table_view table.now) ≡ Some (map string_bytes v.items)) }
-    ensures bad { result ≡ Err Fault.BadSettings → off_among (map (λ n. n.now) names.now) (table_view table.now) ≡ None }
+    ensures bad { result ≡ Err SettingsError.Unfit → off_among (map (λ n. n.now) names.now) (table_view table.now) ≡ None }
     ensures only { IfErr result IsRefusal }
 {
     let mut off = Vec::new(alloc);
     for name in names {
         let Some(is_on) = rule_on(table, *name) else {
-            return Err(Fault::BadSettings);
+            return Err(SettingsError::Unfit);
         };
         if !is_on {
             let string = String::from_str(alloc, *name)?;
@@ -139,51 +137,51 @@ fn off_among(alloc: Global, names: &[&str], table: &Table) -> Result<Vec<String>
 }
 
 /// The rules that `rules` turns off: none if it is left out; refused if it is no table of rules.
-fn off(alloc: Global, table: &Table) -> Result<Vec<String>, Fault>
+fn off(alloc: Global, table: &Table) -> Result<Vec<String>, SettingsError>
     ensures ok { IfOk result (λ v. off_of (get_member (codes "rules") (table_view table.now)) ≡ Some (map string_bytes v.items)) }
-    ensures bad { result ≡ Err Fault.BadSettings → off_of (get_member (codes "rules") (table_view table.now)) ≡ None }
+    ensures bad { result ≡ Err SettingsError.Unfit → off_of (get_member (codes "rules") (table_view table.now)) ≡ None }
     ensures only { IfErr result IsRefusal }
 {
     match look(table, "rules") {
         None => Ok(Vec::new(alloc)),
         Some(value) => match value.as_table() {
             Some(rules) => off_of_table(alloc, rules),
-            None => Err(Fault::BadSettings),
+            None => Err(SettingsError::Unfit),
         },
     }
 }
 
 /// The rules that a table turns off; refused if it has another key or value.
-fn off_of_table(alloc: Global, table: &Table) -> Result<Vec<String>, Fault>
+fn off_of_table(alloc: Global, table: &Table) -> Result<Vec<String>, SettingsError>
     ensures ok { IfOk result (λ v. off_of_members (table_view table.now) ≡ Some (map string_bytes v.items)) }
-    ensures bad { result ≡ Err Fault.BadSettings → off_of_members (table_view table.now) ≡ None }
+    ensures bad { result ≡ Err SettingsError.Unfit → off_of_members (table_view table.now) ≡ None }
     ensures only { IfErr result IsRefusal }
 {
     if !knows_rules(table) {
-        return Err(Fault::BadSettings);
+        return Err(SettingsError::Unfit);
     }
     off_among(alloc, RULE_NAMES.as_slice(), table)
 }
 
 /// The settings that a table gives; refused if it has another key or value.
-fn settings_of(alloc: Global, table: &Table) -> Result<Settings, Fault>
+fn settings_of(alloc: Global, table: &Table) -> Result<Settings, SettingsError>
     ensures ok { IfOk result (λ s. settings_of (table_view table.now) ≡ Some s) }
-    ensures bad { result ≡ Err Fault.BadSettings → settings_of (table_view table.now) ≡ None }
+    ensures bad { result ≡ Err SettingsError.Unfit → settings_of (table_view table.now) ≡ None }
     ensures only { IfErr result IsRefusal }
 {
     if !knows_keys(table) {
-        return Err(Fault::BadSettings);
+        return Err(SettingsError::Unfit);
     }
     let off = off(alloc, table)?;
     let globals = globals(alloc, table)?;
     let Some(environments) = environments(table) else {
-        return Err(Fault::BadSettings);
+        return Err(SettingsError::Unfit);
     };
     let Some(allow_null) = flag(table, "allow-null") else {
-        return Err(Fault::BadSettings);
+        return Err(SettingsError::Unfit);
     };
     let Some(ignore_underscore) = flag(table, "ignore-underscore") else {
-        return Err(Fault::BadSettings);
+        return Err(SettingsError::Unfit);
     };
     Ok(Settings::new(off, globals, environments, allow_null, ignore_underscore))
 }
@@ -199,18 +197,19 @@ impl Settings {
     ///
     /// # Errors
     ///
-    /// `BadSettings` where the text has more than 16,777,216 bytes, which is seen before it is read, isn't TOML, or has
-    /// another key, another rule, another environment or a value of another kind, and nowhere else; `OutOfMemory`. No other fault.
-    pub fn from_toml(alloc: Global, text: &str) -> Result<Settings, Fault>
+    /// `Unfit` where the text has more than 16,777,216 bytes, which is seen before it is read, or is TOML that has another key,
+    /// another rule, another environment or a value of another kind, and nowhere else; `NotToml` where it isn't TOML, with the place of the error;
+    /// `Memory`.
+    pub fn from_toml(alloc: Global, text: &str) -> Result<Settings, SettingsError>
         ensures ok { IfOk result (λ s. settings_of_text text.now ≡ Some s) }
         ensures refused { IfErr result (RefusesToml text.now) }
     {
         if text.len() > MAX_BYTES {
-            return Err(Fault::BadSettings);
+            return Err(SettingsError::Unfit);
         }
         match toml::table_from_str(alloc, text) {
             Ok(table) => settings_of(alloc, &table),
-            Err(error) => Err(refusal(&error)),
+            Err(error) => Err(toml_refusal(text, &error)),
         }
     }
 }

@@ -1,12 +1,12 @@
 use Rattle.std.proofs.Common.{◌≡◌, List, ◌++◌, ◌∙◌, ℕ, ap, rules}
 use Rattle.source_text.specs.declared.fault.Fault.{Fault}
-use Rattle.commands.specs.Refusal.{fault_words, place_words}
+use Rattle.commands.specs.Refusal.{fault_words}
 use Rattle.commands.specs.declared.refused.Refused.{Refused}
 use Rattle.commands.proofs.JoinedTexts.{one_piece, two_pieces, four_pieces}
 use Rattle.commands.proofs.refusal.push_words.Goals as goal
 
-said : (refused : Refused) (fault : Fault) → refused.fault ≡ fault → fault_words refused.fault (place_words refused.line refused.column) ≡ fault_words fault (place_words refused.line refused.column)
-said refused fault is = ap (λ (f : Fault). fault_words f (place_words refused.line refused.column)) is
+said : (refused : Refused) (fault : Fault) → refused.fault ≡ fault → fault_words refused.fault refused.line refused.column ≡ fault_words fault refused.line refused.column
+said refused fault is = ap (λ (f : Fault). fault_words f refused.line refused.column) is
 
 pub returns-in-NotUtf8-clause-words : goal.returns-in-NotUtf8-clause-words
 returns-in-NotUtf8-clause-words c =
@@ -22,7 +22,7 @@ returns-in-Syntax-clause-words c =
 
 pub returns-in-BadSettings-clause-words : goal.returns-in-BadSettings-clause-words
 returns-in-BadSettings-clause-words c =
-    one_piece _ _ _ _ c.push_text-in-BadSettings.ensures (said c.args.refused.now _ c.in-BadSettings.is)
+    two_pieces _ _ _ _ _ _ c.push_text-in-BadSettings.ensures c.push_any_place.ensures.words (said c.args.refused.now _ c.in-BadSettings.is)
 
 pub returns-in-BadTable-clause-words : goal.returns-in-BadTable-clause-words
 returns-in-BadTable-clause-words c =
