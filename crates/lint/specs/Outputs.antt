@@ -3,9 +3,10 @@ use Rattle.std.specs.Prelude.{◌≡◌, ◌≤◌, ◌+◌, ℕ, zero, suc, Boo
 use Rattle.std.specs.Fmt.{decimal}
 use Rattle.std.specs.Str.{IsUtf8}
 use Rattle.std.specs.List.Sorted.{IsPermutation, IsSorted}
-use Rattle.source_text.specs.Source.{max_bytes}
+use Rattle.source_text.specs.Lines.{line_column}
+use Rattle.source_text.specs.Source.{IsRefusal, max_bytes}
 use Rattle.source_text.specs.declared.fault.Fault.{Fault}
-use Rattle.source_text.specs.declared.fault.Fault.TheVariants.{TooLong, BadSettings, BadTable, UnwrapFailed}
+use Rattle.source_text.specs.declared.fault.Fault.TheVariants.{NotUtf8, TooLong, BadTable, UnwrapFailed}
 use Rattle.source_text.specs.declared.fault.Reason.{Reason}
 use Rattle.source_text.specs.declared.fault.Reason.TheVariants as reason
 use Rattle.commands.specs.declared.command.Command.{Command}
@@ -31,7 +32,9 @@ use Rattle.paren_planner.specs.PairNodes.{pair_rows, spans_but_needed}
 use Rattle.scopes.specs.Found.{found}
 use Rattle.rules.specs.Reports.{Report}
 use Rattle.rules.specs.Order.{report_cmp}
+use Rattle.rules.specs.Refusals.{GivesNone, RefusesToml}
 use Rattle.rules.specs.Settings.{Settings}
+use Rattle.rules.specs.declared.settings_error.SettingsError.TheVariants.{NotToml}
 use Rattle.rules.specs.Toml.{settings_of_text}
 use Rattle.rules.specs.Rules.{View}
 use Rattle.rules.specs.Lines.{report_lines, report_status, span_lines}
@@ -79,9 +82,13 @@ pub record ChecksSpans (finds : View → List Report) (text : List ℕ) (n : Syn
   pub checks : Checks finds text n P second with_places status
   pub are_spans : output ≡ span_lines checks.reports
 
--- the settings are not UTF-8, or refused
-abbrev pub RefusesSettings : List ℕ → Type 0
-RefusesSettings second = IsUtf8 second → settings_of_text second ≡ None
+-- Settings are refused, at this line and column: where they are no UTF-8 behind the longest beginning that is, where they are no TOML at a
+-- place of the text, and at none, both 0, where they are too long or are TOML that gives none.
+abbrev pub RefusesSettings : List ℕ → ℕ × ℕ → Type 0
+RefusesSettings second place =
+    ((at : ℕ) × IsRefusal second (NotUtf8 at) × (place ≡ line_column (take at second) at))
+    ⊎ ((IsUtf8 second × ((at : ℕ) × RefusesToml second (NotToml at) × (place ≡ line_column second at)))
+    ⊎ ((place ≡ (0, 0)) × (IsRefusal second TooLong ⊎ (IsUtf8 second × GivesNone second))))
 
 -- ---- tree, cost, verify
 
@@ -158,9 +165,8 @@ IsOutput finds Cost text n P second output status = Costs n output × (status �
 IsOutput finds Verify text n P second output status = Verifies n P second output × (status ≡ 0)
 IsOutput finds Same text n P second output status = Compares n second status × (output ≡ [])
 
--- why a command refuses a script that was read: its second file is refused, or it isn't unwrapped
+-- why a command refuses a script that was read: its table is refused, or it isn't unwrapped
 abbrev pub CommandRefuses : Command → List ℕ → SyntaxTree → List Pair → List ℕ → Fault → Type 0
-CommandRefuses command text n P second BadSettings = ((form : ReportForm) × (command ≡ Check form)) × RefusesSettings second
 CommandRefuses command text n P second (BadTable row why) = (command ≡ Verify) × RefusesTable n second row why
 CommandRefuses command text n P second TooLong = (command ≡ Unwrap) × RefusesScript text n P TooLong
 CommandRefuses command text n P second UnwrapFailed = (command ≡ Unwrap) × RefusesScript text n P UnwrapFailed

@@ -7,7 +7,8 @@ use Rattle.source_text.specs.Writing.{AppendsBeginning}
 use Rattle.source_text.specs.declared.fault.Fault.{Fault}
 use Rattle.source_text.specs.declared.fault.Fault.TheVariants.{NotUtf8, TooLong, OutOfMemory, ReadFailed, WriteFailed, BadSettings, BadTable, UnwrapFailed}
 use Rattle.commands.specs.declared.command.Command.{Command}
-use Rattle.commands.specs.declared.command.Command.TheVariants.{Same}
+use Rattle.commands.specs.declared.command.Command.TheVariants.{Check, Same}
+use Rattle.commands.specs.declared.command.ReportForm.{ReportForm}
 use Rattle.commands.specs.declared.refused.Refused.{Refused}
 use Rattle.commands.specs.Refused.{place_of}
 use Rattle.tree.specs.Tree.{Tree as SyntaxTree}
@@ -15,7 +16,7 @@ use Rattle.tree.specs.declared.kind.Pair.{Pair}
 use Rattle.rules.specs.Reports.{Report}
 use Rattle.rules.specs.Rules.{View}
 use Rattle.lint.specs.ReadScripts.{IsReading, RefusesReading}
-use Rattle.lint.specs.Outputs.{second_limit, IsSecond, IsOutput, CommandRefuses}
+use Rattle.lint.specs.Outputs.{second_limit, IsSecond, IsOutput, CommandRefuses, RefusesSettings}
 
 -- the bytes are source text: UTF-8, and not too long
 abbrev pub IsSource : List ℕ → Type 0
@@ -88,9 +89,13 @@ FailsToRead command seen =
     ((seen.reader_failed ≡ true) × (seen.second_failed ≡ false))
     ⊎ ((seen.reader_failed ≡ false) × (seen.second_failed ≡ true) × IsSome (second_limit command) × ReadsScript seen.given)
 
--- a script that was read is refused by its command, for its second file or for what it would write
+-- a script that was read is refused by its command, for its table or for what it would write
 abbrev pub RefusesAfter : Command → Seen → Fault → Type 0
 RefusesAfter command seen fault = (read : ReadsBoth command seen.given seen.second) × CommandRefuses command read.script.text read.script.tree read.script.pairs read.second fault
+
+-- the settings for a script that was read are refused, at this place
+abbrev pub RefusesSettingsAfter : Command → Seen → ℕ × ℕ → Type 0
+RefusesSettingsAfter command seen place = (read : ReadsBoth command seen.given seen.second) × ((form : ReportForm) × (command ≡ Check form)) × RefusesSettings read.second place
 
 -- the text of the first file is refused, at this place
 abbrev pub RefusesFirst : Seen → Fault → ℕ × ℕ → Type 0
@@ -102,7 +107,7 @@ Refuses finds command seen ReadFailed place = (seen.writer_failed ≡ false) × 
 Refuses finds command seen WriteFailed place =
     (seen.reader_failed ≡ false) × (seen.second_failed ≡ false) × (seen.writer_failed ≡ true) × BeginsOutput finds command seen × (place ≡ (0, 0))
 Refuses finds command seen OutOfMemory place = NoneFailed seen × NothingWritten seen × (place ≡ (0, 0))
-Refuses finds command seen BadSettings place = NoneFailed seen × NothingWritten seen × RefusesAfter command seen BadSettings × (place ≡ (0, 0))
+Refuses finds command seen BadSettings place = NoneFailed seen × NothingWritten seen × RefusesSettingsAfter command seen place
 Refuses finds command seen (BadTable row why) place = NoneFailed seen × NothingWritten seen × RefusesAfter command seen (BadTable row why) × (place ≡ (0, 0))
 Refuses finds command seen UnwrapFailed place = NoneFailed seen × NothingWritten seen × RefusesAfter command seen UnwrapFailed × (place ≡ (0, 0))
 Refuses finds command seen TooLong place = NoneFailed seen × NothingWritten seen × (RefusesFirst seen TooLong place ⊎ (RefusesAfter command seen TooLong × (place ≡ (0, 0))))

@@ -49,11 +49,13 @@ IsWritable (Unchanged text) = Unit {0}
 IsWritable (Fixed parsed wraps) = IsScript parsed.program parsed.pairs.items × AreWraps parsed.program wraps.flags.items
 IsWritable (Table parsed plan) = length plan.table.rows.items ≤ 16777216
 
+-- the refusal of settings, at its place
+abbrev pub IsSettingsRefusal : List ℕ → Refused → Type 0
+IsSettingsRefusal bytes refused = (refused.fault ≡ BadSettings) × (refused.in_second ≡ false) × RefusesSettings bytes (refused.line, refused.column)
+
 -- why bytes give no settings
-abbrev pub RefusesSettingsBy : List ℕ → Fault → Type 0
-RefusesSettingsBy bytes BadSettings = RefusesSettings bytes
-RefusesSettingsBy bytes OutOfMemory = Unit {0}
-RefusesSettingsBy bytes fault = ⊥
+abbrev pub RefusesSettingsBy : List ℕ → Refused → Type 0
+RefusesSettingsBy bytes refused = (refused ≡ no_memory) ⊎ IsSettingsRefusal bytes refused
 
 -- the lines of reports in a form
 abbrev pub lines_in : ReportForm → List ℕ → List Report → List ℕ
@@ -67,13 +69,16 @@ pub record ReportsLines (finds : View → List Report) (form : ReportForm) (text
   pub are_lines : output_of answer ≡ lines_in form text reports
   pub is_status : status_of answer ≡ report_status reports
 
+-- why no settings are read, by what the second reader has to give
+abbrev pub LacksSettings : Option (List ℕ) → Refused → Bool → Type 0
+LacksSettings given refused failed =
+    ((failed ≡ true) × (refused ≡ record { fault = ReadFailed; in_second = false; line = 0; column = 0 }))
+    ⊎ ((failed ≡ false) × ((refused ≡ no_memory) ⊎ ((second : List ℕ) × IsSecond (Check Places) given second × IsSettingsRefusal second refused)))
+
 -- settings, from what the second reader has to give
-abbrev pub ReadsSettings : Option (List ℕ) → Result Settings Fault → Bool → Type 0
+abbrev pub ReadsSettings : Option (List ℕ) → Result Settings Refused → Bool → Type 0
 ReadsSettings given (Ok settings) failed = (failed ≡ false) × ((second : List ℕ) × IsSecond (Check Places) given second × IsUtf8 second × (settings_of_text second ≡ Some settings))
-ReadsSettings given (Err ReadFailed) failed = failed ≡ true
-ReadsSettings given (Err OutOfMemory) failed = failed ≡ false
-ReadsSettings given (Err BadSettings) failed = (failed ≡ false) × ((second : List ℕ) × IsSecond (Check Places) given second × RefusesSettings second)
-ReadsSettings given (Err fault) failed = ⊥
+ReadsSettings given (Err refused) failed = LacksSettings given refused failed
 
 -- a table, from what the second reader has to give
 abbrev pub ReadsTable : Option (List ℕ) → Result CostTable Fault → Bool → Type 0
@@ -94,6 +99,11 @@ Answers finds command text n P given (Err fault) failed = (failed ≡ false) × 
 -- the same of a command that reads no second file
 abbrev pub AnswersAlone : Command → List ℕ → SyntaxTree → List Pair → Result Answer Fault → Type 0
 AnswersAlone command text n P result = (finds : View → List Report) (given : Option (List ℕ)) → Answers finds command text n P given result false
+
+-- what `check` answers of a script, by what its second reader has to give
+abbrev pub AnswersCheck : (View → List Report) → ReportForm → List ℕ → SyntaxTree → List Pair → Option (List ℕ) → Result Answer Refused → Bool → Type 0
+AnswersCheck finds form text n P given (Ok answer) failed = Answers finds (Check form) text n P given (Ok answer) failed
+AnswersCheck finds form text n P given (Err refused) failed = LacksSettings given refused failed
 
 -- a refusal as one of the second script; that memory is refused speaks of none
 abbrev pub IsOfOther : Refused → Refused → Type 0

@@ -1,16 +1,17 @@
 //! The command `check`: settings, the reports of a script, and their lines.
 
-ghost use Rattle.std.specs.Prelude.{◌≡◌, ◌≤◌, false, length, IfErr, IfOk, Some, string_bytes};
+ghost use Rattle.std.specs.Prelude.{◌≡◌, ◌≢◌, ◌≤◌, false, length, IfErr, IfOk, Some, string_bytes};
 ghost use Rattle.std.specs.Str.{IsUtf8};
-ghost use Rattle.commands.specs.declared.command.Command.TheVariants.{Check};
+ghost use Rattle.source_text.specs.declared.fault.Fault.TheVariants.{Usage};
 ghost use Rattle.rules.specs.Run.{all_found};
 ghost use Rattle.rules.specs.Toml.{settings_of_text};
 ghost use Rattle.lint.specs.ReadScripts.{IsReading, IsScript};
 ghost use Rattle.lint.specs.Outputs.{IsExtra, Reports};
-ghost use Rattle.lint.specs.Steps.{Answers, ReadsSettings, IsWritable, RefusesSettingsBy, ReportsLines, lines_in};
+ghost use Rattle.lint.specs.Steps.{AnswersCheck, ReadsSettings, IsWritable, RefusesSettingsBy, ReportsLines, lines_in};
 
 use crate::answer::Answer;
-use commands::{ReportForm, read_up_to};
+use crate::refusals::{no_settings, no_settings_text};
+use commands::{Refused, ReportForm, read_up_to};
 use paren_planner::{extra_pairs, wraps_by_pairs};
 use parser::Parsed;
 use rules::{Report, Rule, Settings, View, report_lines, report_status, run_rules, span_lines};
@@ -18,22 +19,25 @@ use scopes::resolve;
 use source_text::{Fault, Feed, MAX_BYTES, Source};
 use spellings::pair_rows;
 use std::alloc::{AllocError, Global};
-use std::str::from_utf8;
 use tree::Span;
 
 /// The settings that a text gives.
 ///
 /// # Errors
 ///
-/// `BadSettings` where it isn't UTF-8 or is refused, and `OutOfMemory`.
-fn settings_of(alloc: Global, bytes: &[u8]) -> Result<Settings, Fault>
+/// `BadSettings` where it is too long, isn't UTF-8 or is refused, with line and column where it isn't UTF-8 or no TOML; `OutOfMemory`.
+fn settings_of(alloc: Global, bytes: &[u8]) -> Result<Settings, Refused>
     ensures utf8 { IfOk result (λ _. IsUtf8 bytes.now) }
     ensures settings { IfOk result (λ settings. settings_of_text bytes.now ≡ Some settings) }
     ensures refused { IfErr result (RefusesSettingsBy bytes.now) }
 {
-    match from_utf8(bytes) {
-        Ok(text) => Settings::from_toml(alloc, text),
-        Err(_) => Err(Fault::BadSettings),
+    let source = match Source::new(bytes) {
+        Ok(source) => source,
+        Err(fault) => return Err(no_settings_text(bytes, fault)),
+    };
+    match Settings::from_toml(alloc, source.text()) {
+        Ok(settings) => Ok(settings),
+        Err(error) => Err(no_settings(&source, error)),
     }
 }
 
@@ -42,13 +46,13 @@ fn settings_of(alloc: Global, bytes: &[u8]) -> Result<Settings, Fault>
 /// # Errors
 ///
 /// `BadSettings` where the text is too long, isn't UTF-8 or is refused; `ReadFailed` and `OutOfMemory`.
-fn read_settings<S: Feed>(alloc: Global, second: &mut S) -> Result<Settings, Fault>
+fn read_settings<S: Feed>(alloc: Global, second: &mut S) -> Result<Settings, Refused>
     requires ready { S.failed second.old ≡ false }
     ensures { ReadsSettings (S.left second.old) result (S.failed second.new) }
 {
     match read_up_to(alloc, second, MAX_BYTES) {
         Ok(bytes) => settings_of(alloc, &bytes),
-        Err(fault) => Err(fault),
+        Err(fault) => Err(Refused::at_no_place(fault)),
     }
 }
 
@@ -121,7 +125,8 @@ fn report<'s>(
 ///
 /// # Errors
 ///
-/// `BadSettings` where the settings are too long, aren't UTF-8 or are refused; `ReadFailed` where the reader fails; `OutOfMemory`.
+/// `BadSettings` where the settings are too long, aren't UTF-8 or are refused, with line and column where they aren't UTF-8 or no TOML; `ReadFailed`
+/// where the reader fails; `OutOfMemory`.
 pub(crate) fn check<'s, S: Feed>(
     alloc: Global,
     form: ReportForm,
@@ -129,19 +134,20 @@ pub(crate) fn check<'s, S: Feed>(
     source: &Source<'_>,
     parsed: &Parsed<'_>,
     second: &mut S,
-) -> Result<Answer<'s>, Fault>
+) -> Result<Answer<'s>, Refused>
     requires reading { IsReading source.now parsed.now.program parsed.now.pairs.items }
     requires small { length source.now ≤ 16777216 }
     requires ready { S.failed second.old ≡ false }
-    ensures answer { Answers (all_found (λ b. called b) (λ b. finds b) rules.now) (Check form) source.now parsed.now.program parsed.now.pairs.items (S.left second.old) result (S.failed second.new) }
+    ensures answer { AnswersCheck (all_found (λ b. called b) (λ b. finds b) rules.now) form source.now parsed.now.program parsed.now.pairs.items (S.left second.old) result (S.failed second.new) }
     ensures writable { IfOk result IsWritable }
+    ensures told { IfErr result (λ refused. refused.fault ≢ Usage) }
 {
     let settings = match read_settings(alloc, second) {
         Ok(settings) => settings,
-        Err(fault) => return Err(fault),
+        Err(refused) => return Err(refused),
     };
     match report(alloc, form, rules, source, parsed, &settings) {
         Ok(answer) => Ok(answer),
-        Err(AllocError) => Err(Fault::OutOfMemory),
+        Err(AllocError) => Err(Refused::at_no_place(Fault::OutOfMemory)),
     }
 }

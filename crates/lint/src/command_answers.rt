@@ -1,21 +1,18 @@
 //! What each command answers of a script.
 
 ghost use Rattle.std.specs.Prelude.{◌≡◌, ◌≢◌, ◌≤◌, false, length, IfOk, None, string_bytes};
-ghost use Rattle.commands.specs.declared.command.Command.TheVariants.{Fix, Same, Tree, Unwrap};
-ghost use Rattle.rules.specs.Run.{all_found};
+ghost use Rattle.commands.specs.declared.command.Command.TheVariants.{Check, Fix, Same, Tree, Unwrap};
 ghost use Rattle.lint.specs.ReadScripts.{IsReading};
 ghost use Rattle.lint.specs.Outputs.{second_limit, tree_line as tree_line_of};
 ghost use Rattle.lint.specs.Steps.{Answers, AnswersAlone, IsWritable};
 
 use crate::answer::Answer;
-use crate::check_command::check;
 use crate::cost_commands::{cost, verify};
 use crate::unwrap::unwrap_unless_fewest;
 use commands::Command;
 use estree_json::tree_text;
 use paren_planner::wraps_by_pairs;
 use parser::Parsed;
-use rules::Rule;
 use source_text::{Fault, Feed, Source};
 use std::alloc::{AllocError, Global};
 
@@ -74,35 +71,34 @@ fn unwrapped<'s>(
     }
 }
 
-/// What a command but `same` answers of the script that a text is. The second file is read by `check` and by `verify` alone.
+/// What a command but `check` and `same` answers of the script that a text is. The second file is read by `verify` alone.
 ///
 /// # Errors
 ///
-/// `BadSettings` and `BadTable` where the second file is refused; `ReadFailed` where its reader fails; `TooLong` and `UnwrapFailed` of
-/// `unwrap`, as `unwrap_text`; `OutOfMemory`.
+/// `BadTable` where the second file is refused; `ReadFailed` where its reader fails; `TooLong` and `UnwrapFailed` of `unwrap`, as
+/// `unwrap_text`; `OutOfMemory`.
 pub(crate) fn answer<'s, S: Feed>(
     alloc: Global,
     command: Command,
-    rules: &[Box<dyn Rule>],
     source: &Source<'s>,
     parsed: Parsed<'s>,
     second: &mut S,
 ) -> Result<Answer<'s>, Fault>
+    requires unchecked { (form : _) → command ≢ Check form }
     requires other { command ≢ Same }
     requires reading { IsReading source.now parsed.program parsed.pairs.items }
     requires small { length source.now ≤ 16777216 }
     requires ready { S.failed second.old ≡ false }
-    ensures answer { Answers (all_found (λ b. called b) (λ b. finds b) rules.now) command source.now parsed.entry.program parsed.entry.pairs.items (S.left second.old) result (S.failed second.new) }
+    ensures answer { (finds : _) → Answers finds command source.now parsed.entry.program parsed.entry.pairs.items (S.left second.old) result (S.failed second.new) }
     ensures writable { IfOk result IsWritable }
     ensures unread { second_limit command ≡ None → second.new ≡ second.old }
 {
     match command {
-        Command::Check(form) => check(alloc, form, rules, source, &parsed, second),
         Command::Tree => tree(alloc, &parsed),
         Command::Fix => fixed(alloc, source, parsed),
         Command::Unwrap => unwrapped(alloc, source, &parsed),
         Command::Cost => cost(alloc, parsed),
         Command::Verify => verify(alloc, &parsed, second),
-        Command::Same => unreachable!(),
+        Command::Check(_) | Command::Same => unreachable!(),
     }
 }

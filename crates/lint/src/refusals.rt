@@ -1,11 +1,16 @@
 //! Refusals of texts, with the line and the column of their places.
 
-ghost use Rattle.std.specs.Prelude.{◌≡◌, false};
+ghost use Rattle.std.specs.Prelude.{◌≡◌, ◌≤◌, false, length};
+ghost use Rattle.std.specs.Str.{IsUtf8};
+ghost use Rattle.source_text.specs.Lines.{line_column};
+ghost use Rattle.source_text.specs.Source.{IsRefusal};
 ghost use Rattle.commands.specs.Refused.{HasPlace, place_of};
-ghost use Rattle.lint.specs.Steps.{IsOfOther};
+ghost use Rattle.rules.specs.Refusals.{RefusesToml};
+ghost use Rattle.lint.specs.Steps.{IsOfOther, IsSettingsRefusal, RefusesSettingsBy};
 
 use commands::Refused;
-use source_text::{Fault, Source};
+use rules::SettingsError;
+use source_text::{Fault, MAX_BYTES, Source};
 
 /// A refusal of a text, with the line and the column of its place.
 pub(crate) fn refused_at(source: &Source<'_>, fault: Fault) -> Refused
@@ -38,5 +43,54 @@ pub(crate) fn of_second(refused: Refused) -> Refused
             in_second: true,
             ..refused
         },
+    }
+}
+
+/// The refusal of settings at a line and a column.
+fn bad_settings_at(place: (u32, u32)) -> Refused
+    ensures { result ≡ record { fault = Fault.BadSettings; in_second = false; line = place.0; column = place.1 } }
+{
+    let (line, column) = place;
+    Refused {
+        fault: Fault::BadSettings,
+        in_second: false,
+        line,
+        column,
+    }
+}
+
+/// The line and the column behind the last character of a text.
+fn end_of(bytes: &[u8]) -> (u32, u32)
+    requires utf8 { IsUtf8 bytes.now }
+    requires short { length bytes.now ≤ MAX_BYTES }
+    ensures { result ≡ line_column bytes.now (length bytes.now) }
+{
+    match Source::new(bytes) {
+        Ok(source) => source.line_column(source.len()),
+        Err(_) => unreachable!(),
+    }
+}
+
+/// The refusal of settings whose bytes are no source text: at the first that begins no UTF-8 sequence, or, of too many bytes, at no place.
+pub(crate) fn no_settings_text(bytes: &[u8], fault: Fault) -> Refused
+    requires { IsRefusal bytes.now fault }
+    ensures { IsSettingsRefusal bytes.now result }
+{
+    match fault {
+        Fault::NotUtf8(at) => bad_settings_at(end_of(&bytes[..at])),
+        _ => Refused::at_no_place(Fault::BadSettings),
+    }
+}
+
+/// The refusal of a text that gives no settings: where it is no TOML, at the place of the error, else at no place.
+pub(crate) fn no_settings(source: &Source<'_>, error: SettingsError) -> Refused
+    requires utf8 { IsUtf8 source.now }
+    requires refused { RefusesToml source.now error }
+    ensures { RefusesSettingsBy source.now result }
+{
+    match error {
+        SettingsError::NotToml(at) => bad_settings_at(source.line_column(at)),
+        SettingsError::Unfit => Refused::at_no_place(Fault::BadSettings),
+        SettingsError::Memory => Refused::at_no_place(Fault::OutOfMemory),
     }
 }

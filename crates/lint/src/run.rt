@@ -7,6 +7,7 @@ ghost use Rattle.lint.specs.Run.{Runs};
 ghost use Rattle.lint.specs.Steps.{AnswersBytes, IsWritable};
 
 use crate::answer::Answer;
+use crate::check_command::check;
 use crate::command_answers::answer;
 use crate::refusals::refused_at;
 use crate::same_command::same;
@@ -39,8 +40,9 @@ fn answer_bytes<'s, S: Feed>(
         Err(fault) => return Err(refused_at(&source, fault)),
     };
     match command {
+        Command::Check(form) => check(alloc, form, rules, &source, &parsed, second),
         Command::Same => same(alloc, &parsed, second),
-        _ => match answer(alloc, command, rules, &source, parsed, second) {
+        _ => match answer(alloc, command, &source, parsed, second) {
             Ok(answer) => Ok(answer),
             Err(fault) => Err(Refused::at_no_place(fault)),
         },
@@ -55,8 +57,8 @@ fn answer_bytes<'s, S: Feed>(
 /// # Errors
 ///
 /// `ReadFailed` and `WriteFailed` where a device fails; `TooLong` and `NotUtf8` where the first file holds no source text; `Syntax` and
-/// `Early`, with line and column, and `TooDeep` where it is no script; `BadSettings` and `BadTable` where the second file is refused, and, of the second
-/// script, what a first one is refused for;
+/// `Early`, with line and column, and `TooDeep` where it is no script; `BadSettings`, with line and column where the settings aren't UTF-8 or no TOML, and
+/// `BadTable` where the second file is refused, and, of the second script, what a first one is refused for;
 /// `TooLong` also where the text that `unwrap` would write is longer than a source text may be, and `UnwrapFailed` where it isn't the same
 /// script with the fewest pairs, of which none is known; `OutOfMemory`. The first of these is answered. Nothing is written but where the
 /// writer fails: then a beginning of the output.
