@@ -3,10 +3,10 @@
 use crate::case::Case;
 use crate::plans::spans_of;
 use crate::print::word;
-use crate::refusals::push_fault;
 use parser::Parsed;
 use rules::{
-    NoDebugger, NoVar, NodeRule, RULE_COUNT, Report, Rule, Settings, View, of_each_rule, run_rules,
+    NoDebugger, NoVar, NodeRule, RULE_COUNT, Report, Rule, Settings, SettingsError, View,
+    of_each_rule, run_rules,
 };
 use scopes::{Binding, Reference, Scopes, resolve};
 use spellings::pair_rows;
@@ -110,11 +110,20 @@ fn push_said(settings: &Settings, out: &mut String) -> Result<(), AllocError> {
     write!(out, "{:?}", (on, settings.is_global("a"), null, underscore))
 }
 
+/// Why settings are refused. A row whose call was refused memory has no answer.
+fn push_settings_error(error: SettingsError, out: &mut String) -> Result<(), AllocError> {
+    match error {
+        SettingsError::Memory => Err(AllocError),
+        SettingsError::NotToml(at) => write!(out, "not TOML at byte {at}"),
+        SettingsError::Unfit => out.push_str("bad settings"),
+    }
+}
+
 /// The settings of a text.
 pub(crate) fn push_settings(alloc: Global, text: &str, out: &mut String) -> Result<(), AllocError> {
     match Settings::from_toml(alloc, text) {
         Ok(settings) => push_said(&settings, out),
-        Err(fault) => push_fault(fault, out),
+        Err(error) => push_settings_error(error, out),
     }
 }
 
@@ -293,6 +302,6 @@ pub(crate) fn push_rules(
 ) -> Result<(), AllocError> {
     match Settings::from_toml(alloc, row.text(2)) {
         Ok(settings) => push_checked(alloc, row.text(0), parsed, &settings, out),
-        Err(fault) => push_fault(fault, out),
+        Err(error) => push_settings_error(error, out),
     }
 }
