@@ -20,6 +20,7 @@ const REFUSALS = [
   [/^nested too deep$/, 'deep', []],
   [/^not UTF-8 at byte (\d+)$/, 'utf8', ['byte']],
   [/^longer than (\d+) bytes$/, 'long', ['most']],
+  [/^bad settings at (\d+):(\d+)$/, 'settings', ['line', 'column']],
   [/^bad settings$/, 'settings', []],
   [/^bad table row (\d+) (\w+)$/, 'table', ['row', 'reason']],
   [/^can't be unwrapped$/, 'unwrap', []],

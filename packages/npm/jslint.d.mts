@@ -29,7 +29,7 @@ export class Refused extends Error {
   code: Code;
   /** Whether it is the other text of `same` that is refused. */
   inSecond: boolean;
-  /** The place of a syntax error or an early error. */
+  /** The place of a syntax error or an early error; of settings, where they are no TOML or no UTF-8. */
   line?: number;
   column?: number;
   /** The number of an early error. */

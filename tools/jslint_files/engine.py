@@ -3,7 +3,7 @@ import ctypes
 import os
 import threading
 
-from .outcomes import said
+from .outcomes import PLACED, said
 from .streams import Wrong, put, shown
 from .traces import TRACES
 
@@ -162,7 +162,8 @@ def taken(engine, text, name, is_placed=False):
     """Settings, which are refused here once, and not for each script. Where it is asked for, with the line at which they begin to be wrong."""
     status, _, err = engine.run('check', b'', text)
     if status:
-        raise Wrong(f'{shown(name)}: {said(status, err, "checked")}{line_of_fault(engine, text) if is_placed and err else ""}')
+        words = said(status, err, 'checked')
+        raise Wrong(f'{shown(name)}: {words}{line_of_fault(engine, text) if is_placed and err and not PLACED.fullmatch(words) else ""}')
     return text
 
 

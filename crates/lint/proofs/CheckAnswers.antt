@@ -1,5 +1,7 @@
 -- From what is read and found to what `check` answers.
-use Rattle.std.proofs.Common.{◌≡◌, ◌∙◌, ℕ, List, Bool, map, refl, sym, ap, subst, Option, Some, Ok, Err}
+use Rattle.std.proofs.Common.{◌≡◌, ◌≢◌, ◌∙◌, ℕ, List, length, take, Bool, false, map, refl, sym, ap, subst, arith, inl, inr, Option, Some, Result, Ok, Err}
+use Rattle.std.specs.Prelude.{IfOk, IfErr}
+use Rattle.std.proofs.lemmas.List.{length-take}
 use Rattle.std.specs.Str.{IsUtf8}
 use Rattle.tree.specs.declared.kind.Pair.{Pair}
 use Rattle.tree.specs.declared.kind.Span.{Span}
@@ -8,11 +10,15 @@ use Rattle.spellings.specs.Groupings.{grouping, row_starts}
 use Rattle.paren_planner.specs.Plans.{AreWraps}
 use Rattle.paren_planner.specs.Extra.{extra_spans}
 use Rattle.paren_planner.proofs.PairRows.{extra_pairs_are_extra}
+use Rattle.source_text.specs.Lines.{line_column}
+use Rattle.source_text.specs.Source.{IsRefusal, max_bytes}
 use Rattle.source_text.specs.declared.fault.Fault.{Fault}
-use Rattle.source_text.specs.declared.fault.Fault.TheVariants.{NotUtf8, TooLong, Syntax, TooDeep, Early, OutOfMemory, BadSettings, BadTable, WriteFailed, ReadFailed, UnwrapFailed, Usage}
+use Rattle.source_text.specs.declared.fault.Fault.TheVariants.{NotUtf8, TooLong, OutOfMemory, BadSettings, ReadFailed, Usage}
 use Rattle.commands.specs.declared.command.Command.TheVariants.{Check}
 use Rattle.commands.specs.declared.command.ReportForm.{ReportForm}
 use Rattle.commands.specs.declared.command.ReportForm.TheVariants.{Places, Spans}
+use Rattle.commands.specs.declared.refused.Refused.{Refused}
+use Rattle.commands.specs.WholeTexts.{ReadsUpTo}
 use Rattle.scopes.specs.Found.{Found, found}
 use Rattle.rules.specs.Reports.{Report}
 use Rattle.rules.specs.Lines.{report_lines}
@@ -20,8 +26,8 @@ use Rattle.rules.specs.Rules.{View}
 use Rattle.rules.specs.Settings.{Settings}
 use Rattle.rules.specs.Toml.{settings_of_text}
 use Rattle.lint.specs.declared.answer.Answer.{Answer}
-use Rattle.lint.specs.Outputs.{Checks, IsExtra, IsView}
-use Rattle.lint.specs.Steps.{Answers, ReadsSettings, ReportsLines, output_of, status_of}
+use Rattle.lint.specs.Outputs.{Checks, IsExtra, IsSecond, IsView, RefusesSettings}
+use Rattle.lint.specs.Steps.{Answers, IsSettingsRefusal, LacksSettings, ReadsSettings, RefusesSettingsBy, ReportsLines, output_of, status_of}
 
 -- the pairs that are extra by the wrapped nodes are all of the derivation but the innermost of each wrapped node
 pub are_extra : (text : List ℕ) (n : Tree) (P : List Pair) (wraps : List Bool) (spans : List Span) → IsUtf8 text → AreWraps n wraps
@@ -73,18 +79,49 @@ checks finds Spans text n P given settings answer failed read lines = (
   ),
 )
 
--- what it refuses of them
-pub settings_refused : (finds : View → List Report) (form : ReportForm) (text : List ℕ) (n : Tree) (P : List Pair) (given : Option (List ℕ)) (fault : Fault) (failed : Bool)
-    → ReadsSettings given (Err fault) failed → Answers finds (Check form) text n P given (Err fault) failed
-settings_refused finds form text n P given ReadFailed failed read = (read, refl)
-settings_refused finds form text n P given OutOfMemory failed read = read
-settings_refused finds form text n P given BadSettings failed read = (read.0, (read.1.0, read.1.1, ((form, refl), read.1.2)))
-settings_refused finds form text n P given (NotUtf8 at) failed read = absurd read
-settings_refused finds form text n P given TooLong failed read = absurd read
-settings_refused finds form text n P given (Syntax at) failed read = absurd read
-settings_refused finds form text n P given TooDeep failed read = absurd read
-settings_refused finds form text n P given (Early number at) failed read = absurd read
-settings_refused finds form text n P given (BadTable row why) failed read = absurd read
-settings_refused finds form text n P given WriteFailed failed read = absurd read
-settings_refused finds form text n P given UnwrapFailed failed read = absurd read
-settings_refused finds form text n P given Usage failed read = absurd read
+-- ---- settings that are refused
+
+-- at a line and a column
+pub refused_at_place : (bytes : List ℕ) (place : ℕ × ℕ) (refused : Refused) → refused ≡ record { fault = BadSettings; in_second = false; line = place.0; column = place.1 } → RefusesSettings bytes place → IsSettingsRefusal bytes refused
+refused_at_place bytes place refused is why = subst (IsSettingsRefusal bytes) (sym is) (refl, refl, why)
+
+-- behind the longest beginning that is UTF-8
+pub behind_utf8 : (bytes start : List ℕ) (at : ℕ) (place : ℕ × ℕ) → IsRefusal bytes (NotUtf8 at) → start ≡ take at bytes → place ≡ line_column start (length start) → RefusesSettings bytes place
+behind_utf8 bytes start at place why is there =
+    let full : length (take at bytes) ≡ at = omega (arith, length-take at bytes, why.1.within) in
+    inl (at, why, there ∙ ap (λ (s : List ℕ). line_column s (length s)) is ∙ ap (line_column (take at bytes)) full)
+
+-- that they are too long tells no place
+pub long_settings : (bytes : List ℕ) (fault : Fault) → IsRefusal bytes fault → ((at : ℕ) → fault ≢ NotUtf8 at) → RefusesSettings bytes (0, 0)
+long_settings bytes TooLong why other = inr (inr (refl, inl why))
+long_settings bytes (NotUtf8 at) why other = absurd (other at refl)
+long_settings bytes _ why other = absurd why
+
+-- ---- the second file
+
+-- it can't be read
+pub unread_settings : (given : Option (List ℕ)) (fault : Fault) (failed : Bool) (refused : Refused) → ReadsUpTo max_bytes given (Err fault) failed
+    → refused ≡ record { fault = fault; in_second = false; line = 0; column = 0 } → LacksSettings given refused failed
+unread_settings given ReadFailed failed refused read is = inl (read, is)
+unread_settings given OutOfMemory failed refused read is = inr (read, inl is)
+unread_settings given _ failed refused read is = absurd read
+
+-- it was read, and is refused
+pub refused_settings : (given : Option (List ℕ)) (failed : Bool) (second : List ℕ) (refused : Refused) → failed ≡ false → IsSecond (Check Places) given second → RefusesSettingsBy second refused → LacksSettings given refused failed
+refused_settings given failed second refused well is (inl memory) = inr (well, inl memory)
+refused_settings given failed second refused well is (inr why) = inr (well, inr (second, is, why))
+
+-- what was read of it gives settings, or is refused
+pub settings_told : (given : Option (List ℕ)) (failed : Bool) (second : List ℕ) (result : Result Settings Refused) → failed ≡ false → IsSecond (Check Places) given second
+    → IfOk result (λ _. IsUtf8 second) → IfOk result (λ settings. settings_of_text second ≡ Some settings) → IfErr result (RefusesSettingsBy second) → ReadsSettings given result failed
+settings_told given failed second (Ok settings) well is utf8 are why = (well, (second, is, utf8, are))
+settings_told given failed second (Err refused) well is utf8 are why = refused_settings given failed second refused well is why
+
+unlike : (fault : Fault) (refused : Refused) → refused.fault ≡ fault → (fault ≡ Usage → ⊥) → refused.fault ≢ Usage
+unlike fault refused is other usage = other (sym is ∙ usage)
+
+-- what it is refused for has words of its own
+pub lacking_told : (given : Option (List ℕ)) (refused : Refused) (failed : Bool) → LacksSettings given refused failed → refused.fault ≢ Usage
+lacking_told given refused failed (inl unread) = unlike ReadFailed refused (ap (λ (r : Refused). r.fault) unread.1) (λ e. cc)
+lacking_told given refused failed (inr (well, inl memory)) = unlike OutOfMemory refused (ap (λ (r : Refused). r.fault) memory) (λ e. cc)
+lacking_told given refused failed (inr (well, inr why)) = unlike BadSettings refused why.2.0 (λ e. cc)

@@ -6,7 +6,8 @@ use Rattle.source_text.specs.Source.{max_bytes, IsRefusal}
 use Rattle.source_text.specs.declared.fault.Fault.{Fault}
 use Rattle.source_text.specs.declared.fault.Fault.TheVariants.{NotUtf8, TooLong, Syntax, TooDeep, Early, OutOfMemory, BadSettings, BadTable, WriteFailed, ReadFailed, UnwrapFailed, Usage}
 use Rattle.commands.specs.declared.command.Command.{Command}
-use Rattle.commands.specs.declared.command.Command.TheVariants.{Same}
+use Rattle.commands.specs.declared.command.Command.TheVariants.{Check, Same}
+use Rattle.commands.specs.declared.command.ReportForm.{ReportForm}
 use Rattle.commands.specs.declared.refused.Refused.{Refused}
 use Rattle.commands.specs.Refused.{place_of}
 use Rattle.tree.specs.declared.kind.Pair.{Pair}
@@ -16,7 +17,7 @@ use Rattle.rules.specs.Rules.{View}
 use Rattle.lint.specs.declared.answer.Answer.{Answer}
 use Rattle.lint.specs.ReadScripts.{IsReading, RefusesReading}
 use Rattle.lint.specs.Run.{IsSource, IsGiven, ReadsScript, ReadsBoth, HasOutput, Seen, Refuses, RefusesIn}
-use Rattle.lint.specs.Steps.{IsRead, IsBefore, Answers, AnswersBytes, AnswersSame, output_of, status_of}
+use Rattle.lint.specs.Steps.{IsRead, IsBefore, Answers, AnswersBytes, AnswersCheck, AnswersSame, LacksSettings, output_of, status_of}
 
 -- where the bytes are no more than a text may have, they are all
 pub all_read : (given : Option (List ℕ)) (bytes : List ℕ) → IsRead given bytes → length bytes ≤ max_bytes → IsGiven given bytes
@@ -96,8 +97,6 @@ module _ (finds : View → List Report) (command : Command) (bytes : List ℕ) (
   command_refused n P ReadFailed failed seen source reading answers before =
       (before.writer, before.kept, inr (before.reader, before.of_failed ∙ answers.0, answers.1, script_read seen.given bytes n P before.read source reading), refl)
   command_refused n P OutOfMemory failed seen source reading answers before = ((before.reader, before.of_failed ∙ answers, before.writer), before.kept, refl)
-  command_refused n P BadSettings failed seen source reading answers before =
-      ((before.reader, before.of_failed ∙ answers.0, before.writer), before.kept, (both_read seen n P failed answers.1.0 source reading before answers.1.1, answers.1.2), refl)
   command_refused n P (BadTable row why) failed seen source reading answers before =
       ((before.reader, before.of_failed ∙ answers.0, before.writer), before.kept, (both_read seen n P failed answers.1.0 source reading before answers.1.1, answers.1.2), refl)
   command_refused n P UnwrapFailed failed seen source reading answers before =
@@ -107,6 +106,7 @@ module _ (finds : View → List Report) (command : Command) (bytes : List ℕ) (
     before.kept,
     inr ((both_read seen n P failed answers.1.0 source reading before answers.1.1, answers.1.2), refl),
   )
+  command_refused n P BadSettings failed seen source reading answers before = absurd answers.1.2
   command_refused n P (NotUtf8 at) failed seen source reading answers before = absurd answers.1.2
   command_refused n P (Syntax at) failed seen source reading answers before = absurd answers.1.2
   command_refused n P TooDeep failed seen source reading answers before = absurd answers.1.2
@@ -141,6 +141,40 @@ module _ (finds : View → List Report) (command : Command) (bytes : List ℕ) (
 
   pub refused_bytes : (fault : Fault) (failed : Bool) (seen : Seen) → failed ≡ false → IsRefusal bytes fault → IsBefore bytes second failed seen → Refuses finds command seen fault (0, 0)
   refused_bytes fault failed seen none refused before = bytes_refused fault seen refused (subst (λ f. IsBefore bytes second f seen) none before)
+
+-- ---- `check`
+
+-- what `check` refuses behind a script
+check_refused : (finds : View → List Report) (form : ReportForm) (bytes : List ℕ) (second : Option (List ℕ)) (n : SyntaxTree) (P : List Pair) (refused : Refused) (failed : Bool) (seen : Seen) → IsSource bytes → IsReading bytes n P
+    → LacksSettings second refused failed → IsBefore bytes second failed seen → RefusesIn refused.in_second finds (Check form) seen refused.fault (refused.line, refused.column)
+unfolding both_read script_read
+check_refused finds form bytes second n P refused failed seen source reading (inl unread) before =
+    subst (λ (r : Refused). RefusesIn r.in_second finds (Check form) seen r.fault (r.line, r.column)) (sym unread.1)
+    (before.writer, before.kept, inr (before.reader, before.of_failed ∙ unread.0, refl, script_read seen.given bytes n P before.read source reading), refl)
+check_refused finds form bytes second n P refused failed seen source reading (inr (well, inl memory)) before =
+    subst (λ (r : Refused). RefusesIn r.in_second finds (Check form) seen r.fault (r.line, r.column)) (sym memory)
+    ((before.reader, before.of_failed ∙ well, before.writer), before.kept, refl)
+check_refused finds form bytes second n P refused failed seen source reading (inr (well, inr other)) before =
+    subst (λ (b : Bool). RefusesIn b finds (Check form) seen refused.fault (refused.line, refused.column)) (sym other.2.1)
+    (subst (λ (f : Fault). Refuses finds (Check form) seen f (refused.line, refused.column)) (sym other.2.0) (
+      (before.reader, before.of_failed ∙ well, before.writer),
+      before.kept,
+      (both_read finds (Check form) bytes second seen n P failed other.0 source reading before other.1, (form, refl), other.2.2),
+    ))
+
+-- what it answers
+check_answers : (finds : View → List Report) (form : ReportForm) (bytes : List ℕ) (second : Option (List ℕ)) (n : SyntaxTree) (P : List Pair) (result : Result Answer Refused) (failed : Bool) → IsSource bytes → IsReading bytes n P
+    → AnswersCheck finds form bytes n P second result failed → AnswersBytes finds (Check form) bytes second result failed
+check_answers finds form bytes second n P (Ok answer) failed source reading answers =
+    (answers.0, λ given read. command_answers finds (Check form) bytes second n P answer failed given source reading answers read)
+check_answers finds form bytes second n P (Err refused) failed source reading answers = λ seen before. check_refused finds form bytes second n P refused failed seen source reading answers before
+
+-- the same of the text that the bytes are, and of a command that is `check`
+pub check_behind : (finds : View → List Report) (command : Command) (form : ReportForm) (bytes : List ℕ) (second : Option (List ℕ)) (n : SyntaxTree) (P : List Pair) (result : Result Answer Refused) (failed : Bool) (text : List ℕ) → command ≡ Check form
+    → text ≡ bytes → IsSource bytes → IsReading text n P → AnswersCheck finds form text n P second result failed → AnswersBytes finds command bytes second result failed
+check_behind finds command form bytes second n P result failed text is same source reading answers =
+    subst (λ (k : Command). AnswersBytes finds k bytes second result failed) (sym is)
+    (check_answers finds form bytes second n P result failed source (subst (λ (t : List ℕ). IsReading t n P) same reading) (subst (λ (t : List ℕ). AnswersCheck finds form t n P second result failed) same answers))
 
 -- ---- `same`
 

@@ -102,7 +102,7 @@ export class Checking {
     }
     if (refusal.code !== 'settings') return this.shown.refusal(document, refusal);
     this.checkSettings(settings);
-    return this.shown.fault(document, 'settings', `not checked: ${settings.file}: bad settings`);
+    return this.shown.fault(document, 'settings', `not checked: ${settings.file}: ${refusal.message}`);
   }
 
   settingsAreTaken(settings) {
@@ -110,15 +110,15 @@ export class Checking {
     this.publish(settings.uri, []);
   }
 
-  /** Says in settings from which line on they are refused. */
+  /** Says in settings where they are refused. */
   async checkSettings({ uri, text }) {
     if (this.judged.get(uri)?.text === text) return;
     this.judged.set(uri, { text, isRefused: false });
     try {
-      const { line } = await this.engine.run('settings', { settings: text }, { rank: 0 }), now = this.judged.get(uri);
+      const found = await this.engine.run('settings', { settings: text }, { rank: 0 }), now = this.judged.get(uri);
       if (now?.text !== text) return;
-      now.isRefused = line !== null;
-      this.publish(uri, this.shown.settings(new Document({ uri, text }, this.editor.encoding), line));
+      now.isRefused = found.line !== null;
+      this.publish(uri, this.shown.settings(new Document({ uri, text }, this.editor.encoding), found));
     } catch (error) {
       if (error.name !== 'AbortError') this.log(error.stack);
     }

@@ -14,7 +14,7 @@ const UNDERLINED = { 'no-var': 'var'.length, 'no-extra-parens': 1 };
 
 /** A refusal in the program's words, with its place, and a hint where there is one. */
 function refusalOf(error, text) {
-  const { code = 'other', message, number } = error, start = error.line === undefined ? 0 : indexOf(text, error.line, error.column);
+  const { code = 'other', message, number } = error, start = error.line === undefined || code === 'settings' ? 0 : indexOf(text, error.line, error.column);
   const hint = code === 'syntax' ? syntaxHint(text, start) : code === 'early' ? earlyHint(number, text, start) : null;
   return { code, message, number, start, ...(hint ? { hint: hint.hint, hintId: hint.id ?? `early-${number}`, isLacking: hint.lacks } : {}) };
 }
@@ -58,6 +58,18 @@ export class Jobs {
     return !HALF_PAIR.test(settings) && answered(() => this.commands.check('', { settings })) !== null;
   }
 
+  /** Where a refusal of settings says that they are no TOML; nothing where it tells no place. */
+  placeIn(settings) {
+    if (HALF_PAIR.test(settings)) return undefined;
+    try {
+      this.commands.check('', { settings });
+      return undefined;
+    } catch (error) {
+      if (error instanceof Refused) return error.line === undefined ? undefined : indexOf(settings, error.line, error.column);
+      throw error;
+    }
+  }
+
   /** The reports, from where to where each is underlined, and how many more there are. */
   check({ text, settings }) {
     if (HALF_PAIR.test(settings)) return { refusal: { code: 'settings', message: 'bad settings', start: 0 } };
@@ -96,9 +108,11 @@ export class Jobs {
     });
   }
 
-  /** How many lines of some settings are taken, counted from the first; null where all are, and no `line` where that isn't known. */
+  /** Where settings are no TOML; else how many of their lines are taken, counted from the first; null where all are, and nothing where that isn't known. */
   settings({ settings }) {
     if (this.areTaken(settings)) return { line: null };
+    const start = this.placeIn(settings);
+    if (start !== undefined) return { start };
     const lines = settings.split('\n');
     if (lines.length > MOST_LINES) return {};
     for (let count = lines.length - 1; count > 0; count--) if (this.areTaken(`${lines.slice(0, count).join('\n')}\n`)) return { line: count };

@@ -78,7 +78,8 @@ test('refusals have codes, and places where they speak of one', () => {
   assert.deepEqual(told(refusal(() => tree('let a; let a;')), 'code', 'number', 'line', 'column'), ['early', 3, 1, 12]);
   assert.deepEqual(told(refusal(() => unwrap('let a; (let_); let a;')), 'code', 'number', 'line', 'column'), ['early', 3, 1, 20]);
   assert.deepEqual(told(refusal(() => fix(Uint8Array.of(0x61, 0xff))), 'code', 'byte'), ['utf8', 1]);
-  assert.equal(refusal(() => check('a', { settings: 'x' })).code, 'settings');
+  assert.deepEqual(told(refusal(() => check('a', { settings: '\nx' })), 'code', 'line', 'column'), ['settings', 2, 2]);
+  assert.deepEqual(told(refusal(() => check('a', { settings: 'x = 1' })), 'code', 'line', 'column'), ['settings', undefined, undefined]);
   assert.equal(refusal(() => fix(`${'('.repeat(1201)}a${')'.repeat(1201)}`)).code, 'deep');
   assert.deepEqual(told(refusal(() => fix(new Uint8Array(16777217).fill(32))), 'code', 'most'), ['long', 16777216]);
 });

@@ -206,8 +206,11 @@ test('settings: the nearest, as they are typed, refused with a line, ignored fil
     client.change(uriOf('jslint.toml'), 2, { text: 'globals = [\n "a",\n]\nallow-nul = true\n[rules]\n' });
     assert.deepEqual((await bad).map(short), ['3:0-3:16 settings']);
     await script;
+    const noToml = client.diagnostics(uriOf('jslint.toml'), (it) => it.diagnostics[0]?.message === 'bad settings: no TOML from here on');
+    client.change(uriOf('jslint.toml'), 3, { text: 'globals = [\n "a",\n]\n\u{1f600} = true\n' });
+    assert.deepEqual((await noToml).map(short), ['3:0-3:9 settings']);
     const good = client.diagnostics(uriOf('jslint.toml'), (it) => it.diagnostics.length === 0);
-    client.change(uriOf('jslint.toml'), 3, { text: 'globals = ["a"]\n' });
+    client.change(uriOf('jslint.toml'), 4, { text: 'globals = ["a"]\n' });
     await good;
     const found = await actionsAt(client, 's.js', range(0, 3, 0, 4));
     const made = Object.fromEntries(found.map((it) => [it.title, edited('globals = ["a"]\n', it.edit.changes[uriOf('jslint.toml')])]));
@@ -224,7 +227,7 @@ test('settings on the disk that are refused, and mended', async () => {
   put('disk/jslint.toml', 'no\n');
   await withClient(async (client) => {
     const settings = client.diagnostics(uriOf('disk/jslint.toml'));
-    assert.match((await client.open(uriOf('disk/a.js'), '(a);'))[0].message, /^not checked: .*jslint\.toml: bad settings$/);
+    assert.match((await client.open(uriOf('disk/a.js'), '(a);'))[0].message, /^not checked: .*jslint\.toml: bad settings at 1:3$/);
     assert.deepEqual((await settings).map(short), ['0:0-0:2 settings']);
     put('disk/jslint.toml', '[rules]\nno-undef = false\n');
     const mended = client.diagnostics(uriOf('disk/jslint.toml')), script = client.diagnostics(uriOf('disk/a.js'));

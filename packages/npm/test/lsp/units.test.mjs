@@ -234,6 +234,7 @@ test('jobs: what is no text, refused settings, CR LF in one layout', () => {
   assert.deepEqual(jobs.settings({ settings: 'allow-null = true\nx = 1\n' }), { line: 1 });
   assert.deepEqual(jobs.settings({ settings: 'x = 1\n'.repeat(9999) }), {});
   assert.deepEqual(jobs.settings({ settings: '# \ud800' }), { line: 0 });
+  assert.deepEqual(jobs.settings({ settings: '# \u{1f600}\nx' }), { start: 6 });
 });
 
 test('engine: a thread that can not be started fails its job alone; jobs of a lower rank go first; what is cancelled is left out', async () => {
