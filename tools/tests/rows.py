@@ -325,7 +325,7 @@ def line_of(want):
     words = {
         'Syntax': 'syntax error' + at, 'TooLong': 'longer than 16777216 bytes', 'TooDeep': 'nested too deep',
         # (what can't be read is this folder, as `device` has it)
-        'ReadFailed': f'read failed: {ROOM.name}: a folder', 'WriteFailed': 'write failed', 'BadSettings': 'bad settings', 'NotUtf8': f'not UTF-8 at byte {has}',
+        'ReadFailed': f'read failed: {ROOM.name}: a folder', 'WriteFailed': 'write failed', 'BadSettings': 'bad settings' + (at if match[4] != '0' else ''), 'NotUtf8': f'not UTF-8 at byte {has}',
     }
     if name == 'Early':
         words[name] = f'early error E{has.split(",")[0]}{at}'

@@ -125,9 +125,13 @@ module _ (finds : View → List Report) (command : Command) (bytes : List ℕ) (
 
   -- the same of the text that the bytes are
   pub refused_behind : (n : SyntaxTree) (P : List Pair) (fault : Fault) (failed : Bool) (seen : Seen) (text : List ℕ) → text ≡ bytes → IsSource bytes → IsReading text n P
-      → Answers finds command text n P second (Err fault) failed → IsBefore bytes second failed seen → Refuses finds command seen fault (0, 0)
+      → ((found : View → List Report) → Answers found command text n P second (Err fault) failed) → IsBefore bytes second failed seen → Refuses finds command seen fault (0, 0)
   refused_behind n P fault failed seen text same source reading answers before =
-      command_refused n P fault failed seen source (subst (λ t. IsReading t n P) same reading) (subst (λ t. Answers finds command t n P second (Err fault) failed) same answers) before
+      command_refused n P fault failed seen source (subst (λ t. IsReading t n P) same reading) (subst (λ t. Answers finds command t n P second (Err fault) failed) same (answers finds)) before
+
+  -- and has words of its own
+  pub told_behind : (n : SyntaxTree) (P : List Pair) (fault : Fault) (failed : Bool) (text : List ℕ) → Answers finds command text n P second (Err fault) failed → fault ≢ Usage
+  told_behind n P fault failed text answers usage = absurd (subst (λ (f : Fault). Answers finds command text n P second (Err f) failed) usage answers).1.2
 
   pub answers_behind : (n : SyntaxTree) (P : List Pair) (answer : Answer) (failed : Bool) (given : Option (List ℕ)) (text : List ℕ) → text ≡ bytes → IsSource bytes → IsReading text n P
       → Answers finds command text n P second (Ok answer) failed → IsRead given bytes → HasOutput finds command given second (output_of answer) (status_of answer)

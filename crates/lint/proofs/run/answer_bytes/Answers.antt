@@ -1,6 +1,6 @@
 use Rattle.std.proofs.Common.{[]}
 use Rattle.lint.specs.ReadScripts.{IsReading}
-use Rattle.lint.proofs.RunAnswers.{refused_bytes, refused_text, refused_behind, answers_behind, check_behind, same_behind}
+use Rattle.lint.proofs.RunAnswers.{refused_bytes, refused_text, refused_behind, told_behind, answers_behind, check_behind, same_behind}
 use Rattle.lint.proofs.run.answer_bytes.Goals as goal
 
 pub returns-in-Err-clause-answer : goal.returns-in-Err-clause-answer
@@ -26,7 +26,12 @@ returns-clause-answer g c = λ seen before.
     let parsed = c.in-Ok-read_script.parsed in
     let reading : IsReading c.in-Ok.source parsed.program parsed.pairs.items = record { accepted = c.in-Ok-read_script.ensures.accepted; only = c.in-Ok-read_script.ensures.only } in
     rw c.at_no_place-in-Err-answer.ensures
-    (refused_behind _ c.args.command c.args.bytes.now _ parsed.program parsed.pairs.items c.in-Err-answer.fault _ seen c.in-Ok.source ok.0 (ok.1, ok.2) reading (c.in-Err-answer.ensures.answer _) before)
+    (refused_behind _ c.args.command c.args.bytes.now _ parsed.program parsed.pairs.items c.in-Err-answer.fault _ seen c.in-Ok.source ok.0 (ok.1, ok.2) reading c.in-Err-answer.ensures.answer before)
+
+pub returns-clause-told : goal.returns-clause-told
+returns-clause-told g c =
+    let parsed = c.in-Ok-read_script.parsed in
+    rw c.at_no_place-in-Err-answer.ensures (told_behind (λ view. []) c.args.command c.args.bytes.now _ parsed.program parsed.pairs.items c.in-Err-answer.fault _ c.in-Ok.source (c.in-Err-answer.ensures.answer (λ view. [])))
 
 pub returns-in-Same-clause-answer : goal.returns-in-Same-clause-answer
 returns-in-Same-clause-answer g c =
