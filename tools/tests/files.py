@@ -196,10 +196,10 @@ def settings(room):
     """What is wrong with settings is said once, with their name, and no script is read."""
     for name in ('a.js', 'b.js'):
         room.put(name, WRONG)
-    for name, text in [('bad.toml', 'x = 1\n'), ('-bad.toml', '['), ('line\nfeed.toml', 'globals = 1')]:
+    for name, text, place in [('bad.toml', 'x = 1\n', ''), ('-bad.toml', '[', ' at 1:2'), ('line\nfeed.toml', 'globals = 1', '')]:
         room.put(name, text)
         shown = name.replace('\n', '\\x0a')
-        same(files(room, f'--settings={name}', 'a.js', 'b.js', 'none.js'), (2, '', f'jslint-files: {shown}: bad settings\n'))
+        same(files(room, f'--settings={name}', 'a.js', 'b.js', 'none.js'), (2, '', f'jslint-files: {shown}: bad settings{place}\n'))
     same(files(room, '--settings', 'bad.toml', '--files-from', '-', given=b''), (2, '', 'jslint-files: bad.toml: bad settings\n'))
     same(files(room, '--settings', 'none.toml', 'a.js'), (2, '', 'jslint-files: none.toml: read failed: missing\n'))
 

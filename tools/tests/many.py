@@ -81,8 +81,8 @@ def settings_refused(room):
     put(room, ['a.js', 'x/b.js', 'x/y/c.js'])
     place = f'{os.path.realpath(room.folder)}/x/jslint.toml'
     rows = [
-        ('globals = [\n"a"]\nnope = 1\n', 'bad settings (line 3)'), ('x', 'bad settings (line 1)'), ('\xff = 1', 'bad settings (line 1)'), ('allow-null = true\n' * 2, 'bad settings (line 2)'),
-        ('#\n' * 300 + 'x', 'bad settings (line 301)'), ('x = 1\n' * 300, 'bad settings'), (None, 'read failed: a folder'), ('link', 'read failed: links in a circle'),
+        ('globals = [\n"a"]\nnope = 1\n', 'bad settings (line 3)'), ('x', 'bad settings at 1:2'), ('\xff = 1', 'bad settings at 1:1'), ('allow-null = true\n' * 2, 'bad settings at 2:1'),
+        ('#\n' * 300 + 'x', 'bad settings at 301:2'), ('#\n' * 300 + 'x = 1', 'bad settings (line 301)'), ('x = 1\n' + '#\n' * 300, 'bad settings'), (None, 'read failed: a folder'), ('link', 'read failed: links in a circle'),
         ('gone', 'read failed: missing'), ('long', 'longer than 16777216 bytes'),
     ]
     for text, said in rows:

@@ -312,7 +312,7 @@ def statuses(room):
     same(call('a.js', 'good.js')[0], 1)
     same(call('--', '-h.js'), (1, ''.join(f'-h.js:{it.replace(" ", ": ", 1)}\n' for it in FOUND), ''))
     same(call('bad.js', 'none.js', '.'), (2, 'bad.js:2:1: syntax error\nnone.js:1:1: read failed: missing\n.:1:1: read failed: a folder\n', ''))
-    same(call('--settings=a.js', 'good.js', 'bad.js'), (2, '', 'jslint-files: a.js: bad settings\n'))
+    same(call('--settings=a.js', 'good.js', 'bad.js'), (2, '', 'jslint-files: a.js: bad settings at 1:5\n'))
     for words in [('--settings', 'none.toml', 'a.js'), ('-h.js',), (), ('--format', 'xml', 'a.js'), ('--jobs', '0', 'a.js'), ('--jobs',), ('--nope', 'a.js'), ('--files-from', 'none')]:
         status, out, err = call(*words)
         is_well(status == 2 and not out and err.startswith('jslint-files: ') and err.count('\n') == 1, f'{words} {status} {out} {err}')

@@ -415,7 +415,7 @@ def command_line(texts, want):
         return hold((answer.status, answer.out, answer.err) == (2, '', 'jslint: read failed: -: both files are standard input\n'), answer)
     if second == file and name != 'same':
         # (the script is no table and no settings)
-        return hold((answer.out, answer.err) == ('', 'jslint: bad table row 0 Form\n' if name == 'verify' else 'jslint: bad settings\n'), answer)
+        return hold((answer.out, answer.err) == ('', 'jslint: bad table row 0 Form\n' if name == 'verify' else 'jslint: bad settings at 1:1\n'), answer)
     if second == '':
         return hold((answer.status, answer.err) == (2, 'jslint: read failed: : missing\n'), answer)
     status, out = (ASKED if second is not None else {**ASKED, **REPORTED})[name]
