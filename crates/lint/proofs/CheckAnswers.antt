@@ -1,7 +1,6 @@
 -- From what is read and found to what `check` answers.
-use Rattle.std.proofs.Common.{◌≡◌, ◌≢◌, ◌∙◌, ℕ, List, length, take, Bool, false, map, refl, sym, ap, subst, arith, inl, inr, Option, Some, Result, Ok, Err}
+use Rattle.std.proofs.Common.{◌≡◌, ◌≢◌, ◌∙◌, ℕ, List, Bool, false, map, refl, sym, ap, subst, inl, inr, Option, Some, Result, Ok, Err}
 use Rattle.std.specs.Prelude.{IfOk, IfErr}
-use Rattle.std.proofs.lemmas.List.{length-take}
 use Rattle.std.specs.Str.{IsUtf8}
 use Rattle.tree.specs.declared.kind.Pair.{Pair}
 use Rattle.tree.specs.declared.kind.Span.{Span}
@@ -10,10 +9,9 @@ use Rattle.spellings.specs.Groupings.{grouping, row_starts}
 use Rattle.paren_planner.specs.Plans.{AreWraps}
 use Rattle.paren_planner.specs.Extra.{extra_spans}
 use Rattle.paren_planner.proofs.PairRows.{extra_pairs_are_extra}
-use Rattle.source_text.specs.Lines.{line_column}
-use Rattle.source_text.specs.Source.{IsRefusal, max_bytes}
+use Rattle.source_text.specs.Source.{max_bytes}
 use Rattle.source_text.specs.declared.fault.Fault.{Fault}
-use Rattle.source_text.specs.declared.fault.Fault.TheVariants.{NotUtf8, TooLong, OutOfMemory, BadSettings, ReadFailed, Usage}
+use Rattle.source_text.specs.declared.fault.Fault.TheVariants.{OutOfMemory, BadSettings, ReadFailed, Usage}
 use Rattle.commands.specs.declared.command.Command.TheVariants.{Check}
 use Rattle.commands.specs.declared.command.ReportForm.{ReportForm}
 use Rattle.commands.specs.declared.command.ReportForm.TheVariants.{Places, Spans}
@@ -26,8 +24,8 @@ use Rattle.rules.specs.Rules.{View}
 use Rattle.rules.specs.Settings.{Settings}
 use Rattle.rules.specs.Toml.{settings_of_text}
 use Rattle.lint.specs.declared.answer.Answer.{Answer}
-use Rattle.lint.specs.Outputs.{Checks, IsExtra, IsSecond, IsView, RefusesSettings}
-use Rattle.lint.specs.Steps.{Answers, IsSettingsRefusal, LacksSettings, ReadsSettings, RefusesSettingsBy, ReportsLines, output_of, status_of}
+use Rattle.lint.specs.Outputs.{Checks, IsExtra, IsSecond, IsView}
+use Rattle.lint.specs.Steps.{Answers, LacksSettings, ReadsSettings, RefusesSettingsBy, ReportsLines, output_of, status_of}
 
 -- the pairs that are extra by the wrapped nodes are all of the derivation but the innermost of each wrapped node
 pub are_extra : (text : List ℕ) (n : Tree) (P : List Pair) (wraps : List Bool) (spans : List Span) → IsUtf8 text → AreWraps n wraps
@@ -78,24 +76,6 @@ checks finds Spans text n P given settings answer failed read lines = (
     },
   ),
 )
-
--- ---- settings that are refused
-
--- at a line and a column
-pub refused_at_place : (bytes : List ℕ) (place : ℕ × ℕ) (refused : Refused) → refused ≡ record { fault = BadSettings; in_second = false; line = place.0; column = place.1 } → RefusesSettings bytes place → IsSettingsRefusal bytes refused
-refused_at_place bytes place refused is why = subst (IsSettingsRefusal bytes) (sym is) (refl, refl, why)
-
--- behind the longest beginning that is UTF-8
-pub behind_utf8 : (bytes start : List ℕ) (at : ℕ) (place : ℕ × ℕ) → IsRefusal bytes (NotUtf8 at) → start ≡ take at bytes → place ≡ line_column start (length start) → RefusesSettings bytes place
-behind_utf8 bytes start at place why is there =
-    let full : length (take at bytes) ≡ at = omega (arith, length-take at bytes, why.1.within) in
-    inl (at, why, there ∙ ap (λ (s : List ℕ). line_column s (length s)) is ∙ ap (line_column (take at bytes)) full)
-
--- that they are too long tells no place
-pub long_settings : (bytes : List ℕ) (fault : Fault) → IsRefusal bytes fault → ((at : ℕ) → fault ≢ NotUtf8 at) → RefusesSettings bytes (0, 0)
-long_settings bytes TooLong why other = inr (inr (refl, inl why))
-long_settings bytes (NotUtf8 at) why other = absurd (other at refl)
-long_settings bytes _ why other = absurd why
 
 -- ---- the second file
 

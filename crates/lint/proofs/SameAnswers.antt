@@ -3,7 +3,7 @@ use Rattle.std.proofs.Common.{◌≡◌, ◌≢◌, ◌∙◌, ℕ, List, Bool, 
 use Rattle.source_text.specs.Source.{IsRefusal, max_bytes}
 use Rattle.source_text.specs.declared.fault.Fault.{Fault}
 use Rattle.source_text.specs.declared.fault.Fault.TheVariants.{NotUtf8, TooLong, OutOfMemory, ReadFailed, Usage}
-use Rattle.commands.specs.Refused.{no_memory, place_of}
+use Rattle.commands.specs.Refused.{place_of}
 use Rattle.commands.specs.WholeTexts.{ReadsUpTo}
 use Rattle.commands.specs.declared.command.Command.TheVariants.{Same}
 use Rattle.commands.specs.declared.refused.Refused.{Refused}

@@ -1,4 +1,4 @@
-use Rattle.std.proofs.Common.{◌∙◌, ℕ, List, subst}
+use Rattle.std.proofs.Common.{ℕ, List, subst}
 use Rattle.tree.specs.Tree.{Tree}
 use Rattle.lint.specs.Outputs.{Compares}
 use Rattle.lint.specs.Steps.{RefusesOther}
