@@ -1,3 +1,4 @@
+mod AskedCommand
 mod GivenValues
 mod Memory
 mod MetCommand

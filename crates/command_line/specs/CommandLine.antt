@@ -2,7 +2,9 @@
 use Rattle.std.specs.Prelude.{◌≡◌, ℕ, Bool, bytes_eq, codes, cond, false, true, List, Option, Some, None, is_some, option_map}
 use Rattle.std.specs.Option.{option_map_or}
 use Rattle.clap.specs.Words.{App, Row, Rule, Text, first_of, new_app, new_rule, with_rule, with_subcommand}
-use Rattle.clap.specs.Simple.{on_top}
+use Rattle.clap.specs.Simple.{on_top, subcommand_of}
+use Rattle.clap.specs.Faults.{fault_of, is_simple_and_free}
+use Rattle.clap.specs.Takes.{takes}
 use Rattle.clap.specs.declared.builder.action.ArgAction.TheVariants.{SetTrue}
 use Rattle.clap.specs.declared.error.kind.ErrorKind.{ErrorKind}
 use Rattle.clap.specs.declared.error.kind.ErrorKind.TheVariants.{DisplayHelp, DisplayVersion}
@@ -46,6 +48,11 @@ bare_app = on_top (λ s. record s { has_version = true; subcommand_required = tr
 -- with its commands
 abbrev pub jslint_app : App
 jslint_app = with_command (with_command (with_command (with_command (with_command (with_command (with_command bare_app (Check Places)) Tree) Fix) Unwrap) Cost) Verify) Same
+
+-- a command line that reads these words as the whole one does
+abbrev pub ReadsAlike : App → List Text → Type 0
+ReadsAlike app words = (is_simple_and_free app ≡ true) × (fault_of app words ≡ fault_of jslint_app words) × (takes app words ≡ takes jslint_app words)
+    × (subcommand_of app words ≡ subcommand_of jslint_app words)
 
 -- the second file of a command by what its words matched: `check` has one where settings are named, `verify` and `same` always, no other has one
 abbrev pub HasSecond : Command → List Row → Option Text → Type 0

@@ -6,7 +6,7 @@ ghost use Rattle.clap.specs.declared.builder.command.Command.TheViews.{out-Comma
 ghost use Rattle.commands.specs.Commands.{word_of};
 ghost use Rattle.commands.specs.declared.command.Command.TheVariants.{Check, Same, Verify};
 ghost use Rattle.commands.specs.declared.command.ReportForm.TheVariants.{Places};
-ghost use Rattle.command_line.specs.CommandLine.{Chooses, MeetsCommand, bare_app, command_app, file_app, form_of, jslint_app, plain};
+ghost use Rattle.command_line.specs.CommandLine.{Chooses, MeetsCommand, ReadsAlike, bare_app, command_app, file_app, form_of, jslint_app, plain};
 
 use crate::help;
 use clap::error::ErrorKind;
@@ -129,23 +129,50 @@ fn bare_command<'a>(alloc: Global) -> clap::Command<'a>
         .arg_required_else_help(true)
 }
 
+/// One command, with its arguments.
+fn command_of_jslint<'a>(alloc: Global, command: Command) -> Result<clap::Command<'a>, AllocError>
+    ensures shape { IfOk result (λ c. app_of c ≡ command_app command) }
+    ensures local { IfOk result (λ c. (out-Command c).has_globals ≡ false) }
+{
+    match command {
+        Command::Check(_) => check_command(alloc),
+        Command::Tree => file_command(alloc, "tree", help::TREE),
+        Command::Fix => noted_command(alloc, "fix", help::FIX, help::FIX_NOTE),
+        Command::Unwrap => noted_command(alloc, "unwrap", help::UNWRAP, help::UNWRAP_NOTE),
+        Command::Cost => file_command(alloc, "cost", help::COST),
+        Command::Verify => verify_command(alloc),
+        Command::Same => same_command(alloc),
+    }
+}
+
 /// The whole command line.
 pub(crate) fn jslint_command<'a>(alloc: Global) -> Result<clap::Command<'a>, AllocError>
     ensures shape { IfOk result (λ c. app_of c ≡ jslint_app) }
 {
-    let jslint = with_command(bare_command(alloc), check_command(alloc))?;
-    let jslint = with_command(jslint, file_command(alloc, "tree", help::TREE))?;
     let jslint = with_command(
-        jslint,
-        noted_command(alloc, "fix", help::FIX, help::FIX_NOTE),
+        bare_command(alloc),
+        command_of_jslint(alloc, Command::Check(ReportForm::Places)),
     )?;
-    let jslint = with_command(
-        jslint,
-        noted_command(alloc, "unwrap", help::UNWRAP, help::UNWRAP_NOTE),
-    )?;
-    let jslint = with_command(jslint, file_command(alloc, "cost", help::COST))?;
-    let jslint = with_command(jslint, verify_command(alloc))?;
-    with_command(jslint, same_command(alloc))
+    let jslint = with_command(jslint, command_of_jslint(alloc, Command::Tree))?;
+    let jslint = with_command(jslint, command_of_jslint(alloc, Command::Fix))?;
+    let jslint = with_command(jslint, command_of_jslint(alloc, Command::Unwrap))?;
+    let jslint = with_command(jslint, command_of_jslint(alloc, Command::Cost))?;
+    let jslint = with_command(jslint, command_of_jslint(alloc, Command::Verify))?;
+    with_command(jslint, command_of_jslint(alloc, Command::Same))
+}
+
+/// The command line with the one command that the words begin with, behind the program's name; with all of them where they begin with
+/// none. It reads these words as the whole one does, and is made in a fraction of the time.
+fn asked_command<'a>(alloc: Global, words: &[&str]) -> Result<clap::Command<'a>, AllocError>
+    ensures { IfOk result (λ c. ReadsAlike (app_of c) (map (λ w. w.now) words.now)) }
+{
+    let Some(word) = words.get(1) else {
+        return jslint_command(alloc);
+    };
+    let Some(command) = command_of(word) else {
+        return jslint_command(alloc);
+    };
+    with_command(bare_command(alloc), command_of_jslint(alloc, command))
 }
 
 /// The command of this word, if there is one: `check` with places.
@@ -207,7 +234,7 @@ pub fn command_line<'a>(alloc: Global, words: &'a [&'a str]) -> Result<Line<'a>,
     ensures meets { fault_of jslint_app (map (λ w. w.now) words.entry.now) ≡ [] → MeetsCommand (subcommand_of jslint_app (map (λ w. w.now) words.entry.now)) }
     ensures passes { IfErr result (λ e. takes jslint_app (map (λ w. w.now) words.entry.now) ≡ true → kind_of e ≡ ErrorKind.OutOfMemory) }
 {
-    let jslint = jslint_command(alloc)?;
+    let jslint = asked_command(alloc, words)?;
     let matches = jslint.try_get_matches_from(words)?;
     Ok(line_of(&matches))
 }

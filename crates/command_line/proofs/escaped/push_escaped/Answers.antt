@@ -1,4 +1,4 @@
-use Rattle.std.proofs.Common.{◌≡◌, ◌++◌, ◌∙◌, List, ℕ, length, take, drop, flat_map, sym, ap, map-id}
+use Rattle.std.proofs.Common.{◌≡◌, ◌++◌, ◌∙◌, length, drop, flat_map, sym, ap, map-id}
 use Rattle.std.specs.Prelude.{encode_utf8_all}
 use Rattle.std.specs.Str.{chars}
 use Rattle.std.proofs.lemmas.Iterator.{YieldsList-from_chars}

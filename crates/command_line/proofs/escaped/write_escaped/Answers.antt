@@ -1,4 +1,4 @@
-use Rattle.std.proofs.Common.{◌++◌, ap, subst}
+use Rattle.std.proofs.Common.{◌++◌, subst}
 use Rattle.source_text.specs.Writing.{WritesText}
 use Rattle.command_line.specs.Sent.{Sent}
 use Rattle.command_line.specs.Shown.{escaped}

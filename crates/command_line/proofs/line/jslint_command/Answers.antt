@@ -20,10 +20,10 @@ last of to added (Err e) app known before p q h = h
 
 pub returns : goal.returns
 returns c =
-    let one = one_more app_of c.check_command.result (command_app (Check Places)) bare_app _ _ c.bare_command.ensures c.check_command.ensures.shape c.in_ok-jslint.ensures in
-    let two = one_more app_of c.file_command.result (command_app Tree) _ _ _ one c.file_command.ensures.shape c.in_ok-jslint-2.ensures in
-    let three = one_more app_of c.noted_command.result (command_app Fix) _ _ _ two c.noted_command.ensures.shape c.in_ok-jslint-3.ensures in
-    let four = one_more app_of c.noted_command-2.result (command_app Unwrap) _ _ _ three c.noted_command-2.ensures.shape c.in_ok-jslint-4.ensures in
-    let five = one_more app_of c.file_command-2.result (command_app Cost) _ _ _ four c.file_command-2.ensures.shape c.in_ok-jslint-5.ensures in
-    let six = one_more app_of c.verify_command.result (command_app Verify) _ _ _ five c.verify_command.ensures.shape c.in_ok-jslint-6.ensures in
-    record { shape = last app_of app_of c.same_command.result c.with_command-7.result (command_app Same) _ _ six c.same_command.ensures.shape c.with_command-7.ensures }
+    let one = one_more app_of c.command_of_jslint.result (command_app (Check Places)) bare_app _ _ c.bare_command.ensures c.command_of_jslint.ensures.shape c.in_ok-jslint.ensures in
+    let two = one_more app_of c.command_of_jslint-2.result (command_app Tree) _ _ _ one c.command_of_jslint-2.ensures.shape c.in_ok-jslint-2.ensures in
+    let three = one_more app_of c.command_of_jslint-3.result (command_app Fix) _ _ _ two c.command_of_jslint-3.ensures.shape c.in_ok-jslint-3.ensures in
+    let four = one_more app_of c.command_of_jslint-4.result (command_app Unwrap) _ _ _ three c.command_of_jslint-4.ensures.shape c.in_ok-jslint-4.ensures in
+    let five = one_more app_of c.command_of_jslint-5.result (command_app Cost) _ _ _ four c.command_of_jslint-5.ensures.shape c.in_ok-jslint-5.ensures in
+    let six = one_more app_of c.command_of_jslint-6.result (command_app Verify) _ _ _ five c.command_of_jslint-6.ensures.shape c.in_ok-jslint-6.ensures in
+    record { shape = last app_of app_of c.command_of_jslint-7.result c.with_command-7.result (command_app Same) _ _ six c.command_of_jslint-7.ensures.shape c.with_command-7.ensures }

@@ -1,4 +1,4 @@
-use Rattle.std.proofs.Common.{◌≡◌, ◌++◌, ◌∙◌, [], IfOk, ap, sym, subst, map, string_bytes, append-nil}
+use Rattle.std.proofs.Common.{◌≡◌, ◌++◌, ◌∙◌, IfOk, ap, sym, subst, map, string_bytes, append-nil}
 use Rattle.std.specs.Option.{option_map}
 use Rattle.command_line.proofs.Tips.{no_tip, no_word, tip_there, word_at}
 use Rattle.command_line.proofs.mistake.push_tip.Goals as goal

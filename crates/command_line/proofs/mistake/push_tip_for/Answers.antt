@@ -1,4 +1,4 @@
-use Rattle.std.proofs.Common.{◌≡◌, ◌++◌, ◌∷◌, [], ◌∙◌, ap, sym, string_bytes, codes, cond}
+use Rattle.std.proofs.Common.{◌++◌, ◌∷◌, [], ◌∙◌, ap, sym, string_bytes, codes, cond}
 use Rattle.std.specs.Char.{encode_utf8}
 use Rattle.command_line.specs.Tip.{tip_for, tip_line}
 use Rattle.command_line.proofs.Tips.{pushed, three}
