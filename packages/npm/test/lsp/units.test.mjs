@@ -232,7 +232,8 @@ test('jobs: what is no text, refused settings, CR LF in one layout', () => {
   assert.equal(made('`a\r\nb`;\r\n'), '`a\r\nb`;\r\n');
   assert.equal(made('(a);\nb\r\n'), 'a;\nb;\n');
   assert.deepEqual(jobs.settings({ settings: 'allow-null = true\nx = 1\n' }), { line: 1 });
-  assert.deepEqual(jobs.settings({ settings: 'x = 1\n'.repeat(9999) }), {});
+  assert.deepEqual(jobs.settings({ settings: Array.from({ length: 9999 }, (_, k) => `x${k} = 1\n`).join('') }), {});
+  assert.deepEqual(jobs.settings({ settings: 'x = 1\nx = 1\n' }), { start: 6 });
   assert.deepEqual(jobs.settings({ settings: '# \ud800' }), { line: 0 });
   assert.deepEqual(jobs.settings({ settings: '# \u{1f600}\nx' }), { start: 6 });
 });
