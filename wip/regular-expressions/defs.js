@@ -1,0 +1,15 @@
+const A=require('/work/h/r4/tools/definitions/antt.js');
+const fs=require('fs');
+const C='/work/h/r4/crates/';
+const spec=A.load([C+'source_text',C+'tokens',process.env.RX||'/work/h/rx-tmp/copy/regular_expressions']);
+const {patternFault}=require('/work/h/r4/tools/model/patterns.js');
+const ff=spec.fn('first_fault','Patterns','regular_expressions');const ask=(l)=>{const v=ff(A.codes(l));return v.$.name==='None'?null:v.a[0]};
+module.exports={spec,ask};
+if(require.main===module){
+ let n=0,acc=0,unlike=0;const t0=Date.now();
+ for(const f of process.argv.slice(2))for(const line of fs.readFileSync(f,'utf8').trim().split('\n')){const l=JSON.parse(line);if([...l].length>2000)continue;n++;
+  let d;try{d=ask(l)}catch(e){d='!'+e.message}
+  const m=patternFault(l);if(m===null)acc++;
+  if(d!==m){unlike++;if(unlike<20)console.log(l,'definition',d,'model',m)}}
+ console.log({n,acc,unlike,s:(Date.now()-t0)/1000});
+}
