@@ -1,8 +1,8 @@
-const A=require('/work/h/r4/tools/definitions/antt.js');
+const A=require(process.env.TREE+'/tools/definitions/antt.js');
 const fs=require('fs');
-const C='/work/h/r4/crates/';
-const spec=A.load([C+'source_text',C+'tokens',process.env.RX||'/work/h/rx-tmp/copy/regular_expressions']);
-const {patternFault}=require('/work/h/r4/tools/model/patterns.js');
+const C=process.env.TREE+'/crates/';
+const spec=A.load([C+'source_text',C+'tokens',process.env.RX||process.env.TREE+'/crates/regular_expressions']);
+const {patternFault}=require(process.env.TREE+'/tools/model/patterns.js');
 const ff=spec.fn('first_fault','Patterns','regular_expressions');const ask=(l)=>{const v=ff(A.codes(l));return v.$.name==='None'?null:v.a[0]};
 module.exports={spec,ask};
 if(require.main===module){

@@ -1,6 +1,6 @@
 // the model beside V8: with u directly; without u (1) V8 itself must accept what the model accepts, (2) V8 with u on a pattern that says the same
 const fs=require('fs');
-const {patternFault,SCRIPTS}=require('/work/h/r4/tools/model/patterns.js');
+const {patternFault,SCRIPTS}=require(process.env.TREE+'/tools/model/patterns.js');
 const ok=(p,f)=>{try{new RegExp(p,f);return true}catch{return false}};
 const SYN='^$\\.*+?()[]{}|/';
 // without u to with u, or null where that can't be said

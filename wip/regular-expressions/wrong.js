@@ -1,6 +1,6 @@
 // wrong definitions, one at a time: each must be told from the model by some literal
 const fs=require('fs'),path=require('path'),cp=require('child_process');
-const D='/work/h/r4/crates/regular_expressions/specs/';
+const D=process.env.TREE+'/crates/regular_expressions/specs/';
 const W=[
 ['Pieces','next_member (dashed a) v = if in_order a v then fresh else disordered','next_member (dashed a) v = if in_order v a then fresh else disordered'],
 ['Pieces','next_member (dashed a) v = if in_order a v then fresh else disordered','next_member (dashed a) v = if in_order a v then member v else disordered'],
@@ -25,18 +25,18 @@ const W=[
 ['PropertyNames','behind_letter c (Some []) = None','behind_letter c (Some []) = Some []'],
 ['PropertyNames','lists_behind word left [] = is_met left','lists_behind word left [] = false'],
 ];
-const {patternFault}=require('/work/h/r4/tools/model/patterns.js');
+const {patternFault}=require(process.env.TREE+'/tools/model/patterns.js');
 let k=0,bad=0;
 const lits=[...fs.readFileSync('edges.txt','utf8').trim().split('\n'),...["/\\p{Zanabazar_Square}/u","/\\p{sc=Zanb}/u","/\\p{XIDS}/u"].map(x=>JSON.stringify(x))].map(JSON.parse).filter(l=>l.length<300);
 const want=lits.map(l=>patternFault(l));
-const A=require('/work/h/r4/tools/definitions/antt.js');
+const A=require(process.env.TREE+'/tools/definitions/antt.js');
 for(const [m,a,b] of W){k++;
  const d='/work/h/rx-tmp/wrong/regular_expressions';fs.rmSync(d,{recursive:true,force:true});fs.mkdirSync(d+'/specs',{recursive:true});
  for(const f of ['PropertyNames','Pieces','Patterns'])fs.copyFileSync(D+f+'.antt',d+'/specs/'+f+'.antt');
  fs.writeFileSync(d+'/specs/Lib.antt','pub mod PropertyNames\npub mod Pieces\npub mod Patterns\n');
  const p=d+'/specs/'+m+'.antt';const s=fs.readFileSync(p,'utf8');if(s.split(a).length!==2){console.log(k,'stands',s.split(a).length-1,'times',a);bad++;continue}
  fs.writeFileSync(p,s.replace(a,()=>b));
- let spec;try{spec=A.load(['/work/h/r4/crates/source_text','/work/h/r4/crates/tokens',d])}catch(e){console.log(k,'unreadable',e.message.slice(0,100));bad++;continue}
+ let spec;try{spec=A.load([process.env.TREE+'/crates/source_text',process.env.TREE+'/crates/tokens',d])}catch(e){console.log(k,'unreadable',e.message.slice(0,100));bad++;continue}
  const ff=spec.fn('first_fault','Patterns','regular_expressions');
  let hits=0,first=null;
  for(let i=0;i<lits.length&&hits<20;i++){let v;try{v=ff(A.codes(lits[i]));v=v.$.name==='None'?null:v.a[0]}catch(e){v='!'}
