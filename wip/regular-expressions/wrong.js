@@ -31,7 +31,7 @@ const lits=[...fs.readFileSync('edges.txt','utf8').trim().split('\n'),...["/\\p{
 const want=lits.map(l=>patternFault(l));
 const A=require(process.env.TREE+'/tools/definitions/antt.js');
 for(const [m,a,b] of W){k++;
- const d='/work/h/rx-tmp/wrong/regular_expressions';fs.rmSync(d,{recursive:true,force:true});fs.mkdirSync(d+'/specs',{recursive:true});
+ const d='/tmp/wrong/regular_expressions';fs.rmSync(d,{recursive:true,force:true});fs.mkdirSync(d+'/specs',{recursive:true});
  for(const f of ['PropertyNames','Pieces','Patterns'])fs.copyFileSync(D+f+'.antt',d+'/specs/'+f+'.antt');
  fs.writeFileSync(d+'/specs/Lib.antt','pub mod PropertyNames\npub mod Pieces\npub mod Patterns\n');
  const p=d+'/specs/'+m+'.antt';const s=fs.readFileSync(p,'utf8');if(s.split(a).length!==2){console.log(k,'stands',s.split(a).length-1,'times',a);bad++;continue}
