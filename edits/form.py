@@ -43,7 +43,7 @@ def listed():
 
 def crates():
     """The crates that have edits."""
-    names = [it for it in sorted(os.listdir(HERE)) if not it.startswith(('.', '_')) and not it.endswith('.py')]
+    names = [it for it in sorted(os.listdir(HERE)) if not it.startswith(('.', '_')) and not it.endswith(('.py', '.md'))]
     for name in names:
         if not name.endswith(ENDING):
             raise Malformed(f'edits/{name}: no file of edits, which are in CRATE{ENDING}')

@@ -7,6 +7,7 @@
     jslint.spans('debugger;')                               [Span(start=0, end=9, rule='no-debugger', message='debugger statement')]
     jslint.tree('a')['body'][0]['type']                     'ExpressionStatement'
     jslint.same('a + (b)', 'a + b; // c')                   True: the two have one tree
+    jslint.fix('export let a=(1)', language='module')       'export let a = 1;\\n'
     jslint.verify('(({})).a', jslint.cost('(({})).a'))      (2, 1): the text has two pairs, and each text with its tree has one at least
 
 A text that is refused raises Refused, with the program's own words. The thread that calls needs a stack of 6 MiB (`threading.stack_size`).
@@ -17,6 +18,7 @@ import json
 import os
 import re
 
+LANGUAGES = {None: 0, '2020': 1, '2022': 2, 'module': 3}
 COMMANDS = {'check': 0, 'tree': 1, 'fix': 2, 'cost': 3, 'verify': 4, 'unwrap': 5, 'spans': 6, 'same': 7}
 Report = collections.namedtuple('Report', 'line column rule message')
 Span = collections.namedtuple('Span', 'start end rule message')
@@ -37,68 +39,68 @@ class Refused(Exception):
 
 _BYTES = [ctypes.c_char_p, ctypes.c_size_t]
 _library = ctypes.CDLL(os.environ.get('JSLINT_LIBRARY') or os.path.join(os.path.dirname(os.path.abspath(__file__)), 'libjslint.so'))
-_library.jslint_answer.restype = None
-_library.jslint_answer.argtypes = [ctypes.c_uint32, *_BYTES, *_BYTES, ctypes.c_void_p, ctypes.c_size_t, ctypes.POINTER(Outcome)]
+_library.jslint_answer_in.restype = None
+_library.jslint_answer_in.argtypes = [ctypes.c_uint32, ctypes.c_uint32, *_BYTES, *_BYTES, ctypes.c_void_p, ctypes.c_size_t, ctypes.POINTER(Outcome)]
 
 
-def run(command, text, second=b''):
-    """What the program answers for these bytes."""
+def run(command, text, second=b'', language=None):
+    """What the program answers for these bytes, in a language: '2020', '2022' or 'module'; None says nothing of it."""
     outcome, size = Outcome(), 3 * len(text) + 4096
     while True:
         room = ctypes.create_string_buffer(size)
-        _library.jslint_answer(COMMANDS[command], text, len(text), second, len(second), room, size, ctypes.byref(outcome))
+        _library.jslint_answer_in(LANGUAGES[language], COMMANDS[command], text, len(text), second, len(second), room, size, ctypes.byref(outcome))
         if outcome.length <= size:
             return Answer(room.raw[:outcome.length], outcome.status, outcome.is_refusal == 1)
         size = outcome.length
 
 
-def _output(command, text, second=''):
-    answer = run(command, text.encode(), second.encode())
+def _output(command, text, second='', language=None):
+    answer = run(command, text.encode(), second.encode(), language)
     if answer.is_refusal:
         raise Refused(answer.bytes.decode()[len('jslint: '):-1], answer.status)
     return answer.bytes.decode()
 
 
-def fix(text):
+def fix(text, language=None):
     """The script in one layout, with the fewest parentheses that its tree allows."""
-    return _output('fix', text)
+    return _output('fix', text, language=language)
 
 
-def unwrap(text):
+def unwrap(text, language=None):
     """The script as it stands, comments kept, without its unnecessary parentheses."""
-    return _output('unwrap', text)
+    return _output('unwrap', text, language=language)
 
 
-def check(text, settings=''):
+def check(text, settings='', language=None):
     """What the rules find; the settings are TOML."""
-    lines = re.findall(r'^(\d+):(\d+) (\S+) (.*)$', _output('check', text, settings), re.M)
+    lines = re.findall(r'^(\d+):(\d+) (\S+) (.*)$', _output('check', text, settings, language), re.M)
     return [Report(int(line), int(column), rule, message) for line, column, rule, message in lines]
 
 
-def spans(text, settings=''):
+def spans(text, settings='', language=None):
     """What the rules find, from where to where, in bytes of the text's UTF-8."""
-    lines = [it.split(' ', 3) for it in _output('spans', text, settings).split('\n')[:-1]]
+    lines = [it.split(' ', 3) for it in _output('spans', text, settings, language).split('\n')[:-1]]
     return [Span(int(start), int(end), rule, message) for start, end, rule, message in lines]
 
 
-def tree(text):
+def tree(text, language=None):
     """The tree, as ESTree has it; places are bytes."""
-    return json.loads(_output('tree', text))
+    return json.loads(_output('tree', text, language=language))
 
 
-def cost(text):
+def cost(text, language=None):
     """The cost table, which shows why no text with this tree has fewer pairs of parentheses."""
-    return _output('cost', text)
+    return _output('cost', text, language=language)
 
 
-def verify(text, table):
+def verify(text, table, language=None):
     """Of a table from anyone: the pairs of the text, and the fewest that a text with its tree has."""
-    return tuple(int(it) for it in re.fullmatch(r'pairs (\d+) least (\d+)\n', _output('verify', text, table)).groups())
+    return tuple(int(it) for it in re.fullmatch(r'pairs (\d+) least (\d+)\n', _output('verify', text, table, language)).groups())
 
 
-def same(text, other):
+def same(text, other, language=None):
     """Whether two scripts have one tree, places aside."""
-    answer = run('same', text.encode(), other.encode())
+    answer = run('same', text.encode(), other.encode(), language)
     if answer.is_refusal:
         raise Refused(answer.bytes.decode()[len('jslint: '):-1], answer.status)
     return answer.status == 0

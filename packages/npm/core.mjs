@@ -4,6 +4,8 @@
 // until the call is back; an instance in which a call did not come back is not called again.
 
 const COMMANDS = { check: 0, tree: 1, fix: 2, cost: 3, verify: 4, unwrap: 5, spans: 6, same: 7 };
+// What asks for a language; nothing asks for none.
+const LANGUAGES = { 2020: 1, 2022: 2, module: 3 };
 // Bytes of room for each byte of text at the first try. Where the answer is longer, the command runs again with all the room that it takes.
 const ROOM = { check: 2, tree: 48, fix: 3, cost: 24, verify: 0, unwrap: 1, spans: 2, same: 0 };
 const LEAST_ROOM = 16384;
@@ -86,14 +88,14 @@ class Running {
   }
 
   /** The answer's bytes with its outcome; null where the engine has no memory for them. */
-  answer(command, text, second, room) {
+  answer(command, text, second, language, room) {
     const from = this.put(text), other = this.put(second), told = this.take(OUTCOME), to = this.take(room);
     if ([from, other, told, to].includes(null)) return null;
-    this.exports.jslint_answer(COMMANDS[command], from, BigInt(text.length), other, BigInt(second.length), to, BigInt(room), told);
+    this.exports.jslint_answer_in(language, COMMANDS[command], from, BigInt(text.length), other, BigInt(second.length), to, BigInt(room), told);
     const outcome = this.outcome(told);
     const bytes = outcome.length <= room ? this.bytes(to, outcome.length).slice() : null;
     while (this.taken.length) this.giveBack();
-    return bytes ? { bytes, ...outcome } : this.answer(command, text, second, outcome.length);
+    return bytes ? { bytes, ...outcome } : this.answer(command, text, second, language, outcome.length);
   }
 }
 
@@ -175,6 +177,13 @@ function spansOf(lines, text, places) {
   });
 }
 
+/** The module's number of a language: '2020', '2022' or 'module'. */
+function numberOf(language) {
+  if (language === undefined || language === null) return 0;
+  if (!Object.hasOwn(LANGUAGES, language)) throw new TypeError(`jslint has no language ${language}: it has '2020', '2022' and 'module'`);
+  return LANGUAGES[language];
+}
+
 /** Whether the engine's stack was used up, or the module's own. Either ends a call half done. */
 const isOutOfStack = (error) => error instanceof RangeError || error instanceof WebAssembly.RuntimeError || error?.name === 'InternalError';
 
@@ -185,53 +194,54 @@ export function commandsOf(module, runDeeper = () => null) {
   let kept = null;
 
   /** The answer's bytes as the module gives them. */
-  function answerOf(command, text, second) {
+  function answerOf(command, text, second, language) {
     const running = kept ?? new Running(module);
     kept = null;
-    const answer = running.answer(command, text, second, Math.max(LEAST_ROOM, ROOM[command] * text.length));
+    const answer = running.answer(command, text, second, language, Math.max(LEAST_ROOM, ROOM[command] * text.length));
     if (answer !== null && running.exports.memory.buffer.byteLength <= MOST_KEPT) kept = running;
     return answer;
   }
 
   /** Answers a command as the program does: what it writes to its standard output or, where it refuses, to its standard error. */
-  function run(command, text, second = new Uint8Array(0)) {
+  function run(command, text, second = new Uint8Array(0), language = undefined) {
     if (!Object.hasOwn(COMMANDS, command)) throw new TypeError(`jslint has no command ${command}`);
+    const number = numberOf(language);
     let answer;
     try {
-      answer = answerOf(command, text, second);
+      answer = answerOf(command, text, second, number);
     } catch (error) {
-      if (isOutOfStack(error)) return runDeeper(command, text, second) ?? OUT_OF_STACK;
+      if (isOutOfStack(error)) return runDeeper(command, text, second, language) ?? OUT_OF_STACK;
       throw error;
     }
     return answer === null ? OUT_OF_MEMORY : { text: decode(answer.bytes), status: answer.status, isRefusal: answer.isRefusal };
   }
 
   /** What a command answers for a text; a refusal is thrown. */
-  function accepted(command, text, second) {
-    const answer = run(command, bytesOf(text), second);
+  function accepted(command, text, second, language) {
+    const answer = run(command, bytesOf(text), second, language);
     if (answer.isRefusal) throw new Refused(command, answer.text.slice('jslint: '.length, -1), answer.status);
     return answer;
   }
 
   /** What it writes. */
-  const output = (command, text, second) => accepted(command, text, second).text;
+  const output = (command, text, second, language) => accepted(command, text, second, language).text;
 
   return {
     run,
-    check: (text, { settings = '' } = {}) => reportsOf(output('check', text, bytesOf(settings)), stringOf(text)),
-    spans: (text, { settings = '', places = 'indices' } = {}) => spansOf(output('spans', text, bytesOf(settings)), text, places),
-    fix: (text) => output('fix', text),
-    unwrap: (text) => output('unwrap', text),
-    treeText: (text) => output('tree', text),
-    tree(text, { places = 'indices' } = {}) {
-      const program = JSON.parse(output('tree', text)), string = stringOf(text);
+    check: (text, { settings = '', language } = {}) => reportsOf(output('check', text, bytesOf(settings), language), stringOf(text)),
+    spans: (text, { settings = '', places = 'indices', language } = {}) => spansOf(output('spans', text, bytesOf(settings), language), text, places),
+    fix: (text, { language } = {}) => output('fix', text, undefined, language),
+    unwrap: (text, { language } = {}) => output('unwrap', text, undefined, language),
+    treeText: (text, { language } = {}) => output('tree', text, undefined, language),
+    tree(text, { places = 'indices', language } = {}) {
+      const program = JSON.parse(output('tree', text, undefined, language)), string = stringOf(text);
       if (places === 'indices' && program.end !== string.length) placeNodes(program, string);
       return program;
     },
-    cost: (text) => output('cost', text),
-    same: (text, other) => accepted('same', text, bytesOf(other)).status === 0,
-    verify(text, table) {
-      const [, pairs, least] = /^pairs (\d+) least (\d+)\n$/.exec(output('verify', text, bytesOf(table)));
+    cost: (text, { language } = {}) => output('cost', text, undefined, language),
+    same: (text, other, { language } = {}) => accepted('same', text, bytesOf(other), language).status === 0,
+    verify(text, table, { language } = {}) {
+      const [, pairs, least] = /^pairs (\d+) least (\d+)\n$/.exec(output('verify', text, bytesOf(table), language));
       return { pairs: Number(pairs), least: Number(least) };
     },
   };

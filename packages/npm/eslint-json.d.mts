@@ -1,4 +1,4 @@
-import type { Text } from './jslint.mjs';
+import type { Language, Text } from './jslint.mjs';
 
 /** Lines and columns count from 1, columns in UTF-16 units and without a byte order mark. */
 export interface Message {
@@ -25,7 +25,7 @@ export interface Result {
 }
 
 /** A file's result: its path, and what was found in its text. Settings that are refused are thrown. */
-export function resultOf(filePath: string, text: Text, options?: { settings?: Text }): Result;
+export function resultOf(filePath: string, text: Text, options?: { settings?: Text; language?: Language }): Result;
 /** The result of a file that can't be read: why not. */
 export function unreadResult(filePath: string, message: string): Result;
 /** The results of several files as ESLint's formatter `json` writes them. */

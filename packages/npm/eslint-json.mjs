@@ -33,10 +33,10 @@ function resultWith(filePath, messages, source) {
 }
 
 /** A file's result: its path, what was found in its text, and the text where anything was. Settings that are refused are thrown. */
-export function resultOf(filePath, text, { settings = '' } = {}) {
+export function resultOf(filePath, text, { settings = '', language } = {}) {
   const source = text instanceof Uint8Array ? new TextDecoder('utf-8', { ignoreBOM: true }).decode(text) : text;
   try {
-    const reports = check(text, { settings });
+    const reports = check(text, { settings, language });
     return reports.length === 0 ? resultWith(filePath, [], null) : resultWith(filePath, messagesOf(reports, source), source);
   } catch (error) {
     if (!(error instanceof Refused) || error.code === 'settings') throw error;

@@ -3,6 +3,9 @@ export type Text = string | Uint8Array;
 /** `spans` is `check --spans`. */
 export type Command = 'check' | 'tree' | 'fix' | 'cost' | 'verify' | 'unwrap' | 'spans' | 'same';
 
+/** The base profile, strict scripts of ECMAScript 2022, or its modules. Without one: the base profile, or for `check` and `spans` what the settings say. */
+export type Language = '2020' | '2022' | 'module';
+
 /** What a rule finds at a place. Lines and columns count from 1, columns in characters; `index` is the place in the string. */
 export interface Report {
   line: number;
@@ -49,24 +52,24 @@ export interface Node {
 }
 
 /** What the rules find, by place and rule. The settings are TOML, as the program takes them. */
-export function check(text: Text, options?: { settings?: Text }): Report[];
+export function check(text: Text, options?: { settings?: Text; language?: Language }): Report[];
 /** The same reports, in the same order, from where to where. */
-export function spans(text: Text, options?: { settings?: Text; places?: 'indices' | 'bytes' }): Span[];
+export function spans(text: Text, options?: { settings?: Text; places?: 'indices' | 'bytes'; language?: Language }): Span[];
 /** The script in one layout, with the fewest parentheses that its tree allows. */
-export function fix(text: Text): string;
+export function fix(text: Text, options?: { language?: Language }): string;
 /** The script as it stands, comments kept, without its unnecessary parentheses. */
-export function unwrap(text: Text): string;
+export function unwrap(text: Text, options?: { language?: Language }): string;
 /** The tree. Places are indices into the string, as other parsers give them, or bytes. */
-export function tree(text: Text, options?: { places?: 'indices' | 'bytes' }): Node;
+export function tree(text: Text, options?: { places?: 'indices' | 'bytes'; language?: Language }): Node;
 /** The tree as the program writes it: one line of JSON, places in bytes. */
-export function treeText(text: Text): string;
+export function treeText(text: Text, options?: { language?: Language }): string;
 /** The cost table, which shows why no text with this tree has fewer pairs of parentheses than its total. */
-export function cost(text: Text): string;
+export function cost(text: Text, options?: { language?: Language }): string;
 /** Checks such a table, whoever made it: the pairs of the text, and the fewest that a text with its tree has. */
-export function verify(text: Text, table: Text): { pairs: number; least: number };
+export function verify(text: Text, table: Text, options?: { language?: Language }): { pairs: number; least: number };
 /** Whether two scripts have one tree, places aside. */
-export function same(text: Text, other: Text): boolean;
+export function same(text: Text, other: Text, options?: { language?: Language }): boolean;
 /** The index into the string of a line and a column. */
 export function indexOf(text: string, line: number, column: number): number;
 /** A command as the program runs it: what it writes, and its exit status. */
-export function run(command: Command, text: Uint8Array, second?: Uint8Array): { text: string; status: 0 | 1 | 2; isRefusal: boolean };
+export function run(command: Command, text: Uint8Array, second?: Uint8Array, language?: Language): { text: string; status: 0 | 1 | 2; isRefusal: boolean };

@@ -29,10 +29,10 @@ function startDeeper() {
   return { isDone, port: port1 };
 }
 
-function runDeeper(command, text, second) {
+function runDeeper(command, text, second, language) {
   deeper ??= startDeeper();
   Atomics.store(deeper.isDone, 0, 0);
-  deeper.port.postMessage({ command, text, second });
+  deeper.port.postMessage({ command, text, second, language });
   Atomics.wait(deeper.isDone, 0, 0);
   return threads.receiveMessageOnPort(deeper.port)?.message ?? null;
 }

@@ -5,9 +5,9 @@ import { commandsOf } from './core.mjs';
 const { module, isDone, port } = workerData;
 const { run } = commandsOf(module);
 
-function answered({ command, text, second }) {
+function answered({ command, text, second, language }) {
   try {
-    return run(command, text, second);
+    return run(command, text, second, language);
   } catch {
     return null;
   }

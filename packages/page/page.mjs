@@ -2,7 +2,9 @@
 import { Refused, commandsOf, indexOf } from 'jslint/core';
 
 const at = (id) => document.getElementById(id);
-const [script, settings, panel, state] = ['script', 'settings', 'panel', 'state'].map(at);
+const [language, script, settings, panel, state] = ['language', 'script', 'settings', 'panel', 'state'].map(at);
+/** What the choice of a language says to a call. */
+const asked = () => ({ language: language.value || undefined });
 const tabs = [...document.querySelectorAll('[role=tab]')];
 const HEADS = ['row', 'expression', 'any', 'not {', 'statement', 'for', 'for, not {', 'new', 'new, not {', 'new, statement'];
 // How much of a line is shown before and after the place that a report speaks of.
@@ -47,7 +49,7 @@ function located(text, index, place, name, message) {
 }
 
 function reports(jslint, text) {
-  const found = jslint.check(text, { settings: settings.value });
+  const found = jslint.check(text, { settings: settings.value, ...asked() });
   if (found.length === 0) return [element('p', { className: 'fine' }, 'No report.')];
   return [element('ul', { className: 'reports' }, ...found.map((it) => located(text, it.index, `${it.line}:${it.column}`, it.rule, it.message)))];
 }
@@ -73,17 +75,17 @@ function rowOf(kind, cells) {
 }
 
 function costs(jslint, text) {
-  const table = jslint.cost(text), rows = table.trimEnd().split('\n').slice(1, -1);
-  const { pairs, least } = jslint.verify(text, table);
+  const table = jslint.cost(text, asked()), rows = table.trimEnd().split('\n').slice(1, -1);
+  const { pairs, least } = jslint.verify(text, table, asked());
   const told = `The script has ${pairs} grouping pair${pairs === 1 ? '' : 's'}. No text with its tree has fewer than ${least}, which this table shows; it was checked just now.`;
   return [element('p', {}, told), element('table', {}, rowOf('th', HEADS), ...rows.map((it) => rowOf('td', cellsOf(it))))];
 }
 
 const SHOWN = {
   'tab-check': reports,
-  'tab-fix': (jslint, text) => [element('pre', {}, jslint.fix(text))],
-  'tab-unwrap': (jslint, text) => [element('pre', {}, jslint.unwrap(text))],
-  'tab-tree': (jslint, text) => [branch(jslint.tree(text), null)],
+  'tab-fix': (jslint, text) => [element('pre', {}, jslint.fix(text, asked()))],
+  'tab-unwrap': (jslint, text) => [element('pre', {}, jslint.unwrap(text, asked()))],
+  'tab-tree': (jslint, text) => [branch(jslint.tree(text, asked()), null)],
   'tab-cost': costs,
 };
 
@@ -121,7 +123,7 @@ function tabOf(key, tab) {
 function listen(jslint) {
   let shown = tabs.find((it) => it.id === `tab-${location.hash.slice(1)}`) ?? tabs[0], waiting = 0;
   const show = (tab) => answer(jslint, shown = tab);
-  for (const it of [script, settings]) {
+  for (const it of [language, script, settings]) {
     it.addEventListener('input', () => {
       clearTimeout(waiting);
       waiting = setTimeout(() => show(shown), PAUSE_MS);

@@ -131,7 +131,7 @@ function answer(text) {
 function main() {
   const file = option('file', null);
   const texts = file !== null ? fs.readFileSync(file, 'utf8').split('\0') : makeTexts(Number(option('n', 1000)), Number(option('seed', 1)));
-  const answers = answersOf(copied(path.join(__dirname, 'early.txt'), ['source_text', 'parser', 'early_errors']), texts, 8000);
+  const answers = answersOf(copied(path.join(__dirname, 'early.txt'), ['source_text', 'language', 'parser', 'early_errors']), texts, 8000);
   const seen = {};
   let differ = 0;
   for (let i = 0; i < answers.length; i++) {

@@ -2,14 +2,15 @@
 // Holds the parser against the plain model: acceptance, grouping pairs, and the tree with places, texts and flags.
 //
 //   node parser.js [--n COUNT] [--nested COUNT] [--seed S] [--show K] [--keep FOLDER] [--file TEXTS]
-//                   [--high H --open M]
+//                   [--high H --open M] [--language base|script|module] [--rows CASES.jsonl [--mutants N]]
 //
 // Makes COUNT texts of each kind (sentences of the declarative grammar, mutated programs, random token strings), half of them with
 // what the 12th edition adds, copies
 // the crates that the parser stands on and the program parser.txt to a temporary folder, runs the program there by `rt try`
 // (it needs no proof; the environment's RT may name another command) and compares its answers with parse.js.
 // --nested: that many texts in which constructs stand in each other, and no others.
-// --file: texts of one's own, with U+0000 between them. --high H --open M: with these limits in place of the usual ones, so
+// --file: texts of one's own, with U+0000 between them. --language: what all texts are read as; base if it isn't said. --rows: the texts of
+// rows {text, language, answer}, each in its language, with its answer too; --mutants: N texts changed from rows in their place. --high H --open M: with these limits in place of the usual ones, so
 // that small texts meet them; a text that derives nothing may then be too deep too. Exit status 1 where anything disagrees.
 
 const fs = require('node:fs');
@@ -24,8 +25,8 @@ const { plainTree } = require('../definitions/model.js');
 
 // ---------------------------------------------------------------- texts
 
-function mutated(source, pool) {
-  const list = pieces(source.pick(PROGRAMS));
+function mutated(source, pool, program = source.pick(PROGRAMS)) {
+  const list = pieces(program);
   for (let m = source.below(3); m >= 0; m--) {
     const i = source.below(list.length + 1);
     switch (source.below(5)) {
@@ -91,17 +92,18 @@ function show(n) {
 }
 const HIGH = Number(option('high', LIMITS.maxHeight));
 const OPEN = Number(option('open', LIMITS.maxParens));
-function answer(text) {
-  const result = parseOnly(text, { maxHeight: 1e6, maxParens: 1e6 });
+const MODEL = { base: {}, script: { edition: 2022 }, module: { module: true } };
+function answer(text, language) {
+  const result = parseOnly(text, { maxHeight: 1e6, maxParens: 1e6, ...MODEL[language] });
   if (!result.ok) return result.fault.kind;
   if (result.height > HIGH || result.openParens > OPEN) return 'TooDeep';
-  return result.pairs.map((p) => `${p.left}-${p.right} `).join('') + show(plainTree(result.tree));
+  return result.pairs.map((p) => `${p.left}-${p.right} `).join('') + show(plainTree(result.tree, language));
 }
 
 // ---------------------------------------------------------------- the parser's answers
 
 function run(texts) {
-  const folder = copied(path.join(__dirname, 'parser.txt'), ['source_text', 'tree', 'parser']);
+  const folder = copied(path.join(__dirname, 'parser.txt'), ['source_text', 'tree', 'language', 'parser']);
   const at = path.join(folder, 'crates/language/src/limits.rt');
   const limit = (name, value) => {
     fs.writeFileSync(at, fs.readFileSync(at, 'utf8').replace(new RegExp(`(const ${name}: \\w+ = )\\d+`), '$1' + value));
@@ -113,25 +115,39 @@ function run(texts) {
   return answersOf(folder, texts, 4000);
 }
 
+// The rows, or as many changed from them as --mutants says, which have no answer of their own.
+function rowsOf(file, source) {
+  const rows = fs.readFileSync(file, 'utf8').split('\n').filter((l) => l !== '').map((l) => JSON.parse(l));
+  const count = Number(option('mutants', 0));
+  if (count === 0) return rows;
+  const pool = rows.flatMap((row) => pieces(row.text)).filter((p) => p.trim() !== '');
+  return Array.from({ length: count }, () => source.pick(rows)).map(({ text, language }) => ({ text: mutated(source, pool, text), language }))
+    .filter(({ text }) => text.isWellFormed() && !text.includes('\0'));
+}
+
 function main() {
   const file = option('file', null);
   const count = Number(option('nested', 0));
   const source = randomSource(Number(option('seed', 1)));
-  const texts = file !== null ? fs.readFileSync(file, 'utf8').split('\0')
+  const rows = option('rows', null) === null ? null : rowsOf(option('rows'), source);
+  const texts = rows !== null ? rows.map((row) => row.text) : file !== null ? fs.readFileSync(file, 'utf8').split('\0')
     : count > 0 ? withAdditions(source, Array.from({ length: count }, () => nested(source))) : makeTexts(Number(option('n', 1000)), Number(option('seed', 1)));
-  const answers = run(texts);
+  const languageOf = (i) => (rows === null ? option('language', 'base') : rows[i].language);
+  const answers = run(texts.map((text, i) => languageOf(i)[0] + text));
   let accepted = 0;
   let deep = 0;
   let differ = 0;
   for (let i = 0; i < answers.length; i++) {
-    const wanted = answer(texts[i]);
+    const wanted = answer(texts[i], languageOf(i));
+    const isRefused = rows?.[i].answer === 'syntax error';
+    if (rows?.[i].answer !== undefined && isRefused !== (answers[i] === 'Syntax')) console.log(`row ${i}: ${rows[i].answer}, but the parser answers ${answers[i]}`);
     if (wanted.endsWith(')')) accepted += 1;
     if (wanted === 'TooDeep') deep += 1;
     if (wanted === answers[i]) continue;
     if (wanted === 'Syntax' && answers[i] === 'TooDeep' && HIGH < LIMITS.maxHeight) continue;
     differ += 1;
     if (differ > Number(option('show', 20))) continue;
-    console.log(JSON.stringify(texts[i]) + '\n  model:  ' + wanted + '\n  parser: ' + answers[i]);
+    console.log(languageOf(i) + ' ' + JSON.stringify(texts[i]) + '\n  model:  ' + wanted + '\n  parser: ' + answers[i]);
   }
   console.log(`${answers.length} texts, ${accepted} accepted, ${deep} too deep, ${differ} disagreements`);
   if (differ > 0) process.exitCode = 1;

@@ -47,7 +47,7 @@ function answer(text) {
 
 function main() {
   const texts = scripts();
-  const answers = answersOf(copied(path.join(__dirname, 'planner.txt'), ['source_text', 'tree', 'parser', 'paren_planner']), texts, 4000);
+  const answers = answersOf(copied(path.join(__dirname, 'planner.txt'), ['source_text', 'tree', 'language', 'parser', 'paren_planner']), texts, 4000);
   const model = runInBigStack(__filename, 'modelAnswers', [texts]);
   let rows = 0;
   let refused = 0;

@@ -24,7 +24,7 @@ function answer(text) {
   return runRules({ tree: result.tree, scopes: resolve(result.tree), extra, settings }).map((r) => `${r.start}-${r.end} ${r.rule} ${r.text}\n`).join('');
 }
 
-const answers = answersOf(copied(path.join(__dirname, 'scopes.txt'), ['source_text', 'tree', 'parser', 'scopes', 'rules']), texts, 8000);
+const answers = answersOf(copied(path.join(__dirname, 'scopes.txt'), ['source_text', 'tree', 'language', 'parser', 'scopes', 'rules']), texts, 8000);
 let differ = 0;
 answers.forEach((given, i) => {
   const wanted = answer(texts[i]);

@@ -22,7 +22,7 @@ const LEFT_OUT = {
   tokens: 'specs: Scanned Reading Closers TokenStarts States PunctuatorSets Sets Escaped Laws',
   tree: 'specs: Whole Places PartNumber Linked Flat Growth NodeText TreeCode Sizes Node Fields',
   language: 'specs: Promises',
-  early_errors: 'specs: Owns Walk Walks; proofs: Tables',
+  early_errors: 'specs: Owns Walk Walks Passed Knowing PrivateUses ExportsRead; proofs: Tables',
   name_tables: 'specs: DeclaratorParts Keys PatternParts Sets Tables',
   scopes: 'specs: Shown Walks Gathered; proofs: Tables',
   rules: 'specs: NineRules Toml Order Run RuleViews Used Nodes NodeRules Appends Refusals Lines',

@@ -1,6 +1,6 @@
 'use strict';
 // A search for derivations, one case for each constructor of Step, Spells and Runs.
-//   const d = new Derive(model);  d.derive(text, plainTree, {places}) -> [{pairs, open}]
+//   const d = new Derive(model);  d.derive(text, plainTree, {places, language}) -> [{pairs, open}]
 // pairs: [{left, right}] in order; open: the least o. All readings of the text are searched
 // (at `/` punctuator or regular expression, at `}` punctuator or template part).
 
@@ -10,8 +10,9 @@ const { PLAIN_MODEL } = require('./model.js');
 const { GOAL, makeSource, scan } = require(path.join(PLAIN_MODEL, 'scan.js'));
 
 class Reading {
-  constructor(model, text) {
+  constructor(model, text, language = 'base') {
     this.model = model;
+    this.language = model.languages[language];
     const s = makeSource(text);
     if (!s.ok) throw new Error('bad text');
     this.source = s;
@@ -24,13 +25,15 @@ class Reading {
     let list = this.memo.get(at);
     if (list !== undefined) return list;
     const { text, byteAt } = this.source;
-    const found = [scan(text, at, GOAL.Div)];
-    if (found[0].text?.[0] === '/' || text[found[0].start] === '/') found.push(scan(text, at, GOAL.RegExp));
-    if (text[found[0].start] === '}') found.push(scan(text, at, GOAL.TemplateTail));
+    // tokens are those of each language; what a text may begin with is `begin`'s
+    const edition = text.startsWith('#!') && at === 0 ? 2021 : 2022;
+    const found = [scan(text, at, GOAL.Div, edition)];
+    if (found[0].text?.[0] === '/' || text[found[0].start] === '/') found.push(scan(text, at, GOAL.RegExp, edition));
+    if (text[found[0].start] === '}') found.push(scan(text, at, GOAL.TemplateTail, edition));
     list = [];
     for (const t of found) {
       if (t.cls === 'fault') continue;
-      const v = this.model.as_read(this.model.token({ cls: t.cls, text: t.text, start: byteAt(t.start), stop: byteAt(t.end), afterBreak: t.afterBreak }));
+      const v = this.model.seen_in(this.language, this.model.as_read(this.model.token({ cls: t.cls, text: t.text, start: byteAt(t.start), stop: byteAt(t.end), afterBreak: t.afterBreak })));
       list.push({ v, end: t.end, last: t.cls === 'end', id: this.n++ });
     }
     this.memo.set(at, list);
@@ -43,8 +46,10 @@ class Reading {
     return c;
   }
   begin() {
-    const b = { v: this.model.beginning, end: 0, last: false, id: this.n++ };
-    return this.choices(0).map((t) => this.cursor(b, t));
+    const { text, byteAt } = this.source;
+    const b = { v: this.model.beginning_in(this.language, antt.bytes(text)), end: 0, last: false, id: this.n++ };
+    while (byteAt(b.end) < b.v.stop) b.end += 1;
+    return this.choices(b.end).map((t) => this.cursor(b, t));
   }
   // over the next token
   over(c) {
@@ -65,12 +70,13 @@ class Derive {
   derive(text, tree, options = {}) {
     const { m } = this;
     this.places = options.places !== false;
-    this.reading = new Reading(m, text);
+    this.reading = new Reading(m, text, options.language);
     this.found = new Map();
     this.budget = options.budget ?? 3e6;
     const root = tree.spec ?? m.tree(tree);
     this.ids = new Map();
     const out = new Map();
+    if (!m.is_tree_of(this.reading.language, root)) return [];
     for (const c of this.reading.begin()) {
       for (const r of this.spells(m.script, root, c)) {
         if (r.c.t !== null) continue;
@@ -83,6 +89,11 @@ class Derive {
     return [...out.values()];
   }
   isMark(w, c) { return c.t !== null && this.m.is_mark(w, c.t.v); }
+  // the next token is a keyword, and the node the identifier of its text
+  isReserved(n, c) {
+    return c.t !== null && n.a[0].$.name === 'Identifier' && n.a[5].$.name === 'none' && this.m.is_lean(n) && this.m.is_keyword(n.a[1])
+      && this.m.is_token(this.m.classes.keyword, n.a[1], c.t.v);
+  }
   placed(a, n, c, end) {
     if (!this.places) return c.t !== null;
     if (c.t === null) return false;
@@ -111,6 +122,10 @@ class Derive {
       for (let ways = m.ways(a, n); ways !== null; ways = ways.t) {
         for (const x of this.runs(ways.h, n.a[5], c)) if (this.placed(a, n, c, x.c)) out.push(x);
       }
+    }
+    // reserved_key, reserved_word
+    if ((a.$.name === 'key' || a.$.name === 'word') && this.isReserved(n, c)) {
+      for (const d of this.reading.over(c)) if (this.placed(a, n, c, d)) out.push({ c: d, P: null, o: 0 });
     }
     // grouped
     if (a.$.name === 'expr' && this.isMark(this.open, c)) {
@@ -155,6 +170,9 @@ class Derive {
           qs = qs.t; continue;
         case 'unbroken':
           if (c.t === null || c.t.v.after_break) return [];
+          qs = qs.t; continue;
+        case 'no_operand':
+          if (c.t === null || !m.begins_no_operand(c.t.v)) return [];
           qs = qs.t; continue;
         case 'ending': {
           if (c.t === null) return [];

@@ -4,7 +4,7 @@
 const path = require('path');
 const antt = require('./antt.js');
 const PLAIN_MODEL = path.join(__dirname, '../model');
-const { KINDS } = require(path.join(PLAIN_MODEL, 'kinds.js'));
+const { KINDS_OF_2022 } = require(path.join(PLAIN_MODEL, 'kinds.js'));
 const CRATES = ['source_text', 'tokens', 'tree', 'language', 'name_tables', 'early_errors'].map((c) => path.join(__dirname, '../../crates', c));
 
 // Names of the definitions: ours -> [name, the last part of its module, its crate].
@@ -17,8 +17,11 @@ const NAMES = {
   // the relation
   ways: ['ways', 'Grammar', 'language'], place: ['place', 'Derivation', 'language'], rows: ['rows', 'RowPositions', 'language'],
   is_token: ['is_token', 'Token', 'language'], is_mark: ['is_mark', 'Token', 'language'], as_read: ['as_read', 'Token', 'language'],
-  may_miss: ['may_omit_semicolon', 'Edges', 'language'], is_semicolon: ['is_semicolon', 'Edges', 'language'],
+  may_miss: ['may_omit_semicolon', 'Edges', 'language'], begins_no_operand: ['begins_no_operand', 'Edges', 'language'], is_semicolon: ['is_semicolon', 'Edges', 'language'],
   beginning: ['beginning', 'Cursor', 'language'],
+  // languages
+  seen_in: ['seen_in', 'Languages', 'language'], beginning_in: ['beginning_in', 'Languages', 'language'], is_tree_of: ['is_tree_of', 'Languages', 'language'],
+  is_keyword: ['is_keyword', 'Vocabulary', 'language'],
   // a search that the definitions have themselves
   spelled: ['spelled', 'Search', 'language'],
   // costs and layout
@@ -35,9 +38,11 @@ const NAMES = {
   literal_units: ['literal_units', 'Strings', 'language'], cooks: ['cooks', 'Cooked', 'early_errors'],
 };
 // The constructors of the classes and goals of tokens, by the words of the model; enumerations of the Rust source.
-const CLASS = { name: 'IdentifierName', punctuator: 'Punctuator', number: 'NumericLiteral', string: 'StringLiteral', template: 'Template', regexp: 'RegularExpressionLiteral', end: 'End' };
+const CLASS = { name: 'IdentifierName', punctuator: 'Punctuator', number: 'NumericLiteral', string: 'StringLiteral', template: 'Template', regexp: 'RegularExpressionLiteral', private: 'PrivateName', keyword: 'Keyword', end: 'End' };
 const GOALS = ['Div', 'RegExp', 'TemplateTail'];
-const FORM = { init: 'Init', get: 'Get', set: 'Set', method: 'Method', shorthand: 'Shorthand', constructor: 'Constructor' };
+const FORM = { init: 'Init', get: 'Get', set: 'Set', method: 'Method', shorthand: 'Shorthand', constructor: 'Constructor', generator: 'Generator', async: 'Async', async_generator: 'AsyncGenerator' };
+const LANGUAGE = { base: 'Base', script: 'Script', module: 'Module' };
+const PROGRAM_TEXT = { base: '', script: '2022', module: 'module' };
 const FLAGS = ['computed', 'optional', 'is_static', 'prefix', 'directive', 'expression'];
 
 class Model {
@@ -47,6 +52,7 @@ class Model {
     const unwrap = (v) => (typeof v === 'function' ? v() : v);
     this.none = unwrap(this.none); this.script = unwrap(this.script); this.contexts = unwrap(this.contexts); this.beginning = unwrap(this.beginning);
     this.classes = Object.fromEntries(Object.entries(CLASS).map(([k, v]) => [k, this.spec.variant('TokenClass', v)]));
+    this.languages = Object.fromEntries(Object.entries(LANGUAGE).map(([k, v]) => [k, this.spec.variant('Language', v)]));
     this.goals = Object.fromEntries(GOALS.map((v) => [v, this.spec.variant('Goal', v)]));
     this.forms = Object.fromEntries(Object.entries(FORM).map(([k, v]) => [k, this.spec.variant('Form', v)]));
     const wide = [this.spec.variant('Rank', 'Expression'), true, this.spec.variant('Start', 'Any')];
@@ -74,20 +80,34 @@ const noFlags = () => ({ computed: false, optional: false, is_static: false, pre
 const FLAG = {
   is_static: (e) => e.static,
   directive: (e) => typeof e.directive === 'string',
-  form: (e) => (e.shorthand ? 'shorthand' : e.method ? 'method' : e.kind),
+  form: (e) => (FORMS.get(e.type) ?? ownForm)(e),
 };
-// A template's chunks and expressions take turns.
-const templateParts = (e) => e.quasis.flatMap((q, i) => (i < e.expressions.length ? [q, e.expressions[i]] : [q]));
-// A node of the model (or of the outside judge) as a plain tree; `n.from` is the ESTree node.
-function plainTree(e) {
-  const row = KINDS.get(e.type);
+const ownForm = (e) => (e.shorthand ? 'shorthand' : e.method ? 'method' : e.kind);
+const functionForm = (e) => (e.async ? (e.generator ? 'async_generator' : 'async') : e.generator ? 'generator' : 'init');
+const samePlace = (x, y) => x.start === y.start && x.end === y.end;
+const isOneName = (e) => samePlace(e, e.local) && samePlace(e, e.imported ?? e.exported);
+const specifierForm = (e) => (isOneName(e) ? 'shorthand' : 'init');
+const FORMS = new Map([
+  ['YieldExpression', (e) => (e.delegate ? 'generator' : 'init')], ['ForOfStatement', (e) => (e.await ? 'async' : 'init')],
+  ['FunctionExpression', functionForm], ['FunctionDeclaration', functionForm], ['ArrowFunctionExpression', functionForm],
+  ['ImportSpecifier', specifierForm], ['ExportSpecifier', specifierForm],
+]);
+// The parts of a node where they aren't its fields in their order: a template's chunks and expressions take turns, and a specifier's one name is one part.
+const oneName = (first, second) => (e) => (isOneName(e) ? [e[first]] : [e[first], e[second]]);
+const PARTS = new Map([
+  ['TemplateLiteral', (e) => e.quasis.flatMap((q, i) => (i < e.expressions.length ? [q, e.expressions[i]] : [q]))],
+  ['ImportSpecifier', oneName('imported', 'local')], ['ExportSpecifier', oneName('local', 'exported')],
+]);
+const partsOf = (row, e) => PARTS.get(e.type)?.(e) ?? row.parts.flatMap(({ field, isList }) => (isList ? [...e[field]] : [e[field]]));
+// A node of the model (or of the outside judge) as a plain tree; `n.from` is the ESTree node. `language` is that of a Program.
+function plainTree(e, language = 'base') {
+  const row = KINDS_OF_2022.get(e.type);
   if (row === undefined) throw new Error('no plain form: ' + e.type);
-  const text = row.text === undefined ? '' : row.text.split('.').reduce((at, field) => at[field], e);
+  const text = e.type === 'Program' ? PROGRAM_TEXT[language] : row.text === undefined ? '' : row.text.split('.').reduce((at, field) => at[field], e);
   const flags = Object.fromEntries(row.flags.map((flag) => [flag, FLAG[flag] === undefined ? e[flag] : FLAG[flag](e)]));
-  const parts = e.type === 'TemplateLiteral' ? templateParts(e) : row.parts.flatMap(({ field, isList }) => (isList ? [...e[field]] : [e[field]]));
   return {
     kind: e.type, text, flags: { ...noFlags(), ...flags }, start: e.start ?? 0, stop: e.end ?? 0,
-    parts: parts.map((p) => (p === null || p === undefined ? null : plainTree(p))), from: e,
+    parts: partsOf(row, e).map((p) => (p === null || p === undefined ? null : plainTree(p))), from: e,
   };
 }
 const copyTree = (n) => (n === null ? null : { kind: n.kind, text: n.text, flags: { ...n.flags }, start: n.start, stop: n.stop, parts: n.parts.map(copyTree) });
@@ -99,4 +119,4 @@ function bareText(n) {
 }
 function nodesOf(n, list = []) { list.push(n); for (const p of n.parts) if (p !== null) nodesOf(p, list); return list; }
 
-module.exports = { Model, NAMES, PLAIN_MODEL, CRATES, FLAGS, FORM, plainTree, copyTree, bareText, nodesOf, noFlags };
+module.exports = { Model, NAMES, PLAIN_MODEL, CRATES, FLAGS, FORM, LANGUAGE, PROGRAM_TEXT, plainTree, copyTree, bareText, nodesOf, noFlags };

@@ -11,7 +11,7 @@ const { GOAL, makeSource, scan, stringValue, templateValue, lineColumn } = requi
 const points = (text) => [...text].map((c) => c.codePointAt(0));
 const units = (text) => Array.from({ length: text.length }, (_, i) => text.charCodeAt(i));
 const show = (cs) => JSON.stringify(String.fromCodePoint(...cs));
-const WORD = { name: 'IdentifierName', punctuator: 'Punctuator', number: 'NumericLiteral', string: 'StringLiteral', template: 'Template', regexp: 'RegularExpressionLiteral', end: 'End' };
+const WORD = { name: 'IdentifierName', punctuator: 'Punctuator', number: 'NumericLiteral', string: 'StringLiteral', template: 'Template', regexp: 'RegularExpressionLiteral', private: 'PrivateName', end: 'End' };
 const yes = (o) => (o.$.name === 'None' ? null : antt.toArray(o.a[0]));
 
 // [{what, detail}] of one text; `info` counts
@@ -60,7 +60,7 @@ function compareReading(m, text, info) {
           ours.push(`${t.class.$.name} ${show(cs.slice(j, t.end))} ${byteOf[j]}-${byteOf[t.end]} ${broken}`);
         }
       }
-      const t = scan(text, indexOf[i], GOAL[goal]);
+      const t = scan(text, indexOf[i], GOAL[goal], i === 0 && text.startsWith('#!') ? 2021 : 2022);
       const theirs = t.cls === 'fault' ? [] : [`${WORD[t.cls]} ${JSON.stringify(t.text)} ${source.byteAt(t.start)}-${source.byteAt(t.end)} ${t.afterBreak}`];
       info.count('tokens looked for (place and goal)');
       if (theirs.length > 0) info.count(`tokens read: ${WORD[t.cls]}`);

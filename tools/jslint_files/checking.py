@@ -24,16 +24,16 @@ def answer_of(status, out, err):
 class Checker:
     """Checks scripts: with which settings, and what is asked for beside the answer."""
 
-    def __init__(self, engine, settings_for, has_hints=False, is_noted=False, has_suppressions=False, has_ends=False):
-        self.engine, self.settings_for, self.has_hints, self.is_noted, self.has_suppressions = engine, settings_for, has_hints, is_noted, has_suppressions
+    def __init__(self, engine, settings_for, languages, has_hints=False, is_noted=False, has_suppressions=False, has_ends=False):
+        self.engine, self.settings_for, self.languages, self.has_hints, self.is_noted, self.has_suppressions = engine, settings_for, languages, has_hints, is_noted, has_suppressions
         self.has_ends = has_ends
 
-    def fixed(self, text):
+    def fixed(self, text, language):
         """What stands for the fixed text of a script, which may be far longer than it: a sum. None where it is refused."""
         import hashlib
         total = hashlib.sha256()
         with TRACES.new_file(None) as (file, _):
-            if self.engine.run('fix', text.encode(), out=file)[0]:
+            if self.engine.run('fix', text.encode(), out=file, language=language)[0]:
                 return None
             file.seek(0)
             for part in iter(lambda: file.read(PART), b''):
@@ -43,23 +43,24 @@ class Checker:
     def outcome(self, name, text=None):
         """What is found in a file, or in a text that is as good as one of that name."""
         text, settings = read(name) if text is None else text, self.settings_for(name)
-        status, out, err = self.engine.run('check', text, settings)
+        language = self.languages.of(name)
+        status, out, err = self.engine.run('check', text, settings, language=language)
         answer = answer_of(status, out, err)
         if answer is None:
             found = refusal(status, err, 'checked').found
             if self.has_hints:
-                add_hint(found, text, self.is_noted)
+                add_hint(found, text, self.is_noted, language or self.languages.language_of(settings))
             return Outcome([found], text=text)
         came = Outcome(answer=answer, text=text)
         if answer and self.has_ends:
-            self.add_ends(came.found, text, settings)
+            self.add_ends(came.found, text, settings, language)
         if self.has_suppressions and TURNS_OFF in text:
-            came.list = suppressed(came.found, text.decode(), self.fixed)
+            came.list = suppressed(came.found, text.decode(), lambda it: self.fixed(it, language))
         return came
 
-    def add_ends(self, found, text, settings):
+    def add_ends(self, found, text, settings, language):
         """Puts to each report where it ends. A program or a library that doesn't say that of just these reports leaves them as they are."""
-        status, out, err = self.engine.run('spans', text, settings)
+        status, out, err = self.engine.run('spans', text, settings, language=language)
         spans = SPAN.findall(out.decode(errors='replace')) if status == 1 and not err else []
         places = places_at(text, {int(it) for span in spans for it in span[:2]})
         if [(*places[int(start)], rule, words) for start, _, rule, words in spans] == [(it.line, it.column, it.rule, it.text) for it in found]:

@@ -10,6 +10,9 @@ from .traces import TRACES
 COMMANDS = {'check': 0, 'tree': 1, 'fix': 2, 'cost': 3, 'verify': 4, 'unwrap': 5, 'spans': 6}
 # The program's words for a command that isn't one of its own.
 WORDS = {'spans': ('check', '--spans')}
+# What asks for a language: the program's words, and the library's numbers.
+LANGUAGE_WORDS = {None: (), '2020': ('--edition', '2020'), '2022': ('--edition', '2022'), 'module': ('--module',)}
+LANGUAGE_NUMBERS = {None: 0, '2020': 1, '2022': 2, 'module': 3}
 # The stack of a thread that calls the library: scripts at both limits of nesting take 6 MiB.
 STACK = 16 << 20
 # Room for an answer that each thread has at first, and the most that one keeps.
@@ -61,10 +64,10 @@ class Program:
                 self.files[settings].flush()
             return self.files[settings].fileno()
 
-    def run(self, command, text, settings=b'', out=None):
+    def run(self, command, text, settings=b'', out=None, language=None):
         """What it answers for a text: its status, and its two streams; the first goes to a file where one is given."""
         from subprocess import PIPE
-        words, passed = [self.path, *WORDS.get(command, (command,))], ()
+        words, passed = [self.path, *WORDS.get(command, (command,)), *LANGUAGE_WORDS[language]], ()
         if settings:
             passed = (self.file_of(settings),)
             words += ['--settings', f'/dev/fd/{passed[0]}']
@@ -92,8 +95,8 @@ class Library:
 
     def __init__(self, path, here):
         stretch = [ctypes.c_char_p, ctypes.c_size_t]
-        self.call, self.here, self.kept = ctypes.CDLL(path).jslint_answer, here, threading.local()
-        self.call.restype, self.call.argtypes = None, [ctypes.c_uint32, *stretch, *stretch, ctypes.c_void_p, ctypes.c_size_t, ctypes.c_void_p]
+        self.call, self.here, self.kept = ctypes.CDLL(path).jslint_answer_in, here, threading.local()
+        self.call.restype, self.call.argtypes = None, [ctypes.c_uint32, ctypes.c_uint32, *stretch, *stretch, ctypes.c_void_p, ctypes.c_size_t, ctypes.c_void_p]
 
     def room(self, size):
         """This thread's room of so many bytes or more, and where its calls put their results."""
@@ -104,16 +107,16 @@ class Library:
             kept['result'] = Result()
         return kept['room'], kept['size'], kept['result']
 
-    def run(self, command, text, settings=b'', out=None):
+    def run(self, command, text, settings=b'', out=None, language=None):
         """As the program's; a text that goes to a file is written there."""
         size = max(ROOM, 2 * len(text))
         while True:
             room, size, result = self.room(size)
-            self.call(COMMANDS[command], text, len(text), settings, len(settings), room, size, ctypes.addressof(result))
+            self.call(LANGUAGE_NUMBERS[language], COMMANDS[command], text, len(text), settings, len(settings), room, size, ctypes.addressof(result))
             if result.length <= size:
                 break
             if out is not None and result.length > MOST_WRITTEN:
-                return Program(path_of_program(self.here)).run(command, text, settings, out)
+                return Program(path_of_program(self.here)).run(command, text, settings, out, language)
             size = result.length
         answer = ctypes.string_at(room, result.length)
         if size > MOST_KEPT:
@@ -158,19 +161,29 @@ def engine_of(here):
     return library_of(here) or Program(path_of_program(here))
 
 
-def taken(engine, text, name, is_placed=False):
+class InLanguage:
+    """The calls for scripts of a language."""
+
+    def __init__(self, engine, language):
+        self.engine, self.language = engine, language
+
+    def run(self, command, text, settings=b'', out=None):
+        return self.engine.run(command, text, settings, out, self.language)
+
+
+def taken(engine, text, name, is_placed=False, language=None):
     """Settings, which are refused here once, and not for each script. Where it is asked for, with the line at which they begin to be wrong."""
-    status, _, err = engine.run('check', b'', text)
+    status, _, err = engine.run('check', b'', text, language=language)
     if status:
         words = said(status, err, 'checked')
-        raise Wrong(f'{shown(name)}: {words}{line_of_fault(engine, text) if is_placed and err and not PLACED.fullmatch(words) else ""}')
+        raise Wrong(f'{shown(name)}: {words}{line_of_fault(engine, text, language) if is_placed and err and not PLACED.fullmatch(words) else ""}')
     return text
 
 
-def line_of_fault(engine, text):
+def line_of_fault(engine, text, language):
     """Behind how many lines settings are wrong: the most lines from the first on that are taken, as far as few enough calls tell that."""
     lines = text.split(b'\n') if len(text) <= MOST_PLACED else []
     for count in range(len(lines) - 1, max(len(lines) - MOST_LINES, 0) - 1, -1):
-        if engine.run('check', b'', b'\n'.join(lines[:count]))[0] == 0:
+        if engine.run('check', b'', b'\n'.join(lines[:count]), language=language)[0] == 0:
             return f' (line {count + 1})'
     return ''

@@ -40,18 +40,18 @@ def index_of(text, line, column):
     return min(at + column - 1, len(text))
 
 
-def hint_of(text, words, line, column):
-    """The row of the table that holds, or None."""
+def hint_of(text, words, line, column, language=None):
+    """The row of the table that holds of a text of a language, or None."""
     index, number = index_of(text, line, column), re.fullmatch(r'early error E(\d+)', words)
     before, at = text[max(0, index - MOST_BEFORE):index], text[index:index + MOST_AT]
     syntax, early = tables()
     if words == 'syntax error':
-        return next((row for row, front, back in syntax if back.match(at) and front.search(before)), None)
-    return next((row for row, back in early if number and row['number'] == int(number[1]) and back.match(at.split('\n')[0])), None)
+        return next((row for row, front, back in syntax if language not in row.get('readBy', ()) and back.match(at) and front.search(before)), None)
+    return next((row for row, back in early if number and language not in row.get('readBy', ()) and row['number'] == int(number[1]) and back.match(at.split('\n')[0])), None)
 
 
-def add_hint(found, text, is_noted):
+def add_hint(found, text, is_noted, language):
     """Puts a guess to a refusal, and makes it a note where that is asked for and the profile lacks what is guessed."""
-    row = hint_of(text.decode(errors='replace'), found.text, found.line, found.column)
+    row = hint_of(text.decode(errors='replace'), found.text, found.line, found.column, language)
     if row:
         found.hint, found.is_unsupported, found.is_noted = row['hint'], row['lacks'], row['lacks'] and is_noted

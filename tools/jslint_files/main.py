@@ -1,6 +1,6 @@
-"""usage: jslint-files [check] [--settings FILE] [--format FORM] [--color WHEN] [--hints] [--ends] [--unsupported error|note] [--suppressions]
+"""usage: jslint-files [check] [--edition 2020|2022] [--module] [--settings FILE] [--format FORM] [--color WHEN] [--hints] [--ends] [--unsupported error|note] [--suppressions]
                     [--max-warnings N] [--project] [--stdin NAME] [--summary] [--jobs N] [--files-from FILE] [--] [FILE ..]
-       jslint-files fix --write|--diff [--drop-comments] [--hints] [--unsupported error|note] [--project] [--stdin NAME] [--summary] [--jobs N]
+       jslint-files fix --write|--diff [--edition 2020|2022] [--module] [--drop-comments] [--hints] [--unsupported error|note] [--project] [--stdin NAME] [--summary] [--jobs N]
                     [--files-from FILE] [--] [FILE ..]
        jslint-files unwrap --write|--diff [the same, but for --drop-comments] [--] [FILE ..]
        jslint-files --explain RULE|E1..E21
@@ -13,9 +13,11 @@ What `jslint check` finds in several scripts, each report with its file's name, 
 
   FILE                a script, or a pattern such as 'src/**/*.js' (in quotes, so that the shell leaves it alone); ** follows no link to a folder
   --files-from FILE   the names that FILE has, each ended by a line feed, or by a zero byte if there is any; - is standard input
-  --project           FILE may be a folder, the current one where none is named: its *.js, but for what .gitignore, .jslintignore and .git/info/exclude
+  --project           FILE may be a folder, the current one where none is named: its *.js and *.mjs, but for what .gitignore, .jslintignore and .git/info/exclude
                       name, links, node_modules and .git. Without --settings, each script is checked with the nearest jslint.toml above it. All these files are
                       looked for up to the folder that has .git
+  --edition, --module the language of each script (jslint). Without them a script named *.mjs is a module, and with --project each *.js whose nearest
+                      package.json says "type": "module", if the settings leave modules; of others the settings say it, or they are of the base profile
   --stdin NAME        the script on standard input, as if it were the file NAME. Rewritten, it goes to standard output, or --diff shows how it differs
   --settings FILE     for each script (jslint check --settings)
   --format unix       FILE:LINE:COLUMN: RULE TEXT, as GNU's compilers do (this is what is printed without --format)
@@ -56,6 +58,7 @@ from concurrent.futures import ThreadPoolExecutor
 from . import forms, names as meant
 from .checking import Checker
 from .engine import STACK, Library, engine_of, path_of_program, Program, taken
+from .languages import Languages, asked
 from .outcomes import Outcome, Refused
 from .progress import Progress, Tally
 from .project import Project
@@ -81,9 +84,11 @@ class Run:
         self.progress, self.tally = Progress(len(self.names)), Tally(options['summary'])
         if self.is_check:
             has_ends = options['ends'] or options['format'] in ('pretty', 'sarif')
-            self.worker = Checker(self.engine, self.settings(), has_hints(options), is_noted, options['suppressions'], has_ends)
+            settings_for = self.settings()
+            languages = Languages(self.engine, options, self.project, settings_for)
+            self.worker = Checker(self.engine, settings_for, languages, has_hints(options), is_noted, options['suppressions'], has_ends)
         else:
-            self.worker = Rewriter(self.engine, options, is_noted)
+            self.worker = Rewriter(self.engine, options, Languages(self.engine, options, self.project).of, is_noted)
 
     def named(self, names):
         """The files, in their order."""
@@ -103,13 +108,13 @@ class Run:
                 text = read(name)
             except Refused as why:
                 raise Wrong(f'{shown(name)}: {why}') from None
-            taken(self.engine, text, name)
+            taken(self.engine, text, name, language=asked(self.options))
             return lambda _: text
         if not self.options['project']:
             return lambda _: b''
         found = {it: self.project.settings_of(os.path.realpath(it)) for it in {os.path.dirname(it) for it in self.names}}
         for path, text in sorted(set(filter(None, found.values()))):
-            taken(self.engine, text, path, is_placed=True)
+            taken(self.engine, text, path, is_placed=True, language=asked(self.options))
         texts = {it: settings[1] if settings else b'' for it, settings in found.items()}
         return lambda it: texts[os.path.dirname(it)]
 

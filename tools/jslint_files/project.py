@@ -9,6 +9,8 @@ from .streams import Wrong, shown
 SETTINGS = 'jslint.toml'
 # What the first says goes before what the second says. The third is in the top folder of a repository alone.
 IGNORES = ('.jslintignore', '.gitignore', '.git/info/exclude')
+# How the names of scripts and modules end.
+SCRIPTS = ('.js', '.mjs')
 # Folders that nobody has checked.
 LEFT_OUT = ('.git', 'node_modules')
 
@@ -90,7 +92,7 @@ class Project:
     def entry_of(self, folder, it):
         """What an entry of a folder is: a script's name, a folder, or None."""
         is_folder = it.is_dir(follow_symlinks=False)
-        if it.name in LEFT_OUT if is_folder else not it.name.endswith('.js') or not it.is_file(follow_symlinks=False):
+        if it.name in LEFT_OUT if is_folder else not it.name.endswith(SCRIPTS) or not it.is_file(follow_symlinks=False):
             return None
         parts = [*folder.parts, it.name]
         if any(folder.patterns_at) and verdict(parts, is_folder, folder.patterns_at):

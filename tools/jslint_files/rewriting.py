@@ -6,6 +6,7 @@ import os
 import re
 import stat
 
+from .engine import InLanguage
 from .hints import add_hint
 from .outcomes import LINE_END, Outcome, Refused, refusal
 from .reading import MOST, read
@@ -137,8 +138,8 @@ def differs(file, text):
 class Rewriter:
     """Rewrites scripts by a command, or says how they would differ."""
 
-    def __init__(self, engine, options, is_noted=False):
-        self.engine, self.options, self.has_hints, self.is_noted = engine, options, has_hints(options), is_noted
+    def __init__(self, engine, options, language_for, is_noted=False):
+        self.engine, self.options, self.language_for, self.has_hints, self.is_noted = engine, options, language_for, has_hints(options), is_noted
 
     def outcome(self, name, text=None):
         """What comes of a file, or of a text that is as good as one of that name."""
@@ -146,28 +147,30 @@ class Rewriter:
         if text is None and os.path.exists(name) and not os.path.isfile(path):
             raise Refused(f'not {"rewritten" if self.options["write"] else "compared"}: no regular file')
         given, text = text, read(path) if text is None else text
+        language = self.language_for(name)
+        engine = InLanguage(self.engine, language)
         try:
-            hold_comments(self.engine, self.options, text)
-            return self.replaced(path, text) if self.options['write'] else self.made(name, text, given is not None)
+            hold_comments(engine, self.options, text)
+            return self.replaced(engine, path, text) if self.options['write'] else self.made(engine, name, text, given is not None)
         except Refused as why:
             if self.has_hints:
-                add_hint(why.found, text, self.is_noted)
+                add_hint(why.found, text, self.is_noted, language)
             raise
 
-    def replaced(self, path, text):
+    def replaced(self, engine, path, text):
         """Replaces a file by what the program makes of it."""
         with TRACES.new_file(os.path.dirname(path)) as (file, new):
-            write_changed(self.engine, self.options, text, file)
+            write_changed(engine, self.options, text, file)
             is_changed = differs(file, text)
             if is_changed:
                 os.fsync(file.fileno())
                 replace(path, text, new)
         return Outcome(is_changed=is_changed)
 
-    def made(self, name, text, is_given):
+    def made(self, engine, name, text, is_given):
         """How a text would differ; or the rewritten text, where there is no file to compare."""
         with TRACES.new_file(None) as (file, new):
-            write_changed(self.engine, self.options, text, file)
+            write_changed(engine, self.options, text, file)
             if self.options['diff'] or not is_given:
                 return Outcome(difference=difference(text, new, name) if differs(file, text) else b'')
             file.seek(0)

@@ -7,11 +7,11 @@ from .streams import Wrong, shown
 
 COMMANDS = ('check', 'fix', 'unwrap')
 FORMS = ('unix', 'pretty', 'json', 'sarif', 'junit', 'github')
-FLAGS = ('help', 'version', 'write', 'diff', 'drop-comments', 'project', 'hints', 'ends', 'suppressions', 'summary')
-VALUES = ('format', 'settings', 'jobs', 'files-from', 'stdin', 'color', 'unsupported', 'max-warnings', 'explain')
+FLAGS = ('help', 'version', 'module', 'write', 'diff', 'drop-comments', 'project', 'hints', 'ends', 'suppressions', 'summary')
+VALUES = ('format', 'settings', 'jobs', 'files-from', 'stdin', 'color', 'unsupported', 'max-warnings', 'explain', 'edition')
 # Those that `check` alone takes.
 CHECKING = ('format', 'settings', 'color', 'ends', 'suppressions', 'max-warnings', 'explain')
-CHOICES = {'format': FORMS, 'unsupported': ('error', 'note'), 'color': ('auto', 'always', 'never')}
+CHOICES = {'edition': ('2020', '2022'), 'format': FORMS, 'unsupported': ('error', 'note'), 'color': ('auto', 'always', 'never')}
 # The forms that show a guess at what a refused script has without being asked for it.
 HINTING = ('pretty', 'sarif', 'junit')
 
@@ -49,6 +49,8 @@ def judge(options, names):
     for name, choices in CHOICES.items():
         if options[name] not in (None, *choices):
             raise Wrong(f'--{name} is {in_words(choices)}')
+    if options['module'] and options['edition'] == '2020':
+        raise Wrong("--module doesn't go with --edition 2020")
     for name in ('write', 'diff') if is_check else CHECKING:
         if options[name] not in (None, False):
             raise Wrong(f'--{name} is for {"fix and unwrap" if is_check else "check"}')

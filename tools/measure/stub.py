@@ -31,6 +31,27 @@ def needed(text):
         names=[n for n in m.group(2).split(', ') if '◌' in n or re.search(r'(?<![-\w+])'+re.escape(n.split(' as ')[-1])+r'(?![-\w+])',body)]
         return 'use '+m.group(1)+'.{'+', '.join(names)+'}' if names else None
     return '\n'.join(y for y in map(line,text.split('\n')) if y is not None)
+asked={}
+for f in glob.glob(src+'src/*.rt'):
+    for m in re.finditer(r'fn (\w+)(?:[^{;]|\{(?!\n))*?(?=\n\s*\{\n)',open(f).read()):
+        asked[m.group(1)]=re.findall(r'\n\s*requires (\w*) ?\{',m.group(0))
+def fields(text,count):
+    # what a call asks, (measure, (one, (two, three))), clause by clause
+    text=text.strip()
+    if count==1: return [text]
+    depth=0
+    for i,c in enumerate(text):
+        depth+=(c in '([{')-(c in ')]}')
+        if depth==1 and text.startswith(', ',i): return [text[1:i]]+fields(text[i+2:-1],count-1)
+    return [text]
+def record(e,k):
+    # the third form of answers of the cycle (lib.rt), as a stub has it
+    m=re.search(r'(?ms)^'+k+r'-(\w+)-requires t c =.*?(?=\(search rules, )',e)
+    if m is None or not asked.get(m.group(1)): return e
+    names=asked[m.group(1)]
+    parts=fields(e[m.end():],len(names)+1)[1:]
+    if names==['']: return e[:m.end()]+parts[0]
+    return e[:m.end()]+'record { '+'; '.join(a+' = '+b for a,b in zip(names,parts))+' }'
 for k in keep:
     own=k=='read_symbols'
     for f in ('Answers','Invariants'):
@@ -45,6 +66,7 @@ for k in keep:
             if nm.startswith(k+'-') or nm=='invariant-'+k or nm.startswith('invariant-'+k+'-') or nm.startswith('decreases-'+k+'-') or nm=='decreases-'+k and own:
                 if nm.startswith(('invariant-'+k+'-','decreases-'+k+'-')): e=e.replace(nm,nm.replace('-'+k+'-','-',1))
                 if not own:
+                    e=record(e,k)
                     e=re.sub(r'(?m)^([\w\-\+]+) t c =',r'\1 c =',e)
                     e=re.sub(r'(returns-[\w+-]*) t c\)',r'\1 c)',e)
                 mine.append(e)

@@ -1,5 +1,5 @@
 'use strict';
-// The early errors.
+// The early errors: those of the base profile, and those of the language of 2022.
 // earlyErrors(tree, text) answers every error as {number, at} (byte offsets), sorted by
 // place, then by number; the first one is what `read_script` names.
 
@@ -7,6 +7,8 @@ const isFunction = (node) =>
   node.type === 'FunctionDeclaration' || node.type === 'FunctionExpression' || node.type === 'ArrowFunctionExpression';
 const isLoop = (node) => ['WhileStatement', 'DoWhileStatement', 'ForStatement', 'ForInStatement', 'ForOfStatement']
   .includes(node.type);
+
+const { RESERVED } = require('./scan.js');
 
 // The declaring identifiers of a name or pattern, in source order.
 function boundNames(pattern) {
@@ -37,9 +39,19 @@ function assignedNames(target) {
   }
 }
 
-// Lexical names of a list. `top`: of a Program or function body.
+// What an export declares, or the item itself.
+const declarationOf = (item) => {
+  if (item.type === 'ExportNamedDeclaration') return item.declaration;
+  if (item.type === 'ExportDefaultDeclaration') return /Declaration$/.test(item.declaration.type) && item.declaration.id !== null ? item.declaration : null;
+  return item;
+};
+
+// Lexical names of a list. `top`: of a Program that is a script, a function body or a static block.
 function lexicalNames(list, top) {
-  return list.flatMap((item) => {
+  return list.flatMap((outer) => {
+    const item = declarationOf(outer);
+    if (item === null) return [];
+    if (item.type === 'ImportDeclaration') return item.specifiers.map((s) => s.local);
     if (isDeclaration(item, 'let', 'const')) return declaredBy(item);
     if (item.type === 'ClassDeclaration') return [item.id];
     if (item.type === 'FunctionDeclaration' && !top) return [item.id];
@@ -52,6 +64,7 @@ function varNames(node) {
   if (node === null) return [];
   switch (node.type) {
     case 'VariableDeclaration': return node.kind === 'var' ? declaredBy(node) : [];
+    case 'ExportNamedDeclaration': return varNames(node.declaration);
     case 'BlockStatement': return node.body.flatMap(varNames);
     case 'IfStatement': return [...varNames(node.consequent), ...varNames(node.alternate)];
     case 'LabeledStatement': case 'WhileStatement': case 'DoWhileStatement': return varNames(node.body);
@@ -74,9 +87,50 @@ function repeated(names) {
 const nameSet = (ids) => new Set(ids.map((id) => id.name));
 
 const keyValue = (member) =>
-  (member.computed ? null : member.key.type === 'Identifier' ? member.key.name : member.key.value ?? null);
+  (member.computed || member.key.type === 'PrivateIdentifier' ? null : member.key.type === 'Identifier' ? member.key.name : member.key.value ?? null);
 
-function earlyErrors(tree) {
+const isLoneString = (node) => node.type === 'Literal' && node.value === undefined;
+
+// What is wrong with the names that a module imports and exports: {number, node} each.
+function moduleErrors(items) {
+  const found = [];
+  const declared = new Set([...lexicalNames(items, false), ...items.flatMap(varNames)].map((id) => id.name));
+  const exported = new Set();
+  const name = (node) => (node.type === 'Literal' ? node.value ?? node.raw : node.name);
+  const exportName = (text, node) => {
+    if (exported.has(text)) found.push({ number: 31, node });
+    exported.add(text);
+  };
+  for (const item of items) {
+    if (item.type === 'ImportDeclaration') {
+      for (const s of item.specifiers) if (s.type === 'ImportSpecifier' && isLoneString(s.imported)) found.push({ number: 34, node: s.imported });
+    } else if (item.type === 'ExportAllDeclaration') {
+      if (item.exported !== null) {
+        if (isLoneString(item.exported)) found.push({ number: 34, node: item.exported });
+        exportName(name(item.exported), item.exported);
+      }
+    } else if (item.type === 'ExportDefaultDeclaration') exportName('default', item);
+    else if (item.type === 'ExportNamedDeclaration') {
+      if (item.declaration !== null) {
+        const d = item.declaration;
+        for (const id of d.type === 'VariableDeclaration' ? declaredBy(d) : [d.id]) exportName(id.name, id);
+      }
+      for (const s of item.specifiers) {
+        for (const node of [s.local, s.exported]) if (isLoneString(node)) found.push({ number: 34, node });
+        if (item.source === null) {
+          if (s.local.type === 'Literal' || RESERVED.has(s.local.name) || s.local.name === 'await') found.push({ number: 32, node: s.local });
+          else if (!declared.has(s.local.name)) found.push({ number: 33, node: s.local });
+        }
+        exportName(name(s.exported), s.exported);
+      }
+    }
+  }
+  return found;
+}
+
+function earlyErrors(tree, text, { edition = 2021 } = {}) {
+  const flagLetters = edition >= 2022 ? 'dgimsuy' : 'gimsuy';
+  const isModule = tree.sourceType === 'module';
   const errors = new Map();
   const report = (number, node) => errors.set(`${node.start} ${number}`, { number, at: node.start });
 
@@ -125,45 +179,117 @@ function earlyErrors(tree) {
   function checkClass(node) {
     if (node.id !== null) restricted([node.id]);
     let constructors = 0;
+    const declarations = new Map();
     for (const member of node.body.body) {
+      if (member.type === 'StaticBlock') continue;
+      if (member.key.type === 'PrivateIdentifier') {
+        const name = member.key.name;
+        if (name === 'constructor') report(25, member.key);
+        declarations.set(name, [...(declarations.get(name) ?? []), member]);
+      }
+      if (member.type === 'PropertyDefinition') {
+        const value = keyValue(member);
+        if (value === 'constructor') report(24, member.key);
+        if (member.static && value === 'prototype') report(19, member.key);
+        continue;
+      }
       if (member.kind === 'constructor' && ++constructors > 1) report(17, member.key);
       const value = keyValue(member);
       const accessor = member.kind === 'get' || member.kind === 'set';
-      if (accessor && !member.static && value === 'constructor') report(18, member.key);
+      const special = accessor || member.value.async || member.value.generator;
+      if (special && !member.static && value === 'constructor') report(18, member.key);
       if (member.static && value === 'prototype') report(19, member.key);
+    }
+    for (const list of declarations.values()) {
+      const isPair = list.length === 2 && list[0].static === list[1].static &&
+        list.some((m) => m.kind === 'get') && list.some((m) => m.kind === 'set');
+      if (!isPair) list.slice(1).forEach((m) => report(26, m.key));
     }
   }
 
   // `context`: what surrounds a node.
   //   labels: [{name, loop}] of the same function, innermost last; breakable, loop: booleans
   //   superProperty, superCall, newTarget: what is allowed here
+  //   yields, awaits: in the body of a generator, of an async function; awaits also outside functions in a module
+  //   noArguments: in a field's value or a static block; privates: the private names of the classes around
   function walk(node, context) {
     if (node === null) return;
     const walkAll = (list, c = context) => list.forEach((item) => walk(item, c));
     const inBody = (changes) => ({ ...context, ...changes });
     // The scope of a function's parameters and body. `method` is null for plain functions.
     const functionContext = (fn, method) => {
-      const fresh = { labels: [], breakable: false, loop: false };
+      const fresh = { labels: [], breakable: false, loop: false, yields: false, awaits: false };
       if (fn.type === 'ArrowFunctionExpression') return { ...context, ...fresh };
-      return { ...fresh, superProperty: method !== null, superCall: method === 'derived', newTarget: true };
+      return { ...fresh, superProperty: method !== null, superCall: method === 'derived', newTarget: true, noArguments: false, privates: context.privates };
     };
     const walkFunction = (fn, method) => {
       checkFunction(fn);
       const inner = functionContext(fn, method);
       walkAll(fn.params, inner);
+      const body = { ...inner, yields: fn.generator, awaits: fn.async };
       if (fn.body.type === 'BlockStatement') {
         checkList(fn.body.body, true);
-        walkAll(fn.body.body, inner);
-      } else walk(fn.body, inner);
+        walkAll(fn.body.body, body);
+      } else walk(fn.body, body);
     };
+    // Round the value of a field and in a static block.
+    const initContext = (privates) => ({
+      labels: [], breakable: false, loop: false, superProperty: true, superCall: false, newTarget: true, forInOfHead: false,
+      yields: false, awaits: false, noArguments: true, privates,
+    });
 
-    if (isFunction(node)) { walkFunction(node, null); return; }
+    if (isFunction(node)) {
+      const { method = null } = context;
+      if (method !== null) context = { ...context, method: null };
+      walkFunction(node, method);
+      return;
+    }
     const loopContext = () => inBody({ breakable: true, loop: true });
+    const walkMembers = (cls) => {
+      const own = cls.body.body.filter((m) => m.type !== 'StaticBlock' && m.key.type === 'PrivateIdentifier').map((m) => m.key.name);
+      const privates = new Set([...context.privates, ...own]);
+      const keys = inBody({ privates });
+      for (const member of cls.body.body) {
+        if (member.type === 'StaticBlock') {
+          checkList(member.body, true);
+          walkAll(member.body, initContext(privates));
+          continue;
+        }
+        if (member.computed) walk(member.key, keys);
+        if (member.type === 'PropertyDefinition') { walk(member.value, initContext(privates)); continue; }
+        const derived = member.kind === 'constructor' && cls.superClass !== null;
+        walkMethod(member.value, derived ? 'derived' : 'method', privates);
+      }
+    };
+    const walkMethod = (fn, method, privates) => walk(fn, { ...context, privates, method });
 
     switch (node.type) {
       case 'Program':
-        checkList(node.body, true);
+        checkList(node.body, !isModule);
+        if (isModule) moduleErrors(node.body).forEach((e) => report(e.number, e.node));
         walkAll(node.body);
+        return;
+      case 'ImportDeclaration':
+        restricted(node.specifiers.map((s) => s.local));
+        return;
+      case 'ExportAllDeclaration':
+        return;
+      case 'ExportNamedDeclaration':
+        walk(node.declaration, context);
+        return;
+      case 'Identifier':
+        if (context.noArguments && node.name === 'arguments') report(28, node);
+        return;
+      case 'PrivateIdentifier':
+        if (!context.privates.has(node.name)) report(27, node);
+        return;
+      case 'YieldExpression':
+        if (!context.yields) report(22, node);
+        walk(node.argument, context);
+        return;
+      case 'AwaitExpression':
+        if (!context.awaits) report(23, node);
+        walk(node.argument, context);
         return;
       case 'BlockStatement':
         checkList(node.body, false);
@@ -209,6 +335,8 @@ function earlyErrors(tree) {
         return;
       case 'ForInStatement':
       case 'ForOfStatement':
+        if (node.await === true && !context.awaits) report(23, node);
+        if (edition >= 2022 && node.await === false && node.left.type === 'Identifier' && node.left.name === 'async') report(35, node.left);
         if (node.left.type === 'VariableDeclaration') walk(node.left, inBody({ forInOfHead: true }));
         else { assign(node.left); walk(node.left, context); }
         checkForHead(node.left, node.body);
@@ -238,12 +366,13 @@ function earlyErrors(tree) {
         return;
       case 'UnaryExpression':
         if (node.operator === 'delete' && node.argument.type === 'Identifier') report(2, node);
+        if (node.operator === 'delete' && endsInPrivate(node.argument)) report(29, node);
         walk(node.argument, context);
         return;
       case 'MemberExpression':
         if (node.object.type === 'Super') { if (!context.superProperty) report(14, node.object); }
         else walk(node.object, context);
-        if (node.computed) walk(node.property, context);
+        if (node.computed || node.property.type === 'PrivateIdentifier') walk(node.property, context);
         return;
       case 'CallExpression':
         if (node.callee.type === 'Super') { if (!context.superCall) report(15, node.callee); }
@@ -251,18 +380,14 @@ function earlyErrors(tree) {
         walkAll(node.arguments);
         return;
       case 'MetaProperty':
-        if (!context.newTarget) report(16, node);
+        if (node.meta.name === 'import') { if (!isModule) report(30, node); }
+        else if (!context.newTarget) report(16, node);
         return;
       case 'ClassDeclaration':
       case 'ClassExpression':
         checkClass(node);
         walk(node.superClass, context);
-        for (const member of node.body.body) {
-          if (member.computed) walk(member.key, context);
-          const derived = member.kind === 'constructor' && node.superClass !== null;
-          walkFunction(member.value, derived ? 'derived' : 'method');
-        }
-        return;
+        return walkMembers(node, context);
       case 'Property':
         if (node.computed) walk(node.key, context);
         if (node.method || node.kind !== 'init') walkFunction(node.value, 'method');
@@ -279,7 +404,7 @@ function earlyErrors(tree) {
       case 'Literal':
         if (node.regex !== undefined) {
           const flags = [...node.regex.flags];
-          if (flags.some((f) => !'gimsuy'.includes(f)) || new Set(flags).size !== flags.length) report(21, node);
+          if (flags.some((f) => !flagLetters.includes(f)) || new Set(flags).size !== flags.length) report(21, node);
         }
         return;
       default:
@@ -293,8 +418,12 @@ function earlyErrors(tree) {
 
   walk(tree, {
     labels: [], breakable: false, loop: false, superProperty: false, superCall: false, newTarget: false, forInOfHead: false,
+    yields: false, awaits: isModule, noArguments: false, privates: new Set(),
   });
   return [...errors.values()].sort((a, b) => a.at - b.at || a.number - b.number);
 }
+
+const endsInPrivate = (node) => (node.type === 'ChainExpression' ? endsInPrivate(node.expression)
+  : node.type === 'MemberExpression' && node.property.type === 'PrivateIdentifier');
 
 module.exports = { earlyErrors, boundNames, varNames, lexicalNames };

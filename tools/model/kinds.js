@@ -82,6 +82,27 @@ const ROWS = [
   ['ClassDeclaration', 'statement', 'id name, superClass LeftHandSide?, body node'],
 ];
 
+// The kinds of the language of 2022, and older ones that have a flag more there. parse.js, early.js and ../definitions know these, nothing else yet.
+const ROWS_OF_2022 = [
+  ['YieldExpression', 'expression', 'argument Assignment?', { rank: 'Assignment', flags: 'form', fields: 'argument delegate' }],
+  ['AwaitExpression', 'expression', 'argument Unary', { rank: 'Unary' }],
+  ['PrivateIdentifier', 'part', '', { text: 'name' }],
+  ['PropertyDefinition', 'part', 'key node, value Assignment?', { flags: 'computed is_static', fields: 'key value computed static' }],
+  ['StaticBlock', 'part', 'body statement..'],
+  ['ImportDeclaration', 'part', 'specifiers node.., source node'],
+  ['ImportSpecifier', 'part', 'imported node, local node', { flags: 'form', fields: 'imported local' }],
+  ['ImportDefaultSpecifier', 'part', 'local node'],
+  ['ImportNamespaceSpecifier', 'part', 'local node'],
+  ['ExportNamedDeclaration', 'part', 'declaration node?, specifiers node.., source node?'],
+  ['ExportSpecifier', 'part', 'local node, exported node', { flags: 'form', fields: 'local exported' }],
+  ['ExportDefaultDeclaration', 'part', 'declaration node'],
+  ['ExportAllDeclaration', 'part', 'exported node?, source node'],
+  ['FunctionExpression', 'expression', 'id name?, params binding.., body node', { rank: 'Primary', flags: 'form', fields: 'id params body generator async' }],
+  ['FunctionDeclaration', 'statement', 'id name?, params binding.., body node', { flags: 'form', fields: 'id params body generator async' }],
+  ['ArrowFunctionExpression', 'expression', 'params binding.., body node', { rank: 'Assignment', flags: 'expression form', fields: 'params body async' }],
+  ['ForOfStatement', 'statement', 'left node, right Assignment, body statement', { flags: 'form', fields: 'left right body await' }],
+];
+
 // Kinds that are much alike: a tree with one of them in another's place is nearly right.
 const LIKE = `
 ArrayExpression ArrayPattern
@@ -121,6 +142,7 @@ function rowOf([kind, family, written, { rank, text, flags, fields, layout } = {
 }
 
 const KINDS = new Map(ROWS.map(rowOf).map((row) => [row.kind, row]));
+const KINDS_OF_2022 = new Map([...KINDS, ...ROWS_OF_2022.map(rowOf).map((row) => [row.kind, row])]);
 const ofFamily = (family) => [...KINDS.values()].filter((row) => row.family === family).map((row) => row.kind);
 const EXPRESSIONS = new Set(ofFamily('expression'));
 const STATEMENTS = new Set(ofFamily('statement'));
@@ -137,4 +159,4 @@ const laidOut = (shape) => [...KINDS.values()].map(({ kind, written = '' }) => [
 const WORD_STATEMENTS = new Map(laidOut(/^([a-z]+);$/).map(([kind, [, word]]) => [word, kind]));
 const WORD_CALLS = new Map(laidOut(/^([a-z]+)\(\{(\w+)\}\)$/).map(([kind, [, word, field]]) => [word, { kind, field }]));
 
-module.exports = { AROUND, EXPRESSIONS, KINDS, LIKE, STATEMENTS, WORD_CALLS, WORD_STATEMENTS, partsOf };
+module.exports = { AROUND, EXPRESSIONS, KINDS, KINDS_OF_2022, LIKE, STATEMENTS, WORD_CALLS, WORD_STATEMENTS, partsOf };

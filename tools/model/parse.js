@@ -5,7 +5,8 @@
 //   parse(textOrBuffer, options)      the whole front end (`read_script`): refusals 2, 1, 3, 4, 5
 //   parseOnly(textOrBuffer, options)  the same without early errors (`parser::parse`)
 //
-// options: edition (2021: with two additions of the 12th edition; 2020: without), maxHeight and maxParens (LIMITS).
+// options: edition (2022: the language of 2022; 2021: with two additions of the 12th edition; 2020:
+// without), module (a module of 2022, whatever the edition says), maxHeight and maxParens (LIMITS).
 // Answers {ok:true, tree, pairs, height, openParens, text} or
 // {ok:false, fault:{kind, at, number}, text}.
 
@@ -15,7 +16,7 @@ const { WORD_CALLS, WORD_STATEMENTS } = require('./kinds.js');
 const operators = require('./operators.js');
 const { GOAL, RESERVED, makeSource, scan, stringValue, templateValue } = require('./scan.js');
 
-// The limits of the height of a tree, and of the parentheses open at one point that group or hold an arrow's parameters.
+// The limits of the height of a tree, and of the parentheses open at one point that group or hold the parameters of an arrow that isn't async.
 const LIMITS = { maxHeight: 600, maxParens: 1200 };
 
 class Refusal extends Error {
@@ -35,6 +36,7 @@ const LOGICAL_OPERATORS = new Set(operators.LOGICAL);
 const ASSIGNMENT_OPERATORS = {
   2020: new Set(operators.inEdition(2020, operators.ASSIGNMENTS)),
   2021: new Set(operators.ASSIGNMENTS),
+  2022: new Set(operators.ASSIGNMENTS),
 };
 const UNARY_OPERATORS = new Set(operators.UNARY);
 
@@ -43,7 +45,9 @@ class Parser {
     this.text = source.text;
     this.byteAt = source.byteAt;
     this.byteLength = source.byteLength;
-    this.edition = options.edition ?? 2021;
+    this.module = options.module === true;
+    this.edition = this.module ? 2022 : options.edition ?? 2021;
+    this.modern = this.edition >= 2022;
     this.maxHeight = options.maxHeight ?? LIMITS.maxHeight;
     this.maxParens = options.maxParens ?? LIMITS.maxParens;
 
@@ -100,10 +104,21 @@ class Parser {
     return this.take(goal);
   }
 
-  isIdentifier(token) { return token.cls === 'name' && !RESERVED.has(token.text); }
+  isIdentifier(token) {
+    return token.cls === 'name' && !RESERVED.has(token.text) && !(this.modern && token.text === 'await');
+  }
+  isWord(token, word) { return token.cls === 'name' && token.text === word; }
 
   // The token behind the next one.
   secondToken() { return scan(this.text, this.peek().end, GOAL.Div, this.edition); }
+  tokenBehind(token) { return scan(this.text, token.end, GOAL.Div, this.edition); }
+
+  // `async`, and on its line `function`.
+  seesAsyncFunction() {
+    if (!this.modern || !this.isWord(this.peek(), 'async')) return false;
+    const second = this.secondToken();
+    return this.isWord(second, 'function') && !second.afterBreak;
+  }
 
   // -------------------------------------------------------------- nodes, limits, pairs
 
@@ -150,7 +165,25 @@ class Parser {
   parseAssignment(In) {
     const first = this.peek();
     const start = first.start;
-    if (this.isIdentifier(first)) {
+    if (this.modern && this.isWord(first, 'yield')) return this.parseYield(In);
+    if (this.modern && this.isWord(first, 'async')) {
+      const second = this.secondToken();
+      if (!second.afterBreak && this.isIdentifier(second)) {
+        const third = this.tokenBehind(second);
+        if (this.is(third, '=>') && !third.afterBreak) {
+          this.take();
+          return this.parseArrow(start, [this.parseIdentifier()], In, true);
+        }
+      }
+      if (!second.afterBreak && this.is(second, '(')) {
+        const cover = this.parseAsyncHead();
+        if (cover.params) return this.parseArrow(start, cover.params, In, true);
+        this.seed = { node: cover.node, start };
+      }
+    }
+    if (this.seed !== null) {
+      // a call of `async`
+    } else if (this.isIdentifier(first)) {
       const second = this.secondToken();
       if (this.is(second, '=>') && !second.afterBreak) {
         return this.parseArrow(start, [this.parseIdentifier()], In);
@@ -202,12 +235,52 @@ class Parser {
     return { node: this.group(open.start, close.start, node) };
   }
 
-  parseArrow(start, params, In) {
+  parseArrow(start, params, In, async = false) {
     this.expect('=>');
     const expression = !this.sees('{', GOAL.RegExp);
     const body = expression ? this.inside(() => this.parseAssignment(In)) : this.parseFunctionBody();
     return this.node('ArrowFunctionExpression', start,
-      { id: null, params, body, generator: false, async: false, expression });
+      { id: null, params, body, generator: false, async, expression });
+  }
+
+  // `async` and `(` on its line: {params} if `)` `=>` follows on one line, else {node}, a call. Neither counts as open.
+  parseAsyncHead() {
+    const callee = this.parseIdentifier();
+    const start = this.position - 5;
+    this.expect('(');
+    const list = [];
+    let commaAfterRest = false;
+    while (!this.sees(')', GOAL.RegExp)) {
+      const item = this.inside(() => this.parseSpreadOr(() => this.parseAssignment(true)));
+      list.push(item);
+      if (!this.accept(',')) break;
+      commaAfterRest = item.type === 'SpreadElement';
+    }
+    this.expect(')');
+    const next = this.peekDiv();
+    if (this.is(next, '=>') && !next.afterBreak) {
+      const params = list.map((item, i) => {
+        if (item.type !== 'SpreadElement') return this.toBindingElement(item);
+        if (i !== list.length - 1 || commaAfterRest) this.fail(next);
+        item.type = 'RestElement';
+        item.argument = this.toBinding(item.argument);
+        return item;
+      });
+      return { params };
+    }
+    return { node: this.node('CallExpression', start, { callee, arguments: list, optional: false }) };
+  }
+
+  // `yield`, an operand on its line or none.
+  parseYield(In) {
+    const start = this.take().start;
+    const next = this.peek();
+    const bare = next.afterBreak || next.cls === 'end' ||
+      (next.cls === 'punctuator' && [')', ']', '}', ',', ';', ':'].includes(next.text));
+    if (bare) return this.node('YieldExpression', start, { argument: null, delegate: false });
+    const delegate = this.accept('*', GOAL.RegExp);
+    const argument = this.inside(() => this.parseAssignment(In));
+    return this.node('YieldExpression', start, { argument, delegate });
   }
 
   parseConditional(In) {
@@ -236,7 +309,7 @@ class Parser {
   // The levels LogicalOR to Multiplicative as one loop with a rank.
   parseBinary(In, lowest) {
     const start = this.exprStart();
-    let left = this.parseExponentiation();
+    let left = this.seed === null && this.peek().cls === 'private' ? this.parsePrivateOperand(In, lowest) : this.parseExponentiation();
     for (;;) {
       const token = this.peekDiv();
       if (token.cls !== 'punctuator' && token.cls !== 'name') return left;
@@ -251,11 +324,25 @@ class Parser {
     }
   }
 
+  // `#x` before `in`.
+  parsePrivateOperand(In, lowest) {
+    const token = this.peek();
+    if (!In || RANK.in < lowest) this.fail(token);
+    const name = this.inside(() => this.parsePrivateName());
+    if (!this.sees('in')) this.fail(this.peekDiv());
+    return name;
+  }
+  parsePrivateName() {
+    const token = this.take(GOAL.Div);
+    return this.node('PrivateIdentifier', token.start, { name: token.text.slice(1) });
+  }
+
   parseExponentiation() {
     const start = this.exprStart();
     const left = this.parseUnary();
     if (!this.sees('**')) return left;
-    if (left.type === 'UnaryExpression' && !this.grouped.has(left)) this.fail(this.peekDiv());
+    const isUnary = left.type === 'UnaryExpression' || left.type === 'AwaitExpression';
+    if (isUnary && !this.grouped.has(left)) this.fail(this.peekDiv());
     this.take(GOAL.Div);
     const right = this.inside(() => this.parseExponentiation());
     return this.node('BinaryExpression', start, { operator: '**', left, right });
@@ -266,6 +353,11 @@ class Parser {
     if (this.seed === null) {
       const token = this.peek();
       if (token.cls === 'punctuator' || token.cls === 'name') {
+        if (this.modern && this.isWord(token, 'await')) {
+          this.take();
+          const argument = this.inside(() => this.parseUnary());
+          return this.node('AwaitExpression', start, { argument });
+        }
         if (UNARY_OPERATORS.has(token.text)) {
           this.take();
           const argument = this.inside(() => this.parseUnary());
@@ -302,7 +394,7 @@ class Parser {
       if (this.is(token, 'new')) return this.parseNew();
       if (this.is(token, 'super')) return { node: this.parseSuper(calls) };
       if (token.cls === 'name' && WORD_CALLS.has(token.text)) {
-        if (!calls) this.fail(token);
+        if (!calls && !(this.modern && this.is(token, 'import') && this.is(this.secondToken(), '.'))) this.fail(token);
         return { node: this.parseWordCall() };
       }
     }
@@ -344,9 +436,16 @@ class Parser {
     return this.fail(this.peekDiv());
   }
 
-  // `import(..)`, and what else is a word and an expression in parentheses.
+  // `import(..)`, and what else is a word and an expression in parentheses; `import.meta` too.
   parseWordCall() {
     const { start, text } = this.take();
+    if (this.modern && text === 'import' && this.accept('.')) {
+      const word = this.take(GOAL.Div);
+      if (!this.isWord(word, 'meta')) this.fail(word);
+      const meta = this.node('Identifier', start, { name: 'import' }, start + 6);
+      const property = this.node('Identifier', word.start, { name: 'meta' });
+      return this.node('MetaProperty', start, { meta, property });
+    }
     const { kind, field } = WORD_CALLS.get(text);
     this.expect('(');
     const argument = this.inside(() => this.parseAssignment(true));
@@ -370,7 +469,7 @@ class Parser {
       const token = this.peekDiv();
       if (this.is(token, '.')) {
         this.take(GOAL.Div);
-        node = this.member(start, node, this.parseName(), false, false);
+        node = this.member(start, node, this.parseMemberName(), false, false);
       } else if (this.is(token, '[')) {
         this.take(GOAL.Div);
         node = this.member(start, node, this.parseComputed(), true, false);
@@ -398,9 +497,9 @@ class Parser {
         this.take(GOAL.Div);
         node = this.member(start, node, this.parseComputed(), true, optional);
       } else if (optional) {
-        node = this.member(start, node, this.parseName(), false, true);
+        node = this.member(start, node, this.parseMemberName(), false, true);
       } else if (this.accept('.')) {
-        node = this.member(start, node, this.parseName(), false, false);
+        node = this.member(start, node, this.parseMemberName(), false, false);
       } else if (token.cls === 'template') {
         this.fail(token);
       } else return this.node('ChainExpression', start, { expression: node });
@@ -458,6 +557,9 @@ class Parser {
             return this.node('Literal', start, { raw: token.text, value: token.text === 'true' });
           case 'function': return this.parseFunction('FunctionExpression');
           case 'class': return this.parseClass('ClassExpression');
+          case 'async':
+            if (this.seesAsyncFunction()) return this.parseFunction('FunctionExpression');
+            return this.parseIdentifier();
           default: return this.parseIdentifier();
         }
       case 'punctuator':
@@ -494,6 +596,9 @@ class Parser {
     this.take(GOAL.Div);
     return this.node('Identifier', token.start, { name: token.text });
   }
+
+  // The name of a member: private or not.
+  parseMemberName() { return this.peekDiv().cls === 'private' ? this.parsePrivateName() : this.parseName(); }
 
   parseStringLiteral() {
     const token = this.take();
@@ -568,16 +673,29 @@ class Parser {
     this.expect(']');
     return { node, computed: true, token };
   }
-  beginsKey(token) {
-    return token.cls === 'name' || token.cls === 'string' || token.cls === 'number' || this.is(token, '[');
+  // In a class a key may be private.
+  beginsKey(token, inClass = false) {
+    return token.cls === 'name' || token.cls === 'string' || token.cls === 'number' || this.is(token, '[') ||
+      (inClass && token.cls === 'private');
   }
 
   // `get` or `set` before a key; then it is taken.
-  acceptAccessor() {
+  acceptAccessor(inClass = false) {
     const token = this.peek();
     if (!this.is(token, 'get') && !this.is(token, 'set')) return null;
-    if (!this.beginsKey(this.secondToken())) return null;
+    if (!this.beginsKey(this.secondToken(), inClass)) return null;
     return this.take().text;
+  }
+
+  // `*`, `async` or `async *` before a method's key: {async, generator}, or null.
+  acceptSpecial(inClass = false) {
+    if (!this.modern) return null;
+    if (this.accept('*', GOAL.RegExp)) return { async: false, generator: true };
+    if (!this.isWord(this.peek(), 'async')) return null;
+    const second = this.secondToken();
+    if (second.afterBreak || !(this.beginsKey(second, inClass) || this.is(second, '*'))) return null;
+    this.take();
+    return { async: true, generator: this.accept('*', GOAL.RegExp) };
   }
 
   parseProperty() {
@@ -585,8 +703,10 @@ class Parser {
     const property = (key, value, kind, method, shorthand) => this.node('Property', start,
       { key: key.node, value, kind, method, shorthand, computed: key.computed });
     const accessor = this.acceptAccessor();
+    const special = accessor === null ? this.acceptSpecial() : null;
     const key = this.parseKey();
     if (accessor !== null) return property(key, this.parseMethod(accessor), accessor, false, false);
+    if (special !== null) return property(key, this.parseMethod('method', special), 'init', true, false);
     if (this.sees('(')) return property(key, this.parseMethod('method'), 'init', true, false);
     if (this.accept(':')) {
       return property(key, this.inside(() => this.parseAssignment(true)), 'init', false, false);
@@ -753,16 +873,19 @@ class Parser {
     return this.node('BlockStatement', start, { body });
   }
 
-  parseFunction(type) {
+  parseFunction(type, mayLackName = type === 'FunctionExpression') {
+    const async = this.isWord(this.peek(), 'async');
     const start = this.take().start;
-    const id = type === 'FunctionDeclaration' || !this.sees('(') ? this.parseIdentifier() : null;
+    if (async) this.take();
+    const generator = this.modern && this.accept('*', GOAL.RegExp);
+    const id = !mayLackName || !this.sees('(') ? this.parseIdentifier() : null;
     const params = this.inside(() => this.parseParameters());
     const body = this.inside(() => this.parseFunctionBody());
-    return this.node(type, start, { id, params, body, generator: false, async: false });
+    return this.node(type, start, { id, params, body, generator, async });
   }
 
   // The function of a method (kind method), getter or setter: it begins at its `(`.
-  parseMethod(kind) {
+  parseMethod(kind, { async, generator } = { async: false, generator: false }) {
     const start = this.peekDiv().start;
     let params;
     if (kind === 'get') {
@@ -777,12 +900,12 @@ class Parser {
       params = this.inside(() => this.parseParameters());
     }
     const body = this.inside(() => this.parseFunctionBody());
-    return this.node('FunctionExpression', start, { id: null, params, body, generator: false, async: false });
+    return this.node('FunctionExpression', start, { id: null, params, body, generator, async });
   }
 
-  parseClass(type) {
+  parseClass(type, mayLackName = type === 'ClassExpression') {
     const start = this.take().start;
-    const named = type === 'ClassDeclaration' || this.isIdentifier(this.peekDiv());
+    const named = !mayLackName || this.isIdentifier(this.peekDiv());
     const id = named ? this.parseIdentifier() : null;
     const superClass = this.accept('extends') ? this.inside(() => this.parseLeftHandSide()) : null;
     const bodyStart = this.expect('{').start;
@@ -798,33 +921,70 @@ class Parser {
 
   parseMember() {
     const start = this.peek().start;
-    const isStatic = this.sees('static', GOAL.RegExp) && this.beginsKey(this.secondToken());
+    const second = this.sees('static', GOAL.RegExp) ? this.secondToken() : null;
+    if (this.modern && second !== null && this.is(second, '{')) {
+      this.take();
+      return this.parseStaticBlock(start);
+    }
+    const isStatic = second !== null && (this.beginsKey(second, true) || (this.modern && this.is(second, '*')));
     if (isStatic) this.take();
-    const accessor = this.acceptAccessor();
-    const key = this.parseKey();
-    const value = this.parseMethod(accessor ?? 'method');
+    const accessor = this.acceptAccessor(true);
+    const special = accessor === null ? this.acceptSpecial(true) : null;
+    const key = this.parseClassKey();
+    if (this.modern && accessor === null && special === null && !this.sees('(')) {
+      const value = this.accept('=') ? this.inside(() => this.parseAssignment(true)) : null;
+      this.fieldEnd(value);
+      return this.node('PropertyDefinition', start, { key: key.node, value, computed: key.computed, static: isStatic });
+    }
+    const value = this.parseMethod(accessor ?? 'method', special ?? undefined);
     const keyValue = key.computed ? null : key.node.type === 'Identifier' ? key.node.name : key.node.value;
-    const kind = accessor ?? (!isStatic && keyValue === 'constructor' ? 'constructor' : 'method');
+    const isConstructor = !isStatic && special === null && key.node.type !== 'PrivateIdentifier' && keyValue === 'constructor';
+    const kind = accessor ?? (isConstructor ? 'constructor' : 'method');
     return this.node('MethodDefinition', start,
       { key: key.node, value, kind, computed: key.computed, static: isStatic });
+  }
+
+  parseClassKey() {
+    const token = this.peek();
+    if (token.cls !== 'private') return this.parseKey();
+    return { node: this.parsePrivateName(), computed: false, token };
+  }
+
+  parseStaticBlock(start) {
+    const outer = this.inFunction;
+    this.inFunction = false;
+    this.expect('{', GOAL.RegExp);
+    const body = this.parseList(false, () => this.sees('}', GOAL.RegExp));
+    this.expect('}', GOAL.RegExp);
+    this.inFunction = outer;
+    return this.node('StaticBlock', start, { body });
+  }
+
+  // The `;` of a field, or none: 5 of modern.md. What could have gone on was taken before.
+  fieldEnd(value) {
+    const token = this.peek();
+    if (this.is(token, ';')) { this.take(); return; }
+    if (this.is(token, '}')) return;
+    if (token.afterBreak && token.cls !== 'fault' && !(value !== null && this.goesOn(this.rightEdge(value), token))) return;
+    this.fail(token);
   }
 
   // -------------------------------------------------------------- statements
 
   parseProgram() {
-    const body = this.inside(() => this.parseList(true, () => this.peek().cls === 'end'));
-    const tree = { type: 'Program', start: 0, end: this.byteLength, body, sourceType: 'script' };
+    const body = this.inside(() => this.parseList(true, () => this.peek().cls === 'end', this.module));
+    const tree = { type: 'Program', start: 0, end: this.byteLength, body, sourceType: this.module ? 'module' : 'script' };
     const [left] = this.coverInits;
     if (left !== undefined) throw new Refusal('Syntax');
     return tree;
   }
 
   // List items up to the place where `atEnd` holds.
-  parseList(prologue, atEnd) {
+  parseList(prologue, atEnd, ofModule = false) {
     const items = [];
     let inPrologue = prologue;
     while (!atEnd()) {
-      const item = this.parseListItem();
+      const item = ofModule ? this.parseModuleItem() : this.parseListItem();
       if (inPrologue) inPrologue = this.markDirective(item);
       items.push(item);
     }
@@ -839,8 +999,138 @@ class Parser {
     return isString;
   }
 
+  // ---- modules
+
+  parseModuleItem() {
+    const token = this.peek();
+    if (this.isWord(token, 'export')) return this.inside(() => this.parseExport());
+    if (this.isWord(token, 'import')) {
+      const second = this.secondToken();
+      if (!this.is(second, '(') && !this.is(second, '.')) return this.inside(() => this.parseImportDeclaration());
+    }
+    return this.parseListItem();
+  }
+
+  parseImportDeclaration() {
+    const start = this.take().start;
+    const specifiers = [];
+    if (this.peekDiv().cls !== 'string') {
+      let more = true;
+      if (this.isIdentifier(this.peekDiv())) {
+        const at = this.peekDiv().start;
+        specifiers.push(this.inside(() => {
+          const local = this.inside(() => this.parseIdentifier());
+          return this.node('ImportDefaultSpecifier', at, { local });
+        }));
+        more = this.accept(',');
+      }
+      if (more) {
+        const at = this.peekDiv().start;
+        if (this.accept('*')) {
+          this.expectWord('as');
+          specifiers.push(this.inside(() => {
+            const local = this.inside(() => this.parseIdentifier());
+            return this.node('ImportNamespaceSpecifier', at, { local });
+          }));
+        } else this.parseSpecifiers(() => this.parseImportSpecifier(), specifiers);
+      }
+      this.expectWord('from');
+    }
+    const source = this.inside(() => this.parseSource());
+    this.semicolon('none');
+    return this.node('ImportDeclaration', start, { specifiers, source });
+  }
+  expectWord(word) {
+    const token = this.peekDiv();
+    if (!this.isWord(token, word)) this.fail(token);
+    return this.take(GOAL.Div);
+  }
+  parseSource() {
+    if (this.peek().cls !== 'string') this.fail();
+    return this.parseStringLiteral();
+  }
+  parseSpecifiers(read, list) {
+    this.expect('{');
+    while (!this.sees('}')) {
+      list.push(this.inside(read));
+      if (!this.accept(',')) break;
+    }
+    this.expect('}');
+    return list;
+  }
+  // A name, reserved or not, or a string.
+  parseModuleName() { return this.inside(() => (this.peek().cls === 'string' ? this.parseStringLiteral() : this.parseName())); }
+
+  parseImportSpecifier() {
+    const token = this.peekDiv();
+    const imported = this.parseModuleName();
+    let local;
+    if (this.isWord(this.peekDiv(), 'as')) {
+      this.take(GOAL.Div);
+      local = this.inside(() => this.parseIdentifier());
+    } else {
+      if (!this.isIdentifier(token)) this.fail(this.peekDiv());
+      local = this.node('Identifier', token.start, { name: token.text });
+    }
+    return this.node('ImportSpecifier', token.start, { imported, local });
+  }
+
+  parseExport() {
+    const start = this.take().start;
+    const token = this.peek();
+    if (this.accept('*', GOAL.RegExp)) {
+      let exported = null;
+      if (this.isWord(this.peekDiv(), 'as')) {
+        this.take(GOAL.Div);
+        exported = this.parseModuleName();
+      }
+      this.expectWord('from');
+      const source = this.inside(() => this.parseSource());
+      this.semicolon('none');
+      return this.node('ExportAllDeclaration', start, { exported, source });
+    }
+    if (this.is(token, '{')) {
+      const specifiers = this.parseSpecifiers(() => this.parseExportSpecifier(), []);
+      let source = null;
+      if (this.isWord(this.peekDiv(), 'from')) {
+        this.take(GOAL.Div);
+        source = this.inside(() => this.parseSource());
+      }
+      this.semicolon('none');
+      return this.node('ExportNamedDeclaration', start, { declaration: null, specifiers, source });
+    }
+    if (this.isWord(token, 'default')) {
+      this.take();
+      const declaration = this.parseExportDefault();
+      return this.node('ExportDefaultDeclaration', start, { declaration });
+    }
+    const isDeclaration = ['var', 'let', 'const', 'function', 'class'].some((word) => this.isWord(token, word));
+    if (!isDeclaration && !this.seesAsyncFunction()) this.fail(token);
+    const declaration = this.isWord(token, 'var') ? this.parseStatement() : this.parseListItem();
+    return this.node('ExportNamedDeclaration', start, { declaration, specifiers: [], source: null });
+  }
+  parseExportSpecifier() {
+    const token = this.peekDiv();
+    const local = this.parseModuleName();
+    let exported = { ...local };
+    if (this.isWord(this.peekDiv(), 'as')) {
+      this.take(GOAL.Div);
+      exported = this.parseModuleName();
+    }
+    return this.node('ExportSpecifier', token.start, { local, exported });
+  }
+  parseExportDefault() {
+    const token = this.peek();
+    if (this.isWord(token, 'function') || this.seesAsyncFunction()) return this.parseFunction('FunctionDeclaration', true);
+    if (this.isWord(token, 'class')) return this.parseClass('ClassDeclaration', true);
+    const expression = this.inside(() => this.parseAssignment(true));
+    this.semicolon(this.rightEdge(expression));
+    return expression;
+  }
+
   parseListItem() {
     const token = this.peek();
+    if (this.seesAsyncFunction()) return this.parseFunction('FunctionDeclaration');
     if (this.is(token, 'function')) return this.parseFunction('FunctionDeclaration');
     if (this.is(token, 'class')) return this.parseClass('ClassDeclaration');
     return this.inside(() => {
@@ -886,6 +1176,7 @@ class Parser {
             this.semicolon('none');
             return this.node(WORD_STATEMENTS.get(token.text), start, {});
           }
+          if (this.seesAsyncFunction()) this.fail(token);
           if (this.isIdentifier(token) && this.is(this.secondToken(), ':')) {
             const label = this.parseIdentifier();
             this.expect(':');
@@ -909,7 +1200,12 @@ class Parser {
         case 'BinaryExpression':
         case 'LogicalExpression': n = n.right; break;
         case 'ConditionalExpression': n = n.alternate; break;
-        case 'UnaryExpression': n = n.argument; break;
+        case 'UnaryExpression':
+        case 'AwaitExpression': n = n.argument; break;
+        case 'YieldExpression':
+          if (n.argument === null) return 'arrow';
+          n = n.argument;
+          break;
         case 'UpdateExpression':
           if (!n.prefix) return 'postfix';
           n = n.argument;
@@ -1001,6 +1297,8 @@ class Parser {
 
   parseFor() {
     const start = this.take().start;
+    const isAwait = this.modern && this.isWord(this.peekDiv(), 'await');
+    if (isAwait) this.take(GOAL.Div);
     this.expect('(');
     const headStart = this.peek().start;
     const first = this.peek();
@@ -1017,6 +1315,7 @@ class Parser {
       init = this.parseExpression(false);
       if (this.sees('in') || this.sees('of')) left = this.toTarget(init);
     }
+    if (isAwait && !(left !== null && this.sees('of'))) this.fail(this.peekDiv());
     if (left !== null) {
       const word = this.take(GOAL.Div).text;
       const right = word === 'in' ? this.parseExpression(true) : this.parseAssignment(true);
@@ -1024,7 +1323,7 @@ class Parser {
       const body = this.parseStatement();
       return word === 'in'
         ? this.node('ForInStatement', start, { left, right, body })
-        : this.node('ForOfStatement', start, { left, right, body, await: false });
+        : this.node('ForOfStatement', start, { left, right, body, await: isAwait });
     }
     this.expect(';');
     const test = this.sees(';', GOAL.RegExp) ? null : this.parseExpression(true);
@@ -1160,7 +1459,7 @@ function parse(input, options = {}) {
   const result = parseOnly(input, options);
   if (!result.ok || options.early === false) return result;
   const { earlyErrors } = require('./early.js');
-  const [first] = earlyErrors(result.tree, result.text);
+  const [first] = earlyErrors(result.tree, result.text, { edition: options.module ? 2022 : options.edition ?? 2021 });
   if (first === undefined) return result;
   return { ok: false, fault: { kind: 'Early', number: first.number, at: first.at }, text: result.text };
 }

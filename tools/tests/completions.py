@@ -12,16 +12,18 @@ from libraries import tool
 from recipes import is_well, same
 
 COMMANDS = {'check', 'cost', 'fix', 'help', 'same', 'tree', 'unwrap', 'verify'}
-SHARED = {'--jobs', '--files-from', '--help', '--version', '--project', '--stdin', '--hints', '--unsupported', '--summary'}
+LANGUAGE = {'--edition', '--module'}
+SHARED = {*LANGUAGE, '--jobs', '--files-from', '--help', '--version', '--project', '--stdin', '--hints', '--unsupported', '--summary'}
 REWRITING = {'--write', '--diff'} | SHARED
 CHECKING = {'--settings', '--format', '--color', '--ends', '--suppressions', '--max-warnings', '--explain'} | SHARED
 SCRIPTS = {'a.js', 'two words.js'}
 # Words of a command line, the last one unfinished; what is offered for it; and what mustn't be.
 ASKED = [
     ('jslint ', COMMANDS, set()), ('jslint c', {'check', 'cost'}, {'fix'}), ('jslint -', {'--help', '--version'}, {'check'}),
-    ('jslint help ', COMMANDS - {'help'}, SCRIPTS), ('jslint check ', SCRIPTS, COMMANDS), ('jslint check -', {'--settings', '--spans', '--help'}, {'--version'}),
+    ('jslint help ', COMMANDS - {'help'}, SCRIPTS), ('jslint check ', SCRIPTS, COMMANDS), ('jslint check -', {'--settings', '--spans', '--help', *LANGUAGE}, {'--version'}),
     ('jslint check --settings ', {'s.toml'}, COMMANDS), ('jslint unwrap ', SCRIPTS, COMMANDS), ('jslint verify ', SCRIPTS, COMMANDS), ('jslint same a.js ', SCRIPTS, COMMANDS),
-    ('jslint verify a.js ', {'table'}, COMMANDS), ('jslint fix -', {'--help'}, {'--settings', '--write'}),
+    ('jslint verify a.js ', {'table'}, COMMANDS), ('jslint fix -', {'--help', *LANGUAGE}, {'--settings', '--write'}),
+    ('jslint same --edition ', {'2020', '2022'}, SCRIPTS), ('jslint-files --edition ', {'2020', '2022'}, SCRIPTS), ('jslint help -', set(), LANGUAGE),
     ('jslint-files ', {'check', 'fix', 'unwrap'} | SCRIPTS, {'tree'}), ('jslint-files -', CHECKING, {'--write'}),
     ('jslint-files check -', CHECKING, {'--write'}), ('jslint-files fix -', REWRITING | {'--drop-comments'}, {'--settings', '--format'}),
     ('jslint-files unwrap -', REWRITING, {'--drop-comments', '--format'}), ('jslint-files unwrap ', SCRIPTS, {'fix'}),

@@ -16,7 +16,7 @@ from recipes import FOUND, KEPT, REFUSED, RIGHT, TOP, UNWRAPPED, WRONG, is_well,
 
 HOOKS, ACTION = '.pre-commit-hooks.yaml', 'action.yml'
 MODULE = 'export {};\n'
-PERHAPS = "syntax error (perhaps: 'export' makes this a module, and only scripts are read)"
+PERHAPS = "syntax error (perhaps: 'export' makes this a module, which --module reads)"
 # What a hook takes from its repository. JSLINT names the program, so that no launcher is asked.
 TAKEN = [HOOKS, 'tools/jslint-files', 'tools/jslint_files', 'packages/npm/lib/hints.json']
 

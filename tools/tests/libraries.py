@@ -262,7 +262,7 @@ def by_ctypes(folder):
     import jslint
 
     def answers(name, text, second):
-        it = jslint.run(name, text, second or b'')
+        it = jslint.run(name, text, second or b'', rows.language_name())
         said = it.bytes.decode(errors='replace')
         return rows.Answer(it.status, '' if it.is_refusal else said, said if it.is_refusal else '')
     return answers
@@ -274,7 +274,7 @@ def by_node(folder):
     process = subprocess.Popen(words, stdin=subprocess.PIPE, stdout=subprocess.PIPE, text=True)
 
     def answers(name, text, second):
-        asked = {'command': name, 'text': base64.b64encode(text).decode(), 'second': base64.b64encode(second or b'').decode()}
+        asked = {'command': name, 'text': base64.b64encode(text).decode(), 'second': base64.b64encode(second or b'').decode(), 'language': rows.language_name()}
         process.stdin.write(f'{json.dumps(asked)}\n')
         process.stdin.flush()
         it = json.loads(process.stdout.readline())
@@ -288,7 +288,7 @@ def by_emulator(words):
 
     def answers(name, text, second):
         second = second or b''
-        process.stdin.write(f'{numbers.index(name)} {len(text)} {len(second)}\n'.encode() + text + second)
+        process.stdin.write(f'{rows.language_number()} {numbers.index(name)} {len(text)} {len(second)}\n'.encode() + text + second)
         process.stdin.flush()
         status, is_refusal, length = map(int, process.stdout.readline().split())
         said = process.stdout.read(length).decode(errors='replace')

@@ -220,7 +220,7 @@ def recipe(room):
     room.put('src/m.js', MODULE)
     room.put('.gitignore', 'out\n')
     room.put('src/jslint.toml', 'rules = { no-unused-vars = false, prefer-const = false }\n')
-    pair, module = 'src/a.js:1:9: no-extra-parens unnecessary parentheses\n', "syntax error (perhaps: 'export' makes this a module, and only scripts are read)\n"
+    pair, module = 'src/a.js:1:9: no-extra-parens unnecessary parentheses\n', "syntax error (perhaps: 'export' makes this a module, which --module reads)\n"
     first, second, third = recipes.block('A project', 'sh').splitlines()
     same(room.sh(first), (1, f'{pair}src/m.js:1:1: note: {module}', '1 report in 2 scripts, 1 with what the profile lacks: 1 no-extra-parens\n'))
     same(room.sh(third), (1, pair, ''))
@@ -392,7 +392,7 @@ def form_junit(room):
     same([suite.get(it) for it in ('tests', 'failures', 'errors', 'skipped')], ['3', '1', '1', '0'])
     same([(it.get('name'), [each.tag for each in it]) for it in suite], [('a b:\u00e9.js', ['failure']), ('m.js', ['error']), ('ok.js', [])])
     same(suite[0][0].get('message'), '3 reports')
-    same(suite[1][0].text, "1:1 syntax error (perhaps: 'export' makes this a module, and only scripts are read)\n")
+    same(suite[1][0].text, "1:1 syntax error (perhaps: 'export' makes this a module, which --module reads)\n")
     same(xml.etree.ElementTree.fromstring(files(room, '--format', 'junit', '--unsupported', 'note', 'm.js', status=0)[1])[0][0][0].tag, 'skipped')
 
 
@@ -538,7 +538,7 @@ def hint_time(_):
 def unsupported(room):
     """A script with what the profile lacks needn't fail anything; one with a fault does."""
     put_odd(room)
-    module = "m.js:1:1: {}syntax error (perhaps: 'export' makes this a module, and only scripts are read)\n"
+    module = "m.js:1:1: {}syntax error (perhaps: 'export' makes this a module, which --module reads)\n"
     same(files(room, 'm.js', 'ok.js'), (2, 'm.js:1:1: syntax error\n', ''))
     same(files(room, '--hints', 'm.js'), (2, module.format(''), ''))
     same(files(room, '--unsupported', 'error', 'm.js'), (2, module.format(''), ''))

@@ -24,6 +24,11 @@ RULES = sorted(it[:-3] for it in os.listdir(PAGES) if it != 'README.md')
 ONLY_PARENS = b'[rules]\n' + b''.join(b'%s = false\n' % it.encode() for it in RULES if it != 'no-extra-parens')
 
 
+# What stands before the call of a row of another language, the words for it, and the number and the name that the libraries have for it.
+LANGUAGES = {'script': (['--edition', '2022'], 2, '2022'), 'module': (['--module'], 3, 'module')}
+# That of the row that is tried.
+LANGUAGE = None
+
 # What is said for a command that is no word.
 WORDS = {'spans': ['check', '--spans']}
 
@@ -74,11 +79,23 @@ def call(words, given=None, room=None):
 
 def command(name, text, second=None):
     """What a command answers for the bytes of a script, and of a second file."""
-    return short_command(name, text, second) if len(text) + len(second or b'') < 2000 else ANSWERS(name, text, second)
+    return short_command(name, text, second, LANGUAGE) if len(text) + len(second or b'') < 2000 else ANSWERS(name, text, second)
+
+
+def language_words():
+    return LANGUAGES[LANGUAGE][0] if LANGUAGE else []
+
+
+def language_name():
+    return LANGUAGES[LANGUAGE][2] if LANGUAGE else None
+
+
+def language_number():
+    return LANGUAGES[LANGUAGE][1] if LANGUAGE else 0
 
 
 def by_program(name, text, second):
-    words = [*WORDS.get(name, [name]), '--', file_of('script', text)]
+    words = [*WORDS.get(name, [name]), *language_words(), '--', file_of('script', text)]
     if second is not None and name in ('check', 'spans'):
         words[1:1] = ['--settings', file_of('settings', second)]
     elif second is not None:
@@ -87,7 +104,7 @@ def by_program(name, text, second):
 
 
 @functools.lru_cache(maxsize=8192)
-def short_command(name, text, second):
+def short_command(name, text, second, language):
     """(many rows ask the same of a text)"""
     return ANSWERS(name, text, second)
 
@@ -221,7 +238,7 @@ def items(texts, want):
 
 
 # For each file what `fix` says of it on standard error, and a line with the status, and whether anything was written; then the same of `unwrap`.
-EACH = 'for it in fix unwrap; do for each; do "$0" $it -- "$each" 2>&1 >written; ended=$?; [ ! -s written ] || ended=${ended}w; echo " $ended"; done; done'
+EACH = 'for it in fix unwrap; do for each; do "$0" $it $LANGUAGE -- "$each" 2>&1 >written; ended=$?; [ ! -s written ] || ended=${ended}w; echo " $ended"; done; done'
 MARKS = [('jslint: syntax error at ', 'x'), ('jslint: early error E', 'e'), ('jslint: nested too deep', 'x'), ('jslint: not UTF-8 at byte ', 'u')]
 
 
@@ -244,7 +261,7 @@ def begins(texts, want):
         return begins_alone(texts, want)
     text = texts[0].encode()
     names = [file_of(f'beginning{it}', text[:it]) for it in range(len(text) + 1)]
-    ran = subprocess.run(['sh', '-c', EACH, PROGRAM, *names], cwd=ROOM.name, stdin=subprocess.DEVNULL, stdout=subprocess.PIPE, check=True)
+    ran = subprocess.run(['sh', '-c', EACH, PROGRAM, *names], cwd=ROOM.name, env={**os.environ, 'LANGUAGE': ' '.join(language_words())}, stdin=subprocess.DEVNULL, stdout=subprocess.PIPE, check=True)
     found = ''.join(mark(*it) for it in re.findall(r'((?:jslint: .*\n)*) (.*)\n', ran.stdout.decode(errors='replace')))
     return hold(found == 2 * want, found)
 
@@ -354,7 +371,7 @@ def split_answer(want):
 def run_of(texts, want, content):
     name, _, reader, writer, second, second_reader = (texts + [''] * 6)[:6]
     answers, bytes_written = split_answer(want)
-    words = [*WORDS.get(name, [name]), '--', device('script', content, reader, want if not fails_at(second_reader) else '')]
+    words = [*WORDS.get(name, [name]), *language_words(), '--', device('script', content, reader, want if not fails_at(second_reader) else '')]
     if name in ('check', 'spans') and (second or second_reader):
         words[1:1] = ['--settings', device('settings', second.encode(), second_reader, want)]
     elif name in ('verify', 'same'):
@@ -377,7 +394,7 @@ def json_row(texts, want):
     answers, bytes_written = split_answer(want)
     size = re.match(r'\((\d+), "', bytes_written)
     room = None if answers == 'Ok(())' else int(size[1]) if size else len(bytes_written.encode())
-    answer = call(['tree', '--', file_of('script', texts[0].encode())], room=room)
+    answer = call(['tree', *language_words(), '--', file_of('script', texts[0].encode())], room=room)
     out = answer.out[:-1] if room is None else answer.out
     return hold(written(out) == bytes_written and (answer.err == '') == (room is None), answer)
 
@@ -393,9 +410,13 @@ REPORTED = {
 }
 
 
+# What is said of words that ask for no language.
+NO_LANGUAGE = {'Edition': 'jslint: --edition is 2020 or 2022\n', 'Module': "jslint: --module doesn't go with --edition 2020\n"}
+
+
 def command_line(texts, want):
     words = texts[0].split(' ')[1:]
-    asked = re.fullmatch(r'\((\w+)(?:\((\w+)\))?, "(.*?)", (?:None|Some\("(.*)"\))\)', want)
+    asked = re.fullmatch(r'\((\w+)(?:\((\w+)\))?, "(.*?)", (?:None|Some\("(.*)"\))\)(?: (wrong )?(\w+))?', want)
     with tempfile.TemporaryDirectory(dir=ROOM.name) as folder:
         given = b'((a));'
         if asked:
@@ -411,6 +432,8 @@ def command_line(texts, want):
     if not asked:
         is_shown = want in ('DisplayHelp', 'DisplayVersion')
         return hold((answer.status, answer.out != '', answer.err != '') == ((0, True, False) if is_shown else (2, False, True)), answer)
+    if asked[5]:
+        return hold((answer.status, answer.out, answer.err) == (2, '', NO_LANGUAGE[asked[6]]), answer)
     if second == file == '-':
         return hold((answer.status, answer.out, answer.err) == (2, '', 'jslint: read failed: -: both files are standard input\n'), answer)
     if second == file and name != 'same':
@@ -432,9 +455,16 @@ CALLS = {
 OF_PROGRAM = {'run', 'run bytes', 'json', 'command line'}
 
 
+def call_of(line):
+    """The language of a row's call, if it is another than the base profile's, and the call."""
+    name = line.split('\t')[0]
+    language, _, call = name.partition(' ')
+    return (language, call) if language in LANGUAGES else (None, name)
+
+
 def asks_command(row):
     """Whether a row asks what a command answers, and not how the program treats its files."""
-    return row[1].split('\t')[0] not in OF_PROGRAM
+    return call_of(row[1])[1] not in OF_PROGRAM
 
 
 def each_fifth(found):
@@ -454,14 +484,16 @@ def rows_in(folder):
         with open(f'{folder}/{name}', encoding='utf-8', newline='\n') as file:
             for number, line in enumerate(file, 1):
                 line = line[:-1] if line.endswith('\n') else line
-                if line and not line.startswith('#') and line.split('\t')[0] in CALLS:
+                if line and not line.startswith('#') and call_of(line)[1] in CALLS:
                     yield f'{name}:{number}', line
 
 
 def try_row(row):
     """Nothing if the row holds, else what is wrong with it."""
+    global LANGUAGE
     at, line = row
-    name, *texts, want = line.split('\t')
+    _, *texts, want = line.split('\t')
+    LANGUAGE, name = call_of(line)
     try:
         found = CALLS[name]([meant(it) for it in texts], meant(want))
     except Exception as error:

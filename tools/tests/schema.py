@@ -16,7 +16,7 @@ PLACE = 'share/jslint/jslint.schema.json'
 WORDS = {'$schema', 'title', 'description', 'default'}
 TYPES = {'object': dict, 'array': list, 'string': str, 'boolean': bool}
 # Values of each kind that TOML has, but for dates.
-VALUES = [True, False, 0, 1, -1.5, '', 'a', 'true', 'off', [], [''], ['a'], ['a', 'a'], ['a b', 'é"\\\n'], [1], [True], ['a', 1], [[]], {}, {'a': True}]
+VALUES = [True, False, 0, 1, 2020, 2021, -1.5, '', 'a', 'true', 'off', [], [''], ['a'], ['a', 'a'], ['a b', 'é"\\\n'], [1], [True], ['a', 1], [[]], {}, {'a': True}]
 # Keys that others' settings have.
 FOREIGN = ['', 'extends', 'env', '$schema', 'plugins', 'ignore', 'include', 'overrides', 'parserOptions', 'severity', 'global', 'semi']
 
@@ -28,15 +28,20 @@ def schema():
 
 def is_valid(it, value):
     """Whether a schema of these few words takes a value. With another word in it, it is to be said here what that means."""
-    unknown = set(it) - WORDS - {'type', 'enum', 'items', 'properties', 'additionalProperties'}
+    unknown = set(it) - WORDS - {'type', 'enum', 'items', 'properties', 'additionalProperties', 'not'}
     is_well(not unknown and it.get('additionalProperties', False) is False, unknown)
     if 'type' in it and type(value) is not TYPES[it['type']] or 'enum' in it and value not in it['enum']:
         return False
     if isinstance(value, list):
         return all(is_valid(it.get('items', {}), each) for each in value)
     if isinstance(value, dict):
-        return all(key in it['properties'] and is_valid(it['properties'][key], each) for key, each in value.items())
+        return not has_all(it.get('not'), value) and all(key in it['properties'] and is_valid(it['properties'][key], each) for key, each in value.items())
     return True
+
+
+def has_all(it, value):
+    """Whether a value has all that a schema says which stands behind `not`: keys, and values of them."""
+    return it is not None and all(key in value and is_valid(it['properties'][key], value[key]) for key in it['required'])
 
 
 def samples(it):

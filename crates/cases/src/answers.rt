@@ -99,17 +99,17 @@ fn of_source(
     source: &Source,
     out: &mut String,
 ) -> Result<(), AllocError> {
-    push_difference_of_source(alloc, source, out)?;
+    push_difference_of_source(alloc, source, row.language(), out)?;
     match row.text(0) {
         "token" => lexemes::push_token(source, row, out),
         "units" => lexemes::push_units(alloc, source, out),
         "place" => devices::push_place(source, row, out),
         "cursor" => cursors::push_steps(source, row, out),
-        "begins" => runs::push_beginnings(alloc, row.text(1), out),
-        "early" => parsed::push_accepted(alloc, source, out),
-        "fix" => parsed::push_fixed(alloc, source, out),
-        "fixes" => parsed::push_fixes(alloc, source, out),
-        "unwrap" => parsed::push_unwrapped(alloc, source, out),
+        "begins" => runs::push_beginnings(alloc, row, out),
+        "early" => parsed::push_accepted(alloc, row, source, out),
+        "fix" => parsed::push_fixed(alloc, row, source, out),
+        "fixes" => parsed::push_fixes(alloc, row, source, out),
+        "unwrap" => parsed::push_unwrapped(alloc, row, source, out),
         _ => parsed::push_parsed(alloc, row, source, out),
     }
 }

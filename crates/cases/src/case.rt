@@ -1,12 +1,16 @@
-//! Lines of a file of rows: a call, its texts and what it is to answer, with tabs between them. A control character is written as its
+//! Lines of a file of rows: a call, its texts and what it is to answer, with tabs between them. `script ` or `module ` before the call says that
+//! its texts are of ECMAScript 2022; without it they are of the base profile. A control character is written as its
 //! picture (U+2400 to U+241F), so a line feed as `␊`, and what stands so many times as `⟦a×12⟧`. Empty lines, and those that begin with
 //! `#`, are no rows.
 
+use language::Language;
 use std::alloc::{AllocError, Global};
 
 /// What a call is to answer for texts.
 #[derive(Drop)]
 pub(crate) struct Case {
+    /// The language of its texts.
+    language: Language,
     /// The call, then its texts.
     texts: Vec<String>,
     want: String,
@@ -15,12 +19,19 @@ pub(crate) struct Case {
 impl Case {
     /// The row of a line.
     pub(crate) fn of(alloc: Global, line: &str) -> Result<Case, AllocError> {
+        let (language, behind) = language_of(line);
         let mut row = Case {
+            language,
             texts: Vec::new(alloc),
             want: String::new(alloc),
         };
-        row.read(alloc, line)?;
+        row.read(alloc, behind)?;
         Ok(row)
+    }
+
+    /// The language of the row's texts.
+    pub(crate) fn language(&self) -> Language {
+        self.language
     }
 
     /// Takes the texts of a line, of which the last is the answer.
@@ -50,6 +61,17 @@ impl Case {
     /// The number that a text is; else 0.
     pub(crate) fn number(&self, index: usize) -> usize {
         self.text(index).parse::<usize>().unwrap_or(0)
+    }
+}
+
+/// The language that a line says, and what stands behind it.
+fn language_of(line: &str) -> (Language, &str) {
+    if let Some(behind) = line.strip_prefix("script ") {
+        return (Language::Script, behind);
+    }
+    match line.strip_prefix("module ") {
+        Some(behind) => (Language::Module, behind),
+        None => (Language::Base, line),
     }
 }
 

@@ -2,7 +2,7 @@
 
 use crate::case::Case;
 use crate::lexemes::goal;
-use language::Edge;
+use language::{Edge, Language};
 use source_text::{Fault, Source};
 use std::alloc::AllocError;
 use token_cursor::{Cursor, StatementEnd, goes_on};
@@ -168,7 +168,7 @@ fn push_step(
 /// `?word:let` whether it is ahead, to `~word:let` whether it was passed, to `!word:let` what was passed or why it wasn't, to `@` the
 /// refusal at what is ahead.
 pub(crate) fn push_steps(source: &Source, row: &Case, out: &mut String) -> Result<(), AllocError> {
-    let mut cursor = Cursor::new(source);
+    let mut cursor = Cursor::new(source, Language::Base);
     for word in row.text(2).split(' ') {
         let (mark, rest) = word.split_at_checked(1).unwrap_or(("", ""));
         push_step(&mut cursor, mark, rest, out)?;

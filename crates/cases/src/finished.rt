@@ -2,6 +2,7 @@
 
 use crate::print::{show, show_boxed, word};
 use crate::sketch::parts;
+use language::Language;
 use parser::parse;
 use source_text::{Fault, Source};
 use std::alloc::{AllocError, Global};
@@ -36,7 +37,7 @@ fn push_difference(alloc: Global, parts: Parts, out: &mut String) -> Result<(), 
     let mut boxed = String::new(alloc);
     push_boxed(&parts, &mut boxed)?;
     let span = Span { start: 0, end: 0 };
-    let Ok(program) = Program::build(alloc, Parts::from_items(parts), span) else {
+    let Ok(program) = Program::build(alloc, "", Parts::from_items(parts), span) else {
         return Err(AllocError);
     };
     let mut flat = String::new(alloc);
@@ -94,9 +95,10 @@ pub(crate) fn push_row_counts(program: &Program, out: &mut String) -> Result<(),
 pub(crate) fn push_difference_of_source(
     alloc: Global,
     source: &Source,
+    language: Language,
     out: &mut String,
 ) -> Result<(), AllocError> {
-    match parse(alloc, source) {
+    match parse(alloc, source, language) {
         Ok(parsed) => push_difference_of(alloc, parsed.program(), out),
         Err(Fault::OutOfMemory) => Err(AllocError),
         Err(_) => Ok(()),

@@ -1,5 +1,6 @@
 //! What a text's tokens and comments are by its tree, and whether another text keeps them.
 
+use crate::case::Case;
 use crate::refusals::push_refusal;
 use parser::{Parsed, parse};
 use source_text::{Fault, Source};
@@ -83,11 +84,11 @@ fn push_spans(comments: &[CommentRow], out: &mut String) -> Result<(), AllocErro
 pub(crate) fn push_kept(
     alloc: Global,
     parsed: &Parsed,
-    text: &str,
-    other: &str,
+    row: &Case,
     out: &mut String,
 ) -> Result<(), AllocError> {
-    match is_kept(alloc, parsed, text, other) {
+    let other = row.text(2);
+    match is_kept(alloc, parsed, row, other) {
         Ok(true) => out.push_str("kept"),
         Ok(false) => out.push_str("changed"),
         Err(fault) => push_refusal(other, fault, out),
@@ -95,13 +96,14 @@ pub(crate) fn push_kept(
 }
 
 /// Whether the other text keeps the tokens of the first one, and what stands between them.
-fn is_kept(alloc: Global, parsed: &Parsed, text: &str, other: &str) -> Result<bool, Fault> {
+fn is_kept(alloc: Global, parsed: &Parsed, row: &Case, other: &str) -> Result<bool, Fault> {
+    let text = row.text(1);
     let Some(reading) = reading_of(alloc, parsed, text)? else {
         return Ok(false);
     };
     let source = Source::new(text.as_bytes())?;
     let unwrapped = Source::new(other.as_bytes())?;
-    let again = parse(alloc, &unwrapped)?;
+    let again = parse(alloc, &unwrapped, row.language())?;
     match keeps(
         alloc,
         &source,

@@ -2,7 +2,7 @@
 
 use tree::{Flags, Form, Kind};
 
-/// All kinds by their names.
+/// The kinds of the base profile by their names.
 static KINDS: [(&str, Kind); 57] = [
     ("Program", Kind::Program),
     ("Identifier", Kind::Identifier),
@@ -63,9 +63,31 @@ static KINDS: [(&str, Kind); 57] = [
     ("ClassDeclaration", Kind::ClassDeclaration),
 ];
 
+/// The other kinds by their names.
+static KINDS_OF_2022: [(&str, Kind); 13] = [
+    ("PrivateIdentifier", Kind::PrivateIdentifier),
+    ("PropertyDefinition", Kind::PropertyDefinition),
+    ("StaticBlock", Kind::StaticBlock),
+    ("AwaitExpression", Kind::AwaitExpression),
+    ("YieldExpression", Kind::YieldExpression),
+    ("ImportDeclaration", Kind::ImportDeclaration),
+    ("ImportSpecifier", Kind::ImportSpecifier),
+    ("ImportDefaultSpecifier", Kind::ImportDefaultSpecifier),
+    ("ImportNamespaceSpecifier", Kind::ImportNamespaceSpecifier),
+    ("ExportNamedDeclaration", Kind::ExportNamedDeclaration),
+    ("ExportDefaultDeclaration", Kind::ExportDefaultDeclaration),
+    ("ExportAllDeclaration", Kind::ExportAllDeclaration),
+    ("ExportSpecifier", Kind::ExportSpecifier),
+];
+
 /// The kind of this name; Program for all others.
 pub(crate) fn kind(name: &str) -> Kind {
     for (each, kind) in &KINDS {
+        if *each == name {
+            return *kind;
+        }
+    }
+    for (each, kind) in &KINDS_OF_2022 {
         if *each == name {
             return *kind;
         }
@@ -94,6 +116,9 @@ fn form(word: &str) -> Form {
         "#method" => Form::Method,
         "#shorthand" => Form::Shorthand,
         "#constructor" => Form::Constructor,
+        "#generator" => Form::Generator,
+        "#async" => Form::Async,
+        "#async-generator" => Form::AsyncGenerator,
         _ => Form::Init,
     }
 }

@@ -12,6 +12,7 @@ use crate::reports::{push_rules, push_scopes};
 use crate::runs::is_written;
 use commands::Command;
 use estree_json::{to_value, tree_text, write_tree};
+use language::Language;
 use lint::{fix_text, read_script, unwrap_text};
 use parser::{Parsed, parse};
 use serde_json::Value;
@@ -22,10 +23,11 @@ use tree::{Program, same_tree};
 /// That the text is accepted.
 pub(crate) fn push_accepted(
     alloc: Global,
+    row: &Case,
     source: &Source,
     out: &mut String,
 ) -> Result<(), AllocError> {
-    match read_script(alloc, source) {
+    match read_script(alloc, source, row.language()) {
         Ok(_) => out.push_str("accepted"),
         Err(fault) => push_refusal(source.text(), fault, out),
     }
@@ -34,10 +36,11 @@ pub(crate) fn push_accepted(
 /// That a text is fixed.
 pub(crate) fn push_fixes(
     alloc: Global,
+    row: &Case,
     source: &Source,
     out: &mut String,
 ) -> Result<(), AllocError> {
-    match fix_text(alloc, source) {
+    match fix_text(alloc, source, row.language()) {
         Ok(_) => out.push_str("fixed"),
         Err(fault) => push_refusal(source.text(), fault, out),
     }
@@ -46,14 +49,15 @@ pub(crate) fn push_fixes(
 /// What a text is fixed to, which is fixed to itself.
 pub(crate) fn push_fixed(
     alloc: Global,
+    row: &Case,
     source: &Source,
     out: &mut String,
 ) -> Result<(), AllocError> {
-    match fix_text(alloc, source) {
+    match fix_text(alloc, source, row.language()) {
         Ok(text) => {
-            push_again(&text, "fixed", fixed(alloc, &text), out)?;
-            push_unless_written(alloc, source, &text, out)?;
-            push_unless_run(alloc, Command::Fix, source.text(), &text, out)
+            push_again(&text, "fixed", fixed(alloc, &text, row.language()), out)?;
+            push_unless_written(alloc, row, source, &text, out)?;
+            push_unless_run(alloc, Command::Fix, row, &text, out)
         }
         Err(fault) => push_refusal(source.text(), fault, out),
     }
@@ -63,11 +67,11 @@ pub(crate) fn push_fixed(
 fn push_unless_run(
     alloc: Global,
     command: Command,
-    source: &str,
+    row: &Case,
     text: &str,
     out: &mut String,
 ) -> Result<(), AllocError> {
-    match is_written(alloc, command, source, text)? {
+    match is_written(alloc, command, row, text)? {
         true => Ok(()),
         false => out.push_str(" run otherwise"),
     }
@@ -76,11 +80,12 @@ fn push_unless_run(
 /// That a script's fixed text is written otherwise, if it is.
 fn push_unless_written(
     alloc: Global,
+    row: &Case,
     source: &Source,
     text: &str,
     out: &mut String,
 ) -> Result<(), AllocError> {
-    match is_fixed(alloc, source, text) {
+    match is_fixed(alloc, source, row.language(), text) {
         Ok(true) => Ok(()),
         Ok(false) => out.push_str(" written otherwise"),
         Err(fault) => push_refusal(source.text(), fault, out),
@@ -106,30 +111,36 @@ fn push_again(
 }
 
 /// What a text is fixed to.
-fn fixed(alloc: Global, text: &str) -> Result<String, Fault> {
+fn fixed(alloc: Global, text: &str, language: Language) -> Result<String, Fault> {
     let source = Source::new(text.as_bytes())?;
-    fix_text(alloc, &source)
+    fix_text(alloc, &source, language)
 }
 
 /// A script without its unnecessary pairs, which is unwrapped to itself, and which a run of `unwrap` writes too.
 pub(crate) fn push_unwrapped(
     alloc: Global,
+    row: &Case,
     source: &Source,
     out: &mut String,
 ) -> Result<(), AllocError> {
-    match unwrap_text(alloc, source) {
+    match unwrap_text(alloc, source, row.language()) {
         Ok(text) => {
-            push_again(&text, "unwrapped", unwrapped(alloc, &text), out)?;
-            push_unless_run(alloc, Command::Unwrap, source.text(), &text, out)
+            push_again(
+                &text,
+                "unwrapped",
+                unwrapped(alloc, &text, row.language()),
+                out,
+            )?;
+            push_unless_run(alloc, Command::Unwrap, row, &text, out)
         }
         Err(fault) => push_refusal(source.text(), fault, out),
     }
 }
 
 /// What a text is unwrapped to.
-fn unwrapped(alloc: Global, text: &str) -> Result<String, Fault> {
+fn unwrapped(alloc: Global, text: &str, language: Language) -> Result<String, Fault> {
     let source = Source::new(text.as_bytes())?;
-    unwrap_text(alloc, &source)
+    unwrap_text(alloc, &source, language)
 }
 
 /// What is answered of the script that is read.
@@ -139,7 +150,7 @@ pub(crate) fn push_parsed(
     source: &Source,
     out: &mut String,
 ) -> Result<(), AllocError> {
-    match parse(alloc, source) {
+    match parse(alloc, source, row.language()) {
         Ok(parsed) => push_shown(alloc, row, &parsed, out),
         Err(fault) => push_refusal(source.text(), fault, out),
     }
@@ -158,8 +169,8 @@ fn push_shown(
         "items" => push_count(program.root().part_count(), out),
         "extra" => push_extra(alloc, program, parsed.grouping_pairs(), out),
         "rules" | "refused rule" | "rule on nodes" => push_rules(alloc, row, parsed, out),
-        "alike" => push_alike(alloc, program, row.text(2), out),
-        "kept" => push_kept(alloc, parsed, row.text(1), row.text(2), out),
+        "alike" => push_alike(alloc, program, row, out),
+        "kept" => push_kept(alloc, parsed, row, out),
         "reading" => push_reading(alloc, parsed, row.text(1), out),
         _ => push_printed(alloc, row, parsed, out),
     }
@@ -190,7 +201,7 @@ fn push_json_of(
     out: &mut String,
 ) -> Result<(), AllocError> {
     match row.text(0) {
-        "tree" => push_json(alloc, program, row.text(1), out),
+        "tree" => push_json(alloc, program, row, out),
         "json" => push_json_to(alloc, program, row.text(2), out),
         "value" => push_values(alloc, program, out),
         "value text" => push_value_text(alloc, program, out),
@@ -223,9 +234,9 @@ fn push_count(count: usize, out: &mut String) -> Result<(), AllocError> {
 }
 
 /// Whether a text has this tree too.
-fn is_alike(alloc: Global, program: &Program, text: &str) -> Result<bool, Fault> {
-    let source = Source::new(text.as_bytes())?;
-    let other = parse(alloc, &source)?;
+fn is_alike(alloc: Global, program: &Program, row: &Case) -> Result<bool, Fault> {
+    let source = Source::new(row.text(2).as_bytes())?;
+    let other = parse(alloc, &source, row.language())?;
     Ok(same_tree(program, other.program()))
 }
 
@@ -233,13 +244,13 @@ fn is_alike(alloc: Global, program: &Program, text: &str) -> Result<bool, Fault>
 fn push_alike(
     alloc: Global,
     program: &Program,
-    text: &str,
+    row: &Case,
     out: &mut String,
 ) -> Result<(), AllocError> {
-    match is_alike(alloc, program, text) {
+    match is_alike(alloc, program, row) {
         Ok(true) => out.push_str("same"),
         Ok(false) => out.push_str("other"),
-        Err(fault) => push_refusal(text, fault, out),
+        Err(fault) => push_refusal(row.text(2), fault, out),
     }
 }
 
@@ -247,13 +258,13 @@ fn push_alike(
 fn push_json(
     alloc: Global,
     program: &Program,
-    source: &str,
+    row: &Case,
     out: &mut String,
 ) -> Result<(), AllocError> {
     let mut text = tree_text(alloc, program)?;
     out.push_str(&text)?;
     text.push('\n')?;
-    push_unless_run(alloc, Command::Tree, source, &text, out)
+    push_unless_run(alloc, Command::Tree, row, &text, out)
 }
 
 /// What is written of the JSON to a device.

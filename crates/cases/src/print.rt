@@ -20,6 +20,9 @@ fn form_word<'t>(form: Form) -> &'t str {
         Form::Method => " method",
         Form::Shorthand => " shorthand",
         Form::Constructor => " constructor",
+        Form::Generator => " generator",
+        Form::Async => " async",
+        Form::AsyncGenerator => " async-generator",
     }
 }
 

@@ -3,6 +3,7 @@
 use crate::case::Case;
 use crate::devices::{plan, push_answer};
 use crate::gauge::Gauge;
+use language::Language;
 use paren_planner::plan_if_any;
 use parser::{Parsed, parse};
 use printer::{print, print_text};
@@ -123,8 +124,13 @@ pub(crate) fn push_pieces(
 }
 
 /// Whether a script's plan has this text printed, to a writer that takes a byte a call.
-pub(crate) fn is_fixed(alloc: Global, source: &Source, text: &str) -> Result<bool, Fault> {
-    let parsed = parse(alloc, source)?;
+pub(crate) fn is_fixed(
+    alloc: Global,
+    source: &Source,
+    language: Language,
+    text: &str,
+) -> Result<bool, Fault> {
+    let parsed = parse(alloc, source, language)?;
     let Some(plan) = plan_if_any(alloc, parsed.program())? else {
         return Ok(false);
     };

@@ -7,7 +7,8 @@ use crate::case::Case;
 use crate::devices::{bytes_of, plan, push_answer, push_bytes};
 use crate::gauge::Gauge;
 use crate::reports::AnyScript;
-use commands::{Command, Refused, ReportForm, write_refusal};
+use commands::{Command, LanguageChoice, Refused, ReportForm, write_refusal};
+use language::Language;
 use lint::run::run;
 use rules::{RULE_COUNT, Rule, of_each_rule};
 use source_text::{FailurePlan, Fault, MAX_PIECE, MemoryFeed, MemorySink, Sink};
@@ -34,10 +35,20 @@ pub(crate) fn command(word: &str) -> Command {
     }
 }
 
-/// A run: its command, what stands in both files, the plans of their readers, and whether a rule stands behind the others.
+/// The choice of a language: a call that asks for the base profile says nothing.
+pub(crate) fn choice(language: Language) -> LanguageChoice {
+    match language {
+        Language::Base => LanguageChoice::Unsaid,
+        Language::Script => LanguageChoice::Edition2022,
+        Language::Module => LanguageChoice::Module,
+    }
+}
+
+/// A run: its command and its language, what stands in both files, the plans of their readers, and whether a rule stands behind the others.
 #[derive(Clone, Copy)]
 struct Run<'a> {
     command: Command,
+    language: Language,
     file: &'a [u8],
     second: &'a [u8],
     reader: FailurePlan,
@@ -47,9 +58,16 @@ struct Run<'a> {
 
 impl<'a> Run<'a> {
     /// A run whose readers give so many bytes in a call, all of them where it isn't said.
-    fn new(command: Command, file: &'a [u8], second: &'a [u8], per_call: &str) -> Run<'a> {
+    fn new(
+        command: Command,
+        language: Language,
+        file: &'a [u8],
+        second: &'a [u8],
+        per_call: &str,
+    ) -> Run<'a> {
         Run {
             command,
+            language,
             file,
             second,
             reader: plan(per_call),
@@ -71,7 +89,15 @@ fn answered_by<W: Sink>(
 {
     let mut file = MemoryFeed::new(given.file, given.reader);
     let mut second = MemoryFeed::new(given.second, given.second_reader);
-    run(alloc, given.command, rules, &mut file, &mut second, writer)
+    run(
+        alloc,
+        given.command,
+        choice(given.language),
+        rules,
+        &mut file,
+        &mut second,
+        writer,
+    )
 }
 
 /// What a run answers.
@@ -112,6 +138,7 @@ pub(crate) fn push_run(
 ) -> Result<(), AllocError> {
     let given = Run {
         command: command(row.text(1)),
+        language: row.language(),
         file: bytes,
         second: row.text(5).as_bytes(),
         reader: plan(row.text(3)),
@@ -190,7 +217,8 @@ fn push_both(alloc: Global, run: Run, out: &mut String) -> Result<(), AllocError
 /// What a command, by its word, answers for a text and the text of its second file.
 pub(crate) fn push_command(alloc: Global, row: &Case, out: &mut String) -> Result<(), AllocError> {
     let (file, second) = (row.text(1).as_bytes(), row.text(2).as_bytes());
-    push_both(alloc, Run::new(command(row.text(0)), file, second, ""), out)
+    let run = Run::new(command(row.text(0)), row.language(), file, second, "");
+    push_both(alloc, run, out)
 }
 
 /// What `check` or `check --spans` answers where a rule of this program's own stands behind the others.
@@ -204,7 +232,7 @@ pub(crate) fn push_with_tenth(
         "spans by ten" => Command::Check(ReportForm::Spans),
         _ => CHECK,
     };
-    let mut run = Run::new(command, file, second, "");
+    let mut run = Run::new(command, row.language(), file, second, "");
     run.has_tenth = true;
     push_both(alloc, run, out)
 }
@@ -216,7 +244,7 @@ pub(crate) fn push_second_bytes(
     out: &mut String,
 ) -> Result<(), AllocError> {
     let second = bytes_of(alloc, row.text(2))?;
-    let run = Run::new(CHECK, row.text(1).as_bytes(), &second, "");
+    let run = Run::new(CHECK, row.language(), row.text(1).as_bytes(), &second, "");
     push_both(alloc, run, out)
 }
 
@@ -224,10 +252,11 @@ pub(crate) fn push_second_bytes(
 pub(crate) fn is_written(
     alloc: Global,
     command: Command,
-    file: &str,
+    row: &Case,
     text: &str,
 ) -> Result<bool, AllocError> {
-    let given = Run::new(command, file.as_bytes(), b"", "1");
+    let file = row.text(1).as_bytes();
+    let given = Run::new(command, row.language(), file, b"", "1");
     let mut writer = MemorySink::new(alloc, text.len(), plan("1"))?;
     let answered = answered(alloc, given, &mut writer)?;
     unless_refused(&answered, writer.bytes().len())?;
@@ -237,7 +266,7 @@ pub(crate) fn is_written(
 /// How many bytes a command writes for a text and that of its second file, and whether no piece of it has more than 4,096.
 pub(crate) fn push_gauged(alloc: Global, row: &Case, out: &mut String) -> Result<(), AllocError> {
     let (file, second) = (row.text(2).as_bytes(), row.text(3).as_bytes());
-    let given = Run::new(command(row.text(1)), file, second, "");
+    let given = Run::new(command(row.text(1)), row.language(), file, second, "");
     let mut writer = Gauge::new();
     let answered = answered(alloc, given, &mut writer)?;
     unless_refused(&answered, writer.bytes)?;
@@ -271,8 +300,8 @@ fn fault_mark(fault: Fault, bytes: &[u8]) -> char {
 }
 
 /// The mark of bytes; `?` where a second run answers or writes something else.
-fn mark_of(alloc: Global, bytes: &[u8]) -> Result<char, AllocError> {
-    let given = Run::new(Command::Fix, bytes, b"", "");
+fn mark_of(alloc: Global, language: Language, bytes: &[u8]) -> Result<char, AllocError> {
+    let given = Run::new(Command::Fix, language, bytes, b"", "");
     let mut writer = MemorySink::new(alloc, ROOM, plan(""))?;
     let mut second_writer = MemorySink::new(alloc, ROOM, plan(""))?;
     let first = answered(alloc, given, &mut writer)?;
@@ -288,12 +317,13 @@ fn mark_of(alloc: Global, bytes: &[u8]) -> Result<char, AllocError> {
 /// The mark of each beginning of a text, from the empty one to the whole text, byte by byte.
 pub(crate) fn push_beginnings(
     alloc: Global,
-    text: &str,
+    row: &Case,
     out: &mut String,
 ) -> Result<(), AllocError> {
+    let text = row.text(1);
     for end in 0..text.len().saturating_add(1) {
         let beginning = text.as_bytes().get(..end).unwrap_or(b"");
-        out.push(mark_of(alloc, beginning)?)?;
+        out.push(mark_of(alloc, row.language(), beginning)?)?;
     }
     Ok(())
 }

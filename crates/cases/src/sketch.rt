@@ -125,7 +125,7 @@ pub(crate) fn parts<'s>(
 pub(crate) fn script<'s>(alloc: Global, text: &'s str, high: u32) -> Result<Program<'s>, Fault> {
     let (nodes, end) = parts(alloc, text, high)?;
     let end = end.saturating_add(1);
-    match Program::build(alloc, nodes.into_parts(), Span { start: 0, end }) {
+    match Program::build(alloc, "", nodes.into_parts(), Span { start: 0, end }) {
         Ok(program) => Ok(program),
         Err(_) => Err(Fault::OutOfMemory),
     }

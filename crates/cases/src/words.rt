@@ -5,7 +5,8 @@ use crate::devices::{plan, push_answer};
 use crate::kinds::kind;
 use crate::ranks::rank;
 use clap::error::ErrorKind;
-use command_line::{ReadFailure, command_line, explain_unread, write_escaped};
+use command_line::{Line, ReadFailure, command_line, explain_unread, write_escaped};
+use commands::LanguageChoice;
 use early_errors::{EarlyError, number_of};
 use grammar::{
     accepts_rank, is_assignment, is_literal, is_prefix_operator, is_reserved, is_update_operator,
@@ -78,10 +79,20 @@ fn push_mistake(kind: ErrorKind, out: &mut String) -> Result<(), AllocError> {
     }
 }
 
+/// The command and the files of a line, and behind them the language that it asks for, where it says something of it.
+fn push_line(line: Line, out: &mut String) -> Result<(), AllocError> {
+    write!(out, "{:?}", (line.command, line.file, line.second))?;
+    match line.language() {
+        Ok(LanguageChoice::Unsaid) => Ok(()),
+        Ok(choice) => write!(out, " {choice:?}"),
+        Err(mistake) => write!(out, " wrong {mistake:?}"),
+    }
+}
+
 /// What a command line asks for, or the kind of its refusal.
 fn push_asked(alloc: Global, words: &[&str], out: &mut String) -> Result<(), AllocError> {
     match command_line(alloc, words) {
-        Ok(line) => write!(out, "{:?}", (line.command, line.file, line.second)),
+        Ok(line) => push_line(line, out),
         Err(error) => push_mistake(error.kind(), out),
     }
 }

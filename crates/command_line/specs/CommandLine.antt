@@ -27,9 +27,21 @@ settings_rule = record (new_rule (codes "settings")) { long = Some (codes "setti
 abbrev pub spans_rule : Rule
 spans_rule = record (new_rule (codes "spans")) { long = Some (codes "spans"); action = Some SetTrue }
 
--- a command, by its word, with its FILE
+-- `--edition YEAR`
+abbrev pub edition_rule : Rule
+edition_rule = record (new_rule (codes "edition")) { long = Some (codes "edition"); value_names = 1 }
+
+-- `--module`
+abbrev pub module_rule : Rule
+module_rule = record (new_rule (codes "module")) { long = Some (codes "module"); action = Some SetTrue }
+
+-- a command, by its word, with its FILE alone
+abbrev pub lone_file_app : Text → App
+lone_file_app word = with_rule (new_app word) (required_rule (codes "file"))
+
+-- and with the language of scripts
 abbrev pub file_app : Text → App
-file_app word = with_rule (new_app word) (required_rule (codes "file"))
+file_app word = with_rule (with_rule (lone_file_app word) edition_rule) module_rule
 
 -- a command with its arguments
 abbrev pub command_app : Command → App
@@ -73,10 +85,15 @@ abbrev pub HasForm : Command → List Row → Type 0
 HasForm (Check form) rows = form ≡ form_of rows
 HasForm other rows = Unit {0}
 
--- the subcommand that was met is the line's command, in the form that was asked for, and the line's files are the first values of its arguments
+-- what the words say of the language of scripts: an edition, and whether they are modules
+abbrev pub HasLanguage : List Row → Option Text → Bool → Type 0
+HasLanguage rows edition is_module = (edition ≡ first_of (codes "edition") rows) × (is_module ≡ is_set (codes "module") rows)
+
+-- the subcommand that was met is the line's command, in the form that was asked for, the line's files are the first values of its arguments, and so is
+-- what it says of the language
 abbrev pub Chooses : Option (Text × List Row) → Line → Type 0
 Chooses met line = (rows : List Row) × (met ≡ Some (word_of line.command, rows)) × (first_of (codes "file") rows ≡ Some line.file.now)
-    × HasSecond line.command rows (option_map (λ s. s.now) line.second) × HasForm line.command rows
+    × HasSecond line.command rows (option_map (λ s. s.now) line.second) × HasForm line.command rows × HasLanguage rows (option_map (λ s. s.now) line.edition) line.is_module
 
 -- the command that a word gives before its flags are looked at
 abbrev pub plain : Command → Command

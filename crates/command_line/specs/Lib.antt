@@ -3,3 +3,4 @@ pub mod Shown
 pub mod Sent
 pub mod Tip
 pub mod Unread
+pub mod AskedLanguage

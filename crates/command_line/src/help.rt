@@ -1,7 +1,7 @@
 //! What help and the version say.
 
 /// The version, and the toolchain that proves it (`rt version`).
-pub const VERSION: &str = "1.6.0 (proved with rattle-kit-13)";
+pub const VERSION: &str = "2.0.0 (proved with rattle-kit-13)";
 
 /// What the help says of the program.
 pub const ABOUT: &str =
@@ -38,6 +38,12 @@ pub const SAME: &str = "Compare two scripts: status 0 if they have one tree, 1 i
 /// What the help says of the script's file.
 pub const FILE: &str = "The script";
 
+/// What the help says of `--edition`.
+pub const EDITION: &str = "2020, the base profile, or 2022: strict scripts of ECMAScript 2022";
+
+/// What the help says of `--module`.
+pub const MODULE: &str = "Modules of ECMAScript 2022";
+
 /// What the help says of `--settings`.
 pub const SETTINGS: &str = "Rules and options, as TOML; without it every rule is on";
 
@@ -62,6 +68,7 @@ Examples:
   jslint cost app.js > app.cost
   jslint verify app.js app.cost
   jslint same app.js clean.js
+  jslint check app.mjs --module
   jslint check -- -h.js
   git show HEAD:app.js | jslint check -
 

@@ -2,9 +2,10 @@
 
 //! The words of the command line, its help and version, and what is said in place of a command.
 //! - May touch: the words, by clap, which no other crate loads, and the two streams.
-//! - Contract: `command_line` answers the command and the files that clap's own definition of the words gives.
-//! - Begin at: `line.rt`, `command_line`; `mistake.rt`, `explain`; `unread.rt`, `explain_unread`; `shown.rt` for what is escaped.
+//! - Contract: `command_line` answers the command, the files and what is said of the language, by clap's own definition of the words.
+//! - Begin at: `line.rt`, `command_line`; `asked_language.rt`; `mistake.rt`, `explain`; `unread.rt`, `explain_unread`; `shown.rt` for what is escaped.
 
+mod asked_language;
 mod escaped;
 mod help;
 mod line;
@@ -12,6 +13,7 @@ mod mistake;
 mod shown;
 mod unread;
 
+pub use asked_language::{LanguageMistake, explain_language};
 pub use escaped::write_escaped;
 pub use line::{Line, command_line};
 pub use mistake::{explain, explain_not_utf8};

@@ -6,7 +6,7 @@ ghost use Rattle.clap.specs.declared.builder.command.Command.TheViews.{out-Comma
 ghost use Rattle.commands.specs.Commands.{word_of};
 ghost use Rattle.commands.specs.declared.command.Command.TheVariants.{Check, Same, Verify};
 ghost use Rattle.commands.specs.declared.command.ReportForm.TheVariants.{Places};
-ghost use Rattle.command_line.specs.CommandLine.{Chooses, MeetsCommand, ReadsAlike, bare_app, command_app, file_app, form_of, jslint_app, plain};
+ghost use Rattle.command_line.specs.CommandLine.{Chooses, MeetsCommand, ReadsAlike, bare_app, command_app, file_app, form_of, is_set, jslint_app, lone_file_app, plain};
 
 use crate::help;
 use clap::error::ErrorKind;
@@ -23,9 +23,29 @@ pub struct Line<'a> {
     /// The settings of `check`, where they are given, the table of `verify`, and the other script of `same`. No other command has a second
     /// file.
     pub second: Option<&'a str>,
+    /// What stands behind `--edition`, where it is given.
+    pub edition: Option<&'a str>,
+    /// Whether `--module` is given.
+    pub is_module: bool,
 }
 
-/// A command by its word, with its FILE.
+/// A command by its word, with its FILE alone.
+fn lone_file_command<'a>(
+    alloc: Global,
+    word: &'a str,
+    about: &'a str,
+) -> Result<clap::Command<'a>, AllocError>
+    ensures shape { IfOk result (λ c. app_of c ≡ lone_file_app word.now) }
+    ensures local { IfOk result (λ c. (out-Command c).has_globals ≡ false) }
+{
+    let file = Arg::new(alloc, "file")
+        .required(true)
+        .value_name("FILE")
+        .help(help::FILE);
+    clap::Command::new(alloc, word).about(about).arg(file)
+}
+
+/// A command by its word, with its FILE and the language of scripts.
 fn file_command<'a>(
     alloc: Global,
     word: &'a str,
@@ -34,11 +54,17 @@ fn file_command<'a>(
     ensures shape { IfOk result (λ c. app_of c ≡ file_app word.now) }
     ensures local { IfOk result (λ c. (out-Command c).has_globals ≡ false) }
 {
-    let file = Arg::new(alloc, "file")
-        .required(true)
-        .value_name("FILE")
-        .help(help::FILE);
-    clap::Command::new(alloc, word).about(about).arg(file)
+    let edition = Arg::new(alloc, "edition")
+        .long("edition")
+        .value_name("YEAR")
+        .help(help::EDITION);
+    let module = Arg::new(alloc, "module")
+        .long("module")
+        .action(ArgAction::SetTrue)
+        .help(help::MODULE);
+    lone_file_command(alloc, word, about)?
+        .arg(edition)?
+        .arg(module)
 }
 
 /// A command by its word, with its FILE, and a note below its help.
@@ -188,14 +214,21 @@ fn command_of(word: &str) -> Option<Command>
     None
 }
 
+/// Whether a flag was given.
+fn is_set(met: &ArgMatches<'_>, flag: &str) -> bool
+    ensures { result ≡ is_set flag.now (rows_of (found_of met.now)) }
+{
+    let Some(value) = met.get_str(flag) else {
+        return false;
+    };
+    value == "true"
+}
+
 /// The form of what `check` is to write.
 fn form_met(met: &ArgMatches<'_>) -> ReportForm
     ensures { result ≡ form_of (rows_of (found_of met.now)) }
 {
-    let Some(value) = met.get_str("spans") else {
-        return ReportForm::Places;
-    };
-    if value == "true" {
+    if is_set(met, "spans") {
         return ReportForm::Spans;
     }
     ReportForm::Places
@@ -215,10 +248,14 @@ fn line_of<'a>(matches: &ArgMatches<'a>) -> Line<'a>
         Command::Same => (plain, met.get_str("other")),
         Command::Tree | Command::Fix | Command::Unwrap | Command::Cost => (plain, None),
     };
+    let edition = met.get_str("edition");
+    let is_module = is_set(met, "module");
     Line {
         command,
         file,
         second,
+        edition,
+        is_module,
     }
 }
 

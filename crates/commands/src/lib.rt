@@ -1,17 +1,19 @@
 #![tactic(auto)]
 
-//! The commands, whole texts from a reader, and refusals in words. It knows no JavaScript.
+//! The commands and the languages that a call may ask for, whole texts from a reader, and refusals in words. It knows no JavaScript.
 //! - May touch: a reader up to a limit, and a writer for one line.
 //! - Contract: `write_refusal` writes the line of a refusal, or a prefix of it if the writer fails, and answers its
 //!   status.
-//! - Begin at: `command.rt`, `Command`; `refusal.rt`, `write_refusal`; `bounded_read.rt`, `read_up_to`.
+//! - Begin at: `command.rt`, `Command`; `language_choice.rt`, `LanguageChoice`; `refusal.rt`, `write_refusal`; `bounded_read.rt`, `read_up_to`.
 
 mod bounded_read;
 mod command;
+mod language_choice;
 mod refusal;
 mod refused;
 
 pub use bounded_read::{ROOM, read_up_to};
 pub use command::{Command, ReportForm};
+pub use language_choice::LanguageChoice;
 pub use refusal::{status, write_refusal};
 pub use refused::Refused;

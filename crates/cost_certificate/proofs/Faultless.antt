@@ -7,7 +7,9 @@ use Rattle.tree.specs.declared.kind.Kind.{Kind}
 use Rattle.tree.specs.declared.kind.Pair.{Pair}
 use Rattle.tree.specs.Tree.{Tree, kind_of, SameTree}
 use Rattle.language.specs.Pieces.{Role, script}
-use Rattle.language.specs.Claims.{Table, table_cell, cell_bound, total_bound, row_nodes, contexts, NoGreater, Sound, Derives}
+use Rattle.language.specs.Claims.{Table, table_cell, cell_bound, total_bound, row_nodes, contexts, NoGreater, Sound}
+use Rattle.language.specs.declared.Language.{Language}
+use Rattle.language.specs.Languages.{DerivesIn}
 use Rattle.cost_certificate.specs.Types.{has_type, same_type, all_typed}
 use Rattle.cost_certificate.specs.Faults.{TableFault, or_else, shape_fault, lacks, is_above, some_cell, row_fault, rows_fault, total_fault, first_fault}
 use Rattle.cost_certificate.proofs.SoundBound.{below_at_least}
@@ -148,7 +150,7 @@ faultless_by t n s =
     none_both _ _ shape (none_both _ _ (all_rows t nodes 0 row) (none_cond (is_above (Some t.total) (total_bound t n)) (0, Rattle.source_text.specs.declared.fault.Reason.TheVariants.Total) None (not_above (Some t.total) (total_bound t n) s.total) refl))
 
 -- whatever the types of the rows, the total of a table without fault is no greater than the pairs of any text with the same tree
-pub faultless_bound : (t : Table) (n : Tree) → first_fault t n ≡ None → (text : List ℕ) (m : Tree) (P : List Pair) → SameTree m n → Derives text m P → t.total ≤ length P
+pub faultless_bound : (t : Table) (n : Tree) → first_fault t n ≡ None → (language : Language) (text : List ℕ) (m : Tree) (P : List Pair) → SameTree m n → DerivesIn language text m P → t.total ≤ length P
 faultless_bound t n h =
     let nodes = row_nodes n script in
     let all = none_of (shape_fault (map (λ x. x.0) t.rows) (map kind_of nodes) 1) _ h in

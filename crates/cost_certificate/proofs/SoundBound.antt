@@ -3,22 +3,25 @@ use Rattle.std.proofs.Common.{◌≡◌, ℕ, zero, suc, ◌+◌, ◌≤◌, Boo
 use Rattle.std.specs.Prelude.{IsTrue, slice_get}
 use Rattle.std.proofs.lemmas.Bool.{and_parts}
 use Rattle.tree.specs.declared.kind.Pair.{Pair}
-use Rattle.tree.specs.Tree.{Tree, node, Parts, none, part, gap, parts_of, bare, bare_parts, SameTree}
+use Rattle.tree.specs.declared.kind.Kind.TheVariants.{Identifier}
+use Rattle.tree.specs.Tree.{Tree, node, plain, Parts, none, part, gap, parts_of, bare, bare_parts, SameTree}
 use Rattle.tree.specs.Uses.{implies}
 use Rattle.language.specs.declared.Rank.{Rank}
 use Rattle.language.specs.declared.Rank.TheVariants.{Expression, Member}
 use Rattle.language.specs.declared.Start.{Start}
 use Rattle.language.specs.declared.Start.TheVariants.{Any, NoBrace, Statement}
 use Rattle.language.specs.Vocabulary.{precedence}
-use Rattle.language.specs.Pieces.{Role, expr, script, PieceOf}
+use Rattle.language.specs.Pieces.{Role, expr, word, key, script, PieceOf}
 use Rattle.language.specs.Token.{Token}
-use Rattle.language.specs.Grammar.{ways}
+use Rattle.language.specs.Grammar.{ways, ways_bare, spellings}
 use Rattle.language.specs.RowPositions.{roles, first_roles, widest, rows}
-use Rattle.language.specs.Derivation.{Among, Spells, direct, grouped, Runs, done, step, opened, closed, within, missing}
-use Rattle.language.specs.Places.{NextIn, itself}
+use Rattle.language.specs.Derivation.{Among, Spells, direct, grouped, Runs, done, step, opened, closed, within, missing, reserved_key, reserved_word}
+use Rattle.language.specs.Places.{NextIn}
+use Rattle.language.specs.declared.Language.{Language}
+use Rattle.language.specs.Languages.{Seen, seen_in, DerivesIn}
 use Rattle.tokens.specs.Reading.{any_goal}
 use Rattle.language.specs.Cost.{add_cost, lesser, AtMost, at_most, if_any, cell_position}
-use Rattle.language.specs.Claims.{Table, table_cell, cell_number, bound_at, parts_bound, cell_bound, total_bound, row_nodes, parts_row_nodes, contexts, NoGreater, Sound, Derives}
+use Rattle.language.specs.Claims.{Table, table_cell, cell_number, bound_at, parts_bound, cell_bound, total_bound, row_nodes, parts_row_nodes, contexts, NoGreater, Sound}
 use Rattle.language.proofs.table.Ranks.{looser_rank, looser_start, looser_refl, looser_all, looser_member, looser_start_refl}
 use Rattle.language.proofs.table.LooserPositions.{AtMost-lesser_left, AtMost-lesser_right, AtMost-add, Looser, same, looser, looser_spine, looser_pattern, AllLooser, next}
 use Rattle.language.proofs.lower_bound.LowerBound.{Step-roles}
@@ -160,6 +163,15 @@ module _ (t : Table) where
   unfolding bound_at
   grouped_case (node k w g s e ps) z j f r m h = AtMost-lesser_right _ _ (one_more (ways (expr Expression true Any) (node k w g s e ps)) (table_cell t r 0) h)
 
+  -- a name has no pair where reserved words stand too
+  bound_key : (w : List ℕ) (s e r : ℕ) → AtMost (bound_at t (node Identifier w plain s e none) key r) 0
+  unfolding bound_at parts_bound ways ways_bare spellings if_any
+  bound_key w s e r = at_most (omega arith)
+
+  bound_word : (w : List ℕ) (s e r : ℕ) → AtMost (bound_at t (node Identifier w plain s e none) word r) 0
+  unfolding bound_at parts_bound ways ways_bare spellings if_any
+  bound_word w s e r = at_most (omega arith)
+
   module _ (S : Type 0) (Next : S → Token → S → Type 0) (behind : S → Token) where
     mutual
       unfolding PartsBelow parts_bound
@@ -170,6 +182,8 @@ module _ (t : Table) where
       node_at_least {a = a} {n = n} {P = P} (direct qs h p d) b l r x = direct_case n a b qs (length P) r l h (λ xs ys q u v z. parts_at_least d xs ys q u v z) x
       node_at_least {n = n} (grouped {y = y} {i = i} {f = f} p d q) b same r x = grouped_case n y i f r _ (node_at_least d (expr Expression true Any) same r (below_like {b = false} t n r at_expressions x))
       node_at_least {n = n} (grouped p d q) b (looser {z = z} {j = j} {g = g} u v w) r x = grouped_case n z j g r _ (node_at_least d (expr Expression true Any) same r (below_like {b = false} t n r at_expressions x))
+      node_at_least (reserved_key {w = w} p k q) b same r x = subst (λ v. AtMost (bound_at t v key r) 0) (sym q) (bound_key w _ _ r)
+      node_at_least (reserved_word {w = w} p k q) b same r x = subst (λ v. AtMost (bound_at t v word r) 0) (sym q) (bound_word w _ _ r)
 
       pub parts_at_least : {o : ℕ} {qs : List (PieceOf Role)} {ps : Parts} {s e : S} {P : List Pair} →
           Runs ways S Next behind o qs ps s e P → (xs ys : List Role) (r : ℕ) → AllLooser (roles qs) xs → AllLike false (roles qs) ys → PartsBelow t ps ys r → AtMost (parts_bound t ps xs r) (length P)
@@ -306,14 +320,14 @@ total_at_most c (Some b) m h (at_most k) = omega (arith, h, k)
 
 -- cells that are no greater than their bounds, and a total that isn't
 pub below_at_least : (t : Table) (n : Tree) → ((r : ℕ) (m : Tree) → slice_get (row_nodes n script) r ≡ Some m → RowBelow t m (suc r)) → NoGreater (Some t.total) (total_bound t n) →
-    (text : List ℕ) (m : Tree) (P : List Pair) → SameTree m n → Derives text m P → t.total ≤ length P
+    (language : Language) (text : List ℕ) (m : Tree) (P : List Pair) → SameTree m n → DerivesIn language text m P → t.total ≤ length P
 unfolding total_bound
-below_at_least t n below total text m P h d =
+below_at_least t n below total language text m P h d =
     let all : Below t n script 1 = below_all t n script 1 refl (λ k x q. let z : suc k ≡ 1 + k = omega arith in subst (λ j. RowBelow t x j) z (below k x q)) in
     let there : Below t m script 1 = from_bare t m script 1 (subst (λ x. Below t x script 1) (sym h) (to_bare t n script 1 all)) in
     let same_bound : bound_at t m script 1 ≡ bound_at t n script 1 = sym (bound-bare t m script 1) ∙ ap (λ x. bound_at t x script 1) h ∙ bound-bare t n script 1 in
     total_at_most t.total (bound_at t n script 1) (length P) total
-    (subst (λ x. AtMost x (length P)) same_bound (node_at_least t Token (NextIn text any_goal) itself d.1.1 script same 1 there))
+    (subst (λ x. AtMost x (length P)) same_bound (node_at_least t Token (Seen Token (NextIn text any_goal) language) (seen_in language) d.1.2 script same 1 there))
 
-pub sound_at_least : (t : Table) (n : Tree) → Sound t n → (text : List ℕ) (m : Tree) (P : List Pair) → SameTree m n → Derives text m P → t.total ≤ length P
-sound_at_least t n s text m P h d = below_at_least t n s.below s.total text m P h d
+pub sound_at_least : (t : Table) (n : Tree) → Sound t n → (language : Language) (text : List ℕ) (m : Tree) (P : List Pair) → SameTree m n → DerivesIn language text m P → t.total ≤ length P
+sound_at_least t n s language text m P h d = below_at_least t n s.below s.total language text m P h d

@@ -2,14 +2,16 @@
 use Rattle.std.specs.Prelude.{◌≡◌, ◌≤◌, ◌↔◌, ℕ, true, List, length, IsTrue, None}
 use Rattle.tree.specs.declared.kind.Pair.{Pair}
 use Rattle.tree.specs.Tree.{Tree, SameTree}
-use Rattle.language.specs.Claims.{Table, Sound, Derives}
+use Rattle.language.specs.Claims.{Table, Sound}
+use Rattle.language.specs.declared.Language.{Language}
+use Rattle.language.specs.Languages.{DerivesIn}
 use Rattle.cost_certificate.specs.Types.{all_typed}
 use Rattle.cost_certificate.specs.Faults.{first_fault}
 use Rattle.cost_certificate.specs.Forms.{Format, is_formed, is_table, bad_line, IsBadLine, read_text, table_text}
 
--- the total of a sound table bounds every derivation of every text with the same tree from below
+-- the total of a sound table bounds every derivation in each language of every text with the same tree from below
 abbrev pub SoundIsLowerBound : Type 0
-SoundIsLowerBound = (t : Table) (n : Tree) → Sound t n → (text : List ℕ) (m : Tree) (P : List Pair) → SameTree m n → Derives text m P → t.total ≤ length P
+SoundIsLowerBound = (t : Table) (n : Tree) → Sound t n → (language : Language) (text : List ℕ) (m : Tree) (P : List Pair) → SameTree m n → DerivesIn language text m P → t.total ≤ length P
 
 -- a table, whose rows have types, has no fault exactly where it is sound
 abbrev pub FaultlessIsSound : Type 0

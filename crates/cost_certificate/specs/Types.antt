@@ -11,6 +11,8 @@ type_name kind.AssignmentExpression = codes "AssignmentExpression"
 type_name kind.ArrowFunctionExpression = codes "ArrowFunctionExpression"
 type_name kind.ConditionalExpression = codes "ConditionalExpression"
 type_name kind.LogicalExpression = codes "LogicalExpression"
+type_name kind.AwaitExpression = codes "AwaitExpression"
+type_name kind.YieldExpression = codes "YieldExpression"
 type_name kind.BinaryExpression = codes "BinaryExpression"
 type_name kind.UnaryExpression = codes "UnaryExpression"
 type_name kind.UpdateExpression = codes "UpdateExpression"
@@ -36,7 +38,8 @@ row_kinds =
     kind.SequenceExpression ∷ kind.AssignmentExpression ∷ kind.ArrowFunctionExpression ∷ kind.ConditionalExpression ∷ kind.LogicalExpression ∷ kind.BinaryExpression ∷
     kind.UnaryExpression ∷ kind.UpdateExpression ∷ kind.ChainExpression ∷ kind.CallExpression ∷ kind.ImportExpression ∷ kind.MemberExpression ∷
     kind.TaggedTemplateExpression ∷ kind.NewExpression ∷ kind.MetaProperty ∷ kind.Identifier ∷ kind.Literal ∷ kind.ThisExpression ∷
-    kind.ArrayExpression ∷ kind.ObjectExpression ∷ kind.FunctionExpression ∷ kind.ClassExpression ∷ kind.TemplateLiteral ∷ []
+    kind.ArrayExpression ∷ kind.ObjectExpression ∷ kind.FunctionExpression ∷ kind.ClassExpression ∷ kind.TemplateLiteral ∷ kind.AwaitExpression ∷
+    kind.YieldExpression ∷ []
 
 -- the kind of this name among these
 abbrev pub kind_among : List Kind → List ℕ → Option Kind

@@ -2,7 +2,7 @@
 
 ghost use Rattle.std.specs.Prelude.{◌≡◌, ◌≤◌, length, Err, IfOk};
 ghost use Rattle.tree.specs.Tree.{SameTree};
-ghost use Rattle.language.specs.Claims.{Derives};
+ghost use Rattle.language.specs.Languages.{DerivesIn};
 ghost use Rattle.language.specs.Pieces.{script};
 ghost use Rattle.language.specs.RowPositions.{rows};
 ghost use Rattle.cost_table.specs.Tables.{table_of};
@@ -35,7 +35,7 @@ pub fn check_table(program: &Program, table: &CostTable) -> Result<u32, BadTable
     requires short { length table.now.rows.items ≤ 16777216 }
     ensures answer { Answers (first_fault (table_of table.now.rows.items table.now.total) program.now) table.now.total result }
     ensures sound { PassesIfSound (table_of table.now.rows.items table.now.total) program.now result }
-    ensures bound { IfOk result (λ n. (text m P : _) → SameTree m program.now → Derives text m P → n ≤ length P) }
+    ensures bound { IfOk result (λ n. (language text m P : _) → SameTree m program.now → DerivesIn language text m P → n ≤ length P) }
 {
     let judged = check_node(program.root(), Position::Script, false, table, 0);
     if let Some(index) = judged.passed.misshapen {

@@ -127,7 +127,7 @@ pub(crate) fn cell(word: &[u8]) -> Option<Option<u32>>
 }
 
 /// The kinds that can have a row.
-const ROW_KINDS: [Kind; 23] = [
+const ROW_KINDS: [Kind; 25] = [
     Kind::SequenceExpression,
     Kind::AssignmentExpression,
     Kind::ArrowFunctionExpression,
@@ -151,6 +151,8 @@ const ROW_KINDS: [Kind; 23] = [
     Kind::FunctionExpression,
     Kind::ClassExpression,
     Kind::TemplateLiteral,
+    Kind::AwaitExpression,
+    Kind::YieldExpression,
 ];
 
 /// The kind that can have a row and has this name.

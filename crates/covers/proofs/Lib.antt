@@ -1,1 +1,2 @@
+pub mod BasePatterns
 pub mod Patterns

@@ -14,6 +14,7 @@ opening listed.Arguments = Some (codes "(")
 opening listed.Elements = Some (codes "[")
 opening listed.Properties = Some (codes "{")
 opening listed.ParenthesizedItems = Some (codes "(")
+opening listed.AsyncArguments = Some (codes "(")
 opening listed.Parameters = Some (codes "(")
 opening listed.NoParameter = Some (codes "(")
 opening listed.OneParameter = Some (codes "(")
@@ -29,6 +30,7 @@ closing listed.Arguments = Some (codes ")")
 closing listed.Elements = Some (codes "]")
 closing listed.Properties = Some (codes "}")
 closing listed.ParenthesizedItems = Some (codes ")")
+closing listed.AsyncArguments = Some (codes ")")
 closing listed.Parameters = Some (codes ")")
 closing listed.NoParameter = Some (codes ")")
 closing listed.OneParameter = Some (codes ")")
@@ -39,11 +41,12 @@ closing (listed.Cases returns) = Some (codes "}")
 closing listed.Members = Some (codes "}")
 
 -- Items of this shape, taken together, have a reading: an array's and an object's as expressions or as what is assigned to, those in
--- parentheses as expressions or as parameters, parameters as what is bound, all others as expressions.
+-- parentheses and behind `async` as expressions or as parameters, parameters as what is bound, all others as expressions.
 abbrev pub reads : ListKind → CoverShape → Bool
 reads listed.Elements s = is_either s
 reads listed.Properties s = is_either s
 reads listed.ParenthesizedItems s = s.is_expression || is_bound s
+reads listed.AsyncArguments s = s.is_expression || is_bound s
 reads listed.Parameters s = is_bound s
 reads listed.OneParameter s = is_bound s
 reads _ s = s.is_expression

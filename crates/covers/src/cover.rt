@@ -23,6 +23,7 @@ pub struct Cover<'s> {
 
 impl<'s> Cover<'s> {
     /// An expression that is no array, no object and no assignment.
+    #[inline(always)]
     pub fn plain(node: MeasuredNode<'s>) -> Cover<'s>
         ensures same { result.node ≡ node.entry }
         ensures shape { result.shape ≡ shape_of node.entry }

@@ -43,6 +43,8 @@ pub enum ListKind {
     Cases { returns: bool },
     /// Of a class, in braces (14.6).
     Members,
+    /// Behind `async`: arguments, or the parameters of an async arrow (15.9 of the 13th edition).
+    AsyncArguments,
 }
 
 impl ListKind {
@@ -51,7 +53,9 @@ impl ListKind {
         ensures { option_map (λ mark. mark.now) result ≡ opening self }
     {
         match self {
-            ListKind::Arguments | ListKind::ParenthesizedItems => Some("("),
+            ListKind::Arguments | ListKind::ParenthesizedItems | ListKind::AsyncArguments => {
+                Some("(")
+            }
             ListKind::Parameters | ListKind::NoParameter | ListKind::OneParameter => Some("("),
             ListKind::Elements => Some("["),
             ListKind::Properties | ListKind::Cases { .. } | ListKind::Members => Some("{"),
@@ -64,7 +68,9 @@ impl ListKind {
         ensures { option_map (λ mark. mark.now) result ≡ closing self }
     {
         match self {
-            ListKind::Arguments | ListKind::ParenthesizedItems => Some(")"),
+            ListKind::Arguments | ListKind::ParenthesizedItems | ListKind::AsyncArguments => {
+                Some(")")
+            }
             ListKind::Parameters | ListKind::NoParameter | ListKind::OneParameter => Some(")"),
             ListKind::Elements => Some("]"),
             ListKind::Properties | ListKind::Cases { .. } | ListKind::Members => Some("}"),
@@ -78,7 +84,9 @@ impl ListKind {
     {
         match self {
             ListKind::Elements | ListKind::Properties => shape.is_either(),
-            ListKind::ParenthesizedItems => shape.is_expression || shape.is_bound(),
+            ListKind::ParenthesizedItems | ListKind::AsyncArguments => {
+                shape.is_expression || shape.is_bound()
+            }
             ListKind::Parameters | ListKind::OneParameter => shape.is_bound(),
             _ => shape.is_expression,
         }

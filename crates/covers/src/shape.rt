@@ -81,6 +81,7 @@ impl CoverShape {
     };
 
     /// Of an expression that is no array, no object and no assignment: a name, a member outside an optional chain, or another.
+    #[inline(always)]
     pub fn of(expression: &BoxedNode<'_>) -> CoverShape
         ensures { result ≡ shape_of expression.now }
     {

@@ -6,7 +6,7 @@ use Rattle.early_errors.specs.declared.walk.WalkKind.{WalkKind}
 use Rattle.early_errors.specs.declared.walk.WalkKind.TheVariants as inside
 use Rattle.early_errors.specs.Owns.{inside_of, plain_errors, vars_of}
 use Rattle.tree.specs.Tree.{Tree, node, kind_of, flags_of, Parts, none, part, gap, parts_of}
-use Rattle.early_errors.specs.Around.{Around, is_method, within}
+use Rattle.early_errors.specs.Around.{Around, around_first, around_others, is_method, settled, within}
 use Rattle.early_errors.specs.Passed.{IsOpen}
 use Rattle.early_errors.specs.Names.{var_names, parts_vars}
 use Rattle.early_errors.specs.Early.{Error, own_errors, errors_within, parts_errors}
@@ -37,8 +37,8 @@ unfolding parts_errors parts_vars
 ahead-end f z q total ps e so = sym (sooner-none q) ∙ sym (sooner-none (sooner q None)) ∙ sym (ap (ahead f z q) e) ∙ so
 
 -- of a node that was passed
-pub open_found : (f : List ℕ → Option Error) (y z : Around) (t : Tree) (q r : Option Error) → IsOpen t → y ≡ within z → r ≡ ahead f y q (parts_of t) → r ≡ sooner (after q (errors_within z t)) (hits f (var_names t))
-open_found f y z t q r h e found = found ∙ (λ i. sooner (after q ((ap (λ x. parts_errors x x (parts_of t)) e ∙ sym (h.0 z)) i)) (hits f (sym h.1 i)))
+pub open_found : (f : List ℕ → Option Error) (b : Bool) (y z : Around) (t : Tree) (q r : Option Error) → IsOpen b t → z.no_arguments ≡ b → settled z (kind_of t) ≡ z → y ≡ within z → r ≡ ahead f y q (parts_of t) → r ≡ sooner (after q (errors_within z t)) (hits f (var_names t))
+open_found f b y z t q r h a still e found = found ∙ (λ i. sooner (after q ((ap (λ x. parts_errors x x (parts_of t)) e ∙ sym (h.0 z a still)) i)) (hits f (sym h.1 i)))
 
 abbrev in_declaration : WalkKind → Bool
 in_declaration inside.Declaration = true
@@ -49,12 +49,13 @@ no_declaration true h = false≢true (ap in_declaration h)
 no_declaration false h = false≢true (ap in_declaration h)
 
 -- of a declaration behind its own errors
-pub declared_found : (f : List ℕ → Option Error) (y z : Around) (t : Tree) (o q r : Option Error) → inside_of (kind_of t) (flags_of t).form ≡ inside.Declaration → y ≡ within z → q ≡ sooner (after o (plain_errors z t)) (hits f (vars_of t)) →
+pub declared_found : (f : List ℕ → Option Error) (y z : Around) (t : Tree) (o q r : Option Error) → inside_of (kind_of t) (flags_of t).form ≡ inside.Declaration → settled z (kind_of t) ≡ z → y ≡ within z → q ≡ sooner (after o (plain_errors z t)) (hits f (vars_of t)) →
     r ≡ ahead f y q (parts_of t) → r ≡ sooner (after o (errors_within z t)) (hits f (var_names t))
 unfolding errors_within var_names
-declared_found f y z (node VariableDeclaration w g s e ps) o q r h x d found =
+declared_found f y z (node VariableDeclaration w g s e ps) o q r h still x d found =
     let t = node VariableDeclaration w g s e ps in
     found ∙ (λ i. ahead f (x i) (d i) ps) ∙ joined f o (own_errors z t) (parts_errors (within z) (within z) ps) (vars_of t) (parts_vars ps)
     ∙ ap (λ v. sooner (after o (own_errors z t ++ parts_errors v v ps)) (hits f (vars_of t ++ parts_vars ps))) (sym (same_round z))
-declared_found f y z (node Property w g s e ps) o q r h x d found = absurd (no_declaration (is_method g.form) h)
-declared_found f y z (node _ w g s e ps) o q r h x d found = absurd (false≢true (ap in_declaration h))
+    ∙ ap (λ v. sooner (after o (own_errors v t ++ parts_errors (around_first v VariableDeclaration g ps) (around_others v VariableDeclaration g ps) ps)) (hits f (vars_of t ++ parts_vars ps))) (sym still)
+declared_found f y z (node Property w g s e ps) o q r h still x d found = absurd (no_declaration (is_method g.form) h)
+declared_found f y z (node _ w g s e ps) o q r h still x d found = absurd (false≢true (ap in_declaration h))

@@ -1,17 +1,14 @@
 -- What an item gives, by its kind.
-use Rattle.std.proofs.Common.{◌≡◌, ℕ, Bool, true, false, cond, List, [], ◌++◌, map, refl, sym, ap, ◌∙◌}
-use Rattle.std.specs.Prelude.{codes}
-use Rattle.std.specs.Str.{bytes_eq}
+use Rattle.std.proofs.Common.{◌≡◌, Bool, true, false, map, sym, ap, ◌∙◌}
 use Rattle.tree.specs.declared.kind.Kind.{Kind}
-use Rattle.tree.specs.declared.kind.Kind.TheVariants.{VariableDeclaration, ClassDeclaration, FunctionDeclaration}
-use Rattle.tree.specs.Tree.{Tree, Parts, node, kind_of, parts_of, part_at}
-use Rattle.name_tables.specs.declared.declared.Lexical.TheVariants as lexical
+use Rattle.tree.specs.declared.kind.Kind.TheVariants.{FunctionDeclaration}
+use Rattle.tree.specs.Tree.{Tree, node, kind_of, parts_of, part_at}
 use Rattle.name_tables.specs.BoundNames.{each_part}
 use Rattle.name_tables.specs.DeclaratorParts.{lexical_of}
 use Rattle.name_tables.specs.DeclaratorParts as parts
 use Rattle.name_tables.specs.DeclaredNames as declared
 use Rattle.name_tables.proofs.Retold.{lexically, at-case}
-use Rattle.early_errors.specs.Names.{declared_names, lexical_names, function_names}
+use Rattle.early_errors.specs.Names.{lexical_names, function_names}
 use Rattle.early_errors.specs.Owns.{case_names, declares_function}
 use Rattle.early_errors.specs.Walk.{lexical_as, name_of, names_at}
 use Rattle.early_errors.proofs.FunctionLists.{others-drop}

@@ -3,23 +3,24 @@ use Rattle.std.proofs.Common.{◌≡◌, ℕ, Bool, true, false, not, List, [], 
 use Rattle.std.specs.Prelude.{◌||◌, ◌&&◌, codes}
 use Rattle.tree.specs.declared.kind.Flags.{Flags}
 use Rattle.tree.specs.Tree.{Tree, kind_of, start_of, parts_of, flags_of, part_at}
-use Rattle.language.specs.Vocabulary.{is}
-use Rattle.early_errors.specs.Keys.{key_value}
-use Rattle.early_errors.specs.Classes.{has_key, key_places}
-use Rattle.early_errors.specs.declared.EarlyError.TheVariants.{MisplacedJump, UndefinedLabel, SpecialConstructor, StaticPrototype}
+use Prim.Native.String.{String}
+use Rattle.tree.specs.Uses.{is_init}
+use Rattle.language.specs.Expressions.{value_form}
+use Rattle.early_errors.specs.Classes.{has_key, key_places, named}
+use Rattle.early_errors.specs.declared.EarlyError.TheVariants.{MisplacedJump, UndefinedLabel, SpecialConstructor, StaticPrototype, FieldNamedConstructor}
 use Rattle.early_errors.specs.declared.own.OwnErrors.TheVariants as own
 use Rattle.early_errors.specs.Around.{Around, is_accessor}
 use Rattle.early_errors.specs.Names.{Named, places, when, first_names}
 use Rattle.early_errors.specs.Labels.{is_bare, labels_statement, labels_a_loop}
-use Rattle.early_errors.specs.Early.{Error, each, own_errors}
-use Rattle.early_errors.specs.Owns.{own_of, Knows, misses, key_says, places_at}
+use Rattle.early_errors.specs.Early.{Error, each, least, own_errors}
+use Rattle.early_errors.specs.Owns.{own_of, misses, form_at, key_says, places_at}
 use Rattle.early_errors.specs.Walk.{after}
-use Rattle.early_errors.proofs.Least.{after-append}
+use Rattle.early_errors.proofs.Least.{after-append, sooner-turns}
 use Rattle.early_errors.proofs.OwnErrorsByKind.{small_given}
-use Rattle.early_errors.proofs.MemberKeys.{key-says, key-places}
-use Rattle.early_errors.proofs.Jumps.{misses_any, misses_loop}
+use Rattle.early_errors.proofs.MemberKeys.{key-says, key-places, special-places}
+use Rattle.early_errors.proofs.Jumps.{Answers, misses_any, misses_loop}
 
-pub breaks : (z : Around) (t : Tree) (f : List ℕ → Option Bool) (ns : List Named) (b may : Bool) (s : ℕ) (o p q : Option Error) → own_of (kind_of t) ≡ own.Break → Knows f z.labels → ns ≡ first_names (parts_of t) →
+pub breaks : (z : Around) (t : Tree) (f : List ℕ → Option Bool) (ns : List Named) (b may : Bool) (s : ℕ) (o p q : Option Error) → own_of (kind_of t) ≡ own.Break → Answers f z.labels → ns ≡ first_names (parts_of t) →
     s ≡ start_of t → may ≡ (z.in_loop || z.in_switch) → b ≡ (is_bare (parts_of t) && not may) → p ≡ after o (each MisplacedJump (when b (s ∷ []))) → q ≡ after p (each UndefinedLabel (places (filter (misses false f) ns))) →
     q ≡ after o (own_errors z t)
 breaks z t f ns b may s o p q k h n e m d x y =
@@ -27,7 +28,7 @@ breaks z t f ns b may s o p q k h n e m d x y =
     ∙ (λ i. after (after o (each MisplacedJump (when ((d ∙ ap (λ v. is_bare (parts_of t) && not v) m) i) (e i ∷ [])))) (each UndefinedLabel (places (filter (λ v. not (labels_statement z.labels v.0)) (first_names (parts_of t))))))
     ∙ sym (ap (after o) (small_given own.Break z t k) ∙ after-append o (each MisplacedJump (when (is_bare (parts_of t) && not (z.in_loop || z.in_switch)) (start_of t ∷ []))) (each UndefinedLabel (places (filter (λ v. not (labels_statement z.labels v.0)) (first_names (parts_of t))))))
 
-pub continues : (z : Around) (t : Tree) (f : List ℕ → Option Bool) (ns : List Named) (b : Bool) (s : ℕ) (o p q : Option Error) → own_of (kind_of t) ≡ own.Continue → Knows f z.labels → ns ≡ first_names (parts_of t) →
+pub continues : (z : Around) (t : Tree) (f : List ℕ → Option Bool) (ns : List Named) (b : Bool) (s : ℕ) (o p q : Option Error) → own_of (kind_of t) ≡ own.Continue → Answers f z.labels → ns ≡ first_names (parts_of t) →
     s ≡ start_of t → b ≡ (is_bare (parts_of t) && not z.in_loop) → p ≡ after o (each MisplacedJump (when b (s ∷ []))) → q ≡ after p (each UndefinedLabel (places (filter (misses true f) ns))) →
     q ≡ after o (own_errors z t)
 continues z t f ns b s o p q k h n e d x y =
@@ -35,18 +36,35 @@ continues z t f ns b s o p q k h n e d x y =
     ∙ (λ i. after (after o (each MisplacedJump (when (d i) (e i ∷ [])))) (each UndefinedLabel (places (filter (λ v. not (labels_a_loop z.labels v.0)) (first_names (parts_of t))))))
     ∙ sym (ap (after o) (small_given own.Continue z t k) ∙ after-append o (each MisplacedJump (when (is_bare (parts_of t) && not z.in_loop) (start_of t ∷ []))) (each UndefinedLabel (places (filter (λ v. not (labels_a_loop z.labels v.0)) (first_names (parts_of t))))))
 
-pub members : (z : Around) (t : Tree) (g : Flags) (k : Option Tree) (a b d e h i : Bool) (o p q : Option Error) → own_of (kind_of t) ≡ own.Member → g ≡ flags_of t → k ≡ part_at (parts_of t) 0 → a ≡ is_accessor g.form →
-    b ≡ (a && not g.is_static) → d ≡ (not g.computed && key_says k (codes "constructor")) → e ≡ (b && d) → p ≡ after o (each SpecialConstructor (when e (places_at k))) →
+-- a key's value, neither computed nor private
+key_is : (g : Flags) (t : Tree) (k : Option Tree) (w : String) (d : Bool) → k ≡ part_at (parts_of t) 0 → g ≡ flags_of t → d ≡ (not g.computed && key_says k (codes w)) →
+    d ≡ (not (flags_of t).computed && has_key (parts_of t) (λ m. named m w))
+key_is g t k w d x f s = s ∙ ap (λ c. not g.computed && c) (key-says (parts_of t) (λ m. named m w) k (codes w) x (λ m. refl)) ∙ ap (λ c. not c.computed && has_key (parts_of t) (λ m. named m w)) f
+
+pub members : (z : Around) (t : Tree) (g : Flags) (k v : Option Tree) (a y b n d e h i : Bool) (o p q : Option Error) → own_of (kind_of t) ≡ own.Member → g ≡ flags_of t → k ≡ part_at (parts_of t) 0 → v ≡ part_at (parts_of t) 1 →
+    a ≡ is_accessor g.form → y ≡ form_at v → b ≡ (a || y) → n ≡ (b && not g.is_static) → d ≡ (not g.computed && key_says k (codes "constructor")) → e ≡ (n && d) → p ≡ after o (each SpecialConstructor (when e (places_at k))) →
     h ≡ (not g.computed && key_says k (codes "prototype")) → i ≡ (g.is_static && h) → q ≡ after p (each StaticPrototype (when i (places_at k))) → q ≡ after o (own_errors z t)
-members z t g k a b d e h i o p q m f x n r s u v w y j =
+members z t g k v a y b n d e h i o p q m f x l r form either static s both first says all last =
     let ps = parts_of t in
-    let special : e ≡ ((is_accessor (flags_of t).form && not (flags_of t).is_static) && (not (flags_of t).computed && has_key ps (λ m. is (key_value m) "constructor"))) =
-    u ∙ (λ l. (r ∙ ap (λ c. c && not g.is_static) n) l && (s ∙ ap (λ c. not g.computed && c) (key-says ps (λ m. is (key_value m) "constructor") k (codes "constructor") x (λ m. refl))) l)
-    ∙ ap (λ c. (is_accessor c.form && not c.is_static) && (not c.computed && has_key ps (λ m. is (key_value m) "constructor"))) f
-    in
-    let prototype : i ≡ ((flags_of t).is_static && (not (flags_of t).computed && has_key ps (λ m. is (key_value m) "prototype"))) =
-    y ∙ (λ l. g.is_static && (w ∙ ap (λ c. not g.computed && c) (key-says ps (λ m. is (key_value m) "prototype") k (codes "prototype") x (λ m. refl))) l)
-    ∙ ap (λ c. c.is_static && (not c.computed && has_key ps (λ m. is (key_value m) "prototype"))) f
-    in
-    j ∙ (λ l. after (v l) (each StaticPrototype (when (prototype l) (key-places ps k x l)))) ∙ (λ l. after (after o (each SpecialConstructor (when (special l) (key-places ps k x l)))) (each StaticPrototype (when ((flags_of t).is_static && (not (flags_of t).computed && has_key ps (λ m. is (key_value m) "prototype"))) (key_places ps))))
-    ∙ sym (ap (after o) (small_given own.Member z t m) ∙ after-append o (each SpecialConstructor (when ((is_accessor (flags_of t).form && not (flags_of t).is_static) && (not (flags_of t).computed && has_key ps (λ m. is (key_value m) "constructor"))) (key_places ps))) (each StaticPrototype (when ((flags_of t).is_static && (not (flags_of t).computed && has_key ps (λ m. is (key_value m) "prototype"))) (key_places ps))))
+    let c : Bool = not (flags_of t).computed && has_key ps (λ m. named m "constructor") in
+    let special_so : List Error = each SpecialConstructor (when (((is_accessor (flags_of t).form || not (is_init (value_form ps))) && not (flags_of t).is_static) && c) (key_places ps)) in
+    let static_so : List Error = each StaticPrototype (when ((flags_of t).is_static && (not (flags_of t).computed && has_key ps (λ m. named m "prototype"))) (key_places ps)) in
+    let differs : b ≡ (is_accessor (flags_of t).form || form_at v) = either ∙ (λ j. (r ∙ ap (λ c. is_accessor c.form) f) j || form j) in
+    let special : e ≡ (((is_accessor (flags_of t).form || form_at v) && not (flags_of t).is_static) && c) = both ∙ (λ j. (static ∙ (λ u. differs u && not (f u).is_static)) j && key_is g t k "constructor" d x f s j) in
+    let prototype : i ≡ ((flags_of t).is_static && (not (flags_of t).computed && has_key ps (λ m. named m "prototype"))) = all ∙ (λ j. (f j).is_static && key_is g t k "prototype" h x f says j) in
+    last ∙ (λ j. after (first j) (each StaticPrototype (when (prototype j) (key-places ps k x j))))
+    ∙ ap (λ l. after (after o (each SpecialConstructor l)) static_so) (ap (λ w. when w (places_at k)) special ∙ special-places ps k v (is_accessor (flags_of t).form) (not (flags_of t).is_static) c x l)
+    ∙ sym (ap (after o) (small_given own.Member z t m) ∙ after-append o special_so static_so)
+
+pub fields : (z : Around) (t : Tree) (g : Flags) (k : Option Tree) (d h i : Bool) (o p q : Option Error) → own_of (kind_of t) ≡ own.Field → g ≡ flags_of t → k ≡ part_at (parts_of t) 0 →
+    d ≡ (not g.computed && key_says k (codes "constructor")) → p ≡ after o (each FieldNamedConstructor (when d (places_at k))) → h ≡ (not g.computed && key_says k (codes "prototype")) → i ≡ (g.is_static && h) →
+    q ≡ after p (each StaticPrototype (when i (places_at k))) → q ≡ after o (own_errors z t)
+fields z t g k d h i o p q m f x s first says all last =
+    let ps = parts_of t in
+    let named_so : List Error = each FieldNamedConstructor (when (not (flags_of t).computed && has_key ps (λ m. named m "constructor")) (key_places ps)) in
+    let static_so : List Error = each StaticPrototype (when ((flags_of t).is_static && (not (flags_of t).computed && has_key ps (λ m. named m "prototype"))) (key_places ps)) in
+    let prototype : i ≡ ((flags_of t).is_static && (not (flags_of t).computed && has_key ps (λ m. named m "prototype"))) = all ∙ (λ j. (f j).is_static && key_is g t k "prototype" h x f says j) in
+    last ∙ (λ j. after (first j) (each StaticPrototype (when (prototype j) (key-places ps k x j))))
+    ∙ (λ j. after (after o (each FieldNamedConstructor (when (key_is g t k "constructor" d x f s j) (key-places ps k x j)))) static_so)
+    ∙ sooner-turns o (least named_so) (least static_so)
+    ∙ sym (ap (after o) (small_given own.Field z t m) ∙ after-append o static_so named_so)

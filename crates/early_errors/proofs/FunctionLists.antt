@@ -1,5 +1,5 @@
 -- Functions: their parameters, bodies and directives, part by part.
-use Rattle.std.proofs.Common.{◌≡◌, ℕ, zero, suc, ◌+◌, ◌-◌, ◌<◌, ◌≤◌, Bool, true, List, [], ◌∷◌, Option, Some, None, refl, sym, ap, ◌∙◌, arith, add-one}
+use Rattle.std.proofs.Common.{◌≡◌, ℕ, zero, suc, ◌+◌, ◌-◌, ◌<◌, ◌≤◌, Bool, true, List, Option, Some, None, refl, sym, ap, ◌∙◌, arith, add-one}
 use Rattle.std.specs.Prelude.{◌&&◌}
 use Rattle.tree.specs.declared.kind.Kind.TheVariants.{BlockStatement}
 use Rattle.tree.specs.Tree.{Tree, node, Parts, none, part, gap, part_at, part_count, parts_drop}

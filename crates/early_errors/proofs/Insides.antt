@@ -4,21 +4,21 @@ use Rattle.std.specs.Prelude.{◌||◌}
 use Rattle.std.specs.Str.{bytes_eq}
 use Rattle.std.proofs.lemmas.Bool.{false≢true}
 use Rattle.std.proofs.lemmas.Slice.Eq.{bytes_eq-Decides}
-use Rattle.tree.specs.declared.kind.Kind.TheVariants.{Program, BlockStatement, SwitchStatement, CatchClause, ForStatement, ForInStatement, ForOfStatement, FunctionDeclaration, FunctionExpression, ArrowFunctionExpression, MethodDefinition, Property, LabeledStatement, VariableDeclaration}
+use Rattle.tree.specs.declared.kind.Kind.TheVariants.{Program, StaticBlock, BlockStatement, SwitchStatement, CatchClause, ClassBody, ForStatement, ForInStatement, ForOfStatement, FunctionDeclaration, FunctionExpression, ArrowFunctionExpression, MethodDefinition, PropertyDefinition, Property, LabeledStatement, VariableDeclaration}
 use Rattle.tree.specs.Tree.{Tree, node, Parts, none, part, gap, kind_of, text_of, flags_of, parts_of, part_at, part_count}
 use Rattle.language.specs.FirstPart.{others}
 use Rattle.early_errors.specs.declared.walk.WalkKind.{WalkKind}
 use Rattle.early_errors.specs.declared.walk.WalkKind.TheVariants as inside
-use Rattle.early_errors.specs.Around.{Around, Label, is_method, labels_loop, last_loop, own_label}
+use Rattle.early_errors.specs.Around.{Around, Label, is_method, labels_loop, last_loop, own_label, private_keys}
 use Rattle.early_errors.specs.Names.{Named, var_names, parts_vars}
 use Rattle.early_errors.specs.Early.{own_errors}
-use Rattle.early_errors.specs.Owns.{Knows, label_of, or_false, inside_of, inner_labels, first_labels, plain_errors, vars_of}
+use Rattle.early_errors.specs.Owns.{Beside, label_of, or_false, inside_of, makes_scope, inner_beside, first_beside, unlabelled, plain_errors, vars_of}
 use Rattle.name_tables.specs.Tables.{Agree, with_value}
 
--- the labels round the first part, those round the others, the node's own `var`s, all its `var`s, its errors
-abbrev Facts : Tree → Around → List Label → (first others : List Label) → (vars : List Named) → Type 0
-Facts t z ls xs ys vs =
-    (first_labels (kind_of t) (flags_of t) (parts_of t) ls ≡ xs) × ((inner_labels (kind_of t) (flags_of t) (parts_of t) ls ≡ ys) × ((var_names t ≡ vs) × (plain_errors z t ≡ own_errors z t)))
+-- what holds beside round the first part and round the others, all the node's `var`s, its errors
+abbrev Facts : Tree → Around → Beside → (first others : Beside) → (vars : List Named) → Type 0
+Facts t z r x y vs =
+    (first_beside (kind_of t) (flags_of t) (parts_of t) r ≡ x) × ((inner_beside (kind_of t) (flags_of t) (parts_of t) r ≡ y) × ((var_names t ≡ vs) × (plain_errors z t ≡ own_errors z t)))
 
 abbrev in_function : WalkKind → Bool
 in_function inside.Function = true
@@ -36,23 +36,31 @@ abbrev in_label : WalkKind → Bool
 in_label inside.Label = true
 in_label _ = false
 
-abbrev pub in_scope : WalkKind → Bool
+abbrev in_scope : WalkKind → Bool
 in_scope inside.Scope = true
 in_scope _ = false
+
+abbrev in_class : WalkKind → Bool
+in_class inside.ClassBody = true
+in_class _ = false
+
+abbrev in_block : WalkKind → Bool
+in_block inside.StaticBlock = true
+in_block _ = false
 
 never : (b : Bool) → cond b inside.Method inside.Plain ≡ inside.Function → ⊥
 never true h = false≢true (ap in_function h)
 never false h = false≢true (ap in_function h)
 
-a_method : (b : Bool) (ls : List Label) → cond b inside.Method inside.Plain ≡ inside.Method → cond b [] ls ≡ []
-a_method true ls h = refl
-a_method false ls h = absurd (false≢true (ap in_method h))
+a_method : (b : Bool) (r : Beside) → cond b inside.Method inside.Plain ≡ inside.Method → cond b (unlabelled r) r ≡ unlabelled r
+a_method true r h = refl
+a_method false r h = absurd (false≢true (ap in_method h))
 
-no_method : (b : Bool) (ls : List Label) → cond b inside.Method inside.Plain ≡ inside.Plain → cond b [] ls ≡ ls
-no_method true ls h = absurd (false≢true (ap in_plain h))
-no_method false ls h = refl
+no_method : (b : Bool) (r : Beside) → cond b inside.Method inside.Plain ≡ inside.Plain → cond b (unlabelled r) r ≡ r
+no_method true r h = absurd (false≢true (ap in_plain h))
+no_method false r h = refl
 
-pub not_scope : (b : Bool) → cond b inside.Method inside.Plain ≡ inside.Scope → ⊥
+not_scope : (b : Bool) → cond b inside.Method inside.Plain ≡ inside.Scope → ⊥
 not_scope true h = false≢true (ap in_scope h)
 not_scope false h = false≢true (ap in_scope h)
 
@@ -60,57 +68,102 @@ not_label : (b : Bool) → cond b inside.Method inside.Plain ≡ inside.Label �
 not_label true h = false≢true (ap in_label h)
 not_label false h = false≢true (ap in_label h)
 
-pub function_facts : (t : Tree) (z : Around) (ls : List Label) → inside_of (kind_of t) (flags_of t).form ≡ inside.Function → Facts t z ls [] [] [] × (vars_of t ≡ [])
-unfolding var_names
-function_facts (node FunctionDeclaration w g s e ps) z ls h = ((refl, (refl, (refl, refl))), refl)
-function_facts (node FunctionExpression w g s e ps) z ls h = ((refl, (refl, (refl, refl))), refl)
-function_facts (node ArrowFunctionExpression w g s e ps) z ls h = ((refl, (refl, (refl, refl))), refl)
-function_facts (node Property w g s e ps) z ls h = absurd (never (is_method g.form) h)
-function_facts (node _ w g s e ps) z ls h = absurd (false≢true (ap in_function h))
+not_class : (b : Bool) → cond b inside.Method inside.Plain ≡ inside.ClassBody → ⊥
+not_class true h = false≢true (ap in_class h)
+not_class false h = false≢true (ap in_class h)
 
-pub method_facts : (t : Tree) (z : Around) (ls : List Label) → inside_of (kind_of t) (flags_of t).form ≡ inside.Method → Facts t z ls ls [] (vars_of t ++ parts_vars (parts_of t))
-unfolding var_names
-method_facts (node MethodDefinition w g s e ps) z ls h = (refl, (refl, (refl, refl)))
-method_facts (node Property w g s e ps) z ls h = (refl, (a_method (is_method g.form) ls h, (refl, refl)))
-method_facts (node _ w g s e ps) z ls h = absurd (false≢true (ap in_method h))
+not_block : (b : Bool) → cond b inside.Method inside.Plain ≡ inside.StaticBlock → ⊥
+not_block true h = false≢true (ap in_block h)
+not_block false h = false≢true (ap in_block h)
 
-pub plain_facts : (t : Tree) (z : Around) (ls : List Label) → inside_of (kind_of t) (flags_of t).form ≡ inside.Plain → Facts t z ls ls ls (vars_of t ++ parts_vars (parts_of t))
+pub function_facts : (t : Tree) (z : Around) (r : Beside) → inside_of (kind_of t) (flags_of t).form ≡ inside.Function → Facts t z r (unlabelled r) (unlabelled r) [] × (vars_of t ≡ [])
 unfolding var_names
-plain_facts (node FunctionDeclaration w g s e ps) z ls h = absurd (false≢true (ap in_plain h))
-plain_facts (node FunctionExpression w g s e ps) z ls h = absurd (false≢true (ap in_plain h))
-plain_facts (node ArrowFunctionExpression w g s e ps) z ls h = absurd (false≢true (ap in_plain h))
-plain_facts (node MethodDefinition w g s e ps) z ls h = absurd (false≢true (ap in_plain h))
-plain_facts (node LabeledStatement w g s e ps) z ls h = absurd (false≢true (ap in_plain h))
-plain_facts (node VariableDeclaration w g s e ps) z ls h = absurd (false≢true (ap in_plain h))
-plain_facts (node Program w g s e ps) z ls h = absurd (false≢true (ap in_plain h))
-plain_facts (node BlockStatement w g s e ps) z ls h = absurd (false≢true (ap in_plain h))
-plain_facts (node SwitchStatement w g s e ps) z ls h = absurd (false≢true (ap in_plain h))
-plain_facts (node CatchClause w g s e ps) z ls h = absurd (false≢true (ap in_plain h))
-plain_facts (node ForStatement w g s e ps) z ls h = absurd (false≢true (ap in_plain h))
-plain_facts (node ForInStatement w g s e ps) z ls h = absurd (false≢true (ap in_plain h))
-plain_facts (node ForOfStatement w g s e ps) z ls h = absurd (false≢true (ap in_plain h))
-plain_facts (node Property w g s e ps) z ls h = (refl, (no_method (is_method g.form) ls h, (refl, refl)))
-plain_facts (node _ w g s e ps) z ls h = (refl, (refl, (refl, refl)))
+function_facts (node FunctionDeclaration w g s e ps) z r h = ((refl, (refl, (refl, refl))), refl)
+function_facts (node FunctionExpression w g s e ps) z r h = ((refl, (refl, (refl, refl))), refl)
+function_facts (node ArrowFunctionExpression w g s e ps) z r h = ((refl, (refl, (refl, refl))), refl)
+function_facts (node Property w g s e ps) z r h = absurd (never (is_method g.form) h)
+function_facts (node _ w g s e ps) z r h = absurd (false≢true (ap in_function h))
 
-pub label_facts : (t : Tree) (z : Around) (ls : List Label) → inside_of (kind_of t) (flags_of t).form ≡ inside.Label →
-    Facts t z ls (own_label (parts_of t) ls) (own_label (parts_of t) ls) (vars_of t ++ parts_vars (parts_of t)) × (kind_of t ≡ LabeledStatement)
+pub method_facts : (t : Tree) (z : Around) (r : Beside) → inside_of (kind_of t) (flags_of t).form ≡ inside.Method → Facts t z r r (unlabelled r) (vars_of t ++ parts_vars (parts_of t))
 unfolding var_names
-label_facts (node LabeledStatement w g s e ps) z ls h = ((refl, (refl, (refl, refl))), refl)
-label_facts (node Property w g s e ps) z ls h = absurd (not_label (is_method g.form) h)
-label_facts (node _ w g s e ps) z ls h = absurd (false≢true (ap in_label h))
+method_facts (node MethodDefinition w g s e ps) z r h = (refl, (refl, (refl, refl)))
+method_facts (node PropertyDefinition w g s e ps) z r h = (refl, (refl, (refl, refl)))
+method_facts (node Property w g s e ps) z r h = (refl, (a_method (is_method g.form) r h, (refl, refl)))
+method_facts (node _ w g s e ps) z r h = absurd (false≢true (ap in_method h))
 
-pub scope_facts : (t : Tree) (z : Around) (ls : List Label) → inside_of (kind_of t) (flags_of t).form ≡ inside.Scope →
-    (first_labels (kind_of t) (flags_of t) (parts_of t) ls ≡ ls) × ((inner_labels (kind_of t) (flags_of t) (parts_of t) ls ≡ ls) × ((var_names t ≡ parts_vars (parts_of t)) × (vars_of t ≡ [])))
+pub plain_facts : (t : Tree) (z : Around) (r : Beside) → inside_of (kind_of t) (flags_of t).form ≡ inside.Plain → Facts t z r r r (vars_of t ++ parts_vars (parts_of t))
 unfolding var_names
-scope_facts (node Program w g s e ps) z ls h = (refl, (refl, (refl, refl)))
-scope_facts (node BlockStatement w g s e ps) z ls h = (refl, (refl, (refl, refl)))
-scope_facts (node SwitchStatement w g s e ps) z ls h = (refl, (refl, (refl, refl)))
-scope_facts (node CatchClause w g s e ps) z ls h = (refl, (refl, (refl, refl)))
-scope_facts (node ForStatement w g s e ps) z ls h = (refl, (refl, (refl, refl)))
-scope_facts (node ForInStatement w g s e ps) z ls h = (refl, (refl, (refl, refl)))
-scope_facts (node ForOfStatement w g s e ps) z ls h = (refl, (refl, (refl, refl)))
-scope_facts (node Property w g s e ps) z ls h = absurd (not_scope (is_method g.form) h)
-scope_facts (node _ w g s e ps) z ls h = absurd (false≢true (ap in_scope h))
+plain_facts (node FunctionDeclaration w g s e ps) z r h = absurd (false≢true (ap in_plain h))
+plain_facts (node FunctionExpression w g s e ps) z r h = absurd (false≢true (ap in_plain h))
+plain_facts (node ArrowFunctionExpression w g s e ps) z r h = absurd (false≢true (ap in_plain h))
+plain_facts (node MethodDefinition w g s e ps) z r h = absurd (false≢true (ap in_plain h))
+plain_facts (node PropertyDefinition w g s e ps) z r h = absurd (false≢true (ap in_plain h))
+plain_facts (node ClassBody w g s e ps) z r h = absurd (false≢true (ap in_plain h))
+plain_facts (node StaticBlock w g s e ps) z r h = absurd (false≢true (ap in_plain h))
+plain_facts (node LabeledStatement w g s e ps) z r h = absurd (false≢true (ap in_plain h))
+plain_facts (node VariableDeclaration w g s e ps) z r h = absurd (false≢true (ap in_plain h))
+plain_facts (node Program w g s e ps) z r h = absurd (false≢true (ap in_plain h))
+plain_facts (node BlockStatement w g s e ps) z r h = absurd (false≢true (ap in_plain h))
+plain_facts (node SwitchStatement w g s e ps) z r h = absurd (false≢true (ap in_plain h))
+plain_facts (node CatchClause w g s e ps) z r h = absurd (false≢true (ap in_plain h))
+plain_facts (node ForStatement w g s e ps) z r h = absurd (false≢true (ap in_plain h))
+plain_facts (node ForInStatement w g s e ps) z r h = absurd (false≢true (ap in_plain h))
+plain_facts (node ForOfStatement w g s e ps) z r h = absurd (false≢true (ap in_plain h))
+plain_facts (node Property w g s e ps) z r h = (refl, (no_method (is_method g.form) r h, (refl, refl)))
+plain_facts (node _ w g s e ps) z r h = (refl, (refl, (refl, refl)))
+
+pub label_facts : (t : Tree) (z : Around) (r : Beside) → inside_of (kind_of t) (flags_of t).form ≡ inside.Label →
+    Facts t z r r (record r { labels = own_label (parts_of t) r.labels }) (vars_of t ++ parts_vars (parts_of t))
+unfolding var_names
+label_facts (node LabeledStatement w g s e ps) z r h = (refl, (refl, (refl, refl)))
+label_facts (node Property w g s e ps) z r h = absurd (not_label (is_method g.form) h)
+label_facts (node _ w g s e ps) z r h = absurd (false≢true (ap in_label h))
+
+-- the private names of a class body stand round all its elements
+pub class_facts : (t : Tree) (z : Around) (r : Beside) → inside_of (kind_of t) (flags_of t).form ≡ inside.ClassBody →
+    let y : Beside = record r { privates = private_keys (parts_of t) ++ r.privates } in Facts t z r y y (vars_of t ++ parts_vars (parts_of t))
+unfolding var_names
+class_facts (node ClassBody w g s e ps) z r h = (refl, (refl, (refl, refl)))
+class_facts (node Property w g s e ps) z r h = absurd (not_class (is_method g.form) h)
+class_facts (node _ w g s e ps) z r h = absurd (false≢true (ap in_class h))
+
+-- what holds beside round the parts of a scope, its `var`s, its own
+abbrev ScopeFacts : Tree → Beside → Type 0
+ScopeFacts t r = (first_beside (kind_of t) (flags_of t) (parts_of t) r ≡ r) × ((inner_beside (kind_of t) (flags_of t) (parts_of t) r ≡ r) × (vars_of t ≡ []))
+
+-- no label stands beside a static block
+pub scope_facts : (t : Tree) (r : Beside) → makes_scope (kind_of t) ≡ true → (kind_of t ≡ StaticBlock → r.labels ≡ []) → ScopeFacts t r
+scope_facts (node Program w g s e ps) r h b = (refl, (refl, refl))
+scope_facts (node StaticBlock w g s e ps) r h b = let same : unlabelled r ≡ r = λ i. record r { labels = sym (b refl) i } in (same, (same, refl))
+scope_facts (node BlockStatement w g s e ps) r h b = (refl, (refl, refl))
+scope_facts (node SwitchStatement w g s e ps) r h b = (refl, (refl, refl))
+scope_facts (node CatchClause w g s e ps) r h b = (refl, (refl, refl))
+scope_facts (node ForStatement w g s e ps) r h b = (refl, (refl, refl))
+scope_facts (node ForInStatement w g s e ps) r h b = (refl, (refl, refl))
+scope_facts (node ForOfStatement w g s e ps) r h b = (refl, (refl, refl))
+scope_facts (node _ w g s e ps) r h b = absurd (false≢true h)
+
+-- a scope that a walk goes into as such is no static block
+pub is_scope : (t : Tree) → inside_of (kind_of t) (flags_of t).form ≡ inside.Scope → (makes_scope (kind_of t) ≡ true) × (kind_of t ≡ StaticBlock → ⊥)
+is_scope (node Program w g s e ps) h = (refl, (λ x. cc))
+is_scope (node BlockStatement w g s e ps) h = (refl, (λ x. cc))
+is_scope (node SwitchStatement w g s e ps) h = (refl, (λ x. cc))
+is_scope (node CatchClause w g s e ps) h = (refl, (λ x. cc))
+is_scope (node ForStatement w g s e ps) h = (refl, (λ x. cc))
+is_scope (node ForInStatement w g s e ps) h = (refl, (λ x. cc))
+is_scope (node ForOfStatement w g s e ps) h = (refl, (λ x. cc))
+is_scope (node Property w g s e ps) h = absurd (not_scope (is_method g.form) h)
+is_scope (node _ w g s e ps) h = absurd (false≢true (ap in_scope h))
+
+pub is_labelled : (t : Tree) → inside_of (kind_of t) (flags_of t).form ≡ inside.Label → kind_of t ≡ LabeledStatement
+is_labelled (node LabeledStatement w g s e ps) h = refl
+is_labelled (node Property w g s e ps) h = absurd (not_label (is_method g.form) h)
+is_labelled (node _ w g s e ps) h = absurd (false≢true (ap in_label h))
+
+pub is_static_block : (t : Tree) → inside_of (kind_of t) (flags_of t).form ≡ inside.StaticBlock → kind_of t ≡ StaticBlock
+is_static_block (node StaticBlock w g s e ps) h = refl
+is_static_block (node Property w g s e ps) h = absurd (not_block (is_method g.form) h)
+is_static_block (node _ w g s e ps) h = absurd (false≢true (ap in_block h))
 
 -- ---- labels
 
@@ -121,7 +174,7 @@ no_own_label (part t ps) ls h = absurd (cc)
 
 -- a table with one label more knows it
 pub one_label : (f g : List ℕ → Option Bool) (ls : List Label) (ps : Parts) (t : Tree) (n : List ℕ) (b a : Bool) (v : Option Bool) → Some t ≡ part_at ps 0 → n ≡ text_of t → b ≡ last_loop (others ps) → v ≡ f n → a ≡ (b || or_false v) →
-    Knows f ls → Agree g (with_value f n (Some a)) → Knows g (own_label ps ls)
+    ((w : List ℕ) → f w ≡ label_of ls w) → Agree g (with_value f n (Some a)) → (w : List ℕ) → g w ≡ label_of (own_label ps ls) w
 one_label f g ls none t n b a v e m l x y k h w = absurd (cc)
 one_label f g ls (gap ps) t n b a v e m l x y k h w = absurd (cc)
 one_label f g ls (part u ps) t n b a v e m l x y k h w =

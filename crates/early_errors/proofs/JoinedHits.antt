@@ -1,13 +1,15 @@
 -- What a walk has found behind one part and behind the next, and behind all parts of a node.
 use Rattle.std.proofs.Common.{◌≡◌, ◌≢◌, ℕ, ◌+◌, ◌-◌, ◌<◌, true, false, cond, nat_eq, List, [], ◌∷◌, ◌++◌, Option, Some, None, refl, sym, ap, ◌∙◌, arith}
 use Rattle.std.proofs.lemmas.Bool.Decides.{nat_tests}
-use Rattle.tree.specs.Tree.{Tree, Parts, kind_of, flags_of, parts_of, part_at, part_count}
+use Rattle.std.proofs.lemmas.Bool.{false≢true}
+use Rattle.tree.specs.declared.kind.Kind.TheVariants.{Program, StaticBlock, BlockStatement, SwitchStatement, CatchClause, ForStatement, ForInStatement, ForOfStatement}
+use Rattle.tree.specs.Tree.{Tree, node, Parts, kind_of, flags_of, parts_of, part_at, part_count}
 use Rattle.early_errors.specs.declared.around.Context.{Context as Code}
 use Rattle.early_errors.specs.declared.EarlyError.{EarlyError}
-use Rattle.early_errors.specs.Around.{Around, Label, around_first, around_others}
+use Rattle.early_errors.specs.Around.{Around, settled, around_first, around_others}
 use Rattle.early_errors.specs.Names.{Named, var_names, parts_vars}
 use Rattle.early_errors.specs.Early.{Error, own_errors, errors_within, least}
-use Rattle.early_errors.specs.Owns.{round, plain_errors, vars_of, clash_with}
+use Rattle.early_errors.specs.Owns.{Beside, round, makes_scope, plain_errors, vars_of, clash_with}
 use Rattle.name_tables.specs.PatternParts.{at_part}
 use Rattle.name_tables.specs.Tables.{Agree}
 use Rattle.early_errors.specs.Walk.{sooner, after, hits, clashing}
@@ -54,25 +56,25 @@ part-missing f y z ps i q r e h =
     ∙ (λ j. sooner (after q (at_part (errors_within (cond (nat_eq i 0) y z)) (e j))) (hits f (at_part var_names (e j))))
 
 -- what holds round the part at a place
-pub first-round : (first others around : Code) (i : ℕ) (ls : List Label) → i ≡ 0 → around ≡ first → round around ls ≡ cond (nat_eq i 0) (round first ls) (round others ls)
-first-round first others around i ls e h =
+pub first-round : (first others around : Code) (i : ℕ) (r : Beside) → i ≡ 0 → around ≡ first → round around r ≡ cond (nat_eq i 0) (round first r) (round others r)
+first-round first others around i r e h =
     let b : nat_eq i 0 ≡ true = grind (arith, nat_tests) in
-    ap (λ a. round a ls) h ∙ sym (ap (λ c. cond c (round first ls) (round others ls)) b)
+    ap (λ a. round a r) h ∙ sym (ap (λ c. cond c (round first r) (round others r)) b)
 
-pub other-round : (first others around : Code) (i : ℕ) (ls : List Label) → i ≢ 0 → around ≡ others → round around ls ≡ cond (nat_eq i 0) (round first ls) (round others ls)
-other-round first others around i ls e h =
+pub other-round : (first others around : Code) (i : ℕ) (r : Beside) → i ≢ 0 → around ≡ others → round around r ≡ cond (nat_eq i 0) (round first r) (round others r)
+other-round first others around i r e h =
     let b : nat_eq i 0 ≡ false = grind (arith, nat_tests) in
-    ap (λ a. round a ls) h ∙ sym (ap (λ c. cond c (round first ls) (round others ls)) b)
+    ap (λ a. round a r) h ∙ sym (ap (λ c. cond c (round first r) (round others r)) b)
 
 pub from_start : (n : ℕ) → n - 0 ≡ n
 from_start n = omega arith
 
 -- ---- all parts
 
-module _ (o q : Option Error) (f : List ℕ → Option Error) (z y w : Around) (t : Tree) (n : ℕ) (count : n ≡ part_count (parts_of t))
+module _ (o q : Option Error) (f : List ℕ → Option Error) (z y w : Around) (t : Tree) (n : ℕ) (still : settled z (kind_of t) ≡ z) (count : n ≡ part_count (parts_of t))
     (first : y ≡ around_first z (kind_of t) (flags_of t) (parts_of t)) (others : w ≡ around_others z (kind_of t) (flags_of t) (parts_of t)) where
   whole : own_errors z t ++ range_errors y w (parts_of t) 0 n ≡ errors_within z t
-  whole = (λ i. own_errors z t ++ range_errors (first i) (others i) (parts_of t) 0 n) ∙ sym (errors_whole z t n count)
+  whole = (λ i. own_errors z t ++ range_errors (first i) (others i) (parts_of t) 0 n) ∙ sym (errors_whole z t n still count)
 
   -- those of a node that is no function
   pub parts-found : (g : List ℕ → Option Error) (r : Option Error) → plain_errors z t ≡ own_errors z t → var_names t ≡ vars_of t ++ parts_vars (parts_of t) → Agree g f → q ≡ sooner (after o (plain_errors z t)) (hits f (vars_of t)) →
@@ -105,17 +107,30 @@ two-goes f g h q r s v x y z ps n count a b d e =
 
 -- ---- a scope
 
+-- the `var`s of a scope are those of its parts, but for a static block, which has them alone
+pub scope_hits : (f : List ℕ → Option Error) (t : Tree) → makes_scope (kind_of t) ≡ true → (kind_of t ≡ StaticBlock → Agree f (λ w. None)) → hits f (var_names t) ≡ hits f (parts_vars (parts_of t))
+unfolding var_names
+scope_hits f (node Program w g s e ps) h a = refl
+scope_hits f (node StaticBlock w g s e ps) h a = sym (hits-none f (a refl) (parts_vars ps))
+scope_hits f (node BlockStatement w g s e ps) h a = refl
+scope_hits f (node SwitchStatement w g s e ps) h a = refl
+scope_hits f (node CatchClause w g s e ps) h a = refl
+scope_hits f (node ForStatement w g s e ps) h a = refl
+scope_hits f (node ForInStatement w g s e ps) h a = refl
+scope_hits f (node ForOfStatement w g s e ps) h a = refl
+scope_hits f (node _ w g s e ps) h a = absurd (false≢true h)
+
 -- the clashes of a scope's names are its own errors
 rearranged : (o c p d : Option Error) (e h : Option Error) → sooner (sooner (sooner (sooner (sooner o p) d) e) h) c ≡ sooner (sooner (sooner o (sooner p (sooner d c))) e) h
 rearranged o c p d e h =
     sooner-turns (sooner (sooner (sooner o p) d) e) h c
     ∙ ap (λ x. sooner x h) (sooner-turns (sooner (sooner o p) d) e c ∙ ap (λ x. sooner x e) (sooner-twice (sooner o p) d c ∙ sooner-twice o p (sooner d c)))
 
-module _ (o q : Option Error) (f : List ℕ → Option Error) (z y w : Around) (t : Tree) (n m : ℕ) (count : n ≡ part_count (parts_of t)) (error : EarlyError) (ns : List Named) (ds : List Error)
+module _ (o q : Option Error) (f : List ℕ → Option Error) (z y w : Around) (t : Tree) (n m : ℕ) (still : settled z (kind_of t) ≡ z) (count : n ≡ part_count (parts_of t)) (error : EarlyError) (ns : List Named) (ds : List Error)
     (first : y ≡ around_first z (kind_of t) (flags_of t) (parts_of t)) (others : w ≡ around_others z (kind_of t) (flags_of t) (parts_of t)) where
   pub scope-found : (g h k : List ℕ → Option Error) (q' r s : Option Error) →
       least (own_errors z t) ≡ sooner (least (plain_errors z t)) (sooner (least ds) (least (clash_with error ns (range_vars (parts_of t) m (n - m))))) →
-      var_names t ≡ parts_vars (parts_of t) → vars_of t ≡ [] → Agree g f → Agree h f → Agree k (clashing h error ns) →
+      hits f (var_names t) ≡ hits f (parts_vars (parts_of t)) → vars_of t ≡ [] → Agree g f → Agree h f → Agree k (clashing h error ns) →
       q ≡ sooner (after o (plain_errors z t)) (hits f (vars_of t)) → q' ≡ after q ds →
       r ≡ sooner (after q' (range_errors y w (parts_of t) 0 m)) (hits g (range_vars (parts_of t) 0 m)) →
       s ≡ sooner (after r (range_errors y w (parts_of t) m (n - m))) (hits k (range_vars (parts_of t) m (n - m))) →
@@ -132,10 +147,10 @@ module _ (o q : Option Error) (f : List ℕ → Option Error) (z y w : Around) (
       j ∙ (λ l. sooner (after (before l) ys) (inner l))
       ∙ sym (sooner-twice (after (sooner (after q' xs) (hits f us)) ys) (hits f vs) clashes)
       ∙ ap (λ x. sooner x clashes) (joined f q' xs ys us vs)
-      ∙ (λ l. sooner (sooner (after (start l) (errors-split y w (parts_of t) m n count l)) (hits f ((vars-split (parts_of t) m n count ∙ sym (vars_whole (parts_of t) n count) ∙ sym v) l))) clashes)
+      ∙ (λ l. sooner (sooner (after (start l) (errors-split y w (parts_of t) m n count l)) ((ap (hits f) (vars-split (parts_of t) m n count ∙ sym (vars_whole (parts_of t) n count)) ∙ sym v) l)) clashes)
       ∙ rearranged o clashes (least (plain_errors z t)) (least ds) (least (range_errors y w (parts_of t) 0 n)) (hits f (var_names t))
       ∙ ap (λ x. sooner (sooner (sooner o x) (least (range_errors y w (parts_of t) 0 n))) (hits f (var_names t))) (sym own)
-      ∙ ap (λ x. sooner x (hits f (var_names t))) (sym (after-append o (own_errors z t) (range_errors y w (parts_of t) 0 n)) ∙ ap (after o) ((λ l. own_errors z t ++ range_errors (first l) (others l) (parts_of t) 0 n) ∙ sym (errors_whole z t n count)))
+      ∙ ap (λ x. sooner x (hits f (var_names t))) (sym (after-append o (own_errors z t) (range_errors y w (parts_of t) 0 n)) ∙ ap (after o) ((λ l. own_errors z t ++ range_errors (first l) (others l) (parts_of t) 0 n) ∙ sym (errors_whole z t n still count)))
 
 -- where no `var` stands behind the place, names that clash change nothing
 pub none-clash : (h k : List ℕ → Option Error) (r s : Option Error) (ys : List Error) (vs : List Named) → vs ≡ [] → s ≡ sooner (after r ys) (hits h vs) → s ≡ sooner (after r ys) (hits k vs)

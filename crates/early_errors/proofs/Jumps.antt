@@ -10,7 +10,7 @@ use Rattle.early_errors.specs.Around as around
 use Rattle.early_errors.specs.Around.{Around, is_loop, is_label, labels_loop, last_loop}
 use Rattle.early_errors.specs.Names.{Named}
 use Rattle.early_errors.specs.Labels.{labels_statement, labels_a_loop}
-use Rattle.early_errors.specs.Owns.{label_of, or_false, Knows, is_label_for, misses}
+use Rattle.early_errors.specs.Owns.{label_of, or_false, is_label_for, misses}
 use Rattle.early_errors.specs.Walk.{stands}
 
 pub label_stands : (ls : List around.Label) (w : List ℕ) → is_some (label_of ls w) ≡ labels_statement ls w
@@ -39,13 +39,17 @@ for_loop None = refl
 for_loop (Some true) = refl
 for_loop (Some false) = refl
 
-pub misses_any : (f : List ℕ → Option Bool) (ls : List around.Label) → Knows f ls → (x : Named) → misses false f x ≡ not (labels_statement ls x.0)
+-- a table answers as these labels do
+abbrev pub Answers : (List ℕ → Option Bool) → List around.Label → Type 0
+Answers f ls = (w : List ℕ) → f w ≡ label_of ls w
+
+pub misses_any : (f : List ℕ → Option Bool) (ls : List around.Label) → Answers f ls → (x : Named) → misses false f x ≡ not (labels_statement ls x.0)
 misses_any f ls h x = ap not (for_any (f x.0) ∙ ap is_some (h x.0) ∙ label_stands ls x.0)
 
-pub misses_loop : (f : List ℕ → Option Bool) (ls : List around.Label) → Knows f ls → (x : Named) → misses true f x ≡ not (labels_a_loop ls x.0)
+pub misses_loop : (f : List ℕ → Option Bool) (ls : List around.Label) → Answers f ls → (x : Named) → misses true f x ≡ not (labels_a_loop ls x.0)
 misses_loop f ls h x = ap not (for_loop (f x.0) ∙ ap or_false (h x.0) ∙ label_loops ls x.0)
 
-pub stands_label : (f : List ℕ → Option Bool) (ls : List around.Label) → Knows f ls → (x : Named) → stands f x ≡ labels_statement ls x.0
+pub stands_label : (f : List ℕ → Option Bool) (ls : List around.Label) → Answers f ls → (x : Named) → stands f x ≡ labels_statement ls x.0
 stands_label f ls h x = ap is_some (h x.0) ∙ label_stands ls x.0
 
 -- ---- whether a label's statement is a loop

@@ -1,4 +1,6 @@
 pub mod Words
+pub mod EvenPlaces
+pub mod PlacelessModules
 pub mod Placeless
 pub mod FirstError
 pub mod Trees
@@ -29,9 +31,16 @@ pub mod Surrounds
 pub mod PartRanges
 pub mod VarFree
 pub mod Silent
+pub mod Settled
+pub mod WordAlike
 pub mod PartsByKind
 pub mod DeclarationKinds
 pub mod Insides
+pub mod Known
+pub mod StaticBlocks
+pub mod Privates
+pub mod ForOfs
+pub mod Exports
 pub mod JoinedHits
 pub mod Ahead
 pub mod ScopeErrors

@@ -1,6 +1,6 @@
 -- Flags of regular expressions, and the parts of a template.
 use Rattle.std.proofs.Common.{◌≡◌, ℕ, zero, suc, ◌+◌, ◌-◌, ◌<◌, ◌≤◌, Bool, true, false, not, List, [], ◌∷◌, length, drop, take, get_or, Option, Some, None, is_some, option_map, refl, sym, ap, ◌∙◌, arith, add-one}
-use Rattle.std.specs.Prelude.{◌||◌, ◌&&◌, codes, ◌==◌}
+use Rattle.std.specs.Prelude.{◌||◌, ◌&&◌, ◌==◌}
 use Rattle.std.specs.List.{list_any}
 use Rattle.std.specs.Str.{chars}
 use Rattle.std.proofs.lemmas.List.{drop_more, take_rest}
@@ -9,7 +9,7 @@ use Rattle.tree.specs.declared.kind.Kind.{Kind}
 use Rattle.tree.specs.declared.kind.Kind.TheVariants.{TemplateElement}
 use Rattle.tree.specs.Tree.{Tree, Parts, none, part, gap, kind_of, text_of, part_at, part_count, parts_drop}
 use Rattle.early_errors.specs.Cooked.{cooks}
-use Rattle.early_errors.specs.Literals.{holds, are_flags, some_uncooked, is_uncooked}
+use Rattle.early_errors.specs.Literals.{holds, are_among, some_uncooked, is_uncooked}
 use Rattle.early_errors.specs.Owns.{is_element, uncooked_at}
 use Rattle.early_errors.proofs.Points.{points_are_chars}
 
@@ -17,20 +17,21 @@ pub holds-any : (w : List ℕ) (c : ℕ) → list_any (λ d. d == c) w ≡ holds
 holds-any [] c = refl
 holds-any (d ∷ w) c = ap (λ b. (d == c) || b) (holds-any w c)
 
-flags-step : (w : List ℕ) (i : ℕ) → i < length w → are_flags (drop i w) ≡ (holds (codes "gimsuy") (get_or w i 0) && (not (holds (drop (i + 1) w) (get_or w i 0)) && are_flags (drop (i + 1) w)))
-flags-step w i l = ap are_flags (drop_more w i 0 l)
+module _ (among : List ℕ) where
+  flags-step : (w : List ℕ) (i : ℕ) → i < length w → are_among among (drop i w) ≡ (holds among (get_or w i 0) && (not (holds (drop (i + 1) w) (get_or w i 0)) && are_among among (drop (i + 1) w)))
+  flags-step w i l = ap (are_among among) (drop_more w i 0 l)
 
-and-turns : (a b c : Bool) → ((a && b) && c) ≡ (a && (b && c))
-and-turns true b c = refl
-and-turns false b c = refl
+  and-turns : (a b c : Bool) → ((a && b) && c) ≡ (a && (b && c))
+  and-turns true b c = refl
+  and-turns false b c = refl
 
-pub flags-turn : (w : List ℕ) (i : ℕ) (b c : Bool) → i < length w → b ≡ (holds (codes "gimsuy") (get_or w i 0) && not (holds (take (length w - (i + 1)) (drop (i + 1) w)) (get_or w i 0))) → b ≡ c →
-    are_flags (drop i w) ≡ (c && are_flags (drop (i + 1) w))
-flags-turn w i b c l e h =
-    let flag = get_or w i 0 in
-    let known = holds (codes "gimsuy") flag in
-    let rest = drop (i + 1) w in
-    flags-step w i l ∙ sym (and-turns known (not (holds rest flag)) (are_flags rest)) ∙ ap (λ x. x && are_flags rest) (sym (e ∙ ap (λ v. known && not (holds v flag)) (take_rest w (i + 1))) ∙ h)
+  pub flags-turn : (w : List ℕ) (i : ℕ) (b c : Bool) → i < length w → b ≡ (holds among (get_or w i 0) && not (holds (take (length w - (i + 1)) (drop (i + 1) w)) (get_or w i 0))) → b ≡ c →
+      are_among among (drop i w) ≡ (c && are_among among (drop (i + 1) w))
+  flags-turn w i b c l e h =
+      let flag = get_or w i 0 in
+      let known = holds among flag in
+      let rest = drop (i + 1) w in
+      flags-step w i l ∙ sym (and-turns known (not (holds rest flag)) (are_among among rest)) ∙ ap (λ x. x && are_among among rest) (sym (e ∙ ap (λ v. known && not (holds v flag)) (take_rest w (i + 1))) ∙ h)
 
 more-uncooked : (ps : Parts) (i : ℕ) (o : Option Tree) → i < part_count ps → o ≡ part_at ps i → some_uncooked (parts_drop i ps) ≡ (uncooked_at o || some_uncooked (parts_drop (suc i) ps))
 more-uncooked none i o l e = absurd (omega (arith, l))

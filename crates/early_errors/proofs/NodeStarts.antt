@@ -2,13 +2,14 @@
 use Rattle.std.proofs.Common.{ℕ, Bool, true, false, cond, List, [], ◌∷◌, ◌++◌}
 use Rattle.std.specs.Prelude.{filter}
 use Rattle.tree.specs.declared.kind.Kind.{Kind}
-use Rattle.tree.specs.declared.kind.Kind.TheVariants.{Identifier, Property, FunctionExpression, ArrowFunctionExpression, ArrayPattern, ObjectPattern, AssignmentPattern, RestElement, BlockStatement, VariableDeclaration, FunctionDeclaration, ClassDeclaration}
+use Rattle.tree.specs.declared.kind.Kind.TheVariants.{Identifier, Property, FunctionExpression, ArrowFunctionExpression, ArrayPattern, ObjectPattern, AssignmentPattern, RestElement, BlockStatement, VariableDeclaration, FunctionDeclaration, ClassDeclaration, ImportDeclaration, ExportNamedDeclaration, ExportDefaultDeclaration}
 use Rattle.tree.specs.Tree.{Tree, node, Parts, none, part, gap, parts_of}
 use Rattle.language.specs.FirstPart.{others}
 use Rattle.language.specs.Vocabulary.{is}
 use Rattle.language.specs.Derivation.{Among, first, later}
 use Rattle.name_tables.specs.BoundNames.{each_part, bound_names, all_bound_names, first_bound_names, last_bound_names}
-use Rattle.early_errors.specs.Names.{Named, places, when, has_name, repeated, twice, shared, name_at, names_in, first_names, declared_names, lexical_names, parameter_names, parameters_on, items_of, body_items}
+use Rattle.name_tables.specs.DeclaredNames.{declaration_of, own_lexical_names}
+use Rattle.early_errors.specs.Names.{import_name, Named, places, when, has_name, repeated, twice, shared, name_at, names_in, first_names, declared_names, lexical_names, parameter_names, parameters_on, items_of, body_items}
 use Rattle.early_errors.specs.Starts.{starts, parts_starts}
 
 among_front : {A : Type 0} {x : A} (xs ys : List A) → Among x xs → Among x (xs ++ ys)
@@ -153,11 +154,23 @@ module _ (Q : ℕ → Type 0) where
   pub at_declared : (ps : Parts) → AllStarting ps → EachNamed (declared_names ps)
   at_declared ps h = named_each_part (λ n. first_names (parts_of n)) (λ n k. at_first (parts_of n) (starting_parts n k)) ps h
 
+  pub at_import : (n : Tree) → Starting n → EachNamed (import_name n)
+  at_import n h = at_last (parts_of n) (starting_parts n h)
+
+  at_own_lexical : (b : Bool) (n : Tree) → Starting n → EachNamed (own_lexical_names b (λ text ps. name_at) name_at name_at name_at n)
+  at_own_lexical b (node VariableDeclaration w g s e ps) h = named_cond (is w "var") [] (declared_names ps) tt (at_declared ps h.1)
+  at_own_lexical b (node ClassDeclaration w g s e ps) h = at_first ps h.1
+  at_own_lexical b (node FunctionDeclaration w g s e ps) h = named_cond b (first_names ps) [] (at_first ps h.1) tt
+  at_own_lexical b (node ImportDeclaration w g s e ps) h = named_each_part import_name at_import ps h.1
+  at_own_lexical b (node _ w g s e ps) h = tt
+
+  starting_declaration : (n : Tree) → Starting n → Starting (declaration_of n)
+  starting_declaration (node ExportNamedDeclaration w g s e (part n ps)) h = h.1.0
+  starting_declaration (node ExportDefaultDeclaration w g s e (part n ps)) h = h.1.0
+  starting_declaration (node k w g s e ps) h = h
+
   pub at_lexical : (b : Bool) (n : Tree) → Starting n → EachNamed (lexical_names b n)
-  at_lexical b (node VariableDeclaration w g s e ps) h = named_cond (is w "var") [] (declared_names ps) tt (at_declared ps h.1)
-  at_lexical b (node ClassDeclaration w g s e ps) h = at_first ps h.1
-  at_lexical b (node FunctionDeclaration w g s e ps) h = named_cond b (first_names ps) [] (at_first ps h.1) tt
-  at_lexical b (node _ w g s e ps) h = tt
+  at_lexical b n h = at_own_lexical b (declaration_of n) (starting_declaration n h)
 
   pub at_parameters : (ps : Parts) → AllStarting ps → EachNamed (parameter_names ps)
   at_parameters none h = tt

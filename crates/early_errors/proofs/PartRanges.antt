@@ -3,7 +3,7 @@ use Rattle.std.proofs.Common.{◌≡◌, ℕ, zero, suc, ◌+◌, ◌-◌, ◌<�
 use Rattle.std.proofs.Math.Dec.{leb}
 use Rattle.std.proofs.lemmas.Bool.Decides.{leb_tells, nat_tests}
 use Rattle.tree.specs.Tree.{Tree, node, Parts, none, part, gap, kind_of, flags_of, parts_of, part_at, part_count, parts_drop}
-use Rattle.early_errors.specs.Around.{Around, around_first, around_others}
+use Rattle.early_errors.specs.Around.{Around, settled, around_first, around_others}
 use Rattle.early_errors.specs.Names.{var_names, parts_vars}
 use Rattle.early_errors.specs.Early.{own_errors, errors_within, parts_errors}
 use Rattle.name_tables.specs.PatternParts.{at_part}
@@ -88,11 +88,13 @@ parts_errors-range y z (part t ps) =
 parts_errors-range y z (gap ps) =
     parts_errors-range z z ps ∙ sym (errors-gap y z ps (part_count ps)) ∙ ap (range_errors y z (gap ps) 0) (sym (add-one (part_count ps)))
 
-pub errors_whole : (z : Around) (t : Tree) (n : ℕ) → n ≡ part_count (parts_of t) →
+-- where what holds at a function's body is settled
+pub errors_whole : (z : Around) (t : Tree) (n : ℕ) → settled z (kind_of t) ≡ z → n ≡ part_count (parts_of t) →
     errors_within z t ≡ own_errors z t ++ range_errors (around_first z (kind_of t) (flags_of t) (parts_of t)) (around_others z (kind_of t) (flags_of t) (parts_of t)) (parts_of t) 0 n
 unfolding errors_within
-errors_whole z (node k w g s e ps) n h =
-    ap (λ l. own_errors z (node k w g s e ps) ++ l) (parts_errors-range (around_first z k g ps) (around_others z k g ps) ps ∙ ap (range_errors (around_first z k g ps) (around_others z k g ps) ps 0) (sym h))
+errors_whole z (node k w g s e ps) n still h =
+    ap (λ y. own_errors y (node k w g s e ps) ++ parts_errors (around_first y k g ps) (around_others y k g ps) ps) still
+    ∙ ap (λ l. own_errors z (node k w g s e ps) ++ l) (parts_errors-range (around_first z k g ps) (around_others z k g ps) ps ∙ ap (range_errors (around_first z k g ps) (around_others z k g ps) ps 0) (sym h))
 
 -- ---- names of `var`s
 

@@ -1,69 +1,32 @@
 -- Which early errors a tree has doesn't depend on its places.
 use Rattle.std.proofs.Common.{◌≡◌, ℕ, zero, suc, Bool, true, false, cond, List, [], ◌∷◌, ◌++◌, refl, sym, ap, ◌∙◌, length}
 use Rattle.std.specs.Prelude.{◌&&◌, ◌||◌, not, map, filter, codes}
-use Rattle.std.specs.Str.{bytes_eq}
 use Rattle.tree.specs.declared.kind.Kind.{Kind}
-use Rattle.tree.specs.declared.kind.Kind.TheVariants.{Program, Literal, Property, FunctionExpression, ArrowFunctionExpression, ClassExpression, ClassBody, MethodDefinition, TemplateLiteral, TaggedTemplateExpression, MemberExpression, CallExpression, MetaProperty, UpdateExpression, UnaryExpression, AssignmentExpression, BlockStatement, BreakStatement, ContinueStatement, LabeledStatement, SwitchStatement, CatchClause, ForStatement, ForInStatement, ForOfStatement, VariableDeclaration, FunctionDeclaration, ClassDeclaration}
+use Rattle.tree.specs.declared.kind.Kind.TheVariants.{Program, StaticBlock, Identifier, YieldExpression, AwaitExpression, PropertyDefinition, ImportDeclaration, Literal, Property, FunctionExpression, ArrowFunctionExpression, ClassExpression, ClassBody, MethodDefinition, TemplateLiteral, TaggedTemplateExpression, MemberExpression, CallExpression, MetaProperty, UpdateExpression, UnaryExpression, AssignmentExpression, BlockStatement, BreakStatement, ContinueStatement, LabeledStatement, SwitchStatement, CatchClause, ForStatement, ForInStatement, ForOfStatement, VariableDeclaration, FunctionDeclaration, ClassDeclaration}
 use Rattle.tree.specs.declared.kind.Flags.{Flags}
+use Prim.Native.String.{String}
+use Rattle.tree.specs.Uses.{is_async, is_init}
 use Rattle.tree.specs.Tree.{Tree, node, Parts, none, part, gap, bare, bare_parts, SameTree, parts_of}
 use Rattle.language.specs.FirstPart.{lead, others}
 use Rattle.language.specs.Vocabulary.{is, among, is_identifier, is_super}
+use Rattle.language.specs.Expressions.{value_form}
 use Rattle.early_errors.specs.declared.EarlyError.{EarlyError}
-use Rattle.early_errors.specs.declared.EarlyError.TheVariants.{EvalOrArguments, DeleteOfIdentifier, DuplicateLexicalName, LexicalNameIsVar, ConstWithoutInitializer, DuplicateParameter, ParameterIsLexicalName, UseStrictBehindPattern, MisplacedJump, UndefinedLabel, DuplicateLabel, CatchParameterConflict, ForNameIsVar, SuperPropertyOutsideMethod, SuperCallOutsideConstructor, NewTargetOutsideFunction, DuplicateConstructor, SpecialConstructor, StaticPrototype, UncookedTemplate, RegExpFlags}
-use Rattle.early_errors.specs.Keys.{key_value}
+use Rattle.early_errors.specs.declared.EarlyError.TheVariants.{EvalOrArguments, DeleteOfIdentifier, DuplicateLexicalName, LexicalNameIsVar, ConstWithoutInitializer, DuplicateParameter, ParameterIsLexicalName, UseStrictBehindPattern, MisplacedJump, UndefinedLabel, DuplicateLabel, CatchParameterConflict, ForNameIsVar, SuperPropertyOutsideMethod, SuperCallOutsideConstructor, NewTargetOutsideFunction, DuplicateConstructor, SpecialConstructor, StaticPrototype, UncookedTemplate, RegExpFlags, YieldOutsideGenerator, AwaitOutsideAsync, FieldNamedConstructor, PrivateConstructor, DuplicatePrivateName, UndeclaredPrivateName, ArgumentsInInit, DeleteOfPrivate, ImportMetaOutsideModule, DuplicateExport, ExportOfNoName, UndeclaredExport, LoneSurrogate, ForAsyncOf}
 use Rattle.name_tables.specs.BoundNames.{each_part}
-use Rattle.early_errors.specs.Names.{places, when, twice, shared, first_names, declared_names, parts_vars, lexical_names, function_names, parameter_names, parameters_on, body_items}
-use Rattle.early_errors.specs.Around.{Around, Label, outside, within, is_loop, is_label, labels_loop, last_loop, own_label, has_heritage, around_first, around_others, is_constructor, is_accessor}
+use Rattle.early_errors.specs.Names.{import_name, places, when, twice, shared, first_names, declared_names, parts_vars, lexical_names, function_names, parameter_names, parameters_on, body_items}
+use Rattle.early_errors.specs.Around.{Around, Label, outside_of, settled, private_key, private_keys, within, is_loop, is_label, labels_loop, last_loop, own_label, has_heritage, around_first, around_others, is_constructor, is_accessor}
 use Rattle.early_errors.specs.Scopes.{scope_lexical, scope_vars, declaration_names, duplicate_lexical_name, lexical_name_is_var, without_initializer, const_without_initializer, catch_parameter_conflict, head_lexical, for_name_is_var}
 use Rattle.early_errors.specs.Functions.{is_simple, use_strict, duplicate_parameter, parameter_is_lexical_name, use_strict_after_pattern}
 use Rattle.early_errors.specs.Strict.{names_given, eval_or_arguments, delete_of_identifier}
 use Rattle.early_errors.specs.Labels.{is_bare, labels_statement, labels_a_loop, misplaced_jump, undefined_label, duplicate_label}
-use Rattle.early_errors.specs.Classes.{super_places, key_places, has_key, constructor_places, after_first, super_property_outside_method, super_call_outside_constructor, new_target_outside_function, duplicate_constructor, special_constructor, static_prototype}
-use Rattle.early_errors.specs.Literals.{is_uncooked, some_uncooked, good_flags, uncooked_template, reg_exp_flags}
+use Rattle.early_errors.specs.Classes.{super_places, key_places, has_key, named, constructor_places, after_first, super_property_outside_method, super_call_outside_constructor, new_target_outside_function, duplicate_constructor, special_constructor, static_prototype}
+use Rattle.early_errors.specs.Literals.{is_uncooked, some_uncooked, good_flags_in, uncooked_template, reg_exp_flags}
+use Rattle.early_errors.specs.Yields.{yield_outside_generator, await_outside_async, for_async_of}
+use Rattle.early_errors.specs.Fields.{field_named_constructor, arguments_in_init}
 use Rattle.early_errors.specs.Early.{Error, number, each, each_of, own_places, own_errors, errors_within, parts_errors, errors}
-use Rattle.early_errors.proofs.Words.{words, Alike, alike-append, alike-twice, alike-shared, alike-filter, alike-cond, alike-places, alike-each, others-bare, first_names-bare, declared-bare, vars-bare, lexical-bare, function_names-bare, parameters-bare, parameters_on-bare, body_items-bare}
-
--- as many
-abbrev pub Even : List ℕ → List ℕ → Type 0
-Even xs ys = length xs ≡ length ys
-
-one : (b : Bool) (x y : ℕ) → Even (when b (x ∷ [])) (when b (y ∷ []))
-one true x y = refl
-one false x y = refl
-
-once : (b c : Bool) (x y : ℕ) → b ≡ c → Even (when b (x ∷ [])) (when c (y ∷ []))
-once b c x y e = ap (λ d. length (when d (x ∷ []))) e ∙ one c x y
-
-even-when : (b : Bool) (xs ys : List ℕ) → Even xs ys → Even (when b xs) (when b ys)
-even-when true xs ys e = e
-even-when false xs ys e = refl
-
-even-both : (b c : Bool) (xs ys : List ℕ) → b ≡ c → Even xs ys → Even (when b xs) (when c ys)
-even-both b c xs ys e f = ap (λ d. length (when d xs)) e ∙ even-when c xs ys f
-
-abbrev plus : ℕ → ℕ → ℕ
-plus zero m = m
-plus (suc n) m = suc (plus n m)
-
-sum : (xs ys : List ℕ) → length (xs ++ ys) ≡ plus (length xs) (length ys)
-sum [] ys = refl
-sum (x ∷ xs) ys = ap suc (sum xs ys)
-
-even-append : (xs xs' ys ys' : List ℕ) → Even xs xs' → Even ys ys' → Even (xs ++ ys) (xs' ++ ys')
-even-append xs xs' ys ys' e f = sum xs ys ∙ (λ i. plus (e i) (f i)) ∙ sym (sum xs' ys')
-
-even-each : (f : Tree → List ℕ) → ((n : Tree) → Even (f (bare n)) (f n)) → (ps : Parts) → Even (each_part f (bare_parts ps)) (each_part f ps)
-even-each f h none = refl
-even-each f h (part n ps) = even-append (f (bare n)) (f n) (each_part f (bare_parts ps)) (each_part f ps) (h n) (even-each f h ps)
-even-each f h (gap ps) = even-each f h ps
-
-behind : (ps : Parts) → others (others (bare_parts ps)) ≡ bare_parts (others (others ps))
-behind ps = ap others (others-bare ps) ∙ others-bare (others ps)
-
-lead-bare : (ps : Parts) → lead (bare_parts ps) ≡ lead ps
-lead-bare none = refl
-lead-bare (part (node k w g s e qs) ps) = refl
-lead-bare (gap ps) = refl
+use Rattle.early_errors.proofs.Words.{words, import-bare, Alike, alike-append, alike-twice, alike-shared, alike-filter, alike-cond, alike-places, alike-each, others-bare, first_names-bare, declared-bare, vars-bare, lexical-bare, function_names-bare, parameters-bare, parameters_on-bare, body_items-bare}
+use Rattle.early_errors.proofs.EvenPlaces.{Even, one, once, even-when, even-both, even-each, behind, lead-bare, has_key-bare, worded-bare}
+use Rattle.early_errors.proofs.PlacelessModules.{delete_private-bare, duplicate_export-bare, export_no_name-bare, lone-bare, meta-bare, private_again-bare, private_constructor-bare, undeclared-bare, undeclared_export-bare}
 
 -- strict words
 other-parameters : (ps : Parts) → Alike (parameter_names (others (bare_parts ps))) (parameter_names (others ps))
@@ -84,6 +47,7 @@ given-bare AssignmentExpression ps = first_names-bare ps
 given-bare UpdateExpression ps = first_names-bare ps
 given-bare ForInStatement ps = first_names-bare ps
 given-bare ForOfStatement ps = first_names-bare ps
+given-bare ImportDeclaration ps = alike-each import_name import-bare ps
 given-bare _ ps = refl
 
 eval-bare : (n : Tree) → Even (eval_or_arguments (bare n)) (eval_or_arguments n)
@@ -103,7 +67,8 @@ case_lexical-bare : (n : Tree) → Alike (each_part (lexical_names true) (others
 case_lexical-bare (node k w g s e ps) = ap (λ q. words (each_part (lexical_names true) q)) (others-bare ps) ∙ alike-each (lexical_names true) (lexical-bare true) (others ps)
 
 scope_lexical-bare : (z : Around) (k : Kind) (ps : Parts) → Alike (scope_lexical z k (bare_parts ps)) (scope_lexical z k ps)
-scope_lexical-bare z Program ps = alike-each (lexical_names false) (lexical-bare false) ps
+scope_lexical-bare z Program ps = alike-each (lexical_names z.in_module) (lexical-bare z.in_module) ps
+scope_lexical-bare z StaticBlock ps = alike-each (lexical_names false) (lexical-bare false) ps
 scope_lexical-bare z BlockStatement ps = alike-each (lexical_names (not z.is_body)) (lexical-bare (not z.is_body)) ps
 scope_lexical-bare z SwitchStatement ps =
     ap (λ q. words (each_part (λ c. each_part (lexical_names true) (others (parts_of c))) q)) (others-bare ps) ∙
@@ -115,6 +80,9 @@ functions-bare ps = alike-each function_names function_names-bare ps
 
 scope_vars-bare : (z : Around) (k : Kind) (ps : Parts) → Alike (scope_vars z k (bare_parts ps)) (scope_vars z k ps)
 scope_vars-bare z Program ps =
+    alike-append (cond z.in_module [] (each_part function_names (bare_parts ps))) (cond z.in_module [] (each_part function_names ps)) (parts_vars (bare_parts ps)) (parts_vars ps)
+    (alike-cond z.in_module [] [] (each_part function_names (bare_parts ps)) (each_part function_names ps) refl (functions-bare ps)) (vars-bare ps)
+scope_vars-bare z StaticBlock ps =
     alike-append (each_part function_names (bare_parts ps)) (each_part function_names ps) (parts_vars (bare_parts ps)) (parts_vars ps) (functions-bare ps) (vars-bare ps)
 scope_vars-bare z BlockStatement ps =
     alike-append (cond z.is_body (each_part function_names (bare_parts ps)) []) (cond z.is_body (each_part function_names ps) []) (parts_vars (bare_parts ps)) (parts_vars ps)
@@ -296,7 +264,7 @@ super_call-bare z (node _ w g s e ps) = refl
 
 target-bare : (z : Around) (n : Tree) → Even (new_target_outside_function z (bare n)) (new_target_outside_function z n)
 unfolding new_target_outside_function
-target-bare z (node MetaProperty w g s e ps) = one (not z.new_target) 0 s
+target-bare z (node MetaProperty w g s e ps) = worded-bare (codes "new") z.new_target ps s
 target-bare z (node _ w g s e ps) = refl
 
 key-bare : (ps : Parts) → Even (key_places (bare_parts ps)) (key_places ps)
@@ -321,26 +289,34 @@ constructors-bare (node ClassBody w g s e ps) =
     behind_first-length (each_part constructor_places (bare_parts ps)) ∙ ap less (even-each constructor_places constructor-bare ps) ∙ sym (behind_first-length (each_part constructor_places ps))
 constructors-bare (node _ w g s e ps) = refl
 
-has_key-bare : (v : List ℕ) (ps : Parts) → has_key (bare_parts ps) (λ n. bytes_eq (key_value n) v) ≡ has_key ps (λ n. bytes_eq (key_value n) v)
-has_key-bare v none = refl
-has_key-bare v (part (node k w g s e qs) ps) = refl
-has_key-bare v (gap ps) = refl
+named-bare : (v : String) (n : Tree) → named (bare n) v ≡ named n v
+named-bare v (node k w g s e ps) = refl
+
+value_form-bare : (ps : Parts) → value_form (bare_parts ps) ≡ value_form ps
+value_form-bare none = refl
+value_form-bare (part n none) = refl
+value_form-bare (part n (part (node k w g s e qs) ps)) = refl
+value_form-bare (part n (gap ps)) = refl
+value_form-bare (gap ps) = refl
+
+-- a key with a word
+keyed-bare : (v : String) (a b : Bool) (ps : Parts) → Even (when (a && (b && has_key (bare_parts ps) (λ n. named n v))) (key_places (bare_parts ps))) (when (a && (b && has_key ps (λ n. named n v))) (key_places ps))
+keyed-bare v a b ps =
+    let p : Tree → Bool = λ n. named n v in
+    even-both (a && (b && has_key (bare_parts ps) p)) (a && (b && has_key ps p)) (key_places (bare_parts ps)) (key_places ps) (ap (λ x. a && (b && x)) (has_key-bare p (named-bare v) ps)) (key-bare ps)
 
 special-bare : (n : Tree) → Even (special_constructor (bare n)) (special_constructor n)
 unfolding special_constructor
 special-bare (node MethodDefinition w g s e ps) =
-    let p : Tree → Bool = λ n. is (key_value n) "constructor" in
-    even-both ((is_accessor g.form && not g.is_static) && (not g.computed && has_key (bare_parts ps) p)) ((is_accessor g.form && not g.is_static) && (not g.computed && has_key ps p))
-    (key_places (bare_parts ps)) (key_places ps)
-    (ap (λ b. (is_accessor g.form && not g.is_static) && (not g.computed && b)) (has_key-bare (codes "constructor") ps)) (key-bare ps)
+    let p : Tree → Bool = λ n. named n "constructor" in
+    ap (λ f. length (when (((is_accessor g.form || not (is_init f)) && not g.is_static) && (not g.computed && has_key (bare_parts ps) p)) (key_places (bare_parts ps)))) (value_form-bare ps)
+    ∙ keyed-bare "constructor" ((is_accessor g.form || not (is_init (value_form ps))) && not g.is_static) (not g.computed) ps
 special-bare (node _ w g s e ps) = refl
 
 prototype-bare : (n : Tree) → Even (static_prototype (bare n)) (static_prototype n)
 unfolding static_prototype
-prototype-bare (node MethodDefinition w g s e ps) =
-    let p : Tree → Bool = λ n. is (key_value n) "prototype" in
-    even-both (g.is_static && (not g.computed && has_key (bare_parts ps) p)) (g.is_static && (not g.computed && has_key ps p)) (key_places (bare_parts ps)) (key_places ps)
-    (ap (λ b. g.is_static && (not g.computed && b)) (has_key-bare (codes "prototype") ps)) (key-bare ps)
+prototype-bare (node MethodDefinition w g s e ps) = keyed-bare "prototype" g.is_static (not g.computed) ps
+prototype-bare (node PropertyDefinition w g s e ps) = keyed-bare "prototype" g.is_static (not g.computed) ps
 prototype-bare (node _ w g s e ps) = refl
 
 -- literals
@@ -355,10 +331,40 @@ template-bare z (node TemplateLiteral w g s e ps) =
     once (not z.tagged && some_uncooked (bare_parts ps)) (not z.tagged && some_uncooked ps) 0 s (ap (λ b. not z.tagged && b) (uncooked-bare ps))
 template-bare z (node _ w g s e ps) = refl
 
-flags-bare : (n : Tree) → Even (reg_exp_flags (bare n)) (reg_exp_flags n)
+flags-bare : (z : Around) (n : Tree) → Even (reg_exp_flags z (bare n)) (reg_exp_flags z n)
 unfolding reg_exp_flags
-flags-bare (node Literal w g s e ps) = one (not (good_flags w)) 0 s
-flags-bare (node _ w g s e ps) = refl
+flags-bare z (node Literal w g s e ps) = one (not (good_flags_in z.of_2022 w)) 0 s
+flags-bare z (node _ w g s e ps) = refl
+
+-- `yield`, `await` and `async`
+yield-bare : (z : Around) (n : Tree) → Even (yield_outside_generator z (bare n)) (yield_outside_generator z n)
+unfolding yield_outside_generator
+yield-bare z (node YieldExpression w g s e ps) = one (not z.yields) 0 s
+yield-bare z (node _ w g s e ps) = refl
+
+await-bare : (z : Around) (n : Tree) → Even (await_outside_async z (bare n)) (await_outside_async z n)
+unfolding await_outside_async
+await-bare z (node AwaitExpression w g s e ps) = one (not z.awaits) 0 s
+await-bare z (node ForOfStatement w g s e ps) = one (is_async g.form && not z.awaits) 0 s
+await-bare z (node _ w g s e ps) = refl
+
+async-bare : (z : Around) (n : Tree) → Even (for_async_of z (bare n)) (for_async_of z n)
+unfolding for_async_of
+async-bare z (node ForOfStatement w g s e none) = refl
+async-bare z (node ForOfStatement w g s e (part (node k2 w2 g2 s2 e2 ps2) ps)) = one (z.of_2022 && not (is_async g.form) && is_identifier k2 && is w2 "async") 0 s2
+async-bare z (node ForOfStatement w g s e (gap ps)) = refl
+async-bare z (node _ w g s e ps) = refl
+
+-- fields
+field-bare : (n : Tree) → Even (field_named_constructor (bare n)) (field_named_constructor n)
+unfolding field_named_constructor
+field-bare (node PropertyDefinition w g s e ps) = keyed-bare "constructor" true (not g.computed) ps
+field-bare (node _ w g s e ps) = refl
+
+arguments-bare : (z : Around) (n : Tree) → Even (arguments_in_init z (bare n)) (arguments_in_init z n)
+unfolding arguments_in_init
+arguments-bare z (node Identifier w g s e ps) = one (z.no_arguments && not z.is_word && is w "arguments") 0 s
+arguments-bare z (node _ w g s e ps) = refl
 
 -- what holds round the parts
 mutual
@@ -387,15 +393,31 @@ heritage-bare (gap ps) = refl
 derived-bare : (ps : Parts) → has_heritage (others (bare_parts ps)) ≡ has_heritage (others ps)
 derived-bare ps = ap has_heritage (others-bare ps) ∙ heritage-bare (others ps)
 
+private_key-bare : (n : Tree) → private_key (bare n) ≡ private_key n
+private_key-bare (node k w g s e none) = refl
+private_key-bare (node k w g s e (part (node k2 w2 g2 s2 e2 ps2) ps)) = refl
+private_key-bare (node k w g s e (gap ps)) = refl
+
+private_keys-bare : (ps : Parts) → private_keys (bare_parts ps) ≡ private_keys ps
+private_keys-bare none = refl
+private_keys-bare (part n ps) = λ i. private_key-bare n i ++ private_keys-bare ps i
+private_keys-bare (gap ps) = private_keys-bare ps
+
 others_around : (z : Around) (k : Kind) (g : Flags) (ps : Parts) → around_others z k g (bare_parts ps) ≡ around_others z k g ps
 others_around z ClassExpression g ps = ap (λ b. record (within z) { derived = b }) (derived-bare ps)
 others_around z ClassDeclaration g ps = ap (λ b. record (within z) { derived = b }) (derived-bare ps)
+others_around z ClassBody g ps = ap (λ ws. record (within z) { derived = z.derived; privates = ws ++ z.privates }) (private_keys-bare ps)
 others_around z LabeledStatement g ps = ap (λ l. record (within z) { labels = l }) (own_label-bare ps z.labels)
 others_around z _ g ps = refl
 
 first_around : (z : Around) (k : Kind) (g : Flags) (ps : Parts) → around_first z k g (bare_parts ps) ≡ around_first z k g ps
 first_around z MethodDefinition g ps = refl
+first_around z PropertyDefinition g ps = refl
 first_around z Property g ps = refl
+first_around z MemberExpression g ps = refl
+first_around z LabeledStatement g ps = refl
+first_around z BreakStatement g ps = refl
+first_around z ContinueStatement g ps = refl
 first_around z TaggedTemplateExpression g ps = refl
 first_around z ForInStatement g ps = refl
 first_around z ForOfStatement g ps = refl
@@ -450,7 +472,21 @@ counted z n = λ i.
     (SpecialConstructor, special-bare n i) ∷
     (StaticPrototype, prototype-bare n i) ∷
     (UncookedTemplate, template-bare z n i) ∷
-    (RegExpFlags, flags-bare n i) ∷
+    (RegExpFlags, flags-bare z n i) ∷
+    (YieldOutsideGenerator, yield-bare z n i) ∷
+    (AwaitOutsideAsync, await-bare z n i) ∷
+    (FieldNamedConstructor, field-bare n i) ∷
+    (PrivateConstructor, private_constructor-bare n i) ∷
+    (DuplicatePrivateName, private_again-bare n i) ∷
+    (UndeclaredPrivateName, undeclared-bare z n i) ∷
+    (ArgumentsInInit, arguments-bare z n i) ∷
+    (DeleteOfPrivate, delete_private-bare n i) ∷
+    (ImportMetaOutsideModule, meta-bare z n i) ∷
+    (DuplicateExport, duplicate_export-bare n i) ∷
+    (ExportOfNoName, export_no_name-bare n i) ∷
+    (UndeclaredExport, undeclared_export-bare n i) ∷
+    (LoneSurrogate, lone-bare n i) ∷
+    (ForAsyncOf, async-bare z n i) ∷
     []
 
 own-bare : (z : Around) (n : Tree) → numbers (own_errors z (bare n)) ≡ numbers (own_errors z n)
@@ -465,19 +501,26 @@ mutual
 
   pub within-bare : (z : Around) (n : Tree) → numbers (errors_within z (bare n)) ≡ numbers (errors_within z n)
   within-bare z (node k w g s e ps) =
-      both_numbers (own_errors z (bare (node k w g s e ps))) (own_errors z (node k w g s e ps))
-      (parts_errors (around_first z k g (bare_parts ps)) (around_others z k g (bare_parts ps)) (bare_parts ps)) (parts_errors (around_first z k g ps) (around_others z k g ps) ps)
-      (own-bare z (node k w g s e ps))
-      ((λ i. numbers (parts_errors (first_around z k g ps i) (others_around z k g ps i) (bare_parts ps))) ∙ parts-bare (around_first z k g ps) (around_others z k g ps) ps)
+      let y = settled z k in
+      both_numbers (own_errors y (bare (node k w g s e ps))) (own_errors y (node k w g s e ps))
+      (parts_errors (around_first y k g (bare_parts ps)) (around_others y k g (bare_parts ps)) (bare_parts ps)) (parts_errors (around_first y k g ps) (around_others y k g ps) ps)
+      (own-bare y (node k w g s e ps))
+      ((λ i. numbers (parts_errors (first_around y k g ps i) (others_around y k g ps i) (bare_parts ps))) ∙ parts-bare (around_first y k g ps) (around_others y k g ps) ps)
 
   pub parts-bare : (y z : Around) (ps : Parts) → numbers (parts_errors y z (bare_parts ps)) ≡ numbers (parts_errors y z ps)
   parts-bare y z none = refl
   parts-bare y z (part n ps) = both_numbers (errors_within y (bare n)) (errors_within y n) (parts_errors z z (bare_parts ps)) (parts_errors z z ps) (within-bare y n) (parts-bare z z ps)
   parts-bare y z (gap ps) = parts-bare z z ps
 
+outside-bare : (n : Tree) → outside_of (bare n) ≡ outside_of n
+outside-bare (node k w g s e ps) = refl
+
+errors-bare : (n : Tree) → numbers (errors (bare n)) ≡ numbers (errors n)
+errors-bare n = ap (λ z. numbers (errors_within z (bare n))) (outside-bare n) ∙ within-bare (outside_of n) n
+
 -- the same tree has the same early errors, but for their places
 pub same_errors : (a b : Tree) → SameTree a b → numbers (errors a) ≡ numbers (errors b)
-same_errors a b h = sym (within-bare outside a) ∙ ap (λ n. numbers (errors n)) h ∙ within-bare outside b
+same_errors a b h = sym (errors-bare a) ∙ ap (λ n. numbers (errors n)) h ∙ errors-bare b
 
 empty : (xs : List Error) → numbers xs ≡ [] → xs ≡ []
 empty [] e = refl

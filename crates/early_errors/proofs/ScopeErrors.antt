@@ -3,15 +3,14 @@ use Rattle.std.proofs.Common.{◌≡◌, ℕ, ◌+◌, ◌-◌, ◌<◌, ◌≤�
 use Rattle.std.proofs.Math.Dec.{leb}
 use Rattle.std.proofs.lemmas.Bool.{false≢true}
 use Rattle.std.proofs.lemmas.Bool.Decides.{leb_tells}
-use Rattle.tree.specs.declared.kind.Kind.TheVariants.{Program, BlockStatement, SwitchStatement, CatchClause, ForStatement, ForInStatement, ForOfStatement, Property}
-use Rattle.tree.specs.Tree.{Tree, node, Parts, none, part, gap, kind_of, flags_of, parts_of, part_at, part_count, parts_drop}
+use Rattle.tree.specs.declared.kind.Kind.TheVariants.{Program, StaticBlock, BlockStatement, SwitchStatement, CatchClause, ForStatement, ForInStatement, ForOfStatement}
+use Rattle.tree.specs.Tree.{Tree, node, Parts, none, part, gap, kind_of, parts_of, part_at, part_count, parts_drop}
 use Rattle.language.specs.FirstPart.{others}
 use Rattle.early_errors.specs.declared.EarlyError.{EarlyError}
 use Rattle.early_errors.specs.declared.EarlyError.TheVariants as error
 use Rattle.early_errors.specs.declared.scopes.ScopeKind.{ScopeKind}
 use Rattle.early_errors.specs.declared.scopes.ScopeKind.TheVariants as scope
-use Rattle.early_errors.specs.declared.walk.WalkKind.TheVariants as inside
-use Rattle.early_errors.specs.Around.{Around, is_method}
+use Rattle.early_errors.specs.Around.{Around}
 use Rattle.name_tables.specs.PatternParts.{at_part}
 use Rattle.name_tables.specs.BoundNames.{each_part}
 use Rattle.early_errors.specs.Names.{Named, places, twice, shared, first_names, var_names, parts_vars, lexical_names, function_names, body_items}
@@ -21,13 +20,16 @@ use Rattle.early_errors.specs.Strict.{is_restricted, eval_or_arguments, delete_o
 use Rattle.early_errors.specs.Labels.{misplaced_jump, undefined_label, duplicate_label}
 use Rattle.early_errors.specs.Classes.{super_property_outside_method, super_call_outside_constructor, new_target_outside_function, duplicate_constructor, special_constructor, static_prototype}
 use Rattle.early_errors.specs.Literals.{uncooked_template, reg_exp_flags}
+use Rattle.early_errors.specs.Yields.{yield_outside_generator, await_outside_async, for_async_of}
+use Rattle.early_errors.specs.Fields.{field_named_constructor, arguments_in_init}
+use Rattle.early_errors.specs.PrivateNames.{private_constructor, duplicate_private_name, undeclared_private_name, delete_of_private}
+use Rattle.early_errors.specs.Modules.{import_meta_outside_module, duplicate_export, export_of_no_name, undeclared_export, lone_surrogate}
 use Rattle.early_errors.specs.Early.{Error, each, own_errors, least}
-use Rattle.early_errors.specs.Owns.{inside_of, scope_kind, scope_error, names_of_scope, place_of_scope, body_place, block_at, is_block, items_at, found_of_scope, plain_errors, doubled, clash_with, case_names}
+use Rattle.early_errors.specs.Owns.{makes_scope, scope_kind, scope_error, names_of_scope, place_of_scope, body_place, block_at, is_block, items_at, found_of_scope, plain_errors, doubled, clash_with, case_names}
 use Rattle.early_errors.specs.Walk.{sooner}
 use Rattle.early_errors.specs.Walks.{vars_at, range_vars}
 use Rattle.early_errors.proofs.FirstNames.{first_names-at}
-use Rattle.early_errors.proofs.Insides.{in_scope, not_scope}
-use Rattle.early_errors.proofs.Least.{sooner-twice, least-append}
+use Rattle.early_errors.proofs.Least.{sooner-swaps, sooner-twice, least-append}
 use Rattle.early_errors.proofs.FunctionLists.{others-drop, body-whole}
 use Rattle.early_errors.proofs.PartRanges.{past, ranged-step, ranged-past, vars_drop}
 use Rattle.early_errors.proofs.VarConflictSymmetry.{shared-both}
@@ -54,15 +56,37 @@ inner ns vs =
     least-append (each error.DuplicateLexicalName (places (twice ns ++ []))) (each error.LexicalNameIsVar (places (shared ns vs)) ++ [])
     ∙ (λ i. sooner (least (each error.DuplicateLexicalName (places (append-nil (twice ns) i)))) (least (append-nil (each error.LexicalNameIsVar (places (shared ns vs))) i)))
 
-block : (b : Bool) (ps : Parts) → let k = scope_kind BlockStatement b in let ns = each_part (lexical_names (not b)) ps in let ms = names_of_scope k ps in
-    least (each error.DuplicateLexicalName (places (twice ns ++ [])) ++ (each error.LexicalNameIsVar (places (shared ns (cond b (each_part function_names ps) [] ++ parts_vars ps))) ++ []))
+-- what is found besides
+more : (xs ys es : List Error) → least (xs ++ (ys ++ es)) ≡ sooner (least es) (least (xs ++ (ys ++ [])))
+more xs ys es =
+    least-append xs (ys ++ es) ∙ ap (sooner (least xs)) (least-append ys es) ∙ sym (sooner-twice (least xs) (least ys) (least es)) ∙ sooner-swaps (sooner (least xs) (least ys)) (least es)
+    ∙ ap (sooner (least es)) (sym (least-append xs (ys ++ []) ∙ ap (λ l. sooner (least xs) (least l)) (append-nil ys)))
+
+-- a scope whose functions are its own lexical names, or `var` names
+abbrev Named_scope : ScopeKind → (inner : Bool) → Parts → Type 0
+Named_scope k b ps = let ns = each_part (lexical_names b) ps in let ms = names_of_scope k ps in
+    least (each error.DuplicateLexicalName (places (twice ns ++ [])) ++ (each error.LexicalNameIsVar (places (shared ns (cond b [] (each_part function_names ps) ++ parts_vars ps))) ++ []))
     ≡ sooner (least (found_of_scope k ps ms)) (least (clash_with (scope_error k) ms (range_vars ps (place_of_scope k ps) (part_count ps - place_of_scope k ps))))
-block true ps =
+
+outer_scope : (ps : Parts) → Named_scope scope.TopLevel false ps
+outer_scope ps =
     let ns = each_part (lexical_names false) ps in
     top ns (each_part function_names ps) (parts_vars ps) ∙ ap (λ vs. sooner (least (found_of_scope scope.TopLevel ps ns)) (least (clash_with error.LexicalNameIsVar ns vs))) (sym (vars_drop ps 0))
-block false ps =
+
+inner_scope : (ps : Parts) → Named_scope scope.Block true ps
+inner_scope ps =
     let ns = each_part (lexical_names true) ps in
     inner ns (parts_vars ps) ∙ ap (λ vs. sooner (least (found_of_scope scope.Block ps ns)) (least (clash_with error.LexicalNameIsVar ns vs))) (sym (vars_drop ps 0))
+
+program : (m : Bool) (ps : Parts) → Named_scope (cond (not m) scope.TopLevel scope.Block) m ps
+program true ps = inner_scope ps
+program false ps = outer_scope ps
+
+block : (b : Bool) (ps : Parts) → let k = cond b scope.TopLevel scope.Block in let ns = each_part (lexical_names (not b)) ps in let ms = names_of_scope k ps in
+    least (each error.DuplicateLexicalName (places (twice ns ++ [])) ++ (each error.LexicalNameIsVar (places (shared ns (cond b (each_part function_names ps) [] ++ parts_vars ps))) ++ []))
+    ≡ sooner (least (found_of_scope k ps ms)) (least (clash_with (scope_error k) ms (range_vars ps (place_of_scope k ps) (part_count ps - place_of_scope k ps))))
+block true ps = outer_scope ps
+block false ps = inner_scope ps
 
 catch : (es : List Error) (ns bs vs : List Named) →
     least (es ++ (each error.CatchParameterConflict (places (twice ns ++ shared ns (bs ++ vs))) ++ []))
@@ -76,6 +100,13 @@ catch es ns bs vs =
 
 head : (es : List Error) (ns vs : List Named) → least (es ++ (each error.ForNameIsVar (places (shared ns vs)) ++ [])) ≡ sooner (least es) (least (clash_with error.ForNameIsVar ns vs))
 head es ns vs = least-append es (each error.ForNameIsVar (places (shared ns vs)) ++ []) ∙ ap (λ x. sooner (least es) (least x)) (append-nil (each error.ForNameIsVar (places (shared ns vs))))
+
+-- between a node's other errors
+between : (es xs ys zs : List Error) → least (es ++ (xs ++ (ys ++ (zs ++ [])))) ≡ sooner (least (es ++ (ys ++ zs))) (least xs)
+between es xs ys zs =
+    let y = ys ++ zs in
+    ap (λ l. least (es ++ (xs ++ (ys ++ l)))) (append-nil zs) ∙ least-append es (xs ++ y) ∙ ap (sooner (least es)) (least-append xs y ∙ sooner-swaps (least xs) (least y))
+    ∙ sym (sooner-twice (least es) (least y) (least xs)) ∙ ap (λ o. sooner o (least xs)) (sym (least-append es y))
 
 -- ---- the parts with `var`s
 
@@ -139,15 +170,18 @@ body-vars ps = ap parts_vars (sym (body-whole ps (block_at (part_at ps (part_cou
 
 module _ (z : Around) where
   abbrev Split : Tree → Type 0
-  Split t = let k = scope_kind (kind_of t) z.is_body in let ps = parts_of t in let ns = names_of_scope k ps in
+  Split t = let k = scope_kind (kind_of t) z.in_module z.is_body in let ps = parts_of t in let ns = names_of_scope k ps in
       least (own_errors z t) ≡ sooner (least (plain_errors z t)) (sooner (least (found_of_scope k ps ns)) (least (clash_with (scope_error k) ns (range_vars ps (place_of_scope k ps) (part_count ps - place_of_scope k ps)))))
 
-  pub scope-split : (t : Tree) → inside_of (kind_of t) (flags_of t).form ≡ inside.Scope → Split t
-  unfolding own_errors duplicate_lexical_name lexical_name_is_var const_without_initializer catch_parameter_conflict for_name_is_var duplicate_parameter parameter_is_lexical_name use_strict_after_pattern eval_or_arguments delete_of_identifier misplaced_jump undefined_label duplicate_label super_property_outside_method super_call_outside_constructor new_target_outside_function duplicate_constructor special_constructor static_prototype uncooked_template reg_exp_flags
+  pub scope-split : (t : Tree) → makes_scope (kind_of t) ≡ true → Split t
+  unfolding own_errors duplicate_lexical_name lexical_name_is_var const_without_initializer catch_parameter_conflict for_name_is_var duplicate_parameter parameter_is_lexical_name use_strict_after_pattern eval_or_arguments delete_of_identifier misplaced_jump undefined_label duplicate_label super_property_outside_method super_call_outside_constructor new_target_outside_function duplicate_constructor special_constructor static_prototype uncooked_template reg_exp_flags yield_outside_generator await_outside_async field_named_constructor private_constructor duplicate_private_name undeclared_private_name arguments_in_init delete_of_private import_meta_outside_module duplicate_export export_of_no_name undeclared_export lone_surrogate for_async_of
   scope-split (node Program w g s e ps) h =
-      let ns = each_part (lexical_names false) ps in
-      top ns (each_part function_names ps) (parts_vars ps)
-      ∙ ap (λ vs. sooner (least (doubled error.DuplicateLexicalName ns ++ clash_with error.LexicalNameIsVar ns (each_part function_names ps))) (least (clash_with error.LexicalNameIsVar ns vs))) (sym (vars_drop ps 0))
+      let t = node Program w g s e ps in
+      let ns = each_part (lexical_names z.in_module) ps in
+      let exports = each error.DuplicateExport (duplicate_export t) ++ (each error.UndeclaredExport (undeclared_export t) ++ []) in
+      more (each error.DuplicateLexicalName (places (twice ns ++ []))) (each error.LexicalNameIsVar (places (shared ns (cond z.in_module [] (each_part function_names ps) ++ parts_vars ps)))) exports
+      ∙ ap (sooner (least exports)) (program z.in_module ps)
+  scope-split (node StaticBlock w g s e ps) h = outer_scope ps
   scope-split (node BlockStatement w g s e ps) h = block z.is_body ps
   scope-split (node SwitchStatement w g s e ps) h =
       inner (each_part case_names (others ps)) (parts_vars (others ps))
@@ -157,24 +191,25 @@ module _ (z : Around) where
       let bs = each_part (lexical_names true) (body_items ps) in
       let c = error.CatchParameterConflict in
       catch es (first_names ps) bs (parts_vars (body_items ps))
-      ∙ (λ i. let ns = first_names-at ps i in sooner (least es) (sooner (least (doubled c ns ++ clash_with c ns bs)) (least (clash_with c ns (body-vars ps i)))))
+      ∙ (λ i. let ns = first_names-at ps i in sooner (least (sym (append-nil es) i)) (sooner (least (doubled c ns ++ clash_with c ns bs)) (least (clash_with c ns (body-vars ps i)))))
   scope-split (node ForStatement w g s e ps) h =
       head [] (head_lexical ps) (parts_vars (others (others (others ps))))
       ∙ (λ i. least (clash_with error.ForNameIsVar (head-at ps i) ((ap parts_vars (behind_three ps) ∙ sym (vars_drop ps 3)) i)))
   scope-split (node ForInStatement w g s e ps) h =
       let es = each error.EvalOrArguments (places (filter is_restricted (first_names ps))) in
       head es (head_lexical ps) (parts_vars (others (others ps)))
-      ∙ (λ i. sooner (least es) (least (clash_with error.ForNameIsVar (head-at ps i) ((ap parts_vars (behind_two ps) ∙ sym (vars_drop ps 2)) i))))
+      ∙ (λ i. sooner (least (sym (append-nil es) i)) (least (clash_with error.ForNameIsVar (head-at ps i) ((ap parts_vars (behind_two ps) ∙ sym (vars_drop ps 2)) i))))
   scope-split (node ForOfStatement w g s e ps) h =
+      let t = node ForOfStatement w g s e ps in
       let es = each error.EvalOrArguments (places (filter is_restricted (first_names ps))) in
-      head es (head_lexical ps) (parts_vars (others (others ps)))
-      ∙ (λ i. sooner (least es) (least (clash_with error.ForNameIsVar (head-at ps i) ((ap parts_vars (behind_two ps) ∙ sym (vars_drop ps 2)) i))))
-  scope-split (node Property w g s e ps) h = absurd (not_scope (is_method g.form) h)
-  scope-split (node _ w g s e ps) h = absurd (false≢true (ap in_scope h))
+      let await_so = each error.AwaitOutsideAsync (await_outside_async z t) ++ each error.ForAsyncOf (for_async_of z t) in
+      between es (each error.ForNameIsVar (places (shared (head_lexical ps) (parts_vars (others (others ps)))))) (each error.AwaitOutsideAsync (await_outside_async z t)) (each error.ForAsyncOf (for_async_of z t))
+      ∙ (λ i. sooner (least (es ++ await_so)) (least (clash_with error.ForNameIsVar (head-at ps i) ((ap parts_vars (behind_two ps) ∙ sym (vars_drop ps 2)) i))))
+  scope-split (node _ w g s e ps) h = absurd (false≢true h)
 
   -- by what a walk has of the scope
-  pub split_given : (t : Tree) (k : ScopeKind) (ns : List Named) (e : EarlyError) (m n : ℕ) → inside_of (kind_of t) (flags_of t).form ≡ inside.Scope →
-      k ≡ scope_kind (kind_of t) z.is_body → ns ≡ names_of_scope k (parts_of t) → e ≡ scope_error k → m ≡ place_of_scope k (parts_of t) → n ≡ part_count (parts_of t) →
+  pub split_given : (t : Tree) (k : ScopeKind) (ns : List Named) (e : EarlyError) (m n : ℕ) → makes_scope (kind_of t) ≡ true →
+      k ≡ scope_kind (kind_of t) z.in_module z.is_body → ns ≡ names_of_scope k (parts_of t) → e ≡ scope_error k → m ≡ place_of_scope k (parts_of t) → n ≡ part_count (parts_of t) →
       least (own_errors z t) ≡ sooner (least (plain_errors z t)) (sooner (least (found_of_scope k (parts_of t) ns)) (least (clash_with e ns (range_vars (parts_of t) m (n - m)))))
   split_given t k ns e m n h a b c d g =
       let names = b ∙ ap (λ j. names_of_scope j (parts_of t)) a in

@@ -3,12 +3,13 @@ use Rattle.std.proofs.Common.{◌≡◌, ℕ, suc, Bool, true, false, cond, List
 use Rattle.std.specs.Prelude.{◌||◌, map, filter}
 use Rattle.std.specs.Str.{bytes_eq}
 use Rattle.tree.specs.declared.kind.Kind.{Kind}
-use Rattle.tree.specs.declared.kind.Kind.TheVariants.{Identifier, Property, FunctionExpression, ArrowFunctionExpression, ArrayPattern, ObjectPattern, AssignmentPattern, RestElement, BlockStatement, VariableDeclaration, FunctionDeclaration, ClassDeclaration}
+use Rattle.tree.specs.declared.kind.Kind.TheVariants.{Identifier, Property, FunctionExpression, ArrowFunctionExpression, ArrayPattern, ObjectPattern, AssignmentPattern, RestElement, BlockStatement, VariableDeclaration, FunctionDeclaration, ClassDeclaration, ImportDeclaration, ExportNamedDeclaration, ExportDefaultDeclaration}
 use Rattle.tree.specs.Tree.{Tree, node, Parts, none, part, gap, bare, bare_parts, parts_of}
 use Rattle.language.specs.FirstPart.{others}
 use Rattle.language.specs.Vocabulary.{is}
 use Rattle.name_tables.specs.BoundNames.{each_part, bound_names, all_bound_names, first_bound_names, last_bound_names}
-use Rattle.early_errors.specs.Names.{Named, places, has_name, repeated, twice, shared, is_function, name_at, names_in, first_names, declared_names, own_vars, var_names, parts_vars, lexical_names, function_names, parameter_names, parameters_on, items_of, body_items}
+use Rattle.name_tables.specs.DeclaredNames.{declaration_of, own_lexical_names}
+use Rattle.early_errors.specs.Names.{Named, places, has_name, repeated, twice, shared, is_function, is_static_block, import_name, name_at, names_in, first_names, declared_names, own_vars, var_names, parts_vars, lexical_names, function_names, parameter_names, parameters_on, items_of, body_items}
 
 abbrev pub words : List Named → List (List ℕ)
 words xs = map (λ x. x.0) xs
@@ -135,7 +136,7 @@ mutual
 
   pub var_names-bare : (n : Tree) → Alike (var_names (bare n)) (var_names n)
   var_names-bare (node k w g s e ps) =
-      alike-cond (is_function k) [] [] (own_vars k w (bare_parts ps) ++ parts_vars (bare_parts ps)) (own_vars k w ps ++ parts_vars ps) refl
+      alike-cond (is_function k || is_static_block k) [] [] (own_vars k w (bare_parts ps) ++ parts_vars (bare_parts ps)) (own_vars k w ps ++ parts_vars ps) refl
       (alike-append (own_vars k w (bare_parts ps)) (own_vars k w ps) (parts_vars (bare_parts ps)) (parts_vars ps) (own_vars-bare k w ps) (vars-bare ps))
 
   pub vars-bare : (ps : Parts) → Alike (parts_vars (bare_parts ps)) (parts_vars ps)
@@ -143,11 +144,30 @@ mutual
   vars-bare (part n ps) = alike-append (var_names (bare n)) (var_names n) (parts_vars (bare_parts ps)) (parts_vars ps) (var_names-bare n) (vars-bare ps)
   vars-bare (gap ps) = vars-bare ps
 
+pub import-bare : (n : Tree) → Alike (import_name (bare n)) (import_name n)
+import-bare (node k w g s e ps) = last_names-bare ps
+
+declaration-bare : (n : Tree) → declaration_of (bare n) ≡ bare (declaration_of n)
+declaration-bare (node ExportNamedDeclaration w g s e none) = refl
+declaration-bare (node ExportNamedDeclaration w g s e (part n ps)) = refl
+declaration-bare (node ExportNamedDeclaration w g s e (gap ps)) = refl
+declaration-bare (node ExportDefaultDeclaration w g s e none) = refl
+declaration-bare (node ExportDefaultDeclaration w g s e (part n ps)) = refl
+declaration-bare (node ExportDefaultDeclaration w g s e (gap ps)) = refl
+declaration-bare (node _ w g s e ps) = refl
+
+abbrev own_lexical : Bool → Tree → List Named
+own_lexical b n = own_lexical_names b (λ text ps. name_at) name_at name_at name_at n
+
+own_lexical-bare : (b : Bool) (n : Tree) → Alike (own_lexical b (bare n)) (own_lexical b n)
+own_lexical-bare b (node VariableDeclaration w g s e ps) = alike-cond (is w "var") [] [] (declared_names (bare_parts ps)) (declared_names ps) refl (declared-bare ps)
+own_lexical-bare b (node ClassDeclaration w g s e ps) = first_names-bare ps
+own_lexical-bare b (node FunctionDeclaration w g s e ps) = alike-cond b (first_names (bare_parts ps)) (first_names ps) [] [] (first_names-bare ps) refl
+own_lexical-bare b (node ImportDeclaration w g s e ps) = alike-each import_name import-bare ps
+own_lexical-bare b (node _ w g s e ps) = refl
+
 pub lexical-bare : (b : Bool) (n : Tree) → Alike (lexical_names b (bare n)) (lexical_names b n)
-lexical-bare b (node VariableDeclaration w g s e ps) = alike-cond (is w "var") [] [] (declared_names (bare_parts ps)) (declared_names ps) refl (declared-bare ps)
-lexical-bare b (node ClassDeclaration w g s e ps) = first_names-bare ps
-lexical-bare b (node FunctionDeclaration w g s e ps) = alike-cond b (first_names (bare_parts ps)) (first_names ps) [] [] (first_names-bare ps) refl
-lexical-bare b (node _ w g s e ps) = refl
+lexical-bare b n = ap (λ m. words (own_lexical b m)) (declaration-bare n) ∙ own_lexical-bare b (declaration_of n)
 
 pub function_names-bare : (n : Tree) → Alike (function_names (bare n)) (function_names n)
 function_names-bare (node FunctionDeclaration w g s e ps) = first_names-bare ps

@@ -1,8 +1,11 @@
 -- `super`, `new.target` and the members of classes.
-use Rattle.std.specs.Prelude.{ℕ, Bool, false, not, ◌&&◌, List, [], ◌∷◌}
-use Rattle.tree.specs.declared.kind.Kind.TheVariants.{ClassBody, MethodDefinition, MemberExpression, CallExpression, MetaProperty}
-use Rattle.tree.specs.Tree.{Tree, node, Parts, part, kind_of, flags_of, start_of, parts_of}
-use Rattle.language.specs.Vocabulary.{is, is_super}
+use Rattle.std.specs.Prelude.{ℕ, Bool, false, not, ◌&&◌, ◌||◌, List, [], ◌∷◌}
+use Rattle.tree.specs.declared.kind.Kind.TheVariants.{PropertyDefinition, ClassBody, MethodDefinition, MemberExpression, CallExpression, MetaProperty}
+use Rattle.tree.specs.Uses.{is_init}
+use Rattle.tree.specs.Tree.{Tree, node, Parts, part, text_of, kind_of, flags_of, start_of, parts_of}
+use Rattle.language.specs.Vocabulary.{is, is_super, is_private}
+use Prim.Native.String.{String}
+use Rattle.language.specs.Expressions.{value_form}
 use Rattle.early_errors.specs.Keys.{key_value}
 use Rattle.name_tables.specs.BoundNames.{each_part}
 use Rattle.early_errors.specs.Names.{when}
@@ -22,11 +25,6 @@ unfoldable pub super_call_outside_constructor : Around → Tree → List ℕ
 super_call_outside_constructor z (node CallExpression text flags from to parts) = when (not z.super_call) (super_places parts)
 super_call_outside_constructor z (node _ text flags from to parts) = []
 
--- `new.target` outside every function that isn't an arrow (15.1.1): its start.
-unfoldable pub new_target_outside_function : Around → Tree → List ℕ
-new_target_outside_function z (node MetaProperty text flags from to parts) = when (not z.new_target) (from ∷ [])
-new_target_outside_function z (node _ text flags from to parts) = []
-
 abbrev pub key_places : Parts → List ℕ
 key_places (part tree rest) = start_of tree ∷ []
 key_places _ = []
@@ -34,6 +32,15 @@ key_places _ = []
 abbrev pub has_key : Parts → (Tree → Bool) → Bool
 has_key (part tree rest) p = p tree
 has_key _ p = false
+
+-- `new.target` outside every function that isn't an arrow (15.1.1): its start.
+unfoldable pub new_target_outside_function : Around → Tree → List ℕ
+new_target_outside_function z (node MetaProperty text flags from to parts) = when (has_key parts (λ n. is (text_of n) "new") && not z.new_target) (from ∷ [])
+new_target_outside_function z (node _ text flags from to parts) = []
+
+-- a key that isn't private has the value
+abbrev pub named : Tree → String → Bool
+named n s = not (is_private (kind_of n)) && is (key_value n) s
 
 abbrev pub constructor_places : Tree → List ℕ
 constructor_places tree = when (is_constructor (flags_of tree).form) (key_places (parts_of tree))
@@ -50,11 +57,13 @@ duplicate_constructor (node _ text flags from to parts) = []
 -- A class's getter or setter that isn't static, whose key has the value `constructor` (14.6.1): its key.
 unfoldable pub special_constructor : Tree → List ℕ
 special_constructor (node MethodDefinition text flags from to parts) =
-    when ((is_accessor flags.form && not flags.is_static) && (not flags.computed && has_key parts (λ n. is (key_value n) "constructor"))) (key_places parts)
+    when (((is_accessor flags.form || not (is_init (value_form parts))) && not flags.is_static) && (not flags.computed && has_key parts (λ n. named n "constructor"))) (key_places parts)
 special_constructor (node _ text flags from to parts) = []
 
 -- A static member whose key has the value `prototype` (14.6.1): its key.
 unfoldable pub static_prototype : Tree → List ℕ
 static_prototype (node MethodDefinition text flags from to parts) =
-    when (flags.is_static && (not flags.computed && has_key parts (λ n. is (key_value n) "prototype"))) (key_places parts)
+    when (flags.is_static && (not flags.computed && has_key parts (λ n. named n "prototype"))) (key_places parts)
+static_prototype (node PropertyDefinition text flags from to parts) =
+    when (flags.is_static && (not flags.computed && has_key parts (λ n. named n "prototype"))) (key_places parts)
 static_prototype (node _ text flags from to parts) = []

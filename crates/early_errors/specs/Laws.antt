@@ -4,7 +4,8 @@ use Rattle.std.specs.Str.{IsUtf8}
 use Rattle.source_text.specs.Source.{IsPlace}
 use Rattle.tree.specs.declared.kind.Pair.{Pair}
 use Rattle.tree.specs.Tree.{Tree, SameTree}
-use Rattle.language.specs.Claims.{Derives}
+use Rattle.language.specs.declared.Language.{Language}
+use Rattle.language.specs.Languages.{DerivesIn}
 use Rattle.language.specs.Derivation.{Among}
 use Rattle.early_errors.specs.Early.{Error, errors, comes_first, least_error}
 use Rattle.early_errors.specs.Starts.{starts}
@@ -26,10 +27,10 @@ PlacesMakeNoError = (a b : Tree) → SameTree a b → errors a ≡ [] → errors
 abbrev pub ErrorsAreAtNodes : Type 0
 ErrorsAreAtNodes = (n : Tree) (x : Error) → Among x (errors n) → Among x.1 (starts n)
 
--- each node of a tree that a text derives starts at a place of the text
+-- each node of a tree that a text derives in a language starts at a place of the text
 abbrev pub NodesStartAtPlaces : Type 0
-NodesStartAtPlaces = (text : List ℕ) (n : Tree) (P : List Pair) → IsUtf8 text → Derives text n P → (at : ℕ) → Among at (starts n) → IsPlace text at
+NodesStartAtPlaces = (language : Language) (text : List ℕ) (n : Tree) (P : List Pair) → IsUtf8 text → DerivesIn language text n P → (at : ℕ) → Among at (starts n) → IsPlace text at
 
 -- so each early error of such a tree is at one
 abbrev pub ErrorsAreAtPlaces : Type 0
-ErrorsAreAtPlaces = (text : List ℕ) (n : Tree) (P : List Pair) → IsUtf8 text → Derives text n P → (x : Error) → Among x (errors n) → IsPlace text x.1
+ErrorsAreAtPlaces = (language : Language) (text : List ℕ) (n : Tree) (P : List Pair) → IsUtf8 text → DerivesIn language text n P → (x : Error) → Among x (errors n) → IsPlace text x.1

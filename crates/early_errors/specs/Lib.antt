@@ -16,3 +16,10 @@ pub mod Walk
 pub mod Owns
 pub mod Walks
 pub mod Passed
+pub mod Yields
+pub mod Fields
+pub mod PrivateNames
+pub mod Modules
+pub mod Knowing
+pub mod PrivateUses
+pub mod ExportsRead

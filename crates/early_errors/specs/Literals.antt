@@ -33,20 +33,28 @@ abbrev pub flags_part : List ℕ → List ℕ → List ℕ
 flags_part found [] = found
 flags_part found (c ∷ w) = flags_part (cond (nat_eq c 47) w found) w
 
--- each is one of `g i m s u y`, and none stands twice
-abbrev pub are_flags : List ℕ → Bool
-are_flags [] = true
-are_flags (c ∷ w) = holds (codes "gimsuy") c && (not (holds w c) && are_flags w)
+-- each is one of the known, and none stands twice
+abbrev pub are_among : List ℕ → List ℕ → Bool
+are_among known [] = true
+are_among known (c ∷ w) = holds known c && (not (holds w c) && are_among known w)
+
+-- the flags of the base profile, and of the language of 2022 (22.2.3.4 of the 13th edition)
+abbrev pub known_flags : Bool → List ℕ
+known_flags false = codes "gimsuy"
+known_flags true = codes "dgimsuy"
 
 abbrev pub is_reg_exp : TokenClass → Bool
 is_reg_exp RegularExpressionLiteral = true
 is_reg_exp _ = false
 
 -- a literal that isn't a regular expression, or one with good flags (12.2.8.1)
-abbrev pub good_flags : List ℕ → Bool
-good_flags text = not (is_reg_exp (literal_class text)) || are_flags (flags_part [] text)
+abbrev pub good_flags_in : Bool → List ℕ → Bool
+good_flags_in of_2022 text = not (is_reg_exp (literal_class text)) || are_among (known_flags of_2022) (flags_part [] text)
 
--- Flags other than `g i m s u y`, or one twice (12.2.8.1): the literal.
-unfoldable pub reg_exp_flags : Tree → List ℕ
-reg_exp_flags (node Literal text flags from to parts) = when (not (good_flags text)) (from ∷ [])
-reg_exp_flags (node _ text flags from to parts) = []
+abbrev pub good_flags : List ℕ → Bool
+good_flags text = good_flags_in false text
+
+-- Flags other than these, or one twice (12.2.8.1): the literal.
+unfoldable pub reg_exp_flags : Around → Tree → List ℕ
+reg_exp_flags z (node Literal text flags from to parts) = when (not (good_flags_in z.of_2022 text)) (from ∷ [])
+reg_exp_flags z (node _ text flags from to parts) = []

@@ -1,14 +1,14 @@
 -- The names that a tree binds, declares or assigns, each with the place of its identifier.
-use Rattle.std.specs.Prelude.{ℕ, Bool, false, cond, ◌||◌, List, [], ◌∷◌, ◌++◌, map, filter}
+use Rattle.std.specs.Prelude.{ℕ, Bool, true, false, cond, ◌||◌, List, [], ◌∷◌, ◌++◌, map, filter}
 use Rattle.std.specs.Str.{bytes_eq}
 use Rattle.tree.specs.declared.kind.Kind.{Kind}
-use Rattle.tree.specs.declared.kind.Kind.TheVariants.{FunctionExpression, ArrowFunctionExpression, BlockStatement, FunctionDeclaration}
+use Rattle.tree.specs.declared.kind.Kind.TheVariants.{StaticBlock, FunctionExpression, ArrowFunctionExpression, BlockStatement, FunctionDeclaration}
 pub use Rattle.tree.specs.Kinds.{is_function}
 use Rattle.tree.specs.Tree.{Tree, node, Parts, none, part, gap, text_of, start_of}
 use Rattle.language.specs.FirstPart.{others}
 use Rattle.name_tables.specs.BoundNames.{bound_names, first_bound_names}
 use Rattle.name_tables.specs.DeclaredNames as declared
-use Rattle.name_tables.specs.DeclaredNames.{declarator_names, lexically_declared_names, own_var_names}
+use Rattle.name_tables.specs.DeclaredNames.{declarator_names, lexically_declared_names, own_var_names, specifier_names}
 
 -- a name and its place
 abbrev pub Named : Type 0
@@ -55,19 +55,28 @@ declared_names parts = declarator_names (λ ps. name_at) parts
 abbrev pub own_vars : Kind → List ℕ → Parts → List Named
 own_vars kind text parts = own_var_names (λ ps. name_at) kind text parts
 
+abbrev pub is_static_block : Kind → Bool
+is_static_block StaticBlock = true
+is_static_block _ = false
+
 unfoldable mutual
   -- the names of `var` at any depth outside inner functions (13.1.5)
   pub var_names : Tree → List Named
-  var_names (node kind text flags from to parts) = cond (is_function kind) [] (own_vars kind text parts ++ parts_vars parts)
+  var_names (node kind text flags from to parts) = cond (is_function kind || is_static_block kind) [] (own_vars kind text parts ++ parts_vars parts)
 
   pub parts_vars : Parts → List Named
   parts_vars none = []
   parts_vars (part tree rest) = var_names tree ++ parts_vars rest
   parts_vars (gap rest) = parts_vars rest
 
--- the names of an item that is a `let`, a `const` or a class, and of a function too where `b` says so (13.2.5, 13.2.7)
+-- the name that a part of an import binds
+abbrev pub import_name : Tree → List Named
+import_name tree = specifier_names name_at tree
+
+-- the names of an item, exported or not, that is a `let`, a `const`, a class or an import, and of a function too where `b` says so (13.2.5,
+-- 13.2.7)
 abbrev pub lexical_names : Bool → Tree → List Named
-lexical_names b tree = lexically_declared_names b (λ text ps. name_at) name_at name_at tree
+lexical_names b tree = lexically_declared_names b (λ text ps. name_at) name_at name_at name_at tree
 
 abbrev pub function_names : Tree → List Named
 function_names (node FunctionDeclaration text flags from to parts) = first_names parts

@@ -8,9 +8,9 @@ use Rattle.early_errors.specs.declared.skipping.ErrorPlaces.{ErrorPlaces}
 use Rattle.early_errors.specs.declared.skipping.ErrorPlaces.TheVariants.{Nowhere, InParts, Anywhere}
 use Rattle.early_errors.specs.declared.skipping.SkipTest.{SkipTest}
 use Rattle.early_errors.specs.declared.skipping.SkipTest.TheVariants as telling
-use Rattle.early_errors.specs.Around.{Around, Label, within}
+use Rattle.early_errors.specs.Around.{Around, settled, within}
 use Rattle.early_errors.specs.declared.around.Context.{Context as Code}
-use Rattle.early_errors.specs.Owns.{round}
+use Rattle.early_errors.specs.Owns.{Beside, round}
 use Rattle.early_errors.specs.Names.{Named, twice, first_names, var_names, parts_vars}
 use Rattle.early_errors.specs.Scopes.{without_initializer}
 use Rattle.early_errors.specs.Strict.{is_restricted}
@@ -18,18 +18,34 @@ use Rattle.early_errors.specs.Early.{errors_within, parts_errors}
 use Rattle.early_errors.specs.Walks.{IsQuiet}
 
 -- a node that has no errors itself, whatever stands round it, and whose parts have round them what stands round it
-abbrev pub IsOpen : Tree → Type 0
-IsOpen tree = ((z : Around) → errors_within z tree ≡ parts_errors (within z) (within z) (parts_of tree)) × (var_names tree ≡ parts_vars (parts_of tree))
+abbrev pub IsOpen : Bool → Tree → Type 0
+IsOpen b tree =
+    ((z : Around) → z.no_arguments ≡ b → settled z (kind_of tree) ≡ z → errors_within z tree ≡ parts_errors (within z) (within z) (parts_of tree))
+    × (var_names tree ≡ parts_vars (parts_of tree))
 
--- where a node's errors may be
-abbrev pub IsWhere : ErrorPlaces → Tree → Type 0
-IsWhere Nowhere tree = IsQuiet tree
-IsWhere InParts tree = IsOpen tree
-IsWhere Anywhere tree = Unit
+-- where a node's errors may be; the flag says whether it may have no `arguments`
+abbrev pub IsWhere : Bool → ErrorPlaces → Tree → Type 0
+IsWhere b Nowhere tree = IsQuiet b tree
+IsWhere b InParts tree = IsOpen b tree
+IsWhere b Anywhere tree = Unit
 
 -- what stands round a node stands round the parts too where it is handed on
 abbrev pub IsHandedOn : Code → Type 0
-IsHandedOn a = (ls : List Label) → within (round a ls) ≡ round a ls
+IsHandedOn a = (r : Beside) → within (round a r) ≡ round a r
+
+-- what tells where errors of a node may be, by its kind: of the kinds of the language of 2022, and of all
+abbrev pub telling_of_2022 : Kind → SkipTest
+telling_of_2022 kind.PrivateIdentifier = telling.Nothing
+telling_of_2022 kind.YieldExpression = telling.Nothing
+telling_of_2022 kind.AwaitExpression = telling.Nothing
+telling_of_2022 kind.PropertyDefinition = telling.Nothing
+telling_of_2022 kind.StaticBlock = telling.Nothing
+telling_of_2022 kind.ImportDeclaration = telling.Nothing
+telling_of_2022 kind.ImportSpecifier = telling.Nothing
+telling_of_2022 kind.ExportSpecifier = telling.Nothing
+telling_of_2022 kind.ExportNamedDeclaration = telling.Nothing
+telling_of_2022 kind.ExportAllDeclaration = telling.Nothing
+telling_of_2022 _ = telling.Kind
 
 -- What tells it, by the kind. `Nothing` does for a node that has errors of its own or a scope, or has other things stand round its parts
 -- than stand round it. Of these some are told by more; any other node has errors in its parts only.
@@ -66,7 +82,7 @@ telling_of kind.UnaryExpression = telling.Operator
 telling_of kind.Property = telling.Form
 telling_of kind.BlockStatement = telling.Items
 telling_of kind.VariableDeclaration = telling.Declaration
-telling_of _ = telling.Kind
+telling_of k = telling_of_2022 k
 
 abbrev pub is_super_at : Option Tree → Bool
 is_super_at None = false

@@ -1,7 +1,7 @@
 -- Names that clash: of a Program, a body, a block or a switch; of a catch clause; of a `for` head.
 use Rattle.std.specs.Prelude.{ℕ, Bool, true, false, not, cond, ◌&&◌, List, [], ◌∷◌, ◌++◌}
 use Rattle.tree.specs.declared.kind.Kind.{Kind}
-use Rattle.tree.specs.declared.kind.Kind.TheVariants.{Program, BlockStatement, SwitchStatement, CatchClause, ForStatement, ForInStatement, ForOfStatement, VariableDeclaration}
+use Rattle.tree.specs.declared.kind.Kind.TheVariants.{StaticBlock, Program, BlockStatement, SwitchStatement, CatchClause, ForStatement, ForInStatement, ForOfStatement, VariableDeclaration}
 use Rattle.tree.specs.Tree.{Tree, node, Parts, part, parts_of, start_of}
 use Rattle.language.specs.FirstPart.{others}
 use Rattle.language.specs.Vocabulary.{is}
@@ -11,13 +11,15 @@ use Rattle.early_errors.specs.Around.{Around}
 
 -- the lexical names of a scope; at the top of a Program or body functions are var names
 abbrev pub scope_lexical : Around → Kind → Parts → List Named
-scope_lexical z Program parts = each_part (lexical_names false) parts
+scope_lexical z Program parts = each_part (lexical_names z.in_module) parts
+scope_lexical z StaticBlock parts = each_part (lexical_names false) parts
 scope_lexical z BlockStatement parts = each_part (lexical_names (not z.is_body)) parts
 scope_lexical z SwitchStatement parts = each_part (λ c. each_part (lexical_names true) (others (parts_of c))) (others parts)
 scope_lexical z _ parts = []
 
 abbrev pub scope_vars : Around → Kind → Parts → List Named
-scope_vars z Program parts = each_part function_names parts ++ parts_vars parts
+scope_vars z Program parts = cond z.in_module [] (each_part function_names parts) ++ parts_vars parts
+scope_vars z StaticBlock parts = each_part function_names parts ++ parts_vars parts
 scope_vars z BlockStatement parts = cond z.is_body (each_part function_names parts) [] ++ parts_vars parts
 scope_vars z SwitchStatement parts = parts_vars (others parts)
 scope_vars z _ parts = []

@@ -1,11 +1,12 @@
 -- What strict code forbids: `eval` and `arguments` as names and targets, `delete` of an identifier.
 use Rattle.std.specs.Prelude.{ℕ, Bool, ◌&&◌, List, [], ◌∷◌, ◌++◌, filter}
 use Rattle.tree.specs.declared.kind.Kind.{Kind}
-use Rattle.tree.specs.declared.kind.Kind.TheVariants.{FunctionExpression, ArrowFunctionExpression, ClassExpression, UpdateExpression, UnaryExpression, AssignmentExpression, CatchClause, ForInStatement, ForOfStatement, VariableDeclaration, FunctionDeclaration, ClassDeclaration}
+use Rattle.tree.specs.declared.kind.Kind.TheVariants.{ImportDeclaration, FunctionExpression, ArrowFunctionExpression, ClassExpression, UpdateExpression, UnaryExpression, AssignmentExpression, CatchClause, ForInStatement, ForOfStatement, VariableDeclaration, FunctionDeclaration, ClassDeclaration}
 use Rattle.tree.specs.Tree.{Tree, node, Parts}
+use Rattle.name_tables.specs.BoundNames.{each_part}
 use Rattle.language.specs.FirstPart.{lead, others}
 use Rattle.language.specs.Vocabulary.{is, among, is_identifier}
-use Rattle.early_errors.specs.Names.{Named, places, when, first_names, declared_names, parameter_names}
+use Rattle.early_errors.specs.Names.{import_name, Named, places, when, first_names, declared_names, parameter_names}
 
 -- the names that a node itself binds or assigns
 abbrev pub names_given : Kind → Parts → List Named
@@ -20,6 +21,7 @@ names_given AssignmentExpression parts = first_names parts
 names_given UpdateExpression parts = first_names parts
 names_given ForInStatement parts = first_names parts
 names_given ForOfStatement parts = first_names parts
+names_given ImportDeclaration parts = each_part import_name parts
 names_given _ parts = []
 
 abbrev pub is_restricted : Named → Bool

@@ -48,7 +48,7 @@ abbrev pub with_nothing : DeclaratorAs (Unit {0})
 with_nothing = record { initialized = tt; bare = tt }
 
 abbrev pub lexical_as : Bool → LexicalAs (Unit {0})
-lexical_as b = record { by_let = with_nothing; by_const = with_nothing; class = tt; function = cond b (Some tt) None }
+lexical_as b = record { by_let = with_nothing; by_const = with_nothing; class = tt; import = tt; function = cond b (Some tt) None }
 
 -- the names of a part that may be missing
 abbrev pub names_at : Option Tree → List names.Named

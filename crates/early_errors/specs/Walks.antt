@@ -1,5 +1,5 @@
 -- What a walk says of a node's parts from a place on.
-use Rattle.std.specs.Prelude.{◌≡◌, ℕ, zero, suc, Bool, true, false, not, cond, nat_eq, Option, List, [], ◌++◌, IfSome}
+use Rattle.std.specs.Prelude.{◌≡◌, ℕ, zero, suc, Bool, true, false, not, cond, ◌&&◌, nat_eq, Option, List, [], ◌++◌, IfSome}
 use Rattle.tree.specs.declared.kind.Kind.{Kind}
 use Rattle.tree.specs.declared.kind.Kind.TheVariants.{Identifier, Literal, ThisExpression, VariableDeclaration}
 use Rattle.language.specs.Vocabulary.{is, literal_class}
@@ -38,17 +38,17 @@ range_vars parts from n = ranged (vars_at parts) from n
 abbrev pub Fits : Code → Tree → Type 0
 Fits a tree = IfSome a.labels_loop (λ b. b ≡ labels_loop tree)
 
--- a node that has no errors whatever stands round it, and no `var`s
-abbrev pub IsQuiet : Tree → Type 0
-IsQuiet tree = ((z : Around) → errors_within z tree ≡ []) × (var_names tree ≡ [])
+-- a node that has no errors whatever stands round it, and no `var`s; the flag says whether it may have no `arguments`
+abbrev pub IsQuiet : Bool → Tree → Type 0
+IsQuiet b tree = ((z : Around) → z.no_arguments ≡ b → errors_within z tree ≡ []) × (var_names tree ≡ [])
 
 -- a part that may be missing
-abbrev pub IsSilent : Option Tree → Type 0
-IsSilent o = ((z : Around) → at_part (errors_within z) o ≡ []) × (at_part var_names o ≡ [])
+abbrev pub IsSilent : Bool → Option Tree → Type 0
+IsSilent b o = ((z : Around) → z.no_arguments ≡ b → at_part (errors_within z) o ≡ []) × (at_part var_names o ≡ [])
 
--- a leaf is quiet that is a name, `this`, or a literal but for a regular expression
-abbrev pub is_quiet : Kind → List ℕ → Bool
-is_quiet Identifier text = true
-is_quiet ThisExpression text = true
-is_quiet Literal text = not (is_reg_exp (literal_class text))
-is_quiet _ text = false
+-- a leaf is quiet that is a name, but `arguments` where that may not stand, `this`, or a literal but for a regular expression
+abbrev pub is_quiet : Bool → Kind → List ℕ → Bool
+is_quiet b Identifier text = not (b && is text "arguments")
+is_quiet b ThisExpression text = true
+is_quiet b Literal text = not (is_reg_exp (literal_class text))
+is_quiet b _ text = false

@@ -1,16 +1,18 @@
 //! What holds round a node, and how it comes down to the node's parts.
 
-ghost use Rattle.std.specs.Prelude.{◌≡◌, None};
+ghost use Rattle.std.specs.Prelude.{◌≡◌, false, None};
 ghost use Rattle.tree.specs.Node.{node_tree};
+ghost use Rattle.tree.specs.Uses.{is_async, is_generator};
 ghost use Rattle.tree.specs.Tree.{flags_of, kind_of, parts_of};
 ghost use Rattle.language.specs.FirstPart.{others};
-ghost use Rattle.early_errors.specs.Owns.{first_labels, first_part, inner_labels, round};
-ghost use Rattle.early_errors.specs.Around.{around_first, around_others, has_heritage, is_accessor, is_constructor, is_method};
+ghost use Rattle.early_errors.specs.Owns.{first_beside, first_part, inner_beside, round};
+ghost use Rattle.early_errors.specs.Around.{around_first, around_others, has_heritage, is_accessor, is_constructor, is_method, is_parameter};
 
 use crate::literals::{both, either};
-use tree::{Form, Kind, Node};
+use tree::{Flags, Form, Kind, Node};
 
-/// What holds round a node, its labels aside.
+/// What holds round a node, but for its labels, the language, and the private names of classes. It stays within two words, so that
+/// it is handed on in registers.
 #[derive(Clone, Copy)]
 pub(crate) struct Context {
     pub(crate) in_loop: bool,
@@ -23,6 +25,14 @@ pub(crate) struct Context {
     pub(crate) is_body: bool,
     pub(crate) in_head: bool,
     pub(crate) of_method: bool,
+    /// It is the name of a property or a label.
+    pub(crate) is_word: bool,
+    /// It stands in the value of a field or in a static block, arrows in it included.
+    pub(crate) no_arguments: bool,
+    /// The form of the nearest function, where that is a generator or async.
+    pub(crate) function_form: Form,
+    /// The form of the function whose body the node stands in; at the top of a module as of an async one.
+    pub(crate) body_form: Form,
     /// Of a label's statement: whether it is a loop, further labels aside, where that is known.
     pub(crate) labels_loop: Option<bool>,
 }
@@ -57,15 +67,42 @@ pub(crate) fn is_method(form: Form) -> bool
     }
 }
 
+/// The form of an arrow function, which is no generator.
+fn arrow_form(form: Form) -> Form
+    ensures asynchronous { is_async result ≡ is_async form }
+    ensures no_generator { is_generator result ≡ false }
+{
+    if form.is_async() {
+        Form::Async
+    } else {
+        Form::Init
+    }
+}
+
+/// Whether a part of a function is a parameter, by its kind.
+fn is_parameter(kind: Kind) -> bool
+    ensures { result ≡ is_parameter kind }
+{
+    match kind {
+        Kind::Identifier
+        | Kind::ArrayPattern
+        | Kind::ObjectPattern
+        | Kind::AssignmentPattern
+        | Kind::RestElement => true,
+        _ => false,
+    }
+}
+
 impl Context {
-    ghost use Rattle.std.specs.Prelude.{◌≡◌, ◌||◌, ◌&&◌, [], None};
+    ghost use Rattle.std.specs.Prelude.{◌≡◌, ◌||◌, ◌&&◌, true, None};
     ghost use Rattle.language.specs.FirstPart.{others};
-    ghost use Rattle.early_errors.specs.Around.{around_first, around_others, has_heritage, in_method, within};
-    ghost use Rattle.early_errors.specs.Owns.{first_labels, inner_labels, round};
+    ghost use Rattle.early_errors.specs.Around.{around_first, around_others, as_word, has_heritage, in_init, in_method, key_of, settled, within};
+    ghost use Rattle.early_errors.specs.Owns.{Beside, first_beside, inner_beside, round, unlabelled};
     ghost use Rattle.early_errors.specs.Passed.{IsHandedOn};
+    ghost use Rattle.tree.specs.declared.kind.Kind.{Kind};
     ghost use Rattle.tree.specs.declared.kind.Kind.TheVariants.{ArrowFunctionExpression, FunctionExpression, Property};
 
-    /// Round the Program.
+    /// Round the Program of a script, and round what is new: a function, a method or an initializer.
     pub(crate) const OUTSIDE: Context = Context {
         in_loop: false,
         in_switch: false,
@@ -77,13 +114,47 @@ impl Context {
         is_body: false,
         in_head: false,
         of_method: false,
+        is_word: false,
+        no_arguments: false,
+        function_form: Form::Init,
+        body_form: Form::Init,
         labels_loop: None,
     };
 
+    /// What holds at a node of this kind, which may be the body of a function.
+    #[inline(always)]
+    pub(crate) fn settled(self, kind: Kind) -> Context
+        ensures round { (r : Beside) → round result r ≡ settled (round self r) kind }
+        ensures labels { result.labels_loop ≡ self.labels_loop }
+        ensures again { (r : Beside) → settled (round result r) kind ≡ round result r }
+    {
+        if !self.is_body {
+            return self;
+        }
+        self.in_body(kind)
+    }
+
+    /// The same of a part of a function.
+    fn in_body(self, kind: Kind) -> Context
+        requires { self.is_body ≡ true }
+        ensures round { (r : Beside) → round result r ≡ settled (round self r) kind }
+        ensures labels { result.labels_loop ≡ self.labels_loop }
+        ensures again { (r : Beside) → settled (round result r) kind ≡ round result r }
+    {
+        if is_parameter(kind) {
+            return self;
+        }
+        Context {
+            body_form: self.function_form,
+            ..self
+        }
+    }
+
     /// Round a part that is nothing special to its node.
     pub(crate) fn within(self) -> Context
-        ensures around { (ls : _) → round result ls ≡ within (round self ls) }
+        ensures around { (r : Beside) → round result r ≡ within (round self r) }
         ensures handed_on { IsHandedOn result }
+        ensures arguments { result.no_arguments ≡ self.no_arguments }
         ensures unknown { result.labels_loop ≡ None }
     {
         Context {
@@ -92,8 +163,32 @@ impl Context {
             is_body: false,
             in_head: false,
             of_method: false,
+            is_word: false,
             labels_loop: None,
             ..self
+        }
+    }
+
+    /// Round the name of a property or a label.
+    fn as_word(self) -> Context
+        ensures around { (r : Beside) → round result r ≡ as_word (round self r) }
+        ensures unknown { result.labels_loop ≡ None }
+    {
+        Context {
+            is_word: true,
+            ..self.within()
+        }
+    }
+
+    /// Round a key.
+    fn key_of(self, computed: bool) -> Context
+        ensures around { (r : Beside) → round result r ≡ key_of (round self r) computed }
+        ensures unknown { result.labels_loop ≡ None }
+    {
+        if computed {
+            self.within()
+        } else {
+            self.as_word()
         }
     }
 
@@ -106,7 +201,7 @@ impl Context {
 
     /// What holds inside a method, where `super` has properties; `calls` if it may be called too.
     fn in_method(calls: bool) -> Context
-        ensures around { round result [] ≡ in_method calls }
+        ensures around { (r : Beside) → (a : Context) → round result (unlabelled r) ≡ in_method (round a r) calls }
         ensures unknown { result.labels_loop ≡ None }
     {
         Context {
@@ -117,36 +212,52 @@ impl Context {
         }
     }
 
-    /// What holds inside a FunctionExpression, which may be the function of a method.
-    fn in_function_expression(self) -> Context
-        ensures around { (ls : _) → (g : _) → (ps : _) → round result [] ≡ around_others (round self ls) FunctionExpression g ps }
+    /// What holds inside the value of a field, or a static block.
+    fn in_init() -> Context
+        ensures around { (r : Beside) → (a : Context) → round result (unlabelled r) ≡ in_init (round a r) }
         ensures unknown { result.labels_loop ≡ None }
     {
         Context {
-            super_property: self.of_method && self.super_property,
-            super_call: self.of_method && self.super_call,
+            super_property: true,
+            new_target: true,
+            no_arguments: true,
+            ..Context::OUTSIDE
+        }
+    }
+
+    /// What holds inside a FunctionExpression of this form, which may be the function of a method.
+    fn in_function_expression(self, form: Form) -> Context
+        ensures around { (r : Beside) → (g : _) → (ps : _) → g.form ≡ form → round result (unlabelled r) ≡ around_others (round self r) FunctionExpression g ps }
+        ensures unknown { result.labels_loop ≡ None }
+    {
+        Context {
+            function_form: form,
+            super_property: both(self.of_method, self.super_property),
+            super_call: both(self.of_method, self.super_call),
             new_target: true,
             is_body: true,
             ..Context::OUTSIDE
         }
     }
 
-    /// What holds inside an arrow function: what holds outside, but without loops and switches.
-    fn in_arrow(self) -> Context
-        ensures around { (ls : _) → (g : _) → (ps : _) → round result [] ≡ around_others (round self ls) ArrowFunctionExpression g ps }
+    /// What holds inside an arrow function of this form: what holds outside, but without loops and switches, `yield` and `await`.
+    fn in_arrow(self, form: Form) -> Context
+        ensures around { (r : Beside) → (g : _) → (ps : _) → g.form ≡ form → round result (unlabelled r) ≡ around_others (round self r) ArrowFunctionExpression g ps }
         ensures unknown { result.labels_loop ≡ None }
     {
         Context {
             in_loop: false,
             in_switch: false,
             is_body: true,
+            function_form: arrow_form(form),
+            body_form: Form::Init,
             ..self.within()
         }
     }
 
     /// What holds inside a property of an object, by its form.
     fn in_property(self, form: Form) -> Context
-        ensures around { (ls : _) → (g : _) → (ps : _) → g.form ≡ form → round result (inner_labels Property g ps ls) ≡ around_others (round self ls) Property g ps }
+        ensures around { (r : Beside) → (g : _) → (ps : _) → g.form ≡ form → round result (inner_beside Property g ps r) ≡ around_others (round self r) Property g ps }
         ensures unknown { result.labels_loop ≡ None }
     {
         if is_method(form) {
@@ -156,14 +267,16 @@ impl Context {
         }
     }
 
-    /// Round the first part of a node of a kind, by what holds round the others.
-    fn first(self, kind: Kind, others: Context) -> Context
+    /// Round the first part of a node of a kind, by what holds round the others; `computed` if that is a key in brackets.
+    fn first(self, kind: Kind, computed: bool, others: Context) -> Context
         requires { others.labels_loop ≡ None }
-        ensures around { (ls : _) → (g : _) → (ps : _) → round others (inner_labels kind g ps ls) ≡ around_others (round self ls) kind g ps → round result (first_labels kind g ps ls) ≡ around_first (round self ls) kind g ps }
+        ensures around { (r : Beside) → (g : _) → (ps : _) → g.computed ≡ computed → round others (inner_beside kind g ps r) ≡ around_others (round self r) kind g ps → round result (first_beside kind g ps r) ≡ around_first (round self r) kind g ps }
         ensures unknown { result.labels_loop ≡ None }
     {
         match first_part(kind) {
             FirstPart::Plain => self.within(),
+            FirstPart::Word => self.as_word(),
+            FirstPart::Key => self.key_of(computed),
             FirstPart::Head => Context {
                 in_head: true,
                 ..self.within()
@@ -172,23 +285,27 @@ impl Context {
         }
     }
 
-    /// Round the parts behind the first of a node of a kind, by its form and whether it has a second part.
-    fn others(self, kind: Kind, form: Form, has_second: bool) -> Context
-        ensures around { (ls : _) → (g : _) → (ps : _) → g.form ≡ form → has_heritage (others ps) ≡ has_second → round result (inner_labels kind g ps ls) ≡ around_others (round self ls) kind g ps }
+    /// Round the parts behind the first of a node of a kind, by its flags and whether it has a second part.
+    fn others(self, kind: Kind, flags: Flags, has_second: bool) -> Context
+        ensures around { (r : Beside) → (ps : _) → has_heritage (others ps) ≡ has_second → round result (inner_beside kind flags ps r) ≡ around_others (round self r) kind flags ps }
         ensures unknown { result.labels_loop ≡ None }
     {
+        let form = flags.form;
         match kind {
             Kind::FunctionDeclaration => Context {
                 new_target: true,
                 is_body: true,
+                function_form: form,
                 ..Context::OUTSIDE
             },
-            Kind::FunctionExpression => self.in_function_expression(),
-            Kind::ArrowFunctionExpression => self.in_arrow(),
+            Kind::FunctionExpression => self.in_function_expression(form),
+            Kind::ArrowFunctionExpression => self.in_arrow(form),
             Kind::MethodDefinition => {
                 Context::in_method(both(self.derived, is_constructor(form)))
             }
+            Kind::PropertyDefinition | Kind::StaticBlock => Context::in_init(),
             Kind::Property => self.in_property(form),
+            Kind::MemberExpression => self.key_of(flags.computed),
             Kind::ClassExpression | Kind::ClassDeclaration => Context {
                 derived: has_second,
                 ..self.within()
@@ -217,6 +334,10 @@ impl Context {
 #[derive(Clone, Copy)]
 pub(crate) enum FirstPart {
     Plain,
+    /// A name that is no reference.
+    Word,
+    /// A key, which is a word unless it is computed.
+    Key,
     Head,
     LikeOthers,
 }
@@ -226,8 +347,9 @@ fn first_part(kind: Kind) -> FirstPart
     ensures { result ≡ first_part kind }
 {
     match kind {
-        Kind::MethodDefinition | Kind::Property | Kind::TaggedTemplateExpression =>
-            FirstPart::Plain,
+        Kind::MethodDefinition | Kind::PropertyDefinition | Kind::Property => FirstPart::Key,
+        Kind::MemberExpression | Kind::TaggedTemplateExpression => FirstPart::Plain,
+        Kind::LabeledStatement | Kind::BreakStatement | Kind::ContinueStatement => FirstPart::Word,
         Kind::ForInStatement | Kind::ForOfStatement => FirstPart::Head,
         _ => FirstPart::LikeOthers,
     }
@@ -242,15 +364,16 @@ pub(crate) struct PartContexts {
 
 /// What holds round a node's parts.
 pub(crate) fn contexts_of(node: Node, around: Context) -> PartContexts
-    ensures first { (ls : _) → round result.first (first_labels (kind_of (node_tree node.entry)) (flags_of (node_tree node.entry)) (parts_of (node_tree node.entry)) ls) ≡ around_first (round around ls) (kind_of (node_tree node.entry)) (flags_of (node_tree node.entry)) (parts_of (node_tree node.entry)) }
-    ensures others { (ls : _) → round result.others (inner_labels (kind_of (node_tree node.entry)) (flags_of (node_tree node.entry)) (parts_of (node_tree node.entry)) ls) ≡ around_others (round around ls) (kind_of (node_tree node.entry)) (flags_of (node_tree node.entry)) (parts_of (node_tree node.entry)) }
+    ensures first { (r : _) → round result.first (first_beside (kind_of (node_tree node.entry)) (flags_of (node_tree node.entry)) (parts_of (node_tree node.entry)) r) ≡ around_first (round around r) (kind_of (node_tree node.entry)) (flags_of (node_tree node.entry)) (parts_of (node_tree node.entry)) }
+    ensures others { (r : _) → round result.others (inner_beside (kind_of (node_tree node.entry)) (flags_of (node_tree node.entry)) (parts_of (node_tree node.entry)) r) ≡ around_others (round around r) (kind_of (node_tree node.entry)) (flags_of (node_tree node.entry)) (parts_of (node_tree node.entry)) }
     ensures first_unknown { result.first.labels_loop ≡ None }
     ensures others_unknown { result.others.labels_loop ≡ None }
 {
     let kind = node.kind();
-    let others = around.others(kind, node.flags().form, has_second(node));
+    let flags = node.flags();
+    let others = around.others(kind, flags, has_second(node));
     PartContexts {
-        first: around.first(kind, others),
+        first: around.first(kind, flags.computed, others),
         others,
     }
 }

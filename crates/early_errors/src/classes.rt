@@ -6,10 +6,10 @@ ghost use Rattle.tree.specs.Node.{node_tree};
 ghost use Rattle.tree.specs.Tree.{kind_of, parts_of, text_of};
 ghost use Rattle.language.specs.Statements.{is_string_literal};
 ghost use Rattle.early_errors.specs.Keys.{key_value};
-ghost use Rattle.early_errors.specs.Classes.{constructor_places, super_places};
+ghost use Rattle.early_errors.specs.Classes.{constructor_places, duplicate_constructor, has_key, super_places};
 ghost use Rattle.early_errors.specs.Early.{each, own_errors};
 ghost use Rattle.early_errors.specs.Names.{when};
-ghost use Rattle.early_errors.specs.Owns.{key_says, own_of, places_at, round};
+ghost use Rattle.early_errors.specs.Owns.{Beside, form_at, key_says, own_of, places_at, round};
 ghost use Rattle.name_tables.specs.PatternParts.{at_part};
 ghost use Rattle.early_errors.specs.Walk.{after, listed};
 ghost use Rattle.early_errors.specs.declared.own.OwnErrors.{OwnErrors};
@@ -17,10 +17,12 @@ ghost use Rattle.early_errors.specs.declared.own.OwnErrors.{OwnErrors};
 use crate::EarlyError;
 use crate::around::{Context, is_accessor, is_constructor};
 use crate::found::{FirstError, with_error_if};
-use crate::literals::{begins_with_quote, both};
+use crate::literals::{begins_with_quote, both, either};
+use crate::private_names::private_errors;
+use crate::profile::Language;
 use std::alloc::{AllocError, Global};
 use tokens::quoted_units;
-use tree::{Kind, Node};
+use tree::{Form, Kind, Node};
 
 /// A `super` at the head of a node, where it may not stand (ECMA-262 14.1.2, 14.6.1, 15.1.1).
 pub(crate) fn super_errors(
@@ -40,23 +42,58 @@ pub(crate) fn super_errors(
     with_error_if(head.kind().is_super(), found, error, head.span().start)
 }
 
-/// `new.target` outside every function that isn't an arrow (ECMA-262 15.1.1).
-pub(crate) fn target_errors(node: Node, around: Context, found: FirstError) -> FirstError
+/// `new.target` outside every function that isn't an arrow (ECMA-262 15.1.1), `import.meta` outside a module (13th edition, 13.3.12.1).
+pub(crate) fn target_errors(
+    node: Node,
+    around: Context,
+    language: Language,
+    found: FirstError,
+) -> FirstError
     requires { own_of (kind_of (node_tree node)) ≡ OwnErrors.Target }
-    ensures { (ls : _) → result ≡ after found (own_errors (round around ls) (node_tree node.entry)) }
+    ensures { (r : Beside) → language.is_module ≡ r.in_module → result ≡ after found (own_errors (round around r) (node_tree node.entry)) }
 {
-    with_error_if(
-        !around.new_target,
+    let start = node.span().start;
+    let found = with_error_if(
+        both(begins_with(node, "new"), !around.new_target),
         found,
         EarlyError::NewTargetOutsideFunction,
-        node.span().start,
+        start,
+    );
+    with_error_if(
+        both(begins_with(node, "import"), !language.is_module),
+        found,
+        EarlyError::ImportMetaOutsideModule,
+        start,
     )
 }
 
+/// Whether the first part of a node has this text.
+fn begins_with(node: Node, word: &str) -> bool
+    ensures { result ≡ has_key (parts_of (node_tree node.entry)) (λ n. bytes_eq (text_of n) word.now) }
+{
+    match node.part(0) {
+        Some(first) => first.text() == word,
+        None => false,
+    }
+}
+
+/// The errors of a class body: a second or later constructor, and those of private names.
+pub(crate) fn class_errors(
+    alloc: Global,
+    body: Node,
+    found: FirstError,
+) -> Result<FirstError, AllocError>
+    requires { own_of (kind_of (node_tree body)) ≡ OwnErrors.ClassElements }
+    ensures { IfOk result (λ e. (z : _) → e ≡ after found (own_errors z (node_tree body.entry))) }
+{
+    let found = constructor_errors(body, found);
+    private_errors(alloc, body, found)
+}
+
 /// A second or later constructor of one class (ECMA-262 14.6.1).
-pub(crate) fn constructor_errors(body: Node, found: FirstError) -> FirstError
-    requires { own_of (kind_of (node_tree body)) ≡ OwnErrors.Constructors }
-    ensures { (z : _) → result ≡ after found (own_errors z (node_tree body.entry)) }
+fn constructor_errors(body: Node, found: FirstError) -> FirstError
+    requires { own_of (kind_of (node_tree body)) ≡ OwnErrors.ClassElements }
+    ensures { result ≡ after found (each EarlyError.DuplicateConstructor (duplicate_constructor (node_tree body.entry))) }
 {
     let mut found = found;
     let mut has_one = false;
@@ -85,7 +122,8 @@ fn constructor_place(member: Option<Node>) -> Option<usize>
     }
 }
 
-/// A getter or setter `constructor` that isn't static, a static member `prototype` (ECMA-262 14.6.1).
+/// A getter, a setter, or an async or generator method `constructor` that isn't static, a static member `prototype` (ECMA-262 14.6.1;
+/// 13th edition, 15.7.1).
 pub(crate) fn member_errors(
     alloc: Global,
     member: Node,
@@ -96,7 +134,8 @@ pub(crate) fn member_errors(
 {
     let flags = member.flags();
     let key = member.part(0);
-    let is_special = both(is_accessor(flags.form), !flags.is_static);
+    let differs = either(is_accessor(flags.form), has_form(member.part(1)));
+    let is_special = both(differs, !flags.is_static);
     let special = both(is_special, says(alloc, key, flags.computed, "constructor")?);
     let found = key_error(key, special, EarlyError::SpecialConstructor, found);
     let prototype = both(
@@ -106,8 +145,23 @@ pub(crate) fn member_errors(
     Ok(key_error(key, prototype, EarlyError::StaticPrototype, found))
 }
 
+/// Whether a method's function is async or a generator.
+fn has_form(function: Option<Node>) -> bool
+    ensures { result ≡ form_at (option_map node_tree function.entry) }
+{
+    match function {
+        Some(function) => !matches!(function.flags().form, Form::Init),
+        None => false,
+    }
+}
+
 /// The error of a key, where it is one.
-fn key_error(key: Option<Node>, is_one: bool, error: EarlyError, found: FirstError) -> FirstError
+pub(crate) fn key_error(
+    key: Option<Node>,
+    is_one: bool,
+    error: EarlyError,
+    found: FirstError,
+) -> FirstError
     ensures { result ≡ after found (each error (when is_one (places_at (option_map node_tree key.entry)))) }
 {
     match key {
@@ -116,17 +170,25 @@ fn key_error(key: Option<Node>, is_one: bool, error: EarlyError, found: FirstErr
     }
 }
 
-/// Whether a key that isn't computed has a word as its value.
-fn says(alloc: Global, key: Option<Node>, is_computed: bool, word: &str) -> Result<bool, AllocError>
+/// Whether a key that is neither computed nor private has a word as its value.
+pub(crate) fn says(
+    alloc: Global,
+    key: Option<Node>,
+    is_computed: bool,
+    word: &str,
+) -> Result<bool, AllocError>
     ensures { IfOk result (λ b. b ≡ (not is_computed && key_says (option_map node_tree key.entry) word.now)) }
 {
     if is_computed {
         return Ok(false);
     }
-    match key {
-        Some(key) => key_is(alloc, key, word),
-        None => Ok(false),
+    let Some(key) = key else {
+        return Ok(false);
+    };
+    if key.kind().is_private() {
+        return Ok(false);
     }
+    key_is(alloc, key, word)
 }
 
 /// Whether a key's value (ECMA-262 12.2.6.5) is a word.
@@ -141,7 +203,7 @@ fn key_is(alloc: Global, key: Node, word: &str) -> Result<bool, AllocError>
 }
 
 /// Whether a node is a string.
-fn is_quoted(node: Node) -> bool
+pub(crate) fn is_quoted(node: Node) -> bool
     ensures { result ≡ is_string_literal (kind_of (node_tree node.entry)) (text_of (node_tree node.entry)) }
 {
     match node.kind() {

@@ -10,7 +10,7 @@ ghost use Rattle.name_tables.specs.PatternParts.{at_part};
 ghost use Rattle.name_tables.specs.BoundNames.{each_part};
 ghost use Rattle.early_errors.specs.Names.{body_items, lexical_names, places, shared, when};
 ghost use Rattle.early_errors.specs.Owns.{function_name, is_plain, items_at, own_of, parameter_place, says_use_strict};
-ghost use Rattle.early_errors.specs.Walk.{after, all_named, listed, names_at};
+ghost use Rattle.early_errors.specs.Walk.{after, all_named, listed};
 ghost use Rattle.early_errors.specs.declared.own.OwnErrors.{OwnErrors};
 
 use crate::EarlyError;

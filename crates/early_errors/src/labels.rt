@@ -9,7 +9,7 @@ ghost use Rattle.early_errors.specs.Around.{is_label, labels_loop, last_loop};
 ghost use Rattle.early_errors.specs.Early.{each, own_errors};
 ghost use Rattle.early_errors.specs.Labels.{is_bare};
 ghost use Rattle.early_errors.specs.Names.{first_names, places};
-ghost use Rattle.early_errors.specs.Owns.{Knows, own_of, is_label_for, misses, or_false, round};
+ghost use Rattle.early_errors.specs.Owns.{Beside, Labelled, own_of, is_label_for, misses, or_false, round};
 ghost use Rattle.early_errors.specs.Walk.{after, all_named, look};
 ghost use Rattle.early_errors.specs.declared.own.OwnErrors.{OwnErrors};
 
@@ -34,7 +34,7 @@ pub(crate) fn break_errors(
 ) -> FirstError
     requires kind { own_of (kind_of (node_tree node)) ≡ OwnErrors.Break }
     requires names { all_named names.now ≡ first_names (parts_of (node_tree node)) }
-    ensures { (ls : _) → Knows (look labels.now) ls → result ≡ after found (own_errors (round around ls) (node_tree node.entry)) }
+    ensures { (r : Beside) → Labelled (look labels.now) r → result ≡ after found (own_errors (round around r) (node_tree node.entry)) }
 {
     let misplaced = is_misplaced(node, around.may_break());
     let found = with_error_if(
@@ -56,7 +56,7 @@ pub(crate) fn continue_errors(
 ) -> FirstError
     requires kind { own_of (kind_of (node_tree node)) ≡ OwnErrors.Continue }
     requires names { all_named names.now ≡ first_names (parts_of (node_tree node)) }
-    ensures { (ls : _) → Knows (look labels.now) ls → result ≡ after found (own_errors (round around ls) (node_tree node.entry)) }
+    ensures { (r : Beside) → Labelled (look labels.now) r → result ≡ after found (own_errors (round around r) (node_tree node.entry)) }
 {
     let misplaced = is_misplaced(node, around.in_loop);
     let found = with_error_if(

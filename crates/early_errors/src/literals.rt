@@ -1,12 +1,12 @@
 //! Templates and regular expressions.
 
-ghost use Rattle.std.specs.Prelude.{◌≡◌, ◌≤◌, ◌&&◌, ◌||◌, [], drop, length, codes, option_map, IfOk};
+ghost use Rattle.std.specs.Prelude.{◌≡◌, ◌≤◌, ◌&&◌, ◌||◌, [], drop, length, option_map, IfOk};
 ghost use Rattle.tree.specs.Node.{node_tree};
 ghost use Rattle.tree.specs.Tree.{kind_of, parts_of};
 ghost use Rattle.language.specs.Vocabulary.{is_string, literal_class};
 ghost use Rattle.early_errors.specs.Early.{own_errors};
-ghost use Rattle.early_errors.specs.Literals.{are_flags, flags_part, good_flags, holds, is_reg_exp, some_uncooked};
-ghost use Rattle.early_errors.specs.Owns.{is_element, own_of, round, uncooked_at};
+ghost use Rattle.early_errors.specs.Literals.{are_among, flags_part, good_flags_in, holds, is_reg_exp, known_flags, some_uncooked};
+ghost use Rattle.early_errors.specs.Owns.{Beside, is_element, own_of, round, uncooked_at};
 ghost use Rattle.early_errors.specs.Walk.{after};
 ghost use Rattle.early_errors.specs.declared.own.OwnErrors.{OwnErrors};
 
@@ -26,7 +26,7 @@ pub(crate) fn template_errors(
     found: FirstError,
 ) -> Result<FirstError, AllocError>
     requires { own_of (kind_of (node_tree node)) ≡ OwnErrors.Template }
-    ensures { IfOk result (λ r. (ls : _) → r ≡ after found (own_errors (round around ls) (node_tree node.entry))) }
+    ensures { IfOk result (λ e. (r : Beside) → e ≡ after found (own_errors (round around r) (node_tree node.entry))) }
 {
     let is_uncooked = some_uncooked(alloc, node)?;
     Ok(with_error_if(
@@ -88,27 +88,27 @@ fn is_element(kind: Kind) -> bool
 }
 
 /// Flags of a regular expression that aren't known, or stand twice (ECMA-262 12.2.8.1).
-pub(crate) fn literal_errors(node: Node, found: FirstError) -> FirstError
+pub(crate) fn literal_errors(node: Node, is_2022: bool, found: FirstError) -> FirstError
     requires { own_of (kind_of (node_tree node)) ≡ OwnErrors.Literal }
-    ensures { (z : _) → result ≡ after found (own_errors z (node_tree node.entry)) }
+    ensures { (z : _) → z.of_2022 ≡ is_2022 → result ≡ after found (own_errors z (node_tree node.entry)) }
 {
     with_error_if(
-        !has_good_flags(node.text()),
+        !has_good_flags(node.text(), is_2022),
         found,
         EarlyError::RegExpFlags,
         node.span().start,
     )
 }
 
-/// Whether a literal is no regular expression, or one whose flags are each one of `g i m s u y` and stand once.
-fn has_good_flags(text: &str) -> bool
-    ensures { result ≡ good_flags text.now }
+/// Whether a literal is no regular expression, or one whose flags are each one of `g i m s u y`, in 2022 also `d`, and stand once.
+fn has_good_flags(text: &str, is_2022: bool) -> bool
+    ensures { result ≡ good_flags_in is_2022 text.now }
 {
     if !begins_with_slash(text) {
         return true;
     }
     let bytes = text.as_bytes();
-    are_flags(&bytes[flags_start(bytes)..])
+    are_flags(&bytes[flags_start(bytes)..], is_2022)
 }
 
 /// Whether a literal's text is that of a string.
@@ -140,22 +140,25 @@ fn flags_start(bytes: &[u8]) -> usize
 }
 
 /// Whether each byte is a flag, and none stands twice.
-fn are_flags(flags: &[u8]) -> bool
-    ensures { result ≡ are_flags flags.now }
+fn are_flags(flags: &[u8], is_2022: bool) -> bool
+    ensures { result ≡ are_among (known_flags is_2022) flags.now }
 {
     for index in 0..flags.len() {
         let flag = flags[index];
-        if !both(is_flag(flag), !holds(&flags[index + 1..], flag)) {
+        if !both(is_flag(flag, is_2022), !holds(&flags[index + 1..], flag)) {
             return false;
         }
     }
     true
 }
 
-/// Whether the byte is a flag of regular expressions: one of `gimsuy`.
-fn is_flag(byte: u8) -> bool
-    ensures { result ≡ holds (codes "gimsuy") byte }
+/// Whether the byte is a flag of regular expressions: one of `gimsuy`, in 2022 also `d`.
+fn is_flag(byte: u8, is_2022: bool) -> bool
+    ensures { result ≡ holds (known_flags is_2022) byte }
 {
+    if byte == b'd' {
+        return is_2022;
+    }
     byte == b'g' || byte == b'i' || byte == b'm' || byte == b's' || byte == b'u' || byte == b'y'
 }
 

@@ -52,6 +52,7 @@ pub(crate) fn lexical_as(functions: bool) -> LexicalAs<()>
         by_let: declarators,
         by_const: declarators,
         class: (),
+        import: (),
         function: if functions { Some(()) } else { None },
     }
 }

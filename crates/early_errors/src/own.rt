@@ -8,20 +8,28 @@ ghost use Rattle.language.specs.Vocabulary.{is, is_identifier};
 ghost use Rattle.early_errors.specs.Early.{each, own_errors};
 ghost use Rattle.name_tables.specs.BoundNames.{each_part};
 ghost use Rattle.early_errors.specs.Names.{first_names, when};
-ghost use Rattle.early_errors.specs.Owns.{Knows, doubled, named_errors, nameless, own_of, plain_errors, round, sort_of, vars_of};
+ghost use Rattle.std.specs.Bool.{OnFalse};
+ghost use Rattle.early_errors.specs.Knowing.{KnownRound};
+ghost use Rattle.early_errors.specs.Owns.{Beside, doubled, named_errors, nameless, own_of, own_of_2022, plain_errors, round, sort_of, vars_of};
+ghost use Rattle.early_errors.specs.PrivateNames.{private_operand};
 ghost use Rattle.early_errors.specs.Scopes.{without_initializer};
 ghost use Rattle.early_errors.specs.Walk.{after, all_named, hits, look, sooner};
 
 use crate::EarlyError;
 use crate::around::Context;
-use crate::classes::{constructor_errors, member_errors, super_errors, target_errors};
+use crate::classes::{class_errors, member_errors, super_errors, target_errors};
 use crate::conflicts::{VarConflicts, hits, repeated, reported, restricted};
+use crate::fields::{field_errors, name_errors};
 use crate::found::{FirstError, with_error_if};
 use crate::functions::function_errors;
 use crate::labels::{Labels, break_errors, continue_errors};
 use crate::literals::{both, literal_errors, template_errors};
+use crate::modules::{export_errors, exports_errors, import_errors, lone_surrogates};
 use crate::names::{NamePlace, push_declared, push_part_names};
+use crate::private_names::{PrivateNames, is_private_member, undeclared_private_name};
+use crate::profile::Language;
 use crate::scopes::without_initializer;
+use crate::yields::{await_errors, for_of_errors, yield_errors};
 use std::alloc::{AllocError, Global};
 use tree::{Kind, Node};
 
@@ -34,14 +42,25 @@ pub(crate) enum OwnErrors {
     Break,
     Continue,
     Label,
+    ForOf,
     Delete,
     SuperProperty,
     SuperCall,
     Target,
-    Constructors,
+    ClassElements,
     Member,
     Template,
     Literal,
+    Name,
+    PrivateName,
+    Yield,
+    Await,
+    Field,
+    Import,
+    ModuleNames,
+    ExportAll,
+    Export,
+    Exports,
     Nothing,
 }
 
@@ -59,8 +78,8 @@ fn own_of(kind: Kind) -> OwnErrors
         | Kind::CatchClause
         | Kind::AssignmentExpression
         | Kind::UpdateExpression
-        | Kind::ForInStatement
-        | Kind::ForOfStatement => OwnErrors::FirstNames,
+        | Kind::ForInStatement => OwnErrors::FirstNames,
+        Kind::ForOfStatement => OwnErrors::ForOf,
         Kind::BreakStatement => OwnErrors::Break,
         Kind::ContinueStatement => OwnErrors::Continue,
         Kind::LabeledStatement => OwnErrors::Label,
@@ -68,20 +87,41 @@ fn own_of(kind: Kind) -> OwnErrors
         Kind::MemberExpression => OwnErrors::SuperProperty,
         Kind::CallExpression => OwnErrors::SuperCall,
         Kind::MetaProperty => OwnErrors::Target,
-        Kind::ClassBody => OwnErrors::Constructors,
+        Kind::ClassBody => OwnErrors::ClassElements,
         Kind::MethodDefinition => OwnErrors::Member,
         Kind::TemplateLiteral => OwnErrors::Template,
         Kind::Literal => OwnErrors::Literal,
+        kind => own_of_2022(kind),
+    }
+}
+
+/// The same of the kinds whose errors are those of the language of 2022.
+fn own_of_2022(kind: Kind) -> OwnErrors
+    ensures { result ≡ own_of_2022 kind }
+{
+    match kind {
+        Kind::Identifier => OwnErrors::Name,
+        Kind::PrivateIdentifier => OwnErrors::PrivateName,
+        Kind::YieldExpression => OwnErrors::Yield,
+        Kind::AwaitExpression => OwnErrors::Await,
+        Kind::PropertyDefinition => OwnErrors::Field,
+        Kind::ImportDeclaration => OwnErrors::Import,
+        Kind::ImportSpecifier | Kind::ExportSpecifier => OwnErrors::ModuleNames,
+        Kind::ExportAllDeclaration => OwnErrors::ExportAll,
+        Kind::ExportNamedDeclaration => OwnErrors::Export,
+        Kind::Program => OwnErrors::Exports,
         _ => OwnErrors::Nothing,
     }
 }
 
-/// What stands round a node: what holds there, what a `var` of a name would clash with, and labels.
+/// What stands round a node: what holds there, the language, what a `var` of a name would clash with, labels, and private names.
 #[derive(Clone, Copy)]
 pub(crate) struct Surroundings<'w, 't> {
     pub(crate) around: Context,
+    pub(crate) language: Language,
     pub(crate) vars: &'w VarConflicts<'t>,
     pub(crate) labels: &'w Labels<'t>,
+    pub(crate) privates: &'w PrivateNames<'t>,
 }
 
 /// The errors of a node itself and of its `var`s, with room for names.
@@ -92,14 +132,14 @@ pub(crate) fn own_errors<'t>(
     names: &mut Vec<NamePlace<'t>>,
     found: FirstError,
 ) -> Result<FirstError, AllocError>
-    ensures { IfOk result (λ r. (ls : _) → Knows (look surroundings.entry.labels.now) ls → r ≡ sooner (after found (plain_errors (round surroundings.entry.around ls) (node_tree node.entry))) (hits (look surroundings.entry.vars.now) (vars_of (node_tree node.entry)))) }
+    ensures { IfOk result (λ e. (r : Beside) → KnownRound surroundings.entry r → e ≡ sooner (after found (plain_errors (round surroundings.entry.around r) (node_tree node.entry))) (hits (look surroundings.entry.vars.now) (vars_of (node_tree node.entry)))) }
 {
     let own = own_of(node.kind());
     match sort_of(own) {
         OwnErrorInput::Variables => variable_errors(alloc, node, surroundings, names, found),
         OwnErrorInput::Parameters => function_errors(alloc, node, names, found),
         OwnErrorInput::Named => first_name_errors(node, own, surroundings, names, found),
-        OwnErrorInput::Nameless => nameless_errors(alloc, node, own, surroundings.around, found),
+        OwnErrorInput::Nameless => nameless_errors(alloc, node, own, surroundings, found),
     }
 }
 
@@ -119,8 +159,11 @@ fn sort_of(own: OwnErrors) -> OwnErrorInput
     match own {
         OwnErrors::Variables => OwnErrorInput::Variables,
         OwnErrors::Function => OwnErrorInput::Parameters,
-        OwnErrors::FirstNames | OwnErrors::Break | OwnErrors::Continue | OwnErrors::Label =>
-            OwnErrorInput::Named,
+        OwnErrors::FirstNames
+        | OwnErrors::Break
+        | OwnErrors::Continue
+        | OwnErrors::Label
+        | OwnErrors::ForOf => OwnErrorInput::Named,
         _ => OwnErrorInput::Nameless,
     }
 }
@@ -130,12 +173,14 @@ fn nameless_errors(
     alloc: Global,
     node: Node,
     own: OwnErrors,
-    around: Context,
+    surroundings: Surroundings,
     found: FirstError,
 ) -> Result<FirstError, AllocError>
-    requires { own ≡ own_of (kind_of (node_tree node)) }
-    ensures { IfOk result (λ r. (ls : _) → r ≡ after found (nameless own (round around ls) (node_tree node.entry))) }
+    requires own { own ≡ own_of (kind_of (node_tree node)) }
+    requires sort { sort_of own ≡ OwnErrorInput.Nameless }
+    ensures { IfOk result (λ e. (r : Beside) → KnownRound surroundings.entry r → e ≡ after found (nameless own (round surroundings.entry.around r) (node_tree node.entry))) }
 {
+    let around = surroundings.around;
     match own {
         OwnErrors::Member => member_errors(alloc, node, found),
         OwnErrors::Template => template_errors(alloc, node, around, found),
@@ -152,9 +197,36 @@ fn nameless_errors(
             EarlyError::SuperCallOutsideConstructor,
             found,
         )),
-        OwnErrors::Target => Ok(target_errors(node, around, found)),
-        OwnErrors::Constructors => Ok(constructor_errors(node, found)),
-        OwnErrors::Literal => Ok(literal_errors(node, found)),
+        OwnErrors::Target => Ok(target_errors(node, around, surroundings.language, found)),
+        OwnErrors::ClassElements => class_errors(alloc, node, found),
+        OwnErrors::Literal => Ok(literal_errors(node, surroundings.language.is_2022, found)),
+        own => errors_of_2022(alloc, node, own, surroundings, found),
+    }
+}
+
+/// The same of the kinds whose errors are those of the language of 2022.
+fn errors_of_2022(
+    alloc: Global,
+    node: Node,
+    own: OwnErrors,
+    surroundings: Surroundings,
+    found: FirstError,
+) -> Result<FirstError, AllocError>
+    requires { own ≡ own_of_2022 (kind_of (node_tree node)) }
+    ensures { IfOk result (λ e. (r : Beside) → KnownRound surroundings.entry r → e ≡ after found (nameless own (round surroundings.entry.around r) (node_tree node.entry))) }
+{
+    let around = surroundings.around;
+    match own {
+        OwnErrors::Name => Ok(name_errors(node, around, found)),
+        OwnErrors::PrivateName => Ok(undeclared_private_name(node, surroundings.privates, found)),
+        OwnErrors::Yield => Ok(yield_errors(node, around, found)),
+        OwnErrors::Await => Ok(await_errors(node, around, found)),
+        OwnErrors::Field => field_errors(alloc, node, found),
+        OwnErrors::Import => import_errors(alloc, node, found),
+        OwnErrors::ModuleNames => lone_surrogates(alloc, node, node.part_count(), found),
+        OwnErrors::ExportAll => lone_surrogates(alloc, node, 1, found),
+        OwnErrors::Export => Ok(export_errors(node, found)),
+        OwnErrors::Exports => exports_errors(alloc, node, found),
         _ => Ok(found),
     }
 }
@@ -168,7 +240,7 @@ fn variable_errors<'t>(
     found: FirstError,
 ) -> Result<FirstError, AllocError>
     requires { own_of (kind_of (node_tree node)) ≡ OwnErrors.Variables }
-    ensures { IfOk result (λ r. (ls : _) → r ≡ sooner (after found (own_errors (round surroundings.entry.around ls) (node_tree node.entry))) (hits (look surroundings.entry.vars.now) (vars_of (node_tree node.entry)))) }
+    ensures { IfOk result (λ e. (r : Beside) → e ≡ sooner (after found (own_errors (round surroundings.entry.around r) (node_tree node.entry))) (hits (look surroundings.entry.vars.now) (vars_of (node_tree node.entry)))) }
 {
     names.clear();
     push_declared(node, names)?;
@@ -208,7 +280,7 @@ fn first_name_errors<'t>(
     found: FirstError,
 ) -> Result<FirstError, AllocError>
     requires { own ≡ own_of (kind_of (node_tree node)) }
-    ensures { IfOk result (λ r. (ls : _) → Knows (look surroundings.entry.labels.now) ls → r ≡ after found (named_errors own (round surroundings.entry.around ls) (node_tree node.entry))) }
+    ensures { IfOk result (λ e. (r : Beside) → KnownRound surroundings.entry r → e ≡ after found (named_errors own (round surroundings.entry.around r) (node_tree node.entry))) }
 {
     names.clear();
     push_part_names(node.part(0), names)?;
@@ -225,7 +297,7 @@ fn named_found(
 ) -> FirstError
     requires own { own ≡ own_of (kind_of (node_tree node)) }
     requires names { all_named names.now ≡ first_names (parts_of (node_tree node)) }
-    ensures { (ls : _) → Knows (look surroundings.entry.labels.now) ls → result ≡ after found (named_errors own (round surroundings.entry.around ls) (node_tree node.entry)) }
+    ensures { (r : Beside) → KnownRound surroundings.entry r → result ≡ after found (named_errors own (round surroundings.entry.around r) (node_tree node.entry)) }
 {
     let around = surroundings.around;
     let labels = surroundings.labels;
@@ -234,25 +306,46 @@ fn named_found(
         OwnErrors::Continue => continue_errors(node, around, labels, names, found),
         OwnErrors::Label => reported(names, labels, EarlyError::DuplicateLabel, found),
         OwnErrors::FirstNames => restricted(names, found),
+        OwnErrors::ForOf => for_of_errors(
+            node,
+            around,
+            surroundings.language,
+            restricted(names, found),
+        ),
         _ => found,
     }
 }
 
-/// `delete` of an identifier, grouped or not (ECMA-262 12.5.3.1).
+/// `delete` of an identifier (ECMA-262 12.5.3.1) or of a private member (13th edition, 13.5.1.1), grouped or not.
 fn delete_errors(node: Node, found: FirstError) -> FirstError
     requires { own_of (kind_of (node_tree node)) ≡ OwnErrors.Delete }
     ensures { (z : _) → result ≡ after found (own_errors z (node_tree node.entry)) }
 {
-    with_error_if(
+    let start = node.span().start;
+    let found = with_error_if(
         deletes_identifier(node),
         found,
         EarlyError::DeleteOfIdentifier,
-        node.span().start,
+        start,
+    );
+    with_error_if(
+        deletes_private(node),
+        found,
+        EarlyError::DeleteOfPrivate,
+        start,
     )
 }
 
+/// Whether the node may be a `delete` of what can't be deleted.
+pub(crate) fn may_not_delete(node: Node) -> bool
+    ensures identifier { OnFalse result ((is (text_of (node_tree node.entry)) "delete" && is_identifier (lead (parts_of (node_tree node.entry)))) ≡ false) }
+    ensures member { OnFalse result ((is (text_of (node_tree node.entry)) "delete" && private_operand (parts_of (node_tree node.entry))) ≡ false) }
+{
+    deletes_identifier(node) || deletes_private(node)
+}
+
 /// Whether the node is `delete` of an identifier (12.5.3.1).
-pub(crate) fn deletes_identifier(node: Node) -> bool
+fn deletes_identifier(node: Node) -> bool
     ensures { result ≡ (is (text_of (node_tree node.entry)) "delete" && is_identifier (lead (parts_of (node_tree node.entry)))) }
 {
     if node.text() != "delete" {
@@ -260,6 +353,19 @@ pub(crate) fn deletes_identifier(node: Node) -> bool
     }
     match node.part(0) {
         Some(operand) => operand.kind().is_identifier(),
+        None => false,
+    }
+}
+
+/// Whether the node is `delete` of a private member (13th edition, 13.5.1.1).
+fn deletes_private(node: Node) -> bool
+    ensures { result ≡ (is (text_of (node_tree node.entry)) "delete" && private_operand (parts_of (node_tree node.entry))) }
+{
+    if node.text() != "delete" {
+        return false;
+    }
+    match node.part(0) {
+        Some(operand) => is_private_member(operand),
         None => false,
     }
 }

@@ -1,8 +1,8 @@
 //! Names that clash: of a Program, a body, a block or a switch; of a catch clause; of a `for` head.
 
-ghost use Rattle.std.specs.Prelude.{◌≡◌, ◌-◌, ◌++◌, true, option_map, IfOk, OnOk};
+ghost use Rattle.std.specs.Prelude.{◌≡◌, ◌-◌, ◌++◌, true, cond, option_map, IfOk, OnOk};
 ghost use Rattle.tree.specs.Node.{node_tree};
-ghost use Rattle.tree.specs.Tree.{kind_of, part_at, part_count, parts_of, text_of};
+ghost use Rattle.tree.specs.Tree.{part_at, part_count, parts_of};
 ghost use Rattle.early_errors.specs.Early.{each};
 ghost use Rattle.name_tables.specs.PatternParts.{at_part};
 ghost use Rattle.name_tables.specs.BoundNames.{each_part};
@@ -22,7 +22,7 @@ use tree::{Kind, Node};
 /// What makes a scope.
 #[derive(Clone, Copy)]
 pub(crate) enum ScopeKind {
-    /// A Program, or the body of a function: functions are var names there (ECMA-262 13.2.7).
+    /// A script, the body of a function, or a static block: functions are var names there (ECMA-262 13.2.7).
     TopLevel,
     Block,
     Switch,
@@ -32,24 +32,31 @@ pub(crate) enum ScopeKind {
     Nothing,
 }
 
-/// The scope that a node of this kind makes, for names that clash; `is_body`: a block is the body of a function.
-pub(crate) fn scope_kind(kind: Kind, is_body: bool) -> ScopeKind
-    ensures { result ≡ scope_kind kind is_body }
+/// The scope that a node of this kind makes, for names that clash; `in_module`: the tree is a module, where functions are lexical
+/// names; `is_body`: a block is the body of a function.
+pub(crate) fn scope_kind(kind: Kind, in_module: bool, is_body: bool) -> ScopeKind
+    ensures { result ≡ scope_kind kind in_module is_body }
 {
     match kind {
-        Kind::Program => ScopeKind::TopLevel,
-        Kind::BlockStatement => {
-            if is_body {
-                ScopeKind::TopLevel
-            } else {
-                ScopeKind::Block
-            }
-        }
+        Kind::Program => top_level_if(!in_module),
+        Kind::StaticBlock => ScopeKind::TopLevel,
+        Kind::BlockStatement => top_level_if(is_body),
         Kind::SwitchStatement => ScopeKind::Switch,
         Kind::CatchClause => ScopeKind::Catch,
         Kind::ForStatement => ScopeKind::For,
         Kind::ForInStatement | Kind::ForOfStatement => ScopeKind::ForEach,
         _ => ScopeKind::Nothing,
+    }
+}
+
+/// A block, or the top level of a script or function.
+fn top_level_if(is_one: bool) -> ScopeKind
+    ensures { result ≡ cond is_one ScopeKind.TopLevel ScopeKind.Block }
+{
+    if is_one {
+        ScopeKind::TopLevel
+    } else {
+        ScopeKind::Block
     }
 }
 

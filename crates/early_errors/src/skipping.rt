@@ -1,23 +1,23 @@
 //! Where errors of a node may be, whatever stands round it: what a walk can pass.
 
-ghost use Rattle.std.specs.Prelude.{◌≡◌, [], filter, option_map};
+ghost use Rattle.std.specs.Prelude.{◌≡◌, Bool, false, [], filter, option_map};
 ghost use Rattle.std.specs.Bool.{OnFalse, OnTrue};
 ghost use Rattle.tree.specs.Node.{node_tree};
-ghost use Rattle.tree.specs.Tree.{Tree, kind_of, part_at, parts_of, text_of};
+ghost use Rattle.tree.specs.Tree.{Tree, kind_of, parts_of, text_of};
 ghost use Rattle.name_tables.specs.PatternParts.{at_part};
 ghost use Rattle.name_tables.specs.BoundNames.{each_part};
 ghost use Rattle.early_errors.specs.Names.{lexical_names, names_in};
-ghost use Rattle.early_errors.specs.Passed.{BindsOne, AreFree, IsOpen, IsWhere, is_super_at, telling_of};
+ghost use Rattle.early_errors.specs.Passed.{BindsOne, AreFree, IsOpen, IsWhere, is_super_at, telling_of, telling_of_2022};
 ghost use Rattle.early_errors.specs.Strict.{is_restricted};
 ghost use Rattle.early_errors.specs.Walk.{names_at};
 ghost use Rattle.early_errors.specs.Walks.{IsQuiet, IsSilent, is_quiet as says_nothing};
 
 use crate::around::is_method;
 use crate::conflicts::is_restricted;
-use crate::literals::begins_with_slash;
+use crate::literals::{begins_with_slash, either};
 use crate::names::lexical_as;
-use crate::own::deletes_identifier;
-use name_tables::{Lexical, PatternNames, lexical_of, pattern_names_of};
+use crate::own::may_not_delete;
+use name_tables::{Lexical, PatternNames, declaration_of, lexical_of, pattern_names_of};
 use tree::{Kind, Node};
 
 /// Where errors of a node may be.
@@ -78,35 +78,54 @@ fn skip_test_of(kind: Kind) -> SkipTest
         Kind::Property => SkipTest::Form,
         Kind::BlockStatement => SkipTest::Items,
         Kind::VariableDeclaration => SkipTest::Declaration,
+        kind => skip_test_of_2022(kind),
+    }
+}
+
+/// The same of the kinds of the language of 2022.
+fn skip_test_of_2022(kind: Kind) -> SkipTest
+    ensures { result ≡ telling_of_2022 kind }
+{
+    match kind {
+        Kind::PrivateIdentifier
+        | Kind::YieldExpression
+        | Kind::AwaitExpression
+        | Kind::PropertyDefinition
+        | Kind::StaticBlock
+        | Kind::ImportDeclaration
+        | Kind::ImportSpecifier
+        | Kind::ExportSpecifier
+        | Kind::ExportNamedDeclaration
+        | Kind::ExportAllDeclaration => SkipTest::Nothing,
         _ => SkipTest::Kind,
     }
 }
 
-/// Where errors of a node may be, whatever stands round it.
+/// Where errors of a node may be, whatever else stands round it; `no_arguments`: it stands in the value of a field or in a static block.
 #[inline(always)]
-pub(crate) fn error_places(node: Node) -> ErrorPlaces
-    ensures { IsWhere result (node_tree node.entry) }
+pub(crate) fn error_places(node: Node, no_arguments: bool) -> ErrorPlaces
+    ensures { IsWhere no_arguments result (node_tree node.entry) }
 {
     match skip_test_of(node.kind()) {
-        SkipTest::Leaf => nowhere_if(is_quiet(node)),
+        SkipTest::Leaf => nowhere_if(is_quiet(node, no_arguments)),
         SkipTest::Kind => ErrorPlaces::InParts,
         SkipTest::Nothing => ErrorPlaces::Anywhere,
-        telling => where_by(telling, node),
+        telling => where_by(telling, node, no_arguments),
     }
 }
 
 /// The same, by what tells it of a node of its kind.
 #[inline(never)]
-fn where_by(telling: SkipTest, node: Node) -> ErrorPlaces
+fn where_by(telling: SkipTest, node: Node, no_arguments: bool) -> ErrorPlaces
     requires { telling ≡ telling_of (kind_of (node_tree node)) }
-    ensures { IsWhere result (node_tree node.entry) }
+    ensures { IsWhere no_arguments result (node_tree node.entry) }
 {
     match telling {
-        SkipTest::Member => where_in_member(node),
+        SkipTest::Member => in_member(node, no_arguments),
         SkipTest::Callee => in_parts_unless(has_super(node.part(0))),
         SkipTest::Target => in_parts_unless(binds_restricted(node.part(0))),
-        SkipTest::Operator => in_parts_unless(deletes_identifier(node)),
-        SkipTest::Form => in_parts_unless(is_method(node.flags().form)),
+        SkipTest::Operator => in_parts_unless(may_not_delete(node)),
+        SkipTest::Form => in_parts_unless(either(no_arguments, is_method(node.flags().form))),
         SkipTest::Items => in_parts_unless(declares_names(node)),
         SkipTest::Declaration => in_parts_unless(declares_more(node)),
         _ => ErrorPlaces::Anywhere,
@@ -116,7 +135,7 @@ fn where_by(telling: SkipTest, node: Node) -> ErrorPlaces
 /// No errors anywhere if `is_quiet`, else they may be anywhere.
 #[inline(always)]
 fn nowhere_if(is_quiet: bool) -> ErrorPlaces
-    ensures { (t : Tree) → OnTrue is_quiet (IsQuiet t) → IsWhere result t }
+    ensures { (b : Bool) → (t : Tree) → OnTrue is_quiet (IsQuiet b t) → IsWhere b result t }
 {
     if is_quiet {
         ErrorPlaces::Nowhere
@@ -128,7 +147,7 @@ fn nowhere_if(is_quiet: bool) -> ErrorPlaces
 /// Errors in the parts only, unless `is_special`: then they may be anywhere.
 #[inline(always)]
 fn in_parts_unless(is_special: bool) -> ErrorPlaces
-    ensures { (t : Tree) → OnFalse is_special (IsOpen t) → IsWhere result t }
+    ensures { (b : Bool) → (t : Tree) → OnFalse is_special (IsOpen b t) → IsWhere b result t }
 {
     if is_special {
         ErrorPlaces::Anywhere
@@ -137,41 +156,56 @@ fn in_parts_unless(is_special: bool) -> ErrorPlaces
     }
 }
 
-/// Whether a node is a leaf that has no errors: a name, `this`, or a literal but for a regular expression.
-fn is_quiet(node: Node) -> bool
-    ensures { OnTrue result (IsQuiet (node_tree node.entry)) }
+/// Whether a node is a leaf that has no errors: a name, but `arguments` where that may not stand, `this`, or a literal but for a
+/// regular expression.
+#[inline(always)]
+fn is_quiet(node: Node, no_arguments: bool) -> bool
+    ensures { OnTrue result (IsQuiet no_arguments (node_tree node.entry)) }
 {
     if node.part_count() > 0 {
         return false;
     }
-    says_nothing(node)
+    says_nothing(node, no_arguments)
 }
 
-/// Whether the node is a leaf without errors: a name, `this`, or a literal that is no regular expression.
-fn says_nothing(node: Node) -> bool
-    ensures { result ≡ says_nothing (kind_of (node_tree node.entry)) (text_of (node_tree node.entry)) }
+/// Whether the kind and text are those of a leaf without errors.
+#[inline(always)]
+fn says_nothing(node: Node, no_arguments: bool) -> bool
+    ensures { result ≡ says_nothing no_arguments (kind_of (node_tree node.entry)) (text_of (node_tree node.entry)) }
 {
     match node.kind() {
-        Kind::Identifier | Kind::ThisExpression => true,
+        Kind::Identifier => !(no_arguments && node.text() == "arguments"),
+        Kind::ThisExpression => true,
         Kind::Literal => !begins_with_slash(node.text()),
         _ => false,
     }
 }
 
 /// The same of a part that may be missing.
-fn is_silent(part: Option<Node>) -> bool
-    ensures { OnTrue result (IsSilent (option_map node_tree part.entry)) }
+fn is_silent(part: Option<Node>, no_arguments: bool) -> bool
+    ensures { OnTrue result (IsSilent no_arguments (option_map node_tree part.entry)) }
 {
     match part {
-        Some(part) => is_quiet(part),
+        Some(part) => is_quiet(part, no_arguments),
         None => true,
     }
 }
 
-/// Where errors of a member expression may be: nowhere where both its parts are leaves without.
+/// Where errors of a member expression may be: anywhere where `arguments` may not stand, since the name behind the `.` may.
+fn in_member(node: Node, no_arguments: bool) -> ErrorPlaces
+    requires { telling_of (kind_of (node_tree node)) ≡ SkipTest.Member }
+    ensures { IsWhere no_arguments result (node_tree node.entry) }
+{
+    if no_arguments {
+        return ErrorPlaces::Anywhere;
+    }
+    where_in_member(node)
+}
+
+/// The same where `arguments` may stand: nowhere where both its parts are leaves without errors.
 fn where_in_member(node: Node) -> ErrorPlaces
     requires { telling_of (kind_of (node_tree node)) ≡ SkipTest.Member }
-    ensures { IsWhere result (node_tree node.entry) }
+    ensures { IsWhere false result (node_tree node.entry) }
 {
     let head = node.part(0);
     if has_super(head) {
@@ -180,7 +214,7 @@ fn where_in_member(node: Node) -> ErrorPlaces
     if node.part_count() > 2 {
         return ErrorPlaces::InParts;
     }
-    if is_silent(head) && is_silent(node.part(1)) {
+    if is_silent(head, false) && is_silent(node.part(1), false) {
         return ErrorPlaces::Nowhere;
     }
     ErrorPlaces::InParts
@@ -239,11 +273,11 @@ fn declares(item: Option<Node>) -> bool
     }
 }
 
-/// Whether an item may declare names lexically.
+/// Whether an item, exported or not, may declare names lexically.
 fn is_lexical(item: Node) -> bool
     ensures { OnFalse result ((b : _) → lexical_names b (node_tree item.entry) ≡ []) }
 {
-    match lexical_of(item, &lexical_as(true)) {
+    match lexical_of(declaration_of(item), &lexical_as(true)) {
         Lexical::Nothing => false,
         _ => true,
     }
@@ -252,7 +286,7 @@ fn is_lexical(item: Node) -> bool
 /// Whether a declaration is more than a `let` or `const` of one name, other than `eval` and `arguments`, with an initializer.
 fn declares_more(declaration: Node) -> bool
     requires { telling_of (kind_of (node_tree declaration)) ≡ SkipTest.Declaration }
-    ensures { OnFalse result (IsOpen (node_tree declaration.entry)) }
+    ensures { OnFalse result ((b : Bool) → IsOpen b (node_tree declaration.entry)) }
 {
     if declaration.text() == "var" {
         return true;

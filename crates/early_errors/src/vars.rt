@@ -1,13 +1,18 @@
 //! Whether a `var` of the same function stands below a node.
 
-ghost use Rattle.std.specs.Prelude.{◌≡◌, ◌-◌, [], option_map};
+ghost use Rattle.std.specs.Prelude.{◌≡◌, ◌-◌, ◌||◌, ◌++◌, [], option_map, OnOk};
+ghost use Rattle.early_errors.specs.Names.{parts_vars};
+ghost use Rattle.early_errors.specs.Walk.{all_named};
 ghost use Rattle.std.specs.Bool.{OnTrue};
 ghost use Rattle.tree.specs.Node.{node_tree};
 ghost use Rattle.tree.specs.Tree.{kind_of, part_count, parts_of, text_of};
-ghost use Rattle.early_errors.specs.Names.{var_names};
+ghost use Rattle.early_errors.specs.Names.{is_function, is_static_block, var_names};
 ghost use Rattle.name_tables.specs.PatternParts.{at_part};
 ghost use Rattle.early_errors.specs.Walks.{is_var, range_vars};
+ghost use Rattle.early_errors.specs.Owns.{vars_of};
 
+use crate::names::{NamePlace, push_declared};
+use std::alloc::AllocError;
 use tree::{Kind, Node};
 
 /// Whether no `var` stands in a node's parts from a place on, inner functions aside. It looks at so many nodes at most, and says no
@@ -55,13 +60,23 @@ fn has_none(node: Node, left: &mut usize) -> bool
         return false;
     }
     *left -= 1;
-    if node.kind().is_function() {
+    if has_own_vars(node.kind()) {
         return true;
     }
     if is_var(node) {
         return false;
     }
     parts_have_none(node, 0, left)
+}
+
+/// Whether the `var`s inside a node of this kind are its own: in a function or a static block.
+pub(crate) fn has_own_vars(kind: Kind) -> bool
+    ensures { result ≡ (is_function kind || is_static_block kind) }
+{
+    match kind {
+        Kind::StaticBlock => true,
+        kind => kind.is_function(),
+    }
 }
 
 /// Whether the node is a declaration by `var`.
@@ -72,4 +87,45 @@ fn is_var(node: Node) -> bool
         Kind::VariableDeclaration => node.text() == "var",
         _ => false,
     }
+}
+
+/// Pushes the names of `var` in a node at any depth, inner functions and static blocks aside (ECMA-262 13.1.5).
+#[cycle(pushing)]
+#[tactic(auto, using(tree::proofs::PartWalk::part_steps))]
+pub(crate) fn push_vars<'t>(
+    node: Node<'t, '_>,
+    names: &mut Vec<NamePlace<'t>>,
+) -> Result<(), AllocError>
+    ensures { OnOk result (all_named names.new.items ≡ all_named names.old.items ++ var_names (node_tree node.entry)) }
+{
+    if has_own_vars(node.kind()) {
+        return Ok(());
+    }
+    push_own_vars(node, names)?;
+    push_parts_vars(node, names)
+}
+
+/// Pushes those that a node itself declares.
+fn push_own_vars<'t>(node: Node<'t, '_>, names: &mut Vec<NamePlace<'t>>) -> Result<(), AllocError>
+    ensures { OnOk result (all_named names.new.items ≡ all_named names.old.items ++ vars_of (node_tree node.entry)) }
+{
+    if is_var(node) {
+        push_declared(node, names)
+    } else {
+        Ok(())
+    }
+}
+
+/// Adds those of all parts of a node.
+#[cycle(pushing)]
+#[tactic(auto, using(tree::proofs::PartWalk::part_steps))]
+fn push_parts_vars<'t>(node: Node<'t, '_>, names: &mut Vec<NamePlace<'t>>) -> Result<(), AllocError>
+    ensures { OnOk result (all_named names.new.items ≡ all_named names.old.items ++ parts_vars (parts_of (node_tree node.entry))) }
+{
+    for index in 0..node.part_count() {
+        if let Some(part) = node.part(index) {
+            push_vars(part, names)?;
+        }
+    }
+    Ok(())
 }

@@ -1,11 +1,14 @@
 //! The walk over a tree.
 
-ghost use Rattle.std.specs.Prelude.{◌≡◌, [], ◌-◌, ◌<◌, None, Some, OnOk};
+ghost use Rattle.std.specs.Prelude.{◌≡◌, true, [], ◌-◌, ◌<◌, None, Some, OnOk};
 ghost use Rattle.tree.specs.Node.{node_tree};
+ghost use Rattle.tree.specs.declared.kind.Kind.TheVariants.{StaticBlock};
 ghost use Rattle.tree.specs.Tree.{flags_of, kind_of, part_at, parts_of};
 ghost use Rattle.early_errors.specs.Early.{errors_within, parts_errors};
 ghost use Rattle.early_errors.specs.Names.{parts_vars, var_names};
-ghost use Rattle.early_errors.specs.Owns.{Knows, inside_of, plain_errors, round, vars_of};
+ghost use Rattle.early_errors.specs.Around.{settled};
+ghost use Rattle.early_errors.specs.Knowing.{KnownIn};
+ghost use Rattle.early_errors.specs.Owns.{inside_of, makes_scope, plain_errors, round, vars_of};
 ghost use Rattle.early_errors.specs.Passed.{IsHandedOn};
 ghost use Rattle.name_tables.specs.Tables.{Agree};
 ghost use Rattle.early_errors.specs.Walk.{after, hits, look, sooner};
@@ -18,6 +21,8 @@ use crate::labels::{Labels, is_true, known_loop, label_is_loop};
 use crate::literals::either;
 use crate::names::NamePlace;
 use crate::own::{Surroundings, own_errors};
+use crate::private_names::{PrivateNames, SavedPrivate, close_class, open_class};
+use crate::profile::Language;
 use crate::scopes::{place_of_scope, push_scope, scope_error, scope_errors, scope_kind};
 use crate::skipping::{ErrorPlaces, error_places};
 use crate::table::Table;
@@ -32,28 +37,36 @@ const NODES_PER_NAME: usize = 8;
 #[derive(Drop)]
 pub(crate) struct Walk<'t> {
     pub(crate) alloc: Global,
+    /// The language of the tree.
+    pub(crate) language: Language,
     /// The least error so far.
     pub(crate) found: FirstError,
     /// What a `var` of a name would clash with, in the scopes round a node, of the same function.
     pub(crate) vars: VarConflicts<'t>,
     /// The labels round a node, of the same function.
     pub(crate) labels: Labels<'t>,
+    /// The private names of the classes round a node.
+    pub(crate) privates: PrivateNames<'t>,
     /// Room for the names of one node.
     pub(crate) names: Vec<NamePlace<'t>>,
 }
 
 impl<'t> Walk<'t> {
-    /// Before anything is found.
-    pub(crate) fn new(alloc: Global) -> Walk<'t>
+    /// Before anything is found in a tree of a language.
+    pub(crate) fn new(alloc: Global, language: Language) -> Walk<'t>
         ensures found { result.found ≡ None }
         ensures vars { Agree (look result.vars) (λ _. None) }
         ensures labels { Agree (look result.labels) (λ _. None) }
+        ensures privates { Agree (look result.privates) (λ _. None) }
+        ensures language { result.language ≡ language }
     {
         Walk {
             alloc,
+            language,
             found: None,
             vars: Table::new(alloc),
             labels: Table::new(alloc),
+            privates: Table::new(alloc),
             names: Vec::new(alloc),
         }
     }
@@ -66,6 +79,8 @@ pub(crate) enum WalkKind {
     Method,
     Label,
     Scope,
+    ClassBody,
+    StaticBlock,
     Declaration,
     Plain,
 }
@@ -77,7 +92,9 @@ fn inside_of(kind: Kind, form: Form) -> WalkKind
     match kind {
         Kind::FunctionDeclaration | Kind::FunctionExpression | Kind::ArrowFunctionExpression =>
             WalkKind::Function,
-        Kind::MethodDefinition => WalkKind::Method,
+        Kind::MethodDefinition | Kind::PropertyDefinition => WalkKind::Method,
+        Kind::ClassBody => WalkKind::ClassBody,
+        Kind::StaticBlock => WalkKind::StaticBlock,
         Kind::Property => {
             if is_method(form) {
                 WalkKind::Method
@@ -107,11 +124,14 @@ pub(crate) fn walk_node<'t>(
     walk: &mut Walk<'t>,
 ) -> Result<(), AllocError>
     requires { Fits around (node_tree node) }
-    ensures found { OnOk result ((ls : _) → Knows (look walk.old.labels) ls → walk.new.found ≡ sooner (after walk.old.found (errors_within (round around ls) (node_tree node.entry))) (hits (look walk.old.vars) (var_names (node_tree node.entry)))) }
+    ensures found { OnOk result ((r : _) → KnownIn walk.old r → walk.new.found ≡ sooner (after walk.old.found (errors_within (round around r) (node_tree node.entry))) (hits (look walk.old.vars) (var_names (node_tree node.entry)))) }
     ensures vars { OnOk result (Agree (look walk.new.vars) (look walk.old.vars)) }
     ensures labels { OnOk result (Agree (look walk.new.labels) (look walk.old.labels)) }
+    ensures privates { OnOk result (Agree (look walk.new.privates) (look walk.old.privates)) }
+    ensures language { OnOk result (walk.new.language ≡ walk.old.language) }
 {
-    match error_places(node) {
+    let around = around.settled(node.kind());
+    match error_places(node, around.no_arguments) {
         ErrorPlaces::Nowhere => Ok(()),
         ErrorPlaces::InParts => {
             let inner = around.within();
@@ -131,16 +151,18 @@ fn walk_passed<'t>(
 ) -> Result<(), AllocError>
     requires handed_on { IsHandedOn around.now }
     requires unknown { around.now.labels_loop ≡ None }
-    ensures found { OnOk result ((ls : _) → Knows (look walk.old.labels) ls → walk.new.found ≡ sooner (after walk.old.found (parts_errors (round around.now ls) (round around.now ls) (parts_of (node_tree node.entry)))) (hits (look walk.old.vars) (parts_vars (parts_of (node_tree node.entry))))) }
+    ensures found { OnOk result ((r : _) → KnownIn walk.old r → walk.new.found ≡ sooner (after walk.old.found (parts_errors (round around.now r) (round around.now r) (parts_of (node_tree node.entry)))) (hits (look walk.old.vars) (parts_vars (parts_of (node_tree node.entry))))) }
     ensures vars { OnOk result (Agree (look walk.new.vars) (look walk.old.vars)) }
     ensures labels { OnOk result (Agree (look walk.new.labels) (look walk.old.labels)) }
+    ensures privates { OnOk result (Agree (look walk.new.privates) (look walk.old.privates)) }
+    ensures language { OnOk result (walk.new.language ≡ walk.old.language) }
 {
     let parts = node.parts();
     for index in 0..parts.len() {
         let Some(part) = parts.get(index) else {
             continue;
         };
-        match error_places(part) {
+        match error_places(part, around.no_arguments) {
             ErrorPlaces::Nowhere => {}
             ErrorPlaces::InParts => walk_passed(part, around, walk)?,
             ErrorPlaces::Anywhere => walk_special(part, *around, walk)?,
@@ -149,7 +171,7 @@ fn walk_passed<'t>(
     Ok(())
 }
 
-/// The same of a node that may have errors itself.
+/// The same of a node that may have errors itself; a function's body has `yield` and `await` by then.
 #[cycle(walk)]
 #[tactic(auto, using(tree::proofs::PartWalk::part_steps))]
 #[inline(never)]
@@ -158,15 +180,20 @@ fn walk_special<'t>(
     around: Context,
     walk: &mut Walk<'t>,
 ) -> Result<(), AllocError>
-    requires { Fits around (node_tree node) }
-    ensures found { OnOk result ((ls : _) → Knows (look walk.old.labels) ls → walk.new.found ≡ sooner (after walk.old.found (errors_within (round around ls) (node_tree node.entry))) (hits (look walk.old.vars) (var_names (node_tree node.entry)))) }
+    requires fits { Fits around (node_tree node) }
+    requires settled { (r : _) → settled (round around r) (kind_of (node_tree node)) ≡ round around r }
+    ensures found { OnOk result ((r : _) → KnownIn walk.old r → walk.new.found ≡ sooner (after walk.old.found (errors_within (round around r) (node_tree node.entry))) (hits (look walk.old.vars) (var_names (node_tree node.entry)))) }
     ensures vars { OnOk result (Agree (look walk.new.vars) (look walk.old.vars)) }
     ensures labels { OnOk result (Agree (look walk.new.labels) (look walk.old.labels)) }
+    ensures privates { OnOk result (Agree (look walk.new.privates) (look walk.old.privates)) }
+    ensures language { OnOk result (walk.new.language ≡ walk.old.language) }
 {
     let surroundings = Surroundings {
         around,
+        language: walk.language,
         vars: &walk.vars,
         labels: &walk.labels,
+        privates: &walk.privates,
     };
     walk.found = own_errors(walk.alloc, node, surroundings, &mut walk.names, walk.found)?;
     match inside_of(node.kind(), node.flags().form) {
@@ -174,6 +201,8 @@ fn walk_special<'t>(
         WalkKind::Method => walk_method(node, around, walk),
         WalkKind::Label => walk_label(node, around, walk),
         WalkKind::Scope => walk_scope(node, around, walk),
+        WalkKind::ClassBody => walk_class_body(node, around, walk),
+        WalkKind::StaticBlock => walk_static_block(node, around, walk),
         WalkKind::Declaration => {
             let inner = around.within();
             walk_passed(node, &inner, walk)
@@ -194,9 +223,11 @@ fn walk_parts<'t>(
 ) -> Result<(), AllocError>
     requires first { rounds.first.labels_loop ≡ None }
     requires others { (i : _) → (u : _) → 0 < i → Some u ≡ part_at (parts_of (node_tree node)) i → Fits rounds.others u }
-    ensures found { OnOk result ((ls : _) → Knows (look walk.old.labels) ls → walk.new.found ≡ sooner (after walk.old.found (range_errors (round rounds.first ls) (round rounds.others ls) (parts_of (node_tree node.entry)) from (to - from))) (hits (look walk.old.vars) (range_vars (parts_of (node_tree node.entry)) from (to - from)))) }
+    ensures found { OnOk result ((r : _) → KnownIn walk.old r → walk.new.found ≡ sooner (after walk.old.found (range_errors (round rounds.first r) (round rounds.others r) (parts_of (node_tree node.entry)) from (to - from))) (hits (look walk.old.vars) (range_vars (parts_of (node_tree node.entry)) from (to - from)))) }
     ensures vars { OnOk result (Agree (look walk.new.vars) (look walk.old.vars)) }
     ensures labels { OnOk result (Agree (look walk.new.labels) (look walk.old.labels)) }
+    ensures privates { OnOk result (Agree (look walk.new.privates) (look walk.old.privates)) }
+    ensures language { OnOk result (walk.new.language ≡ walk.old.language) }
 {
     for index in from..to {
         if let Some(part) = node.part(index) {
@@ -221,9 +252,12 @@ fn walk_function<'t>(
 ) -> Result<(), AllocError>
     requires inside { inside_of (kind_of (node_tree node)) (flags_of (node_tree node)).form ≡ WalkKind.Function }
     requires fits { Fits around (node_tree node) }
-    ensures found { OnOk result ((o : _) → (ls : _) → Knows (look walk.old.labels) ls → walk.old.found ≡ sooner (after o (plain_errors (round around ls) (node_tree node.entry))) (hits (look walk.old.vars) (vars_of (node_tree node.entry))) → walk.new.found ≡ sooner (after o (errors_within (round around ls) (node_tree node.entry))) (hits (look walk.old.vars) (var_names (node_tree node.entry)))) }
+    requires settled { (r : _) → settled (round around r) (kind_of (node_tree node)) ≡ round around r }
+    ensures found { OnOk result ((o : _) → (r : _) → KnownIn walk.old r → walk.old.found ≡ sooner (after o (plain_errors (round around r) (node_tree node.entry))) (hits (look walk.old.vars) (vars_of (node_tree node.entry))) → walk.new.found ≡ sooner (after o (errors_within (round around r) (node_tree node.entry))) (hits (look walk.old.vars) (var_names (node_tree node.entry)))) }
     ensures vars { OnOk result (Agree (look walk.new.vars) (look walk.old.vars)) }
     ensures labels { OnOk result (Agree (look walk.new.labels) (look walk.old.labels)) }
+    ensures privates { OnOk result (Agree (look walk.new.privates) (look walk.old.privates)) }
+    ensures language { OnOk result (walk.new.language ≡ walk.old.language) }
 {
     let vars = walk.vars.take(walk.alloc);
     let labels = walk.labels.take(walk.alloc);
@@ -233,7 +267,7 @@ fn walk_function<'t>(
     done
 }
 
-/// The key of a method belongs to what surrounds it; its function doesn't.
+/// The key of a method or field belongs to what surrounds it; its function or value doesn't.
 #[cycle(walk)]
 #[tactic(auto, using(tree::proofs::PartWalk::part_steps))]
 fn walk_method<'t>(
@@ -243,9 +277,12 @@ fn walk_method<'t>(
 ) -> Result<(), AllocError>
     requires inside { inside_of (kind_of (node_tree node)) (flags_of (node_tree node)).form ≡ WalkKind.Method }
     requires fits { Fits around (node_tree node) }
-    ensures found { OnOk result ((o : _) → (ls : _) → Knows (look walk.old.labels) ls → walk.old.found ≡ sooner (after o (plain_errors (round around ls) (node_tree node.entry))) (hits (look walk.old.vars) (vars_of (node_tree node.entry))) → walk.new.found ≡ sooner (after o (errors_within (round around ls) (node_tree node.entry))) (hits (look walk.old.vars) (var_names (node_tree node.entry)))) }
+    requires settled { (r : _) → settled (round around r) (kind_of (node_tree node)) ≡ round around r }
+    ensures found { OnOk result ((o : _) → (r : _) → KnownIn walk.old r → walk.old.found ≡ sooner (after o (plain_errors (round around r) (node_tree node.entry))) (hits (look walk.old.vars) (vars_of (node_tree node.entry))) → walk.new.found ≡ sooner (after o (errors_within (round around r) (node_tree node.entry))) (hits (look walk.old.vars) (var_names (node_tree node.entry)))) }
     ensures vars { OnOk result (Agree (look walk.new.vars) (look walk.old.vars)) }
     ensures labels { OnOk result (Agree (look walk.new.labels) (look walk.old.labels)) }
+    ensures privates { OnOk result (Agree (look walk.new.privates) (look walk.old.privates)) }
+    ensures language { OnOk result (walk.new.language ≡ walk.old.language) }
 {
     let rounds = contexts_of(node, around);
     walk_parts(node, 0, 1, rounds, walk)?;
@@ -265,9 +302,12 @@ fn walk_label<'t>(
 ) -> Result<(), AllocError>
     requires inside { inside_of (kind_of (node_tree node)) (flags_of (node_tree node)).form ≡ WalkKind.Label }
     requires fits { Fits around (node_tree node) }
-    ensures found { OnOk result ((o : _) → (ls : _) → Knows (look walk.old.labels) ls → walk.old.found ≡ sooner (after o (plain_errors (round around ls) (node_tree node.entry))) (hits (look walk.old.vars) (vars_of (node_tree node.entry))) → walk.new.found ≡ sooner (after o (errors_within (round around ls) (node_tree node.entry))) (hits (look walk.old.vars) (var_names (node_tree node.entry)))) }
+    requires settled { (r : _) → settled (round around r) (kind_of (node_tree node)) ≡ round around r }
+    ensures found { OnOk result ((o : _) → (r : _) → KnownIn walk.old r → walk.old.found ≡ sooner (after o (plain_errors (round around r) (node_tree node.entry))) (hits (look walk.old.vars) (vars_of (node_tree node.entry))) → walk.new.found ≡ sooner (after o (errors_within (round around r) (node_tree node.entry))) (hits (look walk.old.vars) (var_names (node_tree node.entry)))) }
     ensures vars { OnOk result (Agree (look walk.new.vars) (look walk.old.vars)) }
     ensures labels { OnOk result (Agree (look walk.new.labels) (look walk.old.labels)) }
+    ensures privates { OnOk result (Agree (look walk.new.privates) (look walk.old.privates)) }
+    ensures language { OnOk result (walk.new.language ≡ walk.old.language) }
 {
     let mut rounds = contexts_of(node, around);
     let Some(label) = node.part(0) else {
@@ -278,8 +318,9 @@ fn walk_label<'t>(
     let name = label.text();
     let before = walk.labels.value(name);
     let after = either(is_loop, is_true(before));
+    walk_parts(node, 0, 1, rounds, walk)?;
     walk.labels.replace(name, Some(after))?;
-    let done = walk_parts(node, 0, node.part_count(), rounds, walk);
+    let done = walk_parts(node, 1, node.part_count(), rounds, walk);
     walk.labels.replace(name, before)?;
     done
 }
@@ -292,11 +333,16 @@ fn walk_scope<'t>(
     around: Context,
     walk: &mut Walk<'t>,
 ) -> Result<(), AllocError>
-    requires inside { inside_of (kind_of (node_tree node)) (flags_of (node_tree node)).form ≡ WalkKind.Scope }
+    requires inside { makes_scope (kind_of (node_tree node)) ≡ true }
+    requires unlabelled { kind_of (node_tree node) ≡ StaticBlock → Agree (look walk.now.labels) (λ _. None) }
+    requires alone { kind_of (node_tree node) ≡ StaticBlock → Agree (look walk.now.vars) (λ _. None) }
     requires fits { Fits around (node_tree node) }
-    ensures found { OnOk result ((o : _) → (ls : _) → Knows (look walk.old.labels) ls → walk.old.found ≡ sooner (after o (plain_errors (round around ls) (node_tree node.entry))) (hits (look walk.old.vars) (vars_of (node_tree node.entry))) → walk.new.found ≡ sooner (after o (errors_within (round around ls) (node_tree node.entry))) (hits (look walk.old.vars) (var_names (node_tree node.entry)))) }
+    requires settled { (r : _) → settled (round around r) (kind_of (node_tree node)) ≡ round around r }
+    ensures found { OnOk result ((o : _) → (r : _) → KnownIn walk.old r → walk.old.found ≡ sooner (after o (plain_errors (round around r) (node_tree node.entry))) (hits (look walk.old.vars) (vars_of (node_tree node.entry))) → walk.new.found ≡ sooner (after o (errors_within (round around r) (node_tree node.entry))) (hits (look walk.old.vars) (var_names (node_tree node.entry)))) }
     ensures vars { OnOk result (Agree (look walk.new.vars) (look walk.old.vars)) }
     ensures labels { OnOk result (Agree (look walk.new.labels) (look walk.old.labels)) }
+    ensures privates { OnOk result (Agree (look walk.new.privates) (look walk.old.privates)) }
+    ensures language { OnOk result (walk.new.language ≡ walk.old.language) }
 {
     let mut names = Vec::new(walk.alloc);
     let mut saved = Vec::new(walk.alloc);
@@ -313,15 +359,20 @@ fn walk_in_scope<'t>(
     saved: &mut Vec<Saved<'t>>,
     walk: &mut Walk<'t>,
 ) -> Result<(), AllocError>
-    requires inside { inside_of (kind_of (node_tree node)) (flags_of (node_tree node)).form ≡ WalkKind.Scope }
+    requires inside { makes_scope (kind_of (node_tree node)) ≡ true }
+    requires unlabelled { kind_of (node_tree node) ≡ StaticBlock → Agree (look walk.now.labels) (λ _. None) }
+    requires alone { kind_of (node_tree node) ≡ StaticBlock → Agree (look walk.now.vars) (λ _. None) }
     requires fits { Fits around (node_tree node) }
+    requires settled { (r : _) → settled (round around r) (kind_of (node_tree node)) ≡ round around r }
     requires names { names.now.items ≡ [] }
     requires saved { saved.now.items ≡ [] }
-    ensures found { OnOk result ((o : _) → (ls : _) → Knows (look walk.old.labels) ls → walk.old.found ≡ sooner (after o (plain_errors (round around ls) (node_tree node.entry))) (hits (look walk.old.vars) (vars_of (node_tree node.entry))) → walk.new.found ≡ sooner (after o (errors_within (round around ls) (node_tree node.entry))) (hits (look walk.old.vars) (var_names (node_tree node.entry)))) }
+    ensures found { OnOk result ((o : _) → (r : _) → KnownIn walk.old r → walk.old.found ≡ sooner (after o (plain_errors (round around r) (node_tree node.entry))) (hits (look walk.old.vars) (vars_of (node_tree node.entry))) → walk.new.found ≡ sooner (after o (errors_within (round around r) (node_tree node.entry))) (hits (look walk.old.vars) (var_names (node_tree node.entry)))) }
     ensures vars { OnOk result (Agree (look walk.new.vars) (look walk.old.vars)) }
     ensures labels { OnOk result (Agree (look walk.new.labels) (look walk.old.labels)) }
+    ensures privates { OnOk result (Agree (look walk.new.privates) (look walk.old.privates)) }
+    ensures language { OnOk result (walk.new.language ≡ walk.old.language) }
 {
-    let kind = scope_kind(node.kind(), around.is_body);
+    let kind = scope_kind(node.kind(), walk.language.is_module, around.is_body);
     push_scope(kind, node, names)?;
     let declared = names.as_slice();
     walk.found = scope_errors(walk.alloc, kind, node, declared, walk.found)?;
@@ -335,4 +386,74 @@ fn walk_in_scope<'t>(
     open_scope(&mut walk.vars, declared, scope_error(kind), saved)?;
     walk_parts(node, from, to, rounds, walk)?;
     close_scope(&mut walk.vars, saved)
+}
+
+/// A class body has private names.
+#[cycle(walk)]
+#[tactic(auto, using(tree::proofs::PartWalk::part_steps))]
+fn walk_class_body<'t>(
+    node: Node<'t, '_>,
+    around: Context,
+    walk: &mut Walk<'t>,
+) -> Result<(), AllocError>
+    requires inside { inside_of (kind_of (node_tree node)) (flags_of (node_tree node)).form ≡ WalkKind.ClassBody }
+    requires fits { Fits around (node_tree node) }
+    requires settled { (r : _) → settled (round around r) (kind_of (node_tree node)) ≡ round around r }
+    ensures found { OnOk result ((o : _) → (r : _) → KnownIn walk.old r → walk.old.found ≡ sooner (after o (plain_errors (round around r) (node_tree node.entry))) (hits (look walk.old.vars) (vars_of (node_tree node.entry))) → walk.new.found ≡ sooner (after o (errors_within (round around r) (node_tree node.entry))) (hits (look walk.old.vars) (var_names (node_tree node.entry)))) }
+    ensures vars { OnOk result (Agree (look walk.new.vars) (look walk.old.vars)) }
+    ensures labels { OnOk result (Agree (look walk.new.labels) (look walk.old.labels)) }
+    ensures privates { OnOk result (Agree (look walk.new.privates) (look walk.old.privates)) }
+    ensures language { OnOk result (walk.new.language ≡ walk.old.language) }
+{
+    let mut saved = Vec::new(walk.alloc);
+    walk_in_class(node, around, &mut saved, walk)
+}
+
+/// The same, with room for what its private names stood for before.
+#[cycle(walk)]
+#[tactic(auto, using(tree::proofs::PartWalk::part_steps))]
+fn walk_in_class<'t>(
+    node: Node<'t, '_>,
+    around: Context,
+    saved: &mut Vec<SavedPrivate<'t>>,
+    walk: &mut Walk<'t>,
+) -> Result<(), AllocError>
+    requires inside { inside_of (kind_of (node_tree node)) (flags_of (node_tree node)).form ≡ WalkKind.ClassBody }
+    requires fits { Fits around (node_tree node) }
+    requires settled { (r : _) → settled (round around r) (kind_of (node_tree node)) ≡ round around r }
+    requires saved { saved.now.items ≡ [] }
+    ensures found { OnOk result ((o : _) → (r : _) → KnownIn walk.old r → walk.old.found ≡ sooner (after o (plain_errors (round around r) (node_tree node.entry))) (hits (look walk.old.vars) (vars_of (node_tree node.entry))) → walk.new.found ≡ sooner (after o (errors_within (round around r) (node_tree node.entry))) (hits (look walk.old.vars) (var_names (node_tree node.entry)))) }
+    ensures vars { OnOk result (Agree (look walk.new.vars) (look walk.old.vars)) }
+    ensures labels { OnOk result (Agree (look walk.new.labels) (look walk.old.labels)) }
+    ensures privates { OnOk result (Agree (look walk.new.privates) (look walk.old.privates)) }
+    ensures language { OnOk result (walk.new.language ≡ walk.old.language) }
+{
+    open_class(&mut walk.privates, node, saved)?;
+    walk_parts(node, 0, node.part_count(), contexts_of(node, around), walk)?;
+    close_class(&mut walk.privates, saved)
+}
+
+/// A static block has labels and `var`s of its own, as a function has, and a scope.
+#[cycle(walk)]
+#[tactic(auto, using(tree::proofs::PartWalk::part_steps))]
+fn walk_static_block<'t>(
+    node: Node<'t, '_>,
+    around: Context,
+    walk: &mut Walk<'t>,
+) -> Result<(), AllocError>
+    requires inside { inside_of (kind_of (node_tree node)) (flags_of (node_tree node)).form ≡ WalkKind.StaticBlock }
+    requires fits { Fits around (node_tree node) }
+    requires settled { (r : _) → settled (round around r) (kind_of (node_tree node)) ≡ round around r }
+    ensures found { OnOk result ((o : _) → (r : _) → KnownIn walk.old r → walk.old.found ≡ sooner (after o (plain_errors (round around r) (node_tree node.entry))) (hits (look walk.old.vars) (vars_of (node_tree node.entry))) → walk.new.found ≡ sooner (after o (errors_within (round around r) (node_tree node.entry))) (hits (look walk.old.vars) (var_names (node_tree node.entry)))) }
+    ensures vars { OnOk result (Agree (look walk.new.vars) (look walk.old.vars)) }
+    ensures labels { OnOk result (Agree (look walk.new.labels) (look walk.old.labels)) }
+    ensures privates { OnOk result (Agree (look walk.new.privates) (look walk.old.privates)) }
+    ensures language { OnOk result (walk.new.language ≡ walk.old.language) }
+{
+    let vars = walk.vars.take(walk.alloc);
+    let labels = walk.labels.take(walk.alloc);
+    let done = walk_scope(node, around, walk);
+    walk.vars.put(vars);
+    walk.labels.put(labels);
+    done
 }

@@ -5,6 +5,8 @@ use Rattle.commands.specs.Refused.{no_memory}
 use Rattle.commands.specs.declared.command.Command.{Command}
 use Rattle.commands.specs.declared.command.Command.TheVariants.{Check, Tree, Fix, Unwrap, Cost, Verify, Same}
 use Rattle.commands.specs.declared.command.ReportForm.TheVariants.{Places, Spans}
+use Rattle.commands.specs.declared.language_choice.LanguageChoice.{LanguageChoice}
+use Rattle.commands.specs.declared.language_choice.LanguageChoice.TheVariants.{Unsaid, Edition2020, Edition2022, Module}
 use Rattle.commands.specs.declared.refused.Refused.{Refused}
 use Rattle.embedding.specs.Answers.{AnswersBytes}
 use Rattle.embedding.specs.declared.output.Output.{Output}
@@ -24,6 +26,17 @@ number_of Same = 7
 abbrev pub Names : ℕ → Option Command → Type 0
 Names number (Some command) = number ≡ number_of command
 Names number None = 8 ≤ number
+
+abbrev pub choice_number : LanguageChoice → ℕ
+choice_number Unsaid = 0
+choice_number Edition2020 = 1
+choice_number Edition2022 = 2
+choice_number Module = 3
+
+-- what a number says of the language
+abbrev pub NamesChoice : ℕ → Option LanguageChoice → Type 0
+NamesChoice number (Some choice) = number ≡ choice_number choice
+NamesChoice number None = 4 ≤ number
 
 -- the bytes over the front of the room, as far as it goes
 abbrev pub overwritten : List ℕ → List ℕ → List ℕ
@@ -51,13 +64,18 @@ abbrev pub TellsResult : Result Output Refused → (room_before room_after : Lis
 TellsResult (Ok output) room_before room_after outcome = TellsBytes output.bytes.items output.status false room_before room_after outcome
 TellsResult (Err refused) room_before room_after outcome = TellsLine refused room_before room_after outcome
 
--- what the command answers for these texts is told; or, where there is no command, nothing
-abbrev pub TellsOf : Option Command → (text second room_before room_after : List ℕ) → Outcome → Type 0
-TellsOf (Some command) text second room_before room_after outcome =
-    (answer : Result Output Refused) × AnswersBytes command text second answer × TellsResult answer room_before room_after outcome
-TellsOf None text second room_before room_after outcome = (room_after ≡ room_before) × (outcome ≡ record { length = 0; status = 2; is_refusal = 1 })
+-- what a command answers for these texts in a language is told
+abbrev pub TellsBy : Command → LanguageChoice → (text second room_before room_after : List ℕ) → Outcome → Type 0
+TellsBy command choice text second room_before room_after outcome =
+    (answer : Result Output Refused) × AnswersBytes command choice text second answer × TellsResult answer room_before room_after outcome
+
+-- the same; or, where there is no command or no language, nothing
+abbrev pub TellsOf : Option Command → Option LanguageChoice → (text second room_before room_after : List ℕ) → Outcome → Type 0
+TellsOf (Some command) (Some choice) text second room_before room_after outcome = TellsBy command choice text second room_before room_after outcome
+TellsOf command choice text second room_before room_after outcome = (room_after ≡ room_before) × (outcome ≡ record { length = 0; status = 2; is_refusal = 1 })
 
 -- what a call tells
-abbrev pub Tells : (number : ℕ) → (text second room_before room_after : List ℕ) → Outcome → Type 0
-Tells number text second room_before room_after outcome =
-    (command : Option Command) × Names number command × TellsOf command text second room_before room_after outcome
+abbrev pub Tells : (number language : ℕ) → (text second room_before room_after : List ℕ) → Outcome → Type 0
+Tells number language text second room_before room_after outcome =
+    (command : Option Command) × (choice : Option LanguageChoice) × Names number command × NamesChoice language choice
+    × TellsOf command choice text second room_before room_after outcome

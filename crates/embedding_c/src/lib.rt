@@ -1,16 +1,16 @@
 #![tactic(auto)]
 
-//! The commands for C and for WebAssembly, as a static library with one call.
+//! The commands for C and for WebAssembly, as a static library of two calls: in the base profile, and in a language.
 //! - May touch: the caller's bytes and the caller's room. It keeps no pointer and hands out no memory.
-//! - Contract: `jslint_answer`: the room begins with the answer, as far as it fits, and the outcome has its length and
+//! - Contract: `jslint_answer_in`: the room begins with the answer, as far as it fits, and the outcome has its length and
 //!   status.
-//! - Begin at: `lib.rt`, `jslint_answer`. Definitions: `specs/Calls.antt`.
+//! - Begin at: `lib.rt`, `jslint_answer_in`. Definitions: `specs/Calls.antt`.
 
 ghost use Rattle.std.specs.Prelude.{◌≡◌, ◌≢◌, length};
 ghost use Rattle.source_text.specs.declared.fault.Fault.TheVariants.{Usage};
-ghost use Rattle.embedding_c.specs.Calls.{Names, Tells, TellsRefusal, flag, overwritten};
+ghost use Rattle.embedding_c.specs.Calls.{Names, NamesChoice, Tells, TellsBy, TellsRefusal, flag, overwritten};
 
-use commands::{Command, Refused, ReportForm, status};
+use commands::{Command, LanguageChoice, Refused, ReportForm, status};
 use embedding::{refusal_text, run_on_bytes};
 use std::alloc::{AllocError, Global};
 
@@ -43,6 +43,19 @@ fn command_of(number: u32) -> Option<Command>
     }
 }
 
+/// The choice of a number: 0 that nothing is said, 1 the edition of 2020, 2 that of 2022, 3 its modules.
+fn choice_of(number: u32) -> Option<LanguageChoice>
+    ensures { NamesChoice number result }
+{
+    match number {
+        0 => Some(LanguageChoice::Unsaid),
+        1 => Some(LanguageChoice::Edition2020),
+        2 => Some(LanguageChoice::Edition2022),
+        3 => Some(LanguageChoice::Module),
+        _ => None,
+    }
+}
+
 /// Puts an answer into the room, as far as it goes.
 fn tell(bytes: &[u8], status: u8, is_refusal: bool, room: &mut [u8]) -> Outcome
     ensures outcome { result ≡ record { length = length bytes.now; status = status; is_refusal = flag is_refusal } }
@@ -68,9 +81,56 @@ fn tell_refusal(alloc: Global, refused: &Refused, room: &mut [u8]) -> Outcome
     }
 }
 
-/// Answers a command for a script and a second text, which `check` reads as its settings, `verify` as its table and `same` as its other script:
-/// the answer's beginning, as far as there is room, how long it is, its status, and whether it is a refusal. A number of no command has no answer: length 0, status 2 and
-/// a refusal, and nothing is put into the room.
+/// What is told of a number of no command, or of no language: nothing is put into the room.
+fn tell_nothing() -> Outcome
+    ensures { result ≡ record { length = 0; status = 2; is_refusal = 1 } }
+{
+    Outcome {
+        length: 0,
+        status: 2,
+        is_refusal: 1,
+    }
+}
+
+/// Tells what a command answers in a language.
+fn tell_answer(
+    alloc: Global,
+    command: Command,
+    choice: LanguageChoice,
+    text: &[u8],
+    second: &[u8],
+    room: &mut [u8],
+) -> Outcome
+    ensures { TellsBy command choice text.now second.now room.old room.new result }
+{
+    match run_on_bytes(alloc, command, choice, text, second) {
+        Ok(output) => tell(&output.bytes, output.status, false, room),
+        Err(refused) => tell_refusal(alloc, &refused, room),
+    }
+}
+
+/// Answers a command for a script and a second text, which `check` reads as its settings, `verify` as its table and `same` as its other
+/// script, in a language: the answer's beginning, as far as there is room, how long it is, its status, and whether it is a refusal. A number
+/// of no command or of no language has no answer: length 0, status 2 and a refusal, and nothing is put into the room.
+#[unsafe(no_mangle)]
+pub extern "C" fn jslint_answer_in(
+    alloc: Global,
+    language: u32,
+    command: u32,
+    text: &[u8],
+    second: &[u8],
+    room: &mut [u8],
+    outcome: &mut Outcome,
+)
+    ensures { Tells command language text.now second.now room.old room.new outcome.new }
+{
+    *outcome = match (command_of(command), choice_of(language)) {
+        (Some(command), Some(choice)) => tell_answer(alloc, command, choice, text, second, room),
+        _ => tell_nothing(),
+    };
+}
+
+/// Answers a command as `jslint_answer_in` does where nothing is said of the language.
 #[unsafe(no_mangle)]
 pub extern "C" fn jslint_answer(
     alloc: Global,
@@ -80,17 +140,10 @@ pub extern "C" fn jslint_answer(
     room: &mut [u8],
     outcome: &mut Outcome,
 )
-    ensures { Tells command text.now second.now room.old room.new outcome.new }
+    ensures { Tells command 0 text.now second.now room.old room.new outcome.new }
 {
     *outcome = match command_of(command) {
-        Some(command) => match run_on_bytes(alloc, command, text, second) {
-            Ok(output) => tell(&output.bytes, output.status, false, room),
-            Err(refused) => tell_refusal(alloc, &refused, room),
-        },
-        None => Outcome {
-            length: 0,
-            status: 2,
-            is_refusal: 1,
-        },
+        Some(command) => tell_answer(alloc, command, LanguageChoice::Unsaid, text, second, room),
+        None => tell_nothing(),
     };
 }

@@ -1,5 +1,5 @@
 -- No value of a tree has a float, so its text is the compact one.
-use Rattle.std.proofs.Common.{◌≡◌, ℕ, zero, suc, Bool, true, false, not, ◌||◌, ◌&&◌, List, [], ◌∷◌, take, drop, Option, Some, None, Ordering, Less, Equal, Greater, refl, ap, ◌∙◌}
+use Rattle.std.proofs.Common.{◌≡◌, ℕ, zero, suc, Bool, true, false, not, ◌||◌, ◌&&◌, ◌-◌, List, [], ◌∷◌, length, take, drop, Option, Some, None, Ordering, Less, Equal, Greater, refl, ap, ◌∙◌}
 use Rattle.std.specs.Cmp.Lexicographic.{slice_cmp}
 use Rattle.std.specs.Ordering.{nat_cmp, match_ordering}
 use Rattle.std.specs.Char.Utf16.{has_unpaired_surrogate, utf16_lossy_chars}
@@ -18,7 +18,7 @@ use Rattle.tree.specs.Kinds.{type_name}
 use Rattle.estree_json.specs.Texts.{text_of_units, unquoted, regex_of, literal_value, literal_regex, is_quoted, cooked_of_units, with_cooked, template_value}
 use Rattle.estree_json.specs.Fields as f
 use Rattle.estree_json.specs.Fields.{Field, Label, fields, directive}
-use Rattle.estree_json.specs.Json.{Made, first_or_null, odd_ones, even_ones, with_value, with_part, with_list, with_turns, with_option, with_field, with_fields, begun, label_of, ends_parts, node_json, parts_json, json_text}
+use Rattle.estree_json.specs.Json.{Made, first_or_null, odd_ones, even_ones, with_value, with_part, with_list, with_ends, with_turns, with_option, with_field, with_fields, begun, label_of, ends_parts, node_json, parts_json, json_text}
 
 both : (a b : Bool) → a ≡ false → b ≡ false → (a || b) ≡ false
 both a b e h = rw (e, h)
@@ -105,6 +105,14 @@ list_fine : (name : List ℕ) (n : ℕ) (m : Made) → Fine m → Fine (with_lis
 unfolding with_list
 list_fine name n m h = record { members = put_fine name _ m.members (take_fine _ m.left h.left) h.members; left = drop_fine _ m.left h.left }
 
+ends_fine : (a b : List ℕ) (m : Made) → Fine m → Fine (with_ends a b m)
+unfolding with_ends
+ends_fine a b m h =
+    record {
+      members = put_fine b _ (put a (first_or_null m.left) m.members) (first_fine (drop (length m.left - 1) m.left) (drop_fine (length m.left - 1) m.left h.left)) (put_fine a _ m.members (first_fine m.left h.left) h.members);
+      left = refl;
+    }
+
 turns_fine : (a b : List ℕ) (m : Made) → Fine m → Fine (with_turns a b m)
 unfolding with_turns
 turns_fine a b m h =
@@ -117,6 +125,7 @@ turns_fine a b m h =
 abbrev field_fine : Field → Bool
 field_fine (f.part name) = true
 field_fine (f.list name behind) = true
+field_fine (f.ends a b) = true
 field_fine (f.turns a b) = true
 field_fine (f.says name d) = not (has_float d)
 field_fine (f.may name o) = option_fine o
@@ -128,6 +137,7 @@ all_fine (x ∷ xs) = field_fine x && all_fine xs
 one_fine : (x : Field) (m : Made) → field_fine x ≡ true → Fine m → Fine (with_field x m)
 one_fine (f.part name) m e h = part_fine (codes name) m h
 one_fine (f.list name behind) m e h = list_fine (codes name) behind m h
+one_fine (f.ends a b) m e h = ends_fine (codes a) (codes b) m h
 one_fine (f.turns a b) m e h = turns_fine (codes a) (codes b) m h
 one_fine (f.says name d) m e h = value_fine (codes name) d m (denied _ e) h
 one_fine (f.may name o) m e h = maybe_fine (codes name) o m e h

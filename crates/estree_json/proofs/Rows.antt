@@ -12,10 +12,10 @@ use Rattle.tree.specs.declared.kind.Kind.TheVariants as k
 use Rattle.tree.specs.declared.kind.Kind.TheVariants.{Identifier}
 use Rattle.tree.specs.declared.kind.Form.TheVariants.{Get, Set, Method, Constructor}
 use Rattle.tree.specs.Tree.{Tree, node, Parts, none, part, gap, parts_from, plain}
-use Rattle.estree_json.specs.Json.{json_text, node_json, parts_json, with_value, with_part, with_list, with_turns, with_option}
+use Rattle.estree_json.specs.Json.{json_text, node_json, parts_json, with_value, with_part, with_list, with_ends, with_turns, with_option}
 
 unfoldable computing : ℕ
-unfolding digits serde_json_on_literals chars utf16_chars node_json parts_json with_value with_part with_list with_turns with_option
+unfolding digits serde_json_on_literals chars utf16_chars node_json parts_json with_value with_part with_list with_ends with_turns with_option
 computing = 0
 
 -- a node with neither text nor flags

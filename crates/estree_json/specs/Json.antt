@@ -41,6 +41,11 @@ unfoldable pub with_list : List ℕ → ℕ → Made → Made
 with_list name behind m =
     record { members = put name (array (items_of (take (length m.left - behind) m.left))) m.members; left = drop (length m.left - behind) m.left }
 
+-- two more members, of the next part and of the last one
+unfoldable pub with_ends : List ℕ → List ℕ → Made → Made
+with_ends first last m =
+    record { members = put last (first_or_null (drop (length m.left - 1) m.left)) (put first (first_or_null m.left) m.members); left = [] }
+
 -- two more members, of the next parts in turns
 unfoldable pub with_turns : List ℕ → List ℕ → Made → Made
 with_turns first second m =
@@ -54,6 +59,7 @@ with_option name (Some d) m = with_value name d m
 abbrev pub with_field : Field → Made → Made
 with_field (f.part name) m = with_part (codes name) m
 with_field (f.list name behind) m = with_list (codes name) behind m
+with_field (f.ends first last) m = with_ends (codes first) (codes last) m
 with_field (f.turns first second) m = with_turns (codes first) (codes second) m
 with_field (f.says name d) m = with_value (codes name) d m
 with_field (f.may name o) m = with_option (codes name) o m

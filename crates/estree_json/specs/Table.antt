@@ -6,10 +6,11 @@ use Rattle.serde_json.specs.View.{items_of}
 use Rattle.estree_json.specs.declared.table.Member.{Member}
 use Rattle.estree_json.specs.declared.table.Member.TheVariants as line
 use Rattle.estree_json.specs.declared.table.FlagSource.{FlagSource}
-use Rattle.estree_json.specs.declared.table.FlagSource.TheVariants.{Never, Always, Computed, Expression, Method, Optional, Prefix, Shorthand, Static}
+use Rattle.estree_json.specs.declared.table.FlagSource.TheVariants.{Always, Async, Computed, Expression, Generator, Method, Optional, Prefix, Shorthand, Static}
 use Rattle.tree.specs.Kinds.{type_name}
+use Rattle.tree.specs.Uses.{is_generator, is_async}
 use Rattle.estree_json.specs.Texts.{literal_value, literal_regex, template_value}
-use Rattle.estree_json.specs.Fields.{Label, fields, property_kind, method_kind, is_method, is_shorthand, directive}
+use Rattle.estree_json.specs.Fields.{Label, fields, property_kind, method_kind, is_method, is_shorthand, source_type, directive}
 use Rattle.tree.specs.Tree.{Tree, kind_of, start_of, stop_of, parts_of}
 use Rattle.estree_json.specs.Json.{first_or_null, odd_ones, begun, with_fields, label_of, parts_json}
 
@@ -26,10 +27,11 @@ abbrev pub subject_of : Bool → Tree → Subject
 subject_of is_last t = record { is_last = is_last; kind = kind_of t; label = label_of t; start = start_of t; stop = stop_of t; values = parts_json (parts_of t) }
 
 abbrev pub flag_of : FlagSource → Label → Bool
-flag_of Never l = false
 flag_of Always l = true
+flag_of Async l = is_async l.flags.form
 flag_of Computed l = l.flags.computed
 flag_of Expression l = l.flags.expression
+flag_of Generator l = is_generator l.flags.form
 flag_of Method l = is_method l.flags.form
 flag_of Optional l = l.flags.optional
 flag_of Prefix l = l.flags.prefix
@@ -51,9 +53,9 @@ key_of (line.List name skip behind) = name.now
 key_of (line.PartFromEnd name skip behind) = name.now
 key_of (line.EveryOther name skip) = name.now
 key_of (line.Null name) = name.now
-key_of (line.Constant name word) = name.now
 key_of (line.Text name) = name.now
 key_of (line.Boolean name flag) = name.now
+key_of line.SourceType = codes "sourceType"
 key_of line.PropertyKind = codes "kind"
 key_of line.MethodKind = codes "kind"
 key_of line.Directive = codes "directive"
@@ -72,9 +74,9 @@ value_of x (line.List name skip behind) = Some (array (items_of (take (length (f
 value_of x (line.PartFromEnd name skip behind) = Some (first_or_null (drop (length (from skip x.values) - behind) (from skip x.values)))
 value_of x (line.EveryOther name skip) = Some (array (items_of (odd_ones (from skip x.values))))
 value_of x (line.Null name) = Some null
-value_of x (line.Constant name word) = Some (string word.now)
 value_of x (line.Text name) = Some (string x.label.text)
 value_of x (line.Boolean name flag) = Some (boolean (flag_of flag x.label))
+value_of x line.SourceType = Some (string (source_type x.label.text))
 value_of x line.PropertyKind = Some (string (property_kind x.label.flags.form))
 value_of x line.MethodKind = Some (string (method_kind x.label.flags.form))
 value_of x line.Directive = directive x.label

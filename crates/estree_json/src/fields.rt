@@ -3,7 +3,7 @@
 ghost use Rattle.std.specs.Prelude.{◌≡◌};
 ghost use Rattle.tree.specs.Node.{node_tree};
 ghost use Rattle.tree.specs.Tree.{parts_of};
-ghost use Rattle.estree_json.specs.Fields.{first_text as text_of_first, property_kind as kind_of_property, method_kind as kind_of_method};
+ghost use Rattle.estree_json.specs.Fields.{first_text as text_of_first, property_kind as kind_of_property, method_kind as kind_of_method, source_type};
 ghost use Rattle.estree_json.specs.Json.{label_of};
 ghost use Rattle.estree_json.specs.Table.{flag_of};
 
@@ -16,10 +16,11 @@ pub(crate) fn is_set(flag: &FlagSource, node: Node) -> bool
 {
     let flags = node.flags();
     match flag {
-        FlagSource::Never => false,
         FlagSource::Always => true,
+        FlagSource::Async => flags.form.is_async(),
         FlagSource::Computed => flags.computed,
         FlagSource::Expression => flags.expression,
+        FlagSource::Generator => flags.form.is_generator(),
         FlagSource::Method => flags.form == Form::Method,
         FlagSource::Optional => flags.optional,
         FlagSource::Prefix => flags.prefix,
@@ -36,6 +37,16 @@ pub(crate) fn first_text<'t>(node: Node<'t, '_>) -> &'t str
         Some(part) => part.text(),
         None => "",
     }
+}
+
+/// `sourceType` of a Program, by its text.
+pub(crate) fn source_type(text: &str) -> &'static str
+    ensures { result.now ≡ source_type text.now }
+{
+    if text == "module" {
+        return "module";
+    }
+    "script"
 }
 
 /// `kind` of a property.

@@ -8,7 +8,7 @@ ghost use Rattle.tree.specs.Tree.{part_count, parts_of};
 ghost use Rattle.estree_json.specs.Json.{first_or_null, odd_ones, node_json, parts_json, json_of};
 ghost use Rattle.estree_json.specs.Table.{value_of, put_line as with_line, subject_of, from as parts_from};
 
-use crate::fields::{is_set, method_kind, property_kind};
+use crate::fields::{is_set, method_kind, property_kind, source_type};
 use crate::table::{Member, member_table};
 use crate::values::{directive_value, literal_regex, literal_value, template_value, text_value};
 use serde_json::{Map, Value};
@@ -81,9 +81,9 @@ fn member_value(
         }
         Member::EveryOther(_, from) => every_other_value(alloc, node, *from),
         Member::Null(_) => Ok(Some(Value::Null)),
-        Member::Constant(_, word) => text_value(alloc, word),
         Member::Text(_) => text_value(alloc, node.text()),
         Member::Boolean(_, flag) => Ok(Some(Value::Bool(is_set(flag, node)))),
+        Member::SourceType => text_value(alloc, source_type(node.text())),
         Member::PropertyKind => text_value(alloc, property_kind(node.flags().form)),
         Member::MethodKind => text_value(alloc, method_kind(node.flags().form)),
         Member::Directive => directive_value(alloc, node),

@@ -14,7 +14,7 @@ use crate::events::{
     SerializeRefused, begin_array, begin_object, end_array, end_object, serialize_key,
     serialize_null,
 };
-use crate::fields::{is_set, method_kind, property_kind};
+use crate::fields::{is_set, method_kind, property_kind, source_type};
 use crate::member::{
     boolean_member, directive_member, end_member, literal_member, null_member, regex_member,
     start_member, template_member, text_member, type_member,
@@ -65,9 +65,9 @@ fn serialize_member<S: Serializer>(
         }
         Member::EveryOther(name, from) => every_other_member(out, error, estree, name, *from),
         Member::Null(name) => null_member(out, error, name),
-        Member::Constant(name, word) => text_member(out, error, name, word),
         Member::Text(name) => text_member(out, error, name, node.text()),
         Member::Boolean(name, flag) => boolean_member(out, error, name, is_set(flag, node)),
+        Member::SourceType => text_member(out, error, "sourceType", source_type(node.text())),
         Member::PropertyKind => text_member(out, error, "kind", property_kind(node.flags().form)),
         Member::MethodKind => text_member(out, error, "kind", method_kind(node.flags().form)),
         Member::Directive => directive_member(out, error, node),

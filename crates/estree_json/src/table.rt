@@ -1,21 +1,22 @@
-//! The members of a node's object by its kind (ESTree, es5 to es2020), in the order of their keys: each line has the key and where
+//! The members of a node's object by its kind (ESTree, es5 to es2022), in the order of their keys: each line has the key and where
 //! the value is.
 
 ghost use Rattle.std.specs.Prelude.{◌≡◌};
 ghost use Rattle.estree_json.specs.Table.{InOrder, PutsAll, key_of};
 
 use self::Member::{
-    Boolean, Constant, Directive, End, EveryOther, List, LiteralRegex, LiteralValue, MethodKind,
-    Null, Part, PartFromEnd, PropertyKind, Start, Tail, TemplateValue, Text, Type,
+    Boolean, Directive, End, EveryOther, List, LiteralRegex, LiteralValue, MethodKind, Null, Part,
+    PartFromEnd, PropertyKind, SourceType, Start, Tail, TemplateValue, Text, Type,
 };
 use tree::Kind;
 
 /// What says yes or no of a node.
 pub enum FlagSource {
-    Never,
     Always,
+    Async,
     Computed,
     Expression,
+    Generator,
     Method,
     Optional,
     Prefix,
@@ -41,12 +42,12 @@ pub enum Member {
     EveryOther(&'static str, usize),
     /// Null.
     Null(&'static str),
-    /// A word.
-    Constant(&'static str, &'static str),
     /// The node's text.
     Text(&'static str),
     /// Yes or no.
     Boolean(&'static str, FlagSource),
+    /// `sourceType`.
+    SourceType,
     /// `kind` of a property.
     PropertyKind,
     /// `kind` of a method.
@@ -77,9 +78,9 @@ impl Member {
             | PartFromEnd(key, _, _)
             | EveryOther(key, _)
             | Null(key)
-            | Constant(key, _)
             | Text(key)
             | Boolean(key, _) => key,
+            SourceType => "sourceType",
             PropertyKind | MethodKind => "kind",
             Directive => "directive",
             LiteralValue | TemplateValue => "value",
@@ -96,7 +97,7 @@ pub(crate) fn member_table(kind: Kind) -> &'static [Member]
     ensures put { PutsAll kind result.now }
 {
     match kind {
-        Kind::Identifier => &[End, Text("name"), Start, Type],
+        Kind::Identifier | Kind::PrivateIdentifier => &[End, Text("name"), Start, Type],
         Kind::Literal => &[End, Text("raw"), LiteralRegex, Start, Type, LiteralValue],
         Kind::TemplateLiteral => &[
             End,
@@ -107,21 +108,21 @@ pub(crate) fn member_table(kind: Kind) -> &'static [Member]
         ],
         Kind::TemplateElement => &[End, Start, Tail, Type, TemplateValue],
         Kind::FunctionDeclaration | Kind::FunctionExpression => &[
-            Boolean("async", FlagSource::Never),
+            Boolean("async", FlagSource::Async),
             PartFromEnd("body", 1, 1),
             End,
-            Boolean("generator", FlagSource::Never),
+            Boolean("generator", FlagSource::Generator),
             Part("id", 0),
             List("params", 1, 1),
             Start,
             Type,
         ],
         Kind::ArrowFunctionExpression => &[
-            Boolean("async", FlagSource::Never),
+            Boolean("async", FlagSource::Async),
             PartFromEnd("body", 0, 1),
             End,
             Boolean("expression", FlagSource::Expression),
-            Boolean("generator", FlagSource::Never),
+            Boolean("generator", FlagSource::Generator),
             Null("id"),
             List("params", 0, 1),
             Start,
@@ -135,7 +136,16 @@ pub(crate) fn member_table(kind: Kind) -> &'static [Member]
             Part("superClass", 1),
             Type,
         ],
-        Kind::ClassBody => &[List("body", 0, 0), End, Start, Type],
+        Kind::ClassBody | Kind::StaticBlock => &[List("body", 0, 0), End, Start, Type],
+        Kind::PropertyDefinition => &[
+            Boolean("computed", FlagSource::Computed),
+            End,
+            Part("key", 0),
+            Start,
+            Boolean("static", FlagSource::Static),
+            Type,
+            Part("value", 1),
+        ],
         Kind::MethodDefinition => &[
             Boolean("computed", FlagSource::Computed),
             End,
@@ -164,7 +174,19 @@ pub(crate) fn member_table(kind: Kind) -> &'static [Member]
             Start,
             Type,
         ],
-        Kind::SpreadElement | Kind::RestElement => &[Part("argument", 0), End, Start, Type],
+        Kind::SpreadElement | Kind::RestElement | Kind::AwaitExpression => &[
+            Part("argument", 0),
+            End,
+            Start,
+            Type,
+        ],
+        Kind::YieldExpression => &[
+            Part("argument", 0),
+            Boolean("delegate", FlagSource::Generator),
+            End,
+            Start,
+            Type,
+        ],
         Kind::AssignmentPattern => &[End, Part("left", 0), Part("right", 1), Start, Type],
         Kind::SequenceExpression => &[End, List("expressions", 0, 0), Start, Type],
         Kind::ConditionalExpression => &[
@@ -221,10 +243,41 @@ pub(crate) fn member_table(kind: Kind) -> &'static [Member]
         ],
         Kind::MetaProperty => &[End, Part("meta", 0), Part("property", 1), Start, Type],
         Kind::TaggedTemplateExpression => &[End, Part("quasi", 1), Start, Part("tag", 0), Type],
-        Kind::Program => &[
-            List("body", 0, 0),
+        Kind::Program => &[List("body", 0, 0), End, SourceType, Start, Type],
+        Kind::ImportDeclaration => &[
             End,
-            Constant("sourceType", "script"),
+            PartFromEnd("source", 0, 1),
+            List("specifiers", 0, 1),
+            Start,
+            Type,
+        ],
+        Kind::ImportSpecifier => &[
+            End,
+            Part("imported", 0),
+            PartFromEnd("local", 0, 1),
+            Start,
+            Type,
+        ],
+        Kind::ImportDefaultSpecifier | Kind::ImportNamespaceSpecifier => &[
+            End,
+            Part("local", 0),
+            Start,
+            Type,
+        ],
+        Kind::ExportNamedDeclaration => &[
+            Part("declaration", 0),
+            End,
+            PartFromEnd("source", 1, 1),
+            List("specifiers", 1, 1),
+            Start,
+            Type,
+        ],
+        Kind::ExportDefaultDeclaration => &[Part("declaration", 0), End, Start, Type],
+        Kind::ExportAllDeclaration => &[End, Part("exported", 0), Part("source", 1), Start, Type],
+        Kind::ExportSpecifier => &[
+            End,
+            PartFromEnd("exported", 0, 1),
+            Part("local", 0),
             Start,
             Type,
         ],
@@ -278,7 +331,7 @@ pub(crate) fn member_table(kind: Kind) -> &'static [Member]
             Type,
         ],
         Kind::ForOfStatement => &[
-            Boolean("await", FlagSource::Never),
+            Boolean("await", FlagSource::Async),
             Part("body", 2),
             End,
             Part("left", 0),

@@ -11,6 +11,8 @@ use Rattle.clap.specs.declared.error.kind.ErrorKind.TheVariants as error_kind
 use Rattle.source_text.specs.declared.fault.Fault.{Fault}
 use Rattle.source_text.specs.declared.fault.Fault.TheVariants.{OutOfMemory, ReadFailed, Usage, WriteFailed}
 use Rattle.command_line.specs.CommandLine.{Chooses, is_asked_for, jslint_app, not_utf8_line}
+use Rattle.command_line.specs.AskedLanguage.{language_of, mistake_line}
+use Rattle.command_line.specs.declared.asked_language.LanguageMistake.{LanguageMistake}
 use Rattle.command_line.specs.Tip.{WritesMistake, tip_of}
 use Rattle.command_line.specs.Unread.{unread_line}
 use Rattle.command_line.specs.declared.line.Line.{Line}
@@ -18,6 +20,7 @@ use Rattle.command_line.specs.declared.unread.ReadFailure.{ReadFailure}
 use Rattle.command_line.specs.declared.unread.ReadFailure.TheVariants.{Missing, Folder, NotPermitted, LinkCircle, Twice, Other}
 use Rattle.shipped_rules.specs.ShippedRules.{RunsByRules}
 use Rattle.commands.specs.Refusal.{WritesLine, refusal_line, status_of}
+use Rattle.commands.specs.declared.language_choice.LanguageChoice.{LanguageChoice}
 use Rattle.commands.specs.declared.refused.Refused.{Refused}
 use Rattle.jslint.specs.Opened.{is_input}
 use Rattle.jslint.specs.declared.files.Stop.{Stop}
@@ -43,9 +46,9 @@ IsNamed line name = (name ≡ line.file.now) ⊎ (second_name line ≡ Some name
 abbrev pub Contents : Type 1
 Contents = Text → Option (List ℕ) → Type 0
 
--- a run of a line's command, by what its two readers have to give and what its writer took, and which of them has failed
-abbrev pub RunsOver : Line → (given second before after : Option (List ℕ)) → (reader_failed second_failed writer_failed : Bool) → Result ℕ Refused → Type 0
-RunsOver line given second before after reader_failed second_failed writer_failed result = RunsByRules line.command (record {
+-- a run of a line's command in a language, by what its two readers have to give and what its writer took, and which of them has failed
+abbrev pub RunsOver : Line → LanguageChoice → (given second before after : Option (List ℕ)) → (reader_failed second_failed writer_failed : Bool) → Result ℕ Refused → Type 0
+RunsOver line choice given second before after reader_failed second_failed writer_failed result = RunsByRules line.command choice (record {
   given = given;
   second = second;
   before = before;
@@ -57,7 +60,7 @@ RunsOver line given second before after reader_failed second_failed writer_faile
 
 -- A run over the files of a line, which were opened, by what the writer took before and after, and whether it has failed. What was read is
 -- what there is to read under their names; a second file that isn't named is empty, and doesn't fail.
-pub record RunsOpened (gives : Contents) (line : Line) (before after : Option (List ℕ)) (failed : Bool) (result : Result ℕ Refused) : Type 0 where
+pub record RunsOpened (gives : Contents) (line : Line) (choice : LanguageChoice) (before after : Option (List ℕ)) (failed : Bool) (result : Result ℕ Refused) : Type 0 where
   pub given : Option (List ℕ)
   pub second : Option (List ℕ)
   pub reader_failed : Bool
@@ -65,7 +68,7 @@ pub record RunsOpened (gives : Contents) (line : Line) (before after : Option (L
   pub is_given : gives line.file.now given
   pub is_second : IfSome (second_name line) (λ name. gives name second)
   pub unnamed : line.second ≡ None → (second ≡ Some []) × (second_failed ≡ false)
-  pub runs : RunsOver line given second before after reader_failed second_failed failed result
+  pub runs : RunsOver line choice given second before after reader_failed second_failed failed result
 
 -- the name of a file that can't be opened is that of a file of the line, and nothing was written
 abbrev pub IsUnopened : Line → Option (List ℕ) → Option (List ℕ) → Bool → Text → Type 0
@@ -78,16 +81,16 @@ IsOfFailed line reader_failed second_failed name =
     ((reader_failed ≡ true) × (name ≡ line.file.now)) ⊎ ((second_failed ≡ true) × (second_name line ≡ Some name))
 
 -- a run over opened files was refused since one failed, and that is the file of this name
-abbrev pub IsUnread : Contents → Line → Option (List ℕ) → Option (List ℕ) → Bool → Text → Type 0
-IsUnread gives line before after failed name =
-    (run : RunsOpened gives line before after failed (Err no_file)) × IsOfFailed line run.reader_failed run.second_failed name
+abbrev pub IsUnread : Contents → Line → LanguageChoice → Option (List ℕ) → Option (List ℕ) → Bool → Text → Type 0
+IsUnread gives line choice before after failed name =
+    (run : RunsOpened gives line choice before after failed (Err no_file)) × IsOfFailed line run.reader_failed run.second_failed name
 
 -- A run over the files of a line: its status; or its refusal; or the name of the file that can't be opened or read, for which there is no
 -- other refusal.
-abbrev pub RunsOnce : Contents → Line → Option (List ℕ) → Option (List ℕ) → Bool → Result ℕ Stop → Type 0
-RunsOnce gives line before after failed (Ok status) = RunsOpened gives line before after failed (Ok status)
-RunsOnce gives line before after failed (Err (Refuses refused)) = (refused.fault ≢ ReadFailed) × RunsOpened gives line before after failed (Err refused)
-RunsOnce gives line before after failed (Err (Unread name failure)) = IsUnopened line before after failed name.now ⊎ IsUnread gives line before after failed name.now
+abbrev pub RunsOnce : Contents → Line → LanguageChoice → Option (List ℕ) → Option (List ℕ) → Bool → Result ℕ Stop → Type 0
+RunsOnce gives line choice before after failed (Ok status) = RunsOpened gives line choice before after failed (Ok status)
+RunsOnce gives line choice before after failed (Err (Refuses refused)) = (refused.fault ≢ ReadFailed) × RunsOpened gives line choice before after failed (Err refused)
+RunsOnce gives line choice before after failed (Err (Unread name failure)) = IsUnopened line before after failed name.now ⊎ IsUnread gives line choice before after failed name.now
 
 -- a line whose files are both standard input is refused for that; nothing was written
 abbrev pub RefusesTwice : Line → Option (List ℕ) → Option (List ℕ) → Bool → Result ℕ Stop → Type 0
@@ -95,9 +98,9 @@ RefusesTwice line before after failed (Err (Unread name Twice)) = (failed ≡ fa
 RefusesTwice line before after failed other = ⊥
 
 -- a run over the files of a line: standard input is read once
-abbrev pub RunsOnFiles : Contents → Line → Option (List ℕ) → Option (List ℕ) → Bool → Result ℕ Stop → Type 0
-RunsOnFiles gives line before after failed result =
-    ((is_twice line ≡ true) × RefusesTwice line before after failed result) ⊎ ((is_twice line ≡ false) × RunsOnce gives line before after failed result)
+abbrev pub RunsOnFiles : Contents → Line → LanguageChoice → Option (List ℕ) → Option (List ℕ) → Bool → Result ℕ Stop → Type 0
+RunsOnFiles gives line choice before after failed result =
+    ((is_twice line ≡ true) × RefusesTwice line before after failed result) ⊎ ((is_twice line ≡ false) × RunsOnce gives line choice before after failed result)
 
 -- what becomes of a refusal of a run over opened files, by the name of the file that failed, where one did
 abbrev pub StopsBy : Refused → Text → Stop → Type 0
@@ -149,10 +152,14 @@ Ends (Ok done) errors status = (status ≡ done) × IsKept errors
 Ends (Err (Refuses refused)) errors status = (status ≡ status_of refused.fault) × GetsLine (refusal_line refused) errors
 Ends (Err (Unread name failure)) errors status = (status ≡ status_of ReadFailed) × GetsLine (unread_line name.now failure) errors
 
--- a line was run over its files
+-- a line was run over its files in the language that it asks for, or it was said that it asks for none
+abbrev pub RunsLineIn : Contents → Line → Result LanguageChoice LanguageMistake → Written → Written → ℕ → Type 0
+RunsLineIn gives line (Ok choice) output errors status =
+    (answer : Result ℕ Stop) × RunsOnFiles gives line choice output.before output.after output.failed answer × Ends answer errors status
+RunsLineIn gives line (Err mistake) output errors status = IsKept output × (status ≡ 2) × GetsLine (mistake_line mistake) errors
+
 abbrev pub RunsLine : Contents → Line → Written → Written → ℕ → Type 0
-RunsLine gives line output errors status =
-    (answer : Result ℕ Stop) × RunsOnFiles gives line output.before output.after output.failed answer × Ends answer errors status
+RunsLine gives line output errors status = RunsLineIn gives line (language_of (option_map (λ s. s.now) line.edition) line.is_module) output errors status
 
 -- the words are a line, which was run
 abbrev pub RunsWords : Contents → List Text → Written → Written → ℕ → Type 0

@@ -14,7 +14,9 @@ ghost use Rattle.std.specs.Prelude.{◌≡◌, false, map};
 ghost use Rattle.jslint.specs.Opened.{Gives};
 ghost use Rattle.jslint.specs.Program.{Answers, NoWordsSaid, Obeys, RunsLine, written};
 
-use command_line::{Line, command_line, explain, explain_not_utf8, explain_unread};
+use command_line::{
+    Line, command_line, explain, explain_language, explain_not_utf8, explain_unread,
+};
 use commands::{Refused, write_refusal};
 use files::{Stop, open_and_run};
 use source_text::{Device, Fault, Sink};
@@ -55,7 +57,7 @@ fn explain_no_words<W: Sink>(why: NoWords, errors: &mut W) -> u8
     }
 }
 
-/// Runs a line over its files, and says why where it is refused. Answers the exit status.
+/// Runs a line over its files, in the language that it asks for, and says why where it is refused. Answers the exit status.
 fn run_line<R: Files + Input + AllocGlobal, O: Sink, W: Sink>(
     rt: &R,
     line: Line,
@@ -66,7 +68,11 @@ fn run_line<R: Files + Input + AllocGlobal, O: Sink, W: Sink>(
     requires tells { W.failed errors.old ≡ false }
     ensures { RunsLine (Gives R.File.remaining R.Reader.remaining) line.entry (written O.taken O.failed output.old output.new) (written W.taken W.failed errors.old errors.new) result }
 {
-    match open_and_run(rt, line, output) {
+    let choice = match line.language() {
+        Ok(choice) => choice,
+        Err(mistake) => return explain_language(mistake, errors),
+    };
+    match open_and_run(rt, line, choice, output) {
         Ok(status) => status,
         Err(Stop::Unread(name, failure)) => explain_unread(name, failure, errors),
         Err(Stop::Refuses(refused)) => write_refusal(&refused, errors),

@@ -3,7 +3,7 @@ ghost use Rattle.std.specs.Prelude.{◌≡◌, IfOk, false};
 use super::files::{Stop, open_and_run};
 use super::run_arguments;
 use command_line::{Line, ReadFailure};
-use commands::{Command, ReportForm};
+use commands::{Command, LanguageChoice, ReportForm};
 use source_text::{FailurePlan, MemorySink};
 use std::alloc::{AllocError, Global};
 use std::test::Fail;
@@ -81,8 +81,10 @@ fn files_that_cannot_be_read(rt: HostRuntime) -> Result<(), Fail> {
             command,
             file,
             second,
+            edition: None,
+            is_module: false,
         };
-        let got = open_and_run(&rt, line, &mut output);
+        let got = open_and_run(&rt, line, LanguageChoice::Unsaid, &mut output);
         assert_eq!(rt; got, Err(Stop::Unread(unread, failure)), "{line:?}");
         assert!(rt; output.bytes().is_empty(), "{line:?}");
     }
@@ -111,6 +113,31 @@ fn refusals_go_to_the_errors(rt: HostRuntime) -> Result<(), Fail> {
         2
     );
     assert!(rt; output.bytes().is_empty());
+    Ok(())
+}
+
+/// Words that ask for no language are refused in a line, and no file is opened.
+#[test]
+fn words_of_no_language(rt: HostRuntime) -> Result<(), Fail> {
+    for (edition, is_module, line) in [
+        ("2021", false, "jslint: --edition is 2020 or 2022\n"),
+        ("", false, "jslint: --edition is 2020 or 2022\n"),
+        ("es2022", true, "jslint: --edition is 2020 or 2022\n"),
+        (
+            "2020",
+            true,
+            "jslint: --module doesn't go with --edition 2020\n",
+        ),
+    ] {
+        let mut output = writer(rt.alloc())?;
+        let mut errors = writer(rt.alloc())?;
+        let flag = if is_module { "--module" } else { "--" };
+        let words = ["jslint", "fix", "--edition", edition, flag, "no such file"];
+        let status = run_arguments(&rt, &words, &mut output, &mut errors);
+        assert_eq!(rt; status, 2);
+        assert!(rt; output.bytes().is_empty(), "{words:?}");
+        assert_eq!(rt; errors.bytes(), line.as_bytes());
+    }
     Ok(())
 }
 

@@ -1,6 +1,7 @@
 pub mod climbing
 pub mod covers
 pub mod examples
+pub mod languages
 pub mod layout
 pub mod list_loops
 pub mod lower_bound

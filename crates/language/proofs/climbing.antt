@@ -1,7 +1,9 @@
 -- An expression, from its leftmost part over the operators, one turn after the other.
 pub mod Arrows
 pub mod AsExpressions
+pub mod AsyncNames
 pub mod BinaryTurns
+pub mod BraceStarts
 pub mod Callees
 pub mod Calls
 pub mod ChainElements
@@ -13,10 +15,12 @@ pub mod FunctionsAndClasses
 pub mod Groups
 pub mod Leaves
 pub mod LeftmostParts
+pub mod NamesBehind
 pub mod NewExpressions
 pub mod NoContinuation
 pub mod OperatorLoop
 pub mod OperatorNodes
+pub mod OtherStarts
 pub mod Prefixes
 pub mod RightOperands
 pub mod Sequences
@@ -28,3 +32,4 @@ pub mod Supers
 pub mod Targets
 pub mod Turns
 pub mod Wholes
+pub mod Yields

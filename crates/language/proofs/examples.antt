@@ -1,4 +1,6 @@
 -- Examples that compute.
+pub mod AwaitExamples
+pub mod YieldExamples
 pub mod ClassExamples
 pub mod CoverExamples
 pub mod ExpressionExamples

@@ -1,11 +1,17 @@
 -- The layout: that what is printed is read again as it was.
 pub mod BigIntLiterals
+pub mod ClosingItems
 pub mod DerivedFits
 pub mod FixedReads
+pub mod KeptNames
+pub mod ToldNames
 pub mod LaidItems
+pub mod LaidTexts
 pub mod LayoutPairs
 pub mod LiteralsApart
+pub mod LooseReadings
 pub mod NextFresh
+pub mod NoHashbang
 pub mod OpenBound
 pub mod PrintedSpells
 pub mod PunctuatorsApart

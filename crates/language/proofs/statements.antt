@@ -1,7 +1,6 @@
 -- Statements, functions and classes, from what is found of their parts.
 pub mod Blocks
 pub mod BoundTargets
-pub mod ClassMembers
 pub mod DanglingElse
 pub mod Declarators
 pub mod ExpressionStatements

@@ -5,6 +5,8 @@ pub mod BeforeIt
 pub mod Beginnings
 pub mod Begins
 pub mod BeginsNodes
+pub mod ClosingPieces
+pub mod ClosingTable
 pub mod EachPiece
 pub mod EndTable
 pub mod EndsOf
@@ -48,6 +50,7 @@ pub mod ShorthandPieces
 pub mod ShorthandTable
 pub mod Shorthands
 pub mod SoleWays
+pub mod StartTable
 pub mod StatementWays
 pub mod Tails
 pub mod TidyTable

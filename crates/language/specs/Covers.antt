@@ -1,7 +1,7 @@
 -- Covers: what is read before it is known whether it is an expression or a pattern (ECMA-262 12.2.6, 12.2.10, 12.15.5, 14.2). The tree of a
 -- cover is that of the expression; a name with a default in an object, which is in no expression (CoverInitializedName, 12.2.6), is a
 -- property of the form Shorthand whose value is the assignment.
-use Rattle.std.specs.Prelude.{◌≡◌, ℕ, Bool, true, false, not, cond, List, [], Option, Some, None}
+use Rattle.std.specs.Prelude.{◌≡◌, ℕ, Bool, true, false, cond, List, [], Option, Some, None}
 use Rattle.tree.specs.declared.kind.Kind.{Kind}
 use Rattle.tree.specs.declared.kind.Kind.TheVariants.{Identifier, MemberExpression, ArrayExpression, ObjectExpression, AssignmentExpression, SpreadElement, Property, ArrayPattern, ObjectPattern, AssignmentPattern, RestElement}
 use Rattle.tree.specs.declared.kind.Flags.{Flags}

@@ -2,16 +2,18 @@
 -- at e; behind s is the token before s.
 use Rattle.std.specs.Prelude.{◌≡◌, ℕ, suc, ◌+◌, ◌-◌, true, false, cond, List, [], ◌∷◌, ◌++◌, Bool, IsTrue, codes}
 use Rattle.tokens.specs.declared.token.TokenClass.{TokenClass}
-use Rattle.tokens.specs.declared.token.TokenClass.TheVariants.{IdentifierName, Punctuator}
+use Rattle.tokens.specs.declared.token.TokenClass.TheVariants.{IdentifierName, Punctuator, Keyword}
 use Rattle.language.specs.declared.Rank.{Rank}
 use Rattle.language.specs.declared.Rank.TheVariants.{Expression}
 use Rattle.language.specs.declared.Start.{Start}
 use Rattle.language.specs.declared.Start.TheVariants.{Any}
 use Rattle.tree.specs.declared.kind.Pair.{Pair}
-use Rattle.tree.specs.Tree.{Tree, Parts, none, part, gap, start_of, stop_of, parts_of}
-use Rattle.language.specs.Pieces.{Role, expr, template_element, shorthand_key, script, Ending, PieceOf, tok, may, many, ahead, unbroken, ending, open_parameters, close_parameters, sub, absent, lay, Hint}
+use Rattle.tree.specs.declared.kind.Kind.TheVariants.{Identifier}
+use Rattle.tree.specs.Tree.{Tree, node, plain, Parts, none, part, gap, start_of, stop_of, parts_of}
+use Rattle.language.specs.Pieces.{Role, expr, word, key, template_element, shorthand_key, script, Ending, PieceOf, tok, may, many, ahead, unbroken, no_operand, ending, open_parameters, close_parameters, sub, absent, lay, Hint}
 use Rattle.language.specs.Token.{Token}
-use Rattle.language.specs.Edges.{may_omit_semicolon}
+use Rattle.language.specs.Vocabulary.{is_keyword}
+use Rattle.language.specs.Edges.{may_omit_semicolon, begins_no_operand}
 
 pub data Among {X : Type 0} (x : X) : List X → Type 0 where
   first : {xs : List X} → Among x (x ∷ xs)
@@ -44,6 +46,7 @@ module _ (S : Type 0) (Next : S → Token → S → Type 0) (behind : S → Toke
     no_more : {w : List ℕ} {s : S} → Step (many w) s s
     seen : {w : List ℕ} {t : Token} {s e : S} → Reads IdentifierName w s t e → Step (ahead w) s s
     same_line : {t : Token} {s e : S} → Next s t e → t.after_break ≡ false → Step unbroken s s
+    left_bare : {t : Token} {s e : S} → Next s t e → IsTrue (begins_no_operand t) → Step no_operand s s
     explicit : {x : Ending} {t : Token} {s e : S} → Reads Punctuator (codes ";") s t e → Step (ending x) s e
     implicit : {x : Ending} {t : Token} {s e : S} → Next s t e → IsTrue (may_omit_semicolon x (behind s) t) → Step (ending x) s s
     laid : {h : Hint} {s : S} → Step (lay h) s s
@@ -55,14 +58,19 @@ module _ (S : Type 0) (Next : S → Token → S → Type 0) (behind : S → Toke
 -- Ways are the ways to spell a node directly at a position: those of the whole language (`ways`), or fewer.
 module _ (Ways : Role → Tree → List (List (PieceOf Role))) (S : Type 0) (Next : S → Token → S → Type 0) (behind : S → Token) where
   mutual
-    -- From s to e the tokens spell the node at the position, with at most o parentheses open at one point that group or hold
-    -- an arrow's parameters; the list has the grouping pairs, in order of their opening parentheses.
+    -- From s to e the tokens spell the node at the position, with at most o parentheses open at one point that group or hold the
+    -- parameters of an arrow that isn't async; the list has the grouping pairs, in order of their opening parentheses.
     pub data Spells : ℕ → Role → Tree → S → S → List Pair → Type 0 where
       direct : {o : ℕ} {a : Role} {n : Tree} {s e : S} {P : List Pair} →
           (qs : List (PieceOf Role)) → Among qs (Ways a n) → Placed S Next behind a n s e → Runs o qs (parts_of n) s e P → Spells o a n s e P
       grouped : {o : ℕ} {y : Rank} {i : Bool} {f : Start} {n : Tree} {left right : Token} {s m l e : S} {P : List Pair} →
           Reads S Next behind Punctuator (codes "(") s left m → Spells o (expr Expression true Any) n m l P → Reads S Next behind Punctuator (codes ")") l right e →
           Spells (suc o) (expr y i f) n s e (pair_of left right ∷ P)
+      -- a word that the language reserves is a name where any word is one: a key, and what stands behind a dot
+      reserved_key : {o : ℕ} {n : Tree} {w : List ℕ} {t : Token} {s e : S} →
+          Reads S Next behind Keyword w s t e → is_keyword w ≡ true → n ≡ node Identifier w plain t.start (behind e).stop none → Spells o key n s e []
+      reserved_word : {o : ℕ} {n : Tree} {w : List ℕ} {t : Token} {s e : S} →
+          Reads S Next behind Keyword w s t e → is_keyword w ≡ true → n ≡ node Identifier w plain t.start (behind e).stop none → Spells o word n s e []
 
     -- the same of the pieces of a spelling and the parts of the node
     pub data Runs : ℕ → List (PieceOf Role) → Parts → S → S → List Pair → Type 0 where

@@ -1,5 +1,5 @@
 -- Scripts of the 11th edition of ECMA-262: tokens of that edition, and no logical assignments.
-use Rattle.std.specs.Prelude.{ℕ, Bool, false, cond, List, []}
+use Rattle.std.specs.Prelude.{ℕ, Bool, cond, List, []}
 use Rattle.std.specs.Str.{IsUtf8}
 use Rattle.tree.specs.declared.kind.Kind.TheVariants.{AssignmentExpression}
 use Rattle.tree.specs.declared.kind.Pair.{Pair}
@@ -9,6 +9,7 @@ use Rattle.tokens.specs.Tokens.{LexicalToken}
 use Rattle.tokens.specs.Earlier.{EarlierReads, new_punctuators}
 use Rattle.language.specs.Token.{Token, as_read}
 use Rattle.language.specs.Vocabulary.{among}
+use Rattle.language.specs.Later.{is_later}
 use Rattle.language.specs.Pieces.{Role, script, PieceOf}
 use Rattle.language.specs.Grammar.{ways}
 use Rattle.language.specs.Cursor.{beginning}
@@ -20,10 +21,10 @@ use Rattle.language.specs.Claims.{DerivesOpen}
 pub data EarlierNextIn (text : List ℕ) : Token → Token → Token → Type 0 where
   earlier_next_in : {s : Token} {t : LexicalToken} → (goal : Goal) → EarlierReads text goal s.stop t → EarlierNextIn text s (as_read t) (as_read t)
 
--- an assignment by one of the new operators
+-- an assignment by one of the new operators, or a node of the language of 2022
 abbrev pub is_new_node : Tree → Bool
 is_new_node (node AssignmentExpression text flags from to parts) = among text new_punctuators
-is_new_node (node _ text flags from to parts) = false
+is_new_node (node kind text flags from to parts) = is_later (node kind text flags from to parts)
 
 abbrev pub earlier_ways : Role → Tree → List (List (PieceOf Role))
 earlier_ways role tree = cond (is_new_node tree) [] (ways role tree)

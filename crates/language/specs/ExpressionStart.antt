@@ -2,8 +2,8 @@
 use Rattle.std.specs.Prelude.{ℕ, cond, List, [], ◌∷◌, nat_eq, slice_index_or}
 use Prim.Native.String.{String}
 use Rattle.tokens.specs.declared.token.TokenClass.{TokenClass}
-use Rattle.tokens.specs.declared.token.TokenClass.TheVariants.{IdentifierName, Punctuator, NumericLiteral, StringLiteral, Template, RegularExpressionLiteral, End}
-use Rattle.language.specs.Vocabulary.{among, is_reserved}
+use Rattle.tokens.specs.declared.token.TokenClass.TheVariants.{IdentifierName, Punctuator, NumericLiteral, StringLiteral, Template, RegularExpressionLiteral, PrivateName, Keyword, End}
+use Rattle.language.specs.Vocabulary.{among, is_reserved, is_keyword}
 use Rattle.language.specs.Token.{Token}
 
 pub data ExpressionStart : Type 0 where
@@ -18,7 +18,11 @@ pub data ExpressionStart : Type 0 where
   -- `(`: a group, or the parameters of an arrow
   with_parenthesis : ExpressionStart
   with_super with_new with_import : ExpressionStart
-  -- `++` or `--`; `delete`, `void` or `typeof`; `+`, `-`, `~` or `!`
+  -- `yield`
+  with_yield : ExpressionStart
+  -- a private name, before `in`
+  with_private_name : ExpressionStart
+  -- `++` or `--`; `delete`, `void`, `typeof` or `await`; `+`, `-`, `~` or `!`
   with_step with_word with_sign : ExpressionStart
   no_start : ExpressionStart
 
@@ -31,6 +35,7 @@ start_words =
     ("super" ∷ [], with_super) ∷
     ("new" ∷ [], with_new) ∷
     ("import" ∷ [], with_import) ∷
+    ("yield" ∷ [], with_yield) ∷
     ("delete" ∷ "void" ∷ "typeof" ∷ [], with_word) ∷
     []
 
@@ -56,6 +61,8 @@ expression_start_by NumericLiteral text = with_literal
 expression_start_by StringLiteral text = with_literal
 expression_start_by RegularExpressionLiteral text = with_literal
 expression_start_by Template text = cond (nat_eq (slice_index_or text 0 0) 96) with_template no_start
+expression_start_by PrivateName text = with_private_name
+expression_start_by Keyword text = cond (is_keyword text) with_word no_start
 expression_start_by End text = no_start
 
 abbrev pub expression_start : Token → ExpressionStart

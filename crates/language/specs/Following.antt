@@ -1,8 +1,8 @@
 -- What a function promises that reads what ends where the next token says: a statement, a case, a declarator, an item of a list. `Fine`
 -- says what holds of such a node and of the place behind it, once something follows that may.
-use Rattle.std.specs.Prelude.{◌≡◌, ℕ, ◌≤◌, Bool, true, not, ◌&&◌, ◌||◌, List, [], ◌∷◌, IsTrue, codes}
-use Rattle.tokens.specs.declared.token.TokenClass.TheVariants.{IdentifierName, Punctuator}
-use Rattle.tokens.specs.declared.token.Goal.TheVariants.{Div, RegExp}
+use Rattle.std.specs.Prelude.{◌≡◌, ℕ, Bool, true, not, ◌&&◌, ◌||◌, List, [], ◌∷◌, codes, ◌⊎◌}
+use Rattle.tokens.specs.declared.token.TokenClass.TheVariants.{IdentifierName, Punctuator, Template}
+use Rattle.tokens.specs.declared.token.Goal.TheVariants.{RegExp}
 use Rattle.tokens.specs.Alphabet.{one_of, begins_with}
 use Rattle.tree.specs.declared.kind.Pair.{Pair}
 use Rattle.tree.specs.Tree.{Tree, Parts}
@@ -10,25 +10,25 @@ use Rattle.language.specs.declared.Rank.TheVariants.{Assignment}
 use Rattle.language.specs.Vocabulary.{is, among}
 use Rattle.language.specs.Pieces.{Role, PieceOf}
 use Rattle.language.specs.Token.{Token, same_class}
-use Rattle.language.specs.Edges.{edge, ends_in_if, is_sign, is_end}
+use Rattle.language.specs.Edges.{ends_in_if, is_sign, is_end}
 use Rattle.language.specs.StatementStart.{begins_item}
-use Rattle.language.specs.Continuations.{stops}
-use Rattle.language.specs.Promises.{ReadBy}
+use Rattle.language.specs.Promises.{ReadBy, Stops}
 use Rattle.language.specs.Grammar.{ways}
 use Rattle.language.specs.Derivation.{Reads, Spells, Runs}
 
--- the token ends a list of statements: `}`, the end of the text, or the next case
+-- the token ends a list of statements: `}`, the end of the text, the next case, or an export among a module's items
 abbrev pub ends_list : Token → Bool
-ends_list next = is_end next || ((is_sign next && among next.text ("}" ∷ [])) || (same_class IdentifierName next.class && among next.text ("case" ∷ "default" ∷ [])))
+ends_list next = is_end next || ((is_sign next && among next.text ("}" ∷ [])) || (same_class IdentifierName next.class && among next.text ("case" ∷ "default" ∷ "export" ∷ [])))
 
 -- it may follow a statement; the flag says that the statement ends in an `if` without `else`
 abbrev pub may_follow : Bool → Token → Bool
 may_follow b next = begins_item next || (ends_list next || (same_class IdentifierName next.class && (is next.text "else" && not b)))
 
 module _ (S : Type 0) (Next : S → Token → S → Type 0) (behind : S → Token) where
-  -- what is read at one place begins with `}` by each goal, or by none
+  -- what is read at one place begins with `}` by each goal, or by none; and what does is a sign or a part of a template
   pub record IsAlike : Type 0 where
     pub brace : (s : S) (a b : Token) (e f : S) → Next s a e → Next s b f → begins_with (one_of "}") a.text ≡ begins_with (one_of "}") b.text
+    pub sort : (s : S) (a : Token) (e : S) → Next s a e → begins_with (one_of "}") a.text ≡ true → (a.class ≡ Punctuator) ⊎ (a.class ≡ Template)
 
   -- such a token is read here
   pub record Followed (b : Bool) (e : S) : Type 0 where
@@ -46,7 +46,7 @@ module _ (S : Type 0) (Next : S → Token → S → Type 0) (behind : S → Toke
 
   -- the declarator that ends here can't go on: neither its value, nor with one (13.3)
   pub record Declared (i : Bool) (n : Tree) (e : S) : Type 0 where
-    pub stopped : (t : Token) (m : S) → ReadBy S Next behind Div e t m → IsTrue (stops Assignment i (edge n) (behind e) t)
+    pub stopped : Stops S Next behind Assignment i n e
     pub no_value : (t : Token) (m : S) → Reads S Next behind Punctuator (codes "=") e t m → ⊥
 
   -- the only thing that the position spells here with what may follow; nothing; nothing within the limits

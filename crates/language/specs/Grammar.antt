@@ -2,20 +2,22 @@
 -- first is the one that is printed and counted.
 use Rattle.std.specs.Prelude.{ℕ, Bool, true, false, not, cond, ◌&&◌, ◌||◌, List, [], ◌∷◌, ◌++◌, Option, Some, None, filter, map, codes}
 use Rattle.tree.specs.declared.kind.Kind.{Kind}
-use Rattle.tree.specs.declared.kind.Kind.TheVariants.{Program, Identifier, Literal, Super, Property, SpreadElement, FunctionExpression, TemplateLiteral, TemplateElement, ArrayPattern, ObjectPattern, AssignmentPattern, RestElement, BlockStatement, ClassBody}
+use Rattle.tree.specs.declared.kind.Kind.TheVariants.{Program, Identifier, PrivateIdentifier, Literal, Super, Property, SpreadElement, FunctionExpression, TemplateLiteral, TemplateElement, ArrayPattern, ObjectPattern, AssignmentPattern, RestElement, BlockStatement, ClassBody}
 use Rattle.language.specs.declared.Rank.{Rank}
 use Rattle.language.specs.declared.Rank.TheVariants.{Expression, ShortCircuit, Coalesce}
 use Rattle.language.specs.declared.Start.{Start}
 use Rattle.language.specs.declared.Start.TheVariants.{Any, Statement}
 use Rattle.tokens.specs.declared.token.TokenClass.{TokenClass}
-use Rattle.tokens.specs.declared.token.TokenClass.TheVariants.{IdentifierName, Punctuator, StringLiteral, Template, End}
+use Rattle.tokens.specs.declared.token.TokenClass.TheVariants.{IdentifierName, PrivateName, Punctuator, StringLiteral, Template, End}
+use Rattle.tree.specs.declared.kind.Form.{Form}
+use Rattle.tree.specs.declared.kind.Form.TheVariants.{Generator, Async, AsyncGenerator}
 use Rattle.tree.specs.Tree.{Tree, node, Parts, bare}
-use Rattle.tree.specs.Uses.{implies, is_lean}
+use Rattle.tree.specs.Uses.{implies, is_init, is_empty, is_lean}
 use Rattle.language.specs.FirstPart.{lead, others}
 use Rattle.language.specs.Vocabulary.{is, among, takes, is_reserved, literal_class, is_string, is_name}
-use Rattle.language.specs.Pieces.{Role, expr, chain_part, name, word, key, shorthand_key, base, directive_string, tagged_quasi, template_element, spread, property, pattern, pattern_property, element, rest, method, body, statement, item, opening, block, head, declarator, switch_case, handler, class_body, member, script, Piece, tok, many, ahead, PieceOf, settle_piece, never, lay, feed, line, Spelling, only, only_at, put_at, sign, sp, bound, listed, elements, pattern_element}
-use Rattle.language.specs.Expressions.{expressions, chain_parts, template_elements, properties, pattern_properties, object_pattern_part, methods, assignment}
-use Rattle.language.specs.Statements.{statements, items, openings, braced, lines, prologue, heads, declarator_ways, cases, handlers, class_members, member_lines}
+use Rattle.language.specs.Pieces.{Role, unbroken, space, expr, chain_part, name, word, private_name, key, shorthand_key, base, directive_string, tagged_quasi, template_element, spread, property, pattern, pattern_property, element, rest, method, body, statement, item, opening, block, head, declarator, switch_case, handler, class_body, member, module_item, specifier, default_item, script, Piece, tok, many, ahead, PieceOf, settle_piece, never, lay, feed, line, Spelling, only, only_at, put_at, sign, sp, bound, listed, elements, pattern_element}
+use Rattle.language.specs.Expressions.{value_form, expressions, chain_parts, template_elements, properties, pattern_properties, object_pattern_part, methods, assignment}
+use Rattle.language.specs.Statements.{statements, items, openings, braced, lines, prologue, heads, declarator_ways, cases, handlers, class_members, member_lines, module_items, specifiers, default_items, module_prologue}
 
 -- tokens of its own, at a place without a row
 abbrev pub keys : Kind → List ℕ → List Spelling
@@ -34,6 +36,11 @@ names _ text = []
 abbrev pub words : Kind → List ℕ → List Spelling
 words Identifier text = only (tok IdentifierName text ∷ [])
 words _ text = []
+
+-- PrivateIdentifier (12.6 of the 13th edition)
+abbrev pub private_names : Kind → List ℕ → List Spelling
+private_names PrivateIdentifier text = only (tok PrivateName (codes "#" ++ text) ∷ [])
+private_names _ text = []
 
 abbrev pub shorthand_keys : Kind → List ℕ → List Spelling
 shorthand_keys Identifier text = only (ahead text ∷ [])
@@ -73,11 +80,28 @@ rests b of_object RestElement parts = cond (of_object && is_a_pattern (lead part
     is_a_pattern _ = false
 rests b of_object _ parts = []
 
+-- whether the function at a method's position may have the form
+abbrev pub is_function_at : Form → Form → Bool
+is_function_at Generator Generator = true
+is_function_at Generator _ = false
+is_function_at Async Async = true
+is_function_at Async _ = false
+is_function_at AsyncGenerator AsyncGenerator = true
+is_function_at AsyncGenerator _ = false
+is_function_at _ form = is_init form
+
+-- the Program, by its text
+abbrev pub programs : List ℕ → Parts → List Spelling
+programs text parts =
+    cond (is_empty text || is text "2022") (only (prologue false true [] (lay feed ∷ []) parts ++ tok End [] ∷ [])) (
+    cond (is text "module") (only (module_prologue true parts ++ tok End [] ∷ [])) [])
+
 unfoldable pub spellings : Role → Tree → List Spelling
 spellings (expr rank has_in start) (node kind text flags from to parts) = expressions kind text flags parts
 spellings (chain_part f) (node kind text flags from to parts) = chain_parts kind flags parts
 spellings name (node kind text flags from to parts) = names kind text
 spellings word (node kind text flags from to parts) = words kind text
+spellings private_name (node kind text flags from to parts) = private_names kind text
 spellings key (node kind text flags from to parts) = keys kind text
 spellings shorthand_key (node kind text flags from to parts) = shorthand_keys kind text
 spellings base (node kind text flags from to parts) = bases kind
@@ -86,14 +110,14 @@ spellings tagged_quasi (node kind text flags from to parts) = tagged_quasis kind
 spellings (template_element first last) (node kind text flags from to parts) = template_parts first last kind text
 spellings spread (node SpreadElement text flags from to parts) = only (sign "..." ∷ assignment ∷ [])
 spellings spread (node _ text flags from to parts) = []
-spellings property (node Property text flags from to parts) = properties flags.computed flags.form
+spellings property (node Property text flags from to parts) = properties flags.computed flags.form (value_form parts)
 spellings property (node _ text flags from to parts) = []
 spellings (pattern b f) (node kind text flags from to parts) = patterns b kind parts
 spellings (pattern_property b) (node Property text flags from to parts) = pattern_properties b flags.computed flags.form (lead (others parts))
 spellings (pattern_property b) (node _ text flags from to parts) = []
 spellings (element b) (node kind text flags from to parts) = elements_with_default b kind parts
 spellings (rest b o) (node kind text flags from to parts) = rests b o kind parts
-spellings (method x) (node FunctionExpression text flags from to parts) = methods x parts
+spellings (method x) (node FunctionExpression text flags from to parts) = cond (is_function_at x flags.form) (methods x parts) []
 spellings (method x) (node _ text flags from to parts) = []
 spellings body (node BlockStatement text flags from to parts) = only (braced parts (prologue true true (lay line ∷ []) [] parts))
 spellings body (node _ text flags from to parts) = []
@@ -109,7 +133,10 @@ spellings (handler r) (node kind text flags from to parts) = handlers r kind par
 spellings class_body (node ClassBody text flags from to parts) = only (braced parts (many (codes ";") ∷ member_lines parts))
 spellings class_body (node _ text flags from to parts) = []
 spellings member (node kind text flags from to parts) = class_members kind flags parts
-spellings script (node Program text flags from to parts) = only (prologue false true [] (lay feed ∷ []) parts ++ tok End [] ∷ [])
+spellings module_item (node kind text flags from to parts) = module_items kind parts
+spellings specifier (node kind text flags from to parts) = specifiers kind flags.form parts
+spellings default_item (node kind text flags from to parts) = default_items kind flags.form parts
+spellings script (node Program text flags from to parts) = programs text parts
 spellings script (node _ text flags from to parts) = []
 
 -- the standard's symbol: the left side of `??` has one of its own here
@@ -125,10 +152,11 @@ rank_of tree = first_rank (spellings (expr Expression true Any) tree)
     first_rank [] = None
     first_rank (x ∷ xs) = Some (production_rank x.rank)
 
--- the first token may stand at this start
+-- the first token may stand at this start; behind `async` the second counts
 abbrev pub starts : Start → List Piece → Bool
 starts Any pieces = true
 starts start (tok Punctuator w ∷ qs) = not (is w "{")
+starts Statement (tok IdentifierName w ∷ unbroken ∷ lay space ∷ tok IdentifierName v ∷ qs) = not (is v "function")
 starts Statement (tok IdentifierName w ∷ qs) = not (among w ("function" ∷ "class" ∷ []))
 starts start pieces = true
 

@@ -1,9 +1,9 @@
 -- What is proved of the definitions.
-use Rattle.std.specs.Prelude.{◌≡◌, ◌↔◌, ◌≤◌, ℕ, Bool, true, false, List, ◌++◌, length, map, ◌∷◌, []}
+use Rattle.std.specs.Prelude.{◌≡◌, ◌↔◌, ◌≤◌, ℕ, Bool, true, false, ◌&&◌, List, ◌++◌, length, map, ◌∷◌, []}
 use Rattle.tree.specs.declared.kind.Kind.{Kind}
-use Rattle.tree.specs.declared.kind.Kind.TheVariants.{ArrowFunctionExpression, NewExpression}
+use Rattle.tree.specs.declared.kind.Kind.TheVariants.{Literal, ArrowFunctionExpression, NewExpression, ImportDeclaration, ImportDefaultSpecifier}
 use Rattle.tree.specs.declared.kind.Pair.{Pair}
-use Rattle.tree.specs.Tree.{Tree, node, Parts, none, part, kind_of, bare, SameTree}
+use Rattle.tree.specs.Tree.{Tree, node, Parts, none, part, kind_of, bare, height, SameTree}
 use Rattle.language.specs.FirstPart.{others}
 use Rattle.language.specs.Vocabulary.{is_identifier}
 use Rattle.language.specs.Pieces.{Role, script, PieceOf, is_none}
@@ -19,15 +19,27 @@ use Rattle.language.specs.Printed.{items_text, printed, open_in, pair_count, Fol
 use Rattle.std.specs.Str.{IsUtf8}
 use Rattle.language.specs.Places.{NextIn, itself}
 use Rattle.tokens.specs.Reading.{any_goal}
-use Rattle.language.specs.Claims.{Derives, DerivesOpen, WithinLimits}
+use Rattle.language.specs.Claims.{Derives, DerivesOpen, WithinLimits, max_height, max_open}
+use Rattle.language.specs.declared.Language.{Language}
+use Rattle.language.specs.Languages.{DerivesOpenIn, DerivesIn}
 use Rattle.tokens.specs.Tokens.{LexicalToken, IsReading}
 use Rattle.std.specs.Str.{chars, IsUtf8}
 
 -- Two ways to spell a node: an arrow with one plain parameter, with its parentheses or without; a `new` without arguments,
--- with its parentheses or without.
+-- with its parentheses or without; an import without names in braces, with empty braces or without.
+abbrev pub is_literal : Kind → Bool
+is_literal Literal = true
+is_literal _ = false
+
+abbrev pub is_default : Kind → Bool
+is_default ImportDefaultSpecifier = true
+is_default _ = false
+
 abbrev pub two_ways_at : Kind → Parts → Bool
 two_ways_at ArrowFunctionExpression (part tree (part b none)) = is_identifier (kind_of tree)
 two_ways_at NewExpression parts = is_none (others parts)
+two_ways_at ImportDeclaration (part tree none) = is_literal (kind_of tree)
+two_ways_at ImportDeclaration (part tree (part source none)) = is_default (kind_of tree) && is_literal (kind_of source)
 two_ways_at _ parts = false
 
 abbrev pub has_two_ways : Tree → Bool
@@ -50,6 +62,10 @@ NoFewerPairsOfTokens =
 abbrev pub NoFewerPairs : Type 0
 NoFewerPairs = (n m : Tree) (text : List ℕ) (P : List Pair) → SameTree m n → Derives text m P → AtMost (least n script) (length P)
 
+-- and in each language
+abbrev pub NoFewerPairsIn : Type 0
+NoFewerPairsIn = (language : Language) (n m : Tree) (text : List ℕ) (P : List Pair) → SameTree m n → DerivesIn language text m P → AtMost (least n script) (length P)
+
 -- a derivation stays one when tokens are added behind those that it looks at
 abbrev pub StaysWithMoreTokens : Type 0
 StaysWithMoreTokens =
@@ -69,6 +85,10 @@ ReadingsAreDerived =
 -- what a text derives can be laid out: each node can be spelled where it stands, or in a pair where it is wrapped
 abbrev pub DerivedFits : Type 0
 DerivedFits = (text : List ℕ) (n : Tree) (P : List Pair) → Derives text n P → fits (has_number (wrapped_rows n script 1)) n script 1 ≡ true
+
+-- and in each language
+abbrev pub DerivedFitsIn : Type 0
+DerivedFitsIn = (language : Language) (text : List ℕ) (n : Tree) (P : List Pair) → DerivesIn language text n P → fits (has_number (wrapped_rows n script 1)) n script 1 ≡ true
 
 -- the layout's text is that of its items
 abbrev pub LayoutIsItems : Type 0
@@ -94,6 +114,17 @@ abbrev pub FixedTextDerives : Type 0
 FixedTextDerives =
     (other : List ℕ) (n : Tree) (P : List Pair) → IsUtf8 other → Derives other n P →
     (m : Tree) × (Q : List Pair) × SameTree m n × DerivesOpen (open_in (has_number (wrapped_rows n script 1)) n script 1) (fixed_text n) m Q × (length Q ≡ length (wrapped_rows n script 1))
+
+-- and in each language
+abbrev pub FixedTextDerivesIn : Type 0
+FixedTextDerivesIn =
+    (language : Language) (other : List ℕ) (n : Tree) (P : List Pair) → IsUtf8 other → DerivesIn language other n P →
+    (m : Tree) × (Q : List Pair) × SameTree m n × DerivesOpenIn language (open_in (has_number (wrapped_rows n script 1)) n script 1) (fixed_text n) m Q × (length Q ≡ length (wrapped_rows n script 1))
+
+abbrev pub FixedTextWithinLimitsIn : Type 0
+FixedTextWithinLimitsIn =
+    (language : Language) (other : List ℕ) (n : Tree) (P : List Pair) → IsUtf8 other → height n ≤ max_height → DerivesOpenIn language max_open other n P →
+    (m : Tree) × (Q : List Pair) × SameTree m n × (height m ≤ max_height) × DerivesOpenIn language max_open (fixed_text n) m Q × (length Q ≡ length (wrapped_rows n script 1))
 
 -- the same within the limits
 abbrev pub FixedTextWithinLimits : Type 0

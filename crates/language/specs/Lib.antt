@@ -25,6 +25,9 @@ pub mod Printed
 pub mod Readable
 pub mod Claims
 pub mod ExactCells
+pub mod Later
+pub mod Languages
+pub mod ExactIn
 pub mod Laws
 pub mod Earlier
 pub mod Forms

@@ -24,6 +24,7 @@ pub data Role : Type 0 where
   name : Role
   -- an identifier's characters, reserved or not
   word : Role
+  private_name : Role
   -- a property's key without brackets
   key : Role
   -- a shorthand property's key, which has no token of its own
@@ -57,6 +58,10 @@ pub data Role : Type 0 where
   handler : Bool → Role
   class_body : Role
   member : Role
+  -- an import or export among a module's items; a name with its alias in one of these; what `export default` declares
+  module_item : Role
+  specifier : Role
+  default_item : Role
   script : Role
 
 -- layout alone
@@ -67,10 +72,14 @@ pub data Hint : Type 0 where
   -- a space behind a node that isn't wrapped
   loose : Hint
 
--- the end of a statement: of a `do`, or behind this right edge
+-- the end of a statement: of a `do`, of an export's names without source, or behind this right edge; of a field, behind a value with this
+-- edge, or behind a key alone: a name of this text, where the flag says that the field is static
 pub data Ending : Type 0 where
   of_do : Ending
+  of_export : Ending
   behind : Edge → Ending
+  behind_value : Edge → Ending
+  behind_key : List ℕ → Bool → Ending
 
 -- where a part stands, as the tables write it: left open is what the node's own position decides
 pub data Slot : Type 0 where
@@ -96,9 +105,11 @@ pub data PieceOf (R : Type 0) : Type 0 where
   ahead : List ℕ → PieceOf R
   -- no line break before the next token
   unbroken : PieceOf R
+  -- the next token begins no operand on the same line
+  no_operand : PieceOf R
   -- `;`, or none
   ending : Ending → PieceOf R
-  -- the parentheses round an arrow's parameters
+  -- the parentheses round the parameters of an arrow that isn't async
   open_parameters close_parameters : PieceOf R
   -- the next part, at this position
   sub : R → PieceOf R
@@ -135,6 +146,7 @@ settle_piece own_rank i start (may w) = may w
 settle_piece own_rank i start (many w) = many w
 settle_piece own_rank i start (ahead w) = ahead w
 settle_piece own_rank i start unbroken = unbroken
+settle_piece own_rank i start no_operand = no_operand
 settle_piece own_rank i start (ending e) = ending e
 settle_piece own_rank i start open_parameters = open_parameters
 settle_piece own_rank i start close_parameters = close_parameters
@@ -228,3 +240,11 @@ parameters after (part tree none) = after
 parameters after (part tree (part m ps)) = (pattern_element true tree ∷ separator (kind_of tree) (is_none ps)) ++ parameters after (part m ps)
 parameters after (part tree (gap ps)) = nothing
 parameters after (gap others) = nothing
+
+-- parts with commas between them, and perhaps one behind the last of these, then what stands at the part behind them, the last
+abbrev pub listed_before : (Tree → Piece) → List Piece → Parts → List Piece
+listed_before f after none = nothing
+listed_before f after (part tree none) = after
+listed_before f after (part tree (part m ps)) = (f tree ∷ separator (kind_of tree) (is_none ps)) ++ listed_before f after (part m ps)
+listed_before f after (part tree (gap ps)) = nothing
+listed_before f after (gap others) = nothing

@@ -1,12 +1,13 @@
 -- The layout of a tree as tokens and what stands between them, and what it is to read them, at any kind of places.
-use Rattle.std.specs.Prelude.{◌≡◌, ℕ, suc, pred, ◌+◌, max, Bool, true, false, not, cond, ◌&&◌, List, [], ◌∷◌, ◌++◌, nat_eq, slice_index_or, codes}
+use Rattle.std.specs.Prelude.{◌≡◌, ℕ, suc, pred, ◌+◌, max, IsTrue, Bool, true, false, not, cond, ◌&&◌, List, [], ◌∷◌, ◌++◌, nat_eq, slice_index_or, codes}
 use Rattle.tokens.specs.declared.token.TokenClass.{TokenClass}
 use Rattle.tokens.specs.declared.token.TokenClass.TheVariants.{IdentifierName, Punctuator}
 use Rattle.tree.specs.Tree.{Tree, node, Parts, none, part, gap}
 use Rattle.language.specs.declared.Rank.TheVariants.{Expression}
 use Rattle.language.specs.declared.Start.TheVariants.{Any}
 use Rattle.language.specs.Token.{Token}
-use Rattle.language.specs.Pieces.{Role, expr, PieceOf, tok, ahead, unbroken, ending, open_parameters, close_parameters, sub, absent, lay, space, line, feed, deeper, shallower, apart, loose}
+use Rattle.language.specs.Edges.{begins_no_operand}
+use Rattle.language.specs.Pieces.{Role, expr, PieceOf, tok, ahead, unbroken, no_operand, ending, open_parameters, close_parameters, sub, absent, lay, space, line, feed, deeper, shallower, apart, loose}
 use Rattle.language.specs.Grammar.{ways}
 use Rattle.language.specs.RowPositions.{has_row, rows, roles, first_roles}
 use Rattle.language.specs.Derivation.{Reads}
@@ -21,6 +22,8 @@ pub data Item : Type 0 where
   name_ahead : List ℕ → Item
   -- no line break before the next token
   joined : Item
+  -- the next token begins no operand on the same line
+  closing : Item
 
 abbrev pub items_text : List Item → List ℕ
 items_text [] = []
@@ -39,6 +42,7 @@ lead_items d b (absent ∷ qs) next = next
 lead_items d b (tok c w ∷ qs) next = word c w ∷ lead_items d b qs next
 lead_items d b (ahead w ∷ qs) next = name_ahead w ∷ lead_items d b qs next
 lead_items d b (unbroken ∷ qs) next = joined ∷ lead_items d b qs next
+lead_items d b (no_operand ∷ qs) next = closing ∷ lead_items d b qs next
 lead_items d b (ending e ∷ qs) next = sign_item (codes ";") ∷ lead_items d b qs next
 lead_items d b (open_parameters ∷ qs) next = sign_item (codes "(") ∷ lead_items d b qs next
 lead_items d b (close_parameters ∷ qs) next = sign_item (codes ")") ∷ lead_items d b qs next
@@ -66,7 +70,8 @@ unfoldable mutual
       let a = next_role (roles qs) in
       lead_items d b qs (printed W tree a r (lead_depth d qs) ++ parts_printed W rest (after_part qs) (r + rows tree a) (lead_depth d qs) (not (W r)))
 
--- how many parentheses stand open at one point, of those that group or hold an arrow's parameters, with so many behind the pieces
+-- how many parentheses stand open at one point, of those that group or hold the parameters of an arrow that isn't async, with so many
+-- behind the pieces
 abbrev pub lead_open : List (PieceOf Role) → ℕ → ℕ
 lead_open [] k = k
 lead_open (sub a ∷ qs) k = k
@@ -109,6 +114,7 @@ module _ (S : Type 0) (Next : S → Token → S → Type 0) (behind : S → Toke
     passes : {w : List ℕ} {is : List Item} {s e : S} → Follows is s e → Follows (blank w ∷ is) s e
     sees : {w : List ℕ} {is : List Item} {t : Token} {s m e : S} → Reads S Next behind IdentifierName w s t m → Follows is s e → Follows (name_ahead w ∷ is) s e
     stays : {is : List Item} {t : Token} {s m e : S} → Next s t m → t.after_break ≡ false → Follows is s e → Follows (joined ∷ is) s e
+    leaves : {is : List Item} {t : Token} {s m e : S} → Next s t m → IsTrue (begins_no_operand t) → Follows is s e → Follows (closing ∷ is) s e
 
   -- a token is read at the place
   pub record GoesOn (s : S) : Type 0 where

@@ -1,7 +1,7 @@
 -- What a function promises that reads an expression at a place, or something else: that it is found, the only one there; or that there is none.
 use Rattle.std.specs.Prelude.{◌≡◌, ℕ, ◌≤◌, Bool, true, false, List, [], ◌∷◌, IsTrue, map, codes}
 use Rattle.tokens.specs.declared.token.TokenClass.{TokenClass}
-use Rattle.tokens.specs.declared.token.TokenClass.TheVariants.{IdentifierName, Punctuator, NumericLiteral, StringLiteral, End}
+use Rattle.tokens.specs.declared.token.TokenClass.TheVariants.{IdentifierName, Punctuator, NumericLiteral, StringLiteral, PrivateName, Keyword, End}
 use Rattle.tokens.specs.declared.token.Goal.{Goal}
 use Rattle.tokens.specs.declared.token.Goal.TheVariants.{Div}
 use Rattle.tokens.specs.Goals.{allows}
@@ -15,7 +15,8 @@ use Rattle.language.specs.Pieces.{Role, expr, PieceOf, sub, never, settle_piece}
 use Rattle.language.specs.Token.{Token}
 use Rattle.language.specs.Edges.{edge, last_edge}
 use Rattle.language.specs.Expressions.{sequence}
-use Rattle.language.specs.Continuations.{stops}
+use Rattle.language.specs.Vocabulary.{op_none}
+use Rattle.language.specs.Continuations.{operation, stops}
 use Rattle.language.specs.Grammar.{ways}
 use Rattle.language.specs.Derivation.{Reads, Spells, Runs}
 
@@ -24,6 +25,8 @@ abbrev pub is_free : TokenClass → Bool
 is_free IdentifierName = true
 is_free NumericLiteral = true
 is_free StringLiteral = true
+is_free PrivateName = true
+is_free Keyword = true
 is_free End = true
 is_free _ = false
 
@@ -49,9 +52,19 @@ module _ (S : Type 0) (Next : S → Token → S → Type 0) (behind : S → Toke
     pub next : Next s t e
     pub allowed : IsTrue (allows g t.class t.text)
 
+  -- A name behind an expression, on its line: an operator; or the `of` in the head of a `for`, behind which no `=>` stands.
+  pub data NameBehind (t : Token) (m : S) : Type 0 where
+    an_operator : (operation t ≡ op_none → ⊥) → NameBehind t m
+    an_of : t.text ≡ codes "of" → ((v : Token) (k : S) → Reads S Next behind Punctuator (codes "=>") m v k → ⊥) → NameBehind t m
+
+  -- No other name stands there where an expression of a script ends: so a name `async` that ends one isn't the word of a function or of an arrow.
+  pub record Apart (e : S) : Type 0 where
+    pub name : (t : Token) (m : S) → Next e t m → t.class ≡ IdentifierName → t.after_break ≡ false → NameBehind t m
+
   -- the expression that ends here, at this symbol and with this In, can't go on with the token that is read behind an operand
-  abbrev pub Stops : Rank → Bool → Tree → S → Type 0
-  Stops rank i tree e = (t : Token) (m : S) → ReadBy Div e t m → IsTrue (stops rank i (edge tree) (behind e) t)
+  pub record Stops (rank : Rank) (i : Bool) (tree : Tree) (e : S) : Type 0 where
+    pub before : (t : Token) (m : S) → ReadBy Div e t m → IsTrue (stops rank i (edge tree) (behind e) t)
+    pub apart : Apart e
 
   -- the only thing that the position spells here and that can't go on
   pub record Found (o : ℕ) (y : Rank) (i : Bool) (f : Start) (s e : S) (n : Tree) (P : List Pair) : Type 0 where
@@ -93,8 +106,9 @@ module _ (S : Type 0) (Next : S → Token → S → Type 0) (behind : S → Toke
     pub only : (o' : ℕ) (e' : S) (n' : Tree) (P' : List Pair) → Callee o' n' s e' P' → Stops New true n' e' → (e' ≡ e) × (n' ≡ n) × (P' ≡ P)
 
   -- the sequence that ends here can't go on, with a comma neither
-  abbrev pub LaterStop : Bool → Parts → S → Type 0
-  LaterStop i parts e = (t : Token) (m : S) → ReadBy Div e t m → IsTrue (stops Expression i (last_edge parts) (behind e) t)
+  pub record LaterStop (i : Bool) (parts : Parts) (e : S) : Type 0 where
+    pub before : (t : Token) (m : S) → ReadBy Div e t m → IsTrue (stops Expression i (last_edge parts) (behind e) t)
+    pub apart : Apart e
 
   -- the only parts of a sequence behind its first comma that can't go on; none; none within the limits
   pub record FoundLater (o : ℕ) (i : Bool) (s e : S) (ps : Parts) (P : List Pair) : Type 0 where

@@ -1,13 +1,16 @@
 -- A plain program for the relation: from a cursor, every cursor up to which the tokens spell a node, with the pairs.
 use Rattle.std.specs.Prelude.{ℕ, Bool, true, false, not, cond, ◌&&◌, List, [], ◌∷◌, ◌++◌, nat_eq, codes, map, filter}
-use Rattle.tokens.specs.declared.token.TokenClass.TheVariants.{IdentifierName}
+use Rattle.tokens.specs.declared.token.TokenClass.TheVariants.{IdentifierName, Keyword}
+use Rattle.tree.specs.declared.kind.Kind.TheVariants.{Identifier}
+use Rattle.tree.specs.Uses.{is_lean}
 use Rattle.language.specs.declared.Rank.TheVariants.{Expression}
 use Rattle.language.specs.declared.Start.TheVariants.{Any}
 use Rattle.tree.specs.declared.kind.Pair.{Pair}
 use Rattle.tree.specs.Tree.{Tree, node, Parts, none, part, gap, start_of, stop_of}
-use Rattle.language.specs.Pieces.{Role, expr, PieceOf, tok, may, many, ahead, unbroken, ending, open_parameters, close_parameters, sub, absent, lay}
+use Rattle.language.specs.Pieces.{Role, expr, word, key, PieceOf, tok, may, many, ahead, unbroken, no_operand, ending, open_parameters, close_parameters, sub, absent, lay}
 use Rattle.language.specs.Token.{Token, is_token, is_mark}
-use Rattle.language.specs.Edges.{may_omit_semicolon, is_semicolon}
+use Rattle.language.specs.Vocabulary.{is_keyword}
+use Rattle.language.specs.Edges.{may_omit_semicolon, begins_no_operand, is_semicolon}
 use Rattle.language.specs.Grammar.{ways}
 use Rattle.language.specs.Derivation.{place, pair_of}
 
@@ -39,6 +42,7 @@ steps_of (may w) tokens = over (is_mark w) tokens ++ tokens ∷ []
 steps_of (many w) tokens = over_many w tokens
 steps_of (ahead w) tokens = if_next (λ b t. is_token IdentifierName w t) tokens
 steps_of unbroken tokens = if_next (λ b t. not t.after_break) tokens
+steps_of no_operand tokens = if_next (λ b t. begins_no_operand t) tokens
 steps_of (ending e) tokens = over is_semicolon tokens ++ if_next (may_omit_semicolon e) tokens
 steps_of open_parameters tokens = over (is_mark (codes "(")) tokens
 steps_of close_parameters tokens = over (is_mark (codes ")")) tokens
@@ -84,8 +88,16 @@ abbrev pub directly : (List (PieceOf Role) → List Token → List Result) → T
 directly inner tree role tokens =
     filter (λ x. in_place role tree tokens x.0) (each (λ qs. inner qs tokens) (ways role tree))
 
+-- a word that the language reserves, where any word is a name
+abbrev pub reserved : Tree → List Token → List Result
+reserved (node Identifier text flags from to none) (b ∷ t ∷ ts) =
+    cond ((is_token Keyword text t && is_keyword text) && (same_place (t.start, t.stop) from to && is_lean (node Identifier text flags 0 0 none))) ((t ∷ ts, []) ∷ []) []
+reserved _ _ = []
+
 abbrev pub everywhere : (List (PieceOf Role) → List Token → List Result) → Tree → Role → List Token → List Result
 everywhere inner tree (expr rank has_in start) tokens = directly inner tree (expr rank has_in start) tokens ++ groups (directly inner tree (expr Expression true Any)) tokens
+everywhere inner tree key tokens = directly inner tree key tokens ++ reserved tree tokens
+everywhere inner tree word tokens = directly inner tree word tokens ++ reserved tree tokens
 everywhere inner tree role tokens = directly inner tree role tokens
 
 -- the pieces from the next part on: none left, a gap, or a part

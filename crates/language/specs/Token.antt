@@ -4,7 +4,7 @@ use Rattle.std.specs.Str.{bytes_eq}
 use Rattle.tokens.specs.declared.token.TokenClass.{TokenClass}
 use Rattle.tokens.specs.Templates.{raw_value}
 use Rattle.tokens.specs.Tokens.{LexicalToken}
-use Rattle.tokens.specs.declared.token.TokenClass.TheVariants.{IdentifierName, Punctuator, NumericLiteral, StringLiteral, Template, RegularExpressionLiteral, End}
+use Rattle.tokens.specs.declared.token.TokenClass.TheVariants.{IdentifierName, Punctuator, NumericLiteral, StringLiteral, Template, RegularExpressionLiteral, PrivateName, Keyword, End}
 
 abbrev pub Token : Type 0
 Token = LexicalToken
@@ -16,6 +16,8 @@ same_class NumericLiteral NumericLiteral = true
 same_class StringLiteral StringLiteral = true
 same_class Template Template = true
 same_class RegularExpressionLiteral RegularExpressionLiteral = true
+same_class PrivateName PrivateName = true
+same_class Keyword Keyword = true
 same_class End End = true
 same_class _ _ = false
 

@@ -2,7 +2,7 @@
 use Rattle.std.specs.Prelude.{ℕ, Bool, true, false, not, cond, ◌&&◌, ◌||◌, List, [], ◌∷◌, nat_le, nat_eq, codes, slice_index_or}
 use Rattle.std.specs.Str.{bytes_eq}
 use Prim.Native.String.{String}
-pub use Rattle.tree.specs.Kinds.{is_identifier, is_pattern, is_rest, is_spread, is_super, is_target}
+pub use Rattle.tree.specs.Kinds.{is_identifier, is_private, is_pattern, is_rest, is_spread, is_super, is_target}
 use Rattle.language.specs.declared.Rank.{Rank}
 use Rattle.language.specs.declared.Rank.TheVariants.{Expression, Assignment, Conditional, ShortCircuit, Coalesce, LogicalOr, LogicalAnd, BitwiseOr, BitwiseXor, BitwiseAnd, Equality, Relational, Shift, Additive, Multiplicative, Exponentiation, Unary, Update, LeftHandSide, New, Call, Member, Primary, Grouped}
 use Rattle.tokens.specs.declared.token.TokenClass.{TokenClass}
@@ -116,6 +116,10 @@ is_reserved text = among text ("break" ∷ "case" ∷ "catch" ∷ "class" ∷ "c
 -- these words, for what is shown of each of them
 abbrev pub reserved_words : List String
 reserved_words = "break" ∷ "case" ∷ "catch" ∷ "class" ∷ "const" ∷ "continue" ∷ "debugger" ∷ "default" ∷ "delete" ∷ "do" ∷ "else" ∷ "enum" ∷ "export" ∷ "extends" ∷ "false" ∷ "finally" ∷ "for" ∷ "function" ∷ "if" ∷ "import" ∷ "in" ∷ "instanceof" ∷ "new" ∷ "null" ∷ "return" ∷ "super" ∷ "switch" ∷ "this" ∷ "throw" ∷ "true" ∷ "try" ∷ "typeof" ∷ "var" ∷ "void" ∷ "while" ∷ "with" ∷ "yield" ∷ "let" ∷ "static" ∷ "implements" ∷ "interface" ∷ "package" ∷ "private" ∷ "protected" ∷ "public" ∷ []
+
+-- what the language of 2022 reserves and the base profile doesn't
+unfoldable pub is_keyword : List ℕ → Bool
+is_keyword text = among text ("await" ∷ [])
 
 -- what a literal's text is: its first character tells
 abbrev pub literal_class : List ℕ → TokenClass

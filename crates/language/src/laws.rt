@@ -3,7 +3,8 @@
 ghost use Rattle.std.specs.Prelude.{◌≡◌};
 ghost use Rattle.language.specs.Claims.{max_height, max_open, short_bytes};
 ghost use Rattle.language.specs.Earlier.{EarlierScriptsStay};
-ghost use Rattle.language.specs.Laws.{AtMostOneWay, DerivedFits, FindsDerivations, FixedTextDerives, FixedTextWithinLimits, LayoutDerives, LayoutIsItems, LayoutIsSpelled, NoFewerPairs, NoFewerPairsOfTokens, PlacesChangeNoLayout, PlacesChangeNoWay, ReadingsAreDerived, StaysWithMoreTokens};
+ghost use Rattle.language.specs.Languages.{BaseIsALanguage, BaseScriptsStay};
+ghost use Rattle.language.specs.Laws.{AtMostOneWay, DerivedFits, DerivedFitsIn, FindsDerivations, FixedTextDerives, FixedTextDerivesIn, FixedTextWithinLimits, FixedTextWithinLimitsIn, LayoutDerives, LayoutIsItems, LayoutIsSpelled, NoFewerPairs, NoFewerPairsIn, NoFewerPairsOfTokens, PlacesChangeNoLayout, PlacesChangeNoWay, ReadingsAreDerived, StaysWithMoreTokens};
 
 use crate::limits::{MAX_HEIGHT, MAX_OPEN, SHORT_BYTES};
 
@@ -14,7 +15,8 @@ pub fn limits_are_the_defined_ones()
     ensures short { SHORT_BYTES ≡ short_bytes }
 {}
 
-/// A node has at most one way at a position, but for an arrow with one plain parameter and a `new` without arguments.
+/// A node has at most one way at a position, but for an arrow with one plain parameter, a `new` without arguments and an import
+/// without names in braces.
 pub fn at_most_one_way()
     ensures { AtMostOneWay }
 {}
@@ -32,6 +34,11 @@ pub fn no_fewer_pairs_of_tokens()
 /// Every derivation of every text with the same tree has at least the computed cost of pairs.
 pub fn no_fewer_pairs()
     ensures { NoFewerPairs }
+{}
+
+/// The same in each language.
+pub fn no_fewer_pairs_in()
+    ensures { NoFewerPairsIn }
 {}
 
 /// A derivation stays one when tokens are added behind those that it looks at.
@@ -54,6 +61,11 @@ pub fn derived_fits()
     ensures { DerivedFits }
 {}
 
+/// The same in each language.
+pub fn derived_fits_in()
+    ensures { DerivedFitsIn }
+{}
+
 /// The text of a tree's layout is that of its items: tokens, and what stands between them.
 pub fn layout_is_items()
     ensures { LayoutIsItems }
@@ -74,9 +86,19 @@ pub fn fixed_text_derives()
     ensures { FixedTextDerives }
 {}
 
+/// The same in each language.
+pub fn fixed_text_derives_in()
+    ensures { FixedTextDerivesIn }
+{}
+
 /// The same within the limits: a fixed text is refused neither for height nor for open parentheses.
 pub fn fixed_text_within_limits()
     ensures { FixedTextWithinLimits }
+{}
+
+/// The same in each language.
+pub fn fixed_text_within_limits_in()
+    ensures { FixedTextWithinLimitsIn }
 {}
 
 /// The same tree, wherever its nodes stand, has the same wrapped nodes and the same fixed text.
@@ -88,4 +110,14 @@ pub fn places_change_no_layout()
 /// tree, places and pairs.
 pub fn earlier_scripts_stay()
     ensures { EarlierScriptsStay }
+{}
+
+/// Without the productions of later languages a text derives just the trees of the base profile that it derives with them.
+pub fn base_scripts_stay()
+    ensures { BaseScriptsStay }
+{}
+
+/// As a text of the base profile, told which language it is, a text derives the same.
+pub fn base_is_a_language()
+    ensures { BaseIsALanguage }
 {}

@@ -8,6 +8,17 @@
 pub mod laws;
 pub mod limits;
 
+/// What a text is read as.
+#[derive(Clone, Copy, Debug, PartialEq, Eq)]
+pub enum Language {
+    /// A script of the base profile.
+    Base,
+    /// A strict script of ECMAScript 2022.
+    Script,
+    /// A module of ECMAScript 2022.
+    Module,
+}
+
 /// The symbols of the expression grammar, loosest first.
 #[derive(Clone, Copy, Debug, PartialEq, Eq)]
 pub enum Rank {

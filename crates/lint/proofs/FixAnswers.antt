@@ -1,16 +1,19 @@
 -- From the planner's flags to the printer's, and to what `fix` promises.
 use Rattle.std.proofs.Common.{◌≡◌, ℕ, zero, suc, Bool, true, List, [], refl, sym, ap, subst, ◌∙◌, ◌≤◌, length, Option, Some, None, Ok, Err, arith}
-use Rattle.tree.specs.Tree.{Tree, SameTree}
+use Rattle.tree.specs.Tree.{Tree, SameTree, height}
 use Rattle.tree.specs.declared.kind.Pair.{Pair}
 use Rattle.std.specs.Str.{IsUtf8}
 use Rattle.early_errors.specs.Accepted.{Accepted}
 use Rattle.early_errors.proofs.Placeless.{none_either}
-use Rattle.language.specs.Claims.{Derives, WithinLimits, max_open}
+use Rattle.language.specs.declared.Language.{Language}
+use Rattle.language.specs.Claims.{max_height, max_open}
+use Rattle.language.specs.Languages.{DerivesIn, DerivesOpenIn}
+use Rattle.recursive_descent.specs.Limits.{WithinLimitsIn}
 use Rattle.language.proofs.layout.SameLayouts.{same_layout}
-use Rattle.language.proofs.layout.FixedReads.{within_always}
+use Rattle.language.proofs.layout.FixedReads.{within_always_in}
 use Rattle.language.proofs.layout.ReadableScript.{script_readable}
 use Rattle.language.specs.Cost.{AtMost, at_most, least}
-use Rattle.language.proofs.lower_bound.LeastPairs.{derived_at_least}
+use Rattle.language.proofs.lower_bound.LeastPairs.{derived_at_least_in}
 use Rattle.paren_planner.proofs.Totals.{wrapped_count}
 use Rattle.language.specs.Pieces.{script}
 use Rattle.language.specs.Layout.{fixed_text, has_number, wrapped_rows}
@@ -26,9 +29,11 @@ use Rattle.source_text.specs.declared.fault.Fault.{Fault}
 use Rattle.source_text.specs.declared.fault.Fault.TheVariants.{WriteFailed}
 use Rattle.commands.specs.declared.command.Command.TheVariants.{Fix}
 use Rattle.language.proofs.layout.LaidItems.{fixed_items}
-use Rattle.language.proofs.layout.WrappedRows.{text_fits}
+use Rattle.language.proofs.layout.WrappedRows.{text_fits_in}
 use Rattle.language.proofs.layout.ReadItems.{readable_utf8}
-use Rattle.language.proofs.texts.DerivedWords.{text_worded}
+use Rattle.language.proofs.table.Alike.{same as alike}
+use Rattle.language.proofs.texts.DerivedWords.{seen_worded}
+use Rattle.language.proofs.texts.StartPlaces.{starting_place}
 use Rattle.parser.specs.declared.script.Parsed.{Parsed}
 use Rattle.lint.specs.declared.answer.Answer.TheVariants.{Fixed}
 use Rattle.lint.specs.Fixes.{Fixes, IsStable}
@@ -51,49 +56,51 @@ counted n None k is h = elim h [ ]
 counted n (Some m) k is (at_most h) = let count : length (wrapped_rows n script 1) ≡ m = wrapped_count n m (sym is) in omega (arith, count, h)
 
 -- no derivation of the same tree has fewer pairs than nodes are wrapped
-pub fewest : (n m : Tree) (source : List ℕ) (P : List Pair) → SameTree m n → Derives source m P → length (wrapped_rows n script 1) ≤ length P
-fewest n m source P same derived = counted n (least n script) (length P) refl (derived_at_least n m source P same derived)
+pub fewest : (language : Language) (n m : Tree) (source : List ℕ) (P : List Pair) → SameTree m n → DerivesIn language source m P → length (wrapped_rows n script 1) ≤ length P
+fewest language n m source P same derived = counted n (least n script) (length P) refl (derived_at_least_in language n m source P same derived)
 
 -- ---- the fixed text
 
 -- the fixed text of an accepted tree
-pub fixes : (text fixed : List ℕ) (n : Tree) (P : List Pair) → IsUtf8 fixed → Accepted text n P → fixed ≡ fixed_text n → Fixes text fixed
-fixes text fixed n P utf8 is laid = from (within_always script_readable text n P is.source is.derived)
+pub fixes : (language : Language) (text fixed : List ℕ) (n : Tree) (P : List Pair) → IsUtf8 fixed → Accepted language text n P → fixed ≡ fixed_text n → Fixes language text fixed
+fixes language text fixed n P utf8 is laid = from (within_always_in language text n P is.source is.derived.0 is.derived.1)
   where
-    only_again : (m : Tree) (Q : List Pair) → WithinLimits (fixed_text n) m Q → IsOnly fixed m Q
-    only_again m Q within = only_script fixed m Q (subst (λ t. WithinLimits t m Q) (sym laid) within)
+    only_again : (m : Tree) (Q : List Pair) → WithinLimitsIn language (fixed_text n) m Q → IsOnly language fixed m Q
+    only_again m Q within = only_script language fixed m Q (subst (λ t. WithinLimitsIn language t m Q) (sym laid) within)
 
-    from : (m : Tree) × (Q : List Pair) × SameTree m n × WithinLimits (fixed_text n) m Q × (length Q ≡ length (wrapped_rows n script 1)) → Fixes text fixed
-    from (m, Q, same, within, count) = record {
+    from : (m : Tree) × (Q : List Pair) × SameTree m n × (height m ≤ max_height) × DerivesOpenIn language max_open (fixed_text n) m Q × (length Q ≡ length (wrapped_rows n script 1)) → Fixes language text fixed
+    from (m, Q, same, low, derived, count) = let within : WithinLimitsIn language (fixed_text n) m Q = (low, derived) in record {
       tree = n;
       pairs = P;
       accepted = is;
-      only = only_script text n P is.derived;
+      only = only_script language text n P is.derived;
       is_fixed = laid;
       again = m;
       pairs_again = Q;
       same = same;
       only_again = only_again m Q within;
-      accepted_again = record { source = utf8; derived = subst (λ t. WithinLimits t m Q) (sym laid) within; lawful = none_either n m (sym same) is.lawful };
+      accepted_again = record { source = utf8; derived = subst (λ t. WithinLimitsIn language t m Q) (sym laid) within; lawful = none_either n m (sym same) is.lawful };
       fewest = record {
-        attained = (fixed_text n, m, Q, same, (max_open, within.1), refl);
-        least = λ source k R alike d. subst (λ x. x ≤ length R) (sym count) (fewest n k source R alike d);
+        attained = (language, fixed_text n, m, Q, same, (max_open, within.1), refl);
+        least = λ any source k R alike d. subst (λ x. x ≤ length R) (sym count) (fewest any n k source R alike d);
       };
       stable = λ k R d. ap fixed_text (only_again m Q within k R d).0 ∙ same_layout m n same ∙ sym laid;
     }
 
 -- the fixed text of a script is UTF-8
-fixed_utf8 : (text : List ℕ) (n : Tree) (P : List Pair) → IsUtf8 text → Derives text n P → IsUtf8 (fixed_text n)
-fixed_utf8 text n P utf8 derived =
-    subst IsUtf8 (fixed_items n) (readable_utf8 (script_readable (has_number (wrapped_rows n script 1)) n (text_fits text n P derived) (text_worded text n P utf8 derived)))
+fixed_utf8 : (language : Language) (text : List ℕ) (n : Tree) (P : List Pair) → IsUtf8 text → DerivesIn language text n P → IsUtf8 (fixed_text n)
+fixed_utf8 language text n P utf8 derived =
+    let fit = text_fits_in language text n P derived in
+    let worded = seen_worded text utf8 language (has_number (wrapped_rows n script 1)) derived.1.2 (starting_place language text utf8) script alike 1 fit in
+    subst IsUtf8 (fixed_items n) (readable_utf8 (script_readable (has_number (wrapped_rows n script 1)) n fit worded))
 
 -- what `fix` answers: the text that the tree and its wrapped nodes make
-pub fixed_answer : (text : List ℕ) (parsed : Parsed) (wraps : Wraps) → IsReading text parsed.program parsed.pairs.items → AnswersAlone Fix text parsed.program parsed.pairs.items (Ok (Fixed parsed wraps))
-fixed_answer text parsed wraps reading = λ finds given.
+pub fixed_answer : (language : Language) (text : List ℕ) (parsed : Parsed) (wraps : Wraps) → IsReading language text parsed.program parsed.pairs.items → AnswersAlone language Fix text parsed.program parsed.pairs.items (Ok (Fixed parsed wraps))
+fixed_answer language text parsed wraps reading = λ finds given.
     let n = parsed.program in
     let accepted = reading.accepted in
-    let utf8 : IsUtf8 (fixed_text n) = fixed_utf8 text n parsed.pairs.items accepted.source (_, accepted.derived.1) in
-    let is : Fixes text (fixed_text n) = fixes text (fixed_text n) n parsed.pairs.items utf8 accepted refl in
+    let utf8 : IsUtf8 (fixed_text n) = fixed_utf8 language text n parsed.pairs.items accepted.source (_, accepted.derived.1) in
+    let is : Fixes language text (fixed_text n) = fixes language text (fixed_text n) n parsed.pairs.items utf8 accepted refl in
     (refl, ([], refl, (is, refl)))
 
 -- a beginning was written, and the writer failed
@@ -103,5 +110,5 @@ begun text other before after failed h = absurd h
 
 -- ---- fixing again
 
-pub stable : (text fixed : List ℕ) → Fixes text fixed → IsStable fixed
-stable text fixed is again of = of.is_fixed ∙ is.stable of.tree of.pairs (max_open, of.accepted.derived.1)
+pub stable : (language : Language) (text fixed : List ℕ) → Fixes language text fixed → IsStable language fixed
+stable language text fixed is again of = of.is_fixed ∙ is.stable of.tree of.pairs (max_open, of.accepted.derived.1)

@@ -9,7 +9,9 @@ use Rattle.commands.specs.declared.command.Command.TheVariants.{Cost, Verify}
 use Rattle.tree.specs.declared.kind.Kind.{Kind}
 use Rattle.tree.specs.declared.kind.Pair.{Pair}
 use Rattle.tree.specs.Tree.{Tree, SameTree}
-use Rattle.language.specs.Claims.{Table, Derives}
+use Rattle.language.specs.declared.Language.{Language}
+use Rattle.language.specs.Claims.{Table, max_open}
+use Rattle.language.specs.Languages.{DerivesIn}
 use Rattle.cost_table.specs.declared.table.CostTable.{CostTable}
 use Rattle.cost_table.specs.Tables.{table_of}
 use Rattle.cost_certificate.specs.declared.check.BadTable.{BadTable as Bad}
@@ -31,7 +33,7 @@ use Rattle.rules.specs.Reports.{Report}
 use Rattle.rules.specs.Rules.{View}
 use Rattle.lint.specs.declared.answer.Answer.{Answer}
 use Rattle.lint.specs.declared.answer.Answer.TheVariants.{Table as Writes}
-use Rattle.lint.specs.ReadScripts.{IsScript}
+use Rattle.lint.specs.ReadScripts.{IsReading}
 use Rattle.lint.specs.Outputs.{IsSecond, pairs_line, Verifies, RefusesTable}
 use Rattle.lint.specs.Steps.{Answers, AnswersAlone, ReadsTable, output_of, status_of}
 
@@ -131,13 +133,13 @@ failed (Some fault) total bad is = ap Some (sym is)
 
 -- what is answered for a sound table
 pub verifies : (n : Tree) (P : List Pair) (second line : List ℕ) (t : Table) (least : ℕ) → IsTable second t → Judges (first_fault t n) t.total (Ok least)
-    → ((text : List ℕ) (m : Tree) (Q : List Pair) → SameTree m n → Derives text m Q → least ≤ length Q) → line ≡ pairs_line (length P) least → Verifies n P second line
+    → ((language : Language) (text : List ℕ) (m : Tree) (Q : List Pair) → SameTree m n → DerivesIn language text m Q → least ≤ length Q) → line ≡ pairs_line (length P) least → Verifies n P second line
 verifies n P second line t least is judged bound laid =
     let sound = passed (first_fault t n) t.total least judged in record {
       table = t;
       is_table = is;
       sound = sound_by t n (table_typed second t is) sound.0;
-      least = λ text m Q same derives. subst (λ k. k ≤ length Q) sound.1 (bound text m Q same derives);
+      least = λ language text m Q same derives. subst (λ k. k ≤ length Q) sound.1 (bound language text m Q same derives);
       line = laid ∙ ap (pairs_line (length P)) sound.1;
     }
 
@@ -146,39 +148,39 @@ pub refuses : (n : Tree) (second : List ℕ) (t : Table) (bad : Bad) → IsTable
 refuses n second t bad is judged = inr (t, is, failed (first_fault t n) t.total bad judged)
 
 -- what is answered where there is no table
-pub no_table : (finds : View → List Report) (text : List ℕ) (n : Tree) (P : List Pair) (given : Option (List ℕ)) (fault : Fault) (failed : Bool) → ReadsTable given (Err fault) failed → Answers finds Verify text n P given (Err fault) failed
-no_table finds text n P given ReadFailed failed read = (read, refl)
-no_table finds text n P given OutOfMemory failed read = read
-no_table finds text n P given (BadTable row why) failed read = (read.0, (read.2.0, read.2.1, (refl, inl (read.1, read.2.2))))
-no_table finds text n P given (NotUtf8 at) failed read = absurd read
-no_table finds text n P given TooLong failed read = absurd read
-no_table finds text n P given (Syntax at) failed read = absurd read
-no_table finds text n P given TooDeep failed read = absurd read
-no_table finds text n P given (Early number at) failed read = absurd read
-no_table finds text n P given BadSettings failed read = absurd read
-no_table finds text n P given WriteFailed failed read = absurd read
-no_table finds text n P given UnwrapFailed failed read = absurd read
-no_table finds text n P given Usage failed read = absurd read
+pub no_table : (finds : View → List Report) (language : Language) (text : List ℕ) (n : Tree) (P : List Pair) (given : Option (List ℕ)) (fault : Fault) (failed : Bool) → ReadsTable given (Err fault) failed → Answers finds language Verify text n P given (Err fault) failed
+no_table finds language text n P given ReadFailed failed read = (read, refl)
+no_table finds language text n P given OutOfMemory failed read = read
+no_table finds language text n P given (BadTable row why) failed read = (read.0, (read.2.0, read.2.1, (refl, inl (read.1, read.2.2))))
+no_table finds language text n P given (NotUtf8 at) failed read = absurd read
+no_table finds language text n P given TooLong failed read = absurd read
+no_table finds language text n P given (Syntax at) failed read = absurd read
+no_table finds language text n P given TooDeep failed read = absurd read
+no_table finds language text n P given (Early number at) failed read = absurd read
+no_table finds language text n P given BadSettings failed read = absurd read
+no_table finds language text n P given WriteFailed failed read = absurd read
+no_table finds language text n P given UnwrapFailed failed read = absurd read
+no_table finds language text n P given Usage failed read = absurd read
 
 -- where the table is sound
-pub sound_table : (finds : View → List Report) (text : List ℕ) (n : Tree) (P : List Pair) (given : Option (List ℕ)) (failed : Bool) (table : CostTable) (least : ℕ) (answer : Answer)
+pub sound_table : (finds : View → List Report) (language : Language) (text : List ℕ) (n : Tree) (P : List Pair) (given : Option (List ℕ)) (failed : Bool) (table : CostTable) (least : ℕ) (answer : Answer)
     → ReadsTable given (Ok table) failed → Judges (first_fault (table_of table.rows.items table.total) n) table.total (Ok least)
-    → ((text : List ℕ) (m : Tree) (Q : List Pair) → SameTree m n → Derives text m Q → least ≤ length Q) → output_of answer ≡ pairs_line (length P) least → status_of answer ≡ 0
-    → Answers finds Verify text n P given (Ok answer) failed
-sound_table finds text n P given failed table least answer read judged bound laid status =
+    → ((language : Language) (text : List ℕ) (m : Tree) (Q : List Pair) → SameTree m n → DerivesIn language text m Q → least ≤ length Q) → output_of answer ≡ pairs_line (length P) least → status_of answer ≡ 0
+    → Answers finds language Verify text n P given (Ok answer) failed
+sound_table finds language text n P given failed table least answer read judged bound laid status =
     (read.0, (read.1.0, read.1.1, (verifies n P read.1.0 (output_of answer) (table_of table.rows.items table.total) least read.1.2 judged bound laid, status)))
 
 -- where it isn't
-pub faulty_table : (finds : View → List Report) (text : List ℕ) (n : Tree) (P : List Pair) (given : Option (List ℕ)) (failed : Bool) (table : CostTable) (bad : Bad)
-    → ReadsTable given (Ok table) failed → Judges (first_fault (table_of table.rows.items table.total) n) table.total (Err bad) → Answers finds Verify text n P given (Err (BadTable bad.row bad.reason)) failed
-faulty_table finds text n P given failed table bad read judged =
+pub faulty_table : (finds : View → List Report) (language : Language) (text : List ℕ) (n : Tree) (P : List Pair) (given : Option (List ℕ)) (failed : Bool) (table : CostTable) (bad : Bad)
+    → ReadsTable given (Ok table) failed → Judges (first_fault (table_of table.rows.items table.total) n) table.total (Err bad) → Answers finds language Verify text n P given (Err (BadTable bad.row bad.reason)) failed
+faulty_table finds language text n P given failed table bad read judged =
     (read.0, (read.1.0, read.1.1, (refl, refuses n read.1.0 (table_of table.rows.items table.total) bad read.1.2 judged)))
 
 -- ---- cost
 
 -- the table of a plan is what `cost` writes
-pub planned : (text : List ℕ) (n : Tree) (P : List Pair) (parsed : Parsed) (plan : Plan) → IsScript n P → IsPlan n plan → AnswersAlone Cost text n P (Ok (Writes parsed plan))
-planned text n P parsed plan is meets = λ finds given. (
+pub planned : (language : Language) (text : List ℕ) (n : Tree) (P : List Pair) (parsed : Parsed) (plan : Plan) → IsReading language text n P → IsPlan n plan → AnswersAlone language Cost text n P (Ok (Writes parsed plan))
+planned language text n P parsed plan reading meets = λ finds given. (
   refl,
   (
     [],
@@ -187,7 +189,7 @@ planned text n P parsed plan is meets = λ finds given. (
       record {
         table = table_of plan.table.rows.items plan.table.total;
         bounds = meets.bounds;
-        exact = meets.exact is.text P is.utf8 is.derived;
+        exact = meets.exact language text P reading.accepted.source (max_open, reading.accepted.derived.1);
         is_text = refl;
       },
       refl,

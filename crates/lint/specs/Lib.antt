@@ -1,3 +1,4 @@
+pub mod Languages
 pub mod ReadScripts
 pub mod Fixes
 pub mod Unwraps

@@ -19,14 +19,16 @@ use Rattle.tokens.specs.Reading.{any_goal}
 use Rattle.language.specs.Token.{Token}
 use Rattle.language.specs.Pieces.{script}
 use Rattle.language.specs.Grammar.{ways}
-use Rattle.language.specs.Cursor.{beginning}
-use Rattle.language.specs.Places.{SpellsIn, NextIn, itself}
+use Rattle.language.specs.declared.Language.{Language}
+use Rattle.language.specs.Languages.{DerivesIn, Seen, beginning_in, seen_in}
+use Rattle.language.specs.Places.{NextIn}
+use Rattle.language.specs.Derivation.{Spells}
 use Rattle.language.specs.Layout.{has_number, wrapped_rows}
-use Rattle.language.specs.Claims.{Table, Derives, Sound}
-use Rattle.language.specs.ExactCells.{Exact}
+use Rattle.language.specs.Claims.{Table, Sound}
 use Rattle.estree_json.specs.Json.{json_text}
 use Rattle.cost_table.specs.Tables.{MeetsBounds}
 use Rattle.wrap_flags.specs.Flags.{is_flagged}
+use Rattle.language.specs.ExactIn.{ExactIn}
 use Rattle.paren_planner.specs.PairNodes.{pair_rows, spans_but_needed}
 use Rattle.scopes.specs.Found.{found}
 use Rattle.rules.specs.Reports.{Report}
@@ -39,6 +41,8 @@ use Rattle.rules.specs.Rules.{View}
 use Rattle.rules.specs.Lines.{report_lines, report_status, span_lines}
 use Rattle.cost_certificate.specs.Forms.{IsTable, IsBadLine, short, table_text}
 use Rattle.cost_certificate.specs.Faults.{first_fault}
+use Rattle.commands.specs.declared.language_choice.LanguageChoice.{LanguageChoice}
+use Rattle.lint.specs.Languages.{asked_language, language_of}
 use Rattle.lint.specs.ReadScripts.{IsReading}
 use Rattle.lint.specs.Fixes.{Fixes}
 use Rattle.lint.specs.Unwraps.{Unwraps, IsUnwrapped, RefusesScript}
@@ -46,48 +50,61 @@ use Rattle.lint.specs.Unwraps.{Unwraps, IsUnwrapped, RefusesScript}
 -- ---- check
 
 -- All grouping pairs of a script's derivation but the innermost of each node that the fixer wraps.
-pub record IsExtra (text : List ℕ) (n : SyntaxTree) (P : List Pair) (extra : List Span) : Type 0 where
+pub record IsExtra (language : Language) (text : List ℕ) (n : SyntaxTree) (P : List Pair) (extra : List Span) : Type 0 where
   pub wrapped : List Bool
   pub is_wrapped : (r : ℕ) → is_flagged wrapped r ≡ has_number (wrapped_rows n script 1) r
-  pub but_needed : (o : ℕ) (last : Token) (d : SpellsIn text o script n beginning last P) → extra ≡ spans_but_needed wrapped P (pair_rows ways Token (NextIn text any_goal) itself d 1)
+  pub but_needed : (o : ℕ) (last : Token) (d : Spells ways Token (Seen Token (NextIn text any_goal) language) (seen_in language) o script n (beginning_in language text) last P) → extra ≡ spans_but_needed wrapped P (pair_rows ways Token (Seen Token (NextIn text any_goal) language) (seen_in language) d 1)
 
 -- What rules look at in a script: its tree, its scopes, its extra pairs, and the settings.
-pub record IsView (text : List ℕ) (n : SyntaxTree) (P : List Pair) (settings : Settings) (view : View) : Type 0 where
+pub record IsView (language : Language) (text : List ℕ) (n : SyntaxTree) (P : List Pair) (settings : Settings) (view : View) : Type 0 where
   pub of_tree : view.tree ≡ n
   pub of_scopes : view.found ≡ found n
-  pub of_extra : IsExtra text n P view.extra
+  pub of_extra : IsExtra language text n P view.extra
   pub of_settings : view.settings ≡ settings
 
 -- All that the rules find in that view, by start, rule, end and text.
-pub record Reports (finds : View → List Report) (text : List ℕ) (n : SyntaxTree) (P : List Pair) (settings : Settings) (reports : List Report) : Type 0 where
+pub record Reports (finds : View → List Report) (language : Language) (text : List ℕ) (n : SyntaxTree) (P : List Pair) (settings : Settings) (reports : List Report) : Type 0 where
   pub view : View
-  pub is_view : IsView text n P settings view
+  pub is_view : IsView language text n P settings view
   pub all : IsPermutation (finds view) reports
   pub sorted : IsSorted report_cmp reports
 
 -- A line for each report under the settings of the second file; the status says whether there is one.
-pub record Checks (finds : View → List Report) (text : List ℕ) (n : SyntaxTree) (P : List Pair) (second output : List ℕ) (status : ℕ) : Type 0 where
+pub record Checks (finds : View → List Report) (language : Language) (text : List ℕ) (n : SyntaxTree) (P : List Pair) (second output : List ℕ) (status : ℕ) : Type 0 where
   pub settings : Settings
   pub utf8 : IsUtf8 second
   pub are_settings : settings_of_text second ≡ Some settings
   pub reports : List Report
-  pub are_reports : Reports finds text n P settings reports
+  pub are_reports : Reports finds language text n P settings reports
   pub are_lines : output ≡ report_lines text reports
   pub is_status : status ≡ report_status reports
 
 -- Of the reports whose lines `check` writes with places, and with its status, the lines with their spans.
-pub record ChecksSpans (finds : View → List Report) (text : List ℕ) (n : SyntaxTree) (P : List Pair) (second output : List ℕ) (status : ℕ) : Type 0 where
+pub record ChecksSpans (finds : View → List Report) (language : Language) (text : List ℕ) (n : SyntaxTree) (P : List Pair) (second output : List ℕ) (status : ℕ) : Type 0 where
   pub with_places : List ℕ
-  pub checks : Checks finds text n P second with_places status
+  pub checks : Checks finds language text n P second with_places status
   pub are_spans : output ≡ span_lines checks.reports
 
 -- Settings are refused, at this line and column: where they are no UTF-8 behind the longest beginning that is, where they are no TOML at a
 -- place of the text, and at none, both 0, where they are too long or are TOML that gives none.
-abbrev pub RefusesSettings : List ℕ → ℕ × ℕ → Type 0
-RefusesSettings second place =
+abbrev pub RefusesSettingsText : List ℕ → ℕ × ℕ → Type 0
+RefusesSettingsText second place =
     ((at : ℕ) × IsRefusal second (NotUtf8 at) × (place ≡ line_column (take at second) at))
     ⊎ ((IsUtf8 second × ((at : ℕ) × RefusesToml second (NotToml at) × (place ≡ line_column second at)))
     ⊎ ((place ≡ (0, 0)) × (IsRefusal second TooLong ⊎ (IsUtf8 second × GivesNone second))))
+
+-- the settings of the text leave no language that a call asks for
+abbrev pub Contradicts : LanguageChoice → List ℕ → Type 0
+Contradicts choice second = IsUtf8 second × ((settings : Settings) × (settings_of_text second ≡ Some settings) × (language_of choice settings.languages ≡ None))
+
+-- settings are refused for their text, or, at no place, since they contradict what a call asks for
+abbrev pub RefusesSettings : LanguageChoice → List ℕ → ℕ × ℕ → Type 0
+RefusesSettings choice second place = RefusesSettingsText second place ⊎ ((place ≡ (0, 0)) × Contradicts choice second)
+
+-- the language of a command's script: the one that is asked for; for `check` the first that is asked for and that the settings leave
+abbrev pub IsLanguage : Command → LanguageChoice → List ℕ → Language → Type 0
+IsLanguage (Check form) choice second language = (settings : Settings) × (settings_of_text second ≡ Some settings) × (language_of choice settings.languages ≡ Some language)
+IsLanguage other choice second language = language ≡ asked_language choice
 
 -- ---- tree, cost, verify
 
@@ -96,10 +113,10 @@ abbrev pub tree_line : SyntaxTree → List ℕ
 tree_line n = json_text n ++ 10 ∷ []
 
 -- The text of the cost table: each cell meets its bound and is the least number of pairs of its node there; the total is the fewest.
-pub record Costs (n : SyntaxTree) (output : List ℕ) : Type 0 where
+pub record Costs (language : Language) (n : SyntaxTree) (output : List ℕ) : Type 0 where
   pub table : Table
   pub bounds : MeetsBounds table n
-  pub exact : Exact table n
+  pub exact : ExactIn language table n
   pub is_text : output ≡ table_text short table
 
 -- `pairs P least T` and a line feed
@@ -112,7 +129,7 @@ pub record Verifies (n : SyntaxTree) (P : List Pair) (second output : List ℕ) 
   pub table : Table
   pub is_table : IsTable second table
   pub sound : Sound table n
-  pub least : (text : List ℕ) (m : SyntaxTree) (Q : List Pair) → SameTree m n → Derives text m Q → table.total ≤ length Q
+  pub least : (language : Language) (text : List ℕ) (m : SyntaxTree) (Q : List Pair) → SameTree m n → DerivesIn language text m Q → table.total ≤ length Q
   pub line : output ≡ pairs_line (length P) table.total
 
 -- The second file is no table's text, and this is its first line, counted from 0, that no table's text has there; or it is that of a
@@ -128,12 +145,12 @@ TellsSame m n zero = SameTree m n
 TellsSame m n (suc zero) = SameTree m n → ⊥
 TellsSame m n (suc (suc other)) = ⊥
 
--- The second file is the text of a script, within the longest text, which derives one tree, and the status says whether that is this one.
-pub record Compares (n : SyntaxTree) (second : List ℕ) (status : ℕ) : Type 0 where
+-- The second file is the text of a script of the language, within the longest text, which derives one tree, and the status says whether that is this one.
+pub record Compares (language : Language) (n : SyntaxTree) (second : List ℕ) (status : ℕ) : Type 0 where
   pub short : length second ≤ max_bytes
   pub tree : SyntaxTree
   pub pairs : List Pair
-  pub reading : IsReading second tree pairs
+  pub reading : IsReading language second tree pairs
   pub told : TellsSame tree n status
 
 -- ---- each command
@@ -153,16 +170,16 @@ IsSecondTo (Some limit) given second = IfSome given (λ bytes. second ≡ take (
 abbrev pub IsSecond : Command → Option (List ℕ) → List ℕ → Type 0
 IsSecond command given second = IsSecondTo (second_limit command) given second
 
--- what a command writes of a script that a text derives with these pairs, and its status; `finds` is what the boxed rules find in a view
-abbrev pub IsOutput : (View → List Report) → Command → List ℕ → SyntaxTree → List Pair → (second output : List ℕ) (status : ℕ) → Type 0
-IsOutput finds (Check Places) text n P second output status = Checks finds text n P second output status
-IsOutput finds (Check Spans) text n P second output status = ChecksSpans finds text n P second output status
-IsOutput finds Tree text n P second output status = (output ≡ tree_line n) × (status ≡ 0)
-IsOutput finds Fix text n P second output status = Fixes text output × (status ≡ 0)
-IsOutput finds Unwrap text n P second output status = Unwraps text output × IsUnwrapped output × (status ≡ 0)
-IsOutput finds Cost text n P second output status = Costs n output × (status ≡ 0)
-IsOutput finds Verify text n P second output status = Verifies n P second output × (status ≡ 0)
-IsOutput finds Same text n P second output status = Compares n second status × (output ≡ [])
+-- what a command writes of a script that a text derives in a language with these pairs, and its status; `finds` is what the boxed rules find in a view
+abbrev pub IsOutput : (View → List Report) → Language → Command → List ℕ → SyntaxTree → List Pair → (second output : List ℕ) (status : ℕ) → Type 0
+IsOutput finds language (Check Places) text n P second output status = Checks finds language text n P second output status
+IsOutput finds language (Check Spans) text n P second output status = ChecksSpans finds language text n P second output status
+IsOutput finds language Tree text n P second output status = (output ≡ tree_line n) × (status ≡ 0)
+IsOutput finds language Fix text n P second output status = Fixes language text output × (status ≡ 0)
+IsOutput finds language Unwrap text n P second output status = Unwraps language text output × IsUnwrapped language output × (status ≡ 0)
+IsOutput finds language Cost text n P second output status = Costs language n output × (status ≡ 0)
+IsOutput finds language Verify text n P second output status = Verifies n P second output × (status ≡ 0)
+IsOutput finds language Same text n P second output status = Compares language n second status × (output ≡ [])
 
 -- why a command refuses a script that was read: its table is refused, or it isn't unwrapped
 abbrev pub CommandRefuses : Command → List ℕ → SyntaxTree → List Pair → List ℕ → Fault → Type 0

@@ -9,24 +9,27 @@ use Rattle.source_text.specs.declared.fault.Fault.TheVariants.{NotUtf8, TooLong,
 use Rattle.commands.specs.declared.command.Command.{Command}
 use Rattle.commands.specs.declared.command.Command.TheVariants.{Check, Same}
 use Rattle.commands.specs.declared.command.ReportForm.{ReportForm}
+use Rattle.commands.specs.declared.language_choice.LanguageChoice.{LanguageChoice}
 use Rattle.commands.specs.declared.refused.Refused.{Refused}
 use Rattle.commands.specs.Refused.{place_of}
+use Rattle.language.specs.declared.Language.{Language}
 use Rattle.tree.specs.Tree.{Tree as SyntaxTree}
 use Rattle.tree.specs.declared.kind.Pair.{Pair}
 use Rattle.rules.specs.Reports.{Report}
 use Rattle.rules.specs.Rules.{View}
+use Rattle.lint.specs.Languages.{asked_language}
 use Rattle.lint.specs.ReadScripts.{IsReading, RefusesReading}
-use Rattle.lint.specs.Outputs.{second_limit, IsSecond, IsOutput, CommandRefuses, RefusesSettings}
+use Rattle.lint.specs.Outputs.{second_limit, IsLanguage, IsSecond, IsOutput, CommandRefuses, RefusesSettings}
 
 -- the bytes are source text: UTF-8, and not too long
 abbrev pub IsSource : List ℕ → Type 0
 IsSource text = IsUtf8 text × (length text ≤ max_bytes)
 
--- why a text is refused: it is source text that is refused, or it is none
-abbrev pub RefusesText : List ℕ → Fault → Type 0
-RefusesText text (NotUtf8 at) = IsRefusal text (NotUtf8 at)
-RefusesText text TooLong = IsRefusal text TooLong
-RefusesText text fault = IsSource text × RefusesReading text fault
+-- why a text is refused in a language: it is source text that is refused, or it is none
+abbrev pub RefusesText : Language → List ℕ → Fault → Type 0
+RefusesText language text (NotUtf8 at) = IsRefusal text (NotUtf8 at)
+RefusesText language text TooLong = IsRefusal text TooLong
+RefusesText language text fault = IsSource text × RefusesReading language text fault
 
 -- ---- the devices
 
@@ -44,6 +47,12 @@ pub record Seen : Type 0 where
 abbrev pub NoneFailed : Seen → Type 0
 NoneFailed seen = (seen.reader_failed ≡ false) × (seen.second_failed ≡ false) × (seen.writer_failed ≡ false)
 
+-- no device has failed, but perhaps the second reader of `check`: its settings are read before the script, and that they can't be read is told of a text
+-- alone that is a script
+abbrev pub NoOtherFailed : Command → Seen → Type 0
+NoOtherFailed command seen =
+    (seen.reader_failed ≡ false) × (seen.writer_failed ≡ false) × ((seen.second_failed ≡ false) ⊎ ((form : ReportForm) × (command ≡ Check form)))
+
 abbrev pub NothingWritten : Seen → Type 0
 NothingWritten seen = Keeps seen.before seen.after
 
@@ -53,78 +62,90 @@ IsGiven given text = IfSome given (λ bytes. text ≡ bytes)
 
 -- ---- what was read
 
--- The first reader gave the text of a script, which derives this tree with these pairs and no other.
-pub record ReadsScript (given : Option (List ℕ)) : Type 0 where
+-- The first reader gave the text of a script of the language, which derives this tree with these pairs and no other.
+pub record ReadsScript (language : Language) (given : Option (List ℕ)) : Type 0 where
   pub text : List ℕ
   pub is_given : IsGiven given text
   pub source : IsSource text
   pub tree : SyntaxTree
   pub pairs : List Pair
-  pub reading : IsReading text tree pairs
+  pub reading : IsReading language text tree pairs
 
 -- That script was read, and so much of the second file as the command takes.
-pub record ReadsBoth (command : Command) (given given_second : Option (List ℕ)) : Type 0 where
-  pub script : ReadsScript given
+pub record ReadsBoth (language : Language) (command : Command) (given given_second : Option (List ℕ)) : Type 0 where
+  pub script : ReadsScript language given
   pub second : List ℕ
   pub is_second : IsSecond command given_second second
 
 -- ---- the run
 
--- a command's output for what was read
-pub record HasOutput (finds : View → List Report) (command : Command) (given given_second : Option (List ℕ)) (output : List ℕ) (status : ℕ) : Type 0 where
-  pub read : ReadsBoth command given given_second
-  pub is_output : IsOutput finds command read.script.text read.script.tree read.script.pairs read.second output status
+-- a command's output for what was read, in the language that is asked for and that settings leave
+pub record HasOutput (finds : View → List Report) (command : Command) (choice : LanguageChoice) (given given_second : Option (List ℕ)) (output : List ℕ) (status : ℕ) : Type 0 where
+  pub language : Language
+  pub read : ReadsBoth language command given given_second
+  pub is_language : IsLanguage command choice read.second language
+  pub is_output : IsOutput finds language command read.script.text read.script.tree read.script.pairs read.second output status
 
 -- the whole output was written
-abbrev pub WritesOutput : (View → List Report) → Command → Seen → ℕ → Type 0
-WritesOutput finds command seen status = (output : List ℕ) × HasOutput finds command seen.given seen.second output status × Appends seen.before seen.after output
+abbrev pub WritesOutput : (View → List Report) → Command → LanguageChoice → Seen → ℕ → Type 0
+WritesOutput finds command choice seen status = (output : List ℕ) × HasOutput finds command choice seen.given seen.second output status × Appends seen.before seen.after output
 
 -- a beginning of the output was written
-abbrev pub BeginsOutput : (View → List Report) → Command → Seen → Type 0
-BeginsOutput finds command seen = (output : List ℕ) × (status : ℕ) × HasOutput finds command seen.given seen.second output status × AppendsBeginning seen.before seen.after output
+abbrev pub BeginsOutput : (View → List Report) → Command → LanguageChoice → Seen → Type 0
+BeginsOutput finds command choice seen =
+    (output : List ℕ) × (status : ℕ) × HasOutput finds command choice seen.given seen.second output status × AppendsBeginning seen.before seen.after output
 
--- one reader failed: the first, or behind a script the second, where the command reads it
-abbrev pub FailsToRead : Command → Seen → Type 0
-FailsToRead command seen =
+-- one reader failed: the first, or the second, where the command reads it, and the text is a script in the language that is asked for
+abbrev pub FailsToRead : Command → LanguageChoice → Seen → Type 0
+FailsToRead command choice seen =
     ((seen.reader_failed ≡ true) × (seen.second_failed ≡ false))
-    ⊎ ((seen.reader_failed ≡ false) × (seen.second_failed ≡ true) × IsSome (second_limit command) × ReadsScript seen.given)
+    ⊎ ((seen.reader_failed ≡ false) × (seen.second_failed ≡ true) × IsSome (second_limit command) × ReadsScript (asked_language choice) seen.given)
 
 -- a script that was read is refused by its command, for its table or for what it would write
-abbrev pub RefusesAfter : Command → Seen → Fault → Type 0
-RefusesAfter command seen fault = (read : ReadsBoth command seen.given seen.second) × CommandRefuses command read.script.text read.script.tree read.script.pairs read.second fault
+abbrev pub RefusesAfter : Command → LanguageChoice → Seen → Fault → Type 0
+RefusesAfter command choice seen fault =
+    (read : ReadsBoth (asked_language choice) command seen.given seen.second) × CommandRefuses command read.script.text read.script.tree read.script.pairs read.second fault
 
--- the settings for a script that was read are refused, at this place
-abbrev pub RefusesSettingsAfter : Command → Seen → ℕ × ℕ → Type 0
-RefusesSettingsAfter command seen place = (read : ReadsBoth command seen.given seen.second) × ((form : ReportForm) × (command ≡ Check form)) × RefusesSettings read.second place
+-- the settings for a script are refused, at this place: it is one in the language that is asked for
+abbrev pub RefusesSettingsAfter : Command → LanguageChoice → Seen → ℕ × ℕ → Type 0
+RefusesSettingsAfter command choice seen place =
+    (read : ReadsBoth (asked_language choice) command seen.given seen.second) × ((form : ReportForm) × (command ≡ Check form)) × RefusesSettings choice read.second place
+
+-- a language in which the text is read: the one that is asked for, or that of the settings of `check`
+abbrev pub IsTried : Command → LanguageChoice → Seen → Language → Type 0
+IsTried command choice seen language =
+    (language ≡ asked_language choice) ⊎ ((second : List ℕ) × IsSecond command seen.second second × IsLanguage command choice second language)
 
 -- the text of the first file is refused, at this place
-abbrev pub RefusesFirst : Seen → Fault → ℕ × ℕ → Type 0
-RefusesFirst seen fault place = (text : List ℕ) × IsGiven seen.given text × RefusesText text fault × (place ≡ place_of text fault)
+abbrev pub RefusesFirst : Command → LanguageChoice → Seen → Fault → ℕ × ℕ → Type 0
+RefusesFirst command choice seen fault place =
+    (text : List ℕ) × IsGiven seen.given text × ((language : Language) × IsTried command choice seen language × RefusesText language text fault) × (place ≡ place_of text fault)
 
 -- a refusal by its fault, with the line and the column of its place
-abbrev pub Refuses : (View → List Report) → Command → Seen → Fault → ℕ × ℕ → Type 0
-Refuses finds command seen ReadFailed place = (seen.writer_failed ≡ false) × NothingWritten seen × FailsToRead command seen × (place ≡ (0, 0))
-Refuses finds command seen WriteFailed place =
-    (seen.reader_failed ≡ false) × (seen.second_failed ≡ false) × (seen.writer_failed ≡ true) × BeginsOutput finds command seen × (place ≡ (0, 0))
-Refuses finds command seen OutOfMemory place = NoneFailed seen × NothingWritten seen × (place ≡ (0, 0))
-Refuses finds command seen BadSettings place = NoneFailed seen × NothingWritten seen × RefusesSettingsAfter command seen place
-Refuses finds command seen (BadTable row why) place = NoneFailed seen × NothingWritten seen × RefusesAfter command seen (BadTable row why) × (place ≡ (0, 0))
-Refuses finds command seen UnwrapFailed place = NoneFailed seen × NothingWritten seen × RefusesAfter command seen UnwrapFailed × (place ≡ (0, 0))
-Refuses finds command seen TooLong place = NoneFailed seen × NothingWritten seen × (RefusesFirst seen TooLong place ⊎ (RefusesAfter command seen TooLong × (place ≡ (0, 0))))
-Refuses finds command seen fault place = NoneFailed seen × NothingWritten seen × RefusesFirst seen fault place
+abbrev pub Refuses : (View → List Report) → Command → LanguageChoice → Seen → Fault → ℕ × ℕ → Type 0
+Refuses finds command choice seen ReadFailed place = (seen.writer_failed ≡ false) × NothingWritten seen × FailsToRead command choice seen × (place ≡ (0, 0))
+Refuses finds command choice seen WriteFailed place =
+    (seen.reader_failed ≡ false) × (seen.second_failed ≡ false) × (seen.writer_failed ≡ true) × BeginsOutput finds command choice seen × (place ≡ (0, 0))
+Refuses finds command choice seen OutOfMemory place = NoOtherFailed command seen × NothingWritten seen × (place ≡ (0, 0))
+Refuses finds command choice seen BadSettings place = NoneFailed seen × NothingWritten seen × RefusesSettingsAfter command choice seen place
+Refuses finds command choice seen (BadTable row why) place = NoneFailed seen × NothingWritten seen × RefusesAfter command choice seen (BadTable row why) × (place ≡ (0, 0))
+Refuses finds command choice seen UnwrapFailed place = NoneFailed seen × NothingWritten seen × RefusesAfter command choice seen UnwrapFailed × (place ≡ (0, 0))
+Refuses finds command choice seen TooLong place =
+    NoneFailed seen × NothingWritten seen × (RefusesFirst command choice seen TooLong place ⊎ (RefusesAfter command choice seen TooLong × (place ≡ (0, 0))))
+Refuses finds command choice seen fault place = NoOtherFailed command seen × NothingWritten seen × RefusesFirst command choice seen fault place
 
--- `same` refuses its second script: the text of the second file is refused, at this place
-abbrev pub RefusesSecond : Command → Seen → Fault → ℕ × ℕ → Type 0
-RefusesSecond command seen fault place =
+-- `same` refuses its second script: the text of the second file is refused in the language of the first, at this place
+abbrev pub RefusesSecond : Command → LanguageChoice → Seen → Fault → ℕ × ℕ → Type 0
+RefusesSecond command choice seen fault place =
     (command ≡ Same) × (fault ≢ OutOfMemory) × NoneFailed seen × NothingWritten seen
-    × ((read : ReadsBoth command seen.given seen.second) × RefusesText read.second fault × (place ≡ place_of read.second fault))
+    × ((read : ReadsBoth (asked_language choice) command seen.given seen.second) × RefusesText (asked_language choice) read.second fault × (place ≡ place_of read.second fault))
 
 -- a refusal, of the second script or not
-abbrev pub RefusesIn : Bool → (View → List Report) → Command → Seen → Fault → ℕ × ℕ → Type 0
-RefusesIn true finds command seen fault place = RefusesSecond command seen fault place
-RefusesIn false finds command seen fault place = Refuses finds command seen fault place
+abbrev pub RefusesIn : Bool → (View → List Report) → Command → LanguageChoice → Seen → Fault → ℕ × ℕ → Type 0
+RefusesIn true finds command choice seen fault place = RefusesSecond command choice seen fault place
+RefusesIn false finds command choice seen fault place = Refuses finds command choice seen fault place
 
 -- a run: the whole output and its status, or a refusal
-abbrev pub Runs : (View → List Report) → Command → Seen → Result ℕ Refused → Type 0
-Runs finds command seen (Ok status) = NoneFailed seen × WritesOutput finds command seen status
-Runs finds command seen (Err refused) = RefusesIn refused.in_second finds command seen refused.fault (refused.line, refused.column)
+abbrev pub Runs : (View → List Report) → Command → LanguageChoice → Seen → Result ℕ Refused → Type 0
+Runs finds command choice seen (Ok status) = NoneFailed seen × WritesOutput finds command choice seen status
+Runs finds command choice seen (Err refused) = RefusesIn refused.in_second finds command choice seen refused.fault (refused.line, refused.column)

@@ -8,25 +8,26 @@ use Rattle.tree.specs.Tree.{Tree, SameTree}
 use Rattle.tree.specs.declared.kind.Pair.{Pair}
 use Rattle.language.specs.Pieces.{script}
 use Rattle.language.specs.Cost.{least}
-use Rattle.language.specs.Claims.{WithinLimits, Fewest}
+use Rattle.language.specs.declared.Language.{Language}
+use Rattle.recursive_descent.specs.Limits.{WithinLimitsIn}
 use Rattle.early_errors.specs.Accepted.{Accepted}
 use Rattle.unwrapping.specs.Keeps.{Keeps}
-use Rattle.lint.specs.ReadScripts.{IsOnly, RefusesReading}
+use Rattle.lint.specs.ReadScripts.{FewestInAny, IsOnly, RefusesReading}
 
--- The text is accepted with a tree, and derives no other. So is the unwrapped text, with the same tree, places aside; no text that derives
--- that tree has fewer grouping pairs. It keeps the tokens of the text but for grouping parentheses, each with the comments before it, and the
+-- The text is accepted in a language with a tree, and derives no other there. So is the unwrapped text, with the same tree, places aside; no text of any
+-- language that derives that tree has fewer grouping pairs. It keeps the tokens of the text but for grouping parentheses, each with the comments before it, and the
 -- bytes between tokens where no parenthesis goes or comes. Where the text has no more pairs, the unwrapped text is the text itself.
-pub record Unwraps (text unwrapped : List ℕ) : Type 0 where
+pub record Unwraps (language : Language) (text unwrapped : List ℕ) : Type 0 where
   pub tree : Tree
   pub pairs : List Pair
-  pub accepted : Accepted text tree pairs
-  pub only : IsOnly text tree pairs
+  pub accepted : Accepted language text tree pairs
+  pub only : IsOnly language text tree pairs
   pub again : Tree
   pub pairs_again : List Pair
   pub same : SameTree again tree
-  pub accepted_again : Accepted unwrapped again pairs_again
-  pub only_again : IsOnly unwrapped again pairs_again
-  pub fewest : Fewest tree (length pairs_again)
+  pub accepted_again : Accepted language unwrapped again pairs_again
+  pub only_again : IsOnly language unwrapped again pairs_again
+  pub fewest : FewestInAny tree (length pairs_again)
   pub kept : Keeps text tree pairs unwrapped again pairs_again
   pub untouched : length pairs ≡ length pairs_again → unwrapped ≡ text
 
@@ -36,16 +37,16 @@ unwrapped_text text (Some made) = string_bytes made
 unwrapped_text text None = text
 
 -- unwrapping the unwrapped text gives it again
-abbrev pub IsUnwrapped : List ℕ → Type 0
-IsUnwrapped unwrapped = (again : List ℕ) → Unwraps unwrapped again → again ≡ unwrapped
+abbrev pub IsUnwrapped : Language → List ℕ → Type 0
+IsUnwrapped language unwrapped = (again : List ℕ) → Unwraps language unwrapped again → again ≡ unwrapped
 
--- an unwrapped text within the limits has the tree of a text, places aside, and so many grouping pairs, and keeps the text's tokens and what stands
+-- an unwrapped text of the language within the limits has the tree of a text, places aside, and so many grouping pairs, and keeps the text's tokens and what stands
 -- between them
-pub record SpellsWith (text unwrapped : List ℕ) (n : Tree) (P : List Pair) (count : ℕ) : Type 0 where
+pub record SpellsWith (language : Language) (text unwrapped : List ℕ) (n : Tree) (P : List Pair) (count : ℕ) : Type 0 where
   pub again : Tree
   pub pairs : List Pair
   pub source : IsUtf8 unwrapped
-  pub derived : WithinLimits unwrapped again pairs
+  pub derived : WithinLimitsIn language unwrapped again pairs
   pub kept : Keeps text n P unwrapped again pairs
   pub same : SameTree again n
   pub counted : length pairs ≡ count
@@ -74,13 +75,13 @@ RefusesScript text n P OutOfMemory = Unit {0}
 RefusesScript text n P _ = ⊥
 
 -- a script is refused, with its tree and its pairs
-abbrev pub RefusesAccepted : List ℕ → Fault → Type 0
-RefusesAccepted text fault = (n : Tree) × (P : List Pair) × Accepted text n P × RefusesScript text n P fault
+abbrev pub RefusesAccepted : Language → List ℕ → Fault → Type 0
+RefusesAccepted language text fault = (n : Tree) × (P : List Pair) × Accepted language text n P × RefusesScript text n P fault
 
 -- A text that is refused is no script, as when it is read. A script is refused where memory is refused; or it has more pairs than the fewest, and
 -- its unwrapped text is too long, or what was made of it isn't the same script with the fewest pairs: that this never happens is tested, not
 -- proved.
-abbrev pub RefusesUnwrapping : List ℕ → Fault → Type 0
-RefusesUnwrapping text TooLong = RefusesAccepted text TooLong
-RefusesUnwrapping text UnwrapFailed = RefusesAccepted text UnwrapFailed
-RefusesUnwrapping text fault = RefusesReading text fault
+abbrev pub RefusesUnwrapping : Language → List ℕ → Fault → Type 0
+RefusesUnwrapping language text TooLong = RefusesAccepted language text TooLong
+RefusesUnwrapping language text UnwrapFailed = RefusesAccepted language text UnwrapFailed
+RefusesUnwrapping language text fault = RefusesReading language text fault

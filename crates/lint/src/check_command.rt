@@ -1,17 +1,22 @@
 //! The command `check`: settings, the reports of a script, and their lines.
 
-ghost use Rattle.std.specs.Prelude.{◌≡◌, ◌≢◌, ◌≤◌, false, length, IfErr, IfOk, Some, string_bytes};
+ghost use Rattle.std.specs.Prelude.{◌≡◌, ◌≢◌, false, IfErr, IfOk, Some, string_bytes};
 ghost use Rattle.std.specs.Str.{IsUtf8};
 ghost use Rattle.source_text.specs.declared.fault.Fault.TheVariants.{Usage};
+ghost use Rattle.commands.specs.declared.command.Command.TheVariants.{Check};
 ghost use Rattle.rules.specs.Run.{all_found};
 ghost use Rattle.rules.specs.Toml.{settings_of_text};
-ghost use Rattle.lint.specs.ReadScripts.{IsReading, IsScript};
+ghost use Rattle.lint.specs.ReadScripts.{IsScript};
 ghost use Rattle.lint.specs.Outputs.{IsExtra, Reports};
-ghost use Rattle.lint.specs.Steps.{AnswersCheck, ReadsSettings, IsWritable, RefusesSettingsBy, ReportsLines, lines_in};
+ghost use Rattle.lint.specs.Run.{IsSource};
+ghost use Rattle.lint.specs.Steps.{AnswersBytes, ReadsLanguage, RefusesChecked, ReadsSettings, IsWritable, RefusesSettingsBy, ReportsLines, lines_in};
 
 use crate::answer::Answer;
-use crate::refusals::{no_settings, no_settings_text};
-use commands::{Refused, ReportForm, read_up_to};
+use crate::languages::{asked_language, language_of};
+use crate::refusals::{no_settings, no_settings_text, refused_at};
+use crate::script_reader::read_script;
+use commands::{LanguageChoice, Refused, ReportForm, read_up_to};
+use language::Language;
 use paren_planner::{extra_pairs, wraps_by_pairs};
 use parser::Parsed;
 use rules::{Report, Rule, Settings, View, report_lines, report_status, run_rules, span_lines};
@@ -56,10 +61,57 @@ fn read_settings<S: Feed>(alloc: Global, second: &mut S) -> Result<Settings, Ref
     }
 }
 
+/// What a script is checked by.
+#[derive(Drop)]
+struct Checked {
+    settings: Settings,
+    language: Language,
+}
+
+/// The settings of the second file, and the language that is asked for and that they leave.
+///
+/// # Errors
+///
+/// Those of `read_settings`; `BadSettings` also where settings leave no language that is asked for.
+fn read_second<S: Feed>(
+    alloc: Global,
+    choice: LanguageChoice,
+    second: &mut S,
+) -> Result<Checked, Refused>
+    requires ready { S.failed second.old ≡ false }
+    ensures { ReadsLanguage choice (S.left second.old) result (S.failed second.new) }
+{
+    let settings = match read_settings(alloc, second) {
+        Ok(settings) => settings,
+        Err(refused) => return Err(refused),
+    };
+    match language_of(choice, settings.languages()) {
+        Some(language) => Ok(Checked { settings, language }),
+        None => Err(Refused::at_no_place(Fault::BadSettings)),
+    }
+}
+
+/// The refusal of `check` where its settings are refused: of the script, where it is none in the language that is asked for, else that of
+/// the settings.
+fn refusal(
+    alloc: Global,
+    choice: LanguageChoice,
+    source: &Source<'_>,
+    of_settings: Refused,
+) -> Refused
+    requires source { IsSource source.now }
+    ensures { RefusesChecked choice source.now of_settings result }
+{
+    match read_script(alloc, source, asked_language(choice)) {
+        Ok(_) => of_settings,
+        Err(fault) => refused_at(source, fault),
+    }
+}
+
 /// The spans of a script's extra pairs: all its grouping pairs but the innermost of each node that the fixer wraps.
 fn extra_spans(alloc: Global, parsed: &Parsed<'_>) -> Result<Vec<Span>, AllocError>
     requires script { IsScript parsed.now.program parsed.now.pairs.items }
-    ensures { IfOk result (λ spans. (text : _) → IsUtf8 text → IsExtra text parsed.now.program parsed.now.pairs.items spans.items) }
+    ensures { IfOk result (λ spans. (language text : _) → IsUtf8 text → IsExtra language text parsed.now.program parsed.now.pairs.items spans.items) }
 {
     let program = parsed.program();
     let pairs = parsed.grouping_pairs();
@@ -77,7 +129,7 @@ fn reports(
     settings: &Settings,
 ) -> Result<Vec<Report>, AllocError>
     requires script { IsScript parsed.now.program parsed.now.pairs.items }
-    ensures { IfOk result (λ reports. (text : _) → IsUtf8 text → Reports (all_found (λ b. called b) (λ b. finds b) rules.now) text parsed.now.program parsed.now.pairs.items settings.now reports.items) }
+    ensures { IfOk result (λ reports. (language text : _) → IsUtf8 text → Reports (all_found (λ b. called b) (λ b. finds b) rules.now) language text parsed.now.program parsed.now.pairs.items settings.now reports.items) }
 {
     let extra = extra_spans(alloc, parsed)?;
     let scopes = resolve(alloc, parsed.program())?;
@@ -112,7 +164,7 @@ fn report<'s>(
 ) -> Result<Answer<'s>, AllocError>
     requires script { IsScript parsed.now.program parsed.now.pairs.items }
     requires utf8 { IsUtf8 source.now }
-    ensures lines { IfOk result (ReportsLines (all_found (λ b. called b) (λ b. finds b) rules.now) form source.now parsed.now.program parsed.now.pairs.items settings.now) }
+    ensures lines { IfOk result (λ answer. (language : _) → ReportsLines (all_found (λ b. called b) (λ b. finds b) rules.now) form language source.now parsed.now.program parsed.now.pairs.items settings.now answer) }
     ensures writable { IfOk result IsWritable }
 {
     let reports = reports(alloc, rules, parsed, settings)?;
@@ -121,32 +173,37 @@ fn report<'s>(
 }
 
 /// What `check` answers: the lines of the reports in a form, under the settings of the second file, which is read to its end, or to one
-/// byte past the longest text; status 1 where there is a report.
+/// byte past the longest text; status 1 where there is a report. The script is read in the language that is asked for and that the settings
+/// leave.
 ///
 /// # Errors
 ///
-/// `BadSettings` where the settings are too long, aren't UTF-8 or are refused, with line and column where they aren't UTF-8 or no TOML; `ReadFailed`
-/// where the reader fails; `OutOfMemory`.
+/// What `read_script` refuses; `BadSettings` where the settings are too long, aren't UTF-8, are refused, or leave no language that is asked
+/// for, with line and column where they aren't UTF-8 or no TOML; `ReadFailed` where the reader fails; `OutOfMemory`. Where the settings are
+/// refused, a text that is no script in the language that is asked for is refused as such.
 pub(crate) fn check<'s, S: Feed>(
     alloc: Global,
     form: ReportForm,
+    choice: LanguageChoice,
     rules: &[Box<dyn Rule>],
     source: &Source<'_>,
-    parsed: &Parsed<'_>,
     second: &mut S,
 ) -> Result<Answer<'s>, Refused>
-    requires reading { IsReading source.now parsed.now.program parsed.now.pairs.items }
-    requires small { length source.now ≤ 16777216 }
+    requires source { IsSource source.now }
     requires ready { S.failed second.old ≡ false }
-    ensures answer { AnswersCheck (all_found (λ b. called b) (λ b. finds b) rules.now) form source.now parsed.now.program parsed.now.pairs.items (S.left second.old) result (S.failed second.new) }
+    ensures answer { AnswersBytes (all_found (λ b. called b) (λ b. finds b) rules.now) (Check form) choice source.now (S.left second.old) result (S.failed second.new) }
     ensures writable { IfOk result IsWritable }
     ensures told { IfErr result (λ refused. refused.fault ≢ Usage) }
 {
-    let settings = match read_settings(alloc, second) {
-        Ok(settings) => settings,
-        Err(refused) => return Err(refused),
+    let Checked { settings, language } = match read_second(alloc, choice, second) {
+        Ok(checked) => checked,
+        Err(refused) => return Err(refusal(alloc, choice, source, refused)),
     };
-    match report(alloc, form, rules, source, parsed, &settings) {
+    let parsed = match read_script(alloc, source, language) {
+        Ok(parsed) => parsed,
+        Err(fault) => return Err(refused_at(source, fault)),
+    };
+    match report(alloc, form, rules, source, &parsed, &settings) {
         Ok(answer) => Ok(answer),
         Err(AllocError) => Err(Refused::at_no_place(Fault::OutOfMemory)),
     }

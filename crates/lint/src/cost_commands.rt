@@ -2,7 +2,7 @@
 
 ghost use Rattle.std.specs.Prelude.{◌≡◌, ◌≤◌, false, length, IfOk, string_bytes};
 ghost use Rattle.commands.specs.declared.command.Command.TheVariants.{Cost, Verify};
-ghost use Rattle.lint.specs.ReadScripts.{IsScript};
+ghost use Rattle.lint.specs.ReadScripts.{IsReading, IsScript};
 ghost use Rattle.lint.specs.Outputs.{pairs_line as pairs_line_of};
 ghost use Rattle.lint.specs.Steps.{Answers, AnswersAlone, IsWritable, ReadsTable};
 
@@ -26,7 +26,7 @@ const MAX_TABLE: usize = 2_147_483_648;
 /// `OutOfMemory`.
 pub(crate) fn cost<'s>(alloc: Global, parsed: Parsed<'s>) -> Result<Answer<'s>, Fault>
     requires script { IsScript parsed.program parsed.pairs.items }
-    ensures answer { (text : _) → AnswersAlone Cost text parsed.entry.program parsed.entry.pairs.items result }
+    ensures answer { (language : _) (text : _) → IsReading language text parsed.entry.program parsed.entry.pairs.items → AnswersAlone language Cost text parsed.entry.program parsed.entry.pairs.items result }
     ensures writable { IfOk result IsWritable }
 {
     match plan(alloc, parsed.program()) {
@@ -74,7 +74,7 @@ pub(crate) fn verify<'s, S: Feed>(
 ) -> Result<Answer<'s>, Fault>
     requires script { IsScript parsed.now.program parsed.now.pairs.items }
     requires ready { S.failed second.old ≡ false }
-    ensures answer { (finds text : _) → Answers finds Verify text parsed.now.program parsed.now.pairs.items (S.left second.old) result (S.failed second.new) }
+    ensures answer { (finds language text : _) → Answers finds language Verify text parsed.now.program parsed.now.pairs.items (S.left second.old) result (S.failed second.new) }
     ensures writable { IfOk result IsWritable }
 {
     let table = match read_second(alloc, second) {

@@ -8,6 +8,7 @@ ghost use Rattle.lint.specs.Fixes.{Fixes, FixesEach, IsStable};
 ghost use Rattle.lint.specs.ReadScripts.{IsScript, RefusesReading};
 
 use crate::script_reader::read_script;
+use language::Language;
 use paren_planner::wraps_by_pairs;
 use parser::Parsed;
 use printer::{print, print_text};
@@ -22,7 +23,7 @@ use wrap_flags::Wraps;
 pub fn fix(alloc: Global, parsed: &Parsed<'_>) -> Result<String, AllocError>
     requires script { IsScript parsed.now.program parsed.now.pairs.items }
     ensures laid { IfOk result (λ text. string_bytes text ≡ fixed_text parsed.now.program) }
-    ensures fixed { IfOk result (λ text. FixesEach parsed.now.program parsed.now.pairs.items (string_bytes text)) }
+    ensures fixed { IfOk result (λ text. (language : _) → FixesEach language parsed.now.program parsed.now.pairs.items (string_bytes text)) }
 {
     let program = parsed.program();
     let wraps = wraps_by_pairs(alloc, program, parsed.grouping_pairs())?;
@@ -52,18 +53,18 @@ pub(crate) fn write_fixed<W: Sink>(
     }
 }
 
-/// The fixed text of a text that is a script.
+/// The fixed text of a text that is a script, or a module, in a language.
 ///
 /// # Errors
 /// `Syntax` with a place, a byte offset, where the text is no script; `TooDeep` where it is none within the limits of
 /// `language::limits` (the height, and the parentheses open at one point that group or hold an arrow's parameters); `Early` with
 /// the number and the place of the first early error; `OutOfMemory`.
-pub fn fix_text(alloc: Global, source: &Source<'_>) -> Result<String, Fault>
-    ensures fixed { IfOk result (λ text. Fixes source.now (string_bytes text)) }
-    ensures stable { IfOk result (λ text. IsStable (string_bytes text)) }
-    ensures refused { IfErr result (RefusesReading source.now) }
+pub fn fix_text(alloc: Global, source: &Source<'_>, language: Language) -> Result<String, Fault>
+    ensures fixed { IfOk result (λ text. Fixes language source.now (string_bytes text)) }
+    ensures stable { IfOk result (λ text. IsStable language (string_bytes text)) }
+    ensures refused { IfErr result (RefusesReading language source.now) }
 {
-    let parsed = read_script(alloc, source)?;
+    let parsed = read_script(alloc, source, language)?;
     let text = fix(alloc, &parsed)?;
     Ok(text)
 }

@@ -3,30 +3,65 @@
 ghost use Rattle.std.specs.Prelude.{IfErr, IfOk, ◌≡◌, ◌≢◌, None, false};
 ghost use Rattle.rules.specs.Run.{all_found};
 ghost use Rattle.lint.specs.Outputs.{second_limit};
-ghost use Rattle.lint.specs.Run.{Runs};
+ghost use Rattle.commands.specs.declared.command.Command.TheVariants.{Check};
+ghost use Rattle.lint.specs.Languages.{asked_language};
+ghost use Rattle.lint.specs.Run.{IsSource, Runs};
 ghost use Rattle.lint.specs.Steps.{AnswersBytes, IsWritable};
 
 use crate::answer::Answer;
 use crate::check_command::check;
 use crate::command_answers::answer;
+use crate::languages::asked_language;
 use crate::refusals::refused_at;
 use crate::same_command::same;
 use crate::script_reader::read_script;
-use commands::{Command, Refused, read_up_to};
+use commands::{Command, LanguageChoice, Refused, read_up_to};
+use language::Language;
 use rules::Rule;
 use source_text::{DeviceFault, Fault, Feed, MAX_BYTES, Sink, Source};
 use std::alloc::Global;
 
-/// What a command answers for the bytes of the first file: the script is read before the second file.
+/// What a command but `check` answers of a text: it has to be a script, or a module, of the language.
+fn answer_script<'s, S: Feed>(
+    alloc: Global,
+    command: Command,
+    language: Language,
+    source: &Source<'s>,
+    second: &mut S,
+) -> Result<Answer<'s>, Refused>
+    requires unchecked { (form : _) → command ≢ Check form }
+    requires source { IsSource source.now }
+    requires ready { S.failed second.old ≡ false }
+    ensures answer { (finds : _) (choice : _) → language ≡ asked_language choice → AnswersBytes finds command choice source.now (S.left second.old) result (S.failed second.new) }
+    ensures writable { IfOk result IsWritable }
+    ensures told { IfErr result (λ refused. refused.fault ≢ Fault.Usage) }
+    ensures unread { second_limit command ≡ None → second.new ≡ second.old }
+{
+    let parsed = match read_script(alloc, source, language) {
+        Ok(parsed) => parsed,
+        Err(fault) => return Err(refused_at(source, fault)),
+    };
+    match command {
+        Command::Same => same(alloc, &parsed, language, second),
+        _ => match answer(alloc, command, source, parsed, language, second) {
+            Ok(answer) => Ok(answer),
+            Err(fault) => Err(Refused::at_no_place(fault)),
+        },
+    }
+}
+
+/// What a command answers for the bytes of the first file, in the language that is asked for. `check` reads the settings first, which may
+/// say another one.
 fn answer_bytes<'s, S: Feed>(
     alloc: Global,
     command: Command,
+    choice: LanguageChoice,
     rules: &[Box<dyn Rule>],
     bytes: &'s [u8],
     second: &mut S,
 ) -> Result<Answer<'s>, Refused>
     requires ready { S.failed second.old ≡ false }
-    ensures answer { AnswersBytes (all_found (λ b. called b) (λ b. finds b) rules.now) command bytes.now (S.left second.old) result (S.failed second.new) }
+    ensures answer { AnswersBytes (all_found (λ b. called b) (λ b. finds b) rules.now) command choice bytes.now (S.left second.old) result (S.failed second.new) }
     ensures writable { IfOk result IsWritable }
     ensures told { IfErr result (λ refused. refused.fault ≢ Fault.Usage) }
     ensures unread { second_limit command ≡ None → second.new ≡ second.old }
@@ -35,17 +70,9 @@ fn answer_bytes<'s, S: Feed>(
         Ok(source) => source,
         Err(fault) => return Err(Refused::at_no_place(fault)),
     };
-    let parsed = match read_script(alloc, &source) {
-        Ok(parsed) => parsed,
-        Err(fault) => return Err(refused_at(&source, fault)),
-    };
     match command {
-        Command::Check(form) => check(alloc, form, rules, &source, &parsed, second),
-        Command::Same => same(alloc, &parsed, second),
-        _ => match answer(alloc, command, &source, parsed, second) {
-            Ok(answer) => Ok(answer),
-            Err(fault) => Err(Refused::at_no_place(fault)),
-        },
+        Command::Check(form) => check(alloc, form, choice, rules, &source, second),
+        _ => answer_script(alloc, command, asked_language(choice), &source, second),
     }
 }
 
@@ -65,6 +92,7 @@ fn answer_bytes<'s, S: Feed>(
 pub fn run<R: Feed, S: Feed, W: Sink>(
     alloc: Global,
     command: Command,
+    choice: LanguageChoice,
     rules: &[Box<dyn Rule>],
     file: &mut R,
     second: &mut S,
@@ -75,7 +103,7 @@ pub fn run<R: Feed, S: Feed, W: Sink>(
     requires writes { W.failed writer.old ≡ false }
     ensures told { IfErr result (λ refused. refused.fault ≢ Fault.Usage) }
     ensures unread { second_limit command ≡ None → second.new ≡ second.old }
-    ensures answer { Runs (all_found (λ b. called b) (λ b. finds b) rules.now) command (record {
+    ensures answer { Runs (all_found (λ b. called b) (λ b. finds b) rules.now) command choice (record {
       given = R.left file.old;
       second = S.left second.old;
       before = W.taken writer.old;
@@ -89,7 +117,7 @@ pub fn run<R: Feed, S: Feed, W: Sink>(
         Ok(bytes) => bytes,
         Err(fault) => return Err(Refused::at_no_place(fault)),
     };
-    let answer = match answer_bytes(alloc, command, rules, &bytes, second) {
+    let answer = match answer_bytes(alloc, command, choice, rules, &bytes, second) {
         Ok(answer) => answer,
         Err(refused) => return Err(refused),
     };

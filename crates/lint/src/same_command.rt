@@ -11,26 +11,27 @@ use crate::answer::Answer;
 use crate::refusals::{of_second, refused_at};
 use crate::script_reader::read_script;
 use commands::{Refused, read_up_to};
+use language::Language;
 use parser::Parsed;
 use source_text::{Feed, MAX_BYTES, Source};
 use std::alloc::Global;
 use tree::{Program, same_tree};
 
-/// The script that the bytes of the second file are.
+/// The script that the bytes of the second file are, in the language of the first.
 ///
 /// # Errors
 ///
 /// Those of `Source::new` and of `read_script`, each as a refusal of the second script; `OutOfMemory`.
-fn read_other<'b>(alloc: Global, bytes: &'b [u8]) -> Result<Parsed<'b>, Refused>
+fn read_other<'b>(alloc: Global, bytes: &'b [u8], language: Language) -> Result<Parsed<'b>, Refused>
     ensures source { IfOk result (λ _. IsSource bytes.now) }
-    ensures reading { IfOk result (λ other. IsReading bytes.now other.program other.pairs.items) }
-    ensures refused { IfErr result (RefusesOther bytes.now) }
+    ensures reading { IfOk result (λ other. IsReading language bytes.now other.program other.pairs.items) }
+    ensures refused { IfErr result (RefusesOther language bytes.now) }
 {
     let source = match Source::new(bytes) {
         Ok(source) => source,
         Err(fault) => return Err(of_second(Refused::at_no_place(fault))),
     };
-    match read_script(alloc, &source) {
+    match read_script(alloc, &source, language) {
         Ok(other) => Ok(other),
         Err(fault) => Err(of_second(refused_at(&source, fault))),
     }
@@ -41,11 +42,16 @@ fn read_other<'b>(alloc: Global, bytes: &'b [u8]) -> Result<Parsed<'b>, Refused>
 /// # Errors
 ///
 /// Those of `read_other`.
-fn compare(alloc: Global, program: &Program<'_>, bytes: &[u8]) -> Result<u8, Refused>
-    ensures status { IfOk result (Compares program.now bytes.now) }
-    ensures refused { IfErr result (RefusesOther bytes.now) }
+fn compare(
+    alloc: Global,
+    program: &Program<'_>,
+    bytes: &[u8],
+    language: Language,
+) -> Result<u8, Refused>
+    ensures status { IfOk result (Compares language program.now bytes.now) }
+    ensures refused { IfErr result (RefusesOther language bytes.now) }
 {
-    let other = match read_other(alloc, bytes) {
+    let other = match read_other(alloc, bytes, language) {
         Ok(other) => other,
         Err(refused) => return Err(refused),
     };
@@ -64,10 +70,11 @@ fn compare(alloc: Global, program: &Program<'_>, bytes: &[u8]) -> Result<u8, Ref
 pub(crate) fn same<'s, S: Feed>(
     alloc: Global,
     parsed: &Parsed<'_>,
+    language: Language,
     second: &mut S,
 ) -> Result<Answer<'s>, Refused>
     requires ready { S.failed second.old ≡ false }
-    ensures answer { AnswersSame parsed.now.program (S.left second.old) result (S.failed second.new) }
+    ensures answer { AnswersSame language parsed.now.program (S.left second.old) result (S.failed second.new) }
     ensures writable { IfOk result IsWritable }
     ensures told { IfErr result (λ refused. refused.fault ≢ Usage) }
 {
@@ -75,7 +82,7 @@ pub(crate) fn same<'s, S: Feed>(
         Ok(bytes) => bytes,
         Err(fault) => return Err(Refused::at_no_place(fault)),
     };
-    match compare(alloc, parsed.program(), &bytes) {
+    match compare(alloc, parsed.program(), &bytes, language) {
         Ok(status) => Ok(Answer::Text(String::new(alloc), status)),
         Err(refused) => Err(refused),
     }

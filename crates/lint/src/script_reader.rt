@@ -5,23 +5,28 @@ ghost use Rattle.early_errors.specs.Accepted.{Accepted};
 ghost use Rattle.lint.specs.ReadScripts.{IsOnly, RefusesReading};
 
 use early_errors::first_early_error;
+use language::Language;
 use parser::{Parsed, parse};
 use source_text::{Fault, Source};
 use std::alloc::Global;
 
-/// The script that a text is, with its grouping pairs.
+/// The script, or module, that a text is in a language, with its grouping pairs.
 ///
 /// # Errors
 /// `Syntax` with a place, a byte offset, where the text is no script; `TooDeep` where it is none within the limits of
 /// `language::limits` (the height, and the parentheses open at one point that group or hold an arrow's parameters); `Early` with
 /// the number and the place of the first early error; `OutOfMemory`.
-pub fn read_script<'s>(alloc: Global, source: &Source<'s>) -> Result<Parsed<'s>, Fault>
+pub fn read_script<'s>(
+    alloc: Global,
+    source: &Source<'s>,
+    language: Language,
+) -> Result<Parsed<'s>, Fault>
     ensures short { IfOk result (λ _. length source.now ≤ 16777216) }
-    ensures accepted { IfOk result (λ parsed. Accepted source.now parsed.program parsed.pairs.items) }
-    ensures only { IfOk result (λ parsed. IsOnly source.now parsed.program parsed.pairs.items) }
-    ensures refused { IfErr result (RefusesReading source.now) }
+    ensures accepted { IfOk result (λ parsed. Accepted language source.now parsed.program parsed.pairs.items) }
+    ensures only { IfOk result (λ parsed. IsOnly language source.now parsed.program parsed.pairs.items) }
+    ensures refused { IfErr result (RefusesReading language source.now) }
 {
-    let parsed = parse(alloc, source)?;
+    let parsed = parse(alloc, source, language)?;
     match first_early_error(alloc, parsed.program())? {
         Some((number, at)) => Err(Fault::Early(number, at)),
         None => Ok(parsed),

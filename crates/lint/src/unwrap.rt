@@ -8,6 +8,7 @@ ghost use Rattle.lint.specs.ReadScripts.{IsReading};
 ghost use Rattle.lint.specs.Unwraps.{Unwraps, IsUnwrapped, IsUnfit, MayOutgrow, RefusesScript, RefusesUnwrapping, SpellsWith, unwrapped_text};
 
 use crate::script_reader::read_script;
+use language::Language;
 use paren_planner::{Plan, fewest_by_pairs, plan};
 use parser::{Parsed, parse};
 use source_text::{Fault, MAX_BYTES, Source};
@@ -22,6 +23,7 @@ struct Original<'o, 's> {
     reading: &'o TreeReading,
     program: &'o Program<'s>,
     pairs: &'o [Pair],
+    language: Language,
     /// The fewest pairs.
     count: usize,
 }
@@ -44,14 +46,14 @@ fn too_long(source: &Source<'_>, pairs: &[Pair]) -> Fault
     }
 }
 
-/// Whether bytes are a script within the limits with the same tree and so many pairs, which keeps the tokens and the comments.
+/// Whether bytes are a script of the same language, within the limits, with the same tree and so many pairs, which keeps the tokens and the comments.
 ///
 /// # Errors
 ///
 /// `TooLong` and `UnwrapFailed` where the bytes are longer than a source text may be; `OutOfMemory`.
 fn is_same_script(alloc: Global, bytes: &[u8], original: Original<'_, '_>) -> Result<bool, Fault>
     requires { IsRead original.source.now original.program.now original.pairs.now original.reading.now }
-    ensures spells { IfOk result (λ spells. spells ≡ true → SpellsWith original.entry.source.now bytes.now original.entry.program.now original.entry.pairs.now original.entry.count) }
+    ensures spells { IfOk result (λ spells. spells ≡ true → SpellsWith original.entry.language original.entry.source.now bytes.now original.entry.program.now original.entry.pairs.now original.entry.count) }
     ensures refused { IfErr result (IsUnfit original.entry.source.now original.entry.pairs.now) }
 {
     let source = match Source::new(bytes) {
@@ -59,7 +61,7 @@ fn is_same_script(alloc: Global, bytes: &[u8], original: Original<'_, '_>) -> Re
         Err(Fault::TooLong) => return Err(too_long(original.source, original.pairs)),
         Err(_) => return Ok(false),
     };
-    let again = match parse(alloc, &source) {
+    let again = match parse(alloc, &source, original.language) {
         Ok(again) => again,
         Err(Fault::OutOfMemory) => return Err(Fault::OutOfMemory),
         Err(_) => return Ok(false),
@@ -90,7 +92,7 @@ fn is_same_script(alloc: Global, bytes: &[u8], original: Original<'_, '_>) -> Re
 /// `UnwrapFailed` where they aren't; `TooLong` and `OutOfMemory`.
 fn checked_text(alloc: Global, bytes: Vec<u8>, original: Original<'_, '_>) -> Result<String, Fault>
     requires { IsRead original.source.now original.program.now original.pairs.now original.reading.now }
-    ensures spells { IfOk result (λ text. SpellsWith original.entry.source.now (string_bytes text) original.entry.program.now original.entry.pairs.now original.entry.count) }
+    ensures spells { IfOk result (λ text. SpellsWith original.entry.language original.entry.source.now (string_bytes text) original.entry.program.now original.entry.pairs.now original.entry.count) }
     ensures refused { IfErr result (IsUnfit original.entry.source.now original.entry.pairs.now) }
 {
     match is_same_script(alloc, &bytes, original) {
@@ -130,10 +132,11 @@ fn rewrite_and_check(
     source: &Source<'_>,
     reading: &TreeReading,
     parsed: &Parsed<'_>,
+    language: Language,
     plan: &Plan,
 ) -> Result<String, Fault>
     requires { IsRead source.now parsed.now.program parsed.now.pairs.items reading.now }
-    ensures spells { IfOk result (λ text. SpellsWith source.now (string_bytes text) parsed.now.program parsed.now.pairs.items plan.now.table.total) }
+    ensures spells { IfOk result (λ text. SpellsWith language source.now (string_bytes text) parsed.now.program parsed.now.pairs.items plan.now.table.total) }
     ensures refused { IfErr result (IsUnfit source.now parsed.now.pairs.items) }
 {
     let program = parsed.program();
@@ -144,6 +147,7 @@ fn rewrite_and_check(
         reading,
         program,
         pairs,
+        language,
         count,
     };
     let script = PlannedScript {
@@ -164,13 +168,14 @@ fn read_and_rewrite(
     alloc: Global,
     source: &Source<'_>,
     parsed: &Parsed<'_>,
+    language: Language,
     plan: &Plan,
 ) -> Result<String, Fault>
-    ensures spells { IfOk result (λ text. SpellsWith source.now (string_bytes text) parsed.now.program parsed.now.pairs.items plan.now.table.total) }
+    ensures spells { IfOk result (λ text. SpellsWith language source.now (string_bytes text) parsed.now.program parsed.now.pairs.items plan.now.table.total) }
     ensures refused { IfErr result (IsUnfit source.now parsed.now.pairs.items) }
 {
     match read_by_tree(alloc, source, parsed) {
-        Ok(reading) => rewrite_and_check(alloc, source, &reading, parsed, plan),
+        Ok(reading) => rewrite_and_check(alloc, source, &reading, parsed, language, plan),
         Err(fault) => Err(fault),
     }
 }
@@ -185,10 +190,11 @@ pub(crate) fn unwrap_unless_fewest(
     alloc: Global,
     source: &Source<'_>,
     parsed: &Parsed<'_>,
+    language: Language,
 ) -> Result<Option<String>, Fault>
-    requires reading { IsReading source.now parsed.now.program parsed.now.pairs.items }
+    requires reading { IsReading language source.now parsed.now.program parsed.now.pairs.items }
     requires small { length source.now ≤ 16777216 }
-    ensures unwrapped { IfOk result (λ made. Unwraps source.now (unwrapped_text source.now made)) }
+    ensures unwrapped { IfOk result (λ made. Unwraps language source.now (unwrapped_text source.now made)) }
     ensures refused { IfErr result (RefusesScript source.now parsed.now.program parsed.now.pairs.items) }
 {
     let pairs = parsed.grouping_pairs();
@@ -203,7 +209,7 @@ pub(crate) fn unwrap_unless_fewest(
         Ok(plan) => plan,
         Err(AllocError) => return Err(Fault::OutOfMemory),
     };
-    match read_and_rewrite(alloc, source, parsed, &plan) {
+    match read_and_rewrite(alloc, source, parsed, language, &plan) {
         Ok(text) => Ok(Some(text)),
         Err(fault) => Err(fault),
     }
@@ -223,7 +229,7 @@ fn made_or_own(
     String::from_str(alloc, source.text())
 }
 
-/// The text of a script as it stands, without its unnecessary pairs. What is made of the text is read again before it is answered, and
+/// The text of a script, or a module, of a language as it stands, without its unnecessary pairs. What is made of the text is read again before it is answered, and
 /// compared: it has the same tree, and as few pairs as any text with that tree, and each token but grouping parentheses, in order, with the
 /// same comments before it. Where no parenthesis goes or comes the bytes between tokens stay. A text that has no more pairs is answered as
 /// it is.
@@ -233,16 +239,16 @@ fn made_or_own(
 /// What `read_script` answers of a text that is no script; `OutOfMemory`. Of a script with more pairs than the fewest: `TooLong` where the
 /// unwrapped text is longer than a source text may be, and its bytes, multiplied by its pairs and six, are more than that; and
 /// `UnwrapFailed` where it doesn't compare: no such text is known.
-pub fn unwrap_text(alloc: Global, source: &Source<'_>) -> Result<String, Fault>
-    ensures unwrapped { IfOk result (λ text. Unwraps source.now (string_bytes text)) }
-    ensures stable { IfOk result (λ text. IsUnwrapped (string_bytes text)) }
-    ensures refused { IfErr result (RefusesUnwrapping source.now) }
+pub fn unwrap_text(alloc: Global, source: &Source<'_>, language: Language) -> Result<String, Fault>
+    ensures unwrapped { IfOk result (λ text. Unwraps language source.now (string_bytes text)) }
+    ensures stable { IfOk result (λ text. IsUnwrapped language (string_bytes text)) }
+    ensures refused { IfErr result (RefusesUnwrapping language source.now) }
 {
-    let parsed = match read_script(alloc, source) {
+    let parsed = match read_script(alloc, source, language) {
         Ok(parsed) => parsed,
         Err(refusal) => return Err(refusal),
     };
-    let made = match unwrap_unless_fewest(alloc, source, &parsed) {
+    let made = match unwrap_unless_fewest(alloc, source, &parsed, language) {
         Ok(made) => made,
         Err(fault) => return Err(fault),
     };

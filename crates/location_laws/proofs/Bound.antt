@@ -1,10 +1,11 @@
 -- The bindings of each scope of a tree in order are in the order of their places.
 use Rattle.std.proofs.Common.{◌≡◌, ℕ, ◌+◌, ◌-◌, ◌<◌, Bool, true, false, cond, List, [], ◌∷◌, ◌++◌, arith}
 use Rattle.std.specs.Prelude.{map, Option, Some, None, is_some}
-use Rattle.tree.specs.Tree.{Tree, node, Parts, none, part, gap, stop_of, part_count}
+use Rattle.std.specs.Str.{bytes_eq}
+use Rattle.tree.specs.Tree.{Tree, node, Parts, none, part, gap, stop_of, part_at, part_count}
 use Rattle.scopes.specs.Bindings.{Binding, has_name}
 use Rattle.scopes.specs.Openings.{scope_round_all, scope_round_others}
-use Rattle.scopes.specs.Found.{Frame, Around, Scope, Found, Inside, nearest, added, collected, nothing, enter, in_scope, at_place, round_others, found_in, all_parts, parts_from, outside, found}
+use Rattle.scopes.specs.Found.{Frame, Around, Scope, Found, Inside, nearest, exported_first, added, collected, nothing, enter, in_scope, at_place, round_others, found_in, all_parts, parts_from, outside, found}
 use Rattle.language.specs.Derivation.{Among, first, later}
 use Rattle.location_laws.specs.ScopeRanges.{are_disjoint_from}
 use Rattle.location_laws.specs.InOrder.{is_shorthand}
@@ -13,14 +14,24 @@ use Rattle.location_laws.proofs.OrderLemmas.{Ordered, PartsOrdered, KeyInValue, 
 use Rattle.location_laws.proofs.DeclaredNameOrder.{NamesApart, names_within, names_append, IfNames, round_all_apart, round_others_apart}
 
 module _ (Q : List ℕ → ℕ → ℕ → Type 0) (wide : (w : List ℕ) (s e : ℕ) → Q w s e → s < e) where
+  -- an export of a name moves no binding
+  exported_apart : (w : List ℕ) (a m : ℕ) (bs : List Binding) → NamesApart Q wide a m bs → NamesApart Q wide a m (exported_first w bs)
+  exported_apart w a m [] h = h
+  exported_apart w a m (b ∷ bs) h = of (bytes_eq w b.name) (exported_apart w b.stop m bs h.3)
+    where
+      of : (t : Bool) → NamesApart Q wide b.stop m (exported_first w bs) → NamesApart Q wide a m (cond t (record b { exported = true } ∷ bs) (b ∷ exported_first w bs))
+      of true k = h
+      of false k = (h.0, h.1, h.2, k)
+
   -- of each name its first identifier counts
   collected_apart : (fs : List Frame) (bs xs : List Binding) (a m b : ℕ) → NamesApart Q wide a m bs → NamesApart Q wide m b xs → NamesApart Q wide a b (collected fs bs xs)
   collected_apart fs bs [] a m b h k = names_within Q wide a a m b bs (omega arith) k h
-  collected_apart fs bs (x ∷ xs) a m b h k = collected_apart fs (added fs bs x) xs a x.stop b (one_more (has_name x.name bs)) k.3
+  collected_apart fs bs (x ∷ xs) a m b h k = collected_apart fs (added fs bs x) xs a x.stop b (one_more (has_name x.name bs) x.exported) k.3
     where
-      one_more : (t : Bool) → NamesApart Q wide a x.stop (cond t bs (bs ++ record x { shadows = is_some (nearest x.name fs) } ∷ []))
-      one_more true = let l = k.0 in let r = k.1 in names_within Q wide a a m x.stop bs (omega arith) (omega (arith, l, r)) h
-      one_more false = names_append Q wide a m x.stop bs (record x { shadows = is_some (nearest x.name fs) } ∷ []) h (k.0, k.1, k.2, omega arith)
+      one_more : (t u : Bool) → NamesApart Q wide a x.stop (cond t (cond u (exported_first x.name bs) bs) (bs ++ record x { shadows = is_some (nearest x.name fs) } ∷ []))
+      one_more true true = let l = k.0 in let r = k.1 in names_within Q wide a a m x.stop (exported_first x.name bs) (omega arith) (omega (arith, l, r)) (exported_apart x.name a m bs h)
+      one_more true false = let l = k.0 in let r = k.1 in names_within Q wide a a m x.stop bs (omega arith) (omega (arith, l, r)) h
+      one_more false u = names_append Q wide a m x.stop bs (record x { shadows = is_some (nearest x.name fs) } ∷ []) h (k.0, k.1, k.2, omega arith)
 
   abbrev pub EachApart : List Scope → Type 0
   EachApart [] = Unit {0}
@@ -39,7 +50,7 @@ module _ (Q : List ℕ → ℕ → ℕ → Type 0) (wide : (w : List ℕ) (s e :
 
     pub scopes_apart : (t : Tree) → Ordered Q t → (z : Around) (n : ℕ) → EachApart (found_in z n t).scopes
     scopes_apart (node k w g s e ps) h z n =
-        let y : Inside = record { role = z.role; kind = k; text = w; flags = g; last = part_count ps - 1 } in
+        let y : Inside = record { role = z.role; kind = k; text = w; flags = g; last = part_count ps - 1; has_last = is_some (part_at ps (part_count ps - 1)) } in
         let c = round_others_apart Q wide k w g s e ps h in
         in_scope_each (scope_round_all z.role k ps) z n (λ x m. all_parts y x m (scope_round_others k ps) ps) s e (round_all_apart Q wide z.role k w g s e ps h)
         (λ x m. by_shape (is_shorthand k g) (λ i. value_each y x m (scope_round_others k ps) s e ps c (h.2 i).1) (λ i. all_each y x m (scope_round_others k ps) s e s e ps c (h.3 i)))

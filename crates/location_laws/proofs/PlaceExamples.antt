@@ -1,6 +1,6 @@
 -- Examples: trees in order and trees that aren't, the places of scopes, and lists of places.
 use Rattle.std.specs.Prelude.{◌≡◌, true, false, [], ◌∷◌, refl}
-use Rattle.tree.specs.declared.kind.Kind.TheVariants.{ArrowFunctionExpression, AssignmentExpression, AssignmentPattern, BinaryExpression, BlockStatement, CatchClause, ClassBody, ClassDeclaration, DoWhileStatement, ForOfStatement, FunctionDeclaration, FunctionExpression, MethodDefinition, ObjectExpression, ObjectPattern, Property, SwitchCase, SwitchStatement, TryStatement, VariableDeclaration, VariableDeclarator}
+use Rattle.tree.specs.declared.kind.Kind.TheVariants.{ArrowFunctionExpression, AssignmentExpression, AssignmentPattern, BinaryExpression, BlockStatement, CatchClause, ClassBody, ClassDeclaration, DoWhileStatement, ForOfStatement, FunctionDeclaration, FunctionExpression, MethodDefinition, ObjectExpression, ObjectPattern, Property, StaticBlock, SwitchCase, SwitchStatement, TryStatement, VariableDeclaration, VariableDeclarator}
 use Rattle.tree.specs.declared.kind.Form.TheVariants.{Method, Shorthand}
 use Rattle.tree.specs.Tree.{Tree, gap, none, part}
 use Rattle.language.proofs.examples.Trees.{computed, formed, id, lit, n, one, program, short, st, t, three, two}
@@ -72,6 +72,11 @@ function_places = refl
 catch_places : scope_ranges (program 19 (one (n TryStatement 0 19 (part (n BlockStatement 4 6 none) (part (n CatchClause 7 19 (two (id "e" 14) (n BlockStatement 17 19 none))) (gap none)))))) ≡ (0, 19) ∷ (4, 6) ∷ (7, 19) ∷ (17, 19) ∷ []
 unfolding ranges_in ranges_in_all ranges_from bound_names all_bound_names first_bound_names last_bound_names vars_in parts_vars
 catch_places = refl
+
+-- `class A { static { let a } }`
+static_places : scope_ranges (program 28 (one (n ClassDeclaration 0 28 (part (id "A" 6) (gap (one (n ClassBody 8 28 (one (n StaticBlock 10 26 (one (t VariableDeclaration "let" 19 24 (one (n VariableDeclarator 23 24 (part (id "a" 23) (gap none))))))))))))))) ≡ (0, 28) ∷ (7, 28) ∷ (10, 26) ∷ []
+unfolding ranges_in ranges_in_all ranges_from bound_names all_bound_names first_bound_names last_bound_names vars_in parts_vars
+static_places = refl
 
 -- outer before inner, then the next; not inner before outer, nor one that begins in another and ends behind it
 nested_ones : are_nested ((0, 37) ∷ (8, 15) ∷ (9, 12) ∷ (15, 37) ∷ []) ≡ true

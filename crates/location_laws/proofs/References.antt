@@ -1,11 +1,11 @@
 -- The references of a tree in order are in the order of their places.
 use Rattle.std.proofs.Common.{◌≡◌, ℕ, ◌+◌, ◌-◌, ◌≤◌, ◌<◌, Bool, true, false, cond, not, List, [], ◌∷◌, ◌++◌, refl, sym, ap, subst, arith, ◌⊎◌, inl, inr}
-use Rattle.std.specs.Prelude.{map, ◌&&◌, Option, Some, None, unwrap_or}
+use Rattle.std.specs.Prelude.{map, ◌&&◌, Option, Some, None, is_some, unwrap_or}
 use Rattle.std.proofs.lemmas.Bool.{false≢true, true≢false}
 use Rattle.tree.specs.declared.kind.Kind.{Kind}
 use Rattle.tree.specs.declared.kind.Kind.TheVariants.{Identifier, Property}
 use Rattle.tree.specs.declared.kind.Flags.{Flags}
-use Rattle.tree.specs.Tree.{Tree, node, Parts, none, part, gap, start_of, stop_of, part_count}
+use Rattle.tree.specs.Tree.{Tree, node, Parts, none, part, gap, start_of, stop_of, part_at, part_count}
 use Rattle.language.specs.Vocabulary.{is}
 use Rattle.scopes.specs.declared.identifier_use.IdentifierUse.{IdentifierUse}
 use Rattle.scopes.specs.declared.identifier_use.IdentifierUse.TheVariants.{NoReference, Read}
@@ -24,9 +24,9 @@ own_or_none z Identifier w g s e ps = inl refl
 own_or_none z _ w g s e ps = inr refl
 
 -- a shorthand property's key is no reference
-key_without : (u : IdentifierUse) (k : Kind) (w : List ℕ) (g : Flags) (last : ℕ) → is_shorthand k g ≡ true → g.computed ≡ false → is_reference (part_role u k w g last 0) ≡ false
-key_without u Property w g last h c = ap (λ b. is_reference (cond b Read NoReference)) c
-key_without u _ w g last h c = absurd (false≢true h)
+key_without : (u : IdentifierUse) (k : Kind) (w : List ℕ) (g : Flags) (b : Bool) (last : ℕ) → is_shorthand k g ≡ true → g.computed ≡ false → is_reference (part_role u k w g b last 0) ≡ false
+key_without u Property w g b last h c = ap (λ x. is_reference (cond x Read NoReference)) c
+key_without u _ w g b last h c = absurd (false≢true h)
 
 no_own : (z : Around) (w : List ℕ) (g : Flags) (s e : ℕ) → is_reference z.role ≡ false → own_reference z (node Identifier w g s e none) ≡ []
 no_own z w g s e h = of (is_reference z.role) _ _ h
@@ -67,11 +67,11 @@ module _ (Q : List ℕ → ℕ → ℕ → Type 0) (wide : (w : List ℕ) (s e :
 
   -- an identifier's own, and what stands in any other node
   whole : (z : Around) (n : ℕ) (k : Kind) (w : List ℕ) (g : Flags) (s e : ℕ) (ps : Parts) → (k ≡ Identifier) ⊎ (own_reference z (node k w g s e ps) ≡ []) → (k ≡ Identifier → Q w s e × (ps ≡ none)) →
-      RefsApart s e (in_scope (scope_round_all z.role k ps) z n (λ x m. all_parts (record { role = z.role; kind = k; text = w; flags = g; last = part_count ps - 1 }) x m (scope_round_others k ps) ps)).references →
+      RefsApart s e (in_scope (scope_round_all z.role k ps) z n (λ x m. all_parts (record { role = z.role; kind = k; text = w; flags = g; last = part_count ps - 1; has_last = is_some (part_at ps (part_count ps - 1)) }) x m (scope_round_others k ps) ps)).references →
       RefsApart s e (found_in z n (node k w g s e ps)).references
   unfolding found_in all_parts parts_from
   whole z n k w g s e ps (inr o) q h =
-      let inner : List Reference = (in_scope (scope_round_all z.role k ps) z n (λ x m. all_parts (record { role = z.role; kind = k; text = w; flags = g; last = part_count ps - 1 }) x m (scope_round_others k ps) ps)).references in
+      let inner : List Reference = (in_scope (scope_round_all z.role k ps) z n (λ x m. all_parts (record { role = z.role; kind = k; text = w; flags = g; last = part_count ps - 1; has_last = is_some (part_at ps (part_count ps - 1)) }) x m (scope_round_others k ps) ps)).references in
       subst (λ xs. RefsApart s e (xs ++ inner)) (sym o) h
   whole z n k w g s e ps (inl i) q h =
       let own = own_reference z (node Identifier w g s e none) in
@@ -83,7 +83,7 @@ module _ (Q : List ℕ → ℕ → ℕ → Type 0) (wide : (w : List ℕ) (s e :
 
     pub refs_apart : (t : Tree) → Ordered Q t → (z : Around) (n : ℕ) → RefsApart (start_of t) (stop_of t) (found_in z n t).references
     refs_apart (node k w g s e ps) h z n =
-        let y : Inside = record { role = z.role; kind = k; text = w; flags = g; last = part_count ps - 1 } in
+        let y : Inside = record { role = z.role; kind = k; text = w; flags = g; last = part_count ps - 1; has_last = is_some (part_at ps (part_count ps - 1)) } in
         whole z n k w g s e ps (own_or_none z k w g s e ps) h.0
         (in_scope_apart (scope_round_all z.role k ps) z n (λ x m. all_parts y x m (scope_round_others k ps) ps) s e
         (λ x m. by_shape (is_shorthand k g) (λ i. value_apart y x m (scope_round_others k ps) s e ps i (h.2 i).0 (h.2 i).1) (λ i. all_apart y x m (scope_round_others k ps) s e ps (h.3 i))))
@@ -99,7 +99,7 @@ module _ (Q : List ℕ → ℕ → ℕ → Type 0) (wide : (w : List ℕ) (s e :
         let start = h.5 in
         let stop = h.6 in
         refs_append s s e (found_in (at_place y z 0) n k).references _
-        (subst (RefsApart s s) (sym (none_below k h.0 (at_place y z 0) n (key_without y.role y.kind y.text y.flags y.last i f))) (omega arith))
+        (subst (RefsApart s s) (sym (none_below k h.0 (at_place y z 0) n (key_without y.role y.kind y.text y.flags y.has_last y.last i f))) (omega arith))
         (in_scope_apart c (round_others y z) _ (λ x m. parts_from y x 1 m (part v none)) s e
         (λ x m. refs_append s e e (found_in (at_place y x 1) m v).references [] (refs_within s (start_of v) (stop_of v) e _ (omega (arith, start)) (omega (arith, stop)) (refs_apart v h.4 (at_place y x 1) m)) (omega arith)))
 

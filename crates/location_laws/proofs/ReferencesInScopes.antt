@@ -1,12 +1,12 @@
 -- Of a tree in order, each reference stands in the place of its scope, and each scope in the place of the one round it.
 use Rattle.std.proofs.Common.{◌≡◌, ℕ, zero, suc, ◌+◌, ◌-◌, ◌≤◌, Bool, true, false, cond, not, List, [], ◌∷◌, ◌++◌, length, refl, sym, ap, subst, ◌∙◌, arith, ◌⊎◌, inl, inr}
-use Rattle.std.specs.Prelude.{◌&&◌, nat_le, slice_get, Option, Some, None, unwrap_or}
+use Rattle.std.specs.Prelude.{◌&&◌, nat_le, slice_get, Option, Some, None, is_some, unwrap_or}
 use Rattle.std.proofs.lemmas.Bool.{and_from, and_parts}
 use Rattle.std.proofs.lemmas.Bool.Decides.{nat_tests}
 use Rattle.tree.specs.declared.kind.Kind.{Kind}
 use Rattle.tree.specs.declared.kind.Kind.TheVariants.{Identifier, Program}
 use Rattle.tree.specs.declared.kind.Flags.{Flags}
-use Rattle.tree.specs.Tree.{Tree, node, Parts, none, part, gap, kind_of, start_of, stop_of, part_count}
+use Rattle.tree.specs.Tree.{Tree, node, Parts, none, part, gap, kind_of, start_of, stop_of, part_at, part_count}
 use Rattle.language.specs.Vocabulary.{is}
 use Rattle.language.specs.Derivation.{Among, first, later}
 use Rattle.scopes.specs.Roles.{is_reference, does_read, does_write, is_typeof_operand}
@@ -132,7 +132,7 @@ module _ (L : List SourceRange) where
 
       located : (t : Tree) → Ordered Q t → (z : Around) (n : ℕ) → Round z.frames (start_of t) (stop_of t) → Holds L n (ranges_in z.role t) → Located (found_in z n t) (ranges_in z.role t)
       located (node k w g s e ps) h z n r l =
-          let y : Inside = record { role = z.role; kind = k; text = w; flags = g; last = part_count ps - 1 } in
+          let y : Inside = record { role = z.role; kind = k; text = w; flags = g; last = part_count ps - 1; has_last = is_some (part_at ps (part_count ps - 1)) } in
           let v = in_scope_located (scope_round_all z.role k ps) z n (λ x m. all_parts y x m (scope_round_others k ps) ps) s e (ranges_in_all (roles_of y) (scope_round_others k ps) s e ps) r l
           (λ x m o a. by_shape (is_shorthand k g)
           (λ i. value_located y x m (scope_round_others k ps) s e ps (no_scope_round_others k g ps i) (h.2 i).1 o a)

@@ -1,11 +1,11 @@
 -- The scopes of a tree in order are in the order of their places.
 use Rattle.std.proofs.Common.{◌≡◌, ℕ, suc, ◌+◌, ◌-◌, ◌≤◌, Bool, true, false, List, [], ◌∷◌, ◌++◌, length, length-append, refl, sym, ap, ap₂, subst, ◌∙◌, arith}
-use Rattle.std.specs.Prelude.{◌&&◌, ◌||◌, nat_le, Option, Some, None}
+use Rattle.std.specs.Prelude.{◌&&◌, ◌||◌, nat_le, Option, Some, None, is_some}
 use Rattle.std.proofs.lemmas.Bool.{and_from, and_parts, false≢true}
 use Rattle.tree.specs.declared.kind.Kind.{Kind}
 use Rattle.tree.specs.declared.kind.Kind.TheVariants.{Identifier, Property}
 use Rattle.tree.specs.declared.kind.Flags.{Flags}
-use Rattle.tree.specs.Tree.{Tree, node, Parts, none, part, gap, start_of, stop_of, part_count}
+use Rattle.tree.specs.Tree.{Tree, node, Parts, none, part, gap, start_of, stop_of, part_at, part_count}
 use Rattle.scopes.specs.declared.identifier_use.IdentifierUse.{IdentifierUse}
 use Rattle.scopes.specs.Roles.{part_role}
 use Rattle.scopes.specs.Bindings.{Binding}
@@ -97,7 +97,7 @@ module _ (Q : List ℕ → ℕ → ℕ → Type 0) where
 
     pub places_stand : (t : Tree) → Ordered Q t → (u : IdentifierUse) → Stands (start_of t) (stop_of t) (ranges_in u t)
     places_stand (node k w g s e ps) h u =
-        let r : ℕ → IdentifierUse = part_role u k w g (part_count ps - 1) in
+        let r : ℕ → IdentifierUse = part_role u k w g (is_some (part_at ps (part_count ps - 1))) (part_count ps - 1) in
         stands_round (scope_round_all u k ps) s e (ranges_in_all r (scope_round_others k ps) s e ps) h.1
         (by_shape (is_shorthand k g) (λ i. value_stands r (scope_round_others k ps) s e ps (no_scope_round_others k g ps i) (h.2 i).1) (λ i. all_stand r (scope_round_others k ps) s e ps (h.3 i)))
 
@@ -143,14 +143,14 @@ in_scope_alone None z n s e = refl
 in_scope_alone (Some bs) z n s e = refl
 
 abbrev pub roles_of : Inside → ℕ → IdentifierUse
-roles_of y = part_role y.role y.kind y.text y.flags y.last
+roles_of y = part_role y.role y.kind y.text y.flags y.has_last y.last
 
 mutual
   unfolding found_in all_parts parts_from ranges_in ranges_in_all ranges_from
 
   pub places_count : (t : Tree) (z : Around) (n : ℕ) → length (found_in z n t).scopes ≡ length (ranges_in z.role t)
   places_count (node k w g s e ps) z n =
-      let y : Inside = record { role = z.role; kind = k; text = w; flags = g; last = part_count ps - 1 } in
+      let y : Inside = record { role = z.role; kind = k; text = w; flags = g; last = part_count ps - 1; has_last = is_some (part_at ps (part_count ps - 1)) } in
       in_scope_count (scope_round_all z.role k ps) z n (λ x m. all_parts y x m (scope_round_others k ps) ps) s e (ranges_in_all (roles_of y) (scope_round_others k ps) s e ps) (λ x m. all_count y x m (scope_round_others k ps) s e ps)
 
   all_count : (y : Inside) (z : Around) (n : ℕ) (c : Option (List Binding)) (s e : ℕ) (ps : Parts) → length (all_parts y z n c ps).scopes ≡ length (ranges_in_all (roles_of y) c s e ps)

@@ -8,14 +8,15 @@ use Rattle.tree.specs.declared.kind.Kind.TheVariants as kind
 use Rattle.tree.specs.declared.kind.Form.{Form}
 use Rattle.tree.specs.declared.kind.Form.TheVariants as form
 use Rattle.tree.specs.declared.kind.Flags.{Flags}
+use Rattle.tree.specs.Uses.{is_empty}
 use Rattle.tree.specs.Tree.{Tree, node, Parts, none, part, gap, kind_of, flags_of, parts_of, bare, bare_parts}
 use Rattle.language.specs.declared.Rank.TheVariants.{LeftHandSide}
 use Rattle.language.specs.declared.Start.TheVariants.{Any}
 use Rattle.language.specs.FirstPart.{lead as lead_kind, others}
-use Rattle.language.specs.Vocabulary.{is_reserved, is_pattern, is_identifier, is_target}
-use Rattle.language.specs.Pieces.{Role, expr, chain_part, name, word, key, shorthand_key, template_element, property, pattern, pattern_property, element, script, PieceOf, Piece, tok, may, many, ahead, unbroken, ending, open_parameters, close_parameters, sub, absent, never, lay, space, line, feed, deeper, shallower, apart, loose, Spelling, settle, put_at, bound, with_default}
-use Rattle.language.specs.Expressions.{expressions, properties, pattern_properties}
-use Rattle.language.specs.Statements.{statements, items, openings, prologue, is_directive}
+use Rattle.language.specs.Vocabulary.{is, is_reserved, is_pattern, is_identifier, is_target}
+use Rattle.language.specs.Pieces.{Role, expr, chain_part, name, word, key, shorthand_key, template_element, property, pattern, pattern_property, element, item, opening, module_item, script, PieceOf, Piece, tok, may, many, ahead, unbroken, no_operand, ending, open_parameters, close_parameters, sub, absent, never, lay, space, line, feed, deeper, shallower, apart, loose, Spelling, settle, put, put_at, bound, with_default}
+use Rattle.language.specs.Expressions.{value_form, expressions, properties, pattern_properties}
+use Rattle.language.specs.Statements.{statements, items, openings, prologue, module_prologue, is_module_item, is_directive}
 use Rattle.language.specs.Grammar.{ways, spellings, own_rank, own_in, own_start}
 use Rattle.language.specs.RowPositions.{roles}
 use Rattle.language.specs.Derivation.{Among, first, later}
@@ -67,6 +68,7 @@ some_gain (may w ∷ qs) h = let e = some_gain qs h in omega (arith, e)
 some_gain (many w ∷ qs) h = let e = some_gain qs h in omega (arith, e)
 some_gain (ahead w ∷ qs) h = let e = some_gain qs h in omega (arith, e)
 some_gain (unbroken ∷ qs) h = let e = some_gain qs h in omega (arith, e)
+some_gain (no_operand ∷ qs) h = let e = some_gain qs h in omega (arith, e)
 some_gain (ending x ∷ qs) h = let e = some_gain qs h in omega (arith, e)
 some_gain (absent ∷ qs) h = let e = some_gain qs h in omega (arith, e)
 some_gain (lay x ∷ qs) h = let e = some_gain qs h in omega (arith, e)
@@ -82,18 +84,20 @@ only_has : (a : Role) {x y : Spelling} → has_token (settled a y) ≡ true → 
 only_has a h first = h
 only_has a h (later k) = elim k [ ]
 
-property_token : (c : Bool) (f : Form) {x : Spelling} → Among x (properties c f) → has_token (settled property x) ≡ true
-property_token true form.Init h = only_has property refl h
-property_token false form.Init h = only_has property refl h
-property_token true form.Method h = only_has property refl h
-property_token false form.Method h = only_has property refl h
-property_token true form.Get h = only_has property refl h
-property_token false form.Get h = only_has property refl h
-property_token true form.Set h = only_has property refl h
-property_token false form.Set h = only_has property refl h
-property_token false form.Shorthand h = only_has property refl h
-property_token true form.Shorthand h = elim h [ ]
-property_token c form.Constructor h = elim h [ ]
+property_token : (c : Bool) (f x : Form) {y : Spelling} → Among y (properties c f x) → has_token (settled property y) ≡ true
+property_token true form.Init x h = only_has property refl h
+property_token false form.Init x h = only_has property refl h
+property_token true form.Method form.Init h = only_has property refl h
+property_token true form.Method x h = only_has property refl h
+property_token false form.Method form.Init h = only_has property refl h
+property_token false form.Method x h = only_has property refl h
+property_token true form.Get x h = only_has property refl h
+property_token false form.Get x h = only_has property refl h
+property_token true form.Set x h = only_has property refl h
+property_token false form.Set x h = only_has property refl h
+property_token false form.Shorthand x h = only_has property refl h
+property_token true form.Shorthand x h = elim h [ ]
+property_token c _ x h = elim h [ ]
 
 pattern_token : (b c : Bool) (f : Form) (k : Kind) {x : Spelling} → Among x (pattern_properties b c f k) → has_token (settled (pattern_property b) x) ≡ true
 pattern_token b true form.Init k h = only_has (pattern_property b) refl h
@@ -102,10 +106,13 @@ pattern_token b true form.Shorthand k h = elim h [ ]
 pattern_token b false form.Shorthand kind.Identifier h = only_has (pattern_property b) refl h
 pattern_token b false form.Shorthand kind.AssignmentPattern h = only_has (pattern_property b) refl h
 pattern_token b false form.Shorthand _ h = elim h [ ]
-pattern_token b c form.Method k h = elim h [ ]
-pattern_token b c form.Get k h = elim h [ ]
-pattern_token b c form.Set k h = elim h [ ]
-pattern_token b c form.Constructor k h = elim h [ ]
+pattern_token b c _ k h = elim h [ ]
+
+-- the ways of a Program: those of a script, or those of a module
+of_program : (b c : Bool) {x y z : Spelling} {R : Type 0} → Among x (cond b (y ∷ []) (cond c (z ∷ []) [])) → (x ≡ y → R) → (x ≡ z → R) → R
+of_program true c h f g = f (one h)
+of_program false true h f g = g (one h)
+of_program false false h f g = elim h [ ]
 
 script_token : (b : Bool) (ps : Parts) → has_token (standing_at script (prologue false b [] (lay feed ∷ []) ps ++ tok End [] ∷ [])) ≡ true
 script_token b none = refl
@@ -113,15 +120,30 @@ script_token b (gap ps) = refl
 script_token true (part m ps) = refl
 script_token false (part m ps) = refl
 
+module_token : (b : Bool) (ps : Parts) → has_token (standing_at script (module_prologue b ps ++ tok End [] ∷ [])) ≡ true
+module_token b none = refl
+module_token b (gap ps) = refl
+module_token b (part m ps) = of (is_module_item (kind_of m)) b
+  where
+    of : (x y : Bool) → has_token (standing_at script (put (cond x module_item (cond y (opening false) (item false))) ∷ lay feed ∷ module_prologue (b && is_directive m) ps ++ tok End [] ∷ [])) ≡ true
+    of true y = refl
+    of false true = refl
+    of false false = refl
+
 -- each way to spell a node has one, but for that of a shorthand key
 pub way_token : (a : Role) (n : Tree) {qs : List (PieceOf Role)} → is_echo a ≡ false → Among qs (ways a n) → has_token qs ≡ true
 unfolding spellings
 way_token shorthand_key n e h = absurd (true≢false e)
-way_token property (node kind.Property w g s t ps) e h = let v = way_of h in subst (λ z. has_token z ≡ true) (sym v.is) (property_token g.computed g.form v.listed)
+way_token property (node kind.Property w g s t ps) e h = let v = way_of h in subst (λ z. has_token z ≡ true) (sym v.is) (property_token g.computed g.form (value_form (bare_parts ps)) v.listed)
 way_token property (node _ w g s t ps) e h = elim ((way_of h).listed) [ ]
 way_token (pattern_property b) (node kind.Property w g s t ps) e h = let v = way_of h in subst (λ z. has_token z ≡ true) (sym v.is) (pattern_token b g.computed g.form (lead_kind (others (bare_parts ps))) v.listed)
 way_token (pattern_property b) (node _ w g s t ps) e h = elim ((way_of h).listed) [ ]
-way_token script (node kind.Program w g s t ps) e h = let v = way_of h in subst (λ z. has_token z ≡ true) (sym v.is) (subst (λ x. has_token (settled script x) ≡ true) (sym (one v.listed)) (script_token true (bare_parts ps)))
+way_token script (node kind.Program w g s t ps) e h =
+    let v = way_of h in
+    subst (λ z. has_token z ≡ true) (sym v.is)
+    (of_program (is_empty w || is w "2022") (is w "module") v.listed
+    (λ i. subst (λ x. has_token (settled script x) ≡ true) (sym i) (script_token true (bare_parts ps)))
+    (λ i. subst (λ x. has_token (settled script x) ≡ true) (sym i) (module_token true (bare_parts ps))))
 way_token script (node _ w g s t ps) e h = elim ((way_of h).listed) [ ]
 way_token (expr y i f) n e h = by_gain (expr y i f) n h (omega arith)
 way_token (chain_part f) n e h = by_gain (chain_part f) n h (omega arith)
@@ -139,6 +161,7 @@ neat_plain a b o s (may w ∷ qs) h k = neat_plain a b o s qs h k
 neat_plain a b o s (many w ∷ qs) h k = neat_plain a b o s qs h k
 neat_plain a b o s (ahead w ∷ qs) h k = absurd (false≢true h)
 neat_plain a b o s (unbroken ∷ qs) h k = neat_plain a b o s qs (and_parts _ _ (and_parts _ _ h).1).1 k
+neat_plain a b o s (no_operand ∷ qs) h k = neat_plain a b o s qs (and_parts _ _ h).1 k
 neat_plain a b o s (ending e ∷ qs) h k = neat_plain a b o solid qs (and_parts _ _ h).1 k
 neat_plain a b o s (open_parameters ∷ qs) h k = neat_plain a b true solid qs (and_parts _ _ (and_parts _ _ h).1).1 k
 neat_plain a b o s (close_parameters ∷ qs) h k = neat_plain a b false solid qs (and_parts _ _ (and_parts _ _ h).1).1 k
@@ -177,6 +200,16 @@ script_plain b (gap ps) = refl
 script_plain true (part m ps) = script_plain (is_directive m) ps
 script_plain false (part m ps) = script_plain false ps
 
+plain_item : (x b : Bool) → is_plain (cond x module_item (cond b (opening false) (item false))) ≡ true
+plain_item true b = refl
+plain_item false true = refl
+plain_item false false = refl
+
+module_plain : (b : Bool) (ps : Parts) → plain_parts (standing_at script (module_prologue b ps ++ tok End [] ∷ [])) ≡ true
+module_plain b none = refl
+module_plain b (gap ps) = refl
+module_plain b (part m ps) = and_from _ _ (plain_item (is_module_item (kind_of m)) b) (module_plain (b && is_directive m) ps)
+
 neat_way : (a : Role) (n : Tree) {qs : List (PieceOf Role)} → is_plain a ≡ true → Among qs (ways a n) → has_echo (roles qs) ≡ false → plain_parts qs ≡ true
 neat_way a n p h k =
     let v = way_of h in
@@ -185,7 +218,12 @@ neat_way a n p h k =
 -- without a shorthand key, the parts of a way are at plain positions
 way_plain : (a : Role) (n : Tree) {qs : List (PieceOf Role)} → is_echo a ≡ false → Among qs (ways a n) → has_echo (roles qs) ≡ false → plain_parts qs ≡ true
 unfolding spellings
-way_plain script (node kind.Program w g s t ps) e h k = let v = way_of h in subst (λ z. plain_parts z ≡ true) (sym v.is) (subst (λ x. plain_parts (settled script x) ≡ true) (sym (one v.listed)) (script_plain true (bare_parts ps)))
+way_plain script (node kind.Program w g s t ps) e h k =
+    let v = way_of h in
+    subst (λ z. plain_parts z ≡ true) (sym v.is)
+    (of_program (is_empty w || is w "2022") (is w "module") v.listed
+    (λ i. subst (λ x. plain_parts (settled script x) ≡ true) (sym i) (script_plain true (bare_parts ps)))
+    (λ i. subst (λ x. plain_parts (settled script x) ≡ true) (sym i) (module_plain true (bare_parts ps))))
 way_plain script (node _ w g s t ps) e h k = elim ((way_of h).listed) [ ]
 way_plain shorthand_key n e h k = absurd (true≢false e)
 way_plain a n e h k = neat_way a n refl h k
@@ -206,9 +244,9 @@ only_echo : (a : Role) {x y : Spelling} {b : Bool} → has_echo (roles (settled 
 only_echo a h first = h
 only_echo a h (later k) = elim k [ ]
 
-short_property : (c : Bool) {x : Spelling} → Among x (properties c form.Shorthand) → has_echo (roles (settled property x)) ≡ true
-short_property true h = elim h [ ]
-short_property false h = only_echo property refl h
+short_property : (c : Bool) (x : Form) {y : Spelling} → Among y (properties c form.Shorthand x) → has_echo (roles (settled property y)) ≡ true
+short_property true x h = elim h [ ]
+short_property false x h = only_echo property refl h
 
 short_pattern : (b c : Bool) (k : Kind) {x : Spelling} → Among x (pattern_properties b c form.Shorthand k) → has_echo (roles (settled (pattern_property b) x)) ≡ true
 short_pattern b true k h = elim h [ ]
@@ -216,17 +254,19 @@ short_pattern b false kind.Identifier h = only_echo (pattern_property b) refl h
 short_pattern b false kind.AssignmentPattern h = only_echo (pattern_property b) refl h
 short_pattern b false _ h = elim h [ ]
 
-long_property : (c : Bool) (f : Form) {x : Spelling} → Among x (properties c f) → has_echo (roles (settled property x)) ≡ true → f ≡ form.Shorthand
-long_property c form.Shorthand h k = refl
-long_property true form.Init h k = absurd (false≢true (sym (only_echo property refl h) ∙ k))
-long_property false form.Init h k = absurd (false≢true (sym (only_echo property refl h) ∙ k))
-long_property true form.Method h k = absurd (false≢true (sym (only_echo property refl h) ∙ k))
-long_property false form.Method h k = absurd (false≢true (sym (only_echo property refl h) ∙ k))
-long_property true form.Get h k = absurd (false≢true (sym (only_echo property refl h) ∙ k))
-long_property false form.Get h k = absurd (false≢true (sym (only_echo property refl h) ∙ k))
-long_property true form.Set h k = absurd (false≢true (sym (only_echo property refl h) ∙ k))
-long_property false form.Set h k = absurd (false≢true (sym (only_echo property refl h) ∙ k))
-long_property c form.Constructor h k = elim h [ ]
+long_property : (c : Bool) (f x : Form) {y : Spelling} → Among y (properties c f x) → has_echo (roles (settled property y)) ≡ true → f ≡ form.Shorthand
+long_property c form.Shorthand x h k = refl
+long_property true form.Init x h k = absurd (false≢true (sym (only_echo property refl h) ∙ k))
+long_property false form.Init x h k = absurd (false≢true (sym (only_echo property refl h) ∙ k))
+long_property true form.Method form.Init h k = absurd (false≢true (sym (only_echo property refl h) ∙ k))
+long_property true form.Method x h k = absurd (false≢true (sym (only_echo property refl h) ∙ k))
+long_property false form.Method form.Init h k = absurd (false≢true (sym (only_echo property refl h) ∙ k))
+long_property false form.Method x h k = absurd (false≢true (sym (only_echo property refl h) ∙ k))
+long_property true form.Get x h k = absurd (false≢true (sym (only_echo property refl h) ∙ k))
+long_property false form.Get x h k = absurd (false≢true (sym (only_echo property refl h) ∙ k))
+long_property true form.Set x h k = absurd (false≢true (sym (only_echo property refl h) ∙ k))
+long_property false form.Set x h k = absurd (false≢true (sym (only_echo property refl h) ∙ k))
+long_property c _ x h k = elim h [ ]
 
 no_bound_echo : (b : Bool) (k : Kind) → has_echo (roles (standing_at (pattern_property b) (put_at (bound b k) ∷ []))) ≡ false
 no_bound_echo true k = of (is_pattern k) (is_identifier k)
@@ -250,14 +290,11 @@ long_pattern : (b c : Bool) (f : Form) (k : Kind) {x : Spelling} → Among x (pa
 long_pattern b c form.Shorthand k h j = refl
 long_pattern b true form.Init k h j = absurd (false≢true (sym (only_echo (pattern_property b) (no_default_echo b k) h) ∙ j))
 long_pattern b false form.Init k h j = absurd (false≢true (sym (only_echo (pattern_property b) (no_default_echo b k) h) ∙ j))
-long_pattern b c form.Method k h j = elim h [ ]
-long_pattern b c form.Get k h j = elim h [ ]
-long_pattern b c form.Set k h j = elim h [ ]
-long_pattern b c form.Constructor k h j = elim h [ ]
+long_pattern b c _ k h j = elim h [ ]
 
-property_open : (c : Bool) {x : Spelling} → Among x (properties c form.Shorthand) → c ≡ false
-property_open true h = elim h [ ]
-property_open false h = refl
+property_open : (c : Bool) (x : Form) {y : Spelling} → Among y (properties c form.Shorthand x) → c ≡ false
+property_open true x h = elim h [ ]
+property_open false x h = refl
 
 pattern_open : (b c : Bool) (k : Kind) {x : Spelling} → Among x (pattern_properties b c form.Shorthand k) → c ≡ false
 pattern_open b true k h = elim h [ ]
@@ -268,7 +305,7 @@ short_has_echo : (a : Role) (n : Tree) {qs : List (PieceOf Role)} → is_shortha
 unfolding spellings expressions statements items openings
 short_has_echo property (node kind.Property w g s t ps) e h =
     let v = way_of h in
-    ap (λ z. has_echo (roles z)) v.is ∙ short_property g.computed (subst (λ f. Among v.spelling (properties g.computed f)) (short_form g e) v.listed)
+    ap (λ z. has_echo (roles z)) v.is ∙ short_property g.computed (value_form (bare_parts ps)) (subst (λ f. Among v.spelling (properties g.computed f (value_form (bare_parts ps)))) (short_form g e) v.listed)
 short_has_echo (pattern_property b) (node kind.Property w g s t ps) e h =
     let v = way_of h in
     ap (λ z. has_echo (roles z)) v.is ∙ short_pattern b g.computed (lead_kind (others (bare_parts ps))) (subst (λ f. Among v.spelling (pattern_properties b g.computed f (lead_kind (others (bare_parts ps))))) (short_form g e) v.listed)
@@ -279,13 +316,29 @@ short_has_echo a (node _ w g s t ps) e h = absurd (false≢true e)
 abbrev pub IsShort : Tree → Type 0
 IsShort n = (is_shorthand (kind_of n) (flags_of n) ≡ true) × ((flags_of n).computed ≡ false)
 
+script_echo : (b : Bool) (ps : Parts) → has_echo (roles (standing_at script (prologue false b [] (lay feed ∷ []) ps ++ tok End [] ∷ []))) ≡ false
+script_echo b none = refl
+script_echo b (gap ps) = refl
+script_echo true (part m ps) = script_echo (is_directive m) ps
+script_echo false (part m ps) = script_echo false ps
+
+module_echo : (b : Bool) (ps : Parts) → has_echo (roles (standing_at script (module_prologue b ps ++ tok End [] ∷ []))) ≡ false
+module_echo b none = refl
+module_echo b (gap ps) = refl
+module_echo b (part m ps) = of (is_module_item (kind_of m)) b (module_echo (b && is_directive m) ps)
+  where
+    of : (x y : Bool) {r : Bool} → r ≡ false → (is_echo (cond x module_item (cond y (opening false) (item false))) || r) ≡ false
+    of true y h = h
+    of false true h = h
+    of false false h = h
+
 -- and a way that has one is a shorthand property's
 echo_is_short : (a : Role) (n : Tree) {qs : List (PieceOf Role)} → is_echo a ≡ false → Among qs (ways a n) → has_echo (roles qs) ≡ true → gain level qs ≤ 1 → 1 ≤ debt level qs → IsShort n
 unfolding spellings
 echo_is_short property (node kind.Property w g s t ps) e h k x y =
     let v = way_of h in
-    let f = long_property g.computed g.form v.listed (ap (λ z. has_echo (roles z)) (sym v.is) ∙ k) in
-    (form_short g f, property_open g.computed (subst (λ f. Among v.spelling (properties g.computed f)) f v.listed))
+    let f = long_property g.computed g.form (value_form (bare_parts ps)) v.listed (ap (λ z. has_echo (roles z)) (sym v.is) ∙ k) in
+    (form_short g f, property_open g.computed (value_form (bare_parts ps)) (subst (λ f. Among v.spelling (properties g.computed f (value_form (bare_parts ps)))) f v.listed))
 echo_is_short property (node _ w g s t ps) e h k x y = elim ((way_of h).listed) [ ]
 echo_is_short (pattern_property b) (node kind.Property w g s t ps) e h k x y =
     let v = way_of h in
@@ -293,13 +346,12 @@ echo_is_short (pattern_property b) (node kind.Property w g s t ps) e h k x y =
     (form_short g f, pattern_open b g.computed (lead_kind (others (bare_parts ps))) (subst (λ f. Among v.spelling (pattern_properties b g.computed f (lead_kind (others (bare_parts ps))))) f v.listed))
 echo_is_short (pattern_property b) (node _ w g s t ps) e h k x y = elim ((way_of h).listed) [ ]
 echo_is_short shorthand_key n e h k x y = absurd (true≢false e)
-echo_is_short script (node kind.Program w g s t ps) {qs} e h k x y = let v = way_of h in absurd (false≢true (sym (ap (λ z. has_echo (roles z)) (v.is ∙ ap (settled script) (one v.listed)) ∙ script_echo true (bare_parts ps)) ∙ k))
+echo_is_short script (node kind.Program w g s t ps) {qs} e h k x y =
+    let v = way_of h in
+    of_program (is_empty w || is w "2022") (is w "module") v.listed (λ i. none_there v.is i (script_echo true (bare_parts ps))) (λ i. none_there v.is i (module_echo true (bare_parts ps)))
   where
-    script_echo : (b : Bool) (ps : Parts) → has_echo (roles (standing_at script (prologue false b [] (lay feed ∷ []) ps ++ tok End [] ∷ []))) ≡ false
-    script_echo b none = refl
-    script_echo b (gap ps) = refl
-    script_echo true (part m ps) = script_echo (is_directive m) ps
-    script_echo false (part m ps) = script_echo false ps
+    none_there : {z z' : Spelling} → qs ≡ settled script z → z ≡ z' → has_echo (roles (settled script z')) ≡ false → IsShort (node kind.Program w g s t ps)
+    none_there j i u = absurd (false≢true (sym (ap (λ z. has_echo (roles z)) (j ∙ ap (settled script) i) ∙ u) ∙ k))
 echo_is_short script (node _ w g s t ps) e h k x y = elim ((way_of h).listed) [ ]
 echo_is_short (expr y i f) n e h k x z = let p = way_paid (expr y i f) n _ h in absurd (omega (arith, p, x, z))
 echo_is_short (chain_part f) n e h k x z = let p = way_paid (chain_part f) n _ h in absurd (omega (arith, p, x, z))

@@ -5,16 +5,17 @@ use Rattle.tree.specs.declared.kind.Kind.TheVariants.{Identifier}
 use Rattle.tree.specs.declared.kind.Pair.{Pair}
 use Rattle.tree.specs.Tree.{Tree, kind_of, text_of, start_of, stop_of}
 use Rattle.tree.specs.Flat.{post_order}
-use Rattle.language.specs.Claims.{Derives}
+use Rattle.language.specs.declared.Language.{Language}
+use Rattle.language.specs.Languages.{DerivesIn}
 use Rattle.language.specs.Derivation.{Among}
 use Rattle.scopes.specs.Bindings.{Binding}
 use Rattle.scopes.specs.Found.{Scope, Reference, found}
 use Rattle.location_laws.specs.InOrder.{in_order}
 use Rattle.location_laws.specs.ScopeRanges.{SourceRange, scope_ranges, are_nested, are_disjoint_from, is_within}
 
--- of a script that a UTF-8 text derives
+-- of a script that a UTF-8 text derives in a language
 abbrev pub OfDerived : (List ℕ → Tree → Type 0) → Type 0
-OfDerived P = (text : List ℕ) (n : Tree) (pairs : List Pair) → IsUtf8 text → Derives text n pairs → P text n
+OfDerived P = (language : Language) (text : List ℕ) (n : Tree) (pairs : List Pair) → IsUtf8 text → DerivesIn language text n pairs → P text n
 
 -- the parts of each node stand in its span, one behind the other
 abbrev pub NodesAreInOrder : Type 0

@@ -1,7 +1,7 @@
 -- The places of scopes: where in the text the names of each count. A scope is round all of a node, or round what stands behind its first
 -- part: the parameters and the body of a function, what stands behind a class's name, the cases of a `switch`.
-use Rattle.std.specs.Prelude.{ℕ, Bool, true, false, ◌+◌, ◌-◌, ◌&&◌, ◌||◌, nat_le, nat_lt, List, [], ◌∷◌, ◌++◌, Option, Some, None}
-use Rattle.tree.specs.Tree.{Tree, node, Parts, none, part, gap, stop_of, part_count}
+use Rattle.std.specs.Prelude.{ℕ, Bool, true, false, ◌+◌, ◌-◌, ◌&&◌, ◌||◌, nat_le, nat_lt, List, [], ◌∷◌, ◌++◌, Option, Some, None, is_some}
+use Rattle.tree.specs.Tree.{Tree, node, Parts, none, part, gap, stop_of, part_at, part_count}
 use Rattle.scopes.specs.declared.identifier_use.IdentifierUse.{IdentifierUse}
 use Rattle.scopes.specs.declared.identifier_use.IdentifierUse.TheVariants.{Read}
 use Rattle.scopes.specs.Roles.{part_role}
@@ -20,7 +20,7 @@ range_of (Some xs) from to = (from, to) ∷ []
 unfoldable mutual
   -- the places of the scopes in a node with this role, in the order of the scopes
   pub ranges_in : IdentifierUse → Tree → List SourceRange
-  ranges_in u (node k w g s e ps) = range_of (scope_round_all u k ps) s e ++ ranges_in_all (part_role u k w g (part_count ps - 1)) (scope_round_others k ps) s e ps
+  ranges_in u (node k w g s e ps) = range_of (scope_round_all u k ps) s e ++ ranges_in_all (part_role u k w g (is_some (part_at ps (part_count ps - 1))) (part_count ps - 1)) (scope_round_others k ps) s e ps
 
   -- in all parts, which have these roles: in the first, and in the others within their scope
   pub ranges_in_all : (ℕ → IdentifierUse) → Option (List Binding) → ℕ → ℕ → Parts → List SourceRange

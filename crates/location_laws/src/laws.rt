@@ -2,7 +2,7 @@
 
 ghost use Rattle.location_laws.specs.Laws.{BindingsAreAtTheirNames, BindingsAreInOrder, IdentifiersAreAtTheirNames, NodesAreInOrder, ReferencesAreAtTheirNames, ReferencesAreInOrder, ReferencesAreInTheirScopes, ScopesAreInOrder, ScopesAreWithinTheirParents};
 
-/// In a script that a UTF-8 text derives, the parts of each node stand within its span, each where the one before it ends or
+/// In a script that a UTF-8 text derives in a language, the parts of each node stand within its span, each where the one before it ends or
 /// behind it. Only the key of a shorthand property stands in its value.
 pub fn nodes_are_in_order()
     ensures { NodesAreInOrder }

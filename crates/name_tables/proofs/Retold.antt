@@ -3,13 +3,13 @@ use Rattle.std.proofs.Common.{◌≡◌, Bool, true, false, cond, List, [], ◌�
 use Rattle.std.specs.Prelude.{codes, unwrap_or}
 use Rattle.std.specs.Str.{bytes_eq}
 use Rattle.std.proofs.lemmas.List.{map-append}
-use Rattle.tree.specs.declared.kind.Kind.TheVariants.{Identifier, ArrayPattern, ObjectPattern, RestElement, AssignmentPattern, Property, VariableDeclaration, FunctionDeclaration, ClassDeclaration}
+use Rattle.tree.specs.declared.kind.Kind.TheVariants.{Identifier, ArrayPattern, ObjectPattern, RestElement, AssignmentPattern, Property, VariableDeclaration, FunctionDeclaration, ClassDeclaration, ImportDeclaration}
 use Rattle.tree.specs.Tree.{Tree, Parts, none, part, gap, node, parts_of, parts_drop}
 use Rattle.name_tables.specs.declared.bound.BoundName.{BoundName}
 use Rattle.name_tables.specs.PatternParts.{Bound, all_bound, at_part, bound, bound_as}
 use Rattle.name_tables.specs.declared.declared.LexicalAs.{LexicalAs}
 use Rattle.name_tables.specs.DeclaratorParts.{declarator_as, declarators_as, how_of, lexical_as}
-use Rattle.name_tables.specs.DeclaredNames.{case_names, declarator_names, lexically_declared_names, parameter_names}
+use Rattle.name_tables.specs.DeclaredNames.{case_names, declaration_of, declarator_names, lexically_declared_names, own_lexical_names, parameter_names, specifier_names}
 use Rattle.name_tables.specs.BoundNames.{each_part, bound_names, all_bound_names, first_bound_names, last_bound_names}
 
 module _ {A B : Type 0} (g : A → B) (f : Tree → A) where
@@ -76,21 +76,33 @@ module _ {H A : Type 0} (g : Bound H → A) where
         map (λ x. g (bound x)) new ≡ map (λ x. g (bound x)) old ++ declarator_names (λ qs t. g (bound_as (how_of qs) t)) ps
     retold-declarators new old ps h = retold-by new old (declarator_names (λ qs. bound_as (how_of qs)) ps) (declarator_names (λ qs t. g (bound_as (how_of qs) t)) ps) (declarators ps) h
 
+  -- what specifiers bind
+  specifiers : (how : H) (ps : Parts) → map g (each_part (specifier_names (bound_as how)) ps) ≡ each_part (specifier_names (λ u. g (bound_as how u))) ps
+  specifiers how none = refl
+  specifiers how (part d ps) = map-append g (specifier_names (bound_as how) d) (each_part (specifier_names (bound_as how)) ps) ∙ (λ i. last g (bound_as how) (parts_of d) i ++ specifiers how ps i)
+  specifiers how (gap ps) = specifiers how ps
+
   -- what an item declares lexically
-  pub lexically : (how : LexicalAs H) (t : Tree) → map g (lexical_as how t)
-      ≡ lexically_declared_names (is_some how.function) (λ text ps u. g (declarator_as (declarators_as how text) ps u)) (λ u. g (bound_as (unwrap_or how.function how.class) u)) (λ u. g (bound_as how.class u)) t
-  lexically how (node VariableDeclaration w k s e ps) = pick (bytes_eq w (codes "var"))
+  own-lexically : (how : LexicalAs H) (t : Tree)
+      → map g (own_lexical_names (is_some how.function) (λ text. declarator_as (declarators_as how text)) (bound_as (unwrap_or how.function how.class)) (bound_as how.class) (bound_as how.import) t)
+      ≡ own_lexical_names (is_some how.function) (λ text ps u. g (declarator_as (declarators_as how text) ps u)) (λ u. g (bound_as (unwrap_or how.function how.class) u)) (λ u. g (bound_as how.class u)) (λ u. g (bound_as how.import u)) t
+  own-lexically how (node VariableDeclaration w k s e ps) = pick (bytes_eq w (codes "var"))
     where
       pick : (b : Bool) → map g (cond b [] (declarator_names (declarator_as (declarators_as how w)) ps)) ≡ cond b [] (declarator_names (λ qs u. g (declarator_as (declarators_as how w) qs u)) ps)
       pick true = refl
       pick false = declarators (how_of (declarators_as how w)) ps
-  lexically how (node FunctionDeclaration w k s e ps) = pick (is_some how.function)
+  own-lexically how (node FunctionDeclaration w k s e ps) = pick (is_some how.function)
     where
       pick : (b : Bool) → map g (cond b (first_bound_names (bound_as (unwrap_or how.function how.class)) ps) []) ≡ cond b (first_bound_names (λ u. g (bound_as (unwrap_or how.function how.class) u)) ps) []
       pick true = first g (bound_as (unwrap_or how.function how.class)) ps
       pick false = refl
-  lexically how (node ClassDeclaration w k s e ps) = first g (bound_as how.class) ps
-  lexically how (node _ w k s e ps) = refl
+  own-lexically how (node ClassDeclaration w k s e ps) = first g (bound_as how.class) ps
+  own-lexically how (node ImportDeclaration w k s e ps) = specifiers how.import ps
+  own-lexically how (node _ w k s e ps) = refl
+
+  pub lexically : (how : LexicalAs H) (t : Tree) → map g (lexical_as how t)
+      ≡ lexically_declared_names (is_some how.function) (λ text ps u. g (declarator_as (declarators_as how text) ps u)) (λ u. g (bound_as (unwrap_or how.function how.class) u)) (λ u. g (bound_as how.class u)) (λ u. g (bound_as how.import u)) t
+  lexically how t = own-lexically how (declaration_of t)
 
   -- what trees give, however that is said of one
   module _ (f : Tree → List (Bound H)) (r : Tree → List A) (e : (t : Tree) → map g (f t) ≡ r t) where

@@ -1,7 +1,7 @@
 -- What declarators bind, and what items declare lexically, as the code goes through them.
 use Rattle.std.specs.Prelude.{ℕ, cond, codes, List, Option, Some, None, is_some, unwrap_or}
 use Rattle.std.specs.Str.{bytes_eq}
-use Rattle.tree.specs.declared.kind.Kind.TheVariants.{VariableDeclaration, FunctionDeclaration, ClassDeclaration}
+use Rattle.tree.specs.declared.kind.Kind.TheVariants.{VariableDeclaration, FunctionDeclaration, ClassDeclaration, ImportDeclaration}
 use Rattle.tree.specs.Tree.{Tree, node, Parts, parts_of, part_at}
 use Rattle.name_tables.specs.declared.declared.DeclaratorAs.{DeclaratorAs}
 use Rattle.name_tables.specs.declared.declared.LexicalAs.{LexicalAs}
@@ -28,9 +28,9 @@ declarators_as how text = cond (bytes_eq text (codes "let")) how.by_let how.by_c
 
 -- the names that an item declares lexically; of functions where they are bound so
 abbrev pub lexical_as : {H : Type 0} → LexicalAs H → Tree → List (Bound H)
-lexical_as how tree = lexically_declared_names (is_some how.function) (λ text. declarator_as (declarators_as how text)) (bound_as (unwrap_or how.function how.class)) (bound_as how.class) tree
+lexical_as how tree = lexically_declared_names (is_some how.function) (λ text. declarator_as (declarators_as how text)) (bound_as (unwrap_or how.function how.class)) (bound_as how.class) (bound_as how.import) tree
 
--- which names that are: of a declaration by its word, and of an item
+-- which names that are: of a declaration by its word, and of an item that exports nothing
 abbrev pub by_word : {H : Type 0} → LexicalAs H → List ℕ → Lexical H
 by_word how text = cond (bytes_eq text (codes "var")) lexical.Nothing (lexical.Declarators (declarators_as how text))
 
@@ -42,4 +42,5 @@ abbrev pub lexical_of : {H : Type 0} → LexicalAs H → Tree → Lexical H
 lexical_of how (node VariableDeclaration text flags from to parts) = by_word how text
 lexical_of how (node ClassDeclaration text flags from to parts) = lexical.FirstPart how.class
 lexical_of how (node FunctionDeclaration text flags from to parts) = by_name how.function
+lexical_of how (node ImportDeclaration text flags from to parts) = lexical.Specifiers how.import
 lexical_of how (node _ text flags from to parts) = lexical.Nothing

@@ -5,7 +5,7 @@ use Rattle.std.specs.Hash as fed
 use Rattle.std.specs.Hash.DefaultHasher as sip
 use Rattle.std.specs.declared.hash.DefaultHasher.{DefaultHasher}
 use Rattle.tree.specs.declared.kind.Kind.{Kind}
-use Rattle.tree.specs.declared.kind.Kind.TheVariants.{VariableDeclarator, FunctionDeclaration, FunctionExpression, ArrowFunctionExpression, ClassDeclaration, ClassExpression, CatchClause, ArrayPattern, ObjectPattern, Property, RestElement, AssignmentPattern}
+use Rattle.tree.specs.declared.kind.Kind.TheVariants.{VariableDeclarator, FunctionDeclaration, FunctionExpression, ArrowFunctionExpression, ClassDeclaration, ClassExpression, CatchClause, ArrayPattern, ObjectPattern, Property, RestElement, AssignmentPattern, ImportSpecifier, ImportDefaultSpecifier, ImportNamespaceSpecifier}
 pub use Rattle.tree.specs.Kinds.{is_identifier}
 use Rattle.tree.specs.Tree.{Tree, kind_of, parts_of, text_of}
 use Rattle.tree.specs.Flat.{post_order}
@@ -46,6 +46,9 @@ may_declare ObjectPattern = true
 may_declare Property = true
 may_declare RestElement = true
 may_declare AssignmentPattern = true
+may_declare ImportSpecifier = true
+may_declare ImportDefaultSpecifier = true
+may_declare ImportNamespaceSpecifier = true
 may_declare _ = false
 
 -- the name that a node is, if it is one

@@ -6,9 +6,9 @@ ghost use Rattle.tree.specs.Tree.{parts_drop, parts_of};
 ghost use Rattle.name_tables.specs.BoundNames.{each_part};
 ghost use Rattle.name_tables.specs.PatternParts.{all_bound, at_part, bound_as};
 ghost use Rattle.name_tables.specs.DeclaratorParts.{by_word, declarator_as, how_of, lexical_as, lexical_of, named_by};
-ghost use Rattle.name_tables.specs.DeclaredNames.{case_names, declarator_names, parameter_names};
+ghost use Rattle.name_tables.specs.DeclaredNames.{case_names, declaration_of, declarator_names, parameter_names, specifier_names};
 
-use crate::bound::{BoundName, push_part_names};
+use crate::bound::{BoundName, last_part, push_part_names};
 use std::alloc::AllocError;
 use tree::{Kind, Node};
 
@@ -69,6 +69,8 @@ pub struct LexicalAs<H> {
     pub by_const: DeclaratorAs<H>,
     /// A class's.
     pub class: H,
+    /// Those of an import.
+    pub import: H,
     /// A function's; none where functions declare no lexical names, as at the top of a script.
     pub function: Option<H>,
 }
@@ -80,17 +82,34 @@ pub enum Lexical<H> {
     Declarators(DeclaratorAs<H>),
     /// That of its first part.
     FirstPart(H),
+    /// Those that its specifiers bind.
+    Specifiers(H),
     /// None.
     Nothing,
 }
 
-/// Which names an item declares lexically: a `let`, a `const`, a class or a function.
+/// What an export declares, and any other item itself (ECMA-262, 13th edition, 16.2.3).
+#[inline]
+pub fn declaration_of<'t, 's>(item: Node<'t, 's>) -> Node<'t, 's>
+    ensures { node_tree result ≡ declaration_of (node_tree item.entry) }
+{
+    match item.kind() {
+        Kind::ExportNamedDeclaration | Kind::ExportDefaultDeclaration => match item.part(0) {
+            Some(declaration) => declaration,
+            None => item,
+        },
+        _ => item,
+    }
+}
+
+/// Which names an item that exports nothing declares lexically: a `let`, a `const`, a class, a function or an import.
 pub fn lexical_of<H: Copy>(item: Node, how: &LexicalAs<H>) -> Lexical<H>
     ensures { result ≡ lexical_of how.now (node_tree item.entry) }
 {
     match item.kind() {
         Kind::VariableDeclaration => by_word(item.text(), how),
         Kind::ClassDeclaration => Lexical::FirstPart(how.class),
+        Kind::ImportDeclaration => Lexical::Specifiers(how.import),
         Kind::FunctionDeclaration => match how.function {
             Some(how) => Lexical::FirstPart(how),
             None => Lexical::Nothing,
@@ -112,7 +131,7 @@ fn by_word<H: Copy>(word: &str, how: &LexicalAs<H>) -> Lexical<H>
     }
 }
 
-/// Pushes the names that an item declares lexically (ECMA-262 13.2.5, 13.2.7).
+/// Pushes the names that an item declares lexically, exported or not (ECMA-262 13.2.5, 13.2.7).
 pub fn push_lexical<'t, H: Copy>(
     item: Node<'t, '_>,
     how: &LexicalAs<H>,
@@ -120,10 +139,40 @@ pub fn push_lexical<'t, H: Copy>(
 ) -> Result<(), AllocError>
     ensures { OnOk result (all_bound names.new.items ≡ all_bound names.old.items ++ lexical_as how.now (node_tree item.entry)) }
 {
-    match lexical_of(item, how) {
-        Lexical::Declarators(how) => push_declarators(item, how, names),
-        Lexical::FirstPart(how) => push_part_names(item.part(0), how, names),
+    let declaration = declaration_of(item);
+    match lexical_of(declaration, how) {
+        Lexical::Declarators(how) => push_declarators(declaration, how, names),
+        Lexical::FirstPart(how) => push_part_names(declaration.part(0), how, names),
+        Lexical::Specifiers(how) => push_specifiers(declaration, how, names),
         Lexical::Nothing => Ok(()),
+    }
+}
+
+/// Pushes the names that an import binds: the last part of each specifier (ECMA-262, 13th edition, 16.2.2.2).
+fn push_specifiers<'t, H: Copy>(
+    import: Node<'t, '_>,
+    how: H,
+    names: &mut Vec<BoundName<'t, H>>,
+) -> Result<(), AllocError>
+    ensures { OnOk result (all_bound names.new.items ≡ all_bound names.old.items ++ each_part (specifier_names (bound_as how)) (parts_of (node_tree import.entry))) }
+{
+    for index in 0..import.part_count() {
+        push_specifier(import.part(index), how, names)?;
+    }
+    Ok(())
+}
+
+/// Adds the name that a specifier binds; the source binds none.
+fn push_specifier<'t, H: Copy>(
+    specifier: Option<Node<'t, '_>>,
+    how: H,
+    names: &mut Vec<BoundName<'t, H>>,
+) -> Result<(), AllocError>
+    ensures { OnOk result (all_bound names.new.items ≡ all_bound names.old.items ++ at_part (specifier_names (bound_as how)) (option_map node_tree specifier.entry)) }
+{
+    match specifier {
+        Some(specifier) => push_part_names(last_part(specifier), how, names),
+        None => Ok(()),
     }
 }
 

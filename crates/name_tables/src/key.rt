@@ -120,7 +120,10 @@ fn may_declare(kind: Kind) -> bool
         | Kind::ObjectPattern
         | Kind::Property
         | Kind::RestElement
-        | Kind::AssignmentPattern => true,
+        | Kind::AssignmentPattern
+        | Kind::ImportSpecifier
+        | Kind::ImportDefaultSpecifier
+        | Kind::ImportNamespaceSpecifier => true,
         _ => false,
     }
 }

@@ -15,8 +15,8 @@ pub use bound::{
     BoundName, PatternNames, last_part, pattern_names_of, push_names, push_part_names,
 };
 pub use declared::{
-    DeclaratorAs, Lexical, LexicalAs, lexical_of, push_cases, push_declarators, push_lexical,
-    push_lexical_part, push_lexical_parts, push_parameters,
+    DeclaratorAs, Lexical, LexicalAs, declaration_of, lexical_of, push_cases, push_declarators,
+    push_lexical, push_lexical_part, push_lexical_parts, push_parameters,
 };
 pub use key::{HashKey, KeyBuilder};
 pub use set::NameSet;

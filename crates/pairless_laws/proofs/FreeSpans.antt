@@ -1,25 +1,28 @@
 -- In a derivation each node in whose span no grouping pair opens costs no pair at its widest position.
-use Rattle.std.proofs.Common.{◌≡◌, ℕ, Bool, true, List, [], ◌∷◌, refl, ◌++◌, length, ap, subst, arith}
+use Rattle.tree.specs.declared.kind.Kind.TheVariants.{Identifier}
+use Rattle.std.proofs.Common.{◌≡◌, ℕ, Bool, true, List, [], ◌∷◌, refl, ◌++◌, length, ap, subst, arith, sym}
 use Rattle.std.specs.Prelude.{Option, Some}
-use Rattle.tokens.specs.Reading.{any_goal}
 use Rattle.language.specs.declared.Rank.{Rank}
 use Rattle.language.specs.declared.Rank.TheVariants.{Expression}
 use Rattle.language.specs.declared.Start.{Start}
 use Rattle.language.specs.declared.Start.TheVariants.{Any}
 use Rattle.tree.specs.declared.kind.Pair.{Pair}
-use Rattle.tree.specs.Tree.{Tree, node, Parts, none, part, gap, parts_of, start_of, stop_of}
-use Rattle.language.specs.Pieces.{Role, expr, script, PieceOf}
+use Rattle.tree.specs.Tree.{Tree, node, Parts, none, part, gap, parts_of, start_of, stop_of, plain}
+use Rattle.language.specs.Pieces.{Role, expr, script, PieceOf, key, word}
 use Rattle.language.specs.Token.{Token}
-use Rattle.language.specs.Places.{NextIn, itself, SpellsIn}
-use Rattle.language.specs.Grammar.{ways}
+use Rattle.language.specs.declared.Language.{Language}
+use Rattle.language.specs.declared.Language.TheVariants.{Base}
+use Rattle.language.specs.Languages.{DerivesIn, seen_in}
+use Rattle.language.specs.Grammar.{ways, ways_bare, spellings}
 use Rattle.language.specs.RowPositions.{roles, first_roles, widest}
-use Rattle.language.specs.Derivation.{Among, first, later, direct, grouped, done, step, opened, closed, within, missing}
-use Rattle.language.specs.Cost.{AtMost, at_most, least}
+use Rattle.language.specs.Derivation.{Among, first, later, direct, grouped, done, step, opened, closed, within, missing, reserved_key, reserved_word}
+use Rattle.language.specs.Cost.{AtMost, at_most, least, parts_least, if_any}
 use Rattle.language.specs.Claims.{Derives}
 use Rattle.language.proofs.table.LooserPositions.{Looser, same, looser, AllLooser, next}
+use Rattle.language.proofs.texts.BaseLanguage.{seen_spells}
 use Rattle.language.proofs.lower_bound.LowerBound.{Step-roles, parts_lower_bound}
 use Rattle.pairless_laws.specs.Pairless.{IsPairless, PairlessSpansAreFree, PairlessPartSpansAreFree}
-use Rattle.pairless_laws.proofs.PairPlaces.{RunsIn, no_pairs_in_span}
+use Rattle.pairless_laws.proofs.PairPlaces.{After, SpellsIn, RunsIn, no_pairs_in_span}
 use Rattle.pairless_laws.proofs.WidestWays.{widens_widest, holds_first, cost_first}
 
 -- With more pairs
@@ -71,21 +74,32 @@ costs_none x P i h = of (subst (λ Q. AtMost x (length Q)) i h)
     of : {x : Option ℕ} → AtMost x 0 → x ≡ Some 0
     of (at_most {m = m} l) = ap Some (let z : m ≡ 0 = omega (arith, l) in z)
 
-module _ (text : List ℕ) where
+-- a name where reserved words stand too
+key_least : (w : List ℕ) (a b : ℕ) → least (node Identifier w plain a b none) key ≡ Some 0
+unfolding least parts_least ways ways_bare spellings if_any
+key_least w a b = refl
+
+word_least : (w : List ℕ) (a b : ℕ) → least (node Identifier w plain a b none) word ≡ Some 0
+unfolding least parts_least ways ways_bare spellings if_any
+word_least w a b = refl
+
+module _ (m : Language) (text : List ℕ) where
   mutual
     unfolding PairlessPartSpansAreFree
 
-    spells_free : {o : ℕ} {a : Role} {n : Tree} {s e : Token} {P : List Pair} → SpellsIn text o a n s e P → (b : Role) → Looser a b → PairlessSpansAreFree P n b
+    spells_free : {o : ℕ} {a : Role} {n : Tree} {s e : Token} {P : List Pair} → SpellsIn m text o a n s e P → (b : Role) → Looser a b → PairlessSpansAreFree P n b
     spells_free {a = a} {n = n} {P = P} (direct qs h pl d) b l =
         let w = widens_widest a b l in
         node_free P n b
-        (λ i. costs_none (least n (widest b)) P (no_pairs_in_span text a qs h pl d i) (cost_first n a (widest b) qs w h (length P) (λ rs x. parts_lower_bound Token (NextIn text any_goal) itself d rs x)))
+        (λ i. costs_none (least n (widest b)) P (no_pairs_in_span m text a qs h pl d i) (cost_first n a (widest b) qs w h (length P) (λ rs x. parts_lower_bound Token (After m text) (seen_in m) d rs x)))
         (holds_first (PairlessPartSpansAreFree P (parts_of n)) n a (widest b) qs w h (λ rs x. runs_free d rs x))
+    spells_free (reserved_key {w = w} r k e) b same = subst (λ n. PairlessSpansAreFree [] n key) (sym e) (node_free [] (node Identifier w plain _ _ none) key (λ i. key_least w _ _) tt)
+    spells_free (reserved_word {w = w} r k e) b same = subst (λ n. PairlessSpansAreFree [] n word) (sym e) (node_free [] (node Identifier w plain _ _ none) word (λ i. word_least w _ _) tt)
     spells_free {n = n} (grouped {P = P} p d q) b l = in_pair _ n l (more_pairs P _ (λ x i. later i) n (expr Expression true Any) (spells_free d (expr Expression true Any) same))
 
-    runs_free : {o : ℕ} {qs : List (PieceOf Role)} {ps : Parts} {s e : Token} {P : List Pair} → RunsIn text o qs ps s e P → (xs : List Role) → AllLooser (roles qs) xs → PairlessPartSpansAreFree P ps xs
+    runs_free : {o : ℕ} {qs : List (PieceOf Role)} {ps : Parts} {s e : Token} {P : List Pair} → RunsIn m text o qs ps s e P → (xs : List Role) → AllLooser (roles qs) xs → PairlessPartSpansAreFree P ps xs
     runs_free done xs l = tt
-    runs_free (step {qs = qs} p d) xs l = runs_free d xs (subst (λ rs. AllLooser rs xs) (Step-roles Token (NextIn text any_goal) itself qs p) l)
+    runs_free (step {qs = qs} p d) xs l = runs_free d xs (subst (λ rs. AllLooser rs xs) (Step-roles Token (After m text) (seen_in m) qs p) l)
     runs_free (opened p d) xs l = runs_free d xs l
     runs_free (closed p d) xs l = runs_free d xs l
     runs_free (within {n = n} {ps = ps} {P = P} {Q = Q} p d) (x ∷ xs) (next l ls) =
@@ -93,6 +107,9 @@ module _ (text : List ℕ) where
     runs_free (within p d) [] l = elim l [ ]
     runs_free (missing d) xs l = runs_free d xs l
 
--- a script that some text derives
+-- a script that some text derives in a language
+pub spans_derived_free_in : (m : Language) (text : List ℕ) (n : Tree) (P : List Pair) → DerivesIn m text n P → PairlessSpansAreFree P n script
+spans_derived_free_in m text n P d = spells_free m text d.1.2 script same
+
 pub spans_derived_free : (text : List ℕ) (n : Tree) (P : List Pair) → Derives text n P → PairlessSpansAreFree P n script
-spans_derived_free text n P d = spells_free text d.1.1 script same
+spans_derived_free text n P d = spells_free Base text (seen_spells text d.1.1) script same

@@ -1,13 +1,13 @@
--- Between which places the `(` of each grouping pair of a node stands.
+-- Between which places the `(` of each grouping pair of a node stands, in each language.
 use Rattle.std.proofs.Common.{◌≡◌, ℕ, ◌-◌, ◌≤◌, ◌<◌, Bool, true, false, cond, List, [], ◌∷◌, ◌++◌, length, refl, sym, ap, subst, ◌∙◌, arith, ◌⊎◌, inl, inr}
-use Rattle.std.specs.Prelude.{IsTrue, codes, encode_utf8_all, if◌then◌else◌}
+use Rattle.std.specs.Prelude.{IsTrue, codes, encode_utf8_all, if◌then◌else◌, ◌&&◌}
 use Rattle.std.specs.Bool.{beq}
 use Rattle.tokens.specs.Alphabet.{one_of, begins_with}
 use Rattle.tokens.specs.declared.token.Goal.{Goal}
 use Rattle.tokens.specs.declared.token.Goal.TheVariants.{Div, RegExp, TemplateTail}
 use Rattle.tokens.specs.Goals.{allows, is_regexp, is_template_part, reads_regexps, reads_template_parts}
 use Rattle.tokens.specs.declared.token.TokenClass.{TokenClass}
-use Rattle.tokens.specs.declared.token.TokenClass.TheVariants.{IdentifierName, Punctuator}
+use Rattle.tokens.specs.declared.token.TokenClass.TheVariants.{IdentifierName, Punctuator, Keyword}
 use Rattle.tokens.specs.Reading.{any_goal}
 use Rattle.tree.specs.declared.kind.Pair.{Pair}
 use Rattle.tree.specs.Tree.{Tree, Parts, none, start_of, stop_of, parts_of}
@@ -18,12 +18,17 @@ use Rattle.language.specs.declared.Start.TheVariants.{Any}
 use Rattle.language.specs.Pieces.{Role, expr, shorthand_key, template_element, script, PieceOf}
 use Rattle.language.specs.Token.{Token, table_text}
 use Rattle.language.specs.Promises.{is_free}
-use Rattle.language.specs.Places.{NextIn, next_in, itself, SpellsIn}
+use Rattle.language.specs.declared.Language.{Language}
+use Rattle.language.specs.Languages.{is_of_2022, class_in, seen_in, Seen, seen_next}
+use Rattle.language.specs.Vocabulary.{is_keyword}
+use Rattle.language.specs.Places.{NextIn, next_in, itself}
 use Rattle.language.specs.Grammar.{ways}
-use Rattle.language.specs.Derivation.{Among, first, later, pair_of, Reads, Step, token, with_mark, without_mark, one_more, no_more, seen, same_line, explicit, implicit, laid, Placed, placed, direct, grouped, Runs, done, step, opened, closed, within, missing}
+use Rattle.language.specs.Derivation.{Among, first, later, pair_of, Reads, Step, token, with_mark, without_mark, one_more, no_more, seen, same_line, left_bare, explicit, implicit, laid, Placed, placed, Spells, direct, grouped, Runs, done, step, opened, closed, within, missing, reserved_key, reserved_word}
 use Rattle.language.proofs.covers.CoverKeys.{echo_form}
 use Rattle.language.proofs.list_loops.TemplateElements.{chunk_told}
+use Rattle.language.specs.Promises.{IsDetermined}
 use Rattle.language.proofs.texts.TextOffsets.{text_determined}
+use Rattle.language.proofs.texts.SeenTokens.{seen_determined}
 use Rattle.pairless_laws.specs.Pairless.{IsPairless}
 
 pub by_side : {X R : Type 0} {x : X} (xs ys : List X) → Among x (xs ++ ys) → (Among x xs → R) → (Among x ys → R) → R
@@ -62,15 +67,37 @@ some_goal c w = go (is_regexp c) (is_template_part c) (begins_with (one_of "/") 
     go p false false true = (Div, refl)
     go p q false false = (Div, refl)
 
-module _ (text : List ℕ) where
+-- a language sees a punctuator where one stands
+pub punctuator_seen : (m : Language) (c : TokenClass) (w : List ℕ) → class_in m c w ≡ Punctuator → c ≡ Punctuator
+punctuator_seen m IdentifierName w h = of (is_of_2022 m && is_keyword w) h
+  where
+    of : (b : Bool) → cond b Keyword IdentifierName ≡ Punctuator → IdentifierName ≡ Punctuator
+    of true h = cc
+    of false h = h
+punctuator_seen m _ w h = h
+
+module _ (m : Language) (text : List ℕ) where
+  -- the next token, as the language sees it
+  abbrev pub After : Token → Token → Token → Type 0
+  After = Seen Token (NextIn text any_goal) m
+
+  abbrev pub seen_by : Token → Token
+  seen_by = seen_in m
+
+  tokens_are : IsDetermined Token After seen_by
+  tokens_are = seen_determined Token (NextIn text any_goal) itself m (text_determined text)
+
+  abbrev pub SpellsIn : ℕ → Role → Tree → Token → Token → List Pair → Type 0
+  SpellsIn o a n s e P = Spells ways Token After seen_by o a n s e P
+
   abbrev pub RunsIn : ℕ → List (PieceOf Role) → Parts → Token → Token → List Pair → Type 0
-  RunsIn o qs ps s e P = Runs ways Token (NextIn text any_goal) itself o qs ps s e P
+  RunsIn o qs ps s e P = Runs ways Token After seen_by o qs ps s e P
 
   abbrev pub ReadsIn : TokenClass → List ℕ → Token → Token → Token → Type 0
-  ReadsIn = Reads Token (NextIn text any_goal) itself
+  ReadsIn = Reads Token After seen_by
 
-  pub next_on : {s t e : Token} → NextIn text any_goal s t e → (s.stop ≤ t.start) × (t.start ≤ t.stop) × (e.stop ≡ t.stop)
-  next_on {s} (next_in {t = u} g any x) =
+  pub next_on : {s t e : Token} → After s t e → (s.stop ≤ t.start) × (t.start ≤ t.stop) × (e.stop ≡ t.stop)
+  next_on {s} (seen_next (next_in {t = u} g any x)) =
       let a = x.start in
       let b = x.stop in
       (omega arith, omega arith, refl)
@@ -79,9 +106,9 @@ module _ (text : List ℕ) where
   pub mark_wide : {s t e : Token} → ReadsIn Punctuator (codes "(") s t e → t.start < t.stop
   mark_wide {s} r = of r.next r.class r.text
     where
-      of : {t e : Token} → NextIn text any_goal s t e → t.class ≡ Punctuator → t.text ≡ codes "(" → t.start < t.stop
-      of (next_in {t = t} goal any h) class is =
-          let text_is : t.text ≡ codes "(" = sym (ap (λ c. table_text c t.text) class) ∙ is in
+      of : {t e : Token} → After s t e → t.class ≡ Punctuator → t.text ≡ codes "(" → t.start < t.stop
+      of (seen_next (next_in {t = t} goal any h)) class is =
+          let text_is : t.text ≡ codes "(" = sym (ap (λ c. table_text c t.text) (punctuator_seen m t.class (table_text t.class t.text) class)) ∙ is in
           let one : length t.text ≡ 1 = ap length text_is in
           let word : length t.text ≡ length (encode_utf8_all h.word) = ap length h.text in
           let stop = h.stop in
@@ -90,7 +117,7 @@ module _ (text : List ℕ) where
   -- no `(` that is read at the place starts before the number, and no token ends before it
   pub record From (f : ℕ) (s : Token) : Type 0 where
     pub opens : {t m : Token} → ReadsIn Punctuator (codes "(") s t m → f ≤ t.start
-    pub ends : {t m : Token} → NextIn text any_goal s t m → f ≤ t.stop
+    pub ends : {t m : Token} → After s t m → f ≤ t.stop
 
   pub from_place : (f : ℕ) (s : Token) → f ≤ s.stop → From f s
   from_place f s l = record {
@@ -99,15 +126,15 @@ module _ (text : List ℕ) where
   }
 
   -- where the next token starts
-  pub from_start : {s t m : Token} → NextIn text any_goal s t m → From t.start s
+  pub from_start : {s t m : Token} → After s t m → From t.start s
   from_start {s} {t} {m} x = record {
-    opens = λ {t = u} {m = k} r. (let q = (text_determined text).start s t u m k x r.next in omega (arith, q));
-    ends = λ {t = u} {m = k} n. (let q = (text_determined text).start s t u m k x n in let a = next_on n in omega (arith, q, a));
+    opens = λ {t = u} {m = k} r. (let q = tokens_are.start s t u m k x r.next in omega (arith, q));
+    ends = λ {t = u} {m = k} n. (let q = tokens_are.start s t u m k x n in let a = next_on n in omega (arith, q, a));
   }
 
-  only_name : {w : List ℕ} {s e e' t t' : Token} → ReadsIn IdentifierName w s t e → NextIn text any_goal s t' e' → t' ≡ t
+  only_name : {w : List ℕ} {s e e' t t' : Token} → ReadsIn IdentifierName w s t e → After s t' e' → t' ≡ t
   only_name {s = s} {e = e} {e' = e'} {t = t} {t' = t'} h nx =
-      let det = text_determined text in
+      let det = tokens_are in
       let g = some_goal t'.class t'.text in
       (det.same g.0 s t' t e' e nx h.next g.1 (det.free g.0 s t e h.next (ap is_free h.class))).0
 
@@ -121,7 +148,7 @@ module _ (text : List ℕ) where
       other : IdentifierName ≡ Punctuator → ⊥
       other h = cc
 
-  read_from : {f : ℕ} {s t e : Token} → NextIn text any_goal s t e → From f s → From f e
+  read_from : {f : ℕ} {s t e : Token} → After s t e → From f s → From f e
   read_from {f = f} {e = e} n h = let a = h.ends n in let b = next_on n in from_place f e (omega (arith, a, b))
 
   -- from one place to another
@@ -129,13 +156,13 @@ module _ (text : List ℕ) where
     pub on : s.stop ≤ e.stop
     pub from : From f e
 
-  pub read_passed : {f : ℕ} {s t e : Token} → NextIn text any_goal s t e → From f s → Passed f s e
+  pub read_passed : {f : ℕ} {s t e : Token} → After s t e → From f s → Passed f s e
   read_passed {s = s} {e = e} n h = let a = next_on n in record { on = omega (arith, a); from = read_from n h }
 
   stays : {f : ℕ} (s : Token) → From f s → Passed f s s
   stays s h = record { on = omega arith; from = h }
 
-  pub step_passed : {f : ℕ} {q : PieceOf Role} {s e : Token} → Step Token (NextIn text any_goal) itself q s e → From f s → Passed f s e
+  pub step_passed : {f : ℕ} {q : PieceOf Role} {s e : Token} → Step Token After seen_by q s e → From f s → Passed f s e
   step_passed (token r) h = read_passed r.next h
   step_passed (with_mark r) h = read_passed r.next h
   step_passed (without_mark {s = s}) h = stays s h
@@ -148,6 +175,7 @@ module _ (text : List ℕ) where
   step_passed (no_more {s = s}) h = stays s h
   step_passed (seen {s = s} r) h = stays s h
   step_passed (same_line {s = s} n k) h = stays s h
+  step_passed (left_bare {s = s} n k) h = stays s h
   step_passed (explicit r) h = read_passed r.next h
   step_passed (implicit {s = s} n k) h = stays s h
   step_passed (laid {s = s}) h = stays s h
@@ -162,8 +190,10 @@ module _ (text : List ℕ) where
   behind_passed {s = s} {m = m} {e = e} u v = let a = u.on in let b = v.on in record { on = omega (arith, a, b); from = v.from; opens = v.opens }
 
   mutual
-    spells_held : {o : ℕ} {a : Role} {n : Tree} {s e : Token} {P : List Pair} → SpellsIn text o a n s e P → (f : ℕ) → From f s → Held f s e P
+    spells_held : {o : ℕ} {a : Role} {n : Tree} {s e : Token} {P : List Pair} → SpellsIn o a n s e P → (f : ℕ) → From f s → Held f s e P
     spells_held (direct qs h pl d) f k = runs_held d f k
+    spells_held (reserved_key r w e) f k = let u = read_passed r.next k in record { on = u.on; from = u.from; opens = λ p i. elim i [ ] }
+    spells_held (reserved_word r w e) f k = let u = read_passed r.next k in record { on = u.on; from = u.from; opens = λ p i. elim i [ ] }
     spells_held {s = s} {e = e} (grouped {left = left} {right = right} {m = m} {l = l} {P = P} p d q) f k =
         let u = read_passed p.next k in
         let v = spells_held d f u.from in
@@ -196,20 +226,20 @@ module _ (text : List ℕ) where
   -- A node that no pair stands round
 
   abbrev PlacedIn : Role → Tree → Token → Token → Type 0
-  PlacedIn = Placed Token (NextIn text any_goal) itself
+  PlacedIn = Placed Token After seen_by
 
   -- there is none in it where none opens between where its text may begin and its end
   pub no_pairs : {o : ℕ} {n : Tree} {s e : Token} {P : List Pair} (a : Role) (qs : List (PieceOf Role)) → Among qs (ways a n) → PlacedIn a n s e → RunsIn o qs (parts_of n) s e P → (f : ℕ) → From f s → IsPairless P f (stop_of n) → P ≡ []
-  no_pairs shorthand_key qs h pl d f k i = (echo_form Token (NextIn text any_goal) itself (text_determined text) (direct qs h pl d)).pairs
-  no_pairs (template_element b l) qs h pl d f k i = (chunk_told Token (NextIn text any_goal) itself (text_determined text) (direct qs h pl d)).pairs
+  no_pairs shorthand_key qs h pl d f k i = (echo_form Token After seen_by tokens_are (direct qs h pl d)).pairs
+  no_pairs (template_element b l) qs h pl d f k i = (chunk_told Token After seen_by tokens_are (direct qs h pl d)).pairs
   no_pairs {n = n} {e = e} {P = P} _ qs h (placed nx at) d f k i =
       let stop : e.stop ≡ stop_of n = ap (λ (x : ℕ × ℕ). x.1) at in
       none_opens f e.stop P (runs_held d f k).opens (subst (IsPairless P f) (sym stop) i)
 
   -- its parts begin at its start, or it has none
   pub first_part : {o : ℕ} {n : Tree} {s e : Token} {P : List Pair} (a : Role) (qs : List (PieceOf Role)) → Among qs (ways a n) → PlacedIn a n s e → RunsIn o qs (parts_of n) s e P → From (start_of n) s ⊎ (parts_of n ≡ none)
-  first_part shorthand_key qs h pl d = inr (ap parts_of (echo_form Token (NextIn text any_goal) itself (text_determined text) (direct qs h pl d)).tree)
-  first_part (template_element b l) qs h pl d = inr (ap parts_of (chunk_told Token (NextIn text any_goal) itself (text_determined text) (direct qs h pl d)).tree)
+  first_part shorthand_key qs h pl d = inr (ap parts_of (echo_form Token After seen_by tokens_are (direct qs h pl d)).tree)
+  first_part (template_element b l) qs h pl d = inr (ap parts_of (chunk_told Token After seen_by tokens_are (direct qs h pl d)).tree)
   first_part {n = n} {s = s} script qs h (placed nx at) d = let start : 0 ≡ start_of n = ap (λ (x : ℕ × ℕ). x.0) at in inl (from_place (start_of n) s (omega (arith, start)))
   first_part {s = s} _ qs h (placed nx at) d = inl (subst (λ x. From x s) (ap (λ (x : ℕ × ℕ). x.0) at) (from_start nx))
 
@@ -233,7 +263,7 @@ module _ (text : List ℕ) where
   -- Behind a node
 
   -- an expression ends between the two places
-  expression_ends : {o : ℕ} {y : Rank} {i : Bool} {g : Start} {n : Tree} {s e : Token} {P : List Pair} → SpellsIn text o (expr y i g) n s e P → (s.stop ≤ stop_of n) × (stop_of n ≤ e.stop)
+  expression_ends : {o : ℕ} {y : Rank} {i : Bool} {g : Start} {n : Tree} {s e : Token} {P : List Pair} → SpellsIn o (expr y i g) n s e P → (s.stop ≤ stop_of n) × (stop_of n ≤ e.stop)
   expression_ends {n = n} {s = s} {e = e} (direct qs h (placed nx at) d) =
       let stop : e.stop ≡ stop_of n = ap (λ (x : ℕ × ℕ). x.1) at in
       let on = (runs_held d 0 (from_place 0 s (omega arith))).on in
@@ -245,24 +275,26 @@ module _ (text : List ℕ) where
       (omega (arith, a, u), omega (arith, c, u))
 
   -- the `(` of a pair round a node stands before the node's end
-  pub group_opens : {o : ℕ} {n : Tree} {s left m l : Token} {P : List Pair} → ReadsIn Punctuator (codes "(") s left m → SpellsIn text o (expr Expression true Any) n m l P → left.start < stop_of n
+  pub group_opens : {o : ℕ} {n : Tree} {s left m l : Token} {P : List Pair} → ReadsIn Punctuator (codes "(") s left m → SpellsIn o (expr Expression true Any) n m l P → left.start < stop_of n
   group_opens p d =
       let u = expression_ends d in
       let a = next_on p.next in
       let b = mark_wide p in
       omega (arith, a, b, u)
 
-  pub behind_node : {o : ℕ} {n : Tree} {s e : Token} {P : List Pair} (a : Role) → SpellsIn text o a n s e P → From (stop_of n) e
+  pub behind_node : {o : ℕ} {n : Tree} {s e : Token} {P : List Pair} (a : Role) → SpellsIn o a n s e P → From (stop_of n) e
   behind_node {n = n} {s = s} {e = e} (expr y i g) d = from_place (stop_of n) e (expression_ends d).1
   behind_node {s = s} {e = e} shorthand_key d =
-      let u = echo_form Token (NextIn text any_goal) itself (text_determined text) d in
+      let u = echo_form Token After seen_by tokens_are d in
       subst (λ x. From x e) (sym (ap stop_of u.tree)) (subst (From u.sign.stop) u.place (from_name u.reads))
   behind_node {n = n} {e = e} (template_element b l) d =
-      let u = chunk_told Token (NextIn text any_goal) itself (text_determined text) d in
+      let u = chunk_told Token After seen_by tokens_are d in
       let stop : stop_of n ≡ e.stop - cond l 1 2 = ap stop_of u.tree in
       from_place (stop_of n) e (shorter l stop)
     where
       shorter : {x y : ℕ} (l : Bool) → x ≡ y - cond l 1 2 → x ≤ y
       shorter true h = omega (arith, h)
       shorter false h = omega (arith, h)
+  behind_node {n = n} {e = e} _ (reserved_key r w z) = let stop : stop_of n ≡ e.stop = ap stop_of z in from_place (stop_of n) e (omega (arith, stop))
+  behind_node {n = n} {e = e} _ (reserved_word r w z) = let stop : stop_of n ≡ e.stop = ap stop_of z in from_place (stop_of n) e (omega (arith, stop))
   behind_node {n = n} {e = e} _ (direct qs h (placed nx at) d) = let stop : e.stop ≡ stop_of n = ap (λ (x : ℕ × ℕ). x.1) at in from_place (stop_of n) e (omega (arith, stop))

@@ -1,25 +1,28 @@
 -- In a derivation each node costs no pair at its position if none opens from the place where its text may begin up to its end.
+use Rattle.tree.specs.declared.kind.Kind.TheVariants.{Identifier}
 use Rattle.std.proofs.Common.{◌≡◌, ℕ, ◌≤◌, ◌<◌, Bool, true, List, [], ◌∷◌, refl, sym, ◌++◌, length, ap, subst, arith, ◌⊎◌, inl, inr}
 use Rattle.std.specs.Prelude.{Option, Some}
-use Rattle.tokens.specs.Reading.{any_goal}
 use Rattle.language.specs.declared.Rank.{Rank}
 use Rattle.language.specs.declared.Rank.TheVariants.{Expression}
 use Rattle.language.specs.declared.Start.{Start}
 use Rattle.language.specs.declared.Start.TheVariants.{Any}
 use Rattle.tree.specs.declared.kind.Pair.{Pair}
-use Rattle.tree.specs.Tree.{Tree, node, Parts, none, part, gap, parts_of, start_of, stop_of}
-use Rattle.language.specs.Pieces.{Role, expr, script, PieceOf}
+use Rattle.tree.specs.Tree.{Tree, node, Parts, none, part, gap, parts_of, start_of, stop_of, plain}
+use Rattle.language.specs.Pieces.{Role, expr, script, PieceOf, key, word}
 use Rattle.language.specs.Token.{Token}
-use Rattle.language.specs.Places.{NextIn, itself, SpellsIn}
-use Rattle.language.specs.Grammar.{ways}
+use Rattle.language.specs.declared.Language.{Language}
+use Rattle.language.specs.declared.Language.TheVariants.{Base}
+use Rattle.language.specs.Languages.{DerivesIn, beginning_in, seen_in}
+use Rattle.language.specs.Grammar.{ways, ways_bare, spellings}
 use Rattle.language.specs.RowPositions.{roles, first_roles, widest}
-use Rattle.language.specs.Derivation.{Among, first, later, pair_of, direct, grouped, done, step, opened, closed, within, missing}
-use Rattle.language.specs.Cost.{AtMost, at_most, least}
+use Rattle.language.specs.Derivation.{Among, first, later, pair_of, direct, grouped, done, step, opened, closed, within, missing, reserved_key, reserved_word}
+use Rattle.language.specs.Cost.{AtMost, at_most, least, parts_least, if_any}
 use Rattle.language.specs.Claims.{Derives}
 use Rattle.language.proofs.table.LooserPositions.{Looser, same, looser, AllLooser, next}
+use Rattle.language.proofs.texts.BaseLanguage.{seen_spells}
 use Rattle.language.proofs.lower_bound.LowerBound.{Step-roles, parts_lower_bound}
 use Rattle.pairless_laws.specs.Pairless.{IsPairless, PairlessAreFree, PairlessPartsAreFree}
-use Rattle.pairless_laws.proofs.PairPlaces.{RunsIn, From, from_place, step_passed, read_passed, no_pairs, first_part, group_opens, behind_node}
+use Rattle.pairless_laws.proofs.PairPlaces.{After, SpellsIn, RunsIn, From, from_place, step_passed, read_passed, no_pairs, first_part, group_opens, behind_node}
 use Rattle.pairless_laws.proofs.WidestWays.{by_looser, widens_widest, holds_first, cost_first}
 
 -- With more pairs
@@ -91,29 +94,43 @@ by_parts : {X Y R : Type 0} → X ⊎ Y → (X → R) → (Y → R) → R
 by_parts (inl x) f g = f x
 by_parts (inr y) f g = g y
 
-module _ (text : List ℕ) where
+-- a name where reserved words stand too
+key_least : (w : List ℕ) (a b : ℕ) → least (node Identifier w plain a b none) key ≡ Some 0
+unfolding least parts_least ways ways_bare spellings if_any
+key_least w a b = refl
+
+word_least : (w : List ℕ) (a b : ℕ) → least (node Identifier w plain a b none) word ≡ Some 0
+unfolding least parts_least ways ways_bare spellings if_any
+word_least w a b = refl
+
+module _ (m : Language) (text : List ℕ) where
   mutual
     unfolding PairlessPartsAreFree
 
-    spells_free : {o : ℕ} {a : Role} {n : Tree} {s e : Token} {P : List Pair} → SpellsIn text o a n s e P → (b : Role) → Looser a b → (f : ℕ) → From text f s → PairlessAreFree P f n b
+    spells_free : {o : ℕ} {a : Role} {n : Tree} {s e : Token} {P : List Pair} → SpellsIn m text o a n s e P → (b : Role) → Looser a b → (f : ℕ) → From m text f s → PairlessAreFree P f n b
     spells_free {a = a} {n = n} {P = P} (direct qs h pl d) b l f k =
         node_free P f n b
-        (λ i. costs_none (least n b) P (no_pairs text a qs h pl d f k i) (cost_first n a b qs (by_looser l) h (length P) (λ rs x. parts_lower_bound Token (NextIn text any_goal) itself d rs x)))
+        (λ i. costs_none (least n b) P (no_pairs m text a qs h pl d f k i) (cost_first n a b qs (by_looser l) h (length P) (λ rs x. parts_lower_bound Token (After m text) (seen_in m) d rs x)))
         (holds_first (PairlessPartsAreFree P (start_of n) (parts_of n)) n a (widest b) qs (widens_widest a b l) h
-        (λ rs x. by_parts (first_part text a qs h pl d) (λ z. runs_free d rs x (start_of n) z) (λ z. without_parts P (start_of n) (parts_of n) rs z)))
-    spells_free {n = n} (grouped {left = left} {right = right} {m = m} {P = P} p d q) b l f k =
-        in_pair P (pair_of left right) f 0 n b (k.opens p) (group_opens text p d) (one_widest l) (spells_free d (expr Expression true Any) same 0 (from_place text 0 m (omega arith)))
+        (λ rs x. by_parts (first_part m text a qs h pl d) (λ z. runs_free d rs x (start_of n) z) (λ z. without_parts P (start_of n) (parts_of n) rs z)))
+    spells_free (reserved_key {w = w} r k e) b same f g = subst (λ n. PairlessAreFree [] f n key) (sym e) (node_free [] f (node Identifier w plain _ _ none) key (λ i. key_least w _ _) tt)
+    spells_free (reserved_word {w = w} r k e) b same f g = subst (λ n. PairlessAreFree [] f n word) (sym e) (node_free [] f (node Identifier w plain _ _ none) word (λ i. word_least w _ _) tt)
+    spells_free {n = n} (grouped {left = left} {right = right} {m = inside} {P = P} p d q) b l f k =
+        in_pair P (pair_of left right) f 0 n b (k.opens p) (group_opens m text p d) (one_widest l) (spells_free d (expr Expression true Any) same 0 (from_place m text 0 inside (omega arith)))
 
-    runs_free : {o : ℕ} {qs : List (PieceOf Role)} {ps : Parts} {s e : Token} {P : List Pair} → RunsIn text o qs ps s e P → (xs : List Role) → AllLooser (roles qs) xs → (f : ℕ) → From text f s → PairlessPartsAreFree P f ps xs
+    runs_free : {o : ℕ} {qs : List (PieceOf Role)} {ps : Parts} {s e : Token} {P : List Pair} → RunsIn m text o qs ps s e P → (xs : List Role) → AllLooser (roles qs) xs → (f : ℕ) → From m text f s → PairlessPartsAreFree P f ps xs
     runs_free done xs l f k = tt
-    runs_free (step {qs = qs} p d) xs l f k = runs_free d xs (subst (λ rs. AllLooser rs xs) (Step-roles Token (NextIn text any_goal) itself qs p) l) f (step_passed text p k).from
-    runs_free (opened p d) xs l f k = runs_free d xs l f (read_passed text p.next k).from
-    runs_free (closed p d) xs l f k = runs_free d xs l f (read_passed text p.next k).from
+    runs_free (step {qs = qs} p d) xs l f k = runs_free d xs (subst (λ rs. AllLooser rs xs) (Step-roles Token (After m text) (seen_in m) qs p) l) f (step_passed m text p k).from
+    runs_free (opened p d) xs l f k = runs_free d xs l f (read_passed m text p.next k).from
+    runs_free (closed p d) xs l f k = runs_free d xs l f (read_passed m text p.next k).from
     runs_free (within {a = a} {n = n} {ps = ps} {P = P} {Q = Q} p d) (x ∷ xs) (next l ls) f k =
-        (more_pairs P (P ++ Q) (within_left P Q) f n x (spells_free p x l f k), more_pairs_parts Q (P ++ Q) (within_right P Q) (stop_of n) ps xs (runs_free d xs ls (stop_of n) (behind_node text a p)))
+        (more_pairs P (P ++ Q) (within_left P Q) f n x (spells_free p x l f k), more_pairs_parts Q (P ++ Q) (within_right P Q) (stop_of n) ps xs (runs_free d xs ls (stop_of n) (behind_node m text a p)))
     runs_free (within p d) [] l f k = elim l [ ]
     runs_free (missing d) xs l f k = runs_free d xs l f k
 
--- a script that some text derives
+-- a script that some text derives in a language
+pub derived_free_in : (m : Language) (text : List ℕ) (n : Tree) (P : List Pair) → DerivesIn m text n P → PairlessAreFree P 0 n script
+derived_free_in m text n P d = spells_free m text d.1.2 script same 0 (from_place m text 0 (beginning_in m text) (omega arith))
+
 pub derived_free : (text : List ℕ) (n : Tree) (P : List Pair) → Derives text n P → PairlessAreFree P 0 n script
-derived_free text n P d = spells_free text d.1.1 script same 0 (from_place text 0 _ (omega arith))
+derived_free text n P d = spells_free Base text (seen_spells text d.1.1) script same 0 (from_place Base text 0 _ (omega arith))

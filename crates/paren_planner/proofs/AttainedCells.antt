@@ -14,6 +14,8 @@ use Rattle.language.specs.Vocabulary.{precedence}
 use Rattle.language.specs.Pieces.{Role, expr, PieceOf}
 use Rattle.language.specs.Token.{Token}
 use Rattle.language.specs.Cursor.{beginning, Next, next, behind}
+use Rattle.language.specs.declared.Language.{Language}
+use Rattle.language.specs.Languages.{is_of_2022, Seen, seen_in}
 use Rattle.language.specs.Places.{NextIn, itself}
 use Rattle.language.specs.Grammar.{ways}
 use Rattle.language.specs.RowPositions.{roles, first_roles}
@@ -21,7 +23,8 @@ use Rattle.language.specs.Derivation.{Among, direct, Runs}
 use Rattle.language.specs.Cost.{AtMost, at_most, if_any, cell, parts_least}
 use Rattle.language.specs.Layout.{some_way, inside, has_number, first_way}
 use Rattle.language.specs.LayoutFits.{lines_up, fits, parts_fit, PartsMark}
-use Rattle.language.specs.Printed.{Item, word, blank, name_ahead, joined, items_text, printed, parts_printed, parts_open, parts_pair_count, Follows, over, reads, passes, sees, stays, GoesOn}
+use Rattle.language.specs.Printed.{Item, word, blank, name_ahead, joined, items_text, printed, parts_printed, parts_open, parts_pair_count, Follows, over, reads, passes, sees, stays, leaves, GoesOn}
+use Rattle.language.specs.Printed as item
 use Rattle.language.specs.Claims.{SpellsDirectly}
 use Rattle.language.proofs.table.LooserPositions.{same}
 use Rattle.language.proofs.lower_bound.LowerBound.{parts_lower_bound}
@@ -31,18 +34,25 @@ use Rattle.language.proofs.layout.DerivedFits.{first_alike, first_among, first_r
 use Rattle.language.proofs.layout.WrappedRows.{parts_mark, parts_between}
 use Rattle.language.proofs.layout.LayoutPairs.{parts_counted}
 use Rattle.language.proofs.layout.PrintedSpells.{parts_run, way_runs, same_ways}
-use Rattle.language.proofs.layout.ReadItems.{Readable, ends, a_word, text_is_read}
+use Rattle.language.proofs.layout.ReadItems.{Readable, ends, a_word, closes_all, text_is_read}
+use Rattle.language.proofs.layout.ClosingItems.{node_closes}
+use Rattle.language.proofs.layout.LooseReadings.{Loose}
+use Rattle.language.proofs.layout.KeptNames.{Kept, PartsKept, spells_kept, kept_like, kept_same}
+use Rattle.language.proofs.layout.ToldNames.{runs_told}
+use Rattle.language.proofs.layout.LaidTexts.{no_keyword, read_stays}
+use Rattle.language.proofs.texts.TextOffsets.{text_determined}
 use Rattle.language.proofs.layout.LaidItems.{text_join, parts_printed_text}
 use Rattle.language.proofs.layout.PunctuatorsApart.{closed_sign_apart}
 use Rattle.language.proofs.table.NeatPieces.{sort_of, a_tight, an_operand}
-use Rattle.language.proofs.table.TreesOfWords.{Worded}
-use Rattle.language.proofs.texts.DerivedWords.{spelled_worded}
+use Rattle.language.proofs.table.TreesOfWords.{Worded, names_stay}
+use Rattle.language.proofs.texts.DerivedWords.{seen_worded}
 use Rattle.language.proofs.layout.WalkNodes.{node_walk, After, is_open_node}
 use Rattle.language.proofs.table.NodeEnds.{node_ends}
 use Rattle.language.proofs.table.NodeFronts.{node_fronts}
 use Rattle.spellings.proofs.Slots.{parts_plain}
 use Rattle.paren_planner.proofs.Totals.{parts_count}
-use Rattle.language.specs.ExactCells.{inner_wrapped, laid_directly, laid_tokens, laid_text, closing, SpelledAsLaid, SpelledInText, IsLeast}
+use Rattle.language.specs.ExactCells.{inner_wrapped, laid_directly, laid_tokens, laid_text, closing, SpelledAsLaid}
+use Rattle.language.specs.ExactIn.{SpelledInTextIn, IsLeastIn}
 use Rattle.cost_table.proofs.Tighter.{dominated_at}
 use Rattle.paren_planner.proofs.Somewhere.{Somewhere}
 use Rattle.paren_planner.proofs.LaidTokens.{closing_items, in_front}
@@ -108,6 +118,11 @@ after_closing y i f o = of (nat_le 18 (precedence y)) o
 closing_readable : Readable closing_items
 closing_readable = a_word (closed_sign_apart (codes ")") [] refl) ends
 
+-- names are kept in each way of a node that keeps them
+kept_way : (told : Bool) (n : Tree) (y : Rank) (i : Bool) (f : Start) → Kept told n (expr y i f) → (qs : List (PieceOf Role)) → Among qs (ways (expr y i f) n) → (names_stay told qs ≡ true) × PartsKept told (parts_of n) (roles qs)
+unfolding Kept
+kept_way told (node k w g s e ps) y i f h qs x = h refl (expr y i f) at_expressions qs x
+
 -- What the items of the layout spell, at any kind of places
 
 record Laid (S : Type 0) (Next : S → Token → S → Type 0) (behind : S → Token) (a : Role) (n : Tree) (s e : S) (c : ℕ) : Type 0 where
@@ -140,20 +155,23 @@ module _ (S : Type 0) (Next : S → Token → S → Type 0) (behind : S → Toke
   fronted (blank w ∷ xs) (passes f) = let h = fronted xs f in record { mid = h.mid; follows = passes h.follows; others = h.others }
   fronted (name_ahead w ∷ xs) (sees r f) = let h = fronted xs f in record { mid = h.mid; follows = sees r h.follows; others = h.others }
   fronted (joined ∷ xs) (stays n b f) = let h = fronted xs f in record { mid = h.mid; follows = stays n b h.follows; others = h.others }
+  fronted (item.closing ∷ xs) (leaves n b f) = let h = fronted xs f in record { mid = h.mid; follows = leaves n b h.follows; others = h.others }
 
   closing_goes_on : {s e : S} → Follows S Next behind closing_items s e → GoesOn S Next behind s
   closing_goes_on (reads {t = t} {m = m} r f) = record { token = t; place = m; next = r.next }
 
-module _ (text : List ℕ) (u : IsUtf8 text) where
+module _ (language : Language) (text : List ℕ) (u : IsUtf8 text) where
   -- what is known of a node that has a cell
   record Placeable (n : Tree) (a : Role) (c : ℕ) : Type 0 where
     readable : Readable (laid_directly n a ++ closing_items)
+    closes : closes_all (laid_directly n a ++ closing_items) ≡ true
+    kept : Kept (is_of_2022 language) n a
     among : Among (first_way (ways a n)) (ways a n)
     lines : lines_up (first_way (ways a n)) (parts_of n) ≡ true
     fit : parts_fit (has_number (inner_wrapped n a)) (parts_of n) (roles (first_way (ways a n))) 2 ≡ true
     counted : parts_pair_count (has_number (inner_wrapped n a)) (parts_of n) (roles (first_way (ways a n))) 2 ≡ c
 
-  placeable : (n : Tree) (y : Rank) (i : Bool) (f : Start) (c : ℕ) → Somewhere text n → cell n (expr y i f) ≡ Some c → Placeable n (expr y i f) c
+  placeable : (n : Tree) (y : Rank) (i : Bool) (f : Start) (c : ℕ) → Somewhere language text n → cell n (expr y i f) ≡ Some c → Placeable n (expr y i f) c
   unfolding inner_wrapped laid_directly
   placeable n y i f c x h =
       let a = expr y i f in
@@ -162,14 +180,18 @@ module _ (text : List ℕ) (u : IsUtf8 text) where
       let xs = first_roles (ways a n) in
       let alike = first_alike {b = false} {c = a} n at_expressions (λ e. absurd (false≢true e)) x.among given.0 in
       let marks : PartsMark W (parts_of n) xs 2 = parts_mark W (parts_of n) xs 2 (λ k from to. refl) in
-      let fit : parts_fit W (parts_of n) xs 2 ≡ true = runs_fit Token (NextIn text any_goal) itself W x.runs xs 2 alike.0 (ap is_some given.1) marks in
-      let lines : lines_up (first_way (ways a n)) (parts_of n) ≡ true = sym (alike.1 (parts_of n)) ∙ runs_line_up Token (NextIn text any_goal) itself x.runs in
+      let fit : parts_fit W (parts_of n) xs 2 ≡ true = runs_fit Token (Seen Token (NextIn text any_goal) language) (seen_in language) W x.runs xs 2 alike.0 (ap is_some given.1) marks in
+      let lines : lines_up (first_way (ways a n)) (parts_of n) ≡ true = sym (alike.1 (parts_of n)) ∙ runs_line_up Token (Seen Token (NextIn text any_goal) language) (seen_in language) x.runs in
       let own : W 1 ≡ false = not_true (W 1) (λ e. let z = (parts_between (parts_of n) xs 2 1 e).from in absurd (omega (arith, z))) in
       let whole : fits W n a 1 ≡ true = fits_unwrapped W n y i f own given.0 lines fit in
-      let worded : Worded W n a 1 = spelled_worded text u W (direct x.way x.among x.stands x.runs) x.place a at_expressions 1 whole in
+      let worded : Worded W n a 1 = seen_worded text u language W (direct x.way x.among x.stands x.runs) x.place a at_expressions 1 whole in
       let readable : Readable (printed W n a 1 0 ++ closing_items) = node_walk W node_ends (node_fronts W) n a 1 0 closing_items refl whole worded closing_readable (λ e. after_closing y i f (is_open_node n)) in
+      let same_items = printed_unwrapped W n y i f own in
+      let kept = spells_kept Token (Seen Token (NextIn text any_goal) language) (seen_in language) (is_of_2022 language) (λ c w s e t z. read_stays language text c w s e t z) (direct x.way x.among x.stands x.runs) in
       record {
-        readable = subst (λ is. Readable (is ++ closing_items)) (printed_unwrapped W n y i f own) readable;
+        readable = subst (λ is. Readable (is ++ closing_items)) same_items readable;
+        closes = subst (λ is. closes_all (is ++ closing_items) ≡ true) same_items (node_closes W n a 1 0 closing_items whole (λ e. refl) refl);
+        kept = kept_like (is_of_2022 language) n at_expressions kept;
         among = first_among (ways a n) given.0;
         lines = lines;
         fit = subst (λ zs. parts_fit W (parts_of n) zs 2 ≡ true) (sym (first_roles_are (ways a n))) fit;
@@ -187,7 +209,7 @@ module _ (text : List ℕ) (u : IsUtf8 text) where
 
   as_laid : (n : Tree) (a : Role) (c : ℕ) → Placeable n a c → SpelledAsLaid a n c
   as_laid n a c x =
-      let front = in_front (laid_directly n a) beginning x.readable in
+      let front = in_front (laid_directly n a) beginning x.readable x.closes in
       let l = laid_spells (List Token) Next behind n a c (laid_tokens n a) (front.last ∷ closing ∷ []) x front.follows (record { token = closing; place = closing ∷ []; next = next }) in
       (front.last, l.pairs, (l.tree, l.most, l.way, l.alike, l.among, l.runs), l.counted)
 
@@ -195,12 +217,15 @@ module _ (text : List ℕ) (u : IsUtf8 text) where
   unfolding laid_directly
   items_are n a = text_join (laid_directly n a) closing_items ∙ ap (λ z. z ++ codes ")") (parts_printed_text (has_number (inner_wrapped n a)) (parts_of n) (first_way (ways a n)) 2 0 false)
 
-  in_text : (n : Tree) (a : Role) (c : ℕ) → Placeable n a c → SpelledInText a n c
-  in_text n a c x =
+  in_text : (n : Tree) (y : Rank) (i : Bool) (f : Start) (c : ℕ) → Placeable n (expr y i f) c → SpelledInTextIn language (expr y i f) n c
+  in_text n y i f c x =
+      let a = expr y i f in
       let is = laid_directly n a ++ closing_items in
-      let r = text_is_read is x.readable in
-      let front = fronted Token (NextIn (items_text is) any_goal) itself (laid_directly n a) r.follows in
-      let l = laid_spells Token (NextIn (items_text is) any_goal) itself n a c beginning front.mid x front.follows (closing_goes_on Token (NextIn (items_text is) any_goal) itself front.others) in (
+      let r = text_is_read is x.readable x.closes in
+      let front = fronted Token (Loose Token (NextIn (items_text is) any_goal)) itself (laid_directly n a) r.follows in
+      let l = laid_spells Token (Loose Token (NextIn (items_text is) any_goal)) itself n a c beginning front.mid x front.follows (closing_goes_on Token (Loose Token (NextIn (items_text is) any_goal)) itself front.others) in
+      let kept = kept_way (is_of_2022 language) l.tree y i f (kept_same (is_of_2022 language) l.tree n a l.alike x.kept) l.way l.among in
+      let told = runs_told Token (NextIn (items_text is) any_goal) itself language (λ s a b e f g h. (text_determined (items_text is)).start s a b e f g h) (λ s t e g h. no_keyword (items_text is) s t e g h) l.runs kept.0 kept.1 in (
         front.mid,
         l.pairs,
         l.tree,
@@ -208,10 +233,10 @@ module _ (text : List ℕ) (u : IsUtf8 text) where
         l.way,
         l.alike,
         l.among,
-        subst (λ t. Runs ways Token (NextIn t any_goal) itself l.most l.way (parts_of l.tree) beginning front.mid l.pairs) (items_are n a) l.runs,
+        subst (λ t. Runs ways Token (Seen Token (NextIn t any_goal) language) (seen_in language) l.most l.way (parts_of l.tree) beginning front.mid l.pairs) (items_are n a) told,
         l.counted,
       )
 
-  pub least_cell : (n : Tree) (y : Rank) (i : Bool) (f : Start) (x : Option ℕ) → Somewhere text n → cell n (expr y i f) ≡ x → IsLeast (expr y i f) n x
+  pub least_cell : (n : Tree) (y : Rank) (i : Bool) (f : Start) (x : Option ℕ) → Somewhere language text n → cell n (expr y i f) ≡ x → IsLeastIn language (expr y i f) n x
   least_cell n y i f None s h = λ ts us P d. none_directly _ _ h (direct_at_least n (expr y i f) ts us P d)
-  least_cell n y i f (Some c) s h = (λ ts us P d. low _ c _ h (direct_at_least n (expr y i f) ts us P d), (let x = placeable n y i f c s h in as_laid n (expr y i f) c x), (let x = placeable n y i f c s h in in_text n (expr y i f) c x))
+  least_cell n y i f (Some c) s h = (λ ts us P d. low _ c _ h (direct_at_least n (expr y i f) ts us P d), (let x = placeable n y i f c s h in as_laid n (expr y i f) c x), (let x = placeable n y i f c s h in in_text n y i f c x))

@@ -3,23 +3,25 @@ use Rattle.std.proofs.Common.{◌≡◌, ◌≢◌, ℕ, ◌+◌, ◌≤◌, ◌
 use Rattle.std.specs.Prelude.{IsTrue, IsSome, map, filter}
 use Rattle.std.specs.Str.{IsUtf8, IsCharBoundary}
 use Rattle.std.proofs.lemmas.Bool.{and_parts, and_from}
-use Rattle.std.proofs.lemmas.Str.{IsCharBoundary-from_drop}
 use Rattle.tokens.specs.declared.token.TokenClass.{TokenClass}
-use Rattle.tokens.specs.declared.token.TokenClass.TheVariants.{End}
+use Rattle.tokens.specs.declared.token.TokenClass.TheVariants.{End, IdentifierName}
 use Rattle.tokens.specs.Reading.{any_goal}
 use Rattle.tokens.proofs.Bounds.{IsWithin, token_within, token_places, token_goes_on}
 use Rattle.tree.specs.declared.kind.Pair.{Pair}
-use Rattle.tree.specs.Tree.{Tree, node, Parts, none, part, gap, parts_of, bare}
+use Rattle.tree.specs.declared.kind.Kind.TheVariants.{Identifier}
+use Rattle.tree.specs.Tree.{Tree, node, plain, Parts, none, part, gap, parts_of, bare}
 use Rattle.tree.specs.Uses.{implies, is_lean}
 use Rattle.language.specs.declared.Rank.{Rank}
 use Rattle.language.specs.declared.Rank.TheVariants.{Expression}
 use Rattle.language.specs.declared.Start.{Start}
 use Rattle.language.specs.declared.Start.TheVariants.{Any}
-use Rattle.language.specs.Pieces.{Role, expr, script, chain_part, pattern, Slot, PieceOf, Piece, tok, may, many, ahead, unbroken, ending, open_parameters, close_parameters, sub, absent, never, lay, Spelling, settle, settle_piece}
+use Rattle.language.specs.Pieces.{Role, expr, word, key, script, chain_part, pattern, Slot, PieceOf, Piece, tok, may, many, ahead, unbroken, no_operand, ending, open_parameters, close_parameters, sub, absent, never, lay, Spelling, settle, settle_piece}
 use Rattle.language.specs.Token.{Token}
-use Rattle.language.specs.Places.{NextIn, next_in, itself}
-use Rattle.language.specs.Claims.{Derives}
-use Rattle.language.specs.Derivation.{Among, Reads, Step, token, with_mark, without_mark, one_more, no_more, seen, same_line, explicit, implicit, laid, Spells, direct, grouped, Runs, done, step, opened, closed, within, missing}
+use Rattle.language.specs.declared.Language.{Language}
+use Rattle.language.specs.Languages.{class_in, seen_in, Seen, seen_next, DerivesIn}
+use Rattle.language.specs.Places.{NextIn, next_in}
+use Rattle.language.proofs.texts.StartPlaces.{starting_place}
+use Rattle.language.specs.Derivation.{Among, Reads, Step, token, with_mark, without_mark, one_more, no_more, seen, same_line, left_bare, explicit, implicit, laid, Spells, direct, grouped, reserved_key, reserved_word, Runs, done, step, opened, closed, within, missing}
 use Rattle.language.specs.Grammar.{ways, ways_bare, spellings, fits_position, can_run, own_rank, own_in, own_start}
 use Rattle.language.specs.RowPositions.{roles, first_roles, widest, has_row, rows, parts_rows}
 use Rattle.language.specs.Cost.{AtMost, at_most, least}
@@ -60,6 +62,7 @@ roles-settled a (may w ∷ qs) = roles-settled a qs
 roles-settled a (many w ∷ qs) = roles-settled a qs
 roles-settled a (ahead w ∷ qs) = roles-settled a qs
 roles-settled a (unbroken ∷ qs) = roles-settled a qs
+roles-settled a (no_operand ∷ qs) = roles-settled a qs
 roles-settled a (ending e ∷ qs) = roles-settled a qs
 roles-settled a (open_parameters ∷ qs) = roles-settled a qs
 roles-settled a (close_parameters ∷ qs) = roles-settled a qs
@@ -124,6 +127,14 @@ pub group-rows : (n : Tree) (y : Rank) (i : Bool) (f : Start) → rows n (expr y
 unfolding rows
 group-rows (node k w g s e ps) y i f = refl
 
+rows_key : (w : List ℕ) (s e : ℕ) → rows (node Identifier w plain s e none) key ≡ 0
+unfolding rows parts_rows
+rows_key w s e = refl
+
+rows_word : (w : List ℕ) (s e : ℕ) → rows (node Identifier w plain s e none) word ≡ 0
+unfolding rows parts_rows
+rows_word w s e = refl
+
 -- Places go forward, by one at least behind each token but the end.
 
 record Moves (S : Type 0) (Ok : S → Type 0) (at : S → ℕ) (s e : S) (c : TokenClass) : Type 0 where
@@ -158,6 +169,7 @@ module _ (S : Type 0) (Next : S → Token → S → Type 0) (behind : S → Toke
   step_forward no_more k = record { ok = k; far = omega arith }
   step_forward (seen r) k = record { ok = k; far = omega arith }
   step_forward (same_line r h) k = record { ok = k; far = omega arith }
+  step_forward (left_bare r h) k = record { ok = k; far = omega arith }
   step_forward (explicit r) k = let f = read_forward r k in let x = f.far in record { ok = f.ok; far = omega (arith, x) }
   step_forward (implicit r h) k = record { ok = k; far = omega arith }
   step_forward laid k = record { ok = k; far = omega arith }
@@ -184,6 +196,16 @@ module _ (S : Type 0) (Next : S → Token → S → Type 0) (behind : S → Toke
         let t = w.far in
         let r = group-rows n y i f in
         record { ok = w.ok; far = omega (arith, x, z, t, r) }
+    spells_forward {n = n} (reserved_key {w = w} {t = t} {e = e} r h p) k =
+        let u = read_forward r k in
+        let x = u.far in
+        let z : rows n key ≡ 0 = ap (λ v. rows v key) p ∙ rows_key w t.start (behind e).stop in
+        record { ok = u.ok; far = omega (arith, x, z) }
+    spells_forward {n = n} (reserved_word {w = w} {t = t} {e = e} r h p) k =
+        let u = read_forward r k in
+        let x = u.far in
+        let z : rows n word ≡ 0 = ap (λ v. rows v word) p ∙ rows_word w t.start (behind e).stop in
+        record { ok = u.ok; far = omega (arith, x, z) }
 
     runs_forward : {o : ℕ} {qs : List (PieceOf Role)} {ps : Parts} {s e : S} {P : List Pair} → Runs ways S Next behind o qs ps s e P → Ok s → Forward s e (tokens own_tokens qs + parts_rows ps (roles qs))
     runs_forward done k = record { ok = k; far = omega arith }
@@ -234,10 +256,19 @@ text_moves text u s _ _ (next_in {t = t} goal g h) p =
       further = λ e. let c = token_goes_on text goal s.stop t u p h (not_end t.class e) in omega (arith, a, c);
     }
 
-pub rows_within : (text : List ℕ) (n : Tree) (P : List Pair) → IsUtf8 text → Derives text n P → rows n script ≤ length text
-rows_within text n P u d =
-    let first : IsCharBoundary text 0 = IsCharBoundary-from_drop text 0 (omega arith) u in
-    let f = spells_forward Token (NextIn text any_goal) itself (λ p. IsCharBoundary text p.stop) (λ p. p.stop) (text_moves text u) d.1.1 first in
+-- a language sees an end where one stands
+end_seen : (language : Language) (c : TokenClass) (w : List ℕ) → is_end (class_in language c w) ≡ false → is_end c ≡ false
+end_seen language IdentifierName w h = refl
+end_seen language _ w h = h
+
+seen_moves : (language : Language) (text : List ℕ) → IsUtf8 text → (s e t : Token) → Seen Token (NextIn text any_goal) language s t e → IsCharBoundary text s.stop → Moves Token (λ p. IsCharBoundary text p.stop) (λ p. p.stop) s e t.class
+seen_moves language text u s e _ (seen_next {t = t} n) p =
+    let v = text_moves text u s e t n p in
+    record { ok = v.ok; on = v.on; further = λ h. v.further (end_seen language t.class t.text h) }
+
+pub rows_within : (language : Language) (text : List ℕ) (n : Tree) (P : List Pair) → IsUtf8 text → DerivesIn language text n P → rows n script ≤ length text
+rows_within language text n P u d =
+    let f = spells_forward Token (Seen Token (NextIn text any_goal) language) (seen_in language) (λ p. IsCharBoundary text p.stop) (λ p. p.stop) (seen_moves language text u) d.1.2 (starting_place language text u) in
     let x = f.far in
     let y = f.ok.0 in
     omega (arith, x, y)
@@ -245,5 +276,5 @@ rows_within text n P u d =
 some_least : (x : Option ℕ) (m : ℕ) → AtMost x m → IsSome x
 some_least _ m (at_most h) = refl
 
-pub derived_least : (text : List ℕ) (n : Tree) (P : List Pair) → Derives text n P → IsSome (least n script)
-derived_least text n P d = some_least (least n script) (length P) (at_least Token (NextIn text any_goal) itself d.1.1)
+pub derived_least : (language : Language) (text : List ℕ) (n : Tree) (P : List Pair) → DerivesIn language text n P → IsSome (least n script)
+derived_least language text n P d = some_least (least n script) (length P) (at_least Token (Seen Token (NextIn text any_goal) language) (seen_in language) d.1.2)

@@ -1,4 +1,4 @@
--- Of a script that some text derives, the table of its cells is exact.
+-- Of a script or module that some text derives in a language, the table of its cells is exact.
 use Rattle.std.proofs.Common.{◌≡◌, ℕ, zero, suc, ◌≤◌, Bool, List, ◌∷◌, [], length, Option, Some, None, refl, sym, ap, ◌∙◌, subst, arith}
 use Rattle.std.specs.Prelude.{map, slice_get}
 use Rattle.std.specs.Str.{IsUtf8}
@@ -9,14 +9,15 @@ use Rattle.language.specs.declared.Start.{Start}
 use Rattle.language.specs.Pieces.{Role, expr, script}
 use Rattle.language.specs.Cost.{AtMost, at_most, least, cell}
 use Rattle.language.specs.Layout.{fixed_text, wrapped_rows}
-use Rattle.language.specs.Claims.{Derives, Fewest, row_nodes, contexts, table_cell, cell_at}
-use Rattle.language.proofs.lower_bound.LeastPairs.{derived_at_least}
-use Rattle.language.proofs.layout.FixedReads.{fixed_always}
-use Rattle.language.proofs.layout.ReadableScript.{script_readable}
+use Rattle.language.specs.declared.Language.{Language}
+use Rattle.language.specs.Languages.{DerivesIn}
+use Rattle.language.specs.Claims.{row_nodes, contexts, table_cell, cell_at}
+use Rattle.language.proofs.lower_bound.LeastPairs.{derived_at_least_in}
+use Rattle.language.proofs.layout.FixedReads.{fixed_always_in}
 use Rattle.cost_table.specs.declared.table.Row.{Row}
 use Rattle.cost_table.specs.Rows.{celled, shown, cell_rows}
 use Rattle.cost_table.specs.Tables.{table_of}
-use Rattle.language.specs.ExactCells.{IsLeast, Exact}
+use Rattle.language.specs.ExactIn.{IsLeastIn, FewestIn, ExactIn}
 use Rattle.paren_planner.proofs.Somewhere.{row_somewhere}
 use Rattle.paren_planner.proofs.AttainedCells.{least_cell}
 
@@ -57,22 +58,22 @@ bounded : (x : Option ℕ) (c m : ℕ) → Some c ≡ x → AtMost x m → c ≤
 bounded None c m h k = elim k [ ]
 bounded (Some b) c m h (at_most k) = let e : c ≡ b = cc in omega (arith, e, k)
 
-fewest : (text : List ℕ) (n : Tree) (P : List Pair) (total : ℕ) → IsUtf8 text → Derives text n P → Some total ≡ least n script → total ≡ length (wrapped_rows n script 1) → Fewest n total
-fewest text n P total u d h count =
-    let z = fixed_always script_readable text n P u d in
+fewest : (language : Language) (text : List ℕ) (n : Tree) (P : List Pair) (total : ℕ) → IsUtf8 text → DerivesIn language text n P → Some total ≡ least n script → total ≡ length (wrapped_rows n script 1) → FewestIn language n total
+fewest language text n P total u d h count =
+    let z = fixed_always_in language text n P u d in
     record {
       attained = (fixed_text n, z.0, z.1, z.2, (_, z.3), z.4 ∙ sym count);
-      least = λ other m Q e k. bounded (least n script) total (length Q) h (derived_at_least n m other Q e k);
+      least = λ other text m Q e k. bounded (least n script) total (length Q) h (derived_at_least_in other n m text Q e k);
     }
 
 pub exact_cells : (T : List Row) (total : ℕ) (n : Tree) → map shown T ≡ cell_rows n → map (λ x. x.0) (map shown T) ≡ map kind_of (row_nodes n script) → Some total ≡ least n script → total ≡ length (wrapped_rows n script 1) →
-    (text : List ℕ) (P : List Pair) → IsUtf8 text → Derives text n P → Exact (table_of T total) n
-exact_cells T total n cells shape h count text P u d = record {
+    (language : Language) (text : List ℕ) (P : List Pair) → IsUtf8 text → DerivesIn language text n P → ExactIn language (table_of T total) n
+exact_cells T total n cells shape h count language text P u d = record {
   shape = shape;
   cells = λ r m x c a y.
       let k = context m c a y in
-      subst (λ b. IsLeast b m (table_cell (table_of T total) (suc r) c)) k.is
-      (subst (λ v. IsLeast (expr k.rank k.has_in k.start) m v) (sym (table_cell_is T total n cells r m x c a y))
-      (least_cell text u m k.rank k.has_in k.start _ (row_somewhere text n P u d r m x) (ap (cell m) k.is)));
-  total = fewest text n P total u d h count;
+      subst (λ b. IsLeastIn language b m (table_cell (table_of T total) (suc r) c)) k.is
+      (subst (λ v. IsLeastIn language (expr k.rank k.has_in k.start) m v) (sym (table_cell_is T total n cells r m x c a y))
+      (least_cell language text u m k.rank k.has_in k.start _ (row_somewhere language text n P u d r m x) (ap (cell m) k.is)));
+  total = fewest language text n P total u d h count;
 }

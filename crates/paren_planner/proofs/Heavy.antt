@@ -1,26 +1,32 @@
 -- How many tokens of its own each way to spell a node has at least: one that has a row has one, and so have a part of a chain and a part of
--- a template.
-use Rattle.std.proofs.Common.{◌≡◌, ℕ, ◌+◌, ◌≤◌, Bool, true, false, cond, List, [], ◌∷◌, ◌++◌, refl, sym, ap, ap₂, ◌∙◌, subst, arith}
-use Rattle.std.specs.Prelude.{◌&&◌, ◌||◌, map, filter, nat_eq, nat_le, slice_index_or}
+-- a template. That is a test of single pieces, over forms.
+use Rattle.std.proofs.Common.{◌≡◌, ℕ, ◌+◌, ◌≤◌, Bool, true, false, cond, not, List, [], ◌∷◌, refl, sym, ap, ap₂, ◌∙◌, arith}
+use Rattle.std.specs.Prelude.{◌&&◌, ◌||◌, map}
+use Rattle.std.proofs.lemmas.Bool.{and_parts, false≢true}
 use Rattle.tree.specs.declared.kind.Kind.{Kind}
-use Rattle.tree.specs.declared.kind.Kind.TheVariants.{Identifier, Literal, ThisExpression, ArrayExpression, ObjectExpression, FunctionExpression, ArrowFunctionExpression, ClassExpression, TemplateLiteral, TemplateElement, TaggedTemplateExpression, MemberExpression, CallExpression, NewExpression, MetaProperty, ImportExpression, ChainExpression, UpdateExpression, UnaryExpression, BinaryExpression, LogicalExpression, ConditionalExpression, AssignmentExpression, SequenceExpression}
 use Rattle.tree.specs.declared.kind.Flags.{Flags}
-use Rattle.tree.specs.Tree.{Tree, node, Parts, none, part, gap, bare}
-use Rattle.tree.specs.Uses.{is_lean}
+use Rattle.tree.specs.Tree.{Tree, Parts, none, part, gap, bare}
 use Rattle.tokens.specs.declared.token.TokenClass.{TokenClass}
 use Rattle.tokens.specs.declared.token.TokenClass.TheVariants.{IdentifierName, Punctuator, NumericLiteral, StringLiteral, RegularExpressionLiteral, End}
 use Rattle.language.specs.declared.Rank.{Rank}
-use Rattle.language.specs.declared.Rank.TheVariants.{Call}
+use Rattle.language.specs.declared.Rank.TheVariants.{Assignment}
 use Rattle.language.specs.declared.Start.{Start}
-use Rattle.language.specs.FirstPart.{lead, others}
-use Rattle.language.specs.Vocabulary.{is, is_target, is_pattern, is_word_operator, literal_class, Operator, op_binary, op_power, operator_of}
-use Rattle.language.specs.Pieces.{Role, expr, chain_part, tagged_quasi, template_element, Slot, fixed, left, tail, callee, lead_chain, lead_pattern, PieceOf, Piece, tok, may, many, ahead, unbroken, ending, open_parameters, close_parameters, sub, absent, never, lay, Spelling, only, settle, settle_piece, sign, put, is_none}
+use Rattle.language.specs.FirstPart.{others}
+use Rattle.language.specs.Vocabulary.{is_word_operator}
+use Rattle.language.specs.Pieces.{Role, expr, chain_part, tagged_quasi, template_element, Slot, fixed, left, tail, callee, lead_chain, lead_pattern, PieceOf, Piece, tok, may, many, ahead, unbroken, no_operand, ending, open_parameters, close_parameters, sub, absent, never, lay, settle, settle_piece, is_none}
 use Rattle.language.specs.Pieces as piece
-use Rattle.language.specs.Expressions.{expressions, op_arrow, binary_ways, logical_ways, selector, after_number, member_link, call_link, arguments, chain_element, first_has_optional, template_elements, in_brackets, sequence}
-use Rattle.language.specs.Grammar.{spellings, ways, ways_bare, own_rank, own_in, own_start}
+use Rattle.language.specs.Expressions.{sequence}
+use Rattle.language.specs.Grammar.{ways, own_rank, own_in, own_start}
 use Rattle.language.specs.RowPositions.{has_row}
-use Rattle.language.specs.Derivation.{Among, first, later}
-use Rattle.language.proofs.lower_bound.Domination.{settled, fits, ways_of}
+use Rattle.language.specs.Derivation.{Among}
+use Rattle.language.specs.Forms as made
+use Rattle.language.specs.Forms.{Production, form, pieces_of, OwnText, own_piece}
+use Rattle.language.specs.Chosen.{Chosen}
+use Rattle.language.specs.Chosen as chosen
+use Rattle.language.proofs.table.ViewIsComplete.{way_of}
+use Rattle.language.proofs.table.EveryWay.{every_way}
+use Rattle.language.proofs.table.BeforeIt.{SuffixTest, tells_of, allows_of, form_before}
+use Rattle.language.proofs.table.Shapes.{shape_of, of_form}
 
 -- a part at this position has so many tokens beyond its rows
 abbrev pub own_tokens : Role → ℕ
@@ -51,10 +57,6 @@ abbrev pub tokens : {R : Type 0} → (R → ℕ) → List (PieceOf R) → ℕ
 tokens own [] = 0
 tokens own (q ∷ qs) = piece_tokens own q + tokens own qs
 
-tokens-append : (xs ys : List Piece) → tokens slot_tokens (xs ++ ys) ≡ tokens slot_tokens xs + tokens slot_tokens ys
-tokens-append [] ys = let e : (m : ℕ) → m ≡ 0 + m = λ m. omega arith in e _
-tokens-append (x ∷ xs) ys = let e : (k m n : ℕ) → k + (m + n) ≡ k + m + n = λ k m n. omega arith in ap (λ u. piece_tokens slot_tokens x + u) (tokens-append xs ys) ∙ e _ _ _
-
 slot-settled : (z : Rank) (i : Bool) (f : Start) (s : Slot) → own_tokens (settle z i f s) ≡ slot_tokens s
 slot-settled z i f (fixed a) = refl
 slot-settled z i f (left y) = refl
@@ -70,6 +72,7 @@ piece-settled z i f (may w) = refl
 piece-settled z i f (many w) = refl
 piece-settled z i f (ahead w) = refl
 piece-settled z i f unbroken = refl
+piece-settled z i f no_operand = refl
 piece-settled z i f (ending e) = refl
 piece-settled z i f open_parameters = refl
 piece-settled z i f close_parameters = refl
@@ -82,171 +85,176 @@ tokens-settled : (z : Rank) (i : Bool) (f : Start) (qs : List Piece) → tokens 
 tokens-settled z i f [] = refl
 tokens-settled z i f (q ∷ qs) = ap₂ (λ u v. u + v) (piece-settled z i f q) (tokens-settled z i f qs)
 
--- each of these spellings has at least so many
-data Heavy (m : ℕ) : List Spelling → Type 0 where
-  at_end : Heavy m []
-  one_more : {x : Spelling} {xs : List Spelling} → m ≤ tokens slot_tokens x.pieces → Heavy m xs → Heavy m (x ∷ xs)
+-- some piece has one
 
-heavy_one : {m : ℕ} {x : Spelling} → m ≤ tokens slot_tokens x.pieces → Heavy m (x ∷ [])
-heavy_one h = one_more h at_end
+abbrev weighing_role : Role → Bool
+weighing_role (chain_part f) = true
+weighing_role tagged_quasi = true
+weighing_role (template_element b c) = true
+weighing_role _ = false
 
-heavy-cond : {m : ℕ} (b : Bool) (xs ys : List Spelling) → Heavy m xs → Heavy m ys → Heavy m (cond b xs ys)
-heavy-cond true xs ys h k = h
-heavy-cond false xs ys h k = k
+abbrev weighing_slot : Slot → Bool
+weighing_slot (fixed a) = weighing_role a
+weighing_slot lead_chain = true
+weighing_slot _ = false
 
-heavy_any : (xs : List Spelling) → Heavy 0 xs
-heavy_any [] = at_end
-heavy_any (x ∷ xs) = one_more (omega arith) (heavy_any xs)
+abbrev weighs : Piece → Bool
+weighs (tok c w) = not (is_end c)
+weighs (sub x) = weighing_slot x
+weighs open_parameters = true
+weighs close_parameters = true
+weighs never = true
+weighs _ = false
 
--- Tokens of an expression
+abbrev some_weighs : List Piece → Bool
+some_weighs [] = false
+some_weighs (q ∷ qs) = weighs q || some_weighs qs
 
-class_of : (a b c : Bool) → is_end (cond a StringLiteral (cond b RegularExpressionLiteral (cond c NumericLiteral IdentifierName))) ≡ false
-class_of true b c = refl
-class_of false true c = refl
-class_of false false true = refl
-class_of false false false = refl
+role_tokens : (a : Role) → weighing_role a ≡ true → 1 ≤ own_tokens a
+role_tokens (chain_part f) h = omega arith
+role_tokens tagged_quasi h = omega arith
+role_tokens (template_element b c) h = omega arith
+role_tokens _ h = absurd (false≢true h)
 
-literal_token : (w : List ℕ) → 1 ≤ cond (is_end (literal_class w)) 0 1
-literal_token w =
-    let c = slice_index_or w 0 0 in
-    subst (λ b. 1 ≤ cond b 0 1) (sym (class_of (nat_eq c 34 || nat_eq c 39) (nat_eq c 47) (nat_eq c 46 || (nat_le 48 c && nat_le c 57)))) (omega arith)
+class_tokens : (b : Bool) → not b ≡ true → 1 ≤ cond b 0 1
+class_tokens true h = absurd (false≢true h)
+class_tokens false h = omega arith
 
-word_token : (b : Bool) → 1 ≤ cond (is_end (cond b IdentifierName Punctuator)) 0 1
-word_token true = omega arith
-word_token false = omega arith
+weight : (q : Piece) → weighs q ≡ true → 1 ≤ piece_tokens slot_tokens q
+weight (tok c w) h = class_tokens (is_end c) h
+weight (sub (fixed a)) h = role_tokens a h
+weight (sub lead_chain) h = omega arith
+weight (sub _) h = absurd (false≢true h)
+weight open_parameters h = omega arith
+weight close_parameters h = omega arith
+weight never h = omega arith
+weight _ h = absurd (false≢true h)
 
-selector_tokens : (g : Flags) → 1 ≤ tokens slot_tokens (selector g)
-selector_tokens g = of g.computed
+some_weight : (qs : List Piece) → some_weighs qs ≡ true → 1 ≤ tokens slot_tokens qs
+some_weight [] h = absurd (false≢true h)
+some_weight (q ∷ qs) h = of (λ k. some_weight qs k) (weighs q) refl h
   where
-    of : (b : Bool) → 1 ≤ tokens slot_tokens (cond b in_brackets (sign "." ∷ put piece.word ∷ []))
-    of true = omega arith
-    of false = omega arith
+    of : (some_weighs qs ≡ true → 1 ≤ tokens slot_tokens qs) → (b : Bool) → weighs q ≡ b → (b || some_weighs qs) ≡ true → 1 ≤ piece_tokens slot_tokens q + tokens slot_tokens qs
+    of others true e k = let x = weight q e in omega (arith, x)
+    of others false e k = let x = others k in omega (arith, x)
 
-arguments_tokens : (ps : Parts) → 1 ≤ tokens slot_tokens (arguments ps)
-arguments_tokens ps = omega arith
+-- so the forms have one
 
-member_link_tokens : (g : Flags) → 1 ≤ tokens slot_tokens (member_link g)
-member_link_tokens g = of g.optional
+abbrev weighing_own : OwnText → Bool
+weighing_own made.a_name_ahead = false
+weighing_own made.a_step_space = false
+weighing_own _ = true
+
+own_weighs : (w : List ℕ) (o : OwnText) (b : Bool) → (weighing_own o || b) ≡ true → (weighs (own_piece o w) || b) ≡ true
+own_weighs w made.a_literal b h = of _ _ _
   where
-    of : (b : Bool) → 1 ≤ tokens slot_tokens (cond b (sign "?." ∷ cond g.computed in_brackets (put piece.word ∷ [])) (selector g))
-    of true = omega arith
-    of false = selector_tokens g
-
-call_link_tokens : (g : Flags) (ps : Parts) → 1 ≤ tokens slot_tokens (call_link g ps)
-call_link_tokens g ps =
-    let e = tokens-append (cond g.optional (sign "?." ∷ []) []) (arguments (others ps)) in
-    let a = arguments_tokens (others ps) in
-    omega (arith, e, a)
-
-selected_heavy : (g : Flags) (ps : Parts) → 1 ≤ tokens slot_tokens (sub callee ∷ after_number ps g ++ selector g)
-selected_heavy g ps =
-    let e = tokens-append (after_number ps g) (selector g) in
-    let s = selector_tokens g in
-    omega (arith, e, s)
-
-chunks_tokens : (b : Bool) (ps : Parts) → 1 ≤ tokens slot_tokens (template_elements b ps)
-chunks_tokens b none = omega arith
-chunks_tokens b (gap ps) = omega arith
-chunks_tokens b (part q none) = omega arith
-chunks_tokens b (part q (gap ps)) = omega arith
-chunks_tokens b (part q (part e ps)) = omega arith
-
-arrows_heavy : (g : Flags) (ps : Parts) → Heavy 1 (op_arrow g ps)
-arrows_heavy g none = heavy_one (omega arith)
-arrows_heavy g (gap ps) = heavy_one (omega arith)
-arrows_heavy g (part n none) = heavy_one (omega arith)
-arrows_heavy g (part n (gap ps)) = heavy_one (omega arith)
-arrows_heavy g (part n (part b (part m ps))) = heavy_one (omega arith)
-arrows_heavy g (part n (part b (gap ps))) = heavy_one (omega arith)
-arrows_heavy g (part (node Identifier w h s e qs) (part b none)) = one_more (omega arith) (heavy_one (omega arith))
-arrows_heavy g (part (node _ w h s e qs) (part b none)) = heavy_one (omega arith)
-
-binary_heavy : (w : List ℕ) (o : Operator) → Heavy 1 (binary_ways w o)
-binary_heavy w (op_binary true z q) = at_end
-binary_heavy w (op_binary false z q) = heavy_one (let t = word_token (is_word_operator w) in omega (arith, t))
-binary_heavy w op_power = heavy_one (let t = word_token (is_word_operator w) in omega (arith, t))
-binary_heavy w _ = at_end
-
-logical_heavy : (w : List ℕ) (o : Operator) → Heavy 1 (logical_ways w o)
-logical_heavy w (op_binary false z q) = at_end
-logical_heavy w (op_binary true z q) = heavy_one (let t = word_token (is_word_operator w) in omega (arith, t))
-logical_heavy w _ = at_end
-
-sequence_heavy : (ps : Parts) → Heavy 1 (cond (is_none ps) [] (piece.at Rattle.language.specs.declared.Rank.TheVariants.Expression (sub (left Rattle.language.specs.declared.Rank.TheVariants.Assignment) ∷ sequence ps) ∷ []))
-sequence_heavy none = at_end
-sequence_heavy (part n ps) = heavy_one (omega arith)
-sequence_heavy (gap ps) = heavy_one (omega arith)
-
-assigned_heavy : (w : List ℕ) (a b : Bool) → Heavy 1 (cond a (piece.at Rattle.language.specs.declared.Rank.TheVariants.Assignment (sub (piece.lead Rattle.language.specs.declared.Rank.TheVariants.LeftHandSide) ∷ Rattle.language.specs.Expressions.infix_pieces w ++ sub (tail Rattle.language.specs.declared.Rank.TheVariants.Assignment Rattle.language.specs.declared.Start.TheVariants.Any) ∷ []) ∷ []) (cond b (piece.at Rattle.language.specs.declared.Rank.TheVariants.Assignment (sub lead_pattern ∷ Rattle.language.specs.Expressions.infix_pieces w ++ sub (tail Rattle.language.specs.declared.Rank.TheVariants.Assignment Rattle.language.specs.declared.Start.TheVariants.Any) ∷ []) ∷ []) []))
-assigned_heavy w true b = heavy_one (let t = word_token (is_word_operator w) in omega (arith, t))
-assigned_heavy w false true = heavy_one (let t = word_token (is_word_operator w) in omega (arith, t))
-assigned_heavy w false false = at_end
-
-expression_heavy : (k : Kind) (w : List ℕ) (g : Flags) (ps : Parts) → Heavy 1 (expressions k w g ps)
-unfolding expressions
-expression_heavy Identifier w g ps = heavy-cond _ _ _ at_end (heavy_one (omega arith))
-expression_heavy Literal w g ps = heavy-cond _ _ _ at_end (heavy_one (let t = literal_token w in omega (arith, t)))
-expression_heavy ThisExpression w g ps = heavy_one (omega arith)
-expression_heavy ArrayExpression w g ps = heavy_one (omega arith)
-expression_heavy ObjectExpression w g ps = heavy_one (omega arith)
-expression_heavy FunctionExpression w g ps = heavy_one (omega arith)
-expression_heavy ClassExpression w g ps = heavy_one (omega arith)
-expression_heavy TemplateLiteral w g ps = heavy_one (chunks_tokens true ps)
-expression_heavy ArrowFunctionExpression w g ps = arrows_heavy g ps
-expression_heavy TaggedTemplateExpression w g ps = heavy_one (omega arith)
-expression_heavy MemberExpression w g ps =
-    heavy-cond _ _ _ at_end (heavy-cond _ _ _ (heavy_one (let s = selector_tokens g in omega (arith, s))) (heavy_one (selected_heavy g ps)))
-expression_heavy CallExpression w g ps =
-    heavy-cond _ _ _ at_end (heavy-cond _ _ _ (heavy_one (let a = arguments_tokens (others ps) in omega (arith, a))) (heavy_one (let a = arguments_tokens (others ps) in omega (arith, a))))
-expression_heavy NewExpression w g ps = one_more (omega arith) (heavy-cond _ _ _ (heavy_one (omega arith)) at_end)
-expression_heavy MetaProperty w g ps = heavy-cond _ _ _ (heavy_one (omega arith)) at_end
-expression_heavy ImportExpression w g ps = heavy_one (omega arith)
-expression_heavy ChainExpression w g ps = heavy-cond _ _ _ (heavy_one (omega arith)) at_end
-expression_heavy UpdateExpression w g ps = heavy-cond _ _ _ at_end (heavy-cond _ _ _ (heavy_one (omega arith)) (heavy_one (omega arith)))
-expression_heavy UnaryExpression w g ps = heavy-cond _ _ _ at_end (heavy-cond _ _ _ (heavy_one (omega arith)) (heavy_one (omega arith)))
-expression_heavy BinaryExpression w g ps = binary_heavy w (operator_of w)
-expression_heavy LogicalExpression w g ps = logical_heavy w (operator_of w)
-expression_heavy ConditionalExpression w g ps = heavy_one (omega arith)
-expression_heavy AssignmentExpression w g ps = heavy-cond _ _ _ at_end (assigned_heavy w (is_target (lead ps)) (is w "=" && is_pattern (lead ps)))
-expression_heavy SequenceExpression w g ps = sequence_heavy (others ps)
-expression_heavy _ w g ps = at_end
-
-linked_heavy : (o : Bool) (ps : Parts) (qs : List Piece) → 1 ≤ tokens slot_tokens qs → Heavy 1 (chain_element o ps qs)
-linked_heavy o ps qs h = of (first_has_optional ps) o
+    of : (x y z : Bool) → (not (is_end (cond x StringLiteral (cond y RegularExpressionLiteral (cond z NumericLiteral IdentifierName)))) || b) ≡ true
+    of true y z = refl
+    of false true z = refl
+    of false false true = refl
+    of false false false = refl
+own_weighs w made.an_infix b h = of (is_word_operator w)
   where
-    of : (u v : Bool) → Heavy 1 (cond u (only (sub lead_chain ∷ qs)) (cond v (only (sub (piece.lead Call) ∷ qs)) []))
-    of true v = heavy_one (omega arith)
-    of false true = heavy_one (omega (arith, h))
-    of false false = at_end
+    of : (x : Bool) → (not (is_end (cond x IdentifierName Punctuator)) || b) ≡ true
+    of true = refl
+    of false = refl
+own_weighs w made.a_name_ahead b h = h
+own_weighs w made.a_step_space b h = h
+own_weighs w _ b h = refl
 
-table_heavy : (a : Role) (n : Tree) → Heavy (own_tokens a + has_row a) (spellings a n)
-unfolding spellings
-table_heavy (expr y i f) (node k w g s e ps) = expression_heavy k w g ps
-table_heavy (chain_part f) (node MemberExpression w g s e ps) = linked_heavy g.optional ps (member_link g) (member_link_tokens g)
-table_heavy (chain_part f) (node CallExpression w g s e ps) = linked_heavy g.optional ps (call_link g ps) (call_link_tokens g ps)
-table_heavy (chain_part f) (node _ w g s e ps) = at_end
-table_heavy tagged_quasi (node TemplateLiteral w g s e ps) = heavy_one (chunks_tokens true ps)
-table_heavy tagged_quasi (node _ w g s e ps) = at_end
-table_heavy (template_element x y) (node TemplateElement w g s e ps) = heavy_one (omega arith)
-table_heavy (template_element x y) (node _ w g s e ps) = at_end
-table_heavy a n = heavy_any (spellings a n)
+either : (a b c : Bool) → (b ≡ true → c ≡ true) → (a || b) ≡ true → (a || c) ≡ true
+either true b c f h = refl
+either false b c f h = f h
+
+abbrev anything : List Piece → Bool
+anything qs = true
+
+abbrev weight_test : (w : List ℕ) → SuffixTest w
+weight_test w = record {
+  good = anything;
+  known = some_weighs;
+  allows = λ q b. true;
+  tells = λ q b. weighs q || b;
+  own_allows = λ o b. true;
+  own_tells = λ o b. weighing_own o || b;
+  ending_allows = λ b. true;
+  ending_tells = λ b. b;
+  none_good = refl;
+  piece_so = λ q b qs h f. record { is_good = refl; is_known = λ e. either (weighs q) b (some_weighs qs) f.is_known e };
+  own_so = λ o b h. refl;
+  own_told = own_weighs w;
+  ending_so = λ e b h. refl;
+  ending_told = λ e b h. h;
+}
+
+-- the form has a token, whatever the node
+abbrev has_token : List ℕ → Production → Bool
+has_token w p = allows_of (weight_test w) (shape_of (form p).items) false && tells_of (weight_test w) (shape_of (form p).items) false
+
+form_tokens : (w : List ℕ) (g : Flags) (ps : Parts) (p : Production) → has_token w p ≡ true → 1 ≤ tokens slot_tokens (pieces_of (form p).items w g ps)
+form_tokens w g ps p h =
+    let u = and_parts _ _ h in
+    some_weight (pieces_of (form p).items w g ps) ((form_before (weight_test w) (form p).items g ps false u.0 (record { is_good = refl; is_known = λ e. absurd (false≢true e) })).is_known u.1)
+
+-- a node there has one
+abbrev is_heavy : Role → Bool
+is_heavy (expr y i f) = true
+is_heavy (chain_part f) = true
+is_heavy tagged_quasi = true
+is_heavy (template_element b c) = true
+is_heavy _ = false
+
+abbrev is_sequence : Production → Bool
+is_sequence made.several = true
+is_sequence _ = false
+
+chosen_token : {w : List ℕ} {g : Flags} {ps : Parts} {a : Role} {k : Kind} (p : Production) → Chosen w g ps a k p → is_sequence p ≡ false → is_heavy a ≡ true → has_token w p ≡ true
+chosen_token p (chosen.of_statement chosen.at_statement c) l h = cc
+chosen_token p (chosen.of_statement chosen.at_item c) l h = cc
+chosen_token p (chosen.of_statement chosen.at_opening c) l h = cc
+chosen_token p (chosen.of_declaration chosen.at_item c) l h = cc
+chosen_token p (chosen.of_declaration chosen.at_opening c) l h = cc
+chosen_token {w} {g} p chosen.function l h = of_form (λ z. has_token w (made.function z)) refl g.form
+chosen_token {w} {g} p (chosen.short_arrow x y) l h = of_form (λ z. has_token w (made.short_arrow z)) refl g.form
+chosen_token {w} {g} p chosen.arrow l h = of_form (λ z. has_token w (made.arrow z)) refl g.form
+chosen_token p c l h = cc
+
+sequence_tokens : (ps : Parts) → is_none ps ≡ false → 1 ≤ tokens slot_tokens (sub (left Assignment) ∷ sequence ps)
+sequence_tokens none h = absurd (false≢true (sym h))
+sequence_tokens (part n ps) h = omega arith
+sequence_tokens (gap ps) h = omega arith
+
+chosen_tokens : {w : List ℕ} {g : Flags} {ps : Parts} {a : Role} {k : Kind} (p : Production) → Chosen w g ps a k p → is_heavy a ≡ true → 1 ≤ tokens slot_tokens (pieces_of (form p).items w g ps)
+chosen_tokens {ps = ps} made.several (chosen.several e) h = sequence_tokens (others ps) e
+chosen_tokens made.several (chosen.of_statement s c) h = elim c [ ]
+chosen_tokens made.several (chosen.of_declaration s c) h = elim c [ ]
+chosen_tokens {w} {g} {ps} p c h = form_tokens w g ps p (chosen_token p c refl h)
 
 -- Of a way
 
-among_one : {m : ℕ} (a : Role) (x : Spelling) (xs : List Spelling) (qs : List (PieceOf Role)) → m ≤ tokens slot_tokens x.pieces → (Among qs (ways_of a xs) → m ≤ tokens own_tokens qs) →
-    (v : Bool) → Among qs (map (settled a) (cond v (x ∷ filter (fits a) xs) (filter (fits a) xs))) → m ≤ tokens own_tokens qs
-among_one {m = m} a x xs qs k r true first = subst (λ u. m ≤ u) (sym (tokens-settled (own_rank a) (own_in a) (own_start a) x.pieces)) k
-among_one a x xs qs k r true (later j) = r j
-among_one a x xs qs k r false j = r j
+weight_of : (a : Role) → is_heavy a ≡ false → own_tokens a + has_row a ≡ 0
+weight_of (expr y i f) h = absurd (false≢true (sym h))
+weight_of (chain_part f) h = absurd (false≢true (sym h))
+weight_of tagged_quasi h = absurd (false≢true (sym h))
+weight_of (template_element b c) h = absurd (false≢true (sym h))
+weight_of _ h = refl
 
-among_heavy : {m : ℕ} (a : Role) (xs : List Spelling) (qs : List (PieceOf Role)) → Heavy m xs → Among qs (ways_of a xs) → m ≤ tokens own_tokens qs
-among_heavy a _ qs at_end h = elim h [ ]
-among_heavy a _ qs (one_more {x = x} {xs = xs} k r) h = among_one a x xs qs k (among_heavy a xs qs r) (fits a x) h
+heavy_weight : (a : Role) → own_tokens a + has_row a ≤ 1
+heavy_weight (expr y i f) = omega arith
+heavy_weight (chain_part f) = omega arith
+heavy_weight tagged_quasi = omega arith
+heavy_weight (template_element b c) = omega arith
+heavy_weight _ = omega arith
 
 pub way_tokens : (a : Role) (n : Tree) (qs : List (PieceOf Role)) → Among qs (ways a n) → own_tokens a + has_row a ≤ tokens own_tokens qs
-unfolding ways ways_bare
-way_tokens a n qs h = of (is_lean (bare n)) h
+way_tokens a n qs h = of (is_heavy a) refl
   where
-    of : (t : Bool) → Among qs (cond t (ways_of a (spellings a (bare n))) []) → own_tokens a + has_row a ≤ tokens own_tokens qs
-    of true k = among_heavy a (spellings a (bare n)) qs (table_heavy a (bare n)) k
-    of false k = elim k [ ]
+    of : (b : Bool) → is_heavy a ≡ b → own_tokens a + has_row a ≤ tokens own_tokens qs
+    of false e = let z = weight_of a e in omega (arith, z)
+    of true e =
+        let v = way_of h in
+        let u = every_way a (bare n) v.listed in
+        let same : tokens own_tokens qs ≡ tokens slot_tokens (pieces_of (form u.production).items _ _ _) = ap (tokens own_tokens) v.is ∙ tokens-settled (own_rank a) (own_in a) (own_start a) v.spelling.pieces ∙ ap (λ x. tokens slot_tokens x.pieces) u.is in
+        let one = chosen_tokens u.production u.chosen e in
+        let most = heavy_weight a in
+        omega (arith, same, one, most)

@@ -5,37 +5,42 @@ use Rattle.std.specs.Str.{IsUtf8, IsCharBoundary}
 use Rattle.std.proofs.lemmas.Bool.{and_parts, and_from}
 use Rattle.std.proofs.lemmas.Bool.Decides.{nat_tests}
 use Rattle.std.proofs.lemmas.List.{map-append, length-append}
-use Rattle.std.proofs.lemmas.Str.{IsCharBoundary-from_drop}
 use Rattle.tokens.specs.declared.token.TokenClass.{TokenClass}
 use Rattle.tokens.specs.declared.token.TokenClass.TheVariants.{Punctuator, End}
 use Rattle.tokens.specs.Reading.{any_goal}
 use Rattle.tokens.proofs.Bounds.{IsWithin, token_within, token_places, token_goes_on}
 use Rattle.tree.specs.declared.kind.Pair.{Pair}
-use Rattle.tree.specs.Tree.{Tree, node, Parts, none, part, gap, parts_of, start_of, bare}
+use Rattle.tree.specs.declared.kind.Kind.TheVariants.{Identifier}
+use Rattle.tree.specs.Tree.{Tree, node, plain, Parts, none, part, gap, parts_of, start_of, bare}
 use Rattle.tree.specs.Uses.{implies, is_lean}
 use Rattle.language.specs.declared.Rank.{Rank}
 use Rattle.language.specs.declared.Rank.TheVariants.{Expression}
 use Rattle.language.specs.declared.Start.{Start}
 use Rattle.language.specs.declared.Start.TheVariants.{Any}
-use Rattle.language.specs.Pieces.{Role, expr, script, chain_part, pattern, Slot, fixed, left, lead, tail, callee, lead_chain, lead_pattern, PieceOf, Piece, tok, may, many, ahead, unbroken, ending, open_parameters, close_parameters, sub, absent, never, lay, Spelling, settle, settle_piece}
+use Rattle.language.specs.Pieces.{Role, expr, word, key, script, chain_part, pattern, Slot, fixed, left, lead, tail, callee, lead_chain, lead_pattern, PieceOf, Piece, tok, may, many, ahead, unbroken, no_operand, ending, open_parameters, close_parameters, sub, absent, never, lay, Spelling, settle, settle_piece}
 use Rattle.language.specs.Token.{Token}
-use Rattle.language.specs.Places.{NextIn, next_in, itself, SpellsIn}
-use Rattle.language.specs.Cursor.{beginning}
-use Rattle.language.specs.Derivation.{Among, Step, token, with_mark, without_mark, one_more, no_more, seen, same_line, explicit, implicit, laid, Placed, placed, Spells, direct, grouped, Runs, done, step, opened, closed, within, missing}
+use Rattle.language.specs.declared.Language.{Language}
+use Rattle.language.specs.Languages.{seen_in, Seen, seen_next}
+use Rattle.language.specs.Places.{NextIn, next_in, itself}
+use Rattle.language.proofs.texts.StartPlaces.{starting_place}
+use Rattle.language.specs.Derivation.{Among, Step, token, with_mark, without_mark, one_more, no_more, seen, same_line, left_bare, explicit, implicit, laid, Placed, placed, Spells, direct, grouped, reserved_key, reserved_word, Runs, done, step, opened, closed, within, missing}
 use Rattle.language.specs.Grammar.{ways, ways_bare, spellings, fits_position, can_run, own_rank, own_in, own_start}
 use Rattle.language.specs.RowPositions.{roles, first_roles, widest, has_row, rows, parts_rows}
-use Rattle.language.specs.Claims.{row_nodes, parts_row_nodes, Derives}
+use Rattle.language.specs.Claims.{row_nodes, parts_row_nodes}
 use Rattle.language.proofs.table.LooserPositions.{Looser, same, looser, looser_spine, looser_pattern, AllLooser, end, next}
 use Rattle.language.proofs.lower_bound.Domination.{settled, fits, ways_of, Tidy, none_at_all, one_way, two_ways, Among-one, Among-two}
 use Rattle.language.proofs.table.TidyTable.{tidy_table}
 use Rattle.language.proofs.lower_bound.LowerBound.{Step-roles}
 use Rattle.language.proofs.texts.TextOffsets.{text_determined}
+use Rattle.language.proofs.texts.SeenTokens.{seen_determined}
+use Rattle.pairless_laws.proofs.PairPlaces.{punctuator_seen}
+use Rattle.row_laws.specs.Lined.{lined}
 use Rattle.spellings.specs.Groupings.{grouping, row_starts, row_after}
 use Rattle.spellings.proofs.Slots.{is_wide, all_pass, parts_wide}
 use Rattle.cost_table.proofs.Known.{takes_all}
 use Rattle.cost_table.proofs.RowNodes.{wide_itself, wide_start, nodes-length}
-use Rattle.paren_planner.proofs.RowStarts.{row_by_position}
-use Rattle.paren_planner.specs.PairNodes.{pair_nodes, run_pair_nodes, node_of_row, PairsHaveTheirRows, is_direct, pair_rows, run_pair_rows, spans_but_needed, ExtraPairsAreExtra}
+use Rattle.paren_planner.proofs.RowStarts.{row_by_position, spelled_lined_in}
+use Rattle.paren_planner.specs.PairNodes.{pair_nodes, run_pair_nodes, node_of_row, PairsHaveTheirRows, SpellsAll, is_direct, pair_rows, run_pair_rows, spans_but_needed, ExtraPairsAreExtra}
 use Rattle.paren_planner.specs.Extra.{extra_spans, span_of, is_innermost}
 use Rattle.wrap_flags.specs.Flags.{is_flagged}
 use Rattle.paren_planner.proofs.Bytes.{way-rows, node-rows}
@@ -58,6 +63,7 @@ pieces-wide a b (may w ∷ qs) = pieces-wide a b qs
 pieces-wide a b (many w ∷ qs) = pieces-wide a b qs
 pieces-wide a b (ahead w ∷ qs) = pieces-wide a b qs
 pieces-wide a b (unbroken ∷ qs) = pieces-wide a b qs
+pieces-wide a b (no_operand ∷ qs) = pieces-wide a b qs
 pieces-wide a b (ending e ∷ qs) = pieces-wide a b qs
 pieces-wide a b (open_parameters ∷ qs) = pieces-wide a b qs
 pieces-wide a b (close_parameters ∷ qs) = pieces-wide a b qs
@@ -155,6 +161,15 @@ way-split : (a : Role) (n : Tree) (qs : List (PieceOf Role)) → Among qs (ways 
 unfolding nodes parts_nodes
 way-split a n qs h =
     node-split n a ∙ ap (λ u. own a n ++ u) (parts-widest (parts_of n) (first_roles (ways (widest a) n)) (parts_wide (widest a) n (wide_start a)) ∙ ap (parts_row_nodes (parts_of n)) (way-wide a n qs h))
+
+-- a name that may be reserved has none
+key_nodes : (w : List ℕ) (s e : ℕ) → nodes (node Identifier w plain s e none) key ≡ []
+unfolding nodes row_nodes parts_row_nodes
+key_nodes w s e = refl
+
+word_nodes : (w : List ℕ) (s e : ℕ) → nodes (node Identifier w plain s e none) word ≡ []
+unfolding nodes row_nodes parts_row_nodes
+word_nodes w s e = refl
 
 -- The first of nodes that starts behind a place.
 
@@ -305,6 +320,7 @@ module _ (S : Type 0) (Next : S → Token → S → Type 0) (behind : S → Toke
   step_on B no_more k u = record { ok = k; upto = u }
   step_on B (seen r) k u = record { ok = k; upto = u }
   step_on B (same_line r h) k u = record { ok = k; upto = u }
+  step_on B (left_bare r h) k u = record { ok = k; upto = u }
   step_on B (explicit r) k u = next_on B r.next k u
   step_on B (implicit r h) k u = record { ok = k; upto = u }
   step_on B laid k u = record { ok = k; upto = u }
@@ -343,6 +359,12 @@ module _ (S : Type 0) (Next : S → Token → S → Type 0) (behind : S → Toke
     rows = λ C. ap (λ u. map (λ p. first_behind u p.left) P) (ap (λ u. B ++ (u ++ C)) h ∙ ap (λ u. B ++ u) (append_assoc X Y C) ∙ sym (append_assoc B X (Y ++ C))) ∙ f.rows C;
   }
 
+  -- one token, of a node without rows
+  name_found : {s e : S} {t : Token} {N : List Tree} (B : List Tree) → N ≡ [] → Next s t e → Ok s → UpTo B s → Found s e B N [] []
+  name_found {s = s} {e = e} B h q k u =
+      let v = next_on B q k u in
+      subst (λ M. Found s e B M [] []) (sym h) (record { ok = v.ok; past = subst (λ x. UpTo x e) (sym (append-nil B)) v.upto; rows = λ C. refl })
+
   -- a group's pair is its node's
   group_row : (n : Tree) (y : Rank) (i : Bool) (f : Start) (B C : List Tree) (k : ℕ) → AllUpTo B k → k < start_of n → first_behind (B ++ (nodes n (expr y i f) ++ C)) k ≡ Some n
   unfolding nodes own
@@ -368,6 +390,8 @@ module _ (S : Type 0) (Next : S → Token → S → Type 0) (behind : S → Toke
           past = x.upto;
           rows = λ C. ap₂ (λ a b. a ∷ b) (group_row n y i f B C l.start (read_upto B l m p.next u) (omega (arith, c, z))) (w.rows C);
         }
+    spells_found (reserved_key {w = w} {t = t} {e = e} r h p) k B u = name_found B (ap (λ x. nodes x key) p ∙ key_nodes w t.start (behind e).stop) r.next k u
+    spells_found (reserved_word {w = w} {t = t} {e = e} r h p) k B u = name_found B (ap (λ x. nodes x word) p ∙ word_nodes w t.start (behind e).stop) r.next k u
 
     runs_found : {o : ℕ} {qs : List (PieceOf Role)} {ps : Parts} {s e : S} {P : List Pair} (d : Runs ways S Next behind o qs ps s e P) → Ok s → (B : List Tree) → UpTo B s → Found s e B (parts_nodes ps (roles qs)) P (run_pair_nodes ways S Next behind d)
     runs_found {e = e} done k B u = record { ok = k; past = subst (λ x. UpTo x e) (sym (append-nil B)) u; rows = λ C. refl }
@@ -428,6 +452,8 @@ module _ (S : Type 0) (Next : S → Token → S → Type 0) (behind : S → Toke
         let c = (reads s m l p.next k).further p.class in
         let z = starts_from d v.ok in
         λ C. ap₂ (λ a b. a ∷ b) (group_number n y i f B C l.start r (read_upto B l m p.next u) (omega (arith, c, z)) e) (w C)
+    spells_numbered (reserved_key x h p) k B u r e = λ C. refl
+    spells_numbered (reserved_word x h p) k B u r e = λ C. refl
 
     runs_numbered : {o : ℕ} {qs : List (PieceOf Role)} {ps : Parts} {s e : S} {P : List Pair} (d : Runs ways S Next behind o qs ps s e P) → Ok s → (B : List Tree) → UpTo B s → (r : ℕ) → r ≡ suc (length B) → Numbered B (parts_nodes ps (roles qs)) P (run_pair_rows ways S Next behind d r)
     runs_numbered done k B u r e = λ C. refl
@@ -468,22 +494,29 @@ text_past text u s _ _ (next_in {t = t} goal g h) p =
       further = λ c. token_goes_on text goal s.stop t u p h (λ f. no_end t.class c f);
     }
 
+seen_past : (language : Language) (text : List ℕ) → IsUtf8 text → (s e t : Token) → Seen Token (NextIn text any_goal) language s t e → IsCharBoundary text s.stop → Past Token (λ p. IsCharBoundary text p.stop) (λ p. p.stop) s e t
+seen_past language text u s e _ (seen_next {t = t} n) p =
+    let v = text_past text u s e t n p in
+    record { ok = v.ok; from = v.from; on = v.on; further = λ c. v.further (punctuator_seen language t.class t.text c) }
+
+starts_same : (language : Language) (text : List ℕ) (s : Token) (t u : Token) (e f : Token) → Seen Token (NextIn text any_goal) language s t e → Seen Token (NextIn text any_goal) language s u f → t.start ≡ u.start
+starts_same language text = (seen_determined Token (NextIn text any_goal) itself language (text_determined text)).start
+
 -- the nodes in the pairs, by the first that start behind the `(`
-first_rows : (text : List ℕ) (o : ℕ) (n : Tree) (last : Token) (P : List Pair) → IsUtf8 text → (d : SpellsIn text o script n beginning last P) →
-    map (λ p. first_behind (row_nodes n script) p.left) P ≡ map Some (pair_nodes ways Token (NextIn text any_goal) itself d)
+first_rows : (language : Language) (text : List ℕ) (o : ℕ) (n : Tree) (last : Token) (P : List Pair) → IsUtf8 text → (d : SpellsAll language text o n last P) →
+    map (λ p. first_behind (row_nodes n script) p.left) P ≡ map Some (pair_nodes ways Token (Seen Token (NextIn text any_goal) language) (seen_in language) d)
 unfolding nodes UpTo AllUpTo
-first_rows text o n last P u d =
-    let first : IsCharBoundary text 0 = IsCharBoundary-from_drop text 0 (omega arith) u in
-    let f = spells_found Token (NextIn text any_goal) itself (λ p. IsCharBoundary text p.stop) (λ p. p.stop) (text_past text u) ((text_determined text).start) d first [] (λ t e q. tt) in
+first_rows language text o n last P u d =
+    let f = spells_found Token (Seen Token (NextIn text any_goal) language) (seen_in language) (λ p. IsCharBoundary text p.stop) (λ p. p.stop) (seen_past language text u) (starts_same language text) d (starting_place language text u) [] (λ t e q. tt) in
     ap (λ x. map (λ p. first_behind x p.left) P) (sym (append-nil (row_nodes n script))) ∙ f.rows []
 
-row_found : (text : List ℕ) (n : Tree) (P : List Pair) → Derives text n P → (p : Pair) → node_of_row n (grouping (row_starts n) p).row ≡ first_behind (row_nodes n script) p.left
-row_found text n P d p =
-    ap (node_of_row n) (row_by_position text n P d p.left) ∙ number_is n (row_after (map start_of (row_nodes n script)) p.left 1)
+row_found : (n : Tree) → lined n script ≡ true → (p : Pair) → node_of_row n (grouping (row_starts n) p).row ≡ first_behind (row_nodes n script) p.left
+row_found n h p =
+    ap (node_of_row n) (row_by_position n h p.left) ∙ number_is n (row_after (map start_of (row_nodes n script)) p.left 1)
     ∙ numbered (row_nodes n script) (row_nodes n script) 0 p.left refl
 
 pub pairs_have_rows : PairsHaveTheirRows
-pairs_have_rows text o n last P u d = (λ j. map (λ p. row_found text n P (o, (last, d)) p j) P) ∙ first_rows text o n last P u d
+pairs_have_rows language text o n last P u d = (λ j. map (λ p. row_found n (spelled_lined_in language text d) p j) P) ∙ first_rows language text o n last P u d
 
 -- Which pair is the innermost of its node, by the rows of neighbours
 
@@ -529,6 +562,8 @@ module _ (S : Type 0) (Next : S → Token → S → Type 0) (behind : S → Toke
     rows_from : {o : ℕ} {a : Role} {n : Tree} {s e : S} {P : List Pair} (d : Spells ways S Next behind o a n s e P) (r : ℕ) → AllFrom r (pair_rows ways S Next behind d r)
     rows_from {a = a} (direct qs h p d) r = from_less r (has_row a + r) (run_pair_rows ways S Next behind d (has_row a + r)) (omega arith) (runs_from d (has_row a + r))
     rows_from (grouped p d q) r = (omega arith, rows_from d r)
+    rows_from (reserved_key x h p) r = tt
+    rows_from (reserved_word x h p) r = tt
 
     runs_from : {o : ℕ} {qs : List (PieceOf Role)} {ps : Parts} {s e : S} {P : List Pair} (d : Runs ways S Next behind o qs ps s e P) (r : ℕ) → AllFrom r (run_pair_rows ways S Next behind d r)
     runs_from done r = tt
@@ -570,6 +605,8 @@ module _ (S : Type 0) (Next : S → Token → S → Type 0) (behind : S → Toke
           first_told d r F (from_less (suc r) (r + rows n (expr y i f)) F (omega (arith, z)) u),
           rows_told d r F (from_less (r + rows n (expr Expression true Any)) (r + rows n (expr y i f)) F (omega (arith, x)) u) t,
         )
+    rows_told (reserved_key x h p) r F u t = t
+    rows_told (reserved_word x h p) r F u t = t
 
     runs_told : {o : ℕ} {qs : List (PieceOf Role)} {ps : Parts} {s e : S} {P : List Pair} (d : Runs ways S Next behind o qs ps s e P) (r : ℕ) (F : List (ℕ × Bool)) → AllFrom (r + parts_rows ps (roles qs)) F → Told F → Told (run_pair_rows ways S Next behind d r ++ F)
     runs_told done r F u t = t
@@ -608,18 +645,17 @@ extra_told wrapped ss (p ∷ P) (x ∷ X) h t =
     ∙ ap (λ u. cond (x.1 && is_flagged wrapped x.0) [] (span_of (grouping ss p) ∷ []) ++ u) (extra_told wrapped ss P X f t.1)
 
 -- the rows of a script's pairs, by number
-script_rows : (text : List ℕ) (o : ℕ) (n : Tree) (last : Token) (P : List Pair) → IsUtf8 text → (d : SpellsIn text o script n beginning last P) →
-    map (row_in (row_starts n)) P ≡ map (λ x. x.0) (pair_rows ways Token (NextIn text any_goal) itself d 1)
+script_rows : (language : Language) (text : List ℕ) (o : ℕ) (n : Tree) (last : Token) (P : List Pair) → IsUtf8 text → (d : SpellsAll language text o n last P) →
+    map (row_in (row_starts n)) P ≡ map (λ x. x.0) (pair_rows ways Token (Seen Token (NextIn text any_goal) language) (seen_in language) d 1)
 unfolding nodes UpTo AllUpTo Numbered row_in
-script_rows text o n last P u d =
-    let first : IsCharBoundary text 0 = IsCharBoundary-from_drop text 0 (omega arith) u in
-    let f = spells_numbered Token (NextIn text any_goal) itself (λ p. IsCharBoundary text p.stop) (λ p. p.stop) (text_past text u) ((text_determined text).start) d first [] (λ t e q. tt) 1 refl in
-    (λ j. map (λ p. row_by_position text n P (o, (last, d)) p.left j) P) ∙ ap (λ x. map (λ p. row_after (map start_of x) p.left 1) P) (sym (append-nil (row_nodes n script))) ∙ f []
+script_rows language text o n last P u d =
+    let f = spells_numbered Token (Seen Token (NextIn text any_goal) language) (seen_in language) (λ p. IsCharBoundary text p.stop) (λ p. p.stop) (seen_past language text u) (starts_same language text) d (starting_place language text u) [] (λ t e q. tt) 1 refl in
+    (λ j. map (λ p. row_by_position n (spelled_lined_in language text d) p.left j) P) ∙ ap (λ x. map (λ p. row_after (map start_of x) p.left 1) P) (sym (append-nil (row_nodes n script))) ∙ f []
 
-script_told : (text : List ℕ) (o : ℕ) (n : Tree) (last : Token) (P : List Pair) → (d : SpellsIn text o script n beginning last P) → Told (pair_rows ways Token (NextIn text any_goal) itself d 1)
+script_told : (language : Language) (text : List ℕ) (o : ℕ) (n : Tree) (last : Token) (P : List Pair) → (d : SpellsAll language text o n last P) → Told (pair_rows ways Token (Seen Token (NextIn text any_goal) language) (seen_in language) d 1)
 unfolding AllFrom Told
-script_told text o n last P d = subst Told (append-nil _) (rows_told Token (NextIn text any_goal) itself d 1 [] tt tt)
+script_told language text o n last P d = subst Told (append-nil _) (rows_told Token (Seen Token (NextIn text any_goal) language) (seen_in language) d 1 [] tt tt)
 
 pub extra_pairs_are_extra : ExtraPairsAreExtra
-extra_pairs_are_extra text o n last P u d wrapped =
-    extra_told wrapped (row_starts n) P (pair_rows ways Token (NextIn text any_goal) itself d 1) (script_rows text o n last P u d) (script_told text o n last P d)
+extra_pairs_are_extra language text o n last P u d wrapped =
+    extra_told wrapped (row_starts n) P (pair_rows ways Token (Seen Token (NextIn text any_goal) language) (seen_in language) d 1) (script_rows language text o n last P u d) (script_told language text o n last P d)

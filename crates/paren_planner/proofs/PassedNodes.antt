@@ -40,9 +40,9 @@ use Rattle.paren_planner.proofs.PairlessSpans.{ascending}
 use Rattle.paren_planner.proofs.LinedRows.{rows_agree}
 use Rattle.paren_planner.proofs.Bytes.{rows_within}
 use Rattle.paren_planner.specs.Plans.{IsDerived}
-use Rattle.pairless_laws.proofs.PairlessNodes.{derived_free}
-use Rattle.row_laws.proofs.FirstWayRows.{derived_lined}
-use Rattle.unambiguity_laws.proofs.OrderedPairs.{pairs_ordered}
+use Rattle.pairless_laws.proofs.PairlessNodes.{derived_free_in}
+use Rattle.paren_planner.proofs.RowStarts.{spelled_lined_in}
+use Rattle.unambiguity_laws.proofs.OrderedPairs.{pairs_ordered_in}
 
 -- Positions with the same widest
 
@@ -223,12 +223,12 @@ reached_next may_pass P n p a s ss rest later ps i f l g free old now new h e r 
 -- what is known of a script that a text derives
 pub derived_few : (n : Tree) (P : List Pair) → IsDerived n P → rows n script ≤ 16777216
 derived_few n P is =
-    let within : rows n script ≤ length is.text = rows_within is.text n P is.utf8 is.derived in
+    let within : rows n script ≤ length is.text = rows_within is.language is.text n P is.utf8 is.derived in
     let short = is.short in
     omega (arith, within, short)
 
 pub derived_passing : (n : Tree) (P : List Pair) → IsDerived n P → ScriptPassing P n
 derived_passing n P is = record {
-  ordered = ascending P (pairs_ordered is.text n P is.utf8 is.derived);
-  passable = script_passable P n (derived_lined is.text n P is.derived) (derived_few n P is) (derived_free is.text n P is.derived);
+  ordered = ascending P (pairs_ordered_in is.language is.text n P is.utf8 is.derived);
+  passable = script_passable P n (spelled_lined_in is.language is.text is.derived.1.2) (derived_few n P is) (derived_free_in is.language is.text n P is.derived);
 }

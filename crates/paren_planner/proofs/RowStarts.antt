@@ -1,5 +1,5 @@
 -- Where the rows of a derived script start, by the numbers that its nodes hold: where the nodes with rows start, by their positions.
-use Rattle.std.proofs.Common.{◌≡◌, ℕ, zero, suc, ◌≤◌, ◌<◌, Bool, true, false, cond, List, [], ◌∷◌, length, refl, sym, ap, ap₂, ◌∙◌, arith, length-append, Option, Some, None}
+use Rattle.std.proofs.Common.{◌≡◌, ℕ, zero, suc, ◌≤◌, ◌<◌, Bool, true, false, cond, List, [], ◌∷◌, length, refl, sym, ap, ap₂, ◌∙◌, arith, length-append, Option, Some, None, is_some}
 use Rattle.std.specs.Prelude.{map, nat_eq, nat_lt, get_or, slice_get}
 use Rattle.std.proofs.lemmas.Bool.Decides.{nat_tests}
 use Rattle.std.proofs.lemmas.List.{get_or_past}
@@ -14,9 +14,19 @@ use Rattle.language.specs.declared.Start.TheVariants.{Any}
 use Rattle.language.specs.Pieces.{Role, expr, script}
 use Rattle.language.specs.Grammar.{ways}
 use Rattle.language.specs.RowPositions.{first_roles}
-use Rattle.language.specs.Claims.{row_nodes, parts_row_nodes, Derives}
+use Rattle.language.specs.Claims.{row_nodes, parts_row_nodes}
+use Rattle.language.specs.declared.Language.{Language}
+use Rattle.language.specs.Languages.{Seen, seen_in}
+use Rattle.language.specs.Places.{NextIn}
+use Rattle.language.specs.Token.{Token}
+use Rattle.language.specs.Cost.{AtMost, at_most}
+use Rattle.language.proofs.table.Alike.{same}
+use Rattle.language.proofs.lower_bound.LowerBound.{at_least}
+use Rattle.tokens.specs.Reading.{any_goal}
 use Rattle.row_laws.specs.Laws.{NumbersRows}
-use Rattle.row_laws.proofs.FirstWayRows.{derived_lined}
+use Rattle.row_laws.specs.Lined.{lined}
+use Rattle.row_laws.proofs.FirstWayRows.{spelled_lined}
+use Rattle.paren_planner.specs.PairNodes.{SpellsAll}
 use Rattle.row_laws.proofs.RowNumbers.{script_numbers}
 use Rattle.spellings.specs.Groupings.{holds_row, start_among, row_start, row_starts, row_after}
 
@@ -127,5 +137,12 @@ module _ (n : Tree) (t : NumbersRows n) where
           none_listed r l ∙ sym (no_start (row_nodes n script) r l)
 
 -- so the first row behind a place is that of the positions
-pub row_by_position : (text : List ℕ) (n : Tree) (P : List Pair) → Derives text n P → (k : ℕ) → row_after (row_starts n) k 1 ≡ row_after (map start_of (row_nodes n script)) k 1
-row_by_position text n P d k = same_row (row_starts n) (map start_of (row_nodes n script)) k 1 (starts_alike n (script_numbers n (derived_lined text n P d)))
+pub row_by_position : (n : Tree) → lined n script ≡ true → (k : ℕ) → row_after (row_starts n) k 1 ≡ row_after (map start_of (row_nodes n script)) k 1
+row_by_position n h k = same_row (row_starts n) (map start_of (row_nodes n script)) k 1 (starts_alike n (script_numbers n h))
+
+-- what a text spells in a language has its parts where its first ways name them
+some_is : {x : Option ℕ} {m : ℕ} → AtMost x m → is_some x ≡ true
+some_is (at_most h) = refl
+
+pub spelled_lined_in : (language : Language) (text : List ℕ) {o : ℕ} {n : Tree} {last : Token} {P : List Pair} → SpellsAll language text o n last P → lined n script ≡ true
+spelled_lined_in language text d = spelled_lined Token (Seen Token (NextIn text any_goal) language) (seen_in language) d script same (some_is (at_least Token (Seen Token (NextIn text any_goal) language) (seen_in language) d))

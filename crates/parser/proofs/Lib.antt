@@ -1,2 +1,3 @@
 pub mod ShortTexts
 pub mod Refusals
+pub mod EarlierTexts

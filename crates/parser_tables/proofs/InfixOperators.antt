@@ -4,7 +4,7 @@ use Rattle.std.specs.Prelude.{IsTrue, not, ◌&&◌, ◌||◌, Option, Some, Non
 use Rattle.std.proofs.lemmas.Bool.{and_right}
 use Rattle.std.proofs.lemmas.Slice.Eq.{bytes_eq-Decides}
 use Rattle.tokens.specs.declared.token.TokenClass.{TokenClass}
-use Rattle.tokens.specs.declared.token.TokenClass.TheVariants.{IdentifierName, Punctuator, NumericLiteral, StringLiteral, Template, RegularExpressionLiteral, End}
+use Rattle.tokens.specs.declared.token.TokenClass.TheVariants.{IdentifierName, Punctuator, NumericLiteral, StringLiteral, Template, RegularExpressionLiteral, PrivateName, Keyword, End}
 use Rattle.tokens.specs.declared.token.Goal.TheVariants.{Div}
 use Rattle.tokens.specs.Tokens.{LexicalToken}
 use Rattle.language.specs.declared.Rank.{Rank}
@@ -12,6 +12,7 @@ use Rattle.language.specs.declared.Edge.{Edge}
 use Rattle.language.specs.Vocabulary.{is, takes, Operator, op_binary, op_power, op_assign, op_update, op_comma, op_question, op_dot, op_call, op_index, op_optional, op_arrow, op_template, op_none}
 use Rattle.language.specs.Token.{Token, table_text, as_read, same_class, is_token}
 use Rattle.language.specs.Continuations.{of_class, operation, rank_made_by, holds, stops_at}
+use Rattle.token_cursor.specs.SourceText.{SourceText}
 use Rattle.token_cursor.specs.CursorState.{IsAhead, NoneAhead}
 use Rattle.parser_tables.specs.declared.expression_context.ExpressionContext.{ExpressionContext}
 use Rattle.grammar.specs.declared.infix.InfixOperator.{InfixOperator as Coded}
@@ -59,6 +60,8 @@ in_class Template w b z e h = let u : None ≡ Some z = sym (ap (λ v. rank_made
 in_class NumericLiteral w b z e h = cc
 in_class StringLiteral w b z e h = cc
 in_class RegularExpressionLiteral w b z e h = cc
+in_class PrivateName w b z e h = cc
+in_class Keyword w b z e h = cc
 in_class End w b z e h = cc
 
 in_word : (t : Token) (z : Rank) → rank_made_by (operation t) t.after_break ≡ Some z → is_token IdentifierName (codes "in") t ≡ is t.text "in"
@@ -105,10 +108,10 @@ pub stops_unplaced : (p : ExpressionContext) (x : Edge) (t : Token) → rank_mad
 stops_unplaced p x t h = ap (stops_at p.rank p.has_in x t) h
 
 -- where the token ahead can't go on, nothing can
-pub stops_ahead : (text : List ℕ) (p : ExpressionContext) (x : Edge) (s : Token) (u : LexicalToken) → IsAhead Div text s.stop u → stops_by p x (as_read u) ≡ true → StopsHere text p x s
+pub stops_ahead : (text : SourceText) (p : ExpressionContext) (x : Edge) (s : Token) (u : LexicalToken) → IsAhead Div text s.stop u → stops_by p x (as_read u) ≡ true → StopsHere text p x s
 stops_ahead text p x s u a h = of_ahead text (λ t. IsTrue (stops_by p x t)) Div s u a h
 
-pub stops_none : (text : List ℕ) (p : ExpressionContext) (x : Edge) (s : Token) → NoneAhead Div text s.stop → StopsHere text p x s
+pub stops_none : (text : SourceText) (p : ExpressionContext) (x : Edge) (s : Token) → NoneAhead Div text s.stop → StopsHere text p x s
 stops_none text p x s none t m r = absurd (none_ahead text Div s none t m r)
 
 -- what goes on with a chain, in the code as in the definition

@@ -9,20 +9,20 @@ use Rattle.tree.specs.declared.kind.Kind.{Kind}
 use Rattle.tree.specs.declared.kind.Kind.TheVariants.{MethodDefinition, Property}
 use Rattle.tree.specs.declared.kind.Flags.{Flags}
 use Rattle.tree.specs.declared.kind.Form.{Form}
-use Rattle.tree.specs.declared.kind.Form.TheVariants.{Constructor, Method}
+use Rattle.tree.specs.declared.kind.Form.TheVariants.{Constructor, Method, Generator, Async, AsyncGenerator}
 use Rattle.tree.specs.Tree.{plain}
 
 -- the flags of a property, or of a member
 abbrev pub member_flags : Bool → Bool → Form → Flags
 member_flags computed is_static form = record plain { computed = computed; is_static = is_static; form = form }
 
-abbrev pub is_method : Form → Bool
-is_method Method = true
-is_method _ = false
-
--- a method that isn't static, and whose key is `constructor`, is the constructor (14.6)
+-- a method that isn't static, and whose key is `constructor`, is the constructor (14.6); a generator or async function is a method
 abbrev pub method_form : Bool → Form → Bool → Form
-method_form is_static form names_constructor = cond (is_method form && not is_static && names_constructor) Constructor form
+method_form is_static Method names_constructor = cond (not is_static && names_constructor) Constructor Method
+method_form is_static Generator names_constructor = Method
+method_form is_static Async names_constructor = Method
+method_form is_static AsyncGenerator names_constructor = Method
+method_form is_static form names_constructor = form
 
 abbrev pub member_kind : Bool → Kind
 member_kind true = MethodDefinition

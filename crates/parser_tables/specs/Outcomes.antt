@@ -2,17 +2,16 @@
 use Rattle.std.specs.Prelude.{◌≡◌, ℕ, ◌≤◌, ◌<◌, Bool, true, false, Result, Ok, Err}
 use Rattle.source_text.specs.declared.fault.Fault.{Fault}
 use Rattle.source_text.specs.declared.fault.Fault.TheVariants.{Syntax, TooDeep, OutOfMemory}
-use Rattle.tokens.specs.Reading.{any_goal}
 use Rattle.tokens.specs.declared.token.Goal.TheVariants.{RegExp}
 use Rattle.language.specs.Token.{Token}
-use Rattle.language.specs.Places.{NextIn, itself}
 use Rattle.language.specs.Promises.{ReadBy}
 use Rattle.language.specs.Claims.{max_open}
 use Rattle.token_cursor.specs.CursorState.{CursorState, IsSyntaxHere}
+use Rattle.token_cursor.specs.SourceText.{SeenNext, behind_in}
 
 -- where what the goal for operands reads begins
 abbrev pub BeginsBy : CursorState → ℕ → Type 0
-BeginsBy p at = (t m : Token) → ReadBy Token (NextIn p.text any_goal) itself RegExp p.last t m → at ≡ t.start
+BeginsBy p at = (t m : Token) → ReadBy Token (SeenNext p.text) (behind_in p.text) RegExp p.last t m → at ≡ t.start
 
 -- What doesn't fit is a syntax error at such a place; what fits, but is higher than allowed, is too deep; and memory may be refused.
 abbrev pub RefusedWhere : (ℕ → Type 0) → Bool → ℕ → ℕ → Fault → Type 0

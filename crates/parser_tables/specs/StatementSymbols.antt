@@ -2,7 +2,10 @@
 use Rattle.std.specs.Prelude.{◌≡◌, ◌⊎◌, ℕ, Bool, true, false, List, [], ◌∷◌, codes}
 use Prim.Native.String.{String}
 use Rattle.tokens.specs.declared.token.TokenClass.TheVariants.{Punctuator}
-use Rattle.tree.specs.declared.kind.Form.TheVariants.{Get, Set}
+use Rattle.tree.specs.declared.kind.Flags.{Flags}
+use Rattle.tree.specs.declared.kind.Form.{Form}
+use Rattle.tree.specs.declared.kind.Form.TheVariants.{Init, Get, Set, Method}
+use Rattle.tree.specs.Tree.{plain}
 use Rattle.tree.specs.declared.kind.Kind.{Kind}
 use Rattle.tree.specs.declared.kind.Kind.TheVariants.{FunctionExpression, FunctionDeclaration, ClassExpression, ClassDeclaration}
 use Rattle.covers.specs.declared.list.ListKind.{ListKind}
@@ -15,6 +18,7 @@ use Rattle.parser_tables.specs.declared.symbol_lists.Symbol.{Symbol as Coded}
 use Rattle.parser_tables.specs.declared.symbol_lists.Symbol.TheVariants as code
 use Rattle.language.specs.Token.{Token}
 use Rattle.token_cursor.specs.Seen.{Sees, Misses}
+use Rattle.token_cursor.specs.SourceText.{SourceText}
 
 -- a token, or what is read by a call; the lists that are pieces have items of their own
 pub data Piece : Type 0 where
@@ -76,6 +80,14 @@ loop_parts headed.ForIn = word (codes "in") ∷ expression ∷ sign ")" ∷ stat
 loop_parts headed.ForOf = word (codes "of") ∷ assignment ∷ sign ")" ∷ statement ∷ []
 loop_parts _ = in_parentheses (statement ∷ [])
 
+-- a `for`, before or after its head is read
+abbrev pub is_for : StatementKind → Bool
+is_for headed.For = true
+is_for headed.ForLoop = true
+is_for headed.ForIn = true
+is_for headed.ForOf = true
+is_for _ = false
+
 -- of a `switch` (13.12)
 abbrev pub switch_parts : Bool → List Piece
 switch_parts r = in_parentheses (list (listed.Cases r) ∷ [])
@@ -102,7 +114,7 @@ case_parts true = sign ":" ∷ consequent ∷ []
 case_parts false = expression ∷ sign ":" ∷ consequent ∷ []
 
 -- behind `catch` (13.15): with a parameter, where `(` stands ahead, or without
-abbrev pub CatchParts : List ℕ → Token → List Piece → Type 0
+abbrev pub CatchParts : SourceText → Token → List Piece → Type 0
 CatchParts text s pieces =
     (Sees text Punctuator (codes "(") s × (pieces ≡ sign "(" ∷ binding ∷ sign ")" ∷ block ∷ []))
     ⊎ (Misses text Punctuator (codes "(") s × (pieces ≡ missing ∷ block ∷ []))
@@ -123,13 +135,38 @@ class_parts = heritage ∷ list listed.Members ∷ []
 abbrev pub function_or_class_parts : FunctionOrClass → List Piece
 function_or_class_parts closure.Class = class_parts
 function_or_class_parts closure.ClassDeclaration = class_parts
+function_or_class_parts closure.DefaultClass = class_parts
 function_or_class_parts (closure.Method Get) = parameters_and_body listed.NoParameter
 function_or_class_parts (closure.Method Set) = parameters_and_body listed.OneParameter
 function_or_class_parts _ = parameters_and_body listed.Parameters
 
 abbrev pub function_or_class_kind : FunctionOrClass → Kind
-function_or_class_kind closure.Function = FunctionExpression
-function_or_class_kind closure.FunctionDeclaration = FunctionDeclaration
+function_or_class_kind (closure.Function form) = FunctionExpression
+function_or_class_kind (closure.FunctionDeclaration form) = FunctionDeclaration
+function_or_class_kind (closure.DefaultFunction form) = FunctionDeclaration
 function_or_class_kind (closure.Method form) = FunctionExpression
 function_or_class_kind closure.Class = ClassExpression
 function_or_class_kind closure.ClassDeclaration = ClassDeclaration
+function_or_class_kind closure.DefaultClass = ClassDeclaration
+
+-- the form of a function; that of a plain method, a getter and a setter is the plain one
+abbrev pub function_or_class_form : FunctionOrClass → Form
+function_or_class_form (closure.Method Get) = Init
+function_or_class_form (closure.Method Set) = Init
+function_or_class_form (closure.Method Method) = Init
+function_or_class_form (closure.Method form) = form
+function_or_class_form (closure.Function form) = form
+function_or_class_form (closure.FunctionDeclaration form) = form
+function_or_class_form (closure.DefaultFunction form) = form
+function_or_class_form _ = Init
+
+abbrev pub function_or_class_flags : FunctionOrClass → Flags
+function_or_class_flags c = record plain { form = function_or_class_form c }
+
+-- its name may be missing
+abbrev pub may_be_nameless : FunctionOrClass → Bool
+may_be_nameless (closure.Function form) = true
+may_be_nameless closure.Class = true
+may_be_nameless (closure.DefaultFunction form) = true
+may_be_nameless closure.DefaultClass = true
+may_be_nameless _ = false

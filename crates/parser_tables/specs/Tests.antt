@@ -1,10 +1,13 @@
 -- Tests on the token that stands ahead.
-use Rattle.std.specs.Prelude.{nat_eq, slice_index_or, Bool, true, false, ◌&&◌, ◌||◌, [], ◌∷◌, codes}
-use Rattle.tokens.specs.declared.token.TokenClass.{TokenClass}
-use Rattle.tokens.specs.declared.token.TokenClass.TheVariants.{IdentifierName, NumericLiteral, StringLiteral, Template}
+use Rattle.std.specs.Prelude.{nat_eq, slice_index_or, Bool, ◌&&◌, ◌||◌, [], ◌∷◌, codes}
+use Rattle.tokens.specs.declared.token.TokenClass.TheVariants.{IdentifierName, PrivateName, Template}
 use Rattle.language.specs.Vocabulary.{among}
 use Rattle.language.specs.Token.{Token, same_class, is_mark}
+pub use Rattle.language.specs.Edges.{begins_key}
 use Rattle.language.specs.Edges.{is_end}
+use Rattle.language.specs.Languages.{is_of_2022}
+use Rattle.token_cursor.specs.SourceText.{SourceText}
+use Rattle.token_cursor.specs.Seen.{is_key_class}
 use Rattle.language.specs.Continuations.{operation}
 use Rattle.grammar.specs.Infix.{links}
 use Rattle.parser_tables.specs.declared.statements.StatementListEnd.{StatementListEnd}
@@ -25,18 +28,9 @@ ends_word t = t.after_break || (is_end t || (is_mark (codes ";") t || is_mark (c
 abbrev pub is_each : Token → Bool
 is_each t = same_class IdentifierName t.class && among t.text ("in" ∷ "of" ∷ [])
 
--- the classes of keys (12.2.6), and what a key begins with
-abbrev pub is_key_class : TokenClass → Bool
-is_key_class IdentifierName = true
-is_key_class NumericLiteral = true
-is_key_class StringLiteral = true
-is_key_class _ = false
-
-abbrev pub is_key : Token → Bool
-is_key t = is_key_class t.class
-
-abbrev pub begins_key : Token → Bool
-begins_key t = is_key t || is_mark (codes "[") t
+-- a key without brackets (12.2.6), in a class perhaps a private name (15.7 of the 13th edition)
+abbrev pub is_key : SourceText → Bool → Token → Bool
+is_key text in_class t = is_key_class t.class || (in_class && (is_of_2022 text.language && same_class PrivateName t.class))
 
 -- a list of statements ends before the token
 abbrev pub ends : StatementListEnd → Token → Bool

@@ -1,10 +1,10 @@
 //! What the first token of an expression begins (ECMA-262 12.2 to 12.5, 14.1, 14.2, 14.6).
 #![tactic(auto, using(crate::proofs::Refusals::refusals))]
 
-ghost use Rattle.std.specs.Prelude.{◌≡◌, ◌≢◌, ◌<◌, ◌+◌, ◌-◌, ◌++◌, IfErr, IfSome, true};
+ghost use Rattle.std.specs.Prelude.{◌≡◌, ◌≢◌, ◌<◌, ◌+◌, ◌-◌, IfErr, IfSome, true};
 ghost use Rattle.language.specs.Token.{as_read};
 ghost use Rattle.language.specs.ExpressionStart.{expression_start_by, expression_start};
-ghost use Rattle.parser_tables.specs.ExpressionStarts.{coded_start, stood};
+ghost use Rattle.parser_tables.specs.ExpressionStarts.{coded_start, coded_in, coded_name, coded_word, stood};
 ghost use Rattle.tokens.specs.Scanned.{token_of};
 ghost use Rattle.tree.specs.Tree.{height};
 ghost use Rattle.parser_tables.specs.Tests.{continues_super};
@@ -13,14 +13,14 @@ ghost use Rattle.parser_tables.specs.Items.{listed_kind, listed_node, listed_par
 ghost use Rattle.parser_tables.specs.Outcomes.{MakesAs, YieldsWhere};
 ghost use Rattle.parser_tables.specs.Operands.{group_part};
 ghost use Rattle.token_cursor.specs.Refusals.{IsLimit, IsStop};
-ghost use Rattle.parser_tables.specs.Tokens.{single_text};
+ghost use Rattle.parser_tables.specs.Tokens.{single_text, without_hash};
 
 use crate::expression_context::ExpressionContext;
 use crate::operand::Operand;
 use crate::token_tests::is_template_head;
 use covers::{Cover, CoverShape, ListBuilder, ListKind};
 use grammar::{accepts_rank, is_reserved};
-use language::{Edge, Rank, Start};
+use language::{Edge, Language, Rank, Start};
 use productions::{MeasuredNode, finish_plain};
 use source_text::Fault;
 use token_cursor::is_punctuator;
@@ -40,17 +40,23 @@ pub enum ExpressionStart {
     Super,
     New,
     Import,
+    /// `async`, as a name or before a function (15.8, 15.9 of the 13th edition).
+    Async,
+    /// `yield` (15.5 of the 13th edition).
+    Yield,
+    /// A private name, before `in` (13.10 of the 13th edition).
+    PrivateName,
     /// An operator, by the symbols of its node and of its operand.
     Prefix(Rank, Rank),
 }
 
 /// What a word begins where an expression may stand; none for a reserved word that begins nothing.
-fn start_of_word(word: &str) -> Option<ExpressionStart>
+fn start_of_word(word: &str, language: Language) -> Option<ExpressionStart>
     ensures list { IfSome result BeginsList }
-    ensures coded { result ≡ coded_start (expression_start_by TokenClass.IdentifierName word.now) }
+    ensures coded { result ≡ coded_word language word.now }
 {
     if !is_reserved(word) {
-        return Some(ExpressionStart::OneToken(Kind::Identifier));
+        return Some(start_of_name(word, language));
     }
     Some(match word {
         "this" => ExpressionStart::OneToken(Kind::ThisExpression),
@@ -60,9 +66,21 @@ fn start_of_word(word: &str) -> Option<ExpressionStart>
         "super" => ExpressionStart::Super,
         "new" => ExpressionStart::New,
         "import" => ExpressionStart::Import,
+        "yield" if language != Language::Base => ExpressionStart::Yield,
         "delete" | "void" | "typeof" => ExpressionStart::Prefix(Rank::Unary, Rank::Unary),
         _ => return None,
     })
+}
+
+/// What a name begins that isn't reserved.
+#[inline(always)]
+fn start_of_name(name: &str, language: Language) -> ExpressionStart
+    ensures { result ≡ coded_name language name.now }
+{
+    match language != Language::Base && name == "async" {
+        true => ExpressionStart::Async,
+        false => ExpressionStart::OneToken(Kind::Identifier),
+    }
 }
 
 /// What a punctuator begins where an expression may stand; none if it begins nothing.
@@ -80,14 +98,14 @@ fn start_of_punctuator(mark: &str) -> Option<ExpressionStart>
     })
 }
 
-/// What an expression begins with, by its first token.
-pub fn expression_start_of(token: &Token<'_>) -> Option<ExpressionStart>
+/// What an expression begins with in a text of this language, by its first token.
+pub fn expression_start_of(token: &Token<'_>, language: Language) -> Option<ExpressionStart>
     ensures list { IfSome result BeginsList }
     ensures real { IfSome result (λ _. token.now.class ≢ TokenClass.End) }
-    ensures coded { result ≡ coded_start (expression_start (as_read (token_of token.now))) }
+    ensures coded { result ≡ coded_in language (as_read (token_of token.now)) }
 {
     match token.class {
-        TokenClass::IdentifierName => start_of_word(token.text),
+        TokenClass::IdentifierName => start_of_word(token.text, language),
         TokenClass::Punctuator => start_of_punctuator(token.text),
         TokenClass::NumericLiteral
         | TokenClass::StringLiteral
@@ -96,13 +114,27 @@ pub fn expression_start_of(token: &Token<'_>) -> Option<ExpressionStart>
             true => Some(ExpressionStart::List(ListKind::Template)),
             false => None,
         },
+        TokenClass::PrivateName if language != Language::Base => Some(ExpressionStart::PrivateName),
+        TokenClass::PrivateName => None,
+        TokenClass::Keyword => start_of_keyword(token.text),
         TokenClass::End => None,
+    }
+}
+
+/// What a name begins that only the language of the text reserves: `await` is an operator.
+fn start_of_keyword(word: &str) -> Option<ExpressionStart>
+    ensures list { IfSome result BeginsList }
+    ensures coded { result ≡ coded_start (expression_start_by TokenClass.Keyword word.now) }
+{
+    match word {
+        "await" => Some(ExpressionStart::Prefix(Rank::Unary, Rank::Unary)),
+        _ => None,
     }
 }
 
 /// Whether it may stand at the position.
 pub fn may_start(position: ExpressionContext, opening: ExpressionStart) -> bool
-    ensures { result ≡ stood position.rank position.start opening }
+    ensures { result ≡ stood position.rank position.has_in position.start opening }
 {
     match opening {
         ExpressionStart::List(ListKind::Properties) => matches!(position.start, Start::Any),
@@ -112,6 +144,10 @@ pub fn may_start(position: ExpressionContext, opening: ExpressionStart) -> bool
         ),
         ExpressionStart::Prefix(own, _) => accepts_rank(position.rank, own),
         ExpressionStart::Import => accepts_rank(position.rank, Rank::Call),
+        ExpressionStart::Yield => accepts_rank(position.rank, Rank::Assignment),
+        ExpressionStart::PrivateName => {
+            accepts_rank(position.rank, Rank::Relational) && position.has_in
+        }
         _ => true,
     }
 }
@@ -149,12 +185,25 @@ pub fn finish_list<'s>(list: ListBuilder<'s>, high: u32) -> Result<Operand<'s>, 
     Ok(Operand::primary(node, shape))
 }
 
-/// The text of a node that is one token: `this` and `super` have none.
+/// The text of a private name's node: without its `#` (12.6 of the 13th edition).
+#[inline(never)]
+fn private_name_text(text: &str) -> &str
+    ensures { result.now ≡ without_hash text.now }
+{
+    match text.strip_prefix('#') {
+        Some(name) => name,
+        None => text,
+    }
+}
+
+/// The text of a node that is one token: `this` and `super` have none, and a private name's has no `#`.
+#[inline(always)]
 pub fn token_node_text(kind: Kind, text: &str) -> &str
     ensures { result.now ≡ single_text kind text.now }
 {
     match kind {
         Kind::ThisExpression | Kind::Super => "",
+        Kind::PrivateIdentifier => private_name_text(text),
         _ => text,
     }
 }

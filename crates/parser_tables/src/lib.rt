@@ -23,15 +23,13 @@ pub use expression_starts::{
 pub use functions_and_classes::FunctionOrClass;
 pub use operand::Operand;
 pub use operators::{cannot_continue, infix_operator_of};
-pub use properties::{
-    begins_key, is_constructor, is_key_class, method_form, property_flags, property_item,
-};
+pub use properties::{is_constructor, method_form, property_flags, property_item};
 pub use statements::{
     StatementContext, StatementKind, StatementListEnd, StatementStart, ends_statements,
     statement_start_of,
 };
 pub use symbol_lists::{
-    PartialStatement, Symbol, body_symbols, case_symbols, ends_operand, fits_for_head, is_in_or_of,
-    list_node_height, statement_symbols,
+    PartialStatement, Symbol, begins_no_operand, body_symbols, case_symbols, ends_operand,
+    fits_for_head, is_in_or_of, list_node_height, statement_symbols,
 };
 pub use token_tests::{is_template_head, span_of};

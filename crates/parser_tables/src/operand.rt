@@ -27,6 +27,7 @@ pub struct Operand<'s> {
 
 impl<'s> Operand<'s> {
     /// An expression that is no array, no object and no assignment.
+    #[inline(always)]
     pub fn plain(node: MeasuredNode<'s>, rank: Rank, edge: Edge) -> Operand<'s>
         ensures { result ≡ plain_part node.entry rank edge }
     {

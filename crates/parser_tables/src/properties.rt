@@ -4,14 +4,10 @@
 ghost use Rattle.std.specs.Prelude.{◌≡◌, false};
 ghost use Rattle.parser_tables.specs.Items.{property_item};
 ghost use Rattle.parser_tables.specs.Methods.{member_flags, method_form, is_constructor};
-ghost use Rattle.tokens.specs.Scanned.{token_of};
-ghost use Rattle.language.specs.Token.{as_read};
-ghost use Rattle.parser_tables.specs.Tests.{is_key_class, begins_key};
 
 use covers::{CoverShape, ListItem};
 use language::Edge;
 use productions::MeasuredNode;
-use token_cursor::is_punctuator;
 use tokens::{Token, TokenClass, string_is};
 use tree::{Flags, Form};
 
@@ -50,30 +46,14 @@ pub fn is_constructor(key: &Token<'_>) -> bool
     }
 }
 
-/// Whether a token of this class is a key.
-pub fn is_key_class(class: TokenClass) -> bool
-    ensures { result ≡ is_key_class class }
-{
-    matches!(
-        class,
-        TokenClass::IdentifierName | TokenClass::StringLiteral | TokenClass::NumericLiteral
-    )
-}
-
-/// Whether a key begins with the token.
-pub fn begins_key(token: &Token<'_>) -> bool
-    ensures { result ≡ begins_key (as_read (token_of token.now)) }
-{
-    is_key_class(token.class) || is_punctuator(token, "[")
-}
-
-/// The form of a method, getter or setter: a method that isn't static and whose name is `constructor` is the constructor (14.6).
+/// The form of a method, getter or setter: a method that isn't static and whose name is `constructor` is the constructor (14.6). That it is a
+/// generator or async is said of its function.
 pub fn method_form(is_static: bool, form: Form, names_constructor: bool) -> Form
     ensures { result ≡ method_form is_static form names_constructor }
 {
-    let is_plain = matches!(form, Form::Method) && !is_static;
-    match is_plain && names_constructor {
-        true => Form::Constructor,
-        false => form,
+    match form {
+        Form::Method if !is_static && names_constructor => Form::Constructor,
+        Form::Generator | Form::Async | Form::AsyncGenerator => Form::Method,
+        _ => form,
     }
 }

@@ -15,7 +15,7 @@ use crate::functions_and_classes::FunctionOrClass;
 use grammar::first_byte;
 use token_cursor::{is_name_token, is_punctuator};
 use tokens::{Token, TokenClass};
-use tree::Kind;
+use tree::{Form, Kind};
 
 /// What a statement is by its first token, or by what its head holds.
 #[derive(Clone, Copy, Debug, PartialEq, Eq)]
@@ -152,7 +152,9 @@ fn start_of_declaration(word: &str, returns: bool) -> StatementStart
     ensures { result ≡ coded_statement_start (statement_start_by true returns TokenClass.IdentifierName word.now) }
 {
     match word {
-        "function" => StatementStart::FunctionOrClass(FunctionOrClass::FunctionDeclaration),
+        "function" => StatementStart::FunctionOrClass(FunctionOrClass::FunctionDeclaration(
+            Form::Init,
+        )),
         "class" => StatementStart::FunctionOrClass(FunctionOrClass::ClassDeclaration),
         "let" | "const" => StatementStart::OfKind(StatementKind::Variable),
         _ => start_of_statement_word(word, returns),

@@ -1,11 +1,12 @@
 //! Statements, functions, classes and their parts as lists of pieces (ECMA-262 clauses 13 and 14).
 #![tactic(auto, using(crate::proofs::Refusals::refusals))]
 
-ghost use Rattle.std.specs.Prelude.{◌≡◌, true, map};
+ghost use Rattle.std.specs.Prelude.{◌≡◌, true, false, map};
 ghost use Rattle.tokens.specs.Scanned.{token_of};
 ghost use Rattle.language.specs.Token.{as_read};
+ghost use Rattle.language.specs.Edges.{begins_no_operand};
 ghost use Rattle.parser_tables.specs.Tests.{ends_word, is_each};
-ghost use Rattle.parser_tables.specs.StatementSymbols.{piece_of, statement_parts, loop_parts, switch_parts, case_parts, class_parts, parameters_and_body, body_parts};
+ghost use Rattle.parser_tables.specs.StatementSymbols.{is_for, piece_of, statement_parts, loop_parts, switch_parts, case_parts, class_parts, parameters_and_body, body_parts};
 ghost use Rattle.parser_tables.specs.StatementNodes.{partial_of, listed_depth, fits_head};
 ghost use Rattle.tree.specs.Tree.{none};
 
@@ -126,16 +127,14 @@ pub fn statement_symbols(headed: StatementKind, returns: bool) -> &'static [Symb
         StatementKind::Try => &[Symbol::Block, Symbol::Catch, Symbol::Finally],
         StatementKind::Debugger => &[Symbol::Semicolon],
         StatementKind::Label => &[Symbol::PunctuatorToken(":"), Symbol::Statement],
-        StatementKind::Do | StatementKind::While | StatementKind::For => loop_symbols(headed),
-        StatementKind::ForLoop | StatementKind::ForIn | StatementKind::ForOf => loop_symbols(
-            headed,
-        ),
+        StatementKind::Do | StatementKind::While => loop_symbols(headed),
+        _ => for_symbols(headed),
     }
 }
 
-/// The symbols of a loop after what tells its kind (13.7).
+/// The symbols of a `do` or `while` after its word (13.7).
 fn loop_symbols(headed: StatementKind) -> &'static [Symbol]
-    ensures { map piece_of result.now ≡ loop_parts headed }
+    ensures { is_for headed ≡ false → map piece_of result.now ≡ loop_parts headed }
 {
     match headed {
         StatementKind::Do => &[
@@ -146,7 +145,20 @@ fn loop_symbols(headed: StatementKind) -> &'static [Symbol]
             Symbol::PunctuatorToken(")"),
             Symbol::DoWhileSemicolon,
         ],
-        StatementKind::For => &[Symbol::PunctuatorToken("("), Symbol::ForHead],
+        _ => &[
+            Symbol::PunctuatorToken("("),
+            Symbol::Expression,
+            Symbol::PunctuatorToken(")"),
+            Symbol::Statement,
+        ],
+    }
+}
+
+/// The symbols of a `for` after its word, and after what stands first in its parentheses (13.7.4, 13.7.5).
+fn for_symbols(headed: StatementKind) -> &'static [Symbol]
+    ensures { is_for headed ≡ true → map piece_of result.now ≡ loop_parts headed }
+{
+    match headed {
         StatementKind::ForLoop => &[
             Symbol::PunctuatorToken(";"),
             Symbol::Test,
@@ -167,12 +179,7 @@ fn loop_symbols(headed: StatementKind) -> &'static [Symbol]
             Symbol::PunctuatorToken(")"),
             Symbol::Statement,
         ],
-        _ => &[
-            Symbol::PunctuatorToken("("),
-            Symbol::Expression,
-            Symbol::PunctuatorToken(")"),
-            Symbol::Statement,
-        ],
+        _ => &[Symbol::PunctuatorToken("("), Symbol::ForHead],
     }
 }
 
@@ -243,6 +250,21 @@ pub fn ends_operand(token: &Token<'_>) -> bool
         || token.class == TokenClass::End
         || is_punctuator(token, ";")
         || is_punctuator(token, "}")
+}
+
+/// Whether behind `yield` no operand begins with the token: it stands on another line, or closes what `yield` stands in (15.5 of the 13th
+/// edition).
+pub fn begins_no_operand(token: &Token<'_>) -> bool
+    ensures { result ≡ begins_no_operand (as_read (token_of token.now)) }
+{
+    if token.after_break || token.class == TokenClass::End {
+        return true;
+    }
+    match token.text.as_bytes() {
+        [b'}', ..] => true,
+        [b')' | b']' | b',' | b';' | b':'] => token.class == TokenClass::Punctuator,
+        _ => false,
+    }
 }
 
 /// Whether the token is `in` or `of`.

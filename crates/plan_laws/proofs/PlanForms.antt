@@ -1,7 +1,6 @@
 -- The table of a plan has a text, which is read back.
 use Rattle.std.proofs.Common.{◌≡◌, ℕ, zero, suc, ◌+◌, ◌≤◌, Bool, true, false, cond, List, [], ◌∷◌, length, Option, Some, None, refl, sym, ap, ◌∙◌, subst, arith}
 use Rattle.std.specs.Prelude.{map, slice_get}
-use Rattle.std.specs.Str.{IsUtf8}
 use Rattle.std.proofs.lemmas.Bool.{and_parts, and_from, true≢false}
 use Rattle.std.proofs.lemmas.List.{length-map}
 use Rattle.tree.specs.declared.kind.Kind.{Kind}
@@ -20,7 +19,10 @@ use Rattle.language.specs.Grammar.{ways, ways_bare, spellings}
 use Rattle.language.specs.RowPositions.{first_roles, widest, rows, parts_rows}
 use Rattle.language.specs.Derivation.{Among}
 use Rattle.language.specs.Cost.{cell, cells, least}
-use Rattle.language.specs.Claims.{row_nodes, parts_row_nodes, Derives}
+use Rattle.language.specs.Claims.{row_nodes, parts_row_nodes}
+use Rattle.language.specs.Token.{Token}
+use Rattle.language.specs.declared.Language.{Language}
+use Rattle.language.specs.Languages.{DerivesIn}
 use Rattle.language.proofs.lower_bound.Domination.{ways_of}
 use Rattle.spellings.proofs.Slots.{is_wide, all_pass, parts_wide}
 use Rattle.paren_planner.specs.declared.wrap_plan.Plan.{Plan}
@@ -29,7 +31,8 @@ use Rattle.cost_table.specs.Rows.{shown, celled}
 use Rattle.cost_table.specs.Tables.{table_of}
 use Rattle.cost_table.proofs.RowNodes.{split_at, nodes-length, wide_itself, wide_start}
 use Rattle.paren_planner.proofs.Bounds.{Below, nothing, something, below_more, least_below, cell_below}
-use Rattle.paren_planner.proofs.Somewhere.{row_somewhere}
+use Rattle.language.proofs.table.Alike.{same}
+use Rattle.paren_planner.proofs.Somewhere.{rows_somewhere}
 use Rattle.cost_certificate.specs.Types.{has_type}
 use Rattle.cost_certificate.specs.Forms.{is_small, is_row, all_rows, is_formed}
 use Rattle.cost_certificate.proofs.TableTexts.{small_number}
@@ -62,6 +65,8 @@ untyped kind.ObjectExpression w g ps h = absurd (true≢false h)
 untyped kind.FunctionExpression w g ps h = absurd (true≢false h)
 untyped kind.ClassExpression w g ps h = absurd (true≢false h)
 untyped kind.TemplateLiteral w g ps h = absurd (true≢false h)
+untyped kind.AwaitExpression w g ps h = absurd (true≢false h)
+untyped kind.YieldExpression w g ps h = absurd (true≢false h)
 untyped _ w g ps h = refl
 
 no_way : (qs : List (PieceOf Role)) (t : Bool) (a : Role) (xs : List Spelling) → xs ≡ [] → Among qs (cond t (ways_of a xs) []) → ⊥
@@ -142,14 +147,18 @@ plan_short n p few h =
     let all = sym (length-map p.table.rows.items shown) ∙ ap length h.cells ∙ length-map (row_nodes n script) celled ∙ nodes-length n script refl in
     omega (arith, all, few)
 
-pub plan_formed : (text : List ℕ) (n : Tree) (P : List Pair) (p : Plan) → IsUtf8 text → Derives text n P → rows n script ≤ 16777216 → IsPlan n p → is_formed (table_of p.table.rows.items p.table.total) ≡ true
-plan_formed text n P p u d few h =
+-- any place will do
+abbrev Anywhere : Token → Type 0
+Anywhere t = Unit {0}
+
+pub plan_formed : (language : Language) (text : List ℕ) (n : Tree) (P : List Pair) (p : Plan) → DerivesIn language text n P → rows n script ≤ 16777216 → IsPlan n p → is_formed (table_of p.table.rows.items p.table.total) ≡ true
+plan_formed language text n P p d few h =
     let all = sym (ap length h.cells) ∙ length-map p.table.rows.items shown in
     let short = plan_short n p few h in
     let whole = length-map p.table.rows.items shown in
     let formed : all_rows (map shown p.table.rows.items) ≡ true =
     subst (λ xs. all_rows xs ≡ true) (sym h.cells)
     (rows_formed (row_nodes n script)
-    (λ k m e. let x = row_somewhere text n P u d k m e in row_formed m (way_typed m x.rank x.has_in x.start x.way x.among) (let l = inner_rows n script refl k m e in omega (arith, l, few)))) in
+    (λ k m e. let x = rows_somewhere Token _ _ Anywhere (λ s e t q p. tt) d.1.2 tt script same refl k m e in row_formed m (way_typed m x.rank x.has_in x.start x.way x.among) (let l = inner_rows n script refl k m e in omega (arith, l, few)))) in
     and_from _ _ (small_number (length (map shown p.table.rows.items)) (omega (arith, short, whole)))
     (and_from _ _ formed (small_number p.table.total (total_small (least n script) p.table.total (below_more (least_below n script) few) h.total)))

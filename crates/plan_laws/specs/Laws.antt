@@ -5,7 +5,9 @@ use Rattle.tree.specs.declared.kind.Pair.{Pair}
 use Rattle.tree.specs.Tree.{Tree}
 use Rattle.language.specs.Pieces.{script}
 use Rattle.language.specs.RowPositions.{rows}
-use Rattle.language.specs.Claims.{Sound, Derives}
+use Rattle.language.specs.Claims.{Sound}
+use Rattle.language.specs.declared.Language.{Language}
+use Rattle.language.specs.Languages.{DerivesIn}
 use Rattle.cost_table.specs.Tables.{table_of}
 use Rattle.paren_planner.specs.declared.wrap_plan.Plan.{Plan}
 use Rattle.paren_planner.specs.Plans.{IsPlan}
@@ -24,8 +26,8 @@ PlanPasses = (n : Tree) (p : Plan) → IsPlan n p → first_fault (table_of p.ta
 abbrev pub PlanIsShort : Type 0
 PlanIsShort = (n : Tree) (p : Plan) → rows n script ≤ 16777216 → IsPlan n p → length p.table.rows.items ≤ 16777216
 
--- the table of a plan, for a script that some text derives, is read back from its text, in either format
+-- the table of a plan, for a script or module that some text derives in a language, is read back from its text, in either format
 abbrev pub PlanReadsBack : Type 0
 PlanReadsBack =
-    (text : List ℕ) (n : Tree) (P : List Pair) (p : Plan) → IsUtf8 text → Derives text n P → rows n script ≤ 16777216 → IsPlan n p → (f : Format) →
+    (language : Language) (text : List ℕ) (n : Tree) (P : List Pair) (p : Plan) → IsUtf8 text → DerivesIn language text n P → rows n script ≤ 16777216 → IsPlan n p → (f : Format) →
     let t = table_of p.table.rows.items p.table.total in IsTrue (is_formed t) × (read_text (table_text f t) ≡ is_table f t)

@@ -17,7 +17,7 @@ pub fn plan_is_short()
     ensures { PlanIsShort }
 {}
 
-/// The table of a plan, for a script that some text derives, is read back from its text, in either format.
+/// The table of a plan, for a script or module that some text derives in a language, is read back from its text, in either format.
 pub fn plan_reads_back()
     ensures { PlanReadsBack }
 {}

@@ -5,7 +5,7 @@ use Rattle.std.proofs.lemmas.List.{length-map}
 use Rattle.language.specs.Layout.{indent}
 use Rattle.printer.specs.declared.fragments.Fragment.{Fragment}
 use Rattle.printer.specs.declared.fragments.Fragment.TheVariants as own
-use Rattle.printer.specs.Bits.{Bit, token, own_text, newline, feeding, loosely, chunk, bit_of, bits_of, glued, fused}
+use Rattle.printer.specs.Bits.{Bit, token, own_text, newline, feeding, loosely, chunk, hashed, bit_of, bits_of, glued, fused}
 use Rattle.printer.specs.Sheets.{View, Writes, chunk_text, piece_text, pieces_text}
 
 abbrev pub bit_text : List ℕ → ℕ → Bool → Bit → List ℕ
@@ -15,6 +15,7 @@ bit_text w d b newline = 10 ∷ indent d
 bit_text w d b feeding = codes "\n"
 bit_text w d b loosely = cond b (codes " ") []
 bit_text w d b (chunk x y) = chunk_text x y w
+bit_text w d b hashed = codes "#" ++ w
 
 abbrev pub bits_text : List ℕ → ℕ → Bool → List Bit → List ℕ
 bits_text w d b [] = []
@@ -23,12 +24,7 @@ bits_text w d b (x ∷ xs) = bit_text w d b x ++ bits_text w d b xs
 module _ (w : List ℕ) (d : ℕ) (b : Bool) where
   piece_bit : (p : Fragment) → piece_text w d b p ≡ bit_text w d b (bit_of p)
   piece_bit (own.Token s) = refl
-  piece_bit own.NodeText = refl
-  piece_bit (own.TemplateElement x y) = refl
-  piece_bit own.Space = refl
-  piece_bit own.Line = refl
-  piece_bit own.LineFeed = refl
-  piece_bit own.SpaceAfterNumber = refl
+  piece_bit _ = refl
 
   pieces_bits : (ps : List Fragment) → pieces_text w d b ps ≡ bits_text w d b (bits_of ps)
   pieces_bits [] = refl
@@ -37,11 +33,7 @@ module _ (w : List ℕ) (d : ℕ) (b : Bool) where
   glued_text : (v : List ℕ) (bs : List Bit) → bits_text w d b (glued v bs) ≡ v ++ bits_text w d b bs
   glued_text v [] = refl
   glued_text v (token u ∷ bs) = append_assoc v u (bits_text w d b bs)
-  glued_text v (own_text ∷ bs) = refl
-  glued_text v (newline ∷ bs) = refl
-  glued_text v (feeding ∷ bs) = refl
-  glued_text v (loosely ∷ bs) = refl
-  glued_text v (chunk x y ∷ bs) = refl
+  glued_text v (_ ∷ bs) = refl
 
   fused_text : (bs : List Bit) → bits_text w d b (fused bs) ≡ bits_text w d b bs
   fused_text [] = refl
@@ -51,6 +43,7 @@ module _ (w : List ℕ) (d : ℕ) (b : Bool) where
   fused_text (feeding ∷ bs) = ap (λ t. codes "\n" ++ t) (fused_text bs)
   fused_text (loosely ∷ bs) = ap (λ t. cond b (codes " ") [] ++ t) (fused_text bs)
   fused_text (chunk x y ∷ bs) = ap (λ t. chunk_text x y w ++ t) (fused_text bs)
+  fused_text (hashed ∷ bs) = ap (λ t. (codes "#" ++ w) ++ t) (fused_text bs)
 
   -- what was written of pieces, as the text of these bits
   pub written_bits : {u v : View} (ps : List Fragment) (bs : List Bit) → bits_of ps ≡ fused bs → Writes u v (pieces_text w d b ps) → Writes u v (bits_text w d b bs)

@@ -83,11 +83,7 @@ missing_part f (Some x) false h = refl
 sited_bits : (w : List ℕ) (us : List Bit) (ms : List Mark) (ps : Parts) (xs : List Role) → Sited (marks_in w us ++ ms) ps xs → Sited ms ps xs
 sited_bits w [] ms ps xs s = s
 sited_bits w (token v ∷ us) ms ps xs s = sited_bits w us ms ps xs s
-sited_bits w (own_text ∷ us) ms ps xs s = sited_bits w us ms ps xs s
-sited_bits w (newline ∷ us) ms ps xs s = sited_bits w us ms ps xs s
-sited_bits w (feeding ∷ us) ms ps xs s = sited_bits w us ms ps xs s
-sited_bits w (loosely ∷ us) ms ps xs s = sited_bits w us ms ps xs s
-sited_bits w (chunk a b ∷ us) ms ps xs s = sited_bits w us ms ps xs s
+sited_bits w (_ ∷ us) ms ps xs s = sited_bits w us ms ps xs s
 
 sited_deep : (W : ℕ → Bool) (t : Chain) (cm rest : List Mark) (ps : Parts) (xs : List Role) → Sited (deep t cm rest) ps xs → Sited (cm ++ raised W t rest) ps xs
 sited_deep W lines cm rest ps xs s = s

@@ -3,7 +3,7 @@ use Rattle.std.proofs.Common.{◌≡◌, ℕ, zero, suc, ◌+◌, Bool, true, fa
 use Rattle.std.specs.Prelude.{slice_index_or, codes}
 use Rattle.std.proofs.lemmas.Bool.{false≢true}
 use Rattle.tree.specs.Tree.{Tree, Parts, none, part, gap}
-use Rattle.language.specs.Pieces.{Role, PieceOf, tok, may, many, ahead, unbroken, ending, open_parameters, close_parameters, sub, absent, never, lay}
+use Rattle.language.specs.Pieces.{Role, PieceOf, tok, may, many, ahead, unbroken, no_operand, ending, open_parameters, close_parameters, sub, absent, never, lay}
 use Rattle.language.specs.Pieces as piece
 use Rattle.language.specs.RowPositions.{rows, roles}
 use Rattle.language.specs.Layout.{layout, parts_layout, indent}
@@ -96,6 +96,12 @@ module _ (W : ℕ → Bool) where
   on_line qs (gap ps) r d b = refl
   on_line qs (part n ps) r d b = refl
 
+  bare_end : (qs : List (PieceOf Role)) (ps : Parts) (r d : ℕ) (b : Bool) → parts_layout W ps (no_operand ∷ qs) r d b ≡ parts_layout W ps qs r d b
+  unfolding layout parts_layout
+  bare_end qs none r d b = refl
+  bare_end qs (gap ps) r d b = refl
+  bare_end qs (part n ps) r d b = refl
+
   nothing : (qs : List (PieceOf Role)) (ps : Parts) (r d : ℕ) (b : Bool) → parts_layout W ps (never ∷ qs) r d b ≡ parts_layout W ps qs r d b
   unfolding layout parts_layout
   nothing qs none r d b = refl
@@ -159,4 +165,5 @@ module _ (W : ℕ → Bool) where
   layout_marks (many w ∷ qs) ps r d b h = many_miss w qs ps r d b ∙ layout_marks qs ps r d b h
   layout_marks (ahead w ∷ qs) ps r d b h = seen_ahead w qs ps r d b ∙ layout_marks qs ps r d b h
   layout_marks (unbroken ∷ qs) ps r d b h = on_line qs ps r d b ∙ layout_marks qs ps r d b h
+  layout_marks (no_operand ∷ qs) ps r d b h = bare_end qs ps r d b ∙ layout_marks qs ps r d b h
   layout_marks (never ∷ qs) ps r d b h = nothing qs ps r d b ∙ layout_marks qs ps r d b h

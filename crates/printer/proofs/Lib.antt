@@ -7,6 +7,7 @@ pub mod Layouts
 pub mod ListMarks
 pub mod Nodes
 pub mod OtherMarks
+pub mod ModuleMarks
 pub mod NodeFragments
 pub mod PlaceMarks
 pub mod FragmentsByPosition

@@ -12,9 +12,9 @@ use Rattle.language.specs.declared.Start.{Start}
 use Rattle.language.specs.declared.Start.TheVariants.{Any}
 use Rattle.language.specs.Vocabulary.{is_rest, is_spread, is_pattern, is_identifier, is_target}
 use Rattle.language.specs.Pieces as piece
-use Rattle.language.specs.Pieces.{Role, Slot, PieceOf, Piece, tok, may, many, ahead, unbroken, ending, open_parameters, close_parameters, sub, absent, never, lay, settle, settle_piece, put, put_at, sign, sp, is_none, separator, listed, elements, argument, pattern_element, parameters, bound, with_default}
+use Rattle.language.specs.Pieces.{Role, Slot, PieceOf, Piece, tok, may, many, ahead, unbroken, no_operand, ending, open_parameters, close_parameters, sub, absent, never, lay, settle, settle_piece, put, put_at, sign, sp, is_none, separator, listed, elements, argument, pattern_element, parameters, listed_before, bound, with_default}
 use Rattle.language.specs.Expressions.{template_elements, object_part, object_pattern_part, sequence}
-use Rattle.language.specs.Statements.{lines as table_lines, prologue, declarators, member_lines, is_directive}
+use Rattle.language.specs.Statements.{lines as table_lines, prologue, declarators, member_lines, is_directive, imported, exported, from_source, export_list, is_module_item, module_prologue}
 use Rattle.language.specs.Grammar.{can_run}
 use Rattle.printer.specs.Bits.{Mark, text, line, feed, here, marks_of, piece_marks, Bit, Chain, nothing, joined, commas, lines, feeds, parameters as parameter_chain}
 use Rattle.printer.specs.declared.site.Site.{Site}
@@ -43,6 +43,7 @@ marks-settled z i f (may w ∷ qs) = marks-settled z i f qs
 marks-settled z i f (many w ∷ qs) = marks-settled z i f qs
 marks-settled z i f (ahead w ∷ qs) = marks-settled z i f qs
 marks-settled z i f (unbroken ∷ qs) = marks-settled z i f qs
+marks-settled z i f (no_operand ∷ qs) = marks-settled z i f qs
 marks-settled z i f (ending e ∷ qs) = ap (λ ms. text (codes ";") ∷ ms) (marks-settled z i f qs)
 marks-settled z i f (open_parameters ∷ qs) = ap (λ ms. text (codes "(") ∷ ms) (marks-settled z i f qs)
 marks-settled z i f (close_parameters ∷ qs) = ap (λ ms. text (codes ")") ∷ ms) (marks-settled z i f qs)
@@ -110,6 +111,22 @@ element_standing b n = put_standing Plain (cond (is_rest (kind_of n)) (Some (pie
     of true o h = refl
     of false o h = h
 
+-- the last of these parts is a source, and no gap
+abbrev pub has_source : Parts → Bool
+has_source none = false
+has_source (gap ps) = has_source ps
+has_source (part n none) = true
+has_source (part n (gap ps)) = has_source (gap ps)
+has_source (part n (part m ps)) = has_source (part m ps)
+
+imported_standing : (n : Tree) → Standing Plain (imported n)
+imported_standing (node kind.ImportSpecifier w g s e ps) = stands refl
+imported_standing (node _ w g s e ps) = refused
+
+exported_standing : (n : Tree) → Standing Plain (exported n)
+exported_standing (node kind.ExportSpecifier w g s e ps) = stands refl
+exported_standing (node _ w g s e ps) = refused
+
 module _ (w : List ℕ) where
   abbrev Runs : List Piece → Type 0
   Runs qs = can_run qs ≡ true
@@ -122,6 +139,7 @@ module _ (w : List ℕ) where
   one_element (many _) x k l b qs ms h r = elim x [ ]
   one_element (ahead _) x k l b qs ms h r = elim x [ ]
   one_element unbroken x k l b qs ms h r = elim x [ ]
+  one_element no_operand x k l b qs ms h r = elim x [ ]
   one_element (ending _) x k l b qs ms h r = elim x [ ]
   one_element open_parameters x k l b qs ms h r = elim x [ ]
   one_element close_parameters x k l b qs ms h r = elim x [ ]
@@ -186,6 +204,53 @@ module _ (w : List ℕ) where
       of true = refl
       of false = refl
 
+  -- an element before the last but one is followed as in a list with commas
+  one_before : (n : Tree) (p : Piece) → Standing Plain p → (l : Bool) (xs : List Bit) (qs : List Piece) (ms : List Mark) → (Runs qs → piece_marks qs ≡ ms) → Runs ((p ∷ separator (kind_of n) l) ++ qs) →
+      piece_marks ((p ∷ separator (kind_of n) l) ++ qs) ≡ here Plain ∷ (marks_in w (Rattle.printer.specs.Bits.after_bits (parameter_chain xs) false false l) ++ ms)
+  one_before n p x true xs qs ms h r = one_element p x (kind_of n) true false qs ms h r
+  one_before n p x false xs qs ms h r = one_element p x (kind_of n) false false qs ms h r
+
+  -- names between braces, then the source
+  pub imports-marks : (xs : List Bit) (after : List Piece) (ends : List Mark) → piece_marks after ≡ marks_in w xs ++ here Plain ∷ ends → (i : ℕ) (ps : Parts) → Runs (listed_before imported after ps) → piece_marks (listed_before imported after ps) ≡ chain_marks w AllPlain (parameter_chain xs) i ps ++ ends
+  imports-marks xs after ends e i none r = absurd (false≢true r)
+  imports-marks xs after ends e i (gap ps) r = absurd (false≢true r)
+  imports-marks xs after ends e i (part n none) r = e ∙ sym (append_assoc (marks_in w xs) (here Plain ∷ []) ends)
+  imports-marks xs after ends e i (part n (gap ps)) r = absurd (false≢true r)
+  imports-marks xs after ends e i (part n (part m ps)) r =
+      one_before n (imported n) (imported_standing n) (is_none ps) xs (listed_before imported after (part m ps)) (chain_marks w AllPlain (parameter_chain xs) (suc i) (part m ps) ++ ends) (λ v. imports-marks xs after ends e (suc i) (part m ps) v) r
+      ∙ marks_append (here Plain) (marks_in w (Rattle.printer.specs.Bits.after_bits (parameter_chain xs) false false (is_none ps))) (chain_marks w AllPlain (parameter_chain xs) (suc i) (part m ps)) ends
+
+  -- the names of an export, then its source or a gap, which this stands before
+  abbrev pub export_chain : List Bit → List Bit → Bool → Chain
+  export_chain xs ys b = parameter_chain (cond b xs ys)
+
+  module _ (xs ys : List Bit) (b : Bool) where
+    one_named : (n : Tree) (l : Bool) (i : ℕ) (ps : Parts) (ends : List Mark) → l ≡ Rattle.spelling_table.specs.Outlines.is_before_last ps → is_none ps ≡ false → (Runs (export_list ps) → piece_marks (export_list ps) ≡ chain_marks w AllPlain (export_chain xs ys b) (suc i) ps ++ ends) →
+        Runs ((exported n ∷ separator (kind_of n) l) ++ export_list ps) → piece_marks ((exported n ∷ separator (kind_of n) l) ++ export_list ps) ≡ chain_marks w AllPlain (export_chain xs ys b) i (part n ps) ++ ends
+    one_named n l i none ends e f h r = absurd (cc)
+    one_named n l i (gap ps) ends e f h r =
+        one_before n (exported n) (exported_standing n) l (cond b xs ys) (export_list (gap ps)) (chain_marks w AllPlain (export_chain xs ys b) (suc i) (gap ps) ++ ends) h r
+        ∙ ap (λ v. here Plain ∷ (marks_in w (Rattle.printer.specs.Bits.after_bits (export_chain xs ys b) false false v) ++ (chain_marks w AllPlain (export_chain xs ys b) (suc i) (gap ps) ++ ends))) e
+        ∙ marks_append (here Plain) (marks_in w (Rattle.printer.specs.Bits.after_bits (export_chain xs ys b) false false (Rattle.spelling_table.specs.Outlines.is_before_last (gap ps)))) (chain_marks w AllPlain (export_chain xs ys b) (suc i) (gap ps)) ends
+    one_named n l i (part m ps) ends e f h r =
+        one_before n (exported n) (exported_standing n) l (cond b xs ys) (export_list (part m ps)) (chain_marks w AllPlain (export_chain xs ys b) (suc i) (part m ps) ++ ends) h r
+        ∙ ap (λ v. here Plain ∷ (marks_in w (Rattle.printer.specs.Bits.after_bits (export_chain xs ys b) false false v) ++ (chain_marks w AllPlain (export_chain xs ys b) (suc i) (part m ps) ++ ends))) e
+        ∙ marks_append (here Plain) (marks_in w (Rattle.printer.specs.Bits.after_bits (export_chain xs ys b) false false (Rattle.spelling_table.specs.Outlines.is_before_last (part m ps)))) (chain_marks w AllPlain (export_chain xs ys b) (suc i) (part m ps)) ends
+
+  pub exports-marks : (xs ys : List Bit) (ends : List Mark) → piece_marks (sign "}" ∷ from_source) ≡ marks_in w xs ++ here Plain ∷ ends → piece_marks (sign "}" ∷ absent ∷ ending piece.of_export ∷ []) ≡ marks_in w ys ++ here Plain ∷ ends →
+      (i : ℕ) (ps : Parts) → Runs (export_list ps) → piece_marks (export_list ps) ≡ chain_marks w AllPlain (export_chain xs ys (has_source ps)) i ps ++ ends
+  exports-marks xs ys ends e h i none r = absurd (false≢true r)
+  exports-marks xs ys ends e h i (gap none) r = h ∙ sym (append_assoc (marks_in w ys) (here Plain ∷ []) ends)
+  exports-marks xs ys ends e h i (gap (gap ps)) r = absurd (false≢true r)
+  exports-marks xs ys ends e h i (gap (part n ps)) r = absurd (false≢true r)
+  exports-marks xs ys ends e h i (part n none) r = e ∙ sym (append_assoc (marks_in w xs) (here Plain ∷ []) ends)
+  exports-marks xs ys ends e h i (part n (gap none)) r = one_named xs ys false n true i (gap none) ends refl refl (λ u. exports-marks xs ys ends e h (suc i) (gap none) u) r
+  exports-marks xs ys ends e h i (part n (gap (gap ps))) r = one_named xs ys (has_source (gap (gap ps))) n false i (gap (gap ps)) ends refl refl (λ u. exports-marks xs ys ends e h (suc i) (gap (gap ps)) u) r
+  exports-marks xs ys ends e h i (part n (gap (part m ps))) r = one_named xs ys (has_source (gap (part m ps))) n false i (gap (part m ps)) ends refl refl (λ u. exports-marks xs ys ends e h (suc i) (gap (part m ps)) u) r
+  exports-marks xs ys ends e h i (part n (part m none)) r = one_named xs ys true n true i (part m none) ends refl refl (λ u. exports-marks xs ys ends e h (suc i) (part m none) u) r
+  exports-marks xs ys ends e h i (part n (part m (gap ps))) r = one_named xs ys (has_source (part m (gap ps))) n false i (part m (gap ps)) ends refl refl (λ u. exports-marks xs ys ends e h (suc i) (part m (gap ps)) u) r
+  exports-marks xs ys ends e h i (part n (part m (part l ps))) r = one_named xs ys (has_source (part m (part l ps))) n false i (part m (part l ps)) ends refl refl (λ u. exports-marks xs ys ends e h (suc i) (part m (part l ps)) u) r
+
   pub declarators-marks : (a : Role) → site_of a ≡ Plain → (i : ℕ) (ps : Parts) (qs : List Piece) → Runs (declarators a ps ++ qs) → piece_marks (declarators a ps ++ qs) ≡ chain_marks w AllPlain commas i ps ++ piece_marks qs
   declarators-marks a e i none qs r = absurd (false≢true r)
   declarators-marks a e i (gap ps) qs r = absurd (false≢true r)
@@ -243,3 +308,13 @@ module _ (w : List ℕ) where
   items-marks r b i none qs u = refl
   items-marks r b i (gap ps) qs u = absurd (false≢true u)
   items-marks r b i (part n ps) qs u = ap₂ (λ x t. here x ∷ feed ∷ t) (item_plain r b) (items-marks r (b && is_directive n) (suc i) ps qs u)
+
+  module_item_plain : (m b : Bool) → site_of (cond m piece.module_item (cond b (piece.opening false) (piece.item false))) ≡ Plain
+  module_item_plain true b = refl
+  module_item_plain false true = refl
+  module_item_plain false false = refl
+
+  pub modules-marks : (b : Bool) (i : ℕ) (ps : Parts) (qs : List Piece) → Runs (module_prologue b ps ++ qs) → piece_marks (module_prologue b ps ++ qs) ≡ chain_marks w AllPlain feeds i ps ++ piece_marks qs
+  modules-marks b i none qs u = refl
+  modules-marks b i (gap ps) qs u = absurd (false≢true u)
+  modules-marks b i (part n ps) qs u = ap₂ (λ x t. here x ∷ feed ∷ t) (module_item_plain (is_module_item (kind_of n)) b) (modules-marks (b && is_directive n) (suc i) ps qs u)

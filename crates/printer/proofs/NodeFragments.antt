@@ -19,12 +19,9 @@ use Rattle.printer.specs.Printed.{mark_of, marks_in, marks_text, deep, Reads, Pr
 module _ (W : ℕ → Bool) where
   bit_marks : (w : List ℕ) (x : Bit) (ms : List Mark) (ps : Parts) (xs : List Role) (r d : ℕ) (b : Bool) → marks_text W (mark_of w x ∷ ms) ps xs r d b ≡ bit_text w d b x ++ marks_text W ms ps xs r d b
   bit_marks w (token v) ms ps xs r d b = refl
-  bit_marks w own_text ms ps xs r d b = refl
-  bit_marks w newline ms ps xs r d b = refl
-  bit_marks w feeding ms ps xs r d b = refl
   bit_marks w loosely ms ps xs r d true = refl
   bit_marks w loosely ms ps xs r d false = refl
-  bit_marks w (chunk x y) ms ps xs r d b = refl
+  bit_marks w _ ms ps xs r d b = refl
 
   bits_marks : (w : List ℕ) (us : List Bit) (ms : List Mark) (ps : Parts) (xs : List Role) (r d : ℕ) (b : Bool) → marks_text W (marks_in w us ++ ms) ps xs r d b ≡ bits_text w d b us ++ marks_text W ms ps xs r d b
   bits_marks w [] ms ps xs r d b = refl

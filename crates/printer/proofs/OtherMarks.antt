@@ -5,15 +5,17 @@ use Rattle.std.proofs.lemmas.Bool.{false≢true}
 use Rattle.tree.specs.declared.kind.Kind.{Kind}
 use Rattle.tree.specs.declared.kind.Kind.TheVariants as kind
 use Rattle.tree.specs.declared.kind.Flags.{Flags}
+use Rattle.tree.specs.declared.kind.Form.{Form}
+use Rattle.tree.specs.declared.kind.Form.TheVariants as form
 use Rattle.tree.specs.Tree.{Parts, none, part, gap}
 use Rattle.language.specs.declared.Rank.TheVariants.{Expression, Assignment, Primary}
 use Rattle.language.specs.declared.Start.TheVariants.{Any}
 use Rattle.language.specs.FirstPart.{lead, others}
 use Rattle.language.specs.Vocabulary.{is, among}
 use Rattle.language.specs.Pieces as piece
-use Rattle.language.specs.Pieces.{Role, Piece, Slot, Spelling, at, only, only_at, put, put_at, sub, tok, may, many, ahead, unbroken, ending, absent, never, lay, sign, term, sp, is_none, listed, elements, parameters, pattern_element, open_parameters, close_parameters, bound, with_default}
+use Rattle.language.specs.Pieces.{Role, Piece, Slot, Spelling, at, only, only_at, put, put_at, sub, tok, may, many, ahead, unbroken, no_operand, ending, absent, never, lay, sign, term, sp, is_none, listed, elements, parameters, pattern_element, open_parameters, close_parameters, bound, with_default}
 use Rattle.language.specs.Expressions.{chain_parts, member_link, call_link, arguments, selector, in_brackets, first_has_optional, chain_element, properties, pattern_properties, keyed, object_pattern_part, shorthand_pattern, assignment, methods}
-use Rattle.language.specs.Statements.{statements, items, openings, braced, lines as table_lines, prologue, member_lines, members, class_members, heads, declarator_ways, cases, handlers, declaration, declarators, is_declaration, for_left, whole, end_of}
+use Rattle.language.specs.Statements.{statements, items, openings, braced, lines as table_lines, prologue, member_lines, members, class_members, heads, declarator_ways, cases, handlers, declaration, declarators, is_declaration, for_left, for_words, whole, end_of}
 use Rattle.language.specs.Edges.{last_edge, ends_in_if}
 use Rattle.language.specs.Grammar.{can_run}
 use Rattle.spelling_table.specs.Outlines.{parts_after}
@@ -26,7 +28,7 @@ use Rattle.printer.specs.Shapes.{shape_by_kind, method_shape, head_shape}
 use Rattle.printer.specs.Printed.{marks_in, front_marks, chain_marks, shape_marks}
 use Rattle.printer.proofs.ListMarks.{Standing, stands, refused, put_standing, Asks, bound_plain, lines-marks, members-marks, body-marks, declarators-marks}
 use Rattle.printer.proofs.FirstWayFragments.{Means, counts_up, Shaped, nowhere, one, shaped_if}
-use Rattle.printer.proofs.TableMarks.{fixed_shape, fixed_means, function_means, class_means}
+use Rattle.printer.proofs.TableMarks.{with_form, fixed_shape, fixed_means, function_means, class_means}
 
 module _ (w : List ℕ) where
   abbrev pub Of : Kind → Flags → Parts → List Mark
@@ -58,6 +60,12 @@ module _ (w : List ℕ) where
   class_body_means g none r c = refl
   class_body_means g (gap ps) r c = absurd (false≢true r)
   class_body_means g (part n ps) r c = ap (λ t. text (codes "{") ∷ deeper ∷ t) (filled_braces (member_lines (part n ps)) (lay piece.shallower ∷ lay piece.line ∷ []) (sign "}" ∷ []) 0 (part n ps) r (members-marks w 0 (part n ps) (lay piece.shallower ∷ lay piece.line ∷ sign "}" ∷ [])))
+
+  -- a static block
+  pub static_block_means : (g : Flags) (ps : Parts) → Means ps (Of kind.StaticBlock g ps) (at Primary (term "static" ∷ sp ∷ braced ps (table_lines (piece.item false) ps)))
+  static_block_means g none r c = refl
+  static_block_means g (gap ps) r c = absurd (false≢true r)
+  static_block_means g (part n ps) r c = ap (λ t. text (codes "static") ∷ text (codes " ") ∷ t) (block_means g (piece.item false) refl (part n ps) r c)
 
   -- the cases of a switch in their braces, by whether there is one
   abbrev case_marks : Bool → Parts → List Mark
@@ -99,6 +107,7 @@ module _ (w : List ℕ) where
       go (many _) x u y = elim x [ ]
       go (ahead _) x u y = elim x [ ]
       go unbroken x u y = elim x [ ]
+      go no_operand x u y = elim x [ ]
       go (ending _) x u y = elim x [ ]
       go open_parameters x u y = elim x [ ]
       go close_parameters x u y = elim x [ ]
@@ -112,6 +121,18 @@ module _ (w : List ℕ) where
       of : (b : Bool) → Asks (cond b ForDeclaration Plain) (cond b (Some (piece.head false)) (bound false (lead ps)))
       of true = refl
       of false = bound_plain false (lead ps)
+
+  abbrev behind_for : List Mark → List Mark
+  behind_for (a ∷ b ∷ ms) = ms
+  behind_for ms = ms
+
+  -- with the words of a for-of
+  for_of_means : (x : Form) (g : Flags) (ps : Parts) (q : Role) (r : Bool) → site_of q ≡ Plain → Means ps (Of kind.ForOfStatement (with_form x g) ps)
+      (at Primary (term "for" ∷ sp ∷ for_words x ++ sign "(" ∷ for_left ps ∷ sp ∷ term "of" ∷ sp ∷ put q ∷ sign ")" ∷ sp ∷ put (piece.statement r) ∷ []))
+  for_of_means form.Init g ps q r f u c = each_means kind.ForOfStatement (with_form form.Init g) ps "of" q r (for_left ps) (left_standing ps) f refl u c
+  for_of_means form.Async g ps q r f u c = ap (λ t. text (codes "for") ∷ text (codes " ") ∷ text (codes "await") ∷ text (codes " ") ∷ behind_for t)
+      (each_means kind.ForOfStatement (with_form form.Init g) ps "of" q r (for_left ps) (left_standing ps) f refl u c)
+  for_of_means _ g ps q r f u c = absurd (false≢true u)
 
   begins_asked : (b : Bool) → site_of (cond b (piece.head true) (piece.expr Expression false Any)) ≡ cond b ForDeclaration Plain
   begins_asked true = refl
@@ -161,6 +182,7 @@ module _ (w : List ℕ) where
   word_ways k s g (part n ps) (many _) e x h = elim x [ ]
   word_ways k s g (part n ps) (ahead _) e x h = elim x [ ]
   word_ways k s g (part n ps) unbroken e x h = elim x [ ]
+  word_ways k s g (part n ps) no_operand e x h = elim x [ ]
   word_ways k s g (part n ps) (ending _) e x h = elim x [ ]
   word_ways k s g (part n ps) open_parameters e x h = elim x [ ]
   word_ways k s g (part n ps) close_parameters e x h = elim x [ ]
@@ -202,7 +224,7 @@ module _ (w : List ℕ) where
   statements_shaped r kind.WhileStatement g ps = plain_one kind.WhileStatement g ps _ refl refl refl (λ c. c)
   statements_shaped r kind.ForStatement g ps = for_ways g ps _ r (begins_asked (is_declaration (lead ps)))
   statements_shaped r kind.ForInStatement g ps = one (each_means kind.ForInStatement g ps "in" (piece.expr Expression true Any) r (for_left ps) (left_standing ps) refl refl)
-  statements_shaped r kind.ForOfStatement g ps = one (each_means kind.ForOfStatement g ps "of" (piece.expr Assignment true Any) r (for_left ps) (left_standing ps) refl refl)
+  statements_shaped r kind.ForOfStatement g ps = one (for_of_means g.form g ps (piece.expr Assignment true Any) r refl)
   statements_shaped r kind.ContinueStatement g ps = word_ways kind.ContinueStatement "continue" g ps (put piece.name) _ (stands refl) (λ qs. refl)
   statements_shaped r kind.BreakStatement g ps = word_ways kind.BreakStatement "break" g ps (put piece.name) _ (stands refl) (λ qs. refl)
   statements_shaped r kind.ReturnStatement g ps = shaped_if r (λ e. word_ways kind.ReturnStatement "return" g ps whole _ (stands refl) (λ qs. refl)) (λ e. nowhere)
@@ -213,10 +235,10 @@ module _ (w : List ℕ) where
   statements_shaped r kind.DebuggerStatement g ps = plain_one kind.DebuggerStatement g ps _ refl refl refl (λ c. c)
   statements_shaped r _ g ps = nowhere
 
-  function_item : (g : Flags) (ps : Parts) → Means ps (Of kind.FunctionDeclaration g ps) (at Primary (Rattle.language.specs.Expressions.function_pieces ps))
-  function_item g ps r c = function_means w g ps r c
+  pub function_item : (g : Flags) (ps : Parts) → Means ps (Of kind.FunctionDeclaration g ps) (at Primary (Rattle.language.specs.Expressions.function_pieces g.form ps))
+  function_item g ps r c = function_means w g.form g ps r c
 
-  class_item : (g : Flags) (ps : Parts) → Means ps (Of kind.ClassDeclaration g ps) (at Primary (Rattle.language.specs.Expressions.class_pieces ps))
+  pub class_item : (g : Flags) (ps : Parts) → Means ps (Of kind.ClassDeclaration g ps) (at Primary (Rattle.language.specs.Expressions.class_pieces ps))
   class_item g ps r c = class_means w g ps r c
 
   pub items_shaped : (r : Bool) (k : Kind) (g : Flags) (ps : Parts) → Shaped ps (Of k g ps) (items r k w g ps)

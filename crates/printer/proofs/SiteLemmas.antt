@@ -27,7 +27,7 @@ use Rattle.row_laws.specs.Lined.{leads}
 use Rattle.row_laws.specs.Agreements.{agrees, PartsAgree}
 use Rattle.row_laws.proofs.Table.{is_row as is_row_role}
 use Rattle.row_laws.proofs.Walk.{node_suits}
-use Rattle.language.specs.Pieces.{PieceOf, tok, may, many, ahead, unbroken, ending, open_parameters, close_parameters, sub, absent, never, lay}
+use Rattle.language.specs.Pieces.{PieceOf, tok, may, many, ahead, unbroken, no_operand, ending, open_parameters, close_parameters, sub, absent, never, lay}
 use Rattle.language.specs.Layout.{inside, first_way}
 use Rattle.language.specs.LayoutFits.{fits, parts_fit, lines_up}
 use Rattle.printer.specs.Printed.{spelled_so, Sited, Stands}
@@ -107,6 +107,7 @@ sited (may w ∷ qs) ps h = sited qs ps h
 sited (many w ∷ qs) ps h = sited qs ps h
 sited (ahead w ∷ qs) ps h = sited qs ps h
 sited (unbroken ∷ qs) ps h = sited qs ps h
+sited (no_operand ∷ qs) ps h = sited qs ps h
 sited (ending e ∷ qs) ps h = sited qs ps h
 sited (open_parameters ∷ qs) ps h = sited qs ps h
 sited (close_parameters ∷ qs) ps h = sited qs ps h

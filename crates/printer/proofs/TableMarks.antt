@@ -5,19 +5,22 @@ use Rattle.std.proofs.lemmas.Bool.{false≢true, true≢false}
 use Rattle.tree.specs.declared.kind.Kind.{Kind}
 use Rattle.tree.specs.declared.kind.Kind.TheVariants as kind
 use Rattle.tree.specs.declared.kind.Flags.{Flags}
+use Rattle.tree.specs.declared.kind.Form.{Form}
+use Rattle.tree.specs.declared.kind.Form.TheVariants as form
 use Rattle.tree.specs.Tree.{Tree, node, Parts, none, part, gap}
 use Rattle.tokens.specs.declared.token.TokenClass.TheVariants as class
 use Rattle.language.specs.declared.Rank.{Rank}
 use Rattle.language.specs.declared.Start.TheVariants.{Any, NoBrace}
-use Rattle.language.specs.declared.Rank.TheVariants.{Assignment, Conditional, Exponentiation, Unary, Update, LeftHandSide, Call, Member, Primary}
+use Rattle.language.specs.declared.Rank.TheVariants.{Assignment, Conditional, Exponentiation, Shift, Unary, Update, LeftHandSide, Call, Member, Primary}
 use Rattle.language.specs.FirstPart.{lead, others}
-use Rattle.language.specs.Vocabulary.{is, among, Operator, op_binary, op_power, op_update, is_update_op, operators, operator_among, operator_of, is_assignment, is_update_operator, is_prefix, is_reserved, literal_class, is_name, is_target, is_pattern, is_super, is_word_operator, is_open_number}
+use Rattle.language.specs.Vocabulary.{is, among, Operator, op_binary, op_power, op_update, is_update_op, operators, operator_among, operator_of, is_assignment, is_update_operator, is_prefix, is_reserved, literal_class, is_name, is_target, is_pattern, is_super, is_private, is_word_operator, is_open_number}
 use Rattle.language.specs.Pieces as piece
-use Rattle.language.specs.Pieces.{Piece, Slot, Spelling, at, only, put, sub, tok, lay, sign, term, sp, is_none, listed, elements, argument, parameters, unbroken, open_parameters, close_parameters}
-use Rattle.language.specs.Expressions.{expressions, arguments, selector, after_number, in_brackets, template_elements, object_part, function_pieces, class_pieces, arrow_end, op_arrow, joined as joined_spelling, sequence, first_has_optional, binary_ways, logical_ways, infix_pieces}
+use Rattle.language.specs.Pieces.{Piece, Slot, Spelling, at, only, put, sub, tok, lay, sign, term, sp, is_none, listed, elements, argument, parameters, unbroken, no_operand, open_parameters, close_parameters}
+use Rattle.language.specs.Expressions.{named as named_pieces, yields, private_in, arrow_words, arrow_opening, arrow_closing, expressions, arguments, selector, after_number, in_brackets, template_elements, object_part, function_pieces, class_pieces, arrow_end, op_arrow, joined as joined_spelling, sequence, first_has_optional, binary_ways, logical_ways, infix_pieces}
 use Rattle.language.specs.Grammar.{can_run}
 use Rattle.language.proofs.table.LooserPositions.{same}
-use Rattle.language.proofs.table.TidyTable.{new-fits, arrow-fits}
+use Rattle.language.proofs.table.TidyTable.{new-fits, arrow-fits, bare_arrow}
+use Rattle.language.proofs.table.Begins.{among_by}
 use Rattle.spelling_table.specs.Outlines.{parts_after}
 use Rattle.printer.specs.declared.site.Site.TheVariants.{Plain}
 use Rattle.printer.specs.declared.part_sites.PartSites.{PartSites}
@@ -33,6 +36,9 @@ use Rattle.printer.proofs.FirstWayFragments.{Means, counts_up, Shaped, nowhere, 
 -- behind a list nothing is left
 pub closed : (ms ns : List Mark) → ms ≡ ns → ms ≡ ns ++ []
 closed ms ns e = e ∙ sym (append-nil ns)
+
+abbrev pub with_form : Form → Flags → Flags
+with_form x g = record g { form = x }
 
 module _ (w : List ℕ) where
   pub arguments-marks : (i : ℕ) (ps : Parts) → can_run (arguments ps) ≡ true → piece_marks (arguments ps) ≡ text (codes "(") ∷ (chain_marks w AllPlain commas i ps ++ text (codes ")") ∷ [])
@@ -71,10 +77,19 @@ module _ (w : List ℕ) where
   fixed_one k g ps z qs e f h c = one (fixed_means k g ps z qs e f h c)
 
   -- functions and classes, as expressions and as declarations
-  pub function_means : (g : Flags) (ps : Parts) → Means ps (Of kind.FunctionExpression g ps) (at Primary (function_pieces ps))
-  function_means g none r c = absurd (false≢true r)
-  function_means g (gap ps) r c = ap (λ t. text (codes "function") ∷ text (codes " ") ∷ here Plain ∷ text (codes "(") ∷ t) (parameters_of 1 ps r)
-  function_means g (part n ps) r c = ap (λ t. text (codes "function") ∷ text (codes " ") ∷ here Plain ∷ text (codes "(") ∷ t) (parameters_of 1 ps r)
+  -- what stands behind a function's words
+  behind_words : (ps : Parts) → can_run ((sp ∷ named_pieces ps) ++ sign "(" ∷ parameters (sign ")" ∷ sp ∷ put piece.body ∷ []) (others ps)) ≡ true →
+      piece_marks ((sp ∷ named_pieces ps) ++ sign "(" ∷ parameters (sign ")" ∷ sp ∷ put piece.body ∷ []) (others ps)) ≡ text (codes " ") ∷ here Plain ∷ text (codes "(") ∷ (chain_marks w AllPlain (Rattle.printer.specs.Bits.parameters close_space) 1 (others ps) ++ [])
+  behind_words none r = absurd (false≢true r)
+  behind_words (gap ps) r = ap (λ t. text (codes " ") ∷ here Plain ∷ text (codes "(") ∷ t) (parameters_of 1 ps r)
+  behind_words (part n ps) r = ap (λ t. text (codes " ") ∷ here Plain ∷ text (codes "(") ∷ t) (parameters_of 1 ps r)
+
+  pub function_means : (x : Form) (g : Flags) (ps : Parts) → Means ps (Of kind.FunctionExpression (with_form x g) ps) (at Primary (function_pieces x ps))
+  function_means form.Init g ps r c = ap (λ t. text (codes "function") ∷ t) (behind_words ps r)
+  function_means form.Generator g ps r c = ap (λ t. text (codes "function") ∷ text (codes "*") ∷ t) (behind_words ps r)
+  function_means form.Async g ps r c = ap (λ t. text (codes "async") ∷ text (codes " ") ∷ text (codes "function") ∷ t) (behind_words ps r)
+  function_means form.AsyncGenerator g ps r c = ap (λ t. text (codes "async") ∷ text (codes " ") ∷ text (codes "function") ∷ text (codes "*") ∷ t) (behind_words ps r)
+  function_means _ g ps r c = absurd (false≢true r)
 
   pub class_means : (g : Flags) (ps : Parts) → Means ps (Of kind.ClassExpression g ps) (at Primary (class_pieces ps))
   class_means g none r c = absurd (false≢true r)
@@ -124,34 +139,45 @@ module _ (w : List ℕ) where
 
   -- Arrows
 
-  arrow_after : (g : Flags) → piece_marks (close_parameters ∷ arrow_end g) ≡ marks_in w (spelled ")" ∷ between "=>") ++ here Plain ∷ []
-  arrow_after g = of g.expression
+  arrow_marks : (g : Flags) → piece_marks (arrow_end g) ≡ text (codes " ") ∷ text (codes "=>") ∷ text (codes " ") ∷ here Plain ∷ []
+  arrow_marks g = of g.expression
     where
-      of : (b : Bool) → piece_marks (close_parameters ∷ unbroken ∷ sp ∷ sign "=>" ∷ sp ∷ cond b (sub (piece.tail Assignment NoBrace)) (put piece.body) ∷ []) ≡ marks_in w (spelled ")" ∷ between "=>") ++ here Plain ∷ []
+      of : (b : Bool) → piece_marks (unbroken ∷ sp ∷ sign "=>" ∷ sp ∷ cond b (sub (piece.tail Assignment NoBrace)) (put piece.body) ∷ []) ≡ text (codes " ") ∷ text (codes "=>") ∷ text (codes " ") ∷ here Plain ∷ []
       of true = refl
       of false = refl
 
-  parenthesised : (g : Flags) (ps : Parts) → is_single ps ≡ false → Means ps (Of kind.ArrowFunctionExpression g ps) (at Assignment (open_parameters ∷ parameters (close_parameters ∷ arrow_end g) ps))
-  parenthesised g ps e r c =
-      ap (λ t. text (codes "(") ∷ t) (closed _ _ (parameters-marks w (spelled ")" ∷ between "=>") (close_parameters ∷ arrow_end g) (arrow_after g) 0 ps r))
-      ∙ ap (λ b. shape_marks w (Rattle.printer.specs.Shapes.arrow_shape b) ps) (sym e)
-
-  single_means : (g : Flags) (ps : Parts) → is_single ps ≡ true → (counts_up (piece_marks (put piece.name ∷ arrow_end g)) ps ≡ true → is_none (parts_after 2 ps) ≡ true) → Means ps (Of kind.ArrowFunctionExpression g ps) (at Assignment (put piece.name ∷ arrow_end g))
-  single_means g ps e k r c = fixed_shape (Rattle.printer.specs.Shapes.arrow_shape true) ps (put piece.name ∷ arrow_end g) refl refl (of g.expression) (k c) ∙ ap (λ b. shape_marks w (Rattle.printer.specs.Shapes.arrow_shape b) ps) (sym e)
+  arrow_after : (x : Form) (g : Flags) → piece_marks (arrow_closing x ∷ arrow_end g) ≡ marks_in w (spelled ")" ∷ between "=>") ++ here Plain ∷ []
+  arrow_after x g = behind x ∙ ap (λ t. text (codes ")") ∷ t) (arrow_marks g)
     where
-      of : (b : Bool) → piece_marks (put piece.name ∷ unbroken ∷ sp ∷ sign "=>" ∷ sp ∷ cond b (sub (piece.tail Assignment NoBrace)) (put piece.body) ∷ []) ≡ front_marks w AllPlain 0 (Rattle.printer.specs.Shapes.arrow_shape true).front ps []
-      of true = refl
-      of false = refl
+      behind : (x : Form) → piece_marks (arrow_closing x ∷ arrow_end g) ≡ text (codes ")") ∷ piece_marks (arrow_end g)
+      behind form.Async = refl
+      behind _ = refl
 
-  arrow_ways : (g : Flags) (ps : Parts) → Shaped ps (Of kind.ArrowFunctionExpression g ps) (op_arrow g ps)
-  arrow_ways g none = one (parenthesised g none refl)
-  arrow_ways g (gap ps) = one (parenthesised g (gap ps) refl)
-  arrow_ways g (part n none) = one (parenthesised g (part n none) refl)
-  arrow_ways g (part n (gap ps)) = one (parenthesised g (part n (gap ps)) refl)
-  arrow_ways g (part n (part b (part m ps))) = one (parenthesised g (part n (part b (part m ps))) refl)
-  arrow_ways g (part n (part b (gap ps))) = one (parenthesised g (part n (part b (gap ps))) refl)
-  arrow_ways g (part (node kind.Identifier v h s e qs) (part b none)) = two (single_means g (part (node kind.Identifier v h s e qs) (part b none)) refl (λ c. refl)) (λ a x. arrow-fits a g x)
-  arrow_ways g (part (node k v h s e qs) (part b none)) = one (parenthesised g (part (node k v h s e qs) (part b none)) refl)
+  abbrev in_parameters : Form → Flags → Parts → List Piece
+  in_parameters x g ps = arrow_words x ++ arrow_opening x ∷ parameters (arrow_closing x ∷ arrow_end g) ps
+
+  behind_open : (x : Form) (g : Flags) (ps : Parts) → can_run (parameters (arrow_closing x ∷ arrow_end g) ps) ≡ true → piece_marks (parameters (arrow_closing x ∷ arrow_end g) ps) ≡ chain_marks w AllPlain (Rattle.printer.specs.Bits.parameters (spelled ")" ∷ between "=>")) 0 ps ++ []
+  behind_open x g ps r = closed _ _ (parameters-marks w (spelled ")" ∷ between "=>") (arrow_closing x ∷ arrow_end g) (arrow_after x g) 0 ps r)
+
+  parenthesised : (x : Form) (g : Flags) (ps : Parts) → is_single ps ≡ false → Means ps (Of kind.ArrowFunctionExpression (with_form x g) ps) (at Assignment (in_parameters x g ps))
+  parenthesised form.Init g ps e r c = ap (λ t. text (codes "(") ∷ t) (behind_open form.Init g ps r) ∙ ap (λ b. shape_marks w (Rattle.printer.specs.Shapes.arrow_shape false b) ps) (sym e)
+  parenthesised form.Async g ps e r c = ap (λ t. text (codes "async") ∷ text (codes " ") ∷ text (codes "(") ∷ t) (behind_open form.Async g ps r) ∙ ap (λ b. shape_marks w (Rattle.printer.specs.Shapes.arrow_shape true b) ps) (sym e)
+  parenthesised _ g ps e r c = absurd (false≢true r)
+
+  single_means : (x : Form) (g : Flags) (n b : Tree) → is_single (part n (part b none)) ≡ true → Means (part n (part b none)) (Of kind.ArrowFunctionExpression (with_form x g) (part n (part b none))) (at Assignment (bare_arrow x g))
+  single_means form.Init g n b e r c = ap (λ t. here Plain ∷ t) (arrow_marks g) ∙ ap (λ v. shape_marks w (Rattle.printer.specs.Shapes.arrow_shape false v) (part n (part b none))) (sym e)
+  single_means form.Async g n b e r c = ap (λ t. text (codes "async") ∷ text (codes " ") ∷ here Plain ∷ t) (arrow_marks g) ∙ ap (λ v. shape_marks w (Rattle.printer.specs.Shapes.arrow_shape true v) (part n (part b none))) (sym e)
+  single_means _ g n b e r c = absurd (false≢true r)
+
+  arrow_ways : (x : Form) (g : Flags) (ps : Parts) → Shaped ps (Of kind.ArrowFunctionExpression (with_form x g) ps) (op_arrow (with_form x g) ps)
+  arrow_ways x g none = one (parenthesised x g none refl)
+  arrow_ways x g (gap ps) = one (parenthesised x g (gap ps) refl)
+  arrow_ways x g (part n none) = one (parenthesised x g (part n none) refl)
+  arrow_ways x g (part n (part b (part m ps))) = one (parenthesised x g (part n (part b (part m ps))) refl)
+  arrow_ways x g (part n (part b (gap ps))) = one (parenthesised x g (part n (part b (gap ps))) refl)
+  arrow_ways x g (part n (gap ps)) = one (parenthesised x g (part n (gap ps)) refl)
+  arrow_ways x g (part (node kind.Identifier v h s e qs) (part b none)) = two (single_means x g (node kind.Identifier v h s e qs) b refl) (λ a i. arrow-fits x a g i)
+  arrow_ways x g (part (node k v h s e qs) (part b none)) = one (parenthesised x g (part (node k v h s e qs) (part b none)) refl)
 
   -- Members
 
@@ -175,13 +201,32 @@ module _ (w : List ℕ) where
   super_open (part (node kind.Literal v h s e us) ps) x = absurd (false≢true x)
   super_open (part (node _ v h s e us) ps) x = refl
 
-  member_fits : (s : Slot) (g : Flags) (ps : Parts) (z : Rank) (qs : List Piece) → slot_site s ≡ Plain → g.optional ≡ false → piece_marks qs ≡ cond (not g.computed && after_open_number ps) (loose ∷ []) [] ++ piece_marks (selector g) → Means ps (Of kind.MemberExpression g ps) (at z (sub s ∷ qs))
-  member_fits s g ps z qs e o h r c =
-      ap₂ (λ x t. here x ∷ t) e h ∙ of g.computed (after_open_number ps) (sym (ap (λ t. counts_up t (others ps)) h) ∙ c)
+  abbrev property_piece : Bool → Piece
+  property_piece v = put (cond v piece.private_name piece.word)
+
+  abbrev selector_by : Bool → Bool → List Piece
+  selector_by u v = cond u in_brackets (sign "." ∷ property_piece v ∷ [])
+
+  -- what is asked of a property, whatever its kind
+  property_plain : (v : Bool) → slot_site (piece.fixed (cond v piece.private_name piece.word)) ≡ Plain
+  property_plain true = refl
+  property_plain false = refl
+
+  abbrev plainly : Bool → List Mark
+  plainly u = cond u (text (codes "[") ∷ here Plain ∷ text (codes "]") ∷ []) (text (codes ".") ∷ here Plain ∷ [])
+
+  selector_marks : (u v : Bool) → piece_marks (selector_by u v) ≡ plainly u
+  selector_marks true v = refl
+  selector_marks false v = ap (λ x. text (codes ".") ∷ here x ∷ []) (property_plain v)
+
+  member_fits : (s : Slot) (g : Flags) (ps : Parts) (z : Rank) (j : Kind) (qs : List Piece) → slot_site s ≡ Plain → g.optional ≡ false → piece_marks qs ≡ cond (not g.computed && after_open_number ps) (loose ∷ []) [] ++ piece_marks (selector g j) → Means ps (Of kind.MemberExpression g ps) (at z (sub s ∷ qs))
+  member_fits s g ps z j qs e o h r c =
+      ap₂ (λ x t. here x ∷ t) e (h ∙ ap (λ t. cond (not g.computed && after_open_number ps) (loose ∷ []) [] ++ t) (selector_marks g.computed (is_private j)))
+      ∙ of g.computed (after_open_number ps) (sym (ap (λ t. counts_up t (others ps)) (h ∙ ap (λ t. cond (not g.computed && after_open_number ps) (loose ∷ []) [] ++ t) (selector_marks g.computed (is_private j)))) ∙ c)
       ∙ ap (λ b. shape_marks w (Rattle.printer.specs.Shapes.member_shape b g.computed (after_open_number ps)) ps) (sym o)
     where
-      of : (u v : Bool) → counts_up (cond (not u && v) (loose ∷ []) [] ++ piece_marks (cond u in_brackets (sign "." ∷ put piece.word ∷ []))) (others ps) ≡ true →
-          here Plain ∷ (cond (not u && v) (loose ∷ []) [] ++ piece_marks (cond u in_brackets (sign "." ∷ put piece.word ∷ []))) ≡ shape_marks w (Rattle.printer.specs.Shapes.member_shape false u v) ps
+      of : (u v : Bool) → counts_up (cond (not u && v) (loose ∷ []) [] ++ plainly u) (others ps) ≡ true →
+          here Plain ∷ (cond (not u && v) (loose ∷ []) [] ++ plainly u) ≡ shape_marks w (Rattle.printer.specs.Shapes.member_shape false u v) ps
       of true true k = fixed_shape (Rattle.printer.specs.Shapes.member_shape false true true) ps (sub piece.callee ∷ in_brackets) refl refl refl k
       of true false k = fixed_shape (Rattle.printer.specs.Shapes.member_shape false true false) ps (sub piece.callee ∷ in_brackets) refl refl refl k
       of false true k = fixed_shape (Rattle.printer.specs.Shapes.member_shape false false true) ps (sub piece.callee ∷ lay piece.loose ∷ sign "." ∷ put piece.word ∷ []) refl refl refl k
@@ -190,8 +235,8 @@ module _ (w : List ℕ) where
   members : (g : Flags) (ps : Parts) → Shaped ps (Of kind.MemberExpression g ps) (expressions kind.MemberExpression w g ps)
   unfolding expressions
   members g ps = shaped_if g.optional (λ e. nowhere) (λ e. shaped_if (is_super (lead ps))
-      (λ u. one (member_fits (piece.fixed piece.base) g ps Member (selector g) refl e (sym (ap (λ b. cond b (loose ∷ []) [] ++ piece_marks (selector g)) (none_behind u)))))
-      (λ u. one (member_fits piece.callee g ps Member (after_number ps g ++ selector g) refl e (after_marks ps g (selector g)))))
+      (λ u. one (member_fits (piece.fixed piece.base) g ps Member kind.Identifier (selector g kind.Identifier) refl e (sym (ap (λ b. cond b (loose ∷ []) [] ++ piece_marks (selector g kind.Identifier)) (none_behind u)))))
+      (λ u. one (member_fits piece.callee g ps Member (lead (others ps)) (after_number ps g ++ selector g (lead (others ps))) refl e (after_marks ps g (selector g (lead (others ps)))))))
     where
       never : (b : Bool) → (not b && false) ≡ false
       never true = refl
@@ -297,6 +342,10 @@ module _ (w : List ℕ) where
   binaries g ps op_power = one (infix_fixed kind.BinaryExpression g ps Exponentiation (piece.lead Update) (piece.fixed (piece.expr Exponentiation true Any)) refl refl refl)
   binaries g ps _ = nowhere
 
+  private_means : (g : Flags) (ps : Parts) → is w "in" ≡ true → Means ps (Of kind.BinaryExpression g ps) private_in
+  private_means g ps e r c = ap (λ v. here Plain ∷ text (codes " ") ∷ text v ∷ text (codes " ") ∷ here Plain ∷ []) (sym (among_by (λ v. v ≡ codes "in") w ("in" ∷ []) (ap (λ b. b || false) e) (refl, tt))) ∙
+      fixed_shape (fronted ([] ∷ infix_bits ∷ []) []) ps (put piece.private_name ∷ infix_pieces w ++ sub (piece.tail Shift Any) ∷ []) refl refl refl c
+
   logicals : (g : Flags) (ps : Parts) (o : Operator) → Shaped ps (Of kind.LogicalExpression g ps) (logical_ways w o)
   logicals g ps (op_binary true z q) = one (joins kind.LogicalExpression g ps z q refl)
   logicals g ps (op_binary false z q) = nowhere
@@ -306,6 +355,22 @@ module _ (w : List ℕ) where
   unfolding expressions
   assignments g ps = shaped_if (not (is_assignment w)) (λ e. nowhere) (λ e. shaped_if (is_target (lead ps)) (λ u. one (infix_fixed kind.AssignmentExpression g ps Assignment (piece.lead LeftHandSide) (piece.tail Assignment Any) refl refl refl))
       (λ u. shaped_if (is w "=" && is_pattern (lead ps)) (λ v. one (infix_fixed kind.AssignmentExpression g ps Assignment piece.lead_pattern (piece.tail Assignment Any) refl refl refl)) (λ v. nowhere)))
+
+  -- a `yield`, by its form
+  yields_shaped : (x : Form) (g : Flags) (ps : Parts) → Shaped ps (Of kind.YieldExpression (with_form x g) ps) (yields x ps)
+  yields_shaped form.Init g (gap none) = fixed_one kind.YieldExpression (with_form form.Init g) (gap none) Assignment _ refl refl refl same_count
+  yields_shaped form.Init g (part n none) = fixed_one kind.YieldExpression (with_form form.Init g) (part n none) Assignment _ refl refl refl same_count
+  yields_shaped form.Generator g (part n none) = fixed_one kind.YieldExpression (with_form form.Generator g) (part n none) Assignment _ refl refl refl same_count
+  yields_shaped form.Init g none = nowhere
+  yields_shaped form.Init g (gap (gap ps)) = nowhere
+  yields_shaped form.Init g (gap (part m ps)) = nowhere
+  yields_shaped form.Init g (part n (gap ps)) = nowhere
+  yields_shaped form.Init g (part n (part m ps)) = nowhere
+  yields_shaped form.Generator g none = nowhere
+  yields_shaped form.Generator g (gap ps) = nowhere
+  yields_shaped form.Generator g (part n (gap ps)) = nowhere
+  yields_shaped form.Generator g (part n (part m ps)) = nowhere
+  yields_shaped _ g ps = nowhere
 
   sequences : (g : Flags) (ps : Parts) → Shaped ps (Of kind.SequenceExpression g ps) (expressions kind.SequenceExpression w g ps)
   unfolding expressions
@@ -332,20 +397,23 @@ module _ (w : List ℕ) where
   expressions_shaped kind.ThisExpression g ps n = fixed_one kind.ThisExpression g ps Primary _ refl refl refl same_count
   expressions_shaped kind.ArrayExpression g ps n = one (array_means g ps)
   expressions_shaped kind.ObjectExpression g ps n = one (object_means g ps)
-  expressions_shaped kind.FunctionExpression g ps n = one (function_means g ps)
+  expressions_shaped kind.FunctionExpression g ps n = one (function_means g.form g ps)
   expressions_shaped kind.ClassExpression g ps n = one (class_means g ps)
   expressions_shaped kind.TemplateLiteral g ps n = one (template_means g ps)
-  expressions_shaped kind.ArrowFunctionExpression g ps n = arrow_ways g ps
+  expressions_shaped kind.ArrowFunctionExpression g ps n = arrow_ways g.form g ps
   expressions_shaped kind.TaggedTemplateExpression g ps n = one (tagged_fixed g ps)
   expressions_shaped kind.MemberExpression g ps n = members g ps
   expressions_shaped kind.CallExpression g ps n = calls g ps
   expressions_shaped kind.NewExpression g ps n = news g ps
-  expressions_shaped kind.MetaProperty g ps n = shaped_if (Rattle.language.specs.Expressions.lead_is ps "new" && Rattle.language.specs.Expressions.lead_is (others ps) "target") (λ e. fixed_one kind.MetaProperty g ps Member _ refl refl refl same_count) (λ e. nowhere)
+  expressions_shaped kind.MetaProperty g ps n = shaped_if (Rattle.language.specs.Expressions.lead_is ps "new" && Rattle.language.specs.Expressions.lead_is (others ps) "target") (λ e. fixed_one kind.MetaProperty g ps Member _ refl refl refl same_count)
+      (λ e. shaped_if (Rattle.language.specs.Expressions.lead_is ps "import" && Rattle.language.specs.Expressions.lead_is (others ps) "meta") (λ u. fixed_one kind.MetaProperty g ps Member _ refl refl refl same_count) (λ u. nowhere))
   expressions_shaped kind.ImportExpression g ps n = fixed_one kind.ImportExpression g ps Call _ refl refl refl same_count
   expressions_shaped kind.ChainExpression g ps n = shaped_if (first_has_optional ps) (λ e. fixed_one kind.ChainExpression g ps LeftHandSide _ refl refl refl same_count) (λ e. nowhere)
   expressions_shaped kind.UpdateExpression g ps n = updates g ps n
   expressions_shaped kind.UnaryExpression g ps n = unaries g ps n
-  expressions_shaped kind.BinaryExpression g ps n = binaries g ps (operator_of w)
+  expressions_shaped kind.AwaitExpression g ps n = fixed_one kind.AwaitExpression g ps Unary _ refl refl refl same_count
+  expressions_shaped kind.YieldExpression g ps n = yields_shaped g.form g ps
+  expressions_shaped kind.BinaryExpression g ps n = shaped_if (is_private (lead ps)) (λ e. shaped_if (is w "in") (λ u. one (private_means g ps u)) (λ u. nowhere)) (λ e. binaries g ps (operator_of w))
   expressions_shaped kind.LogicalExpression g ps n = logicals g ps (operator_of w)
   expressions_shaped kind.ConditionalExpression g ps n = fixed_one kind.ConditionalExpression g ps Conditional _ refl refl refl same_count
   expressions_shaped kind.AssignmentExpression g ps n = assignments g ps

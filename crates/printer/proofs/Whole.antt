@@ -1,12 +1,13 @@
 -- From marks to the layout of a node.
-use Rattle.std.proofs.Common.{◌≡◌, ℕ, zero, suc, ◌+◌, Bool, true, false, not, cond, nat_eq, List, [], ◌∷◌, ◌++◌, length, refl, sym, ap, ap₂, ◌∙◌, subst, append_assoc, arith}
+use Rattle.std.proofs.Common.{◌≡◌, ℕ, zero, suc, ◌+◌, ◌-◌, Bool, true, false, not, cond, nat_eq, List, [], ◌∷◌, ◌++◌, length, refl, sym, ap, ap₂, ◌∙◌, subst, append_assoc, arith}
 use Rattle.std.specs.Prelude.{Some, None, ◌&&◌, ◌||◌, codes}
 use Prim.Native.String.{String}
 use Rattle.std.proofs.lemmas.Slice.Eq.{bytes_eq-Decides}
 use Rattle.tree.specs.declared.kind.Kind.{Kind}
 use Rattle.tree.specs.declared.kind.Kind.TheVariants as kind
 use Rattle.tree.specs.declared.kind.Flags.{Flags}
-use Rattle.tree.specs.Tree.{Tree, node, Parts, none, part, gap, kind_of, text_of, flags_of, parts_of, bare_parts}
+use Rattle.tree.specs.Uses.{is_async}
+use Rattle.tree.specs.Tree.{Tree, node, Parts, none, part, gap, kind_of, text_of, flags_of, parts_of, part_count, bare_parts}
 use Rattle.language.specs.declared.Rank.{Rank}
 use Rattle.language.specs.declared.Rank.TheVariants.{Expression, LeftHandSide, Update}
 use Rattle.tokens.specs.declared.token.TokenClass.TheVariants.{Punctuator}
@@ -15,8 +16,8 @@ use Rattle.language.specs.declared.Start.TheVariants.{Any}
 use Rattle.language.specs.FirstPart.{lead, others}
 use Rattle.language.specs.Vocabulary.{is, is_target}
 use Rattle.language.specs.Pieces as piece
-use Rattle.language.specs.Pieces.{Role, expr, PieceOf, tok, may, many, ahead, unbroken, ending, open_parameters, close_parameters, sub, absent, never, lay, is_none}
-use Rattle.language.specs.Expressions.{expressions}
+use Rattle.language.specs.Pieces.{Role, expr, PieceOf, tok, may, many, ahead, unbroken, no_operand, ending, open_parameters, close_parameters, sub, absent, never, lay, is_none}
+use Rattle.language.specs.Expressions.{expressions, value_form}
 use Rattle.language.specs.Statements.{statements, items, openings}
 use Rattle.language.specs.Grammar.{ways, spellings}
 use Rattle.language.specs.RowPositions.{has_row, rows, roles, parts_rows, first_roles}
@@ -30,7 +31,7 @@ use Rattle.printer.specs.declared.fragments.SignOperator.TheVariants.{Plus, Minu
 use Rattle.printer.specs.declared.part_sites.PartSites.{PartSites}
 use Rattle.printer.specs.Sites.{site_in, site_at}
 use Rattle.printer.specs.Bits.{Mark, here, marks_of, Bit, Chain, Shape, before_bits, after_bits}
-use Rattle.printer.specs.Shapes.{shape_by_kind, sign_of_text, sign_at, has_part, is_single, after_open_number, if_shape, try_shape, for_shape, declarator_shape, word_shape, braced_shape, case_shape, catch_shape, arrow_shape, class_shape, member_shape}
+use Rattle.printer.specs.Shapes.{shape_by_kind, sign_of_text, sign_at, has_part, is_single, after_open_number, if_shape, try_shape, for_shape, declarator_shape, word_shape, braced_shape, case_shape, catch_shape, arrow_shape, class_shape, member_shape, yield_shape, field_shape, import_shape, alias_shape, export_shape, export_all_shape, is_default_declaration, default_shape, property_shape, class_member_shape}
 use Rattle.printer.proofs.FragmentsByPosition.{shape_by}
 use Rattle.printer.specs.Sheets.{View, Writes}
 use Rattle.printer.proofs.WrittenTexts.{leads_then, leads_at}
@@ -70,6 +71,23 @@ open-bare none = refl
 open-bare (gap ps) = refl
 open-bare (part (node k w g s e us) ps) = refl
 
+lead-bare : (ps : Parts) → lead (bare_parts ps) ≡ lead ps
+lead-bare none = refl
+lead-bare (gap ps) = refl
+lead-bare (part (node k w g s e us) ps) = refl
+
+form-bare : (ps : Parts) → value_form (bare_parts ps) ≡ value_form ps
+form-bare none = refl
+form-bare (gap ps) = refl
+form-bare (part n none) = refl
+form-bare (part n (gap ps)) = refl
+form-bare (part n (part (node k w g s e us) ps)) = refl
+
+count-bare : (ps : Parts) → part_count (bare_parts ps) ≡ part_count ps
+count-bare none = refl
+count-bare (part n ps) = ap (λ c. c + 1) (count-bare ps)
+count-bare (gap ps) = ap (λ c. c + 1) (count-bare ps)
+
 shape-bare : (k : Kind) (w : List ℕ) (g : Flags) (ps : Parts) → shape_by_kind k w g (bare_parts ps) ≡ shape_by_kind k w g ps
 shape-bare kind.IfStatement w g ps = ap if_shape (part-bare ps 2)
 shape-bare kind.TryStatement w g ps = ap₂ try_shape (part-bare ps 1) (part-bare ps 2)
@@ -83,7 +101,18 @@ shape-bare kind.ClassBody w g ps = ap (λ b. braced_shape [] (Rattle.printer.spe
 shape-bare kind.SwitchStatement w g ps = ap (λ b. braced_shape (Rattle.printer.specs.Shapes.headed "switch" ∷ []) (Rattle.printer.specs.Shapes.spelled ")" ∷ Rattle.printer.specs.Shapes.gapped ∷ Rattle.printer.specs.Shapes.spelled "{" ∷ []) (not b)) (ap is_none (others-bare ps) ∙ none-bare (others ps))
 shape-bare kind.SwitchCase w g ps = ap case_shape (part-bare ps 0)
 shape-bare kind.CatchClause w g ps = ap catch_shape (part-bare ps 0)
-shape-bare kind.ArrowFunctionExpression w g ps = ap arrow_shape (single-bare ps)
+shape-bare kind.ArrowFunctionExpression w g ps = ap (arrow_shape (is_async g.form)) (single-bare ps)
+shape-bare kind.YieldExpression w g ps = ap (yield_shape g.form) (part-bare ps 0)
+shape-bare kind.Property w g ps = ap (λ x. property_shape g.form x g.computed) (form-bare ps)
+shape-bare kind.MethodDefinition w g ps = ap (λ x. class_member_shape g.is_static g.form x g.computed) (form-bare ps)
+shape-bare kind.PropertyDefinition w g ps = ap (field_shape g.is_static g.computed) (part-bare ps 1)
+shape-bare kind.StaticBlock w g ps = ap (λ b. braced_shape [] (Rattle.printer.specs.Shapes.spelled "static" ∷ Rattle.printer.specs.Shapes.gapped ∷ Rattle.printer.specs.Shapes.spelled "{" ∷ []) (not b)) (none-bare ps)
+shape-bare kind.ImportDeclaration w g ps = ap₂ import_shape (lead-bare ps) (ap lead (others-bare ps) ∙ lead-bare (others ps))
+shape-bare kind.ImportSpecifier w g ps = ap alias_shape (part-bare ps 1)
+shape-bare kind.ExportSpecifier w g ps = ap alias_shape (part-bare ps 1)
+shape-bare kind.ExportNamedDeclaration w g ps = ap₂ export_shape (part-bare ps 0) (ap (λ c. has_part (bare_parts ps) (c - 1)) (count-bare ps) ∙ part-bare ps (part_count ps - 1))
+shape-bare kind.ExportDefaultDeclaration w g ps = ap (λ k. default_shape (is_default_declaration k)) (lead-bare ps)
+shape-bare kind.ExportAllDeclaration w g ps = ap export_all_shape (part-bare ps 0)
 shape-bare kind.ClassExpression w g ps = ap₂ class_shape (part-bare ps 0) (part-bare ps 1)
 shape-bare kind.ClassDeclaration w g ps = ap₂ class_shape (part-bare ps 0) (part-bare ps 1)
 shape-bare kind.MemberExpression w g ps = ap (member_shape g.optional g.computed) (open-bare ps)
@@ -95,11 +124,6 @@ place-bare (at.TemplateElement a b) k w g ps = refl
 place-bare (at.Method x) k w g ps = refl
 place-bare (at.ForDeclaration b) k w g ps = refl
 place-bare _ k w g ps = shape-bare k w g ps
-
-lead-bare : (ps : Parts) → lead (bare_parts ps) ≡ lead ps
-lead-bare none = refl
-lead-bare (gap ps) = refl
-lead-bare (part (node k w g s e us) ps) = refl
 
 site-bare : (p : PartSites) (i : ℕ) (ps : Parts) → site_at p i (bare_parts ps) ≡ site_at p i ps
 site-bare p i ps = ap₂ (site_in p i) (lead-bare ps) (ap is_none (others-bare ps) ∙ none-bare (others ps))
@@ -140,6 +164,7 @@ lines_counts (may w ∷ qs) ps h = lines_counts qs ps h
 lines_counts (many w ∷ qs) ps h = lines_counts qs ps h
 lines_counts (ahead w ∷ qs) ps h = lines_counts qs ps h
 lines_counts (unbroken ∷ qs) ps h = lines_counts qs ps h
+lines_counts (no_operand ∷ qs) ps h = lines_counts qs ps h
 lines_counts (ending e ∷ qs) ps h = lines_counts qs ps h
 lines_counts (open_parameters ∷ qs) ps h = lines_counts qs ps h
 lines_counts (close_parameters ∷ qs) ps h = lines_counts qs ps h

@@ -1,6 +1,6 @@
 -- What stands between the parts of a node, and how: bits of its own, and marks, where its own text is known.
 use Rattle.std.specs.Prelude.{ℕ, Bool, true, false, cond, List, [], ◌∷◌, ◌++◌, codes, map}
-use Rattle.language.specs.Pieces.{Role, Piece, PieceOf, tok, may, many, ahead, unbroken, ending, open_parameters, close_parameters, sub, absent, never, lay}
+use Rattle.language.specs.Pieces.{Role, Piece, PieceOf, tok, may, many, ahead, unbroken, no_operand, ending, open_parameters, close_parameters, sub, absent, never, lay}
 use Rattle.language.specs.Pieces as piece
 use Rattle.printer.specs.declared.fragments.Fragment.{Fragment}
 use Rattle.printer.specs.declared.fragments.Fragment.TheVariants as own
@@ -28,6 +28,7 @@ marks_by f (may w ∷ qs) = marks_by f qs
 marks_by f (many w ∷ qs) = marks_by f qs
 marks_by f (ahead w ∷ qs) = marks_by f qs
 marks_by f (unbroken ∷ qs) = marks_by f qs
+marks_by f (no_operand ∷ qs) = marks_by f qs
 marks_by f (ending e ∷ qs) = text (codes ";") ∷ marks_by f qs
 marks_by f (open_parameters ∷ qs) = text (codes "(") ∷ marks_by f qs
 marks_by f (close_parameters ∷ qs) = text (codes ")") ∷ marks_by f qs
@@ -55,11 +56,14 @@ pub data Bit : Type 0 where
   token : List ℕ → Bit
   own_text newline feeding loosely : Bit
   chunk : Bool → Bool → Bit
+  -- the own text behind `#`
+  hashed : Bit
 
 abbrev pub bit_of : Fragment → Bit
 bit_of (own.Token s) = token s.now
 bit_of own.NodeText = own_text
 bit_of (own.TemplateElement a b) = chunk a b
+bit_of own.PrivateText = hashed
 bit_of own.Space = token (codes " ")
 bit_of own.Line = newline
 bit_of own.LineFeed = feeding
@@ -80,6 +84,8 @@ chain_of series.Joined = joined
 chain_of series.Commas = commas
 chain_of series.Parameters = parameters (token (codes ")") ∷ token (codes " ") ∷ [])
 chain_of series.ArrowParameters = parameters (token (codes ")") ∷ token (codes " ") ∷ token (codes "=>") ∷ token (codes " ") ∷ [])
+chain_of series.Specifiers = parameters (token (codes "}") ∷ [])
+chain_of series.SpecifiersFrom = parameters (token (codes "}") ∷ token (codes " ") ∷ token (codes "from") ∷ token (codes " ") ∷ [])
 chain_of series.Lines = lines
 chain_of series.Feeds = feeds
 

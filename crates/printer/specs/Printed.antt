@@ -1,11 +1,11 @@
 -- What is written of a tree, mark by mark.
-use Rattle.std.specs.Prelude.{◌≡◌, ℕ, zero, suc, ◌+◌, Bool, true, false, not, cond, ◌&&◌, nat_eq, slice_index_or, List, [], ◌∷◌, ◌++◌, length}
+use Rattle.std.specs.Prelude.{◌≡◌, ℕ, zero, suc, ◌+◌, Bool, true, false, not, cond, ◌&&◌, nat_eq, slice_index_or, List, [], ◌∷◌, ◌++◌, codes, length}
 use Rattle.tree.specs.Tree.{Tree, Parts, none, part, gap}
 use Rattle.language.specs.Pieces.{Role, PieceOf, is_none}
 use Rattle.language.specs.RowPositions.{rows, parts_rows, first_roles}
 use Rattle.language.specs.Layout.{some_way, indent, first_way, next_role, layout, parts_layout}
 use Rattle.spelling_table.specs.Outlines.{parts_after, is_before_last}
-use Rattle.printer.specs.Bits.{Mark, text, line, feed, deeper, shallower, loose, here, apart, Bit, token, own_text, newline, feeding, loosely, chunk, Chain, lines, Shape, before_bits, after_bits}
+use Rattle.printer.specs.Bits.{Mark, text, line, feed, deeper, shallower, loose, here, apart, Bit, token, own_text, newline, feeding, loosely, chunk, hashed, Chain, lines, Shape, before_bits, after_bits}
 use Rattle.language.specs.LayoutFits.{lines_up, parts_fit}
 use Rattle.printer.specs.Sheets.{View, Leads, flag_at, chunk_text, sign_code}
 use Rattle.printer.specs.declared.fragments.SignOperator.{SignOperator}
@@ -24,6 +24,7 @@ mark_of w newline = line
 mark_of w feeding = feed
 mark_of w loosely = loose
 mark_of w (chunk a b) = text (chunk_text a b w)
+mark_of w hashed = text (codes "#" ++ w)
 
 abbrev pub marks_in : List ℕ → List Bit → List Mark
 marks_in w [] = []

@@ -55,6 +55,7 @@ abbrev pub piece_text : List ℕ → ℕ → Bool → Fragment → List ℕ
 piece_text w d b (own.Token s) = s.now
 piece_text w d b own.NodeText = w
 piece_text w d b (own.TemplateElement x y) = chunk_text x y w
+piece_text w d b own.PrivateText = codes "#" ++ w
 piece_text w d b own.Space = codes " "
 piece_text w d b own.Line = 10 ∷ indent d
 piece_text w d b own.LineFeed = codes "\n"

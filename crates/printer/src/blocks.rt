@@ -11,6 +11,9 @@ use crate::shared_fragments::CLOSE_SPACE;
 /// `{`.
 const BRACE: &[Fragment] = &[Fragment::Token("{")];
 
+/// `static {`.
+const STATIC_BRACE: &[Fragment] = &[Fragment::Token("static {")];
+
 /// `}`.
 const END_BRACE: &[Fragment] = &[Fragment::Token("}")];
 
@@ -28,6 +31,12 @@ static BLOCK: Frame = list_frame!(BRACE, Lines, LINE_END_BRACE);
 
 /// The frame of an empty block: `{}`.
 static EMPTY_BLOCK: Frame = list_frame!(BRACE, Nothing, END_BRACE);
+
+/// The frame of a static block that isn't empty.
+static STATIC_BLOCK: Frame = list_frame!(STATIC_BRACE, Lines, LINE_END_BRACE);
+
+/// The frame of an empty static block.
+static EMPTY_STATIC_BLOCK: Frame = list_frame!(STATIC_BRACE, Nothing, END_BRACE);
 
 /// The frame of a `switch` with cases, each on a line of its own.
 static CASES: Frame = Frame {
@@ -76,6 +85,17 @@ pub(crate) fn braced(filled: bool) -> &'static Frame
     ensures { shape_of result.now ≡ fused_shape (braced_shape [] (spelled "{" ∷ []) filled) }
 {
     if filled { &BLOCK } else { &EMPTY_BLOCK }
+}
+
+/// A static block.
+pub(crate) fn static_block_frame(filled: bool) -> &'static Frame
+    ensures { shape_of result.now ≡ fused_shape (braced_shape [] (spelled "static" ∷ gapped ∷ spelled "{" ∷ []) filled) }
+{
+    if filled {
+        &STATIC_BLOCK
+    } else {
+        &EMPTY_STATIC_BLOCK
+    }
 }
 
 /// A switch, by whether it has cases.

@@ -185,12 +185,21 @@ impl<'w> Emitter<'w> {
                 is_last,
                 out,
             ),
+            Fragment::PrivateText => self.push_private_text(framed.node.text(), out),
             Fragment::Space => self.push(" ", out),
             Fragment::Line => self.push_line(framed.depth, out),
             Fragment::LineFeed => self.push("\n", out),
             Fragment::SpaceAfterNumber if previous_is_bare => self.push(" ", out),
             Fragment::SpaceAfterNumber => {}
         }
+    }
+
+    /// Writes a name behind `#`.
+    fn push_private_text<O: TextSink>(&mut self, text: &str, out: &mut O)
+        ensures { Writes (seen (O.stands out.old self.old.room) self.old) (seen (O.stands out.new self.new.room) self.new) (codes "#" ++ text.now) }
+    {
+        self.push("#", out);
+        self.push(text, out);
     }
 
     /// Writes a template's part between its delimiters.

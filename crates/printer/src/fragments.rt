@@ -15,6 +15,8 @@ pub enum Fragment {
     NodeText,
     /// The node's own text as a part of a template, with what opens and closes it.
     TemplateElement { is_first: bool, is_last: bool },
+    /// The node's own text behind `#`.
+    PrivateText,
     /// A space.
     Space,
     /// A line feed, and two spaces for each level.
@@ -42,6 +44,10 @@ pub enum ListLayout {
     Lines,
     /// Each with a line feed behind it.
     Feeds,
+    /// Specifiers of an export with commas between them; then `}`, and a gap.
+    Specifiers,
+    /// Specifiers with commas between them; then `} from ` and the source.
+    SpecifiersFrom,
 }
 
 /// What stands round the parts of a node.
@@ -92,6 +98,12 @@ const FEED: &[Fragment] = &[Fragment::LineFeed];
 
 /// `) `.
 const CLOSE_SPACE: &[Fragment] = &[Fragment::Token(") ")];
+
+/// `}`.
+const CLOSE_BRACE: &[Fragment] = &[Fragment::Token("}")];
+
+/// `} from `.
+const CLOSE_FROM: &[Fragment] = &[Fragment::Token("} from ")];
 
 /// `) => `.
 const CLOSE_ARROW: &[Fragment] = &[Fragment::Token(") => ")];
@@ -160,6 +172,8 @@ pub(crate) fn before(series: ListLayout, is_last: bool) -> &'static [Fragment]
     match series {
         ListLayout::Parameters if is_last => CLOSE_SPACE,
         ListLayout::ArrowParameters if is_last => CLOSE_ARROW,
+        ListLayout::Specifiers if is_last => CLOSE_BRACE,
+        ListLayout::SpecifiersFrom if is_last => CLOSE_FROM,
         ListLayout::Lines => LINE,
         _ => NO_PIECES,
     }
@@ -173,6 +187,7 @@ pub(crate) fn after(series: ListLayout, is_gap: bool, behind: usize) -> &'static
         ListLayout::Commas if behind > 0 => SEPARATOR,
         ListLayout::Commas if is_gap => COMMA,
         ListLayout::Parameters | ListLayout::ArrowParameters if behind > 1 => SEPARATOR,
+        ListLayout::Specifiers | ListLayout::SpecifiersFrom if behind > 1 => SEPARATOR,
         ListLayout::Feeds => FEED,
         _ => NO_PIECES,
     }

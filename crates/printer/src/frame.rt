@@ -1,17 +1,23 @@
 //! What stands round the parts of a node, by its site and its kind. Where more than these decides, a function of the kind's family does.
 
-ghost use Rattle.std.specs.Prelude.{◌≡◌};
+ghost use Rattle.std.specs.Prelude.{◌≡◌, [], ◌∷◌};
 ghost use Rattle.tree.specs.Node.{node_tree};
 ghost use Rattle.tree.specs.Tree.{kind_of, text_of, flags_of, parts_of};
 ghost use Rattle.printer.specs.Bits.{shape_of, fused_shape};
-ghost use Rattle.printer.specs.Shapes.{shape_on, shape_by_kind};
+ghost use Rattle.printer.specs.Shapes.{for_of_shape, function_bits, function_list_shape, shape_on, shape_by_kind, yield_shape};
 ghost use Rattle.printer.specs.Sites.{is_word};
 
-use crate::blocks::{braced, case_frame, catch_frame, switch_frame};
-use crate::definitions::{arrow_frame, class_frame, class_member_frame, is_single, property_frame};
+use crate::blocks::{braced, case_frame, catch_frame, static_block_frame, switch_frame};
+use crate::definitions::{
+    arrow_frame, class_frame, class_member_frame, field_frame, is_single, property_frame,
+};
 use crate::expressions::{call_frame, is_open_number, member_frame, unary_frame, update_frame};
 use crate::fragments::{
     Fragment, Frame, ListLayout, arguments_frame, asking_frame, front_frame, list_frame,
+};
+use crate::modules::{
+    NAMESPACE, ONE_NAME, alias_frame, default_frame, export_all_frame, export_frame, import_frame,
+    is_default_declaration,
 };
 use crate::part_sites::PartSites;
 use crate::shared_fragments::{
@@ -21,7 +27,8 @@ use crate::site::{Site, is_plain_site};
 use crate::statements::{
     break_frame, continue_frame, declarator_frame, for_frame, if_frame, return_frame, try_frame,
 };
-use tree::{Kind, Node};
+use spellings::value_form;
+use tree::{Form, Kind, Node};
 
 /// The operator, which is the node's text, between spaces.
 const INFIX: &[Fragment] = &[Fragment::Space, Fragment::NodeText, Fragment::Space];
@@ -165,6 +172,30 @@ static NEW: Frame = arguments_frame!(&[&[Fragment::Token("new ")]], OPEN);
 /// The frame of a function with its word: its name, if any, its parameters and its body.
 static NAMED_FUNCTION: Frame = function_frame!(FUNCTION);
 
+/// The same of a generator function.
+static GENERATOR: Frame = function_frame!(&[Fragment::Token("function* ")]);
+
+/// The same of an async function.
+static ASYNC_FUNCTION: Frame = function_frame!(&[Fragment::Token("async function ")]);
+
+/// The same of an async generator function.
+static ASYNC_GENERATOR: Frame = function_frame!(&[Fragment::Token("async function* ")]);
+
+/// The frame of a private name.
+static PRIVATE_NAME: Frame = front_frame!(&[], &[Fragment::PrivateText]);
+
+/// The frame of `await`.
+static AWAIT: Frame = front_frame!(&[&[Fragment::Token("await ")]], &[]);
+
+/// The frame of `yield` with an operand.
+static YIELD: Frame = front_frame!(&[&[Fragment::Token("yield ")]], &[]);
+
+/// The frame of `yield` without an operand.
+static BARE_YIELD: Frame = front_frame!(&[&[Fragment::Token("yield")]], &[]);
+
+/// The frame of `yield*`.
+static DELEGATE: Frame = front_frame!(&[&[Fragment::Token("yield* ")]], &[]);
+
 /// With nothing at its end.
 static SCRIPT: Frame = list_frame!(&[], Feeds, &[Fragment::Token("")]);
 
@@ -200,6 +231,12 @@ static FOR_IN: Frame = asking_frame!(LoopHead, &[FOR, IN, CLOSE_SPACE]);
 
 /// The frame of for-of.
 static FOR_OF: Frame = asking_frame!(LoopHead, &[FOR, OF, CLOSE_SPACE]);
+
+/// The frame of `for await`.
+static FOR_AWAIT: Frame = asking_frame!(
+    LoopHead,
+    &[&[Fragment::Token("for await (")], OF, CLOSE_SPACE]
+);
 
 /// What stands round the parts of a node at a site.
 pub(crate) fn frame_of(node: Node, site: Site) -> &'static Frame
@@ -242,13 +279,30 @@ fn frame_by_kind(node: Node) -> &'static Frame
         Kind::MemberExpression => member_frame(node.flags(), is_open_number(node)),
         Kind::CallExpression => call_frame(node.flags().optional),
         Kind::NewExpression => &NEW,
-        Kind::FunctionExpression | Kind::FunctionDeclaration => &NAMED_FUNCTION,
-        Kind::ArrowFunctionExpression => arrow_frame(is_single(node)),
+        Kind::FunctionExpression | Kind::FunctionDeclaration => function_frame(node.flags().form),
+        Kind::ArrowFunctionExpression => {
+            arrow_frame(node.flags().form.is_async(), is_single(node))
+        }
+        Kind::PrivateIdentifier => &PRIVATE_NAME,
+        Kind::AwaitExpression => &AWAIT,
+        Kind::YieldExpression => yield_frame(node.flags().form, has_part(node, 0)),
         Kind::ClassExpression | Kind::ClassDeclaration => {
             class_frame(has_part(node, 0), has_part(node, 1))
         }
-        Kind::Property => property_frame(node.flags()),
-        Kind::MethodDefinition => class_member_frame(node.flags()),
+        Kind::Property => property_frame(node.flags(), value_form(node)),
+        Kind::MethodDefinition => class_member_frame(node.flags(), value_form(node)),
+        Kind::PropertyDefinition => field_frame(node.flags(), has_part(node, 1)),
+        Kind::StaticBlock => static_block_frame(is_filled(node, 0)),
+        Kind::ImportDeclaration => import_frame(node),
+        Kind::ImportDefaultSpecifier => &ONE_NAME,
+        Kind::ImportNamespaceSpecifier => &NAMESPACE,
+        Kind::ImportSpecifier | Kind::ExportSpecifier => alias_frame(has_part(node, 1)),
+        Kind::ExportNamedDeclaration => {
+            let last = node.part_count().saturating_sub(1);
+            export_frame(has_part(node, 0), has_part(node, last))
+        }
+        Kind::ExportDefaultDeclaration => default_frame(is_default_declaration(node)),
+        Kind::ExportAllDeclaration => export_all_frame(has_part(node, 0)),
         Kind::Program => &SCRIPT,
         Kind::BlockStatement | Kind::ClassBody => braced(is_filled(node, 0)),
         Kind::SwitchStatement => switch_frame(is_filled(node, 1)),
@@ -269,13 +323,44 @@ fn frame_by_kind(node: Node) -> &'static Frame
         Kind::WhileStatement => &WHILE_LOOP,
         Kind::DoWhileStatement => &DO_LOOP,
         Kind::ForInStatement => &FOR_IN,
-        Kind::ForOfStatement => &FOR_OF,
+        Kind::ForOfStatement => for_of_frame(node.flags().form.is_async()),
         Kind::ForStatement => for_frame(has_part(node, 1), has_part(node, 2)),
     }
 }
 
+/// A function, by its form.
+fn function_frame(form: Form) -> &'static Frame
+    ensures { shape_of result.now ≡ fused_shape (function_list_shape (function_bits form ∷ [])) }
+{
+    match form {
+        Form::Generator => &GENERATOR,
+        Form::Async => &ASYNC_FUNCTION,
+        Form::AsyncGenerator => &ASYNC_GENERATOR,
+        _ => &NAMED_FUNCTION,
+    }
+}
+
+/// A `yield`, by its form and whether it has an operand.
+fn yield_frame(form: Form, has_operand: bool) -> &'static Frame
+    ensures { shape_of result.now ≡ fused_shape (yield_shape form has_operand) }
+{
+    match (form, has_operand) {
+        (Form::Generator, _) => &DELEGATE,
+        (_, true) => &YIELD,
+        (_, false) => &BARE_YIELD,
+    }
+}
+
+/// A for-of, by whether it awaits.
+fn for_of_frame(awaits: bool) -> &'static Frame
+    ensures { shape_of result.now ≡ fused_shape (for_of_shape awaits) }
+{
+    if awaits { &FOR_AWAIT } else { &FOR_OF }
+}
+
 /// Whether a node is written as its own text: a name or a literal without parts, but where a template's part, a head, a method or a
 /// shorthand property's key stands.
+#[inline(always)]
 pub(crate) fn is_own_text(node: Node, site: Site) -> bool
     ensures { result ≡ is_word site (kind_of (node_tree node.entry)) (parts_of (node_tree node.entry)) }
 {

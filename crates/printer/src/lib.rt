@@ -11,6 +11,7 @@ mod emitter;
 mod expressions;
 mod fragments;
 mod frame;
+mod modules;
 mod output;
 mod output_buffer;
 mod part_sites;

@@ -37,6 +37,7 @@ impl<'s> MeasuredNode<'s> {
     ///
     /// # Errors
     /// `TooDeep` where it is.
+    #[inline(always)]
     pub fn leaf(
         alloc: Global,
         kind: Kind,

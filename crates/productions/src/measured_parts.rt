@@ -47,6 +47,7 @@ impl<'s> MeasuredParts<'s> {
     ///
     /// # Errors
     /// `OutOfMemory`.
+    #[inline(always)]
     pub fn one(alloc: Global, only: MeasuredNode<'s>) -> Result<MeasuredParts<'s>, Fault>
         ensures made { IfOk result (λ nodes. nodes ≡ part only.entry none) }
         ensures refused { IfErr result (λ fault. fault ≡ Fault.OutOfMemory) }
@@ -129,6 +130,7 @@ impl<'s> MeasuredParts<'s> {
     ///
     /// # Errors
     /// `OutOfMemory`.
+    #[inline(always)]
     #[tactic(auto, using(crate::proofs::Heights::heights))]
     pub fn push_gap(&mut self) -> Result<(), Fault>
         ensures pushed { IfOk result (λ _. self.new ≡ push_gap self.old) }

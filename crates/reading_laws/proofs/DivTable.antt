@@ -13,12 +13,14 @@ use Rattle.language.specs.Vocabulary.{is_word_operator}
 use Rattle.language.specs.Pieces.{Role, PieceOf, Piece, tok, settle_piece}
 use Rattle.language.specs.Grammar.{ways, own_rank, own_in, own_start}
 use Rattle.language.specs.Derivation.{Among}
+use Rattle.language.specs.Forms as made
 use Rattle.language.specs.Forms.{Production, literal, template_part, form, pieces_of, OwnText, a_literal, a_template, an_infix, own_piece}
 use Rattle.language.specs.Chosen.{Chosen}
 use Rattle.language.specs.Chosen as chosen
 use Rattle.language.proofs.table.ViewIsComplete.{way_of}
 use Rattle.language.proofs.table.EveryWay.{every_way}
-use Rattle.language.proofs.table.EachPiece.{PieceTest, each, each_of}
+use Rattle.language.proofs.table.EachPiece.{PieceTest, each, passes, each_of}
+use Rattle.language.proofs.table.Shapes.{shape_of, of_form}
 
 abbrev pub is_div_class : TokenClass → Bool
 is_div_class RegularExpressionLiteral = false
@@ -65,6 +67,12 @@ form_div literal w g ps (chosen.of_statement s c) e = elim c [ ]
 form_div literal w g ps (chosen.of_declaration s c) e = elim c [ ]
 form_div (template_part x y) w g ps (chosen.of_statement s c) e = elim c [ ]
 form_div (template_part x y) w g ps (chosen.of_declaration s c) e = elim c [ ]
+form_div (made.function x) w g ps c e = each_of div_pieces w (form (made.function x)).items g ps (of_form (λ z. passes is_div_piece is_div_own true (shape_of (form (made.function z)).items)) refl x)
+form_div (made.short_arrow x) w g ps c e = each_of div_pieces w (form (made.short_arrow x)).items g ps (of_form (λ z. passes is_div_piece is_div_own true (shape_of (form (made.short_arrow z)).items)) refl x)
+form_div (made.arrow x) w g ps c e = each_of div_pieces w (form (made.arrow x)).items g ps (of_form (λ z. passes is_div_piece is_div_own true (shape_of (form (made.arrow z)).items)) refl x)
+form_div (made.property_method x) w g ps c e = each_of div_pieces w (form (made.property_method x)).items g ps (of_form (λ z. passes is_div_piece is_div_own true (shape_of (form (made.property_method z)).items)) refl x)
+form_div (made.member_method x) w g ps c e = each_of div_pieces w (form (made.member_method x)).items g ps (of_form (λ z. passes is_div_piece is_div_own true (shape_of (form (made.member_method z)).items)) refl x)
+form_div (made.for_of x r) w g ps c e = each_of div_pieces w (form (made.for_of x r)).items g ps (of_form (λ z. passes is_div_piece is_div_own true (shape_of (form (made.for_of z r)).items)) refl x)
 form_div p w g ps c e = each_of div_pieces w (form p).items g ps refl
 
 -- a node's own position changes nothing

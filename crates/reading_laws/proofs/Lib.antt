@@ -1,3 +1,5 @@
+pub mod HashbangLines
+pub mod SeenClasses
 pub mod TailTable
 pub mod Peeks
 pub mod Walk

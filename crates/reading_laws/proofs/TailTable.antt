@@ -12,8 +12,8 @@ use Rattle.tokens.specs.Tokens.{is_end}
 use Rattle.language.specs.declared.Rank.{Rank}
 use Rattle.language.specs.declared.Start.{Start}
 use Rattle.language.specs.Vocabulary.{is_word_operator}
-use Rattle.language.specs.Pieces.{Role, expr, chain_part, name, word, tagged_quasi, template_element, body, class_body, script, Slot, fixed, lead_pattern, PieceOf, Piece, tok, may, many, ahead, unbroken, ending, open_parameters, close_parameters, sub, absent, never, lay, feed, settle_piece}
-use Rattle.language.specs.Statements.{prologue}
+use Rattle.language.specs.Pieces.{Role, expr, chain_part, name, word, private_name, tagged_quasi, template_element, body, class_body, script, Slot, fixed, lead_pattern, PieceOf, Piece, tok, may, many, ahead, unbroken, ending, open_parameters, close_parameters, sub, absent, never, lay, feed, settle_piece, no_operand}
+use Rattle.language.specs.Statements.{prologue, module_prologue}
 use Rattle.language.specs.Grammar.{ways, own_rank, own_in, own_start}
 use Rattle.language.specs.Derivation.{Among}
 use Rattle.language.specs.Forms.{Production, form, pieces_of, OwnText, a_name, a_literal, a_template, an_infix, own_piece}
@@ -23,7 +23,7 @@ use Rattle.language.specs.Chosen as chosen
 use Rattle.language.proofs.table.ViewIsComplete.{way_of}
 use Rattle.language.proofs.table.EveryWay.{every_way}
 use Rattle.language.proofs.table.BeforeIt.{Before, SuffixTest, allows_of, tells_of, form_before}
-use Rattle.language.proofs.table.Shapes.{shape_of}
+use Rattle.language.proofs.table.Shapes.{shape_of, of_form}
 
 -- a TemplateMiddle or TemplateTail
 abbrev pub is_template_tail : TokenClass → List ℕ → Bool
@@ -36,6 +36,7 @@ is_closed (expr y i f) = true
 is_closed (chain_part f) = true
 is_closed name = true
 is_closed word = true
+is_closed private_name = true
 is_closed tagged_quasi = true
 is_closed (template_element b c) = true
 is_closed body = true
@@ -73,6 +74,7 @@ tails_fit_by bar closed b c (may w ∷ qs) = tails_fit_by bar closed b c qs
 tails_fit_by bar closed b c (many w ∷ qs) = tails_fit_by bar closed b c qs
 tails_fit_by bar closed b c (ahead w ∷ qs) = tails_fit_by bar closed b c qs
 tails_fit_by bar closed b c (unbroken ∷ qs) = tails_fit_by bar closed b c qs
+tails_fit_by bar closed b c (no_operand ∷ qs) = tails_fit_by bar closed b c qs
 tails_fit_by bar closed b c (ending x ∷ qs) = tails_fit_by bar closed false c qs
 tails_fit_by bar closed b c (open_parameters ∷ qs) = tails_fit_by bar closed true c qs
 tails_fit_by bar closed b c (close_parameters ∷ qs) = tails_fit_by bar closed true c qs
@@ -120,6 +122,7 @@ own_tells a_literal b = true
 own_tells made.a_string b = true
 own_tells made.a_sign b = true
 own_tells an_infix b = true
+own_tells made.a_private_name b = true
 own_tells (a_template x y) b = x
 own_tells _ b = b
 
@@ -198,11 +201,19 @@ passes w c p = allows_of (tail_test c w) (shape_of (form p).items) (not c) && te
 abbrev is_plain : Production → Bool
 is_plain (made.template_part x y) = false
 is_plain made.script = false
+is_plain made.module_script = false
 is_plain _ = true
 
 open_passes : (w : List ℕ) (p : Production) → is_plain p ≡ true → passes w false p ≡ true
 open_passes w (made.template_part x y) h = cc
 open_passes w made.script h = cc
+open_passes w made.module_script h = cc
+open_passes w (made.function x) h = of_form (λ z. passes w false (made.function z)) refl x
+open_passes w (made.short_arrow x) h = of_form (λ z. passes w false (made.short_arrow z)) refl x
+open_passes w (made.arrow x) h = of_form (λ z. passes w false (made.arrow z)) refl x
+open_passes w (made.property_method x) h = of_form (λ z. passes w false (made.property_method z)) refl x
+open_passes w (made.member_method x) h = of_form (λ z. passes w false (made.member_method z)) refl x
+open_passes w (made.for_of x r) h = of_form (λ z. passes w false (made.for_of z r)) refl x
 open_passes w p h = refl
 
 closed_passes : {w : List ℕ} {g : Flags} {ps : Parts} {a : Role} {k : Kind} (p : Production) → Chosen w g ps a k p → is_plain p ≡ true → is_closed a ≡ true → passes w true p ≡ true
@@ -211,6 +222,9 @@ closed_passes p (chosen.of_statement chosen.at_item c) l h = cc
 closed_passes p (chosen.of_statement chosen.at_opening c) l h = cc
 closed_passes p (chosen.of_declaration chosen.at_item c) l h = cc
 closed_passes p (chosen.of_declaration chosen.at_opening c) l h = cc
+closed_passes {w} {g} p chosen.function l h = of_form (λ z. passes w true (made.function z)) refl g.form
+closed_passes {w} {g} p (chosen.short_arrow x y) l h = of_form (λ z. passes w true (made.short_arrow z)) refl g.form
+closed_passes {w} {g} p chosen.arrow l h = of_form (λ z. passes w true (made.arrow z)) refl g.form
 closed_passes p c l h = cc
 
 form_fits : (w : List ℕ) (g : Flags) (ps : Parts) (p : Production) (b c : Bool) → passes w c p ≡ true → tails_fit b c (pieces_of (form p).items w g ps) ≡ true
@@ -228,9 +242,12 @@ chosen_fits (made.template_part true y) chosen.template_part s = refl
 chosen_fits (made.template_part false y) chosen.template_part s = refl
 chosen_fits (made.template_part x y) (chosen.of_statement i c) s = elim c [ ]
 chosen_fits (made.template_part x y) (chosen.of_declaration i c) s = elim c [ ]
-chosen_fits made.script chosen.whole_script s = cc
+chosen_fits made.script (chosen.whole_script t) s = cc
 chosen_fits made.script (chosen.of_statement i c) s = elim c [ ]
 chosen_fits made.script (chosen.of_declaration i c) s = elim c [ ]
+chosen_fits made.module_script (chosen.whole_module t) s = cc
+chosen_fits made.module_script (chosen.of_statement i c) s = elim c [ ]
+chosen_fits made.module_script (chosen.of_declaration i c) s = elim c [ ]
 chosen_fits {w} {g} {ps} {a} p c s = form_fits w g ps p (is_later_part a) (is_closed a) (of (is_closed a) refl)
   where
     of : (t : Bool) → is_closed a ≡ t → passes w t p ≡ true
@@ -240,6 +257,10 @@ chosen_fits {w} {g} {ps} {a} p c s = form_fits w g ps p (is_later_part a) (is_cl
 -- the pieces of a script before its end
 pub script_fits : (w : List ℕ) (g : Flags) (ps : Parts) → tails_fit false false (prologue false true [] (lay feed ∷ []) ps) ≡ true
 script_fits w g ps = (form_before (tail_test false w) (made.item_list false true [] (lay feed ∷ []) ∷ []) g ps true refl (nothing_fits false)).is_known refl
+
+-- and those of a module
+pub module_fits : (w : List ℕ) (g : Flags) (ps : Parts) → tails_fit false false (module_prologue true ps) ≡ true
+module_fits w g ps = (form_before (tail_test false w) (made.module_item_list ∷ []) g ps true refl (nothing_fits false)).is_known refl
 
 -- so the pieces of each way pass
 pub way_fits : (a : Role) (n : Tree) {qs : List (PieceOf Role)} → is_script a ≡ false → Among qs (ways a n) → tails_fit_at (is_later_part a) (is_closed a) qs ≡ true

@@ -1,5 +1,5 @@
 -- A reading that spells a tree is the reading of the text by the tree: at the place of each of its tokens the tree gives a goal that reads it.
-use Rattle.std.proofs.Common.{◌≡◌, ℕ, ◌+◌, ◌<◌, ◌≤◌, suc, Bool, true, false, cond, not, ◌&&◌, ◌||◌, ◌==◌, List, [], ◌∷◌, refl, sym, ap, ◌∙◌, arith}
+use Rattle.std.proofs.Common.{◌≡◌, ℕ, ◌+◌, ◌<◌, ◌≤◌, suc, Bool, true, false, cond, not, ◌&&◌, ◌||◌, ◌==◌, List, [], ◌∷◌, refl, sym, ap, ◌∙◌, subst, arith}
 use Rattle.std.specs.Prelude.{IsTrue, map, if◌then◌else◌, nat_eq, nat_le}
 use Rattle.std.specs.Str.{chars}
 use Rattle.std.specs.Bool.{beq}
@@ -8,23 +8,41 @@ use Rattle.std.proofs.Math.Bool.{and-false, or-false}
 use Rattle.std.proofs.lemmas.Bool.{eq-eqb, ne_eqb, eqb-true, true≢false, false≢true}
 use Rattle.std.proofs.lemmas.Str.{len_utf8_bounds}
 use Rattle.tokens.specs.declared.token.TokenClass.{TokenClass}
-use Rattle.tokens.specs.declared.token.TokenClass.TheVariants.{IdentifierName, Punctuator, NumericLiteral, StringLiteral, Template, RegularExpressionLiteral, End}
+use Rattle.tokens.specs.declared.token.TokenClass.TheVariants.{IdentifierName, Punctuator, NumericLiteral, StringLiteral, Template, RegularExpressionLiteral, PrivateName, Keyword, End}
 use Rattle.tokens.specs.declared.token.Goal.{Goal}
 use Rattle.tokens.specs.declared.token.Goal.TheVariants as goal
 use Rattle.tokens.specs.Alphabet.{one_of, begins_with}
+use Rattle.tokens.specs.Comments.{hashbang}
 use Rattle.tokens.specs.Lexical.{is_of}
+use Rattle.tokens.specs.Reading.{behind}
 use Rattle.tokens.specs.Goals.{allows, is_regexp, is_template_part, reads_regexps, reads_template_parts}
 use Rattle.tokens.specs.Tokens.{LexicalToken, IsTokenAt, IsReading, is_end, size}
 use Rattle.tokens.specs.Tokens as Tokens
 use Rattle.tokens.proofs.Classes.{token_is}
 use Rattle.tokens.proofs.PassedCharacters.{size_append, size_one}
-use Rattle.tree.specs.declared.kind.Kind.TheVariants.{Literal, TemplateElement}
-use Rattle.tree.specs.Tree.{Tree, node, kind_of}
+use Rattle.tree.specs.declared.kind.Kind.{Kind}
+use Rattle.tree.specs.declared.kind.Kind.TheVariants.{Program, Literal, TemplateElement}
+use Rattle.tree.specs.declared.kind.Flags.{Flags}
+use Rattle.tree.specs.declared.kind.Pair.{Pair}
+use Rattle.tree.specs.Tree.{Tree, node, Parts, bare, kind_of, text_of}
 use Rattle.tree.specs.Flat.{post_order}
-use Rattle.language.specs.Vocabulary.{literal_class}
+use Rattle.language.specs.declared.Language.{Language}
+use Rattle.language.specs.declared.Language.TheVariants.{Base, Script, Module}
+use Rattle.language.specs.Vocabulary.{is, literal_class}
 use Rattle.language.specs.Token.{Token, as_read}
-use Rattle.reading_laws.specs.TreeReadings.{is_regexp_at, is_element_after, tree_goal, IsTreeReading, last, more}
-use Rattle.reading_laws.specs.Laws.{SpelledReadingsAreTreeReadings, ReadingsOfOneTreeAreEqual, DerivedTextsHaveOneTreeReading}
+use Rattle.language.specs.Pieces.{script}
+use Rattle.language.specs.Grammar.{ways}
+use Rattle.language.specs.Forms.{Production}
+use Rattle.language.specs.Chosen.{Chosen}
+use Rattle.language.specs.Chosen as chosen
+use Rattle.language.specs.Derivation.{Spells, direct}
+use Rattle.language.specs.Later.{has_later}
+use Rattle.language.specs.Languages.{seen_in, beginning_in, is_tree_of}
+use Rattle.language.proofs.table.ViewIsComplete.{way_of}
+use Rattle.language.proofs.table.EveryWay.{every_way}
+use Rattle.reading_laws.specs.TreeReadings.{is_regexp_at, is_element_after, tree_goal, IsTreeReading, last, more, hashbang_line}
+use Rattle.reading_laws.specs.Laws.{NextSeen, seen_behind, first_place, SpelledReadingsAreTreeReadings, ReadingsOfOneTreeAreEqual, DerivedTextsHaveOneTreeReading}
+use Rattle.reading_laws.proofs.SeenClasses.{same_in}
 use Rattle.reading_laws.proofs.DivTable.{is_div_class, may_need_goal}
 use Rattle.reading_laws.proofs.TokensOfNodes.{Agrees, spelled}
 use Rattle.reading_laws.proofs.TreeReadings.{one_tree_reading}
@@ -63,6 +81,7 @@ no_template w = of _ _ _
 
 div_no_regexp : (c : TokenClass) → is_div_class c ≡ true → is_regexp c ≡ false
 div_no_regexp RegularExpressionLiteral h = absurd (false≢true h)
+div_no_regexp Keyword h = refl
 div_no_regexp _ h = refl
 
 div_no_template : (c : TokenClass) → is_div_class c ≡ true → is_template_part c ≡ false
@@ -119,6 +138,8 @@ not_end NumericLiteral h k = false≢true k
 not_end StringLiteral h k = false≢true k
 not_end Template h k = false≢true k
 not_end RegularExpressionLiteral h k = false≢true k
+not_end PrivateName h k = false≢true k
+not_end Keyword h k = false≢true k
 
 goes_forward : {g : Goal} {at : ℕ} {cs : List ℕ} {t : LexicalToken} {rest : List ℕ} → IsTokenAt g at cs t rest → IsTrue (not (is_end t.class)) → t.start < t.stop
 goes_forward {t = t} {rest = rest} x h = of x.word (token_is t.class x.word rest x.longest) x.stop
@@ -161,8 +182,11 @@ class_allowed c w = of c (begins_with (one_of "/") w) (begins_with (one_of "}") 
         let g : Goal = if is_regexp c then goal.RegExp else if is_template_part c then goal.TemplateTail else goal.Div in
         IsTrue (if x then beq (is_regexp c) (reads_regexps g) else if y then beq (is_template_part c) (reads_template_parts g) else true)
     of RegularExpressionLiteral true y = refl
+    of Keyword true y = refl
     of RegularExpressionLiteral false true = refl
+    of Keyword false true = refl
     of RegularExpressionLiteral false false = refl
+    of Keyword false false = refl
     of Template true y = refl
     of Template false true = refl
     of Template false false = refl
@@ -199,18 +223,57 @@ module _ (n : Tree) (all : List Token) (told : Told n all) where
           let v = goes_forward x e in
           k test place (omega arith) ∙ ap (λ z. z || list_any (begins_at test place) (map as_read ts)) (elsewhere test place (as_read t) (λ h. omega arith))
 
-pub spelled_by_tree : SpelledReadingsAreTreeReadings
-spelled_by_tree o text n P tokens final r d = by_tree n (map as_read tokens) (record {
-  regexps = λ at. sym (spelled (is_regexp_at at) (begins_at is_regexp at) (regexps_agree at) d ∙ or-false _);
-  elements = λ at. sym (spelled (is_element_after at) (begins_at is_template_part at) (elements_agree at) d ∙ or-false _);
-}) (λ test place l. refl) r
+-- a language makes no token one of the other classes
+seen_there : (language : Language) (test : TokenClass → Bool) (at : ℕ) → test Keyword ≡ test IdentifierName → (ts : List Token) → list_any (λ t. begins_at test at (seen_in language t)) ts ≡ list_any (begins_at test at) ts
+seen_there language test at h [] = refl
+seen_there language test at h (t ∷ ts) = (λ i. ((at == t.start) && same_in language test h t.class t.text i) || seen_there language test at h ts i)
 
+all_told : (language : Language) (n : Tree) (first final : Token) (ts : List Token) {o : ℕ} {P : List Pair} → Spells ways (List Token) (NextSeen language) (seen_behind language) o script n (first ∷ ts) (final ∷ []) P → Told n ts
+all_told language n first final ts d = record {
+  regexps = λ at. sym (or-false _) ∙ sym (spelled language (is_regexp_at at) (begins_at is_regexp at) (regexps_agree at) d) ∙ seen_there language is_regexp at refl ts;
+  elements = λ at. sym (or-false _) ∙ sym (spelled language (is_element_after at) (begins_at is_template_part at) (elements_agree at) d) ∙ seen_there language is_template_part at refl ts;
+}
+
+-- a tree that a language spells says where the language begins to read
+
+is_program : {w : List ℕ} {g : Flags} {ps : Parts} {k : Kind} {p : Production} → Chosen w g ps script k p → k ≡ Program
+is_program (chosen.whole_script h) = refl
+is_program (chosen.whole_module h) = refl
+is_program (chosen.of_statement s c) = elim s [ ]
+is_program (chosen.of_declaration s c) = elim s [ ]
+
+program_spelled : (language : Language) (n : Tree) {o : ℕ} {s e : List Token} {P : List Pair} → Spells ways (List Token) (NextSeen language) (seen_behind language) o script n s e P → kind_of n ≡ Program
+program_spelled language (node k w g st en ps) (direct qs h p d) = is_program (every_way script (bare (node k w g st en ps)) ((way_of h).listed)).chosen
+
+base_line : (text : List ℕ) (n : Tree) → kind_of n ≡ Program → is_tree_of Base n ≡ true → size (hashbang_line n text) ≡ 0
+unfolding has_later
+base_line text (node Program [] g st en ps) k h = refl
+base_line text (node Program (c ∷ cs) g st en ps) k h = absurd (false≢true h)
+base_line text (node _ w g st en ps) k h = absurd (cc)
+
+first_of_tree : (language : Language) (text : List ℕ) (n : Tree) → kind_of n ≡ Program → is_tree_of language n ≡ true → size (hashbang_line n text) ≡ first_place language text
+first_of_tree Base text n k h = base_line text n k h
+first_of_tree Script text n k h = ap (λ b. size (cond (b || is (text_of n) "module") (hashbang (chars text)) [])) h
+first_of_tree Module text n k h = of (is (text_of n) "2022") (is (text_of n) "module") h
+  where
+    of : (a b : Bool) → b ≡ true → size (cond (a || b) (hashbang (chars text)) []) ≡ size (hashbang (chars text))
+    of true b h = refl
+    of false b h = ap (λ x. size (cond x (hashbang (chars text)) [])) h
+
+pub spelled_by_tree : SpelledReadingsAreTreeReadings
+spelled_by_tree language o text n P r =
+    let first = beginning_in language text in
+    let told = all_told language n first r.final (map as_read r.tokens) r.spelled in
+    subst (λ at. IsTreeReading n at (behind text at) r.tokens) (sym (first_of_tree language text n (program_spelled language n r.spelled) r.of_language)) (by_tree n (map as_read r.tokens) told (λ test place l. refl) r.reading)
+
+-- and the readings of one tree begin at one place
 pub readings_of_one_tree : ReadingsOfOneTreeAreEqual
-readings_of_one_tree o p text n P Q a b =
-    one_tree_reading n 0 (chars text) a.tokens b.tokens (spelled_by_tree o text n P a.tokens a.final a.reading a.spelled) (spelled_by_tree p text n Q b.tokens b.final b.reading b.spelled)
+readings_of_one_tree l m o p text n P Q a b =
+    let at = size (hashbang_line n text) in
+    one_tree_reading n at (behind text at) a.tokens b.tokens (spelled_by_tree l o text n P a) (spelled_by_tree m p text n Q b)
 
 pub one_tree_reading_of_derived : DerivedTextsHaveOneTreeReading
-one_tree_reading_of_derived o text n P d =
-    let r = derivations_listed o text n P d in
-    let by_tree = spelled_by_tree o text n P r.tokens r.final r.reading r.spelled in
-    record { spelled = r; by_tree = by_tree; only = λ tokens t. one_tree_reading n 0 (chars text) tokens r.tokens t by_tree }
+one_tree_reading_of_derived language o text n P d =
+    let r = derivations_listed language o text n P d in
+    let at = size (hashbang_line n text) in
+    record { spelled = r; by_tree = spelled_by_tree language o text n P r; only = λ tokens t. one_tree_reading n at (behind text at) tokens r.tokens t (spelled_by_tree language o text n P r) }

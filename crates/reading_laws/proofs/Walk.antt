@@ -1,6 +1,6 @@
 -- A derivation at a text's own places passes tokens. The walk goes over it from its end, and makes the list of these tokens and the derivation
--- over that list, before any list that goes on from there. Where the derivation ends at an open place, that list begins with no TemplateMiddle or
--- TemplateTail.
+-- over that list, before any list that goes on from there, as the language sees the tokens of both. Where the derivation ends at an open place,
+-- that list begins with no TemplateMiddle or TemplateTail.
 use Rattle.std.proofs.Common.{◌≡◌, ℕ, ◌+◌, ◌-◌, Bool, true, false, cond, not, ◌||◌, List, [], ◌∷◌, refl, sym, ap, ◌∙◌}
 use Rattle.std.specs.Prelude.{IsTrue}
 use Rattle.std.proofs.lemmas.Bool.{and_parts, true≢false, false≢true}
@@ -11,18 +11,22 @@ use Rattle.tokens.specs.Reading.{any_goal}
 use Rattle.tree.specs.declared.kind.Kind.TheVariants.{Identifier}
 use Rattle.tree.specs.declared.kind.Pair.{Pair}
 use Rattle.tree.specs.Tree.{Tree, node, Parts}
-use Rattle.language.specs.Pieces.{Role, template_element, shorthand_key, script, Ending, PieceOf, many, ahead, unbroken, ending}
-use Rattle.language.specs.Edges.{may_omit_semicolon}
-use Rattle.language.specs.Token.{Token}
+use Rattle.language.specs.Pieces.{Role, template_element, shorthand_key, script, Ending, PieceOf, many, ahead, unbroken, no_operand, ending}
+use Rattle.language.specs.Edges.{begins_no_operand, may_omit_semicolon}
+use Rattle.language.specs.Token.{Token, as_read}
 use Rattle.language.specs.Grammar.{ways, spellings}
-use Rattle.language.specs.Places.{NextIn, next_in, itself}
+use Rattle.language.specs.declared.Language.{Language}
+use Rattle.language.specs.Languages.{class_in, seen_in, seen_next}
+use Rattle.language.specs.Places.{NextIn, next_in}
 use Rattle.language.specs.Cursor as Cursor
-use Rattle.language.specs.Derivation.{Among, Reads, Spells, direct, grouped, Runs, done, step, opened, closed, within, missing, Step, token, with_mark, without_mark, one_more, no_more, seen, same_line, explicit, implicit, laid, Placed, placed, place}
+use Rattle.language.specs.Derivation.{Among, Reads, Spells, direct, grouped, Runs, done, step, opened, closed, within, missing, Step, token, with_mark, without_mark, one_more, no_more, seen, same_line, left_bare, explicit, implicit, laid, Placed, placed, place, reserved_key, reserved_word}
 use Rattle.language.proofs.lower_bound.Domination.{settled}
 use Rattle.language.proofs.table.ViewIsComplete.{way_of, one}
 use Rattle.language.proofs.table.Begins.{retell}
 use Rattle.reading_laws.proofs.TailTable.{is_template_tail, is_closed, is_later_part, is_script, barred, tails_fit_at, way_fits}
-use Rattle.reading_laws.proofs.Peeks.{same_break, same_start, name_same, may_keep}
+use Rattle.reading_laws.specs.Laws.{NextSeen, seen_behind}
+use Rattle.reading_laws.proofs.SeenClasses.{same_in}
+use Rattle.reading_laws.proofs.Peeks.{NextAny, same_break, same_start, name_same, may_keep, bare_keep}
 
 -- the list begins with no TemplateMiddle or TemplateTail
 abbrev pub no_tail_first : List Token → Bool
@@ -65,59 +69,88 @@ place_same (template_element b c) t u l s h = ap (λ z. (z + 1, l.stop - cond c 
 place_same script t u l s h = refl
 place_same _ t u l s h = ap (λ z. (z, l.stop)) s
 
-module _ (text : List ℕ) where
-  abbrev pub NextAny : Token → Token → Token → Type 0
-  NextAny = NextIn text any_goal
+module _ (text : List ℕ) (language : Language) where
+  abbrev After : Token → Token → Token → Type 0
+  After = NextAny text language
+
+  abbrev see : Token → Token
+  see = seen_in language
+
+  abbrev Tokens : Type 0
+  Tokens = List Token
+
+  abbrev Goes : Tokens → Token → Tokens → Type 0
+  Goes = NextSeen language
+
+  abbrev last_seen : Tokens → Token
+  last_seen = seen_behind language
 
   -- a list of tokens, each read behind the one before; the last is the end of the text
-  pub data ReadOn : Token → List Token → Type 0 where
-    at_last : {s t : Token} → NextAny s t t → is_end t.class ≡ true → ReadOn s (t ∷ [])
-    and_more : {s t : Token} {ts : List Token} → NextAny s t t → is_end t.class ≡ false → ReadOn t ts → ReadOn s (t ∷ ts)
+  pub data ReadOn : Token → Tokens → Type 0 where
+    at_last : {s t : Token} → NextIn text any_goal s t t → is_end t.class ≡ true → ReadOn s (t ∷ [])
+    and_more : {s t : Token} {ts : Tokens} → NextIn text any_goal s t t → is_end t.class ≡ false → ReadOn t ts → ReadOn s (t ∷ ts)
 
-  prepend : {s t m : Token} {vs : List Token} → NextAny s t m → is_end t.class ≡ false → ReadOn m vs → ReadOn s (t ∷ vs)
-  prepend (next_in goal any x) h r = and_more (next_in goal any x) h r
+  end_in : (c : TokenClass) (w : List ℕ) → is_end (class_in language c w) ≡ is_end c
+  end_in c w = same_in language is_end refl c w
 
-  next_on : {s t m : Token} (vs : List Token) → NextAny s t m → Cursor.Next (s ∷ t ∷ vs) t (m ∷ vs)
-  next_on vs (next_in goal any x) = Cursor.next
+  tail_in : (c : TokenClass) (w : List ℕ) → is_template_tail (class_in language c w) w ≡ is_template_tail c w
+  tail_in c w = same_in language (λ k. is_template_tail k w) refl c w
 
-  pub reads_on : {k : TokenClass} {w : List ℕ} {s t m : Token} (vs : List Token) → Reads Token NextAny itself k w s t m → Reads (List Token) Cursor.Next Cursor.behind k w (s ∷ t ∷ vs) t (m ∷ vs)
+  prepend : {s t m : Token} {vs : Tokens} → After s t m → is_end t.class ≡ false → ReadOn m vs → ReadOn s (m ∷ vs)
+  prepend (seen_next (next_in {t = k} goal any x)) h r = and_more (next_in goal any x) (sym (end_in k.class (as_read k).text) ∙ h) r
+
+  next_on : {s t m : Token} (vs : Tokens) → After s t m → Goes (s ∷ m ∷ vs) t (m ∷ vs)
+  next_on vs (seen_next (next_in goal any x)) = seen_next Cursor.next
+
+  pub reads_on : {k : TokenClass} {w : List ℕ} {s t m : Token} (vs : Tokens) → Reads Token After see k w s t m → Reads Tokens Goes last_seen k w (s ∷ m ∷ vs) t (m ∷ vs)
   reads_on vs r = record { next = next_on vs r.next; class = r.class; text = r.text }
 
   -- a token of such a class
-  prepend_read : {k : TokenClass} {w : List ℕ} {s t m : Token} {vs : List Token} → Reads Token NextAny itself k w s t m → is_end k ≡ false → ReadOn m vs → ReadOn s (t ∷ vs)
+  prepend_read : {k : TokenClass} {w : List ℕ} {s t m : Token} {vs : Tokens} → Reads Token After see k w s t m → is_end k ≡ false → ReadOn m vs → ReadOn s (m ∷ vs)
   prepend_read r h on = prepend r.next (ap is_end r.class ∙ h) on
 
-  read_no_tail : {k : TokenClass} {w : List ℕ} {s t m : Token} → Reads Token NextAny itself k w s t m → is_template_tail k w ≡ false → not (is_template_tail t.class t.text) ≡ true
-  read_no_tail r h = not_is _ ((λ i. is_template_tail (r.class i) (r.text i)) ∙ h)
+  next_no_tail : {s t m : Token} → After s t m → is_template_tail t.class t.text ≡ false → not (is_template_tail m.class m.text) ≡ true
+  next_no_tail (seen_next (next_in {t = k} goal any x)) h = not_is _ (sym (tail_in k.class (as_read k).text) ∙ h)
 
-  head : {s u : Token} {us : List Token} → ReadOn s (u ∷ us) → NextAny s u u
-  head (at_last n e) = n
-  head (and_more n e more) = n
+  read_no_tail : {k : TokenClass} {w : List ℕ} {s t m : Token} → Reads Token After see k w s t m → is_template_tail k w ≡ false → not (is_template_tail m.class m.text) ≡ true
+  read_no_tail r h = next_no_tail r.next ((λ i. is_template_tail (r.class i) (r.text i)) ∙ h)
+
+  -- the first of such a list, as it is seen
+  head : {s u : Token} {us : Tokens} → ReadOn s (u ∷ us) → After s (see u) u
+  head (at_last n e) = seen_next n
+  head (and_more n e more) = seen_next n
+
+  seen_tail : (u : Token) (us : Tokens) → no_tail_first (u ∷ us) ≡ true → is_template_tail (see u).class (see u).text ≡ false
+  seen_tail u us h = tail_in u.class u.text ∙ is_not _ h
 
   -- looks at the next token
-  seen_on : {w : List ℕ} {s t m : Token} (vs : List Token) → ReadOn s vs → Reads Token NextAny itself IdentifierName w s t m → Step (List Token) Cursor.Next Cursor.behind (ahead w) (s ∷ vs) (s ∷ vs)
-  seen_on (u ∷ us) on r = let same = name_same text r.next (head on) r.class in
-      seen (record { next = Cursor.next; class = sym (ap (λ z. z.class) same) ∙ r.class; text = sym (ap (λ z. z.text) same) ∙ r.text })
+  seen_on : {w : List ℕ} {s t m : Token} (vs : Tokens) → ReadOn s vs → Reads Token After see IdentifierName w s t m → Step Tokens Goes last_seen (ahead w) (s ∷ vs) (s ∷ vs)
+  seen_on (u ∷ us) on r = let same = name_same text language r.next (head on) r.class in
+      seen (record { next = seen_next Cursor.next; class = sym (ap (λ z. z.class) same) ∙ r.class; text = sym (ap (λ z. z.text) same) ∙ r.text })
   seen_on [] on r = elim on [ ]
 
-  line_on : {s t m : Token} (vs : List Token) → ReadOn s vs → NextAny s t m → t.after_break ≡ false → Step (List Token) Cursor.Next Cursor.behind unbroken (s ∷ vs) (s ∷ vs)
-  line_on (u ∷ us) on n h = same_line Cursor.next (same_break text (head on) n ∙ h)
+  line_on : {s t m : Token} (vs : Tokens) → ReadOn s vs → After s t m → t.after_break ≡ false → Step Tokens Goes last_seen unbroken (s ∷ vs) (s ∷ vs)
+  line_on (u ∷ us) on n h = same_line (seen_next Cursor.next) (same_break text language (head on) n ∙ h)
   line_on [] on n h = elim on [ ]
 
-  miss_on : {x : Ending} {s t m : Token} (vs : List Token) → ReadOn s vs → no_tail_first vs ≡ true → NextAny s t m → IsTrue (may_omit_semicolon x s t) → Step (List Token) Cursor.Next Cursor.behind (ending x) (s ∷ vs) (s ∷ vs)
-  miss_on {x} (u ∷ us) on c n h = implicit Cursor.next (may_keep text x n (head on) (is_not _ c) h)
+  bare_on : {s t m : Token} (vs : Tokens) → ReadOn s vs → After s t m → IsTrue (begins_no_operand t) → Step Tokens Goes last_seen no_operand (s ∷ vs) (s ∷ vs)
+  bare_on (u ∷ us) on n h = left_bare (seen_next Cursor.next) (bare_keep text language n (head on) h)
+  bare_on [] on n h = elim on [ ]
+
+  miss_on : {x : Ending} {s t m : Token} (vs : Tokens) → ReadOn s vs → no_tail_first vs ≡ true → After s t m → IsTrue (may_omit_semicolon x (see s) t) → Step Tokens Goes last_seen (ending x) (s ∷ vs) (s ∷ vs)
+  miss_on {x} {s} (u ∷ us) on c n h = implicit (seen_next Cursor.next) (may_keep text language x (see s) n (head on) (seen_tail u us c) h)
   miss_on [] on c n h = elim on [ ]
 
   -- marks in any number
-  record Marks (w : List ℕ) (s m : Token) (vs : List Token) : Type 0 where
-    tokens : List Token
+  record Marks (w : List ℕ) (s m : Token) (vs : Tokens) : Type 0 where
+    tokens : Tokens
     read : ReadOn s tokens
     no_tail : no_tail_first vs ≡ true → no_tail_first tokens ≡ true
-    marks : Step (List Token) Cursor.Next Cursor.behind (many w) (s ∷ tokens) (m ∷ vs)
+    marks : Step Tokens Goes last_seen (many w) (s ∷ tokens) (m ∷ vs)
 
-  marked : {w : List ℕ} {s m : Token} {vs : List Token} → Step Token NextAny itself (many w) s m → ReadOn m vs → Marks w s m vs
-  marked (one_more {t = t} r p) on = let x = marked p on in
-      record { tokens = t ∷ x.tokens; read = prepend_read r refl x.read; no_tail = λ h. read_no_tail r refl; marks = one_more (reads_on x.tokens r) x.marks }
+  marked : {w : List ℕ} {s m : Token} {vs : Tokens} → Step Token After see (many w) s m → ReadOn m vs → Marks w s m vs
+  marked (one_more {m = m} r p) on = let x = marked p on in
+      record { tokens = m ∷ x.tokens; read = prepend_read r refl x.read; no_tail = λ h. read_no_tail r refl; marks = one_more (reads_on x.tokens r) x.marks }
   marked {vs = vs} no_more on = record { tokens = vs; read = on; no_tail = λ h. h; marks = no_more }
 
   -- a shorthand key is the name that follows
@@ -125,56 +158,58 @@ module _ (text : List ℕ) where
     word : List ℕ
     token : Token
     mid : Token
-    reads : Reads Token NextAny itself IdentifierName word s token mid
+    reads : Reads Token After see IdentifierName word s token mid
 
-  echo_name : {qs : List (PieceOf Role)} (n : Tree) {o : ℕ} {ps : Parts} {s e : Token} {P : List Pair} → Among qs (ways shorthand_key n) → Runs ways Token NextAny itself o qs ps s e P → NameAhead s
+  echo_name : {qs : List (PieceOf Role)} (n : Tree) {o : ℕ} {ps : Parts} {s e : Token} {P : List Pair} → Among qs (ways shorthand_key n) → Runs ways Token After see o qs ps s e P → NameAhead s
   unfolding spellings
-  echo_name (node Identifier w g st en ps) h d = let v = way_of h in of (retell Token NextAny itself (v.is ∙ ap (settled shorthand_key) (one v.listed)) d)
+  echo_name (node Identifier w g st en ps) h d = let v = way_of h in of (retell Token After see (v.is ∙ ap (settled shorthand_key) (one v.listed)) d)
     where
-      of : {o : ℕ} {w : List ℕ} {ps : Parts} {s e : Token} {P : List Pair} → Runs ways Token NextAny itself o (ahead w ∷ []) ps s e P → NameAhead s
+      of : {o : ℕ} {w : List ℕ} {ps : Parts} {s e : Token} {P : List Pair} → Runs ways Token After see o (ahead w ∷ []) ps s e P → NameAhead s
       of (step (seen {w = w} {t = t} {e = m} r) d) = record { word = w; token = t; mid = m; reads = r }
   echo_name (node _ w g st en ps) h d = elim ((way_of h).listed) [ ]
 
-  echo_same : (a : Role) {qs : List (PieceOf Role)} (n : Tree) {o : ℕ} {ps : Parts} {s e t m u f : Token} {P : List Pair} → Among qs (ways a n) → Runs ways Token NextAny itself o qs ps s e P → NextAny s t m → NextAny s u f → is_echo a ≡ true → t ≡ u
-  echo_same shorthand_key n h d x y e = let v = echo_name n h d in sym (name_same text v.reads.next x v.reads.class) ∙ name_same text v.reads.next y v.reads.class
+  echo_same : (a : Role) {qs : List (PieceOf Role)} (n : Tree) {o : ℕ} {ps : Parts} {s e t m u f : Token} {P : List Pair} → Among qs (ways a n) → Runs ways Token After see o qs ps s e P → After s t m → After s u f → is_echo a ≡ true → t ≡ u
+  echo_same shorthand_key n h d x y e = let v = echo_name n h d in sym (name_same text language v.reads.next x v.reads.class) ∙ name_same text language v.reads.next y v.reads.class
   echo_same _ n h d x y e = absurd (false≢true e)
 
-  pub placed_on : {a : Role} {n : Tree} {s e : Token} (vs us : List Token) → ReadOn s vs → ((t m u f : Token) → NextAny s t m → NextAny s u f → is_echo a ≡ true → t ≡ u) → Placed Token NextAny itself a n s e →
-      Placed (List Token) Cursor.Next Cursor.behind a n (s ∷ vs) (e ∷ us)
-  placed_on {a} {e = e} (u ∷ rest) us on alone (placed {t = t} {m = m} x h) = placed Cursor.next (sym (place_same a t u e (same_start text x (head on)) (alone t m u u x (head on))) ∙ h)
+  pub placed_on : {a : Role} {n : Tree} {s e : Token} (vs us : Tokens) → ReadOn s vs → ((t m u f : Token) → After s t m → After s u f → is_echo a ≡ true → t ≡ u) → Placed Token After see a n s e →
+      Placed Tokens Goes last_seen a n (s ∷ vs) (e ∷ us)
+  placed_on {a} {e = e} (u ∷ rest) us on alone (placed {t = t} {m = m} x h) = placed (seen_next Cursor.next) (sym (place_same a t (see u) (see e) (same_start text language x (head on)) (alone t m (see u) u x (head on))) ∙ h)
   placed_on [] us on alone p = elim on [ ]
 
-  record Spelled (o : ℕ) (a : Role) (n : Tree) (s e : Token) (us : List Token) (P : List Pair) : Type 0 where
-    tokens : List Token
+  record Spelled (o : ℕ) (a : Role) (n : Tree) (s e : Token) (us : Tokens) (P : List Pair) : Type 0 where
+    tokens : Tokens
     read : ReadOn s tokens
     no_tail : is_later_part a ≡ false → no_tail_first tokens ≡ true
-    spells : Spells ways (List Token) Cursor.Next Cursor.behind o a n (s ∷ tokens) (e ∷ us) P
+    spells : Spells ways Tokens Goes last_seen o a n (s ∷ tokens) (e ∷ us) P
 
-  pub record Ran (b : Bool) (o : ℕ) (qs : List (PieceOf Role)) (ps : Parts) (s e : Token) (us : List Token) (P : List Pair) : Type 0 where
-    pub tokens : List Token
+  pub record Ran (b : Bool) (o : ℕ) (qs : List (PieceOf Role)) (ps : Parts) (s e : Token) (us : Tokens) (P : List Pair) : Type 0 where
+    pub tokens : Tokens
     pub read : ReadOn s tokens
     pub no_tail : b ≡ false → no_tail_first tokens ≡ true
-    pub runs : Runs ways (List Token) Cursor.Next Cursor.behind o qs ps (s ∷ tokens) (e ∷ us) P
+    pub runs : Runs ways Tokens Goes last_seen o qs ps (s ∷ tokens) (e ∷ us) P
 
   mutual
-    spelled_on : {o : ℕ} {a : Role} {n : Tree} {s e : Token} {P : List Pair} (us : List Token) → is_script a ≡ false → ReadOn e us → (is_closed a ≡ false → no_tail_first us ≡ true) → Spells ways Token NextAny itself o a n s e P → Spelled o a n s e us P
+    spelled_on : {o : ℕ} {a : Role} {n : Tree} {s e : Token} {P : List Pair} (us : Tokens) → is_script a ≡ false → ReadOn e us → (is_closed a ≡ false → no_tail_first us ≡ true) → Spells ways Token After see o a n s e P → Spelled o a n s e us P
     spelled_on {a = a} {n = n} us k on c (direct qs h p d) =
         let v = ran_on (is_later_part a) (is_closed a) us (way_fits a n k h) on c d in
         record { tokens = v.tokens; read = v.read; no_tail = v.no_tail; spells = direct qs h (placed_on v.tokens us v.read (λ t m u f x y e. echo_same a n h d x y e) p) v.runs }
-    spelled_on us k on c (grouped {left = left} {right = right} p d q) =
-        let v = spelled_on (right ∷ us) refl (prepend_read q refl on) (λ e. absurd (true≢false e)) d in
-        record { tokens = left ∷ v.tokens; read = prepend_read p refl v.read; no_tail = λ e. read_no_tail p refl; spells = grouped (reads_on v.tokens p) v.spells (reads_on us q) }
+    spelled_on {e = e} us k on c (grouped {m = m} p d q) =
+        let v = spelled_on (e ∷ us) refl (prepend_read q refl on) (λ e. absurd (true≢false e)) d in
+        record { tokens = m ∷ v.tokens; read = prepend_read p refl v.read; no_tail = λ e. read_no_tail p refl; spells = grouped (reads_on v.tokens p) v.spells (reads_on us q) }
+    spelled_on {e = e} us k on c (reserved_key r h p) = record { tokens = e ∷ us; read = prepend_read r refl on; no_tail = λ e. read_no_tail r refl; spells = reserved_key (reads_on us r) h p }
+    spelled_on {e = e} us k on c (reserved_word r h p) = record { tokens = e ∷ us; read = prepend_read r refl on; no_tail = λ e. read_no_tail r refl; spells = reserved_word (reads_on us r) h p }
 
-    pub ran_on : {o : ℕ} {qs : List (PieceOf Role)} {ps : Parts} {s e : Token} {P : List Pair} (b c : Bool) (us : List Token) → tails_fit_at b c qs ≡ true → ReadOn e us → (c ≡ false → no_tail_first us ≡ true) → Runs ways Token NextAny itself o qs ps s e P → Ran b o qs ps s e us P
+    pub ran_on : {o : ℕ} {qs : List (PieceOf Role)} {ps : Parts} {s e : Token} {P : List Pair} (b c : Bool) (us : Tokens) → tails_fit_at b c qs ≡ true → ReadOn e us → (c ≡ false → no_tail_first us ≡ true) → Runs ways Token After see o qs ps s e P → Ran b o qs ps s e us P
     ran_on b c us h on k done = record { tokens = us; read = on; no_tail = λ e. k (open_end b c h e); runs = done }
-    ran_on b c us h on k (step (token {c = class} {w = w} {t = t} r) d) =
+    ran_on b c us h on k (step {m = m} (token {c = class} {w = w} r) d) =
         let u = and_parts _ _ h in
         let x = and_parts _ _ u.1 in
         let v = ran_on true c us x.1 on k d in
-        record { tokens = t ∷ v.tokens; read = prepend_read r (is_not _ x.0) v.read; no_tail = λ e. read_no_tail r (is_not _ (first_is b _ u.0 e)); runs = step (token (reads_on v.tokens r)) v.runs }
-    ran_on b c us h on k (step (with_mark {t = t} r) d) =
+        record { tokens = m ∷ v.tokens; read = prepend_read r (is_not _ x.0) v.read; no_tail = λ e. read_no_tail r (is_not _ (first_is b _ u.0 e)); runs = step (token (reads_on v.tokens r)) v.runs }
+    ran_on b c us h on k (step {m = m} (with_mark r) d) =
         let v = ran_on b c us h on k d in
-        record { tokens = t ∷ v.tokens; read = prepend_read r refl v.read; no_tail = λ e. read_no_tail r refl; runs = step (with_mark (reads_on v.tokens r)) v.runs }
+        record { tokens = m ∷ v.tokens; read = prepend_read r refl v.read; no_tail = λ e. read_no_tail r refl; runs = step (with_mark (reads_on v.tokens r)) v.runs }
     ran_on b c us h on k (step without_mark d) = let v = ran_on b c us h on k d in record { tokens = v.tokens; read = v.read; no_tail = v.no_tail; runs = step without_mark v.runs }
     ran_on b c us h on k (step (one_more r p) d) =
         let v = ran_on b c us h on k d in
@@ -183,19 +218,20 @@ module _ (text : List ℕ) where
     ran_on b c us h on k (step no_more d) = let v = ran_on b c us h on k d in record { tokens = v.tokens; read = v.read; no_tail = v.no_tail; runs = step no_more v.runs }
     ran_on b c us h on k (step (seen r) d) = let v = ran_on b c us h on k d in record { tokens = v.tokens; read = v.read; no_tail = v.no_tail; runs = step (seen_on v.tokens v.read r) v.runs }
     ran_on b c us h on k (step (same_line n l) d) = let v = ran_on b c us h on k d in record { tokens = v.tokens; read = v.read; no_tail = v.no_tail; runs = step (line_on v.tokens v.read n l) v.runs }
-    ran_on b c us h on k (step (explicit {t = t} r) d) =
+    ran_on b c us h on k (step (left_bare n l) d) = let v = ran_on b c us h on k d in record { tokens = v.tokens; read = v.read; no_tail = v.no_tail; runs = step (bare_on v.tokens v.read n l) v.runs }
+    ran_on b c us h on k (step {m = m} (explicit r) d) =
         let v = ran_on false c us h on k d in
-        record { tokens = t ∷ v.tokens; read = prepend_read r refl v.read; no_tail = λ e. read_no_tail r refl; runs = step (explicit (reads_on v.tokens r)) v.runs }
+        record { tokens = m ∷ v.tokens; read = prepend_read r refl v.read; no_tail = λ e. read_no_tail r refl; runs = step (explicit (reads_on v.tokens r)) v.runs }
     ran_on b c us h on k (step (implicit n m) d) =
         let v = ran_on false c us h on k d in
         record { tokens = v.tokens; read = v.read; no_tail = λ e. v.no_tail refl; runs = step (miss_on v.tokens v.read (v.no_tail refl) n m) v.runs }
     ran_on b c us h on k (step laid d) = let v = ran_on b c us h on k d in record { tokens = v.tokens; read = v.read; no_tail = v.no_tail; runs = step laid v.runs }
-    ran_on b c us h on k (opened {t = t} r d) =
+    ran_on b c us h on k (opened {m = m} r d) =
         let v = ran_on true c us h on k d in
-        record { tokens = t ∷ v.tokens; read = prepend_read r refl v.read; no_tail = λ e. read_no_tail r refl; runs = opened (reads_on v.tokens r) v.runs }
-    ran_on b c us h on k (closed {t = t} r d) =
+        record { tokens = m ∷ v.tokens; read = prepend_read r refl v.read; no_tail = λ e. read_no_tail r refl; runs = opened (reads_on v.tokens r) v.runs }
+    ran_on b c us h on k (closed {m = m} r d) =
         let v = ran_on true c us h on k d in
-        record { tokens = t ∷ v.tokens; read = prepend_read r refl v.read; no_tail = λ e. read_no_tail r refl; runs = closed (reads_on v.tokens r) v.runs }
+        record { tokens = m ∷ v.tokens; read = prepend_read r refl v.read; no_tail = λ e. read_no_tail r refl; runs = closed (reads_on v.tokens r) v.runs }
     ran_on b c us h on k (within {a = a} p d) =
         let u = and_parts _ _ h in
         let v = ran_on (is_closed a) c us u.1 on k d in

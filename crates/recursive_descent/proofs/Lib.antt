@@ -1,11 +1,13 @@
 pub mod complete_expressions
 pub mod complete_lists
+pub mod complete_modules
 pub mod complete_properties
 pub mod complete_statements
 pub mod complete_subscripts
 pub mod reading
 pub mod sound_expressions
 pub mod sound_lists
+pub mod sound_modules
 pub mod sound_properties
 pub mod sound_statements
 pub mod sound_subscripts

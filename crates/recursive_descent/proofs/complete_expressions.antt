@@ -2,6 +2,10 @@
 pub mod AgreedNodes
 pub mod Agreement
 pub mod ArrowFunctionsGiven
+pub mod AsyncAgreed
+pub mod AsyncCalls
+pub mod AsyncCallsGiven
+pub mod AsyncFirst
 pub mod BinaryNodesOnSpine
 pub mod FunctionsAndClassesGiven
 pub mod GroupListsGiven
@@ -23,3 +27,5 @@ pub mod SplitLeftmostParts
 pub mod StageTurns
 pub mod Stages
 pub mod StartsGiven
+pub mod YieldsGiven
+pub mod PrivateInGiven

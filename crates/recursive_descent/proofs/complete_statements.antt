@@ -2,9 +2,11 @@
 pub mod BlockSymbolsGiven
 pub mod BlocksGiven
 pub mod ConditionStatements
+pub mod DeclarationsGiven
 pub mod DeclaratorsGiven
 pub mod ExpressionLedStatements
 pub mod ExpressionStatementsGiven
+pub mod ForAwaitGiven
 pub mod ForStatements
 pub mod FunctionsAndClassesBodies
 pub mod KeywordStatementsGiven
@@ -21,3 +23,4 @@ pub mod SymbolViews
 pub mod SymbolsLeft
 pub mod TokenSymbolsGiven
 pub mod ValueSymbolsGiven
+pub mod WholeItems

@@ -1,11 +1,15 @@
 -- Tokens that are read, and how far reading went.
 pub mod AddedPairs
 pub mod AdvancedTokens
+pub mod AsyncAhead
+pub mod AsyncFunctionAhead
 pub mod AtMember
 pub mod CodePoints
 pub mod FirstOfPieces
 pub mod Forward
 pub mod FreeRanks
+pub mod ImportMetaAhead
+pub mod LanguageTrees
 pub mod LineBreaks
 pub mod LiteralTokens
 pub mod OnlyDerivation
@@ -15,3 +19,5 @@ pub mod PiecesBeforeToken
 pub mod PowersIn
 pub mod ReadRefusals
 pub mod RemainingArms
+pub mod SeenClasses
+pub mod SeenNames

@@ -1,14 +1,21 @@
 -- What is read of an expression is derived.
 pub mod ArrowFunctions
+pub mod AsyncExpressions
 pub mod BinaryNodes
 pub mod BracketedLists
+pub mod CodedStarts
 pub mod ExpressionParts
 pub mod ExpressionStarts
 pub mod GroupContents
+pub mod GroupsOfLanguage
 pub mod InfixTurns
 pub mod KeywordExpressions
 pub mod OneToken
+pub mod OperatorNodes
 pub mod Parenthesized
 pub mod PrefixOperators
+pub mod PrivateIn
 pub mod StartsByToken
 pub mod UpdateTurns
+pub mod Yields
+pub mod StartsOfLanguage

@@ -6,6 +6,7 @@ pub mod ListReadings
 pub mod ListRefusals
 pub mod ListSummaries
 pub mod OneMoreItem
+pub mod OwnItems
 pub mod ReadItems
 pub mod TemplateDelimiters
 pub mod TemplateElements

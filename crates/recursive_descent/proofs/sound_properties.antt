@@ -1,9 +1,13 @@
 -- What is read of properties and members of classes is derived.
-pub mod ClassMembers
+pub mod MethodWays
 pub mod Definitions
 pub mod MethodItems
 pub mod Methods
 pub mod Modifiers
 pub mod PropertyNames
 pub mod PropertyValues
-pub mod WholeMethods
+pub mod FieldKeys
+pub mod Fields
+pub mod StaticBlocks
+pub mod MemberWords
+pub mod OwnMembers

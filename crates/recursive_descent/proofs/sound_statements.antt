@@ -2,11 +2,15 @@
 pub mod BlockSymbols
 pub mod Blocks
 pub mod ExpressionStatements
+pub mod ForAwait
 pub mod ForWays
+pub mod FunctionWords
 pub mod FunctionsAndClasses
 pub mod KeywordStatements
 pub mod ListSymbols
 pub mod OneMoreSymbol
+pub mod OwnSymbols
+pub mod OwnStatements
 pub mod OwnTokenStatements
 pub mod PartSymbols
 pub mod Scripts

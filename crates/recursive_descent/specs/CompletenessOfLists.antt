@@ -1,17 +1,16 @@
 -- What is given of lists, and of their items (ECMA-262 12.2, 12.3.8, 12.16, 13.3, 13.12, 14.1, 14.6).
-use Rattle.std.specs.Prelude.{◌≡◌, ◌⊎◌, ℕ, ◌+◌, Bool, true, false, cond, ◌&&◌, List, [], nat_le, Some, codes}
+use Rattle.std.specs.Prelude.{◌≡◌, ◌⊎◌, ℕ, ◌+◌, Bool, true, false, cond, ◌&&◌, ◌||◌, List, [], ◌∷◌, nat_le, Some, codes}
 use Rattle.tokens.specs.declared.token.TokenClass.TheVariants.{Punctuator}
-use Rattle.tokens.specs.Reading.{any_goal}
 use Rattle.tree.specs.declared.kind.Pair.{Pair}
 use Rattle.tree.specs.Tree.{Tree, Parts, none, part, gap, join, kind_of, part_count}
 use Rattle.language.specs.declared.Rank.TheVariants.{Expression, Assignment}
 use Rattle.language.specs.declared.Start.TheVariants.{Any}
 use Rattle.language.specs.Token.{Token}
-use Rattle.language.specs.Vocabulary.{is_rest, is_target as is_simple}
+use Rattle.language.specs.Edges.{is_sign, begins_key}
+use Rattle.language.specs.Vocabulary.{is, among, is_rest, is_target as is_simple}
 use Rattle.language.specs.Pieces.{Role, expr, declarator}
 use Rattle.language.specs.Promises.{LaterStop}
 use Rattle.language.specs.Covers.{Reading, as_expression, as_pattern}
-use Rattle.language.specs.Places.{NextIn, itself, SpellsIn}
 use Rattle.covers.specs.declared.list.ListKind.{ListKind}
 use Rattle.covers.specs.declared.list.ListKind.TheVariants as listed
 use Rattle.covers.specs.declared.list.ListBuilder.{ListBuilder as ListOf}
@@ -26,9 +25,11 @@ use Rattle.recursive_descent.specs.Follows.{ChunkAt}
 use Rattle.recursive_descent.specs.Completeness.{StopsIn, DeclaredIn}
 use Rattle.token_cursor.specs.Seen.{Sees, SeesBy, Misses}
 use Rattle.parser_tables.specs.Tests.{ends}
+use Rattle.token_cursor.specs.SourceText.{SourceText, SeenNext, behind_in}
+use Rattle.recursive_descent.specs.Spelled.{SpellsIn}
 
 -- the last part can't go on
-abbrev pub LastDeclared : List ℕ → Bool → Parts → Token → Type 0
+abbrev pub LastDeclared : SourceText → Bool → Parts → Token → Type 0
 LastDeclared text i none e = Unit {0}
 LastDeclared text i (part n none) e = DeclaredIn text i n e
 LastDeclared text i (part n (part m ps)) e = LastDeclared text i (part m ps) e
@@ -36,13 +37,13 @@ LastDeclared text i (part n (gap ps)) e = LastDeclared text i ps e
 LastDeclared text i (gap ps) e = LastDeclared text i ps e
 
 -- a list without brackets can't go on: with its last item neither, nor with a comma
-abbrev pub LastGiven : List ℕ → ListKind → Parts → Token → Type 0
-LastGiven text (listed.Sequence i) ps e = LaterStop Token (NextIn text any_goal) itself i ps e
+abbrev pub LastGiven : SourceText → ListKind → Parts → Token → Type 0
+LastGiven text (listed.Sequence i) ps e = LaterStop Token (SeenNext text) (behind_in text) i ps e
 LastGiven text (listed.Declarators i) ps e = LastDeclared text i ps e × Misses text Punctuator (codes ",") e
 LastGiven text _ ps e = Unit {0}
 
 -- the rest of the items, in a reading that is left; none where none may follow
-abbrev pub RestGiven : List ℕ → Bool → ListOf → Reading → ℕ → Parts → Token → Token → List Pair → Type 0
+abbrev pub RestGiven : SourceText → Bool → ListOf → Reading → ℕ → Parts → Token → Token → List Pair → Type 0
 RestGiven text true l a o ps s e P = (ps ≡ none) × (e ≡ s) × (P ≡ [])
 RestGiven text false l a o ps s e P = RunsIn text o (stood_in Any l.listed (left_pieces l a ps)) ps s e P
 
@@ -67,7 +68,7 @@ default_seen (listed.Cases r) b = cond b 1 0
 default_seen _ b = 0
 
 -- What is given of a list that was begun: the rest of its items, in a reading that is left, and what closes it; at most one case is `default`.
-pub record ListGiven (text : List ℕ) (l : ListOf) (a : Reading) (o : ℕ) (ps : Parts) (s e : Token) (P : List Pair) : Type 0 where
+pub record ListGiven (text : SourceText) (l : ListOf) (a : Reading) (o : ℕ) (ps : Parts) (s e : Token) (P : List Pair) : Type 0 where
   pub left : is_left l a ≡ true
   pub mid : Token
   pub runs : RestGiven text (is_stuck l a) l a o ps s mid P
@@ -88,16 +89,20 @@ declarator_as i as_expression = declarator i true
 declarator_as i (as_pattern b) = declarator i false
 
 -- a comma, or the sign that closes the list, stands there
-abbrev pub CommaOr : List ℕ → List ℕ → Token → Type 0
+abbrev pub CommaOr : SourceText → List ℕ → Token → Type 0
 CommaOr text w e = Sees text Punctuator (codes ",") e ⊎ Sees text Punctuator w e
 
--- where a property ends; a member ends by itself
-abbrev pub DefinitionEnds : List ℕ → Bool → Token → Type 0
-DefinitionEnds text true e = Unit {0}
+-- what may follow a member of a class: what begins another, a `;`, or the brace that closes the body
+abbrev pub follows_member : Token → Bool
+follows_member t = (begins_key t || (is_sign t && is t.text "*")) || (is_sign t && among t.text (";" ∷ "}" ∷ []))
+
+-- where a property ends; a member, for a field ends where the next token says so
+abbrev pub DefinitionEnds : SourceText → Bool → Token → Type 0
+DefinitionEnds text true e = SeesBy text Div follows_member e
 DefinitionEnds text false e = CommaOr text (codes "}") e
 
 -- where an item ends
-abbrev pub ItemEnds : List ℕ → ListKind → Tree → Token → Type 0
+abbrev pub ItemEnds : SourceText → ListKind → Tree → Token → Type 0
 ItemEnds text listed.Elements n e = CommaOr text (codes "]") e
 ItemEnds text listed.Properties n e = DefinitionEnds text false e
 ItemEnds text listed.Members n e = DefinitionEnds text true e
@@ -108,7 +113,7 @@ ItemEnds text _ n e = CommaOr text (codes ")") e
 
 -- What is given of one item of a list: a node at its position; a hole of an array, before its comma; an expression in a template, and the part behind it,
 -- which may be the last.
-pub data ItemGiven (text : List ℕ) (l : ListKind) (a : Reading) (o : ℕ) (s e : Token) (P : List Pair) : Bool → Parts → Type 0 where
+pub data ItemGiven (text : SourceText) (l : ListKind) (a : Reading) (o : ℕ) (s e : Token) (P : List Pair) : Bool → Parts → Type 0 where
   an_item : {r : Role} {n : Tree} → is_chunked l ≡ false → item_role l a (kind_of n) ≡ Some r → SpellsIn text o r n s e P → ItemEnds text l n e → ItemGiven text l a o s e P false (part n none)
   a_hole : l ≡ listed.Elements → Sees text Punctuator (codes ",") s → e ≡ s → P ≡ [] → ItemGiven text l a o s e P false (gap none)
   a_chunk : {n c : Tree} {m : Token} {last : Bool} → l ≡ listed.Template → SpellsIn text o (expr Expression true Any) n s m P → StopsIn text Expression true n m → ChunkAt text m e c last → ItemGiven text l a o s e P last (part n (part c none))

@@ -9,13 +9,11 @@ use Rattle.token_cursor.specs.CursorState.{CursorState}
 use Rattle.language.specs.declared.Rank.TheVariants.{Expression, Assignment, LeftHandSide}
 use Rattle.language.specs.declared.Start.TheVariants.{Any}
 use Rattle.tokens.specs.declared.token.Goal.TheVariants.{RegExp}
-use Rattle.tokens.specs.Reading.{any_goal}
 use Rattle.token_cursor.specs.StatementEnds.{IsEnd, EndsAt}
 use Rattle.token_cursor.specs.declared.semicolon.StatementEnd.TheVariants.{DoWhile, AfterExpression}
 use Rattle.tree.specs.declared.kind.Kind.TheVariants.{Identifier}
 use Rattle.tree.specs.Tree.{push, push_gap}
 use Rattle.language.specs.declared.Edge.{Edge}
-use Rattle.language.specs.Places.{NextIn, itself}
 use Rattle.language.specs.Promises.{ReadBy}
 use Rattle.language.specs.Token.{Token, as_read}
 use Rattle.covers.specs.declared.list.ListKind.TheVariants.{Declarators}
@@ -31,6 +29,7 @@ use Rattle.token_cursor.specs.Seen.{ReadsHere, Sees, Misses, NameHere, NoName, S
 use Rattle.parser_tables.specs.StatementNodes.{item_context}
 use Rattle.parser_tables.specs.Tests.{ends_word}
 use Rattle.parser_tables.specs.Tokens.{single_node}
+use Rattle.token_cursor.specs.SourceText.{SeenNext, behind_in}
 
 -- an expression that may be missing
 abbrev pub expected_if : Bool → ExpressionContext → Expected
@@ -74,10 +73,10 @@ HeadAt s e _ _ = ⊥
 
 -- a line break stands before all that is read there; before nothing that is read before an operand
 abbrev pub IsBroken : CursorState → Type 0
-IsBroken s = (t e : Token) → NextIn s.text any_goal s.last t e → t.after_break ≡ true
+IsBroken s = (t e : Token) → SeenNext s.text s.last t e → t.after_break ≡ true
 
 abbrev pub IsUnbroken : CursorState → Type 0
-IsUnbroken s = (t e : Token) → ReadBy Token (NextIn s.text any_goal) itself RegExp s.last t e → t.after_break ≡ false
+IsUnbroken s = (t e : Token) → ReadBy Token (SeenNext s.text) (behind_in s.text) RegExp s.last t e → t.after_break ≡ false
 
 -- a label on the same line, or nothing (13.8, 13.9)
 abbrev pub LabelAt : CursorState → CursorState → PartialStatement → PartialStatement → ℕ → Type 0

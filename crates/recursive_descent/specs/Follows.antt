@@ -25,10 +25,11 @@ use Rattle.token_cursor.specs.CursorState.{IsPlaceHere}
 use Rattle.token_cursor.specs.Seen.{MissesBy, SeesBy, Sees, ReadsHere, Misses, NameHere, NoName, is_free_name}
 use Rattle.parser_tables.specs.Tests.{is_later_part, is_template}
 use Rattle.parser_tables.specs.Tokens.{single_node}
+use Rattle.token_cursor.specs.SourceText.{SourceText}
 
 -- a declaration has a name; a method has none
 abbrev pub asks_name : FunctionOrClass → Bool
-asks_name closure.FunctionDeclaration = true
+asks_name (closure.FunctionDeclaration form) = true
 asks_name closure.ClassDeclaration = true
 asks_name _ = false
 
@@ -107,16 +108,16 @@ abbrev pub NotLinked : CursorState → CursorState → Fault → Type 0
 NotLinked s e (Syntax at) = (ReadsHere s.text Punctuator (codes "?.") s.last e.last × Unlinked true e) ⊎ ((e.last ≡ s.last) × Misses s.text Punctuator (codes "?.") s.last × Misses s.text Punctuator (codes ".") s.last × Unlinked false e)
 NotLinked s e fault = ⊥
 
--- `new.target`, whose words are these tokens
+-- `new.target` or `import.meta`, whose words are these tokens
 abbrev pub target_node : LexicalToken → LexicalToken → Tree
 target_node new target = node MetaProperty [] plain new.start target.stop (part (single_node Identifier new) (part (single_node Identifier target) none))
 
 -- the word isn't there, or there is no room for the two levels
-abbrev pub NotTarget : CursorState → ℕ → Fault → Type 0
-NotTarget s high (Syntax at) = Misses s.text IdentifierName (codes "target") s.last
-NotTarget s high TooDeep = high < 2
-NotTarget s high OutOfMemory = Unit {0}
-NotTarget s high _ = ⊥
+abbrev pub NotTarget : CursorState → List ℕ → ℕ → Fault → Type 0
+NotTarget s name high (Syntax at) = Misses s.text IdentifierName name s.last
+NotTarget s name high TooDeep = high < 2
+NotTarget s name high OutOfMemory = Unit {0}
+NotTarget s name high _ = ⊥
 
 -- no part of a template stands there but a first one, or there is no room for it
 abbrev pub NoChunk : CursorState → ℕ → Fault → Type 0
@@ -129,11 +130,11 @@ NoChunk s high _ = ⊥
 abbrev pub chunk_node : List ℕ → Bool → Token → Tree
 chunk_node w last t = node TemplateElement w plain (t.start + 1) (t.stop - length (back last)) none
 
-abbrev pub ChunkAt : List ℕ → Token → Token → Tree → Bool → Type 0
+abbrev pub ChunkAt : SourceText → Token → Token → Tree → Bool → Type 0
 ChunkAt text s e n last = (w : List ℕ) × ReadsHere text Template (front false ++ (w ++ back last)) s e × (n ≡ chunk_node w last e)
 
 -- the first part: its characters stand between "`" and what is behind them
-abbrev pub FirstChunkAt : List ℕ → Token → Token → Tree → Bool → Type 0
+abbrev pub FirstChunkAt : SourceText → Token → Token → Tree → Bool → Type 0
 FirstChunkAt text s e n last = (w : List ℕ) × ReadsHere text Template (front true ++ (w ++ back last)) s e × (n ≡ chunk_node w last e)
 
 -- a template is begun by its first part, where a template stands ahead
@@ -147,7 +148,7 @@ abbrev pub TemplateAt : CursorState → CursorState → ListOf → Type 0
 TemplateAt s e l = l.listed ≡ listed.Template → SeesBy s.text Div is_template s.last → BegunTemplate s e l
 
 -- semicolons that were passed, one by one
-pub data Semicolons (text : List ℕ) (s : Token) : Token → Type 0 where
+pub data Semicolons (text : SourceText) (s : Token) : Token → Type 0 where
   none_passed : Semicolons text s s
   one_more : {t e : Token} → Semicolons text s t → ReadsHere text Punctuator (codes ";") t e → Semicolons text s e
 
@@ -170,6 +171,6 @@ SeesEnd None e = ⊥
 SeesEnd (Some w) e = Sees e.text Punctuator w e.last
 
 -- no semicolon stands before the next member
-abbrev pub FirstMisses : List ℕ → ListKind → Token → Type 0
+abbrev pub FirstMisses : SourceText → ListKind → Token → Type 0
 FirstMisses text listed.Members s = Misses text Punctuator (codes ";") s
 FirstMisses text _ s = Unit {0}

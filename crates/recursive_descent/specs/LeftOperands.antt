@@ -1,11 +1,11 @@
 -- What an operator makes of what stands before it, or behind it.
-use Rattle.std.specs.Prelude.{ℕ, Bool, true, false, ◌&&◌, List, [], ◌∷◌}
+use Rattle.std.specs.Prelude.{ℕ, Bool, true, false, cond, ◌&&◌, List, [], ◌∷◌}
 use Rattle.language.specs.declared.Rank.{Rank}
 use Rattle.language.specs.declared.Rank.TheVariants.{Assignment, Conditional, ShortCircuit, LeftHandSide, Unary, Update}
 use Rattle.language.specs.declared.Edge.TheVariants.{Other}
-use Rattle.language.specs.Vocabulary.{among, takes}
+use Rattle.language.specs.Vocabulary.{among, is_keyword, takes}
 use Rattle.tree.specs.declared.kind.Kind.{Kind}
-use Rattle.tree.specs.declared.kind.Kind.TheVariants.{UpdateExpression, UnaryExpression, ConditionalExpression, AssignmentExpression}
+use Rattle.tree.specs.declared.kind.Kind.TheVariants.{UpdateExpression, UnaryExpression, AwaitExpression, ConditionalExpression, AssignmentExpression}
 use Rattle.tree.specs.declared.kind.Flags.{Flags}
 use Rattle.tree.specs.Tree.{Tree, node, part, none, plain}
 use Rattle.covers.specs.declared.shape.CoverShape.{CoverShape}
@@ -63,7 +63,7 @@ takes_operand false s = s.is_expression
 -- with its operand
 abbrev pub prefixed_node : Bool → List ℕ → ℕ → ℕ → Tree → Tree
 prefixed_node true w s e n = node UpdateExpression w before s e (part (pattern_tree n) none)
-prefixed_node false w s e n = node UnaryExpression w plain s e (part n none)
+prefixed_node false w s e n = cond (is_keyword w) (node AwaitExpression [] plain s e (part n none)) (node UnaryExpression w plain s e (part n none))
 
 abbrev pub prefixed_part : Bool → List ℕ → ℕ → ℕ → Operand → Operand
 prefixed_part true w s e p = plain_part (prefixed_node true w s e p.cover.node) Update Other

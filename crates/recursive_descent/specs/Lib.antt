@@ -1,3 +1,4 @@
+pub mod Spelled
 pub mod Arms
 pub mod TemplateElements
 pub mod Soundness
@@ -15,5 +16,8 @@ pub mod LeftOperands
 pub mod Expectations
 pub mod CompletenessOfProperties
 pub mod Stages
+pub mod Limits
 pub mod Scripts
 pub mod Handlers
+pub mod Later
+pub mod ModuleItems

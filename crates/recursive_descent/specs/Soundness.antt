@@ -1,14 +1,14 @@
 -- What is derived: which part of the text was read, and what it spells there, at the text's own places (ECMA-262 clauses 12 to 15).
-use Rattle.std.specs.Prelude.{◌≡◌, ℕ, ◌-◌, Bool, true, false, cond, List, [], ◌++◌, filter, nat_le, nat_lt, Option, Some, None, IsTrue, codes, map}
-use Rattle.tokens.specs.declared.token.TokenClass.TheVariants.{Punctuator}
+use Rattle.std.specs.Prelude.{◌≡◌, ◌⊎◌, ℕ, ◌-◌, Bool, true, false, cond, List, [], ◌++◌, filter, nat_le, nat_lt, Option, Some, None, IsTrue, codes, map}
+use Rattle.tokens.specs.declared.token.TokenClass.TheVariants.{Punctuator, PrivateName}
 use Rattle.tokens.specs.declared.token.Goal.TheVariants.{Div}
 use Rattle.tokens.specs.declared.token.Token.{Token as Scanned}
 use Rattle.tokens.specs.Scanned.{token_of}
-use Rattle.tokens.specs.Reading.{any_goal}
 use Rattle.token_cursor.specs.CursorState.{CursorState}
 use Rattle.tree.specs.declared.kind.Kind.{Kind}
 use Rattle.tree.specs.declared.kind.Kind.TheVariants.{Super, AssignmentPattern, ArrowFunctionExpression}
 use Rattle.tree.specs.declared.kind.Flags.{Flags}
+use Rattle.tree.specs.declared.kind.Form.{Form}
 use Rattle.tree.specs.declared.kind.Pair.{Pair}
 use Rattle.tree.specs.Tree.{Tree, node, plain, Parts, part, none, push, kind_of, text_of, flags_of}
 use Rattle.language.specs.declared.Rank.{Rank}
@@ -16,7 +16,8 @@ use Rattle.language.specs.declared.Rank.TheVariants.{Expression, Assignment, Lef
 use Rattle.language.specs.declared.Start.{Start}
 use Rattle.language.specs.declared.Start.TheVariants.{Any}
 use Rattle.language.specs.Vocabulary.{takes, precedence, is_target, is_pattern, is_identifier}
-use Rattle.language.specs.Token.{Token, as_read}
+use Rattle.language.specs.Token.{Token, as_read, same_class}
+use Rattle.language.specs.Languages.{is_of_2022}
 use Rattle.language.specs.Pieces.{Role, expr, chain_part, name, directive_string, base, pattern, element, Piece, PieceOf, settle_piece}
 use Rattle.language.specs.Edges.{edge, edge_as_written}
 use Rattle.language.specs.Expressions.{has_optional, arguments, arrow_end}
@@ -26,8 +27,6 @@ use Rattle.language.specs.Grammar.{ways}
 use Rattle.language.specs.Derivation.{Runs}
 use Rattle.language.specs.Continuations.{operation, rank_made_by}
 use Rattle.language.specs.Promises.{ReadBy}
-use Rattle.language.specs.ExpressionStart.{expression_start}
-use Rattle.language.specs.Places.{NextIn, itself, SpellsIn}
 use Rattle.language.specs.Claims.{max_open}
 use Rattle.covers.specs.declared.shape.CoverShape.{CoverShape}
 use Rattle.covers.specs.declared.shape.TargetForm.{TargetForm}
@@ -37,15 +36,18 @@ use Rattle.covers.specs.Shapes.{is_bound, is_element}
 use Rattle.parser_tables.specs.declared.operand.Operand.{Operand}
 use Rattle.parser_tables.specs.declared.expression_context.ExpressionContext.{ExpressionContext}
 use Rattle.parser_tables.specs.declared.expression_starts.ExpressionStart.{ExpressionStart}
-use Rattle.parser_tables.specs.ExpressionStarts.{coded_start, opens_at}
+use Rattle.parser_tables.specs.ExpressionStarts.{coded_in, opens_at, MetaAhead}
+use Rattle.parser_tables.specs.declared.expression_starts.ExpressionStart.TheVariants as begun
 use Rattle.parser_tables.specs.Operands.{is_group}
-use Rattle.token_cursor.specs.Seen.{Sees, Misses, MissesBy}
+use Rattle.token_cursor.specs.Seen.{ReadsHere, Sees, Misses, MissesBy}
 use Rattle.parser_tables.specs.StatementNodes.{is_closed}
 use Rattle.parser_tables.specs.Tests.{is_template}
+use Rattle.token_cursor.specs.SourceText.{SourceText, SeenNext, behind_in}
+use Rattle.recursive_descent.specs.Spelled.{SpellsIn}
 
 -- from one place of a text to another the parts run over the pieces
-abbrev pub RunsIn : List ℕ → ℕ → List (PieceOf Role) → Parts → Token → Token → List Pair → Type 0
-RunsIn text = Runs ways Token (NextIn text any_goal) itself
+abbrev pub RunsIn : SourceText → ℕ → List (PieceOf Role) → Parts → Token → Token → List Pair → Type 0
+RunsIn text = Runs ways Token (SeenNext text) (behind_in text)
 
 -- pieces that are the same wherever their node stands
 abbrev pub anywhere : List Piece → List (PieceOf Role)
@@ -67,13 +69,14 @@ pub record Adds (s e : CursorState) (old new : List Pair) (Is : ℕ → Token �
   pub is : Is (max_open - s.opened) s.last e.last (grouping more)
 
 -- the first token behind a place begins here
-pub record Begins (text : List ℕ) (at : ℕ) (s : Token) : Type 0 where
+pub record Begins (text : SourceText) (at : ℕ) (s : Token) : Type 0 where
   pub token : Token
-  pub next : NextIn text any_goal s token token
+  pub place : Token
+  pub next : SeenNext text s token place
   pub start : token.start ≡ at
 
 -- the node is spelled at the position that its kind has
-pub record SpelledAs (r : Kind → Option Role) (text : List ℕ) (o : ℕ) (n : Tree) (s e : Token) (P : List Pair) : Type 0 where
+pub record SpelledAs (r : Kind → Option Role) (text : SourceText) (o : ℕ) (n : Tree) (s e : Token) (P : List Pair) : Type 0 where
   pub role : Role
   pub it_is : r (kind_of n) ≡ Some role
   pub spelled : SpellsIn text o role n s e P
@@ -118,7 +121,7 @@ bare_role n = cond (is_identifier (kind_of n)) (Some name) (cond (is_string_lite
 
 -- What was read where an expression with this In and this start may stand. As an expression it is spelled at each symbol that takes its own, with the same
 -- In where In matters; as a pattern or a target, where its shape says so, at the position of such. Behind a `new` without arguments stands no `(`.
-pub record PartAt (text : List ℕ) (i : Bool) (f : Start) (p : Operand) (o : ℕ) (s e : Token) (P : List Pair) : Type 0 where
+pub record PartAt (text : SourceText) (i : Bool) (f : Start) (p : Operand) (o : ℕ) (s e : Token) (P : List Pair) : Type 0 where
   pub begins : Begins text p.start s
   pub edge : p.edge ≡ edge_as_written (edge p.cover.node) e
   pub goes_on : is_closed p.edge ≡ false
@@ -132,46 +135,50 @@ abbrev pub takes_new : Rank → Bool
 takes_new y = takes y New
 
 -- what was read at a position, up to where something may go on with it, or to where nothing does
-pub record ReadAt (text : List ℕ) (p : ExpressionContext) (r : Operand) (o : ℕ) (s e : Token) (P : List Pair) : Type 0 where
+pub record ReadAt (text : SourceText) (p : ExpressionContext) (r : Operand) (o : ℕ) (s e : Token) (P : List Pair) : Type 0 where
   pub taken : takes_new p.rank ≡ true → IsTrue (takes p.rank r.rank)
   pub part : PartAt text p.has_in p.start r o s e P
 
 -- what goes on with what was read at a position; with an expression with this In, from wherever that begins
-abbrev pub ReadsOn : List ℕ → ExpressionContext → Operand → Operand → ℕ → Token → Token → List Pair → Type 0
+abbrev pub ReadsOn : SourceText → ExpressionContext → Operand → Operand → ℕ → Token → Token → List Pair → Type 0
 ReadsOn text p l r o m e Q = (s : Token) (P : List Pair) → ReadAt text p l o s m P → ReadAt text p r o s e (P ++ Q)
 
-abbrev pub GoesOn : List ℕ → Bool → Operand → Operand → ℕ → Token → Token → List Pair → Type 0
+abbrev pub GoesOn : SourceText → Bool → Operand → Operand → ℕ → Token → Token → List Pair → Type 0
 GoesOn text i l r o m e Q = (f : Start) (s : Token) (P : List Pair) → PartAt text i f l o s m P → PartAt text i f r o s e (P ++ Q)
 
 -- a part of a chain above its base (12.3.9); `super` before its member or its arguments (12.3.7)
-pub record LinkAt (text : List ℕ) (f : Start) (p : Operand) (o : ℕ) (s e : Token) (P : List Pair) : Type 0 where
+pub record LinkAt (text : SourceText) (f : Start) (p : Operand) (o : ℕ) (s e : Token) (P : List Pair) : Type 0 where
   pub begins : Begins text p.start s
   pub chained : has_optional p.cover.node ≡ true
   pub spelled : SpellsIn text o (chain_part f) p.cover.node s e P
 
-pub record SuperAt (text : List ℕ) (p : Operand) (o : ℕ) (s e : Token) (P : List Pair) : Type 0 where
+pub record SuperAt (text : SourceText) (p : Operand) (o : ℕ) (s e : Token) (P : List Pair) : Type 0 where
   pub begins : Begins text p.start s
   pub kind : kind_of p.cover.node ≡ Super
   pub spelled : SpellsIn text o base p.cover.node s e P
 
+-- behind the next token stands no private name, which `super` hasn't (13.3.7 of the 13th edition)
+abbrev pub UnprivateBehind : SourceText → Token → Type 0
+UnprivateBehind text s = is_of_2022 text.language ≡ true → (u m e : Token) → ReadsHere text Punctuator (codes ".") s m → SeenNext text m u e → same_class PrivateName u.class ≡ false
+
 -- A member, arguments or a template behind what was read: behind an expression an expression, or with a `?.` the first part of a chain; where no template
 -- follows, behind a part of a chain the next, and behind `super` an expression.
-pub record Links (text : List ℕ) (l r : Operand) (o : ℕ) (m e : Token) (Q : List Pair) : Type 0 where
+pub record Links (text : SourceText) (l r : Operand) (o : ℕ) (m e : Token) (Q : List Pair) : Type 0 where
   pub optional : cond (flags_of r.cover.node).optional (Sees text Punctuator (codes "?.") m) (Misses text Punctuator (codes "?.") m)
   pub onward : (flags_of r.cover.node).optional ≡ false → (i : Bool) → GoesOn text i l r o m e Q
-  pub taken : (flags_of r.cover.node).optional ≡ false → (t : Token) (y z : Rank) → ReadBy Token (NextIn text any_goal) itself Div m t t → rank_made_by (operation t) t.after_break ≡ Some z → IsTrue (takes y l.rank) → IsTrue (takes y z) → IsTrue (takes y r.rank)
+  pub taken : (flags_of r.cover.node).optional ≡ false → (t x : Token) (y z : Rank) → ReadBy Token (SeenNext text) (behind_in text) Div m t x → rank_made_by (operation t) t.after_break ≡ Some z → IsTrue (takes y l.rank) → IsTrue (takes y z) → IsTrue (takes y r.rank)
   pub begun : (flags_of r.cover.node).optional ≡ true → (i : Bool) (f : Start) (s : Token) (P : List Pair) → PartAt text i f l o s m P → LinkAt text f r o s e (P ++ Q)
   pub further : MissesBy text Div is_template m → (f : Start) (s : Token) (P : List Pair) → LinkAt text f l o s m P → LinkAt text f r o s e (P ++ Q)
-  pub super : MissesBy text Div is_template m → (flags_of r.cover.node).optional ≡ false → (i : Bool) (f : Start) (s : Token) (P : List Pair) → SuperAt text l o s m P → PartAt text i f r o s e (P ++ Q)
+  pub super : MissesBy text Div is_template m → UnprivateBehind text m → (flags_of r.cover.node).optional ≡ false → (i : Bool) (f : Start) (s : Token) (P : List Pair) → SuperAt text l o s m P → PartAt text i f r o s e (P ++ Q)
 
 -- arguments with their parentheses (12.3.8)
-abbrev pub ArgumentsAt : List ℕ → Parts → ℕ → Token → Token → List Pair → Type 0
+abbrev pub ArgumentsAt : SourceText → Parts → ℕ → Token → Token → List Pair → Type 0
 ArgumentsAt text ps o s e P = RunsIn text o (anywhere (arguments ps)) ps s e P
 
 -- An arrow function (14.2) from its `=>` on, which stands on the same line, behind its parameters, which begin here.
-pub record ArrowAt (text : List ℕ) (i : Bool) (parameters : Parts) (from : ℕ) (r : Operand) (o : ℕ) (m e : Token) (Q : List Pair) : Type 0 where
+pub record ArrowAt (text : SourceText) (x : Form) (i : Bool) (parameters : Parts) (from : ℕ) (r : Operand) (o : ℕ) (m e : Token) (Q : List Pair) : Type 0 where
   pub flags : Flags
-  pub lean : flags ≡ record plain { expression = flags.expression }
+  pub lean : flags ≡ record plain { expression = flags.expression; form = x }
   pub body : Tree
   pub tree : r.cover.node ≡ node ArrowFunctionExpression [] flags from e.stop (push parameters body)
   pub start : r.start ≡ from
@@ -179,8 +186,12 @@ pub record ArrowAt (text : List ℕ) (i : Bool) (parameters : Parts) (from : ℕ
   pub edge : r.edge ≡ edge_as_written (edge r.cover.node) e
   pub goes_on : is_closed r.edge ≡ false
   pub simple : (r.cover.shape.is_expression ≡ true) × (r.cover.shape.assigned ≡ assigned.Nothing)
-  pub runs : ((t : Token) (e : Token) → NextIn text any_goal m t e → t.after_break ≡ false) → (j : Bool) → j ≡ i → RunsIn text o (map (settle_piece Assignment j Any) (arrow_end flags)) (part body none) m e Q
+  pub runs : ((t : Token) (e : Token) → SeenNext text m t e → t.after_break ≡ false) → (j : Bool) → j ≡ i → RunsIn text o (map (settle_piece Assignment j Any) (arrow_end flags)) (part body none) m e Q
+
+-- the position takes what begins so, or `import.meta` stands there
+abbrev pub Stands : SourceText → ExpressionContext → Token → ExpressionStart → Token → Type 0
+Stands text p t opening s = (opens_at p t ≡ true) ⊎ ((opening ≡ begun.Import) × (is_of_2022 text.language ≡ true) × MetaAhead text s)
 
 -- what a word begins that was passed
-abbrev pub WordedAt : List ℕ → ExpressionContext → Scanned → ExpressionStart → Operand → ℕ → Token → Token → List Pair → Type 0
-WordedAt text p t opening r o m e Q = (s : Token) → NextIn text any_goal s m m → m ≡ as_read (token_of t) → coded_start (expression_start m) ≡ Some opening → opens_at p m ≡ true → ReadAt text p r o s e Q
+abbrev pub WordedAt : SourceText → ExpressionContext → Scanned → ExpressionStart → Operand → ℕ → Token → Token → List Pair → Type 0
+WordedAt text p t opening r o m e Q = (s : Token) → SeenNext text s (as_read (token_of t)) m → coded_in text.language (as_read (token_of t)) ≡ Some opening → Stands text p (as_read (token_of t)) opening s → ReadAt text p r o s e Q

@@ -1,8 +1,7 @@
 -- What is derived of lists: their items so far, one more, and the whole (ECMA-262 12.2, 12.3.8, 12.16, 13.3, 13.12, 14.1, 14.6).
-use Rattle.std.specs.Prelude.{◌≡◌, ℕ, Bool, true, false, not, cond, ◌&&◌, ◌||◌, List, [], ◌∷◌, ◌++◌, map, nat_le, Option, Some, None, codes, IfSome}
+use Rattle.std.specs.Prelude.{◌≡◌, ℕ, Bool, true, false, not, cond, ◌&&◌, ◌||◌, List, [], ◌∷◌, ◌++◌, map, nat_le, Option, Some, None, codes, is_some, IfSome}
 use Rattle.tokens.specs.declared.token.TokenClass.TheVariants.{Punctuator}
 use Rattle.tokens.specs.Scanned.{token_of}
-use Rattle.tokens.specs.Reading.{any_goal}
 use Rattle.tree.specs.declared.kind.Kind.{Kind}
 use Rattle.tree.specs.declared.kind.Form.{Form}
 use Rattle.tree.specs.declared.kind.Form.TheVariants as form
@@ -13,14 +12,13 @@ use Rattle.language.specs.declared.Start.{Start}
 use Rattle.language.specs.declared.Start.TheVariants.{Any}
 use Rattle.language.specs.declared.Edge.TheVariants.{Closed}
 use Rattle.language.specs.Token.{Token, as_read}
-use Rattle.language.specs.Vocabulary.{is, is_identifier, is_target as is_simple, is_rest}
+use Rattle.language.specs.Vocabulary.{is, is_identifier, is_private, is_target as is_simple, is_rest}
 use Rattle.language.specs.Strings.{literal_units}
-use Rattle.language.specs.Pieces.{Role, expr, key, declarator, switch_case, member, Piece, PieceOf, settle_piece, tail, left, put, put_at, with_default, sub, many, sign, term, listed, elements, argument, pattern_element, nothing, is_none}
+use Rattle.language.specs.Pieces.{Role, expr, private_name, key, declarator, switch_case, member, Piece, PieceOf, settle_piece, tail, left, put, put_at, with_default, sub, many, sign, term, listed, elements, argument, pattern_element, nothing, is_none}
 use Rattle.language.specs.Edges.{edge, last_edge, edge_as_written}
-use Rattle.language.specs.Expressions.{assignment, template_elements, sequence, object_part, object_pattern_part}
+use Rattle.language.specs.Expressions.{assignment, method_words, template_elements, sequence, object_part, object_pattern_part}
 use Rattle.language.specs.Statements.{lines, declarators, defaults, member_lines, is_string_literal}
 use Rattle.language.specs.Covers.{Reading, as_expression, as_pattern, element_as, property_as}
-use Rattle.language.specs.Places.{NextIn, SpellsIn}
 use Rattle.covers.specs.declared.shape.TargetForm.{TargetForm}
 use Rattle.covers.specs.declared.shape.TargetForm.TheVariants as assigned
 use Rattle.covers.specs.declared.shape.CoverShape.{CoverShape}
@@ -37,7 +35,9 @@ use Rattle.recursive_descent.specs.Follows.{ChunkAt}
 use Rattle.parser_tables.specs.Items.{with_item, item_from, are_some}
 use Rattle.token_cursor.specs.Seen.{ReadsHere, Sees}
 use Rattle.parser_tables.specs.StatementNodes.{is_closed}
-use Rattle.parser_tables.specs.Tokens.{single_node, key_kind}
+use Rattle.parser_tables.specs.Tokens.{key_node}
+use Rattle.token_cursor.specs.SourceText.{SourceText, SeenNext, unseen}
+use Rattle.recursive_descent.specs.Spelled.{SpellsIn}
 
 -- In what is listed; a sequence has that of its position
 abbrev pub list_in : ListKind → Bool
@@ -54,6 +54,8 @@ has_reading listed.Elements a = true
 has_reading listed.Properties a = true
 has_reading listed.ParenthesizedItems as_expression = true
 has_reading listed.ParenthesizedItems (as_pattern b) = b
+has_reading listed.AsyncArguments as_expression = true
+has_reading listed.AsyncArguments (as_pattern b) = b
 has_reading listed.Parameters as_expression = false
 has_reading listed.Parameters (as_pattern b) = b
 has_reading listed.NoParameter as_expression = false
@@ -98,6 +100,8 @@ item_pieces listed.Properties as_expression ps = listed object_part ps
 item_pieces listed.Properties (as_pattern b) ps = listed (object_pattern_part b) ps
 item_pieces listed.ParenthesizedItems as_expression ps = several assignment ps
 item_pieces listed.ParenthesizedItems (as_pattern b) ps = listed (pattern_element b) ps
+item_pieces listed.AsyncArguments as_expression ps = listed argument ps
+item_pieces listed.AsyncArguments (as_pattern b) ps = listed (pattern_element true) ps
 item_pieces listed.Parameters a ps = listed (pattern_element true) ps
 item_pieces listed.NoParameter a ps = no_part ps
 item_pieces listed.OneParameter a ps = part_alone ps
@@ -177,13 +181,13 @@ Unless true X = ⊥
 Unless false X = X
 
 -- From s on the items were read up to a place where one may follow: whatever runs over the rest there completes them, in each reading that is left.
-abbrev pub SoFarAt : List ℕ → Start → ListOf → ℕ → Token → Token → List Pair → Type 0
+abbrev pub SoFarAt : SourceText → Start → ListOf → ℕ → Token → Token → List Pair → Type 0
 SoFarAt text f l o s m P =
     (a : Reading) → so_far_fits l a ≡ true → Unless (is_stuck l a) ((ps : Parts) (e : Token) (Q : List Pair) → RunsIn text o (stood_in f l.listed (left_pieces l a ps)) ps m e Q →
     RunsIn text o (stood_in f l.listed (item_pieces l.listed a (join (all_read_as a l.nodes) ps))) (join (all_read_as a l.nodes) ps) s e (P ++ Q))
 
 -- what closes a list, if anything does
-abbrev pub ClosedBy : List ℕ → Option (List ℕ) → Token → Token → Type 0
+abbrev pub ClosedBy : SourceText → Option (List ℕ) → Token → Token → Type 0
 ClosedBy text None m e = e ≡ m
 ClosedBy text (Some w) m e = ReadsHere text Punctuator w m e
 
@@ -193,7 +197,7 @@ case_count (listed.Cases r) ps = defaults ps
 case_count _ ps = 0
 
 -- A whole list: its items from s to a place, in each reading, and what closes it; the last right edge, and the last places.
-pub record ListAt (text : List ℕ) (f : Start) (l : ListOf) (o : ℕ) (s e : Token) (P : List Pair) : Type 0 where
+pub record ListAt (text : SourceText) (f : Start) (l : ListOf) (o : ℕ) (s e : Token) (P : List Pair) : Type 0 where
   pub mid : Token
   pub closes : ClosedBy text (closing l.listed) mid e
   pub runs : (a : Reading) → is_whole l a ≡ true → RunsIn text o (stood_in f l.listed (item_pieces l.listed a (all_read_as a l.nodes))) (all_read_as a l.nodes) s mid P
@@ -244,7 +248,7 @@ may_trail it as_expression = true
 may_trail it (as_pattern b) = not it.spreads
 
 -- the item is spelled in each reading that its shape has
-pub record ItemReads (text : List ℕ) (l : ListKind) (it : ListItem) (o : ℕ) (s e : Token) (P : List Pair) : Type 0 where
+pub record ItemReads (text : SourceText) (l : ListKind) (it : ListItem) (o : ℕ) (s e : Token) (P : List Pair) : Type 0 where
   pub reads : (a : Reading) → has_reading l a ≡ true → item_fits l it a ≡ true → SpelledAs (item_role l a) text o (read_as a it.node) s e P
   pub no_rest : (a : Reading) → has_reading l a ≡ true → item_fits l it a ≡ true → may_trail it a ≡ true → is_rest (kind_of (read_as a it.node)) ≡ false
   pub edge : asks_edge l ≡ true → it.edge ≡ edge_as_written (edge it.node) e
@@ -256,7 +260,7 @@ is_chunked listed.Template = true
 is_chunked _ = false
 
 -- One more item of a list; a hole of an array, before its comma; an expression in a template, and the part behind it.
-pub data ItemAt (text : List ℕ) (l k : ListOf) (o : ℕ) (s e : Token) (P : List Pair) : Type 0 where
+pub data ItemAt (text : SourceText) (l k : ListOf) (o : ℕ) (s e : Token) (P : List Pair) : Type 0 where
   an_item : (it : ListItem) → is_chunked l.listed ≡ false → k ≡ with_item l it → takes l.listed l.seen it ≡ true → ItemReads text l.listed it o s e P → (l.listed ≡ listed.ParenthesizedItems → it.spreads ≡ false → is_target it.shape.assigned ≡ true → is_simple (kind_of it.node) ≡ true) → ItemAt text l k o s e P
   a_hole : l.listed ≡ listed.Elements → k ≡ record l { nodes = push_gap l.nodes; seen = with_hole l.seen } → e ≡ s → P ≡ [] → Sees text Punctuator (codes ",") s → ItemAt text l k o s e P
   a_chunk : l.listed ≡ listed.Template → (n : Tree) (c : ListItem) (m : Token) → k ≡ with_item (with_item l (item_from n value false Closed)) c → SpellsIn text o (expr Expression true Any) n s m P → ChunkAt text m e c.node c.is_flagged → ItemAt text l k o s e P
@@ -270,17 +274,26 @@ defined false = listed.Properties
 abbrev pub names_constructor : Bool → Tree → Bool
 names_constructor c n = not c && ((is_identifier (kind_of n) && is (text_of n) "constructor") || (is_string_literal (kind_of n) (text_of n) && is (literal_units (text_of n)) "constructor"))
 
+-- the position of a key without brackets, by its kind
+abbrev pub key_role : Kind → Role
+key_role kind = cond (is_private kind) private_name key
+
 -- A property's name (12.2.6): an expression in brackets, or one token, which is the last.
-pub record KeyAt (text : List ℕ) (in_class : Bool) (k : PropertyName) (o : ℕ) (s e : Token) (P : List Pair) : Type 0 where
+pub record KeyAt (text : SourceText) (in_class : Bool) (k : PropertyName) (o : ℕ) (s e : Token) (P : List Pair) : Type 0 where
   pub computed : k.computed ≡ true → (k.token ≡ None) × RunsIn text o (anywhere (sign "[" ∷ assignment ∷ sign "]" ∷ [])) (part k.node none) s e P
-  pub plain : k.computed ≡ false → SpellsIn text o key k.node s e P
-  pub token : IfSome k.token (λ t. (k.computed ≡ false) × NextIn text any_goal s e e × (e ≡ as_read (token_of t)) × (P ≡ []) × (k.node ≡ single_node (key_kind t.class) (token_of t)))
+  pub plain : k.computed ≡ false → SpellsIn text o (key_role (kind_of k.node)) k.node s e P
+  pub told : k.computed ≡ false → is_some k.token ≡ true
+  pub token : IfSome k.token (λ t. (k.computed ≡ false) × SeenNext text s (as_read (token_of t)) e × (e ≡ unseen (as_read (token_of t))) × (P ≡ []) × (k.node ≡ key_node (token_of t)))
+  pub public : in_class ≡ false → k.computed ≡ false → is_private (kind_of k.node) ≡ false
   pub constructor : k.is_constructor ≡ (in_class && names_constructor k.computed k.node)
 
 -- the words before it
 abbrev pub form_pieces : Form → List Piece
 form_pieces form.Get = term "get" ∷ []
 form_pieces form.Set = term "set" ∷ []
+form_pieces form.Generator = method_words form.Generator
+form_pieces form.Async = method_words form.Async
+form_pieces form.AsyncGenerator = method_words form.AsyncGenerator
 form_pieces _ = []
 
 abbrev pub modifier_pieces : Bool → Form → List Piece
@@ -291,9 +304,12 @@ abbrev pub is_called : Form → Bool
 is_called form.Get = true
 is_called form.Set = true
 is_called form.Method = true
+is_called form.Generator = true
+is_called form.Async = true
+is_called form.AsyncGenerator = true
 is_called _ = false
 
-pub record NamedSo (text : List ℕ) (in_class : Bool) (m : Modifiers) (k : PropertyName) (o : ℕ) (s e : Token) (P : List Pair) : Type 0 where
+pub record NamedSo (text : SourceText) (in_class : Bool) (m : Modifiers) (k : PropertyName) (o : ℕ) (s e : Token) (P : List Pair) : Type 0 where
   pub mid : Token
   pub words : RunsIn text o (anywhere (modifier_pieces m.is_static m.form)) none s mid []
   pub no_static : in_class ≡ false → m.is_static ≡ false
@@ -301,5 +317,5 @@ pub record NamedSo (text : List ℕ) (in_class : Bool) (m : Modifiers) (k : Prop
   pub called : is_called m.form ≡ true
 
 -- what follows the key of a property that is no method, from where the key begins
-abbrev pub ValueAt : List ℕ → PropertyName → ℕ → ListItem → ℕ → Token → Token → List Pair → Type 0
+abbrev pub ValueAt : SourceText → PropertyName → ℕ → ListItem → ℕ → Token → Token → List Pair → Type 0
 ValueAt text k from it o m e Q = (s : Token) (P : List Pair) → Begins text from s → KeyAt text false k o s m P → ItemReads text listed.Properties it o s e (P ++ Q)

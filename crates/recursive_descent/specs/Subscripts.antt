@@ -8,7 +8,7 @@ use Rattle.tree.specs.declared.kind.Kind.TheVariants.{CallExpression, TaggedTemp
 use Rattle.tree.specs.declared.kind.Flags.{Flags}
 use Rattle.tree.specs.Tree.{plain}
 use Rattle.tokens.specs.declared.token.TokenClass.{TokenClass}
-use Rattle.tokens.specs.declared.token.TokenClass.TheVariants.{IdentifierName as a_name, Punctuator, Template}
+use Rattle.tokens.specs.declared.token.TokenClass.TheVariants.{IdentifierName as a_name, Keyword, PrivateName, Punctuator, Template}
 use Rattle.recursive_descent.specs.declared.subscripts.Subscript.{Subscript}
 use Rattle.recursive_descent.specs.declared.subscripts.Subscript.TheVariants.{Name, Index, Arguments, Quasi}
 
@@ -42,4 +42,6 @@ abbrev pub link_by : TokenClass → List ℕ → Option Subscript
 link_by Template w = Some Quasi
 link_by Punctuator w = cond (is w "[") (Some Index) (cond (is w "(") (Some Arguments) None)
 link_by a_name w = Some Name
+link_by Keyword w = Some Name
+link_by PrivateName w = Some Name
 link_by _ w = None

@@ -21,6 +21,7 @@ ghost use Rattle.grammar.specs.Infix.{coded_operator, meant};
 ghost use Rattle.parser_tables.specs.Operators.{stops_by};
 ghost use Rattle.token_cursor.specs.Refusals.{IsRefusal};
 ghost use Rattle.recursive_descent.specs.LeftOperands.{left_of, left_rank, takes_left, operator_text_of, is_prefix_update, takes_operand, prefixed_node, prefixed_part};
+ghost use Rattle.recursive_descent.specs.Spelled.{OfLanguage};
 
 use crate::next_operator::NextOperator;
 use crate::parser::Parser;
@@ -72,6 +73,7 @@ impl<'t, 's> Parser<'t, 's> {
         ensures passes { IfOk result (λ _. Passes self.old.cursor self.new.cursor) }
         ensures derived { IfOk result (λ part. Adds self.old.cursor self.new.cursor self.old.pairs.items self.new.pairs.items (ReadAt self.old.cursor.text position part)) }
         ensures low { IfOk result (λ part. height part.cover.node ≤ high) }
+        ensures own { IfOk result (λ part. OfLanguage self.old.cursor.text part.cover.node) }
         ensures complete { ExpressionComplete self.old.cursor self.new.cursor self.old.pairs.items self.new.pairs.items high position result }
         ensures refused { IfErr result (IsRefusal self.new.cursor.text) }
     {
@@ -101,6 +103,7 @@ impl<'t, 's> Parser<'t, 's> {
         ensures passes { IfOk result (λ _. Passes self.old.cursor self.new.cursor) }
         ensures derived { IfOk result (λ part. Adds self.old.cursor self.new.cursor self.old.pairs.items self.new.pairs.items (ReadsOn self.old.cursor.text position left.entry part)) }
         ensures low { IfOk result (λ part. height part.cover.node ≤ high) }
+        ensures own { IfOk result (λ part. OfLanguage self.old.cursor.text left.entry.cover.node → OfLanguage self.old.cursor.text part.cover.node) }
         ensures complete { InfixComplete self.old.cursor self.new.cursor self.old.pairs.items self.new.pairs.items high position left.entry result }
         ensures refused { IfErr result (IsRefusal self.new.cursor.text) }
     {
@@ -139,6 +142,7 @@ impl<'t, 's> Parser<'t, 's> {
         ensures passes { IfOk result (λ _. Passes self.old.cursor self.new.cursor) }
         ensures derived { IfOk result (λ part. Adds self.old.cursor self.new.cursor self.old.pairs.items self.new.pairs.items (ReadsOn self.old.cursor.text position left.entry part)) }
         ensures low { IfOk result (λ part. height part.cover.node ≤ high) }
+        ensures own { IfOk result (λ part. OfLanguage self.old.cursor.text left.entry.cover.node → OfLanguage self.old.cursor.text part.cover.node) }
         ensures complete { InfixComplete self.old.cursor self.new.cursor self.old.pairs.items self.new.pairs.items high position left.entry result }
         ensures refused { IfErr result (IsRefusal self.new.cursor.text) }
     {
@@ -194,6 +198,7 @@ impl<'t, 's> Parser<'t, 's> {
         ensures derived { IfOk result (λ part. Adds self.old.cursor self.new.cursor self.old.pairs.items self.new.pairs.items (GoesOn self.old.cursor.text has_in left.entry part)) }
         ensures rank { IfOk result (λ part. rank_made_by (meant next.entry.operator) next.entry.token.after_break ≡ Some part.rank) }
         ensures low { IfOk result (λ part. height part.cover.node ≤ high) }
+        ensures own { IfOk result (λ part. OfLanguage self.old.cursor.text left.entry.cover.node → OfLanguage self.old.cursor.text part.cover.node) }
         ensures complete { BinaryRestComplete self.old.cursor self.new.cursor self.old.pairs.items self.new.pairs.items high left.entry next.entry.token next.entry.operator has_in result }
         ensures refused { IfErr result (IsRefusal self.new.cursor.text) }
     {
@@ -308,6 +313,10 @@ impl<'t, 's> Parser<'t, 's> {
             return Ok(Operand::plain(node, Rank::Update, Edge::Other));
         }
         let nodes = MeasuredParts::only(self.alloc, operand.into_expression(at)?)?;
+        if text == "await" {
+            let node = finish_plain(Kind::AwaitExpression, span, nodes, high)?;
+            return Ok(Operand::plain(node, Rank::Unary, edge));
+        }
         let node = finish_node(Kind::UnaryExpression, text, Flags::PLAIN, span, nodes, high)?;
         Ok(Operand::plain(node, Rank::Unary, edge))
     }

@@ -2,28 +2,30 @@
 #![tactic(auto, using(parser_tables::proofs::Refusals::refusals, crate::proofs::reading::AdvancedTokens::moves))]
 
 ghost use Rattle.recursive_descent.specs.Complete.{ArrowComplete, FunctionOrClassComplete};
-ghost use Rattle.std.specs.Prelude.{◌≡◌, ◌≤◌, IfOk, IfErr};
+ghost use Rattle.std.specs.Prelude.{◌≡◌, ◌≤◌, [], codes, IfOk, IfErr};
 ghost use Rattle.token_cursor.specs.CursorState.{Passes};
 ghost use Rattle.recursive_descent.specs.Follows.{NamedAt, NotNamed};
 ghost use Rattle.recursive_descent.specs.Soundness.{Adds, ArrowAt};
-ghost use Rattle.tree.specs.Tree.{height};
+ghost use Rattle.tree.specs.Tree.{height, node, plain};
+ghost use Rattle.productions.specs.Made.{Makes};
 ghost use Rattle.recursive_descent.specs.SoundnessOfStatements.{ClosureAt};
 ghost use Rattle.token_cursor.specs.Refusals.{IsRefusal};
+ghost use Rattle.token_cursor.specs.CursorState.{IsSyntaxHere};
+ghost use Rattle.token_cursor.specs.Seen.{Misses};
+ghost use Rattle.tree.specs.Uses.{is_async};
+ghost use Rattle.tokens.specs.declared.token.TokenClass.{TokenClass};
+ghost use Rattle.recursive_descent.specs.Later.{StarredAt, WordsAt, WordsOf, FirstWord, FirstWordOf, MissesWordOf, FormOfLanguage};
+ghost use Rattle.parser_tables.specs.StatementSymbols.{function_or_class_form};
+ghost use Rattle.recursive_descent.specs.Spelled.{OfLanguage, AllOfLanguage};
 
 use crate::parser::Parser;
 use language::{Edge, Rank};
 use parser_tables::{
     ExpressionContext, FunctionOrClass, Operand, PartialStatement, StatementContext, body_symbols,
 };
-use productions::{MeasuredNode, MeasuredParts, finish_node, finish_plain};
+use productions::{MeasuredNode, MeasuredParts, finish_node};
 use source_text::Fault;
-use tree::{Flags, Kind};
-
-/// The flags of an arrow function whose body is an expression (14.2).
-const CONCISE: Flags = Flags {
-    expression: true,
-    ..Flags::PLAIN
-};
+use tree::{Flags, Form, Kind};
 
 impl<'t, 's> Parser<'t, 's> {
     /// Reads the name of a function or a class, which is its first part; a gap if it is left out or is a method's.
@@ -41,9 +43,9 @@ impl<'t, 's> Parser<'t, 's> {
         ensures refused { IfErr result (IsRefusal self.new.cursor.text) }
     {
         let has_name = match closure {
-            FunctionOrClass::FunctionDeclaration | FunctionOrClass::ClassDeclaration => true,
-            FunctionOrClass::Function | FunctionOrClass::Class => self.sees_identifier(),
+            FunctionOrClass::FunctionDeclaration(_) | FunctionOrClass::ClassDeclaration => true,
             FunctionOrClass::Method(_) => false,
+            _ => self.sees_identifier(),
         };
         if has_name {
             let name = self.identifier()?;
@@ -67,13 +69,75 @@ impl<'t, 's> Parser<'t, 's> {
         ensures forward { self.old.cursor.last.stop ≤ self.new.cursor.last.stop }
         ensures derived { IfOk result (λ n. Adds self.old.cursor self.new.cursor self.old.pairs.items self.new.pairs.items (ClosureAt self.old.cursor.text closure start n)) }
         ensures low { IfOk result (λ n. height n ≤ high) }
+        ensures own { IfOk result (λ n. FormOfLanguage self.old.cursor.text (function_or_class_form closure) → OfLanguage self.old.cursor.text n) }
         ensures complete { FunctionOrClassComplete self.old.cursor self.new.cursor self.old.pairs.items self.new.pairs.items high closure start result }
         ensures refused { IfErr result (IsRefusal self.new.cursor.text) }
     {
         let inner = high.saturating_sub(1);
         let mut built = PartialStatement::of(self.function_or_class_name(closure, inner)?);
         self.read_symbols(closure.symbols(), &mut built, StatementContext::BODY, inner)?;
-        finish_plain(closure.kind(), self.span_from(start), built.nodes, high)
+        let span = self.span_from(start);
+        finish_node(closure.kind(), "", closure.flags(), span, built.nodes, high)
+    }
+
+    /// Goes past the words of a function that stand behind its first: `function` behind `async`, and the `*` of a generator; answers what is
+    /// declared.
+    pub(crate) fn function_words(
+        &mut self,
+        closure: FunctionOrClass,
+    ) -> Result<FunctionOrClass, Fault>
+        requires first { FirstWordOf self.old.cursor closure }
+        ensures text { self.new.cursor.text ≡ self.old.cursor.text }
+        ensures forward { self.old.cursor.last.stop ≤ self.new.cursor.last.stop }
+        ensures same_open { self.new.cursor.opened ≡ self.old.cursor.opened }
+        ensures same_pairs { self.new.pairs.items ≡ self.old.pairs.items }
+        ensures refused { IfErr result (IsRefusal self.new.cursor.text) }
+        ensures words { IfOk result (λ c. WordsOf closure c self.old.cursor self.new.cursor) }
+        ensures missed { IfErr result (λ _. MissesWordOf self.old.cursor closure) }
+    {
+        match closure {
+            FunctionOrClass::FunctionDeclaration(form) => Ok(FunctionOrClass::FunctionDeclaration(
+                self.function_form(form)?,
+            )),
+            FunctionOrClass::DefaultFunction(form) => Ok(FunctionOrClass::DefaultFunction(
+                self.function_form(form)?,
+            )),
+            _ => Ok(closure),
+        }
+    }
+
+    /// Goes past `function` behind `async`, and past the `*` of a generator; answers the form of the function.
+    pub(crate) fn function_form(&mut self, form: Form) -> Result<Form, Fault>
+        requires first { FirstWord self.old.cursor form }
+        ensures text { self.new.cursor.text ≡ self.old.cursor.text }
+        ensures forward { self.old.cursor.last.stop ≤ self.new.cursor.last.stop }
+        ensures same_open { self.new.cursor.opened ≡ self.old.cursor.opened }
+        ensures same_pairs { self.new.pairs.items ≡ self.old.pairs.items }
+        ensures refused { IfErr result (IsRefusal self.new.cursor.text) }
+        ensures words { IfOk result (λ y. WordsAt self.old.cursor self.new.cursor y × (is_async y ≡ is_async form)) }
+        ensures missed { IfErr result (λ fault. IsSyntaxHere self.new.cursor fault × (form ≡ Form.Async) × Misses self.old.cursor.text TokenClass.IdentifierName (codes "function") self.old.cursor.last) }
+    {
+        if form.is_async() {
+            self.expect_word("function")?;
+        }
+        Ok(self.starred(form))
+    }
+
+    /// Goes past the `*` of a generator (15.5 of the 13th edition), and answers the form with it.
+    pub(crate) fn starred(&mut self, form: Form) -> Form
+        ensures text { self.new.cursor.text ≡ self.old.cursor.text }
+        ensures forward { self.old.cursor.last.stop ≤ self.new.cursor.last.stop }
+        ensures same_open { self.new.cursor.opened ≡ self.old.cursor.opened }
+        ensures same_pairs { self.new.pairs.items ≡ self.old.pairs.items }
+        ensures starred { StarredAt self.old.cursor self.new.cursor form result }
+    {
+        if !self.cursor.is_of_2022() || !self.accept_punctuator("*") {
+            return form;
+        }
+        match form {
+            Form::Async => Form::AsyncGenerator,
+            _ => Form::Generator,
+        }
     }
 
     /// An arrow function from its `=>` on (14.2).
@@ -83,15 +147,17 @@ impl<'t, 's> Parser<'t, 's> {
         &mut self,
         parameters: MeasuredParts<'s>,
         start: usize,
+        form: Form,
         has_in: bool,
         high: u32,
     ) -> Result<Operand<'s>, Fault>
         ensures text { self.new.cursor.text ≡ self.old.cursor.text }
         ensures forward { self.old.cursor.last.stop ≤ self.new.cursor.last.stop }
         ensures passes { IfOk result (λ _. Passes self.old.cursor self.new.cursor) }
-        ensures derived { IfOk result (λ part. Adds self.old.cursor self.new.cursor self.old.pairs.items self.new.pairs.items (ArrowAt self.old.cursor.text has_in parameters.entry start part)) }
+        ensures derived { IfOk result (λ part. Adds self.old.cursor self.new.cursor self.old.pairs.items self.new.pairs.items (ArrowAt self.old.cursor.text form has_in parameters.entry start part)) }
         ensures low { IfOk result (λ part. height part.cover.node ≤ high) }
-        ensures complete { ArrowComplete self.old.cursor self.new.cursor self.old.pairs.items self.new.pairs.items high parameters.entry start has_in result }
+        ensures own { IfOk result (λ part. AllOfLanguage self.old.cursor.text parameters.entry → FormOfLanguage self.old.cursor.text form → OfLanguage self.old.cursor.text part.cover.node) }
+        ensures complete { ArrowComplete self.old.cursor self.new.cursor self.old.pairs.items self.new.pairs.items high parameters.entry start form has_in result }
         ensures refused { IfErr result (IsRefusal self.new.cursor.text) }
     {
         self.expect_punctuator("=>")?;
@@ -99,16 +165,37 @@ impl<'t, 's> Parser<'t, 's> {
         let mut built = PartialStatement::of(parameters);
         if self.sees_punctuator("{") {
             self.read_symbols(body_symbols(), &mut built, StatementContext::BODY, inner)?;
-            let span = self.span_from(start);
-            let node = finish_plain(Kind::ArrowFunctionExpression, span, built.nodes, high)?;
+            let node = self.arrow_node(built.nodes, start, arrow_flags(form, false), high)?;
             return Ok(Operand::plain(node, Rank::Assignment, Edge::Arrow));
         }
         let body = self.expression(ExpressionContext::concise_body(has_in), inner)?;
         let edge = body.edge;
         built.nodes.push(self.into_expression(body)?)?;
-        let span = self.span_from(start);
-        let kind = Kind::ArrowFunctionExpression;
-        let node = finish_node(kind, "", CONCISE, span, built.nodes, high)?;
+        let node = self.arrow_node(built.nodes, start, arrow_flags(form, true), high)?;
         Ok(Operand::plain(node, Rank::Assignment, edge))
     }
+
+    /// The node of an arrow function that begins here.
+    fn arrow_node(
+        &self,
+        nodes: MeasuredParts<'s>,
+        start: usize,
+        flags: Flags,
+        high: u32,
+    ) -> Result<MeasuredNode<'s>, Fault>
+        ensures made { Makes (node Kind.ArrowFunctionExpression [] flags start self.now.cursor.last.stop nodes.entry) high result }
+    {
+        let span = self.span_from(start);
+        finish_node(Kind::ArrowFunctionExpression, "", flags, span, nodes, high)
+    }
+}
+
+/// The flags of an arrow function (14.2) of this form, whose body is an expression or not.
+fn arrow_flags(form: Form, is_concise: bool) -> Flags
+    ensures { result ≡ record plain { expression = is_concise; form = form } }
+{
+    let mut flags = Flags::PLAIN;
+    flags.expression = is_concise;
+    flags.form = form;
+    flags
 }

@@ -1,33 +1,42 @@
 #![tactic(auto)]
 
-//! Scripts from text by recursive descent: an expression is what its first token begins, and then what goes on with it.
+//! Scripts and modules from text by recursive descent: an expression is what its first token begins, and then what goes on with it.
 //! - May touch: all of reading: the cursor, which only this crate moves, nodes, and the list of pairs.
 //! - Contract: `read` answers what the text derives (`derived`), and all that it derives within the limits
 //!   (`complete`).
 //! - Begin at: `script.rt`, `read`; then `statements.rt` and `expressions.rt`. The rest of this head is for who
 //!   changes it.
 //!
+//! # Languages
+//!
+//! The cursor knows the language, and sees `await` as a keyword where it is reserved. One table reads all three languages. What only ECMAScript
+//! 2022 has is asked for at the token that begins it: `is_of_2022` stands behind a test that few tokens of the base profile pass. A module
+//! has its own loop of items (`modules.rt`); imports and exports are in no other list, so a script refuses them.
+//!
 //! # The cycle
 //!
-//! Functions outside the cycle read single tokens, most of them by methods of `Cursor`; thirty-two functions call
-//! each other. The measure is `12 * (length text - last.stop)` plus the rank. A function calls one of the same or a
+//! Functions outside the cycle read single tokens, most of them by methods of `Cursor`, or the items of a module;
+//! forty functions call each other. The measure is `12 * (length text - last.stop)` plus the rank. A function calls one of the same or a
 //! greater rank only after it has passed a token. By rank, with their files:
 //!
-//! - 11: `keyword_expression` (after `function`, `class`, `super`, `new`, `import`); in primary
-//! - 10: `super_expression` (after `super`), `new_expression` (after `new`), `import_call` (after `import`); in
+//! - 11: `keyword_expression` (after `function`, `class`, `super`, `new`, `import`, `yield`, a private name); in
 //!   primary
+//! - 10: `super_expression` (after `super`), `new_expression` (after `new`), `import_call` (after `import`),
+//!   `yield_expression` (after `yield`), `private_in` (after a private name), `async_expression` (after `async`); in
+//!   primary, async_and_yield, private_names
 //! - 9: `function_or_class` (a function or class after its word; a method from its `(`); in functions_and_classes
 //! - 8: `read_symbols` (loop); in statement_symbols
 //! - 7: `list` (loop), `statements` (loop); in lists, statements
-//! - 6: `item`, `statement`; in lists, statements
+//! - 6: `item`, `statement`, `for_await` (after `for`); in lists, statements
 //! - 5: `special_item` (what is no expression); in lists
 //! - 4: `expression` (loop), `infix`, `declarator`; in expressions, lists
 //! - 3: `leftmost_operand`, `optional_chain` (loop); in primary, subscripts
-//! - 2: `subscript`; in subscripts
+//! - 2: `subscript`, `arrow_of_name`; in subscripts, async_and_yield
 //! - 1: `parenthesized`, `bracketed_list`, `token_or_prefix`, `arrow_function`, `binary_rest`, `update_or_comma`,
-//!   `call_expression`, `index_member`, `other_subscript`, `spread_item`, `property_or_member`, `property_value`;
-//!   in primary, functions_and_classes, expressions, subscripts, lists, properties
-//! - 0: `arguments`, `property_name`, `prefix_expression`; in subscripts, properties, primary
+//!   `call_expression`, `index_member`, `other_subscript`, `spread_item`, `property_or_member`, `property_value`,
+//!   `async_call`; in primary, functions_and_classes, expressions, subscripts, lists, properties, async_and_yield
+//! - 0: `arguments`, `property_name`, `prefix_expression`, `field`, `static_block`; in subscripts, properties,
+//!   primary, class_elements
 //!
 //! Some are one arm of another and have its contract for that arm: `special_item` and `spread_item` of `item`;
 //! `bracketed_list` and `token_or_prefix` of `leftmost_operand`; `prefix_expression` of `token_or_prefix`;
@@ -69,8 +78,7 @@
 //!   job.
 //! - In the cycle answers take the measure before `c` (`F-goal t c = ..`), names of branches have their function in
 //!   front (`F-then-x`), and what a call within the cycle requires is one goal, the measure first:
-//!   `infix-binary_rest-requires t c = (search rules, (.., ..))`. The tool turns the first two into the stub's
-//!   form; the third shows as an error there, for `infix` alone.
+//!   `infix-binary_rest-requires t c = (search rules, (.., ..))`. The tool turns them into the stub's form.
 //! - An `omega` in an answer of the cycle sees more hypotheses than in a stub, and may break off: put the fact into
 //!   a lemma.
 //! - A lemma that ends in `.. (Err fault)`, or whose premise `Agrees ..` computes away, leaves implicit arguments
@@ -78,12 +86,17 @@
 //! - The comparison with the plain model: `tools/compare/parser.js` (`--n`, `--seed`, `--high`, `--open`,
 //!   `--nested`). The stack of `rt try` is too small for the rows at height 600: run them by `rt test`.
 
+mod async_and_yield;
+mod class_elements;
 mod expressions;
 mod functions_and_classes;
+mod imports;
 mod lists;
+mod modules;
 mod next_operator;
 mod parser;
 mod primary;
+mod private_names;
 mod properties;
 mod script;
 mod statement_symbols;

@@ -27,6 +27,7 @@ ghost use Rattle.tree.specs.declared.kind.Pair.{Pair};
 ghost use Rattle.token_cursor.specs.Refusals.{IsLimit, IsRefusal};
 ghost use Rattle.covers.specs.Patterns.{pattern_tree};
 ghost use Rattle.covers.specs.Shapes.{is_pattern};
+ghost use Rattle.recursive_descent.specs.Spelled.{OfLanguage, AllOfLanguage};
 
 use crate::parser::Parser;
 use crate::template_elements::{is_later_part, template_element};
@@ -49,6 +50,7 @@ impl<'t, 's> Parser<'t, 's> {
         ensures listed { IfOk result (λ list. list.listed ≡ listed) }
         ensures begun { IfOk result (BegunAt self.old.cursor self.new.cursor) }
         ensures template { IfOk result (TemplateAt self.old.cursor self.new.cursor) }
+        ensures own { IfOk result (λ list. AllOfLanguage self.old.cursor.text list.nodes) }
         ensures not_begun { IfErr result (NotBegun listed self.old.cursor high) }
         ensures untemplated { IfErr result (NoTemplate listed self.old.cursor) }
         ensures unopened { IfErr result (Unopened listed) }
@@ -146,6 +148,7 @@ impl<'t, 's> Parser<'t, 's> {
         ensures inside { IfOk result (λ whole. list.entry.listed ≡ ListKind.ParenthesizedItems → BeginsBy self.old.cursor whole.inside.start) }
         ensures same { IfOk result (λ whole. (whole.listed ≡ list.entry.listed) × (whole.span.start ≡ list.entry.span.start)) }
         ensures low { IfOk result (λ whole. parts_height list.entry.nodes ≤ high → parts_height whole.nodes ≤ high) }
+        ensures own { IfOk result (λ whole. AllOfLanguage self.old.cursor.text list.entry.nodes → AllOfLanguage self.old.cursor.text whole.nodes) }
         ensures complete { ListComplete self.old.cursor self.new.cursor self.old.pairs.items self.new.pairs.items high list.entry result }
         ensures refused { IfErr result (IsRefusal self.new.cursor.text) }
     {
@@ -178,6 +181,7 @@ impl<'t, 's> Parser<'t, 's> {
         ensures listed { list.new.listed ≡ list.old.listed }
         ensures derived { IfOk result (λ _. Adds self.old.cursor self.new.cursor self.old.pairs.items self.new.pairs.items (ItemAt self.old.cursor.text list.old list.new)) }
         ensures low { IfOk result (λ _. parts_height list.old.nodes ≤ high → parts_height list.new.nodes ≤ high) }
+        ensures own { IfOk result (λ _. AllOfLanguage self.old.cursor.text list.old.nodes → AllOfLanguage self.old.cursor.text list.new.nodes) }
         ensures complete { ItemComplete self.old.cursor self.new.cursor self.old.pairs.items self.new.pairs.items high list.old list.new result }
         ensures refused { IfErr result (IsRefusal self.new.cursor.text) }
     {
@@ -212,6 +216,7 @@ impl<'t, 's> Parser<'t, 's> {
         ensures listed { list.new.listed ≡ list.old.listed }
         ensures derived { IfOk result (λ _. Adds self.old.cursor self.new.cursor self.old.pairs.items self.new.pairs.items (ItemAt self.old.cursor.text list.old list.new)) }
         ensures low { IfOk result (λ _. parts_height list.old.nodes ≤ high → parts_height list.new.nodes ≤ high) }
+        ensures own { IfOk result (λ _. AllOfLanguage self.old.cursor.text list.old.nodes → AllOfLanguage self.old.cursor.text list.new.nodes) }
         ensures complete { ItemComplete self.old.cursor self.new.cursor self.old.pairs.items self.new.pairs.items high list.old list.new result }
         ensures refused { IfErr result (IsRefusal self.new.cursor.text) }
     {
@@ -274,6 +279,7 @@ impl<'t, 's> Parser<'t, 's> {
         ensures listed { list.new.listed ≡ list.old.listed }
         ensures derived { IfOk result (λ _. Adds self.old.cursor self.new.cursor self.old.pairs.items self.new.pairs.items (ItemAt self.old.cursor.text list.old list.new)) }
         ensures low { IfOk result (λ _. parts_height list.old.nodes ≤ high → parts_height list.new.nodes ≤ high) }
+        ensures own { IfOk result (λ _. AllOfLanguage self.old.cursor.text list.old.nodes → AllOfLanguage self.old.cursor.text list.new.nodes) }
         ensures complete { ItemComplete self.old.cursor self.new.cursor self.old.pairs.items self.new.pairs.items high list.old list.new result }
         ensures refused { IfErr result (IsRefusal self.new.cursor.text) }
     {
@@ -320,6 +326,7 @@ impl<'t, 's> Parser<'t, 's> {
         ensures passes { IfOk result (λ _. Passes self.old.cursor self.new.cursor) }
         ensures derived { IfOk result (λ item. Adds self.old.cursor self.new.cursor self.old.pairs.items self.new.pairs.items (ItemReads self.old.cursor.text (ListKind.Declarators has_in) item)) }
         ensures low { IfOk result (λ item. height item.node ≤ high) }
+        ensures own { IfOk result (λ item. OfLanguage self.old.cursor.text item.node) }
         ensures complete { DeclaratorComplete self.old.cursor self.new.cursor self.old.pairs.items self.new.pairs.items high has_in result }
         ensures refused { IfErr result (IsRefusal self.new.cursor.text) }
     {
@@ -378,6 +385,7 @@ impl<'t, 's> Parser<'t, 's> {
         ensures same_open { self.new.cursor.opened ≡ self.old.cursor.opened }
         ensures same_pairs { self.new.pairs.items ≡ self.old.pairs.items }
         ensures plain { IfOk result (λ item. (item.shape.is_expression ≡ true) × (item.spreads ≡ false)) }
+        ensures own { IfOk result (λ item. OfLanguage self.old.cursor.text item.node) }
         ensures read { IfOk result (λ item. SeesBy self.old.cursor.text Div is_template self.old.cursor.last → FirstChunkAt self.old.cursor.text self.old.cursor.last self.new.cursor.last item.node item.is_flagged) }
         ensures not_begun { IfErr result (NotBegun ListKind.Template self.old.cursor high) }
         ensures untemplated { IfErr result (NoTemplate ListKind.Template self.old.cursor) }
@@ -416,6 +424,7 @@ impl<'t, 's> Parser<'t, 's> {
         ensures same_open { self.new.cursor.opened ≡ self.old.cursor.opened }
         ensures same_pairs { self.new.pairs.items ≡ self.old.pairs.items }
         ensures plain { IfOk result (λ item. (item.shape.is_expression ≡ true) × (item.spreads ≡ false)) }
+        ensures own { IfOk result (λ item. OfLanguage self.old.cursor.text item.node) }
         ensures read { IfOk result (λ item. ChunkAt self.old.cursor.text self.old.cursor.last self.new.cursor.last item.node item.is_flagged) }
         ensures no_chunk { IfErr result (NoChunk self.old.cursor high) }
         ensures refused { IfErr result (IsRefusal self.new.cursor.text) }

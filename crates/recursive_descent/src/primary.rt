@@ -2,14 +2,15 @@
 #![tactic(auto, using(parser_tables::proofs::Refusals::refusals, crate::proofs::reading::AdvancedTokens::moves))]
 
 ghost use Rattle.recursive_descent.specs.Complete.{OperandComplete, KeywordExpressionComplete, ParenthesizedComplete};
-ghost use Rattle.std.specs.Prelude.{◌≡◌, ◌≢◌, ◌≤◌, ◌<◌, ◌+◌, ◌-◌, [], ◌∷◌, ◌++◌, vec_len, set, IfOk, IfErr, IfSome, IfNone, true, codes};
+ghost use Rattle.std.specs.Prelude.{◌≡◌, ◌≢◌, ◌⊎◌, ◌≤◌, ◌<◌, ◌+◌, ◌-◌, [], ◌∷◌, ◌++◌, vec_len, set, IfOk, IfErr, IfSome, IfNone, true, codes};
 ghost use Rattle.token_cursor.specs.CursorState.{IsAhead};
+ghost use Rattle.language.specs.Languages.{is_of_2022};
 ghost use Rattle.source_text.specs.Source.{IsPlace};
 ghost use Rattle.language.specs.Token.{as_read};
 ghost use Rattle.language.specs.Vocabulary.{is_identifier};
 ghost use Rattle.language.specs.ExpressionStart.{expression_start};
 ghost use Rattle.language.specs.Claims.{max_open};
-ghost use Rattle.parser_tables.specs.ExpressionStarts.{coded_start, opens_at, OpensNothing};
+ghost use Rattle.parser_tables.specs.ExpressionStarts.{coded_in, opens_at, MetaAhead, OpensNothing};
 ghost use Rattle.std.specs.Bool.{OnTrue, OnFalse};
 ghost use Rattle.tokens.specs.Scanned.{token_of};
 ghost use Rattle.tokens.specs.declared.token.Goal.TheVariants.{Div};
@@ -28,6 +29,7 @@ ghost use Rattle.parser_tables.specs.Operands.{plain_part};
 ghost use Rattle.recursive_descent.specs.Soundness.{Adds, ReadAt, WordedAt};
 ghost use Rattle.token_cursor.specs.Refusals.{IsLimit, IsRefusal};
 ghost use Rattle.parser_tables.specs.Tokens.{single_node, single_text};
+ghost use Rattle.recursive_descent.specs.Spelled.{OfLanguage};
 
 use crate::parser::Parser;
 use covers::{ListBuilder, ListKind};
@@ -40,8 +42,9 @@ use parser_tables::{
 };
 use productions::{MeasuredNode, MeasuredParts, finish_plain};
 use source_text::Fault;
+use token_cursor::{is_name_token, is_punctuator};
 use tokens::{Goal, Token, TokenClass};
-use tree::{Kind, NodeText};
+use tree::{Form, Kind, NodeText};
 
 impl<'t, 's> Parser<'t, 's> {
     /// The token ahead and what it begins; none if no expression at the position begins with it.
@@ -49,19 +52,35 @@ impl<'t, 's> Parser<'t, 's> {
         ensures ahead { IfSome result (λ found. IsAhead Goal.RegExp self.now.cursor.text self.now.cursor.last.stop (token_of found.0)) }
         ensures real { IfSome result (λ found. found.0.class ≢ TokenClass.End) }
         ensures list { IfSome result (λ found. BeginsList found.1) }
-        ensures coded { IfSome result (λ found. coded_start (expression_start (as_read (token_of found.0))) ≡ Some found.1) }
-        ensures stands { IfSome result (λ found. opens_at position (as_read (token_of found.0)) ≡ true) }
+        ensures coded { IfSome result (λ found. coded_in self.now.cursor.text.language (as_read (token_of found.0)) ≡ Some found.1) }
+        ensures stands { IfSome result (λ found. (opens_at position (as_read (token_of found.0)) ≡ true) ⊎ ((found.1 ≡ ExpressionStart.Import) × (is_of_2022 self.now.cursor.text.language ≡ true) × MetaAhead self.now.cursor.text self.now.cursor.last)) }
         ensures none { IfNone result (OpensNothing self.now.cursor.text position self.now.cursor.last) }
     {
         let Some(token) = self.cursor.peek(Goal::RegExp) else {
             return None;
         };
-        let Some(opening) = expression_start_of(&token) else {
+        let Some(opening) = expression_start_of(&token, self.cursor.language()) else {
             return None;
         };
-        match may_start(position, opening) {
+        match may_start(position, opening) || self.begins_import_meta(&token) {
             true => Some((token, opening)),
             false => None,
+        }
+    }
+
+    /// Whether the token ahead begins `import.meta`, which stands also where no call does (13.3.12 of the 13th edition).
+    #[inline(never)]
+    fn begins_import_meta(&self, token: &Token<'s>) -> bool
+        requires { IsAhead Goal.RegExp self.now.cursor.text self.now.cursor.last.stop (token_of token.now) }
+        ensures seen { OnTrue result ((is_of_2022 self.now.cursor.text.language ≡ true) × MetaAhead self.now.cursor.text self.now.cursor.last) }
+        ensures missed { OnFalse result (is_of_2022 self.now.cursor.text.language ≡ true → MetaAhead self.now.cursor.text self.now.cursor.last → ⊥) }
+    {
+        if !is_name_token(token, "import") || !self.cursor.is_of_2022() {
+            return false;
+        }
+        match self.cursor.peek_behind(token) {
+            Some(second) => is_punctuator(&second, "."),
+            None => false,
         }
     }
 
@@ -78,6 +97,7 @@ impl<'t, 's> Parser<'t, 's> {
         ensures passes { IfOk result (λ _. Passes self.old.cursor self.new.cursor) }
         ensures derived { IfOk result (λ part. Adds self.old.cursor self.new.cursor self.old.pairs.items self.new.pairs.items (ReadAt self.old.cursor.text position part)) }
         ensures low { IfOk result (λ part. height part.cover.node ≤ high) }
+        ensures own { IfOk result (λ part. OfLanguage self.old.cursor.text part.cover.node) }
         ensures complete { OperandComplete self.old.cursor self.new.cursor self.old.pairs.items self.new.pairs.items high position result }
         ensures refused { IfErr result (IsRefusal self.new.cursor.text) }
     {
@@ -112,13 +132,14 @@ impl<'t, 's> Parser<'t, 's> {
     ) -> Result<Operand<'s>, Fault>
         requires ahead { IsAhead Goal.RegExp self.old.cursor.text self.old.cursor.last.stop (token_of token) }
         requires list { BeginsList (ExpressionStart.List what) }
-        requires coded { coded_start (expression_start (as_read (token_of token))) ≡ Some (ExpressionStart.List what) }
+        requires coded { coded_in self.old.cursor.text.language (as_read (token_of token)) ≡ Some (ExpressionStart.List what) }
         requires stands { opens_at position (as_read (token_of token)) ≡ true }
         ensures text { self.new.cursor.text ≡ self.old.cursor.text }
         ensures forward { self.old.cursor.last.stop ≤ self.new.cursor.last.stop }
         ensures passes { IfOk result (λ _. Passes self.old.cursor self.new.cursor) }
         ensures derived { IfOk result (λ part. Adds self.old.cursor self.new.cursor self.old.pairs.items self.new.pairs.items (ReadAt self.old.cursor.text position part)) }
         ensures low { IfOk result (λ part. height part.cover.node ≤ high) }
+        ensures own { IfOk result (λ part. OfLanguage self.old.cursor.text part.cover.node) }
         ensures complete { OperandComplete self.old.cursor self.new.cursor self.old.pairs.items self.new.pairs.items high position result }
         ensures refused { IfErr result (IsRefusal self.new.cursor.text) }
     {
@@ -140,7 +161,7 @@ impl<'t, 's> Parser<'t, 's> {
     ) -> Result<Operand<'s>, Fault>
         requires ahead { IsAhead Goal.RegExp self.old.cursor.text self.old.cursor.last.stop (token_of token) }
         requires real { token.class ≢ TokenClass.End }
-        requires coded { coded_start (expression_start (as_read (token_of token))) ≡ Some opening }
+        requires coded { coded_in self.old.cursor.text.language (as_read (token_of token)) ≡ Some opening }
         requires stands { opens_at position (as_read (token_of token)) ≡ true }
         requires short { is_short opening ≡ true }
         ensures text { self.new.cursor.text ≡ self.old.cursor.text }
@@ -148,6 +169,7 @@ impl<'t, 's> Parser<'t, 's> {
         ensures passes { IfOk result (λ _. Passes self.old.cursor self.new.cursor) }
         ensures derived { IfOk result (λ part. Adds self.old.cursor self.new.cursor self.old.pairs.items self.new.pairs.items (ReadAt self.old.cursor.text position part)) }
         ensures low { IfOk result (λ part. height part.cover.node ≤ high) }
+        ensures own { IfOk result (λ part. OfLanguage self.old.cursor.text part.cover.node) }
         ensures complete { OperandComplete self.old.cursor self.new.cursor self.old.pairs.items self.new.pairs.items high position result }
         ensures refused { IfErr result (IsRefusal self.new.cursor.text) }
     {
@@ -163,7 +185,8 @@ impl<'t, 's> Parser<'t, 's> {
                     && accepts_rank(position.rank, Rank::Assignment)
                 {
                     let parameter = MeasuredParts::one(self.alloc, node)?;
-                    return self.arrow_function(parameter, token.start, position.has_in, high);
+                    let start = token.start;
+                    return self.arrow_function(parameter, start, Form::Init, position.has_in, high);
                 }
                 Ok(Operand::plain(node, Rank::Primary, Edge::Other))
             }
@@ -184,13 +207,14 @@ impl<'t, 's> Parser<'t, 's> {
     ) -> Result<Operand<'s>, Fault>
         requires ahead { IsAhead Goal.RegExp self.old.cursor.text self.old.cursor.last.stop (token_of token) }
         requires real { token.class ≢ TokenClass.End }
-        requires coded { coded_start (expression_start (as_read (token_of token))) ≡ Some (ExpressionStart.Prefix own side) }
+        requires coded { coded_in self.old.cursor.text.language (as_read (token_of token)) ≡ Some (ExpressionStart.Prefix own side) }
         requires stands { opens_at position (as_read (token_of token)) ≡ true }
         ensures text { self.new.cursor.text ≡ self.old.cursor.text }
         ensures forward { self.old.cursor.last.stop ≤ self.new.cursor.last.stop }
         ensures passes { IfOk result (λ _. Passes self.old.cursor self.new.cursor) }
         ensures derived { IfOk result (λ part. Adds self.old.cursor self.new.cursor self.old.pairs.items self.new.pairs.items (ReadAt self.old.cursor.text position part)) }
         ensures low { IfOk result (λ part. height part.cover.node ≤ high) }
+        ensures own { IfOk result (λ part. OfLanguage self.old.cursor.text part.cover.node) }
         ensures complete { OperandComplete self.old.cursor self.new.cursor self.old.pairs.items self.new.pairs.items high position result }
         ensures refused { IfErr result (IsRefusal self.new.cursor.text) }
     {
@@ -201,6 +225,7 @@ impl<'t, 's> Parser<'t, 's> {
     }
 
     /// A node that is one token; `this` has no text.
+    #[inline(always)]
     pub(crate) fn token_node(
         &self,
         kind: Kind,
@@ -244,13 +269,15 @@ impl<'t, 's> Parser<'t, 's> {
         ensures forward { self.old.cursor.last.stop ≤ self.new.cursor.last.stop }
         ensures derived { IfOk result (λ part. Adds self.old.cursor self.new.cursor self.old.pairs.items self.new.pairs.items (WordedAt self.old.cursor.text position token.entry opening part)) }
         ensures low { IfOk result (λ part. height part.cover.node ≤ high) }
+        ensures own { IfOk result (λ part. coded_in self.old.cursor.text.language (as_read (token_of token.entry)) ≡ Some opening → OfLanguage self.old.cursor.text part.cover.node) }
         ensures complete { KeywordExpressionComplete self.old.cursor self.new.cursor self.old.pairs.items self.new.pairs.items high token.entry opening position result }
         ensures refused { IfErr result (IsRefusal self.new.cursor.text) }
     {
         let start = token.start;
         match opening {
             ExpressionStart::Function => {
-                let node = self.function_or_class(FunctionOrClass::Function, start, high)?;
+                let closure = FunctionOrClass::Function(self.starred(Form::Init));
+                let node = self.function_or_class(closure, start, high)?;
                 Ok(Operand::plain(node, Rank::Primary, Edge::Other))
             }
             ExpressionStart::Class => {
@@ -260,6 +287,9 @@ impl<'t, 's> Parser<'t, 's> {
             ExpressionStart::Super => self.super_expression(token, position, high),
             ExpressionStart::New => self.new_expression(token, position, high),
             ExpressionStart::Import => self.import_call(token, position, high),
+            ExpressionStart::Async => self.async_expression(position, high),
+            ExpressionStart::Yield => self.yield_expression(token, position, high),
+            ExpressionStart::PrivateName => self.private_in(token, position, high),
             _ => Err(self.syntax_error()),
         }
     }
@@ -277,11 +307,15 @@ impl<'t, 's> Parser<'t, 's> {
         ensures forward { self.old.cursor.last.stop ≤ self.new.cursor.last.stop }
         ensures derived { IfOk result (λ part. Adds self.old.cursor self.new.cursor self.old.pairs.items self.new.pairs.items (WordedAt self.old.cursor.text position token.entry ExpressionStart.Super part)) }
         ensures low { IfOk result (λ part. height part.cover.node ≤ high) }
+        ensures own { IfOk result (λ part. OfLanguage self.old.cursor.text part.cover.node) }
         ensures complete { KeywordExpressionComplete self.old.cursor self.new.cursor self.old.pairs.items self.new.pairs.items high token.entry ExpressionStart.Super position result }
         ensures refused { IfErr result (IsRefusal self.new.cursor.text) }
     {
         if !self.sees_super_continuation(accepts_rank(position.rank, Rank::Call)) {
             return Err(self.syntax_error());
+        }
+        if self.cursor.is_of_2022() {
+            self.refuse_private_name()?;
         }
         let node = self.token_node(Kind::Super, token, high.saturating_sub(1))?;
         self.subscript(Operand::plain(node, Rank::Primary, Edge::Other), high)
@@ -300,11 +334,12 @@ impl<'t, 's> Parser<'t, 's> {
         ensures forward { self.old.cursor.last.stop ≤ self.new.cursor.last.stop }
         ensures derived { IfOk result (λ part. Adds self.old.cursor self.new.cursor self.old.pairs.items self.new.pairs.items (WordedAt self.old.cursor.text position token.entry ExpressionStart.New part)) }
         ensures low { IfOk result (λ part. height part.cover.node ≤ high) }
+        ensures own { IfOk result (λ part. coded_in self.old.cursor.text.language (as_read (token_of token.entry)) ≡ Some ExpressionStart.New → OfLanguage self.old.cursor.text part.cover.node) }
         ensures complete { KeywordExpressionComplete self.old.cursor self.new.cursor self.old.pairs.items self.new.pairs.items high token.entry ExpressionStart.New position result }
         ensures refused { IfErr result (IsRefusal self.new.cursor.text) }
     {
         if self.accept_punctuator(".") {
-            return self.new_target(token, high);
+            return self.meta_property(token, "target", high);
         }
         let inner = high.saturating_sub(1);
         let callee = self.expression(ExpressionContext::at(Rank::New, true), inner)?;
@@ -336,9 +371,13 @@ impl<'t, 's> Parser<'t, 's> {
         ensures forward { self.old.cursor.last.stop ≤ self.new.cursor.last.stop }
         ensures derived { IfOk result (λ part. Adds self.old.cursor self.new.cursor self.old.pairs.items self.new.pairs.items (WordedAt self.old.cursor.text position token.entry ExpressionStart.Import part)) }
         ensures low { IfOk result (λ part. height part.cover.node ≤ high) }
+        ensures own { IfOk result (λ part. OfLanguage self.old.cursor.text part.cover.node) }
         ensures complete { KeywordExpressionComplete self.old.cursor self.new.cursor self.old.pairs.items self.new.pairs.items high token.entry ExpressionStart.Import position result }
         ensures refused { IfErr result (IsRefusal self.new.cursor.text) }
     {
+        if self.cursor.is_of_2022() && self.accept_punctuator(".") {
+            return self.meta_property(token, "meta", high);
+        }
         let inner = high.saturating_sub(1);
         self.expect_punctuator("(")?;
         let source = self.expression(ExpressionContext::ASSIGNMENT, inner)?;
@@ -353,22 +392,28 @@ impl<'t, 's> Parser<'t, 's> {
         Ok(Operand::plain(node, Rank::Call, Edge::Other))
     }
 
-    /// Reads the rest of `new.target` after its `.` (12.3.12).
-    fn new_target(&mut self, new: Token<'s>, high: u32) -> Result<Operand<'s>, Fault>
+    /// Reads the rest of `new.target` (12.3.12), or of `import.meta` (13.3.12 of the 13th edition), after its `.`.
+    fn meta_property(
+        &mut self,
+        first: Token<'s>,
+        name: &'static str,
+        high: u32,
+    ) -> Result<Operand<'s>, Fault>
         ensures text { self.new.cursor.text ≡ self.old.cursor.text }
         ensures forward { self.old.cursor.last.stop ≤ self.new.cursor.last.stop }
         ensures same_open { self.new.cursor.opened ≡ self.old.cursor.opened }
         ensures same_pairs { self.new.pairs.items ≡ self.old.pairs.items }
-        ensures target { IfOk result (λ part. ReadsHere self.old.cursor.text TokenClass.IdentifierName (codes "target") self.old.cursor.last self.new.cursor.last × (part ≡ plain_part (target_node (token_of new.entry) self.new.cursor.last) Rank.Member Edge.Other) × (2 ≤ high)) }
-        ensures no_target { IfErr result (NotTarget self.old.cursor high) }
+        ensures target { IfOk result (λ part. ReadsHere self.old.cursor.text TokenClass.IdentifierName name.now self.old.cursor.last self.new.cursor.last × (part ≡ plain_part (target_node (token_of first.entry) self.new.cursor.last) Rank.Member Edge.Other) × (2 ≤ high)) }
+        ensures no_target { IfErr result (NotTarget self.old.cursor name.now high) }
         ensures refused { IfErr result (IsRefusal self.new.cursor.text) }
     {
-        let target = self.expect_word("target")?;
+        let second = self.expect_word(name)?;
         let inner = high.saturating_sub(1);
-        let meta = self.token_node(Kind::Identifier, new, inner)?;
-        let property = self.token_node(Kind::Identifier, target, inner)?;
+        let meta = self.token_node(Kind::Identifier, first, inner)?;
+        let property = self.token_node(Kind::Identifier, second, inner)?;
         let nodes = MeasuredParts::two(self.alloc, meta, property)?;
-        let node = finish_plain(Kind::MetaProperty, self.span_from(new.start), nodes, high)?;
+        let span = self.span_from(first.start);
+        let node = finish_plain(Kind::MetaProperty, span, nodes, high)?;
         Ok(Operand::plain(node, Rank::Member, Edge::Other))
     }
 
@@ -395,6 +440,7 @@ impl<'t, 's> Parser<'t, 's> {
         ensures passes { IfOk result (λ _. Passes self.old.cursor self.new.cursor) }
         ensures derived { IfOk result (λ part. Adds self.old.cursor self.new.cursor self.old.pairs.items self.new.pairs.items (ReadAt self.old.cursor.text position part)) }
         ensures low { IfOk result (λ part. height part.cover.node ≤ high) }
+        ensures own { IfOk result (λ part. OfLanguage self.old.cursor.text part.cover.node) }
         ensures complete { ParenthesizedComplete self.old.cursor self.new.cursor self.old.pairs.items self.new.pairs.items high position result }
         ensures refused { IfErr result (IsRefusal self.new.cursor.text) }
     {
@@ -405,7 +451,7 @@ impl<'t, 's> Parser<'t, 's> {
         let end = self.cursor.last_end().saturating_sub(1);
         if self.sees_arrow() && accepts_rank(position.rank, Rank::Assignment) {
             let parameters = list.into_parameters(at)?;
-            return self.arrow_function(parameters, start, position.has_in, high);
+            return self.arrow_function(parameters, start, Form::Init, position.has_in, high);
         }
         self.close_pair(place, start, end);
         finish_group(list, at, high)
@@ -433,7 +479,7 @@ impl<'t, 's> Parser<'t, 's> {
     fn leave(&mut self) -> usize
         ensures text { self.new.cursor.text ≡ self.old.cursor.text }
         ensures last { self.new.cursor.last ≡ self.old.cursor.last }
-        ensures place { IsPlace self.new.cursor.text result }
+        ensures place { IsPlace self.new.cursor.text.bytes result }
         ensures here { IsPlaceHere self.new.cursor result }
         ensures closed { self.new.cursor.opened ≡ self.old.cursor.opened - 1 }
         ensures same_pairs { self.new.pairs.items ≡ self.old.pairs.items }

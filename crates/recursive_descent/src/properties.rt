@@ -2,7 +2,7 @@
 #![tactic(auto, using(parser_tables::proofs::Refusals::refusals, crate::proofs::reading::AdvancedTokens::moves))]
 
 ghost use Rattle.recursive_descent.specs.Complete.{PropertyOrMemberComplete, NameComplete, ValueComplete};
-ghost use Rattle.std.specs.Prelude.{◌≡◌, ◌≤◌, false, is_some, Some, IfOk, IfErr, IfSome};
+ghost use Rattle.std.specs.Prelude.{◌≡◌, ◌≤◌, ◌&&◌, true, false, codes, is_some, Some, IfOk, IfErr, IfSome};
 ghost use Rattle.token_cursor.specs.CursorState.{Passes};
 ghost use Rattle.recursive_descent.specs.Members.{KeyRead, NoKey};
 ghost use Rattle.parser_tables.specs.Methods.{member_flags, method_form, member_kind, is_constructor};
@@ -11,42 +11,48 @@ ghost use Rattle.parser_tables.specs.Outcomes.{MakesAs};
 ghost use Rattle.std.specs.Bool.{OnTrue, OnFalse};
 ghost use Rattle.tokens.specs.Scanned.{token_of};
 ghost use Rattle.tokens.specs.declared.token.Goal.TheVariants.{Div};
-ghost use Rattle.language.specs.Token.{as_read};
-ghost use Rattle.token_cursor.specs.Seen.{SeesBy, MissesBy, TokenHere};
-ghost use Rattle.parser_tables.specs.Tests.{is_key_class, is_key, begins_key};
-ghost use Rattle.recursive_descent.specs.Modifiers.{Modified, Accessed, Modifying, form_with};
+ghost use Rattle.language.specs.Languages.{is_of_2022};
+ghost use Rattle.language.specs.Token.{as_read, same_class};
+ghost use Rattle.language.specs.Vocabulary.{is};
+ghost use Rattle.token_cursor.specs.Seen.{Sees, Misses, SeesBy, MissesBy, TokenHere};
+ghost use Rattle.parser_tables.specs.Tests.{is_key, begins_key};
+ghost use Rattle.token_cursor.specs.SourceText.{unseen, behind_in};
+ghost use Rattle.recursive_descent.specs.Modifiers.{Modified, Accessed, MethodWords, Modifying, follows_async, form_with};
 ghost use Rattle.recursive_descent.specs.Soundness.{Adds};
 ghost use Rattle.recursive_descent.specs.SoundnessOfLists.{NamedSo, defined, ItemReads, ValueAt};
 ghost use Rattle.token_cursor.specs.Refusals.{IsLimit, IsRefusal};
-ghost use Rattle.parser_tables.specs.Tokens.{single_node, key_kind};
+ghost use Rattle.parser_tables.specs.Tokens.{key_node};
 ghost use Rattle.tree.specs.Tree.{height};
+ghost use Rattle.recursive_descent.specs.Spelled.{OfLanguage};
+ghost use Rattle.recursive_descent.specs.Later.{FormOfLanguage};
 
 use crate::parser::Parser;
 use covers::{CoverShape, ListItem};
 use parser_tables::{
-    ExpressionContext, FunctionOrClass, begins_key, is_constructor, is_key_class, method_form,
-    property_flags, property_item,
+    ExpressionContext, FunctionOrClass, is_constructor, method_form, property_flags, property_item,
 };
 use productions::{MeasuredNode, MeasuredParts, finish_node, finish_plain};
 use source_text::Fault;
-use token_cursor::{is_identifier, is_name_token};
+use token_cursor::{
+    begins_key, is_identifier, is_key_class, is_name_token, is_private_name, is_punctuator,
+};
 use tokens::{Goal, Token, TokenClass};
 use tree::{Flags, Form, Kind};
 
 /// A PropertyName (12.2.6) that was read, and what its property must know of it.
 #[derive(Drop)]
-struct PropertyName<'s> {
-    node: MeasuredNode<'s>,
+pub(crate) struct PropertyName<'s> {
+    pub(crate) node: MeasuredNode<'s>,
     // It stands in brackets.
-    computed: bool,
+    pub(crate) computed: bool,
     // The token that it is, if it is one.
-    token: Option<Token<'s>>,
+    pub(crate) token: Option<Token<'s>>,
     // It isn't computed, and its value is `constructor`; looked for in a class alone.
     is_constructor: bool,
 }
 
-/// The `static`, `get` and `set` before a property's name (14.3, 14.6); `name` is the one of them that is itself the
-/// name.
+/// The `static`, `get`, `set`, `async` and `*` before a property's name (14.3, 14.6; 15.5 to 15.8 of the 13th edition): the form is Get, Set,
+/// that of a generator or async function, or Method. `name` is the one of these words that is itself the name.
 #[derive(Clone, Copy)]
 struct Modifiers<'s> {
     is_static: bool,
@@ -99,10 +105,18 @@ impl<'t, 's> Parser<'t, 's> {
             return None;
         }
         self.advance(token);
-        match self.sees_key() {
+        match self.sees_key() || self.sees_static_generator(word) {
             true => Some(None),
             false => Some(Some(token)),
         }
+    }
+
+    /// Whether the `*` of a generator stands ahead, where this word, which was passed, is `static` (15.5 of the 13th edition).
+    fn sees_static_generator(&self, word: &str) -> bool
+        ensures seen { OnTrue result ((is_of_2022 self.now.cursor.text.language ≡ true) × (is word.now "static" ≡ true) × Sees self.now.cursor.text TokenClass.Punctuator (codes "*") self.now.cursor.last) }
+        ensures missed { OnFalse result (is_of_2022 self.now.cursor.text.language ≡ true → is word.now "static" ≡ true → Misses self.now.cursor.text TokenClass.Punctuator (codes "*") self.now.cursor.last) }
+    {
+        self.cursor.is_of_2022() && word == "static" && self.sees_punctuator("*")
     }
 
     /// Reads `get` or `set` before a property's name, if it is there (14.3).
@@ -121,7 +135,47 @@ impl<'t, 's> Parser<'t, 's> {
         if let Some(name) = self.modifier("set") {
             return unless_name(is_static, Form::Set, name);
         }
+        if self.cursor.is_of_2022() {
+            return self.method_words(is_static);
+        }
         unless_name(is_static, Form::Method, None)
+    }
+
+    /// Reads `async` and `*` before a property's name, as far as they are there (15.5 to 15.8 of the 13th edition).
+    fn method_words(&mut self, is_static: bool) -> Modifiers<'s>
+        requires { is_of_2022 self.old.cursor.text.language ≡ true }
+        ensures text { self.new.cursor.text ≡ self.old.cursor.text }
+        ensures forward { self.old.cursor.last.stop ≤ self.new.cursor.last.stop }
+        ensures same_open { self.new.cursor.opened ≡ self.old.cursor.opened }
+        ensures same_pairs { self.new.pairs.items ≡ self.old.pairs.items }
+        ensures handed { result.is_static ≡ is_static }
+        ensures words { MethodWords self.old.cursor.text self.old.cursor.last self.new.cursor.last result.form result.name }
+        ensures passes { IfSome result.name (λ _. Passes self.old.cursor self.new.cursor) }
+    {
+        let mut form = Form::Method;
+        if let Some(token) = self.cursor.peek(Goal::Div) {
+            if is_name_token(&token, "async") {
+                self.advance(token);
+                if !self.sees_async_method() {
+                    return unless_name(is_static, Form::Method, Some(token));
+                }
+                form = Form::Async;
+            }
+        }
+        unless_name(is_static, self.starred(form), None)
+    }
+
+    /// Whether on the line of an `async` that was passed a key or `*` stands ahead.
+    fn sees_async_method(&self) -> bool
+        ensures seen { OnTrue result (SeesBy self.now.cursor.text Div follows_async self.now.cursor.last) }
+        ensures missed { OnFalse result (MissesBy self.now.cursor.text Div follows_async self.now.cursor.last) }
+    {
+        match self.cursor.peek(Goal::Div) {
+            Some(token) => {
+                !token.after_break && (begins_key(&token) || is_punctuator(&token, "*"))
+            }
+            None => false,
+        }
     }
 
     /// Reads `static`, in a class, and then `get` or `set` before a property's name, as far as they are there (14.3,
@@ -144,26 +198,33 @@ impl<'t, 's> Parser<'t, 's> {
         }
     }
 
-    /// Takes the name, string or number that is a LiteralPropertyName (12.2.6).
-    fn key_token(&mut self) -> Result<Token<'s>, Fault>
+    /// Takes the name, string or number that is a LiteralPropertyName (12.2.6), or in a class a private name (15.7 of the 13th edition).
+    fn key_token(&mut self, in_class: bool) -> Result<Token<'s>, Fault>
         ensures text { self.new.cursor.text ≡ self.old.cursor.text }
         ensures forward { self.old.cursor.last.stop ≤ self.new.cursor.last.stop }
         ensures passes { IfOk result (λ _. Passes self.old.cursor self.new.cursor) }
         ensures refused { IfErr result (IsRefusal self.new.cursor.text) }
         ensures same_open { self.new.cursor.opened ≡ self.old.cursor.opened }
         ensures same_pairs { self.new.pairs.items ≡ self.old.pairs.items }
-        ensures accepted { IfOk result (λ token. TokenHere self.old.cursor.text Div is_key self.old.cursor.last self.new.cursor.last × (self.new.cursor.last ≡ as_read (token_of token))) }
-        ensures missed { IfErr result (λ _. MissesBy self.old.cursor.text Div is_key self.old.cursor.last × (self.new.cursor.last ≡ self.old.cursor.last)) }
+        ensures accepted { IfOk result (λ token. TokenHere self.old.cursor.text Div (is_key self.old.cursor.text in_class) self.old.cursor.last self.new.cursor.last × (self.new.cursor.last ≡ unseen (as_read (token_of token))) × (behind_in self.old.cursor.text self.new.cursor.last ≡ as_read (token_of token))) }
+        ensures missed { IfErr result (λ _. MissesBy self.old.cursor.text Div (is_key self.old.cursor.text in_class) self.old.cursor.last × (self.new.cursor.last ≡ self.old.cursor.last)) }
         ensures here { IfErr result (IsSyntaxHere self.new.cursor) }
     {
         let Some(token) = self.cursor.peek(Goal::Div) else {
             return Err(self.syntax_error());
         };
-        if !is_key_class(token.class) {
+        if !is_key_class(token.class) && !self.is_private_key(&token, in_class) {
             return Err(self.syntax_error());
         }
         self.advance(token);
         Ok(token)
+    }
+
+    /// Whether the token is a private name that may be a key.
+    fn is_private_key(&self, token: &Token<'s>, in_class: bool) -> bool
+        ensures { result ≡ (in_class && (is_of_2022 self.now.cursor.text.language && same_class TokenClass.PrivateName token.now.class)) }
+    {
+        in_class && self.cursor.is_of_2022() && is_private_name(token)
     }
 
     /// Reads a LiteralPropertyName (12.2.6): one that isn't in brackets.
@@ -174,11 +235,12 @@ impl<'t, 's> Parser<'t, 's> {
         ensures refused { IfErr result (IsRefusal self.new.cursor.text) }
         ensures same_open { self.new.cursor.opened ≡ self.old.cursor.opened }
         ensures same_pairs { self.new.pairs.items ≡ self.old.pairs.items }
-        ensures read { IfOk result (λ key. TokenHere self.old.cursor.text Div is_key self.old.cursor.last self.new.cursor.last × KeyRead in_class self.new.cursor.last key key.token) }
+        ensures read { IfOk result (λ key. TokenHere self.old.cursor.text Div (is_key self.old.cursor.text in_class) self.old.cursor.last self.new.cursor.last × KeyRead self.old.cursor.text in_class self.new.cursor.last key key.token) }
         ensures low { IfOk result (λ key. height key.node ≤ high) }
-        ensures no_key { IfErr result (NoKey self.old.cursor high) }
+        ensures own { IfOk result (λ key. OfLanguage self.old.cursor.text key.node) }
+        ensures no_key { IfErr result (NoKey in_class self.old.cursor high) }
     {
-        let token = self.key_token()?;
+        let token = self.key_token(in_class)?;
         let is_constructor = in_class && is_constructor(&token);
         self.property_name_of(token, is_constructor, high)
     }
@@ -190,16 +252,19 @@ impl<'t, 's> Parser<'t, 's> {
         is_constructor: bool,
         high: u32,
     ) -> Result<PropertyName<'s>, Fault>
-        ensures made { let node = single_node (key_kind token.entry.class) (token_of token.entry) in
+        ensures made { let node = key_node (token_of token.entry) in
             MakesAs (record { node = node; computed = false; token = Some token.entry; is_constructor = is_constructor }) (height node) high result }
         ensures refused { IfErr result IsLimit }
     {
-        let kind = match token.class {
-            TokenClass::IdentifierName => Kind::Identifier,
-            _ => Kind::Literal,
+        let node = match token.class {
+            TokenClass::IdentifierName | TokenClass::Keyword => {
+                self.token_node(Kind::Identifier, token, high)?
+            }
+            TokenClass::PrivateName => self.token_node(Kind::PrivateIdentifier, token, high)?,
+            _ => self.token_node(Kind::Literal, token, high)?,
         };
         Ok(PropertyName {
-            node: self.token_node(kind, token, high)?,
+            node,
             computed: false,
             token: Some(token),
             is_constructor,
@@ -219,6 +284,8 @@ impl<'t, 's> Parser<'t, 's> {
         ensures passes { IfOk result (λ _. Passes self.old.cursor self.new.cursor) }
         ensures derived { IfOk result (λ named. Adds self.old.cursor self.new.cursor self.old.pairs.items self.new.pairs.items (NamedSo self.old.cursor.text in_class named.0 named.1)) }
         ensures low { IfOk result (λ named. height named.1.node ≤ high) }
+        ensures own { IfOk result (λ named. OfLanguage self.old.cursor.text named.1.node) }
+        ensures form { IfOk result (λ named. FormOfLanguage self.old.cursor.text named.0.form) }
         ensures complete { NameComplete self.old.cursor self.new.cursor self.old.pairs.items self.new.pairs.items high in_class result }
         ensures refused { IfErr result (IsRefusal self.new.cursor.text) }
     {
@@ -256,6 +323,7 @@ impl<'t, 's> Parser<'t, 's> {
         ensures passes { IfOk result (λ _. Passes self.old.cursor self.new.cursor) }
         ensures derived { IfOk result (λ item. Adds self.old.cursor self.new.cursor self.old.pairs.items self.new.pairs.items (ItemReads self.old.cursor.text (defined in_class) item)) }
         ensures low { IfOk result (λ item. height item.node ≤ high) }
+        ensures own { IfOk result (λ item. OfLanguage self.old.cursor.text item.node) }
         ensures complete { PropertyOrMemberComplete self.old.cursor self.new.cursor self.old.pairs.items self.new.pairs.items high in_class result }
         ensures refused { IfErr result (IsRefusal self.new.cursor.text) }
     {
@@ -268,12 +336,18 @@ impl<'t, 's> Parser<'t, 's> {
             item.shape = shape;
             return Ok(item);
         }
+        if in_class && self.begins_static_block() {
+            return self.static_block(start, high);
+        }
         let (modifiers, key) = self.property_name(in_class, inner)?;
-        let is_method = in_class
+        let is_method = (in_class && !self.cursor.is_of_2022())
             || !matches!(modifiers.form, Form::Method)
             || self.sees_punctuator("(");
         if !is_method {
-            return self.property_value(key, start, high);
+            return match in_class {
+                true => self.field(key, modifiers.is_static, start, high),
+                false => self.property_value(key, start, high),
+            };
         }
         let from = self.cursor.next_start();
         let function = self.function_or_class(
@@ -300,6 +374,7 @@ impl<'t, 's> Parser<'t, 's> {
         ensures forward { self.old.cursor.last.stop ≤ self.new.cursor.last.stop }
         ensures derived { IfOk result (λ item. Adds self.old.cursor self.new.cursor self.old.pairs.items self.new.pairs.items (ValueAt self.old.cursor.text key.entry start item)) }
         ensures low { IfOk result (λ item. height item.node ≤ high) }
+        ensures own { IfOk result (λ item. OfLanguage self.old.cursor.text key.entry.node → OfLanguage self.old.cursor.text item.node) }
         ensures complete { ValueComplete self.old.cursor self.new.cursor self.old.pairs.items self.new.pairs.items high key.entry result }
         ensures refused { IfErr result (IsRefusal self.new.cursor.text) }
     {

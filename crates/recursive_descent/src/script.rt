@@ -1,15 +1,16 @@
-//! Whole scripts (ECMA-262 15.1).
+//! Whole scripts and modules (ECMA-262 15.1; 16.2 of the 13th edition).
 #![tactic(auto, using(parser_tables::proofs::Refusals::refusals, crate::proofs::reading::AdvancedTokens::moves))]
 
-ghost use Rattle.std.specs.Prelude.{◌≡◌, ◌≤◌, length, IfErr, IfOk};
+ghost use Rattle.std.specs.Prelude.{◌≡◌, ◌≤◌, length, IfErr, IfOk, []};
 ghost use Rattle.std.specs.Str.{IsUtf8};
-ghost use Rattle.language.specs.Claims.{WithinLimits};
 ghost use Rattle.token_cursor.specs.Refusals.{IsRefusal};
 ghost use Rattle.source_text.specs.declared.fault.Fault.TheVariants.{OutOfMemory};
 ghost use Rattle.tree.specs.Tree.{program_tree};
-ghost use Rattle.recursive_descent.specs.Scripts.{IsAnswered};
+ghost use Rattle.recursive_descent.specs.Limits.{WithinLimitsIn};
+ghost use Rattle.recursive_descent.specs.Scripts.{IsAnswered, program_text};
 
 use crate::parser::Parser;
+use language::Language;
 use language::limits::MAX_HEIGHT;
 use parser_tables::{StatementContext, StatementListEnd};
 use source_text::{Fault, Source};
@@ -17,34 +18,37 @@ use std::alloc::Global;
 use token_cursor::Cursor;
 use tree::{BuildError, Pair, Parts, Program, Span};
 
-/// A script, with the pairs of parentheses that group, in order of their `(`.
+/// A script or module, with the pairs of parentheses that group, in order of their `(`.
 #[derive(Drop)]
 pub struct Script<'s> {
     pub program: Program<'s>,
     pub pairs: Vec<Pair>,
 }
 
-/// The script that a text is.
+/// The script or module that a text is in a language.
 ///
 /// # Errors
 /// `Syntax` with a place, a byte offset, where no derivation exists; `TooDeep` where none exists within the limits: a height of `MAX_HEIGHT`, and
 /// `MAX_OPEN` parentheses that are open at one point and group or hold an arrow's parameters; `OutOfMemory`.
-pub fn read<'s>(alloc: Global, source: &Source<'s>) -> Result<Script<'s>, Fault>
+pub fn read<'s>(alloc: Global, source: &Source<'s>, language: Language) -> Result<Script<'s>, Fault>
     ensures source { IfOk result (λ _. IsUtf8 source.now × (length source.now ≤ 16777216)) }
-    ensures derived { IfOk result (λ script. WithinLimits source.now script.program script.pairs.items) }
-    ensures complete { IsAnswered source.now result }
-    ensures refused { IfErr result (IsRefusal source.now) }
+    ensures derived { IfOk result (λ script. WithinLimitsIn language source.now script.program script.pairs.items) }
+    ensures complete { IsAnswered language source.now result }
+    ensures refused { IfErr result (IsRefusal (record { bytes = source.now; language = language })) }
 {
     let mut parser = Parser {
-        cursor: Cursor::new(source),
+        cursor: Cursor::new(source, language),
         pairs: Vec::new(alloc),
         alloc,
     };
-    let items = parser.statements(
-        StatementListEnd::EndOfText,
-        StatementContext::SCRIPT,
-        MAX_HEIGHT - 1,
-    )?;
+    let items = match language {
+        Language::Module => parser.module_items(MAX_HEIGHT - 1)?,
+        Language::Base | Language::Script => parser.statements(
+            StatementListEnd::EndOfText,
+            StatementContext::SCRIPT,
+            MAX_HEIGHT - 1,
+        )?,
+    };
     let Parser {
         cursor: _,
         mut pairs,
@@ -55,16 +59,32 @@ pub fn read<'s>(alloc: Global, source: &Source<'s>) -> Result<Script<'s>, Fault>
         start: 0,
         end: source.text().len(),
     };
-    let program = finished(alloc, items.into_parts(), span)?;
+    let program = finished(alloc, language, items.into_parts(), span)?;
     Ok(Script { program, pairs })
 }
 
-/// The finished script of these items. `OutOfMemory` says also that it is too large to be finished.
-fn finished<'s>(alloc: Global, items: Parts<'s>, span: Span) -> Result<Program<'s>, Fault>
-    ensures built { IfOk result (λ program. program ≡ program_tree items.entry span) }
+/// The text of the Program's node, which says its language.
+fn program_text(language: Language) -> &'static str
+    ensures { result.now ≡ program_text language }
+{
+    match language {
+        Language::Base => "",
+        Language::Script => "2022",
+        Language::Module => "module",
+    }
+}
+
+/// The finished script or module of these items. `OutOfMemory` says also that it is too large to be finished.
+fn finished<'s>(
+    alloc: Global,
+    language: Language,
+    items: Parts<'s>,
+    span: Span,
+) -> Result<Program<'s>, Fault>
+    ensures built { IfOk result (λ program. program ≡ program_tree (program_text language) items.entry span) }
     ensures refused { IfErr result (λ fault. fault ≡ OutOfMemory) }
 {
-    match Program::build(alloc, items, span) {
+    match Program::build(alloc, program_text(language), items, span) {
         Ok(program) => Ok(program),
         Err(BuildError::Memory | BuildError::TooLarge) => Err(Fault::OutOfMemory),
     }

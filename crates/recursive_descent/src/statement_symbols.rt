@@ -18,6 +18,7 @@ ghost use Rattle.token_cursor.specs.CursorState.{IsPlaceHere};
 ghost use Rattle.parser_tables.specs.StatementNodes.{fits_head, head_levels, head_node, list_levels, put_node, takes_head, takes_list, takes_put, with_list, with_part};
 ghost use Rattle.recursive_descent.specs.Expectations.{expected_if, expected_always, ExpectedAt, NotExpected, LabelAt, NotLabel, TokensAt, NotTokens, WordedAt, NotWorded, ElseAt, FinallyAt, CatchAt, NoCatch, HeritageAt, HeadAt};
 ghost use Rattle.tree.specs.Tree.{parts_height};
+ghost use Rattle.recursive_descent.specs.Spelled.{AllOfLanguage};
 
 use crate::parser::Parser;
 use covers::{ListBuilder, ListKind};
@@ -440,6 +441,7 @@ impl<'t, 's> Parser<'t, 's> {
         ensures forward { self.old.cursor.last.stop ≤ self.new.cursor.last.stop }
         ensures derived { IfOk result (λ _. Adds self.old.cursor self.new.cursor self.old.pairs.items self.new.pairs.items (BuiltAt self.old.cursor.text context.returns (map piece_of pieces.now) built.old built.new)) }
         ensures low { IfOk result (λ _. parts_height built.old.nodes ≤ high → parts_height built.new.nodes ≤ high) }
+        ensures own { IfOk result (λ _. AllOfLanguage self.old.cursor.text built.old.nodes → AllOfLanguage self.old.cursor.text built.new.nodes) }
         ensures complete { SymbolsComplete self.old.cursor self.new.cursor self.old.pairs.items self.new.pairs.items high (map piece_of pieces.now) context.returns built.old built.new result }
         ensures refused { IfErr result (IsRefusal self.new.cursor.text) }
     {

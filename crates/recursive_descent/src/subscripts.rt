@@ -15,8 +15,10 @@ ghost use Rattle.parser_tables.specs.Tests.{is_link, is_template};
 ghost use Rattle.recursive_descent.specs.Soundness.{Adds, Links, ArgumentsAt, GoesOn};
 ghost use Rattle.tree.specs.Tree.{height, parts_height};
 ghost use Rattle.token_cursor.specs.Refusals.{IsRefusal};
+ghost use Rattle.recursive_descent.specs.Spelled.{OfLanguage, AllOfLanguage};
 
 use crate::parser::Parser;
+use crate::private_names::member_kind;
 use covers::ListKind;
 use grammar::accepts_rank;
 use language::{Edge, Rank};
@@ -81,7 +83,9 @@ fn subscript_of(token: &Token<'_>) -> Option<Subscript>
             b"[" => Some(Subscript::Index),
             _ => None,
         },
-        TokenClass::IdentifierName => Some(Subscript::Name),
+        TokenClass::IdentifierName | TokenClass::Keyword | TokenClass::PrivateName => Some(
+            Subscript::Name,
+        ),
         _ => None,
     }
 }
@@ -168,6 +172,7 @@ impl<'t, 's> Parser<'t, 's> {
         ensures passes { IfOk result (λ _. Passes self.old.cursor self.new.cursor) }
         ensures derived { IfOk result (λ part. Adds self.old.cursor self.new.cursor self.old.pairs.items self.new.pairs.items (Links self.old.cursor.text left.entry part)) }
         ensures low { IfOk result (λ part. height part.cover.node ≤ high) }
+        ensures own { IfOk result (λ part. OfLanguage self.old.cursor.text left.entry.cover.node → OfLanguage self.old.cursor.text part.cover.node) }
         ensures complete { SubscriptComplete self.old.cursor self.new.cursor self.old.pairs.items self.new.pairs.items high left.entry result }
         ensures refused { IfErr result (IsRefusal self.new.cursor.text) }
     {
@@ -190,6 +195,7 @@ impl<'t, 's> Parser<'t, 's> {
         ensures passes { IfOk result (λ _. Passes self.old.cursor self.new.cursor) }
         ensures derived { IfOk result (λ part. Adds self.old.cursor self.new.cursor self.old.pairs.items self.new.pairs.items (Links self.old.cursor.text left.entry part)) }
         ensures low { IfOk result (λ part. height part.cover.node ≤ high) }
+        ensures own { IfOk result (λ part. OfLanguage self.old.cursor.text left.entry.cover.node → OfLanguage self.old.cursor.text part.cover.node) }
         ensures complete { SubscriptComplete self.old.cursor self.new.cursor self.old.pairs.items self.new.pairs.items high left.entry result }
         ensures refused { IfErr result (IsRefusal self.new.cursor.text) }
     {
@@ -201,8 +207,8 @@ impl<'t, 's> Parser<'t, 's> {
         let inner = high.saturating_sub(1);
         let mut nodes = MeasuredParts::one(self.alloc, self.into_expression(left)?)?;
         self.expect_punctuator(".")?;
-        let name = self.identifier_name()?;
-        nodes.push(self.token_node(Kind::Identifier, name, inner)?)?;
+        let name = self.member_name()?;
+        nodes.push(self.token_node(member_kind(&name), name, inner)?)?;
         let span = self.span_from(start);
         let flags = Subscript::Name.flags(false);
         let node = finish_node(Kind::MemberExpression, "", flags, span, nodes, high)?;
@@ -223,6 +229,7 @@ impl<'t, 's> Parser<'t, 's> {
         ensures passes { IfOk result (λ _. Passes self.old.cursor self.new.cursor) }
         ensures derived { IfOk result (λ part. Adds self.old.cursor self.new.cursor self.old.pairs.items self.new.pairs.items (Links self.old.cursor.text left.entry part)) }
         ensures low { IfOk result (λ part. height part.cover.node ≤ high) }
+        ensures own { IfOk result (λ part. OfLanguage self.old.cursor.text left.entry.cover.node → OfLanguage self.old.cursor.text part.cover.node) }
         ensures complete { SubscriptComplete self.old.cursor self.new.cursor self.old.pairs.items self.new.pairs.items high left.entry result }
         ensures refused { IfErr result (IsRefusal self.new.cursor.text) }
     {
@@ -248,6 +255,7 @@ impl<'t, 's> Parser<'t, 's> {
         ensures passes { IfOk result (λ _. Passes self.old.cursor self.new.cursor) }
         ensures derived { IfOk result (λ part. Adds self.old.cursor self.new.cursor self.old.pairs.items self.new.pairs.items (Links self.old.cursor.text left.entry part)) }
         ensures low { IfOk result (λ part. height part.cover.node ≤ high) }
+        ensures own { IfOk result (λ part. OfLanguage self.old.cursor.text left.entry.cover.node → OfLanguage self.old.cursor.text part.cover.node) }
         ensures complete { SubscriptComplete self.old.cursor self.new.cursor self.old.pairs.items self.new.pairs.items high left.entry result }
         ensures refused { IfErr result (IsRefusal self.new.cursor.text) }
     {
@@ -277,6 +285,7 @@ impl<'t, 's> Parser<'t, 's> {
         ensures passes { IfOk result (λ _. Passes self.old.cursor self.new.cursor) }
         ensures derived { IfOk result (λ part. Adds self.old.cursor self.new.cursor self.old.pairs.items self.new.pairs.items (Links self.old.cursor.text left.entry part)) }
         ensures low { IfOk result (λ part. height part.cover.node ≤ high) }
+        ensures own { IfOk result (λ part. OfLanguage self.old.cursor.text left.entry.cover.node → OfLanguage self.old.cursor.text part.cover.node) }
         ensures complete { SubscriptComplete self.old.cursor self.new.cursor self.old.pairs.items self.new.pairs.items high left.entry result }
         ensures refused { IfErr result (IsRefusal self.new.cursor.text) }
     {
@@ -290,8 +299,8 @@ impl<'t, 's> Parser<'t, 's> {
         let (found, optional) = self.subscript_start()?;
         match found {
             Subscript::Name => {
-                let name = self.identifier_name()?;
-                nodes.push(self.token_node(Kind::Identifier, name, inner)?)?;
+                let name = self.member_name()?;
+                nodes.push(self.token_node(member_kind(&name), name, inner)?)?;
             }
             Subscript::Index => {
                 self.expect_punctuator("[")?;
@@ -320,6 +329,7 @@ impl<'t, 's> Parser<'t, 's> {
         ensures passes { IfOk result (λ _. Passes self.old.cursor self.new.cursor) }
         ensures derived { IfOk result (λ nodes. Adds self.old.cursor self.new.cursor self.old.pairs.items self.new.pairs.items (ArgumentsAt self.old.cursor.text nodes)) }
         ensures low { IfOk result (λ nodes. parts_height nodes ≤ high) }
+        ensures own { IfOk result (λ nodes. AllOfLanguage self.old.cursor.text nodes) }
         ensures complete { ArgumentsComplete self.old.cursor self.new.cursor self.old.pairs.items self.new.pairs.items high result }
         ensures refused { IfErr result (IsRefusal self.new.cursor.text) }
     {
@@ -342,6 +352,7 @@ impl<'t, 's> Parser<'t, 's> {
         ensures derived { IfOk result (λ part. Adds self.old.cursor self.new.cursor self.old.pairs.items self.new.pairs.items (λ o m e Q. (i : Bool) → GoesOn self.old.cursor.text i left.entry part o m e Q)) }
         ensures rank { IfOk result (λ part. part.rank ≡ Rank.LeftHandSide) }
         ensures low { IfOk result (λ part. height part.cover.node ≤ high) }
+        ensures own { IfOk result (λ part. OfLanguage self.old.cursor.text left.entry.cover.node → OfLanguage self.old.cursor.text part.cover.node) }
         ensures complete { ChainComplete self.old.cursor self.new.cursor self.old.pairs.items self.new.pairs.items high left.entry result }
         ensures refused { IfErr result (IsRefusal self.new.cursor.text) }
     {

@@ -6,6 +6,7 @@ ghost use Rattle.tokens.specs.Scanned.{token_of};
 ghost use Rattle.language.specs.Token.{as_read};
 ghost use Rattle.parser_tables.specs.Tests.{is_later_part};
 ghost use Rattle.tree.specs.NodeText.{text_bytes};
+ghost use Rattle.language.specs.Later.{has_later};
 ghost use Rattle.recursive_descent.specs.TemplateElements.{front, back, Holds, part_node};
 ghost use Rattle.token_cursor.specs.Refusals.{IsLimit};
 
@@ -116,6 +117,7 @@ pub(crate) fn template_element<'s>(
 ) -> Result<ListItem<'s>, Fault>
     ensures made { IfOk result (λ item. (first last : Bool) (word : List ℕ) → Holds token.entry.text.now first last word → token.entry.end ≡ token.entry.start + length token.entry.text.now → (item.node ≡ part_node token.entry.start word) × (item.is_flagged ≡ last)) }
     ensures plain { IfOk result (λ item. (item.shape.is_expression ≡ true) × (item.spreads ≡ false)) }
+    ensures own { IfOk result (λ item. has_later item.node ≡ false) }
     ensures deep { IfErr result (λ fault. fault ≡ Fault.TooDeep → high ≡ 0) }
     ensures refused { IfErr result IsLimit }
 {

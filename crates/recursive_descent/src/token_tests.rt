@@ -4,17 +4,16 @@
 ghost use Rattle.std.specs.Prelude.{◌≡◌, ◌≢◌, ◌≤◌, ◌&&◌, not, true, false, codes, IfOk, IfErr, IfSome, IfNone};
 ghost use Rattle.std.specs.Bool.{OnTrue, OnFalse};
 ghost use Rattle.tokens.specs.Scanned.{token_of};
-ghost use Rattle.tokens.specs.Reading.{any_goal};
 ghost use Rattle.tokens.specs.declared.token.Goal.TheVariants.{RegExp};
 ghost use Rattle.language.specs.Token.{Token as Read, as_read, is_mark};
-ghost use Rattle.language.specs.Places.{NextIn, itself};
+ghost use Rattle.token_cursor.specs.SourceText.{SeenNext, behind_in, unseen};
 ghost use Rattle.language.specs.Derivation.{Reads};
 ghost use Rattle.language.specs.Promises.{ReadBy};
 ghost use Rattle.token_cursor.specs.CursorState.{IsAheadBySome};
 ghost use Rattle.token_cursor.specs.CursorState.{Passes};
 ghost use Rattle.token_cursor.specs.CursorState.{IsSyntaxHere};
 ghost use Rattle.token_cursor.specs.Refusals.{IsRefusal};
-ghost use Rattle.token_cursor.specs.Seen.{ReadsHere, Sees, Misses, NameHere, NoName, is_any, is_free_name, declares};
+ghost use Rattle.token_cursor.specs.Seen.{ReadsHere, Sees, Misses, NameHere, NoName, WordHere, NoWord, is_free_name, declares};
 
 use crate::parser::Parser;
 use source_text::Fault;
@@ -31,14 +30,15 @@ impl<'t, 's> Parser<'t, 's> {
     }
 
     /// Goes past a token that stands ahead and isn't the end.
+    #[inline(always)]
     pub(crate) fn advance(&mut self, token: Token<'s>)
         requires ahead { IsAheadBySome self.old.cursor.text self.old.cursor.last.stop (token_of token) }
         requires real { token.class ≢ TokenClass.End }
         ensures text { self.new.cursor.text ≡ self.old.cursor.text }
-        ensures last { self.new.cursor.last ≡ as_read (token_of token.entry) }
+        ensures last { self.new.cursor.last ≡ unseen (as_read (token_of token.entry)) }
         ensures same_open { self.new.cursor.opened ≡ self.old.cursor.opened }
         ensures same_pairs { self.new.pairs.items ≡ self.old.pairs.items }
-        ensures reads { NextIn self.old.cursor.text any_goal self.old.cursor.last self.new.cursor.last self.new.cursor.last }
+        ensures reads { SeenNext self.old.cursor.text self.old.cursor.last (as_read (token_of token.entry)) self.new.cursor.last }
         ensures passes { Passes self.old.cursor self.new.cursor }
     {
         self.cursor.advance(token);
@@ -69,17 +69,18 @@ impl<'t, 's> Parser<'t, 's> {
     }
 
     /// Whether `=>` stands ahead on the same line (14.2).
+    #[inline(always)]
     pub(crate) fn sees_arrow(&self) -> bool
         ensures seen { OnTrue result ((t : Read) × (ReadsHere self.now.cursor.text TokenClass.Punctuator (codes "=>") self.now.cursor.last t) × (t.after_break ≡ false)) }
-        ensures missed { OnFalse result ((t e : Read) → Reads Read (NextIn self.now.cursor.text any_goal) itself TokenClass.Punctuator (codes "=>") self.now.cursor.last t e → t.after_break ≡ true) }
+        ensures missed { OnFalse result ((t e : Read) → Reads Read (SeenNext self.now.cursor.text) (behind_in self.now.cursor.text) TokenClass.Punctuator (codes "=>") self.now.cursor.last t e → t.after_break ≡ true) }
     {
         self.cursor.sees_arrow()
     }
 
     /// Whether a line break stands before what is ahead.
     pub(crate) fn sees_line_break(&self) -> bool
-        ensures seen { OnTrue result ((t e : Read) → NextIn self.now.cursor.text any_goal self.now.cursor.last t e → t.after_break ≡ true) }
-        ensures missed { OnFalse result ((t e : Read) → ReadBy Read (NextIn self.now.cursor.text any_goal) itself RegExp self.now.cursor.last t e → t.after_break ≡ false) }
+        ensures seen { OnTrue result ((t e : Read) → SeenNext self.now.cursor.text self.now.cursor.last t e → t.after_break ≡ true) }
+        ensures missed { OnFalse result ((t e : Read) → ReadBy Read (SeenNext self.now.cursor.text) (behind_in self.now.cursor.text) RegExp self.now.cursor.last t e → t.after_break ≡ false) }
     {
         self.cursor.sees_line_break()
     }
@@ -98,6 +99,7 @@ impl<'t, 's> Parser<'t, 's> {
     }
 
     /// Goes past this name where it stands ahead.
+    #[inline(always)]
     pub(crate) fn accept_word(&mut self, word: &str) -> bool
         ensures text { self.new.cursor.text ≡ self.old.cursor.text }
         ensures forward { self.old.cursor.last.stop ≤ self.new.cursor.last.stop }
@@ -148,14 +150,15 @@ impl<'t, 's> Parser<'t, 's> {
         ensures refused { IfErr result (IsRefusal self.new.cursor.text) }
         ensures same_open { self.new.cursor.opened ≡ self.old.cursor.opened }
         ensures same_pairs { self.new.pairs.items ≡ self.old.pairs.items }
-        ensures accepted { IfOk result (λ token. NameHere self.old.cursor.text is_any self.old.cursor.last self.new.cursor.last × (self.new.cursor.last ≡ as_read (token_of token))) }
-        ensures missed { IfErr result (λ _. NoName self.old.cursor.text is_any self.old.cursor.last × (self.new.cursor.last ≡ self.old.cursor.last)) }
+        ensures accepted { IfOk result (λ token. WordHere self.old.cursor.text self.old.cursor.last self.new.cursor.last × (behind_in self.old.cursor.text self.new.cursor.last ≡ as_read (token_of token))) }
+        ensures missed { IfErr result (λ _. NoWord self.old.cursor.text self.old.cursor.last × (self.new.cursor.last ≡ self.old.cursor.last)) }
         ensures here { IfErr result (IsSyntaxHere self.new.cursor) }
     {
         self.cursor.expect_identifier_name()
     }
 
     /// An Identifier (12.1).
+    #[inline(always)]
     pub(crate) fn identifier(&mut self) -> Result<Token<'s>, Fault>
         ensures text { self.new.cursor.text ≡ self.old.cursor.text }
         ensures forward { self.old.cursor.last.stop ≤ self.new.cursor.last.stop }

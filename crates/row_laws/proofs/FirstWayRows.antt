@@ -1,4 +1,5 @@
 -- Each node of what is derived stands as its first way says.
+use Rattle.tree.specs.declared.kind.Kind.TheVariants.{Identifier}
 use Rattle.std.proofs.Common.{◌≡◌, ℕ, Bool, true, false, List, [], ◌∷◌, refl, sym, subst, ◌∙◌, is_some}
 use Rattle.std.specs.Prelude.{Option, Some, None, IsTrue, ◌&&◌}
 use Rattle.std.proofs.lemmas.Bool.{and_from, false≢true, true≢false}
@@ -7,16 +8,16 @@ use Rattle.language.specs.declared.Rank.TheVariants.{Expression}
 use Rattle.language.specs.declared.Start.{Start}
 use Rattle.language.specs.declared.Start.TheVariants.{Any}
 use Rattle.tree.specs.declared.kind.Pair.{Pair}
-use Rattle.tree.specs.Tree.{Tree, node, Parts, parts_of}
+use Rattle.tree.specs.Tree.{Tree, node, Parts, parts_of, plain, none}
 use Rattle.tree.specs.Uses.{implies}
 use Rattle.tokens.specs.Reading.{any_goal}
 use Rattle.language.specs.Vocabulary.{precedence}
-use Rattle.language.specs.Pieces.{Role, expr, script, PieceOf}
+use Rattle.language.specs.Pieces.{Role, expr, script, PieceOf, key, word}
 use Rattle.language.specs.Token.{Token}
 use Rattle.language.specs.Places.{NextIn, itself}
-use Rattle.language.specs.Grammar.{ways}
+use Rattle.language.specs.Grammar.{ways, ways_bare, spellings}
 use Rattle.language.specs.RowPositions.{roles, first_roles}
-use Rattle.language.specs.Derivation.{Among, Spells, direct, grouped, Runs, done, step, opened, closed, within, missing, Step, token, with_mark, without_mark, one_more, no_more, seen, same_line, explicit, implicit, laid}
+use Rattle.language.specs.Derivation.{Among, Spells, direct, grouped, Runs, done, step, opened, closed, within, missing, Step, token, with_mark, without_mark, one_more, no_more, seen, same_line, left_bare, explicit, implicit, laid, reserved_key, reserved_word}
 use Rattle.language.specs.Cost.{add_cost, lesser, AtMost, at_most, if_any, least, parts_least}
 use Rattle.language.specs.Layout.{some_way, first_way}
 use Rattle.language.specs.LayoutFits.{lines_up}
@@ -28,6 +29,15 @@ use Rattle.language.proofs.table.Alike.{Like, same, at_expressions, AllLike, nex
 use Rattle.language.proofs.layout.DerivedFits.{first_alike}
 use Rattle.row_laws.specs.Lined.{leads, lined, parts_lined}
 use Rattle.row_laws.proofs.Table.{is_row}
+
+-- a name where reserved words stand too
+key_lined : (w : List ℕ) (a b : ℕ) → lined (node Identifier w plain a b none) key ≡ true
+unfolding lined parts_lined ways ways_bare spellings
+key_lined w a b = refl
+
+word_lined : (w : List ℕ) (a b : ℕ) → lined (node Identifier w plain a b none) word ≡ true
+unfolding lined parts_lined ways ways_bare spellings
+word_lined w a b = refl
 
 if_any_parts : (qss : List (List (PieceOf Role))) (x : Option ℕ) → is_some (if_any qss x) ≡ true → (some_way qss ≡ true) × (is_some x ≡ true)
 unfolding if_any
@@ -102,6 +112,7 @@ module _ (S : Type 0) (Next : S → Token → S → Type 0) (behind : S → Toke
       step_lines qs ps no_more h = h
       step_lines qs ps (seen x) h = h
       step_lines qs ps (same_line x y) h = h
+      step_lines qs ps (left_bare x y) h = h
       step_lines qs ps (explicit x) h = h
       step_lines qs ps (implicit x y) h = h
       step_lines qs ps laid h = h
@@ -121,6 +132,8 @@ module _ (S : Type 0) (Next : S → Token → S → Type 0) (behind : S → Toke
     spelled_lined {n = n} (direct qs h p d) (expr y i f) same c = expression_lined _ y i f n qs same h (runs_line_up d) (λ xs l k. runs_lined d xs l k) (whole_some (direct qs h p d))
     spelled_lined {n = n} (direct qs h p d) (expr y i f) at_expressions c = expression_lined _ y i f n qs at_expressions h (runs_line_up d) (λ xs l k. runs_lined d xs l k) (whole_some (direct qs h p d))
     spelled_lined {a = a} {n = n} (direct qs h p d) b l c = other_lined a b n qs refl l h (runs_line_up d) (λ xs l k. runs_lined d xs l k) c
+    spelled_lined (reserved_key {w = w} r k e) b same c = subst (λ n. lined n key ≡ true) (sym e) (key_lined w _ _)
+    spelled_lined (reserved_word {w = w} r k e) b same c = subst (λ n. lined n word ≡ true) (sym e) (word_lined w _ _)
     spelled_lined (grouped p d q) b same c = spelled_lined d b at_expressions c
     spelled_lined (grouped p d q) b at_expressions c = spelled_lined d b at_expressions c
 

@@ -1,6 +1,6 @@
 -- Names that every script has without declaring them (ECMA-262 clause 18). Names are bytes; they stand in six groups, since a
 -- chain of all is dear to prove.
-use Rattle.std.specs.Prelude.{ℕ, Bool, ◌||◌, List, [], ◌∷◌}
+use Rattle.std.specs.Prelude.{ℕ, Bool, ◌&&◌, ◌||◌, List, [], ◌∷◌}
 use Rattle.language.specs.Vocabulary.{among}
 
 abbrev pub is_value : List ℕ → Bool
@@ -21,5 +21,13 @@ is_other_object text = among text ("BigInt" ∷ "Boolean" ∷ "Date" ∷ "Functi
 abbrev pub is_further_object : List ℕ → Bool
 is_further_object text = among text ("Reflect" ∷ "RegExp" ∷ "Set" ∷ "String" ∷ "Symbol" ∷ "WeakMap" ∷ "WeakSet" ∷ "Atomics" ∷ "JSON" ∷ "Math" ∷ [])
 
+-- what the 12th edition added
+abbrev pub is_later_object : List ℕ → Bool
+is_later_object text = among text ("AggregateError" ∷ "FinalizationRegistry" ∷ "WeakRef" ∷ [])
+
 unfoldable pub is_built_in : List ℕ → Bool
 is_built_in text = is_value text || (is_global_function text || (is_error text || (is_array text || (is_other_object text || is_further_object text))))
+
+-- the names that a script or module of a language has; the flag says whether the language is that of 2022
+abbrev pub is_built_in_for : Bool → List ℕ → Bool
+is_built_in_for of_2022 text = is_built_in text || (of_2022 && is_later_object text)

@@ -2,6 +2,7 @@ pub mod Reports
 pub mod Order
 pub mod EnvironmentNames
 pub mod Environments
+pub mod Languages
 pub mod Settings
 pub mod BuiltIn
 pub mod Rules

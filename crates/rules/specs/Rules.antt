@@ -6,14 +6,14 @@ use Prim.Native.String.{String}
 use Rattle.tree.specs.declared.kind.Kind.{Kind}
 use Rattle.tree.specs.declared.kind.Kind.TheVariants.{BinaryExpression, BlockStatement, DebuggerStatement, Literal, SwitchStatement, VariableDeclaration, FunctionExpression, FunctionDeclaration, ArrowFunctionExpression}
 use Rattle.tree.specs.declared.kind.Span.{Span}
-use Rattle.tree.specs.Tree.{Tree, node, Parts, none, part, gap}
+use Rattle.tree.specs.Tree.{Tree, node, Parts, none, part, gap, text_of}
 use Rattle.language.specs.FirstPart.{others}
 use Rattle.language.specs.Vocabulary.{is}
 use Rattle.scopes.specs.declared.kind.BindingKind.{BindingKind}
 use Rattle.scopes.specs.declared.kind.BindingKind.TheVariants.{Let, Param, Catch, OwnName}
 use Rattle.scopes.specs.Bindings.{Binding}
 use Rattle.scopes.specs.Found.{Found, Reference, Scope}
-use Rattle.rules.specs.BuiltIn.{is_built_in}
+use Rattle.rules.specs.BuiltIn.{is_built_in_for}
 use Rattle.rules.specs.Reports.{Report}
 use Rattle.rules.specs.Settings.{Settings, is_global}
 
@@ -101,18 +101,22 @@ no_extra_parens v = map of_extra v.extra
 
 -- Rules that look at scopes, bindings and references.
 
-abbrev pub is_known : Settings → List ℕ → Bool
-is_known s text = is_built_in text || is_global text s
+-- a tree of the language of 2022, as its text says
+abbrev pub is_of_2022 : Tree → Bool
+is_of_2022 tree = is (text_of tree) "2022" || is (text_of tree) "module"
 
-abbrev pub of_undefined : Settings → Reference → List Report
-of_undefined s r = cond (is_none r.meaning && not (r.typeof_operand || is_known s r.name)) (report "no-undef" r.start r.stop (quoted r.name "is not defined") ∷ []) []
+abbrev pub is_known : Bool → Settings → List ℕ → Bool
+is_known of_2022 s text = is_built_in_for of_2022 text || is_global text s
 
-abbrev pub each_undefined : Settings → List Reference → List Report
-each_undefined s [] = []
-each_undefined s (r ∷ rs) = of_undefined s r ++ each_undefined s rs
+abbrev pub of_undefined : Bool → Settings → Reference → List Report
+of_undefined of_2022 s r = cond (is_none r.meaning && not (r.typeof_operand || is_known of_2022 s r.name)) (report "no-undef" r.start r.stop (quoted r.name "is not defined") ∷ []) []
+
+abbrev pub each_undefined : Bool → Settings → List Reference → List Report
+each_undefined of_2022 s [] = []
+each_undefined of_2022 s (r ∷ rs) = of_undefined of_2022 s r ++ each_undefined of_2022 s rs
 
 abbrev pub no_undef : View → List Report
-no_undef v = each_undefined v.settings v.found.references
+no_undef v = each_undefined (is_of_2022 v.tree) v.settings v.found.references
 
 -- what is said of each binding, by what it is called in `meaning`
 abbrev pub of_bindings : (ℕ × ℕ → Binding → List Report) → ℕ → ℕ → List Binding → List Report
@@ -159,17 +163,17 @@ abbrev pub begins_with_underscore : List ℕ → Bool
 begins_with_underscore [] = false
 begins_with_underscore (c ∷ cs) = nat_eq c 95
 
--- by which bindings are read
+-- by which bindings are read; what is exported may be read elsewhere
 abbrev pub of_unused : Bool → (ℕ × ℕ → Bool) → ℕ × ℕ → Binding → List Report
 of_unused ignore read m b =
-    cond (is_for_reading b.kind && (not (read m) && not (ignore && begins_with_underscore b.name)))
+    cond (is_for_reading b.kind && (not (read m || b.exported) && not (ignore && begins_with_underscore b.name)))
     (report "no-unused-vars" b.start b.stop (quoted b.name "is never read") ∷ []) []
 
 abbrev pub is_let : BindingKind → Bool
 is_let Let = true
 is_let _ = false
 
--- by which bindings are written
+-- by which bindings are written; nothing but references of the module writes an exported one
 abbrev pub of_const : (ℕ × ℕ → Bool) → ℕ × ℕ → Binding → List Report
 of_const written m b = cond (is_let b.kind && (b.settled && not (written m))) (report "prefer-const" b.start b.stop (quoted b.name "is never reassigned") ∷ []) []
 

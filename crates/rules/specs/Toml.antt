@@ -1,6 +1,6 @@
 -- The settings that a TOML text gives; what is TOML is the reading of the crate `toml`.
 use Rattle.std.specs.Prelude.{ℕ, Bool, true, false, cond, ◌&&◌, ◌||◌, nat_le, List, [], ◌∷◌, length, Option, Some, None, option_map, option_and_then, codes}
-use Rattle.toml.specs.Data.{Data, Items, no_items, item, Members, no_members, member, get_member, as_bool, as_str, as_array, as_table}
+use Rattle.toml.specs.Data.{Data, Items, no_items, item, Members, no_members, member, get_member, as_bool, as_integer, as_str, as_array, as_table}
 use Rattle.toml.specs.Parse.{parse_document}
 use Rattle.std.specs.BTreeSet.{insert_key}
 use Rattle.std.specs.Cmp.Lexicographic.{slice_cmp}
@@ -9,10 +9,12 @@ use Rattle.std.specs.Str.{bytes_eq}
 use Rattle.rules.specs.NineRules.{is_rule, rule_names}
 use Rattle.rules.specs.declared.environment.Environments.{Environments}
 use Rattle.rules.specs.Environments.{environment_of, no_environments, with_environment}
+use Rattle.rules.specs.Languages.{all_languages, both_of, edition_languages, has_none, source_type_languages}
+use Rattle.rules.specs.declared.languages.Languages.{Languages}
 use Rattle.rules.specs.Settings.{Settings}
 
 unfoldable pub is_key : List ℕ → Bool
-is_key text = bytes_eq text (codes "rules") || (bytes_eq text (codes "globals") || (bytes_eq text (codes "env") || (bytes_eq text (codes "allow-null") || bytes_eq text (codes "ignore-underscore"))))
+is_key text = bytes_eq text (codes "rules") || (bytes_eq text (codes "globals") || (bytes_eq text (codes "env") || (bytes_eq text (codes "edition") || (bytes_eq text (codes "source-type") || (bytes_eq text (codes "allow-null") || bytes_eq text (codes "ignore-underscore"))))))
 
 abbrev pub knows_keys : Members → Bool
 knows_keys no_members = true
@@ -49,6 +51,21 @@ abbrev pub environments_of : Option Data → Option Environments
 environments_of None = Some no_environments
 environments_of (Some d) = option_and_then (with_environments no_environments) (as_array d)
 
+-- the languages of an edition, by its year
+abbrev pub edition_of : Option Data → Option Languages
+edition_of None = Some all_languages
+edition_of (Some d) = option_and_then edition_languages (as_integer d)
+
+-- those of a source type, by its name
+abbrev pub source_type_of : Option Data → Option Languages
+source_type_of None = Some all_languages
+source_type_of (Some d) = option_and_then source_type_languages (as_str d)
+
+-- those of both: settings that leave none contradict themselves
+abbrev pub languages_of : Members → Option Languages
+languages_of ms = option_and_then (λ e. option_and_then (λ t. cond (has_none (both_of e t)) None (Some (both_of e t)))
+    (source_type_of (get_member (codes "source-type") ms))) (edition_of (get_member (codes "edition") ms))
+
 abbrev pub knows_rules : Members → Bool
 knows_rules no_members = true
 knows_rules (member k d ms) = is_rule k && knows_rules ms
@@ -72,8 +89,8 @@ off_of (Some d) = option_and_then off_of_members (as_table d)
 
 abbrev pub settings_of : Members → Option Settings
 settings_of ms = cond (knows_keys ms)
-    (option_and_then (λ o. option_and_then (λ g. option_and_then (λ e. option_and_then (λ a. option_map (λ u. record { off = o; globals = g; environments = e; allow_null = a; ignore_underscore = u })
-    (flag_of (get_member (codes "ignore-underscore") ms))) (flag_of (get_member (codes "allow-null") ms))) (environments_of (get_member (codes "env") ms))) (globals_of (get_member (codes "globals") ms)))
+    (option_and_then (λ o. option_and_then (λ g. option_and_then (λ e. option_and_then (λ l. option_and_then (λ a. option_map (λ u. record { off = o; globals = g; environments = e; languages = l; allow_null = a; ignore_underscore = u })
+    (flag_of (get_member (codes "ignore-underscore") ms))) (flag_of (get_member (codes "allow-null") ms))) (languages_of ms)) (environments_of (get_member (codes "env") ms))) (globals_of (get_member (codes "globals") ms)))
     (off_of (get_member (codes "rules") ms)))
     None
 

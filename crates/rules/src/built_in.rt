@@ -1,7 +1,7 @@
 //! The names that every script has without declaring them (ECMA-262 clause 18).
 
 ghost use Rattle.std.specs.Prelude.{◌≡◌};
-ghost use Rattle.rules.specs.BuiltIn.{is_array, is_built_in, is_error, is_further_object, is_global_function, is_other_object, is_value};
+ghost use Rattle.rules.specs.BuiltIn.{is_array, is_built_in, is_built_in_for, is_error, is_further_object, is_global_function, is_later_object, is_other_object, is_value};
 
 /// Whether the name is that of a value property of the global object (ECMA-262 18.1).
 fn is_value(name: &str) -> bool
@@ -92,7 +92,7 @@ fn is_further_object(name: &str) -> bool
 
 /// Whether every script has the name.
 #[tactic(auto, unfolding(crate::specs::BuiltIn::is_built_in))]
-pub(crate) fn is_built_in(name: &str) -> bool
+fn is_built_in(name: &str) -> bool
     ensures { result ≡ is_built_in name.now }
 {
     is_value(name)
@@ -101,4 +101,18 @@ pub(crate) fn is_built_in(name: &str) -> bool
         || is_array(name)
         || is_other_object(name)
         || is_further_object(name)
+}
+
+/// What the 12th edition added.
+fn is_later_object(name: &str) -> bool
+    ensures { result ≡ is_later_object name.now }
+{
+    name == "AggregateError" || name == "FinalizationRegistry" || name == "WeakRef"
+}
+
+/// Whether a script of the base profile has the name, or one of the language of 2022.
+pub(crate) fn is_built_in_for(is_2022: bool, name: &str) -> bool
+    ensures { result ≡ is_built_in_for is_2022 name.now }
+{
+    is_built_in(name) || (is_2022 && is_later_object(name))
 }

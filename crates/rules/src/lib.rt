@@ -10,6 +10,7 @@ mod environment;
 mod eqeqeq;
 mod interface_names;
 mod known_keys;
+mod languages;
 mod lines;
 mod new_report;
 mod no_debugger;
@@ -37,6 +38,7 @@ mod worker_names;
 
 pub use environment::{Environment, Environments};
 pub use eqeqeq::EqEqEq;
+pub use languages::Languages;
 pub use lines::{report_lines, report_status, span_lines};
 pub use no_debugger::NoDebugger;
 pub use no_empty::NoEmpty;

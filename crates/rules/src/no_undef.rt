@@ -3,10 +3,11 @@
 ghost use Rattle.std.specs.Prelude.{◌≡◌, ◌++◌, ◌∷◌, [], cond, map, OnOk};
 ghost use Rattle.scopes.specs.Shown.{reference_shown};
 ghost use Rattle.rules.specs.Appends.{Grows};
-ghost use Rattle.rules.specs.Rules.{each_undefined, of_undefined};
+ghost use Rattle.tree.specs.Node.{node_tree};
+ghost use Rattle.rules.specs.Rules.{each_undefined, is_of_2022, of_undefined};
 ghost use Rattle.rules.specs.Nodes.{undefined_at};
 
-use crate::built_in::is_built_in;
+use crate::built_in::is_built_in_for;
 use crate::new_report::{push_report, quoted};
 use crate::report::Report;
 use crate::rule::Rule;
@@ -14,7 +15,7 @@ use crate::settings::Settings;
 use crate::view::View;
 use scopes::Reference;
 use std::alloc::{AllocError, Global};
-use tree::Span;
+use tree::{Node, Span};
 
 /// Reports each reference that means no binding of the script and whose name is neither built in (ECMA-262 clause 18) nor
 /// one of the settings' `globals`, at its start; not the operand of a `typeof`.
@@ -56,22 +57,43 @@ impl Rule for NoUndef {
 
     /// Adds what the rule finds.
     fn check(&self, view: &View, out: &mut Vec<Report>) -> Result<(), AllocError> {
-        push_all_undefined(self.alloc, view.settings, view.scopes.references(), out)
+        let known = KnownNames {
+            is_2022: is_of_2022(view.program.root()),
+            settings: view.settings,
+        };
+        push_all_undefined(self.alloc, known, view.scopes.references(), out)
     }
+}
+
+/// Which names are known where nothing declares them.
+#[derive(Clone, Copy)]
+struct KnownNames<'v> {
+    /// Those of the language of 2022.
+    is_2022: bool,
+    /// The settings' own.
+    settings: &'v Settings,
+}
+
+/// Whether a Program is one of the language of 2022.
+fn is_of_2022(program: Node) -> bool
+    ensures { result ≡ is_of_2022 (node_tree program.entry) }
+{
+    let text = program.text();
+    text == "2022" || text == "module"
 }
 
 /// Appends a report of each reference that nothing declares.
 fn push_all_undefined(
     alloc: Global,
-    settings: &Settings,
+    known: KnownNames,
     references: &[Reference],
     out: &mut Vec<Report>,
 ) -> Result<(), AllocError>
-    ensures found { OnOk result (out.new.items ≡ out.old.items ++ each_undefined settings.now (map reference_shown references.now)) }
+    ensures found { OnOk result (out.new.items ≡ out.old.items ++ each_undefined known.entry.is_2022 known.entry.settings.now (map reference_shown references.now)) }
     ensures kept { Grows out.old.items out.new.items }
 {
     for reference in references {
-        push_undefined(alloc, settings, *reference, out)?;
+        push_undefined(alloc, known, *reference, out)?;
     }
     Ok(())
 }
@@ -79,14 +101,14 @@ fn push_all_undefined(
 /// Adds the report of a reference that means nothing known.
 fn push_undefined(
     alloc: Global,
-    settings: &Settings,
+    known: KnownNames,
     reference: Reference,
     out: &mut Vec<Report>,
 ) -> Result<(), AllocError>
-    ensures found { OnOk result (out.new.items ≡ out.old.items ++ of_undefined settings.now (reference_shown reference.entry)) }
+    ensures found { OnOk result (out.new.items ≡ out.old.items ++ of_undefined known.entry.is_2022 known.entry.settings.now (reference_shown reference.entry)) }
     ensures kept { Grows out.old.items out.new.items }
 {
-    if !is_undefined(settings, reference) {
+    if !is_undefined(known, reference) {
         return Ok(());
     }
     let text = quoted(alloc, reference.name, "is not defined")?;
@@ -98,11 +120,11 @@ fn push_undefined(
 }
 
 /// Whether a reference has no binding and no built-in or global of its name, and is no operand of `typeof`.
-fn is_undefined(settings: &Settings, reference: Reference) -> bool
-    ensures { of_undefined settings.now (reference_shown reference.entry) ≡ cond result (undefined_at (reference_shown reference.entry) ∷ []) [] }
+fn is_undefined(known: KnownNames, reference: Reference) -> bool
+    ensures { of_undefined known.entry.is_2022 known.entry.settings.now (reference_shown reference.entry) ≡ cond result (undefined_at (reference_shown reference.entry) ∷ []) [] }
 {
     reference.meaning.is_none()
         && !(reference.typeof_operand
-            || is_built_in(reference.name)
-            || settings.is_global(reference.name))
+            || is_built_in_for(known.is_2022, reference.name)
+            || known.settings.is_global(reference.name))
 }

@@ -12,8 +12,8 @@ use crate::view::View;
 use scopes::{Binding, BindingKind};
 use std::alloc::{AllocError, Global};
 
-/// Reports each binding by `var`, `let` or `const`, each function and each class that no reference reads, at its first
-/// declaring identifier. Where the settings have `ignore-underscore`, a name that begins with `_` isn't reported.
+/// Reports each binding by `var`, `let`, `const` or an import, each function and each class that no reference reads, at its
+/// first declaring identifier, unless the module exports it. Where the settings have `ignore-underscore`, a name that begins with `_` isn't reported.
 ///
 /// Wrong: `let a = 1;`, `let a; a = 1;`, `function f() {}`, `const { a, b } = c; a;` (of `b`). Right: `let a = 1; f(a);`,
 /// `let a = 1; a += 1;`, `function f(a) {} f();`, `try {} catch (e) {}`, and `let _a;` with `ignore-underscore`.
@@ -76,7 +76,7 @@ pub(crate) fn push_unused(
     ensures kept { Grows out.old.items out.new.items }
 {
     if is_for_reading(binding.kind)
-        && !is_read
+        && !(is_read || binding.exported)
         && !(ignore && begins_with_underscore(binding.name))
     {
         push_named(alloc, NoUnusedVars::NAME, binding, "is never read", out)

@@ -5,12 +5,13 @@ ghost use Rattle.std.specs.List.{list_any};
 ghost use Rattle.std.specs.Str.{bytes_eq};
 
 use crate::environment::Environments;
+use crate::languages::Languages;
 use std::alloc::Global;
 use std::collections::BTreeSet;
 use std::marker::Model;
 
-/// Which rules are on, which names a script may use without declaring them, in which environments it runs, and two options of
-/// rules.
+/// Which rules are on, which names a script may use without declaring them, in which environments it runs, in which languages it may be,
+/// and two options of rules.
 ///
 /// The global names stand in a tree by order, not by hash: settings may be a stranger's, who could choose names that hash
 /// alike.
@@ -19,6 +20,7 @@ pub struct Settings {
     off: Vec<String>,
     globals: BTreeSet<String>,
     environments: Environments,
+    languages: Languages,
     allow_null: bool,
     ignore_underscore: bool,
 }
@@ -29,7 +31,7 @@ impl Model for Settings {
 
     ghost Value = { Settings };
 
-    ghost view = { λ s. record { off = map string_bytes s.off.items; globals = map string_bytes s.globals.keys; environments = s.environments; allow_null = s.allow_null; ignore_underscore = s.ignore_underscore } };
+    ghost view = { λ s. record { off = map string_bytes s.off.items; globals = map string_bytes s.globals.keys; environments = s.environments; languages = s.languages; allow_null = s.allow_null; ignore_underscore = s.ignore_underscore } };
 }
 
 /// Whether the name is among these.
@@ -45,27 +47,29 @@ impl Settings {
     ghost use Rattle.std.specs.Str.{bytes_eq};
     ghost use Rattle.rules.specs.Settings.{default_settings, is_global, is_on};
 
-    /// Settings with these rules turned off, these globals, these environments and these two options.
+    /// Settings with these rules turned off, these globals, these environments, these languages and these two options.
     pub(crate) fn new(
         off: Vec<String>,
         globals: BTreeSet<String>,
         environments: Environments,
+        languages: Languages,
         allow_null: bool,
         ignore_underscore: bool,
     ) -> Settings
-        ensures { result ≡ record { off = map string_bytes off.items; globals = map string_bytes globals.keys; environments = environments; allow_null = allow_null; ignore_underscore = ignore_underscore } }
+        ensures { result ≡ record { off = map string_bytes off.items; globals = map string_bytes globals.keys; environments = environments; languages = languages; allow_null = allow_null; ignore_underscore = ignore_underscore } }
     {
         Settings {
             off,
             globals,
             environments,
+            languages,
             allow_null,
             ignore_underscore,
         }
     }
 
-    /// The settings where nothing is said: every rule is on, there are no global names and no environments, both options are
-    /// off. Takes no memory.
+    /// The settings where nothing is said: every rule is on, there are no global names and no environments, a script may be in any
+    /// language, both options are off. Takes no memory.
     pub fn default_settings(alloc: Global) -> Settings
         ensures { result ≡ default_settings }
     {
@@ -73,6 +77,7 @@ impl Settings {
             off: Vec::new(alloc),
             globals: BTreeSet::new(alloc),
             environments: Environments::none(),
+            languages: Languages::all(),
             allow_null: false,
             ignore_underscore: false,
         }
@@ -97,6 +102,13 @@ impl Settings {
         ensures { result ≡ is_global name.now self.now }
     {
         self.has_global(name) || self.environments.has_name(name)
+    }
+
+    /// The languages that a script may be in.
+    pub fn languages(&self) -> Languages
+        ensures { result ≡ self.now.languages }
+    {
+        self.languages
     }
 
     /// Whether `eqeqeq` leaves comparisons with `null` alone.

@@ -3,12 +3,13 @@
 ghost use Rattle.std.specs.Prelude.{◌≡◌, Some, None, Err, codes, map, option_map, string_bytes, IfOk, IfErr};
 ghost use Rattle.toml.specs.Data.{get_member};
 ghost use Rattle.toml.specs.View.{array_view, items_view, table_view, view};
-ghost use Rattle.rules.specs.Toml.{environments_of, flag_of, globals_of, off_among, off_of, off_of_members, on_of, set_of, settings_of, with_environments};
+ghost use Rattle.rules.specs.Toml.{edition_of, environments_of, flag_of, globals_of, languages_of, off_among, off_of, off_of_members, on_of, set_of, settings_of, source_type_of, with_environments};
 ghost use Rattle.rules.specs.Environments.{no_environments};
 ghost use Rattle.rules.specs.Refusals.{IsRefusal, IsTomlRefusal};
 
 use crate::environment::{Environment, Environments};
 use crate::known_keys::{knows_keys, knows_rules};
+use crate::languages::Languages;
 use crate::rule_list::RULE_NAMES;
 use crate::settings::Settings;
 use crate::settings_error::SettingsError;
@@ -107,6 +108,49 @@ fn environments(table: &Table) -> Option<Environments>
     }
 }
 
+/// The languages of the edition at `edition`: all if it is left out; refused, as `None`, if it is no year of one.
+fn edition(table: &Table) -> Option<Languages>
+    ensures { result ≡ edition_of (get_member (codes "edition") (table_view table.now)) }
+{
+    match look(table, "edition") {
+        None => Some(Languages::all()),
+        Some(value) => match value.as_integer() {
+            Some(year) => Languages::of_edition(year),
+            None => None,
+        },
+    }
+}
+
+/// The languages of the source type at `source-type`: all if it is left out; refused, as `None`, if it is no name of one.
+fn source_type(table: &Table) -> Option<Languages>
+    ensures { result ≡ source_type_of (get_member (codes "source-type") (table_view table.now)) }
+{
+    match look(table, "source-type") {
+        None => Some(Languages::all()),
+        Some(value) => match value.as_str() {
+            Some(name) => Languages::of_source_type(name),
+            None => None,
+        },
+    }
+}
+
+/// The languages that both leave; refused, as `None`, if there is none.
+fn languages(table: &Table) -> Option<Languages>
+    ensures { result ≡ languages_of (table_view table.now) }
+{
+    let Some(edition) = edition(table) else {
+        return None;
+    };
+    let Some(source_type) = source_type(table) else {
+        return None;
+    };
+    let languages = edition.and(source_type);
+    if languages.is_empty() {
+        return None;
+    }
+    Some(languages)
+}
+
 /// Whether a rule is on, where that is true, false or left out.
 fn rule_on(table: &Table, name: &str) -> Option<bool>
     ensures { result ≡ on_of (get_member name.now (table_view table.now)) }
@@ -177,13 +221,23 @@ fn settings_of(alloc: Global, table: &Table) -> Result<Settings, SettingsError>
     let Some(environments) = environments(table) else {
         return Err(SettingsError::Unfit);
     };
+    let Some(languages) = languages(table) else {
+        return Err(SettingsError::Unfit);
+    };
     let Some(allow_null) = flag(table, "allow-null") else {
         return Err(SettingsError::Unfit);
     };
     let Some(ignore_underscore) = flag(table, "ignore-underscore") else {
         return Err(SettingsError::Unfit);
     };
-    Ok(Settings::new(off, globals, environments, allow_null, ignore_underscore))
+    Ok(Settings::new(
+        off,
+        globals,
+        environments,
+        languages,
+        allow_null,
+        ignore_underscore,
+    ))
 }
 
 impl Settings {
@@ -192,7 +246,8 @@ impl Settings {
     ghost use Rattle.rules.specs.Refusals.{RefusesToml};
 
     /// The settings of a TOML text: `rules`, a table of names of rules, each true or false; `globals`, an array of
-    /// strings; `env`, an array of names of environments; `allow-null` and `ignore-underscore`, each true or false; each
+    /// strings; `env`, an array of names of environments; `edition`, 2020 or 2022, and `source-type`, "script" or "module", where there are
+    /// no modules of 2020; `allow-null` and `ignore-underscore`, each true or false; each
     /// key at most once, and left out as in `default_settings`.
     ///
     /// # Errors

@@ -4,7 +4,7 @@ use Rattle.std.specs.Prelude.{◌||◌, IfSome}
 use Rattle.std.proofs.lemmas.Bool.{true≢false}
 use Rattle.std.proofs.lemmas.List.{length-map, length-append}
 use Rattle.tree.specs.declared.kind.Kind.{Kind}
-use Rattle.tree.specs.declared.kind.Kind.TheVariants.{Program, BlockStatement, SwitchStatement, CatchClause, ForStatement, ForInStatement, ForOfStatement, FunctionDeclaration, FunctionExpression, ArrowFunctionExpression, ClassDeclaration, ClassExpression}
+use Rattle.tree.specs.declared.kind.Kind.TheVariants.{Program, StaticBlock, BlockStatement, SwitchStatement, CatchClause, ForStatement, ForInStatement, ForOfStatement, FunctionDeclaration, FunctionExpression, ArrowFunctionExpression, ClassDeclaration, ClassExpression}
 use Rattle.tree.specs.Tree.{Tree, node, Parts, none, part, gap, kind_of, parts_of, part_at, part_count, parts_drop}
 use Rattle.tree.proofs.PartWalk.{parts_drop-some, parts_drop-gap, parts_drop-past}
 use Rattle.scopes.specs.declared.binding.Reference.{Reference as CodeReference}
@@ -55,6 +55,7 @@ found_in-is z n (node k w g s e ps) = refl
 
 opens_none : (u : IdentifierUse) (k : Kind) → may_make_scope k ≡ false → opens_all u k ≡ NoScope
 opens_none u Program h = absurd (true≢false h)
+opens_none u StaticBlock h = absurd (true≢false h)
 opens_none u BlockStatement h = absurd (true≢false h)
 opens_none u CatchClause h = absurd (true≢false h)
 opens_none u ForStatement h = absurd (true≢false h)

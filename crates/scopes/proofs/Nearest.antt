@@ -1,5 +1,5 @@
 -- The nearest binding of a name, as names are declared in a scope one by one.
-use Rattle.std.proofs.Common.{◌≡◌, ℕ, suc, ◌+◌, ◌<◌, Bool, true, false, cond, List, [], ◌∷◌, ◌++◌, length, Option, Some, None, is_some, option_map, refl, sym, ap, ◌∙◌, arith, drop, get_or, add-one}
+use Rattle.std.proofs.Common.{◌≡◌, ℕ, zero, suc, ◌+◌, ◌<◌, Bool, true, false, cond, List, [], ◌∷◌, ◌++◌, length, Option, Some, None, is_some, option_map, refl, sym, ap, ◌∙◌, arith, ◌≤◌, drop, get_or, set, add-one}
 use Rattle.std.specs.Prelude.{◌||◌, nat_eq, IfSome}
 use Rattle.std.specs.Str.{bytes_eq}
 use Rattle.std.specs.Cmp.Lexicographic.{nat_list_eq_equiv}
@@ -7,11 +7,12 @@ use Rattle.std.proofs.Math.Seq.{drop-cons}
 use Rattle.std.proofs.lemmas.Bool.{or_parts, true≢false}
 use Rattle.std.proofs.lemmas.Bool.Decides.{nat_tests}
 use Rattle.std.proofs.lemmas.Slice.Eq.{bytes_eq-Decides}
+use Rattle.scopes.specs.declared.binding.Binding.{Binding as CodeBinding}
 use Rattle.scopes.specs.Bindings.{Binding, has_name}
-use Rattle.scopes.specs.Found.{Frame, index_of, here_or_outer, nearest, added, collected}
+use Rattle.scopes.specs.Found.{Frame, index_of, here_or_outer, nearest, added, collected, exported_first}
 use Rattle.name_tables.specs.declared.bound.BoundName.{BoundName}
 use Rattle.scopes.specs.declared.names.DeclaredAs.{DeclaredAs}
-use Rattle.scopes.specs.Shown.{Below, Meant, all_declared, declared_shown, frame, is_of}
+use Rattle.scopes.specs.Shown.{Below, Meant, all_declared, declared_shown, exported_at, exported_place, all_shown, frame, is_of, shown}
 use Rattle.name_tables.specs.Tables.{Agree, with_value}
 
 mapped : (o : Option ℕ) → is_some (option_map suc o) ≡ is_some o
@@ -84,13 +85,72 @@ one-more f g n bs b fs h m a w = a w ∙ pick (bytes_eq b.name w) refl
     pick true e = sym (ap (λ o. here_or_outer n o (nearest w fs)) (place true e))
     pick false e = m w ∙ sym (ap (λ o. here_or_outer n o (nearest w fs)) (place false e))
 
+-- ---- a binding that stands there is exported
+
+abbrev at_index : Option ℕ → List Binding → List Binding
+at_index None bs = bs
+at_index (Some i) bs = exported_place i bs
+
+at-first : (w : List ℕ) (bs : List Binding) → at_index (index_of w bs) bs ≡ exported_first w bs
+at-first w [] = refl
+at-first w (b ∷ bs) = pick (bytes_eq w b.name) (at-first w bs)
+  where
+    behind : (o : Option ℕ) → at_index (option_map suc o) (b ∷ bs) ≡ b ∷ at_index o bs
+    behind None = refl
+    behind (Some i) = refl
+
+    pick : (c : Bool) → at_index (index_of w bs) bs ≡ exported_first w bs → at_index (cond c (Some 0) (option_map suc (index_of w bs))) (b ∷ bs) ≡ cond c (record b { exported = true } ∷ bs) (b ∷ exported_first w bs)
+    pick true e = refl
+    pick false e = behind (index_of w bs) ∙ ap (λ l. b ∷ l) e
+
+-- where its name stands is what the name means
+pub exported-there : (n : ℕ) (w : List ℕ) (bs : List Binding) (fs : List Frame) → has_name w bs ≡ true → exported_at (nearest w (frame n bs ∷ fs)) bs ≡ exported_first w bs
+exported-there n w bs fs h = pick (index_of w bs) (index-is w bs ∙ h) ∙ at-first w bs
+  where
+    pick : (o : Option ℕ) → is_some o ≡ true → exported_at (here_or_outer n o (nearest w fs)) bs ≡ at_index o bs
+    pick None e = absurd (true≢false (sym e))
+    pick (Some i) e = refl
+
+place-same : (v : List ℕ) (i : ℕ) (bs : List Binding) → index_of v (exported_place i bs) ≡ index_of v bs
+place-same v zero [] = refl
+place-same v (suc i) [] = refl
+place-same v zero (b ∷ bs) = refl
+place-same v (suc i) (b ∷ bs) = ap (λ o. cond (bytes_eq v b.name) (Some 0) (option_map suc o)) (place-same v i bs)
+
+-- names mean the same then
+pub meant-exported : (g : List ℕ → Option (ℕ × ℕ)) (n : ℕ) (o : Option (ℕ × ℕ)) (bs more : List Binding) (fs : List Frame) → more ≡ exported_at o bs → Meant g (frame n bs ∷ fs) → Meant g (frame n more ∷ fs)
+meant-exported g n o bs more fs e k w = k w ∙ sym (ap (λ i. here_or_outer n i (nearest w fs)) (ap (index_of w) e ∙ same o))
+  where
+    same : (o : Option (ℕ × ℕ)) → index_of w (exported_at o bs) ≡ index_of w bs
+    same None = refl
+    same (Some p) = place-same w p.1 bs
+
+-- as the code has its bindings
+pub exported-set : (bs : List CodeBinding) (i : ℕ) (x : CodeBinding) → x ≡ get_or bs i x → all_shown (set bs i (record x { exported = true })) ≡ exported_place i (all_shown bs)
+exported-set [] zero x e = refl
+exported-set [] (suc i) x e = refl
+exported-set (b ∷ bs) zero x e = ap (λ y. shown (record y { exported = true }) ∷ all_shown bs) e
+exported-set (b ∷ bs) (suc i) x e = ap (λ l. shown b ∷ l) (exported-set bs i x e)
+
+pub exported-past : (bs : List CodeBinding) (i : ℕ) → length bs ≤ i → all_shown bs ≡ exported_place i (all_shown bs)
+exported-past [] zero l = refl
+exported-past [] (suc i) l = refl
+exported-past (b ∷ bs) zero l = absurd (omega (arith, l))
+exported-past (b ∷ bs) (suc i) l = ap (λ l. shown b ∷ l) (exported-past bs i (omega (arith, l)))
+
 -- ---- one name of a list after the other
 
-pub added-stands : (fs : List Frame) (bs : List Binding) (b : Binding) → has_name b.name bs ≡ true → added fs bs b ≡ bs
-added-stands fs bs b h = ap (λ c. cond c bs (bs ++ record b { shadows = is_some (nearest b.name fs) } ∷ [])) h
+added-stands : (fs : List Frame) (bs : List Binding) (b : Binding) → has_name b.name bs ≡ true → added fs bs b ≡ cond b.exported (exported_first b.name bs) bs
+added-stands fs bs b h = ap (λ c. cond c (cond b.exported (exported_first b.name bs) bs) (bs ++ record b { shadows = is_some (nearest b.name fs) } ∷ [])) h
+
+pub added-exported : (fs : List Frame) (bs : List Binding) (b : Binding) → has_name b.name bs ≡ true → b.exported ≡ true → added fs bs b ≡ exported_first b.name bs
+added-exported fs bs b h e = added-stands fs bs b h ∙ ap (λ c. cond c (exported_first b.name bs) bs) e
+
+pub added-same : (fs : List Frame) (bs : List Binding) (b : Binding) → has_name b.name bs ≡ true → b.exported ≡ false → added fs bs b ≡ bs
+added-same fs bs b h e = added-stands fs bs b h ∙ ap (λ c. cond c (exported_first b.name bs) bs) e
 
 pub added-new : (fs : List Frame) (bs : List Binding) (b : Binding) → has_name b.name bs ≡ false → added fs bs b ≡ bs ++ record b { shadows = is_some (nearest b.name fs) } ∷ []
-added-new fs bs b h = ap (λ c. cond c bs (bs ++ record b { shadows = is_some (nearest b.name fs) } ∷ [])) h
+added-new fs bs b h = ap (λ c. cond c (cond b.exported (exported_first b.name bs) bs) (bs ++ record b { shadows = is_some (nearest b.name fs) } ∷ [])) h
 
 -- a turn of the loop over the names
 pub collected-turn : (fs : List Frame) (names : List (BoundName DeclaredAs)) (i : ℕ) (d : BoundName DeclaredAs) (bs more total : List Binding) → i < length names → more ≡ added fs bs (declared_shown (get_or names i d)) →

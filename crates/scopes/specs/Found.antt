@@ -1,11 +1,11 @@
 -- The scopes and references of a tree, in the order of the tree. What stands round a node comes down from the Program, so the
 -- meaning of a reference is looked up along its path, from the nearest scope outwards (GetIdentifierReference, 8.1.2.1).
-use Rattle.std.specs.Prelude.{ℕ, suc, Bool, false, not, cond, ◌+◌, ◌-◌, ◌&&◌, ◌||◌, List, [], ◌∷◌, ◌++◌, length, Option, Some, None, option_map, is_some, unwrap_or}
+use Rattle.std.specs.Prelude.{ℕ, suc, Bool, true, false, not, cond, ◌+◌, ◌-◌, ◌&&◌, ◌||◌, List, [], ◌∷◌, ◌++◌, length, Option, Some, None, option_map, is_some, unwrap_or}
 use Rattle.std.specs.Str.{bytes_eq}
 use Rattle.tree.specs.declared.kind.Kind.{Kind}
 use Rattle.tree.specs.declared.kind.Kind.TheVariants.{Identifier}
 use Rattle.tree.specs.declared.kind.Flags.{Flags}
-use Rattle.tree.specs.Tree.{Tree, node, Parts, none, part, gap, part_count}
+use Rattle.tree.specs.Tree.{Tree, node, Parts, none, part, gap, part_at, part_count}
 use Rattle.language.specs.Vocabulary.{is}
 use Rattle.scopes.specs.declared.identifier_use.IdentifierUse.{IdentifierUse}
 use Rattle.scopes.specs.declared.identifier_use.IdentifierUse.TheVariants.{Read}
@@ -40,9 +40,14 @@ abbrev pub nearest : List ℕ → List Frame → Option (ℕ × ℕ)
 nearest word [] = None
 nearest word (f ∷ fs) = here_or_outer f.number (index_of word f.bindings) (nearest word fs)
 
--- one more name is declared: where the name stands already, its first identifier counts
+-- the binding of this name is exported
+abbrev pub exported_first : List ℕ → List Binding → List Binding
+exported_first word [] = []
+exported_first word (b ∷ bs) = cond (bytes_eq word b.name) (record b { exported = true } ∷ bs) (b ∷ exported_first word bs)
+
+-- one more name is declared: where the name stands already, its first identifier counts; an export of it counts too
 abbrev pub added : List Frame → List Binding → Binding → List Binding
-added fs bs b = cond (has_name b.name bs) bs (bs ++ record b { shadows = is_some (nearest b.name fs) } ∷ [])
+added fs bs b = cond (has_name b.name bs) (cond b.exported (exported_first b.name bs) bs) (bs ++ record b { shadows = is_some (nearest b.name fs) } ∷ [])
 
 -- the bindings of the names that a scope declares: one for each name, that of its first identifier
 abbrev pub collected : List Frame → List Binding → List Binding → List Binding
@@ -104,16 +109,17 @@ in_scope (Some xs) z n f = joined (opened z xs) (f (enter z n xs) (n + 1))
 abbrev pub one_part : Found → ℕ → (ℕ → Found) → Found
 one_part a n f = joined a (f (n + length a.scopes))
 
--- what the roles of a node's parts depend on: its own role, kind, text and flags, and the place of its last part
+-- what the roles of a node's parts depend on: its own role, kind, text and flags, the place of its last part, and whether that is there
 pub record Inside : Type 0 where
   pub role : IdentifierUse
   pub kind : Kind
   pub text : List ℕ
   pub flags : Flags
   pub last : ℕ
+  pub has_last : Bool
 
 abbrev pub at_place : Inside → Around → ℕ → Around
-at_place y z i = record z { role = part_role y.role y.kind y.text y.flags y.last i }
+at_place y z i = record z { role = part_role y.role y.kind y.text y.flags y.has_last y.last i }
 
 abbrev pub round_others : Inside → Around → Around
 round_others y z = record z { in_function = z.in_function || has_arguments y.kind }
@@ -122,7 +128,7 @@ unfoldable mutual
   -- what is found in a node and below it
   pub found_in : Around → ℕ → Tree → Found
   found_in z n (node node_kind word node_flags from to parts) =
-      let y : Inside = record { role = z.role; kind = node_kind; text = word; flags = node_flags; last = part_count parts - 1 } in
+      let y : Inside = record { role = z.role; kind = node_kind; text = word; flags = node_flags; last = part_count parts - 1; has_last = is_some (part_at parts (part_count parts - 1)) } in
       joined (record { scopes = []; references = own_reference z (node node_kind word node_flags from to parts) })
       (in_scope (scope_round_all z.role node_kind parts) z n (λ x m. all_parts y x m (scope_round_others node_kind parts) parts))
 

@@ -3,7 +3,7 @@
 -- parameters too are the same binding here.
 use Rattle.std.specs.Prelude.{Bool, false, true, not, cond, List, [], ◌++◌, Option, Some, None}
 use Rattle.tree.specs.declared.kind.Kind.{Kind}
-use Rattle.tree.specs.declared.kind.Kind.TheVariants.{Program, BlockStatement, ForStatement, ForInStatement, ForOfStatement, CatchClause, ArrowFunctionExpression, FunctionExpression, FunctionDeclaration, ClassExpression, ClassDeclaration, SwitchStatement, VariableDeclaration}
+use Rattle.tree.specs.declared.kind.Kind.TheVariants.{Program, StaticBlock, BlockStatement, ForStatement, ForInStatement, ForOfStatement, CatchClause, ArrowFunctionExpression, FunctionExpression, FunctionDeclaration, ClassExpression, ClassDeclaration, SwitchStatement, VariableDeclaration}
 use Rattle.tree.specs.Tree.{Tree, node, Parts, none, part, gap, parts_of, parts_drop}
 use Rattle.language.specs.Vocabulary.{is}
 use Rattle.scopes.specs.declared.kind.BindingKind.{BindingKind}
@@ -12,10 +12,11 @@ use Rattle.scopes.specs.declared.identifier_use.IdentifierUse.{IdentifierUse}
 use Rattle.scopes.specs.declared.names.DeclaredIn.{DeclaredIn}
 use Rattle.scopes.specs.declared.names.DeclaredIn.TheVariants.{Statement, ForHead, ForInOfHead}
 use Rattle.scopes.specs.declared.scope_names.ScopeKind.{ScopeKind}
-use Rattle.scopes.specs.declared.scope_names.ScopeKind.TheVariants.{Script, Function, FirstPart, Block, For, Switch, NoScope}
+use Rattle.scopes.specs.declared.scope_names.ScopeKind.TheVariants.{Items, Function, FirstPart, Block, For, Switch, NoScope}
 use Rattle.scopes.specs.Roles.{is_body}
 use Rattle.name_tables.specs.BoundNames.{each_part}
-use Rattle.scopes.specs.Bindings.{Binding, names_in, lexical, vars_in}
+use Rattle.name_tables.specs.DeclaredNames.{declaration_of}
+use Rattle.scopes.specs.Bindings.{Binding, names_in, lexical, stands_in, vars_in}
 
 -- the names of a block or of a case (13.2.5, 13.12)
 abbrev pub block_names : Parts → List Binding
@@ -24,9 +25,9 @@ block_names parts = each_part (lexical Statement) parts
 abbrev pub case_names : Tree → List Binding
 case_names tree = block_names (parts_drop 1 (parts_of tree))
 
--- of an item of a Program or of a function's body: `var` at any depth too (14.1, 15.1)
+-- of an item of a Program or of a function's body, exported or not: `var` at any depth too (14.1, 15.1)
 abbrev pub item_names : Tree → List Binding
-item_names tree = lexical Statement tree ++ vars_in tree
+item_names tree = lexical (stands_in tree) tree ++ vars_in (stands_in tree) (declaration_of tree)
 
 -- of a function's body; that of an arrow may be an expression, which declares nothing
 abbrev pub body_names : Tree → List Binding
@@ -56,7 +57,7 @@ head_scope h _ = None
 
 -- the names of a scope, by its kind; none where there is no scope
 abbrev pub scope_names : ScopeKind → Parts → Option (List Binding)
-scope_names Script parts = Some (each_part item_names parts)
+scope_names Items parts = Some (each_part item_names parts)
 scope_names (Function from) parts = Some (function_names (parts_drop from parts))
 scope_names (FirstPart k) parts = first_scope k parts
 scope_names Block parts = Some (block_names parts)
@@ -64,10 +65,12 @@ scope_names (For h) parts = head_scope h parts
 scope_names Switch parts = Some (each_part case_names (parts_drop 1 parts))
 scope_names NoScope parts = None
 
--- the scope that a node makes round all its parts: the Program (15.1), an arrow (14.2), a function expression's own name (14.1),
--- a block (13.2), a catch clause (13.15), a loop with `let` or `const` in its head (13.7.4, 13.7.5)
+-- the scope that a node makes round all its parts: the Program (15.1), a static block, as a function's body without parameters (15.7 of the
+-- 13th edition), an arrow (14.2), a function expression's own name (14.1), a block (13.2), a catch clause (13.15), a loop with `let` or
+-- `const` in its head (13.7.4, 13.7.5). The value of a field makes none, since nothing in it declares.
 abbrev pub opens_all : IdentifierUse → Kind → ScopeKind
-opens_all u Program = Script
+opens_all u Program = Items
+opens_all u StaticBlock = Items
 opens_all u ArrowFunctionExpression = Function 0
 opens_all u FunctionExpression = FirstPart OwnName
 opens_all u BlockStatement = cond (is_body u) NoScope Block

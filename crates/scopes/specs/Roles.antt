@@ -1,7 +1,7 @@
 -- What a node is to its parent: how an identifier that stands there is used.
 use Rattle.std.specs.Prelude.{ℕ, Bool, true, false, cond, nat_eq, List}
 use Rattle.tree.specs.declared.kind.Kind.{Kind}
-use Rattle.tree.specs.declared.kind.Kind.TheVariants.{ArrayPattern, ObjectPattern, RestElement, AssignmentPattern, Property, MethodDefinition, FunctionExpression, ArrowFunctionExpression, FunctionDeclaration, ClassExpression, ClassDeclaration, MetaProperty, MemberExpression, UpdateExpression, UnaryExpression, AssignmentExpression, BreakStatement, ContinueStatement, LabeledStatement, CatchClause, ForInStatement, ForOfStatement, VariableDeclarator}
+use Rattle.tree.specs.declared.kind.Kind.TheVariants.{ArrayPattern, ObjectPattern, RestElement, AssignmentPattern, Property, MethodDefinition, PropertyDefinition, ImportSpecifier, ImportDefaultSpecifier, ImportNamespaceSpecifier, ExportNamedDeclaration, ExportSpecifier, ExportAllDeclaration, FunctionExpression, ArrowFunctionExpression, FunctionDeclaration, ClassExpression, ClassDeclaration, MetaProperty, MemberExpression, UpdateExpression, UnaryExpression, AssignmentExpression, BreakStatement, ContinueStatement, LabeledStatement, CatchClause, ForInStatement, ForOfStatement, VariableDeclarator}
 use Rattle.tree.specs.declared.kind.Flags.{Flags}
 use Rattle.language.specs.Vocabulary.{is}
 use Rattle.scopes.specs.declared.identifier_use.IdentifierUse.{IdentifierUse}
@@ -25,33 +25,45 @@ target_role text = cond (is text "=") Write ReadWrite
 abbrev pub operand_role : List ℕ → IdentifierUse
 operand_role text = cond (is text "typeof") Typeof Read
 
--- the roles of a node's parts, by its own role, its kind, text and flags. A pattern hands its role down to its targets
--- (12.15.5, 13.7.5); labels (13.8, 13.9, 13.13), names that are bound and `new.target` (12.3) are no references.
-abbrev pub part_roles : IdentifierUse → Kind → List ℕ → Flags → PartRoles
-part_roles u ArrayPattern text flags = Same
-part_roles u ObjectPattern text flags = Same
-part_roles u RestElement text flags = Same
-part_roles u AssignmentPattern text flags = First u Read
-part_roles u Property text flags = First (key_role flags) u
-part_roles u MethodDefinition text flags = First (key_role flags) Read
-part_roles u FunctionExpression text flags = Function
-part_roles u FunctionDeclaration text flags = Function
-part_roles u ArrowFunctionExpression text flags = Function
-part_roles u ClassExpression text flags = First NoReference Read
-part_roles u ClassDeclaration text flags = First NoReference Read
-part_roles u MetaProperty text flags = All NoReference
-part_roles u MemberExpression text flags = First Read (key_role flags)
-part_roles u UpdateExpression text flags = All ReadWrite
-part_roles u UnaryExpression text flags = All (operand_role text)
-part_roles u AssignmentExpression text flags = First (target_role text) Read
-part_roles u BreakStatement text flags = All NoReference
-part_roles u ContinueStatement text flags = All NoReference
-part_roles u LabeledStatement text flags = First NoReference Read
-part_roles u CatchClause text flags = First NoReference Read
-part_roles u ForInStatement text flags = First Write Read
-part_roles u ForOfStatement text flags = First Write Read
-part_roles u VariableDeclarator text flags = First NoReference Read
-part_roles u kind text flags = All Read
+-- what an export names is read, unless it comes from another module (16.2.3 of the 13th edition)
+abbrev pub exported_role : Bool → IdentifierUse
+exported_role has_source = cond has_source NoReference Read
+
+-- the roles of a node's parts, by its own role, its kind, text and flags, and whether its last part is there. A pattern hands its role down
+-- to its targets (12.15.5, 13.7.5), and an export to its specifiers; labels (13.8, 13.9, 13.13), names that are bound, `new.target` (12.3)
+-- and names of other modules are no references.
+abbrev pub part_roles : IdentifierUse → Kind → List ℕ → Flags → Bool → PartRoles
+part_roles u ArrayPattern text flags b = Same
+part_roles u ObjectPattern text flags b = Same
+part_roles u RestElement text flags b = Same
+part_roles u AssignmentPattern text flags b = First u Read
+part_roles u Property text flags b = First (key_role flags) u
+part_roles u MethodDefinition text flags b = First (key_role flags) Read
+part_roles u FunctionExpression text flags b = Function
+part_roles u FunctionDeclaration text flags b = Function
+part_roles u ArrowFunctionExpression text flags b = Function
+part_roles u ClassExpression text flags b = First NoReference Read
+part_roles u ClassDeclaration text flags b = First NoReference Read
+part_roles u MetaProperty text flags b = All NoReference
+part_roles u MemberExpression text flags b = First Read (key_role flags)
+part_roles u UpdateExpression text flags b = All ReadWrite
+part_roles u UnaryExpression text flags b = All (operand_role text)
+part_roles u AssignmentExpression text flags b = First (target_role text) Read
+part_roles u BreakStatement text flags b = All NoReference
+part_roles u ContinueStatement text flags b = All NoReference
+part_roles u LabeledStatement text flags b = First NoReference Read
+part_roles u CatchClause text flags b = First NoReference Read
+part_roles u ForInStatement text flags b = First Write Read
+part_roles u ForOfStatement text flags b = First Write Read
+part_roles u VariableDeclarator text flags b = First NoReference Read
+part_roles u PropertyDefinition text flags b = First (key_role flags) Read
+part_roles u ImportSpecifier text flags b = All NoReference
+part_roles u ImportDefaultSpecifier text flags b = All NoReference
+part_roles u ImportNamespaceSpecifier text flags b = All NoReference
+part_roles u ExportNamedDeclaration text flags b = All (exported_role b)
+part_roles u ExportSpecifier text flags b = First u NoReference
+part_roles u ExportAllDeclaration text flags b = All NoReference
+part_roles u kind text flags b = All Read
 
 -- the role of the part at a place
 abbrev pub role_by : PartRoles → IdentifierUse → (last i : ℕ) → IdentifierUse
@@ -60,8 +72,8 @@ role_by (All v) u last i = v
 role_by (First v x) u last i = first_else i v x
 role_by Function u last i = cond (nat_eq i last) Body NoReference
 
-abbrev pub part_role : IdentifierUse → Kind → List ℕ → Flags → (last i : ℕ) → IdentifierUse
-part_role u kind text flags last i = role_by (part_roles u kind text flags) u last i
+abbrev pub part_role : IdentifierUse → Kind → List ℕ → Flags → Bool → (last i : ℕ) → IdentifierUse
+part_role u kind text flags b last i = role_by (part_roles u kind text flags b) u last i
 
 abbrev pub is_reference : IdentifierUse → Bool
 is_reference NoReference = false

@@ -1,5 +1,5 @@
 -- The code's own values as those of the definitions.
-use Rattle.std.specs.Prelude.{◌≡◌, ◌<◌, ℕ, Bool, nat_eq, List, map, Option, Some, None, IfSome, false}
+use Rattle.std.specs.Prelude.{◌≡◌, ◌<◌, ℕ, zero, suc, Bool, true, nat_eq, List, [], ◌∷◌, map, Option, Some, None, IfSome, false}
 use Rattle.name_tables.specs.declared.bound.BoundName.{BoundName}
 use Rattle.name_tables.specs.PatternParts.{Bound, bound}
 use Rattle.scopes.specs.declared.binding.Binding.{Binding as CodeBinding}
@@ -10,14 +10,14 @@ use Rattle.scopes.specs.Bindings.{Binding}
 use Rattle.scopes.specs.Found.{Frame, Reference, Scope, Found, nearest, scope_of}
 
 abbrev pub shown : CodeBinding → Binding
-shown b = record { name = b.name.now; kind = b.kind; start = b.start; stop = b.end; settled = b.settled; shadows = b.shadows }
+shown b = record { name = b.name.now; kind = b.kind; start = b.start; stop = b.end; settled = b.settled; shadows = b.shadows; exported = b.exported }
 
 abbrev pub all_shown : List CodeBinding → List Binding
 all_shown bs = map shown bs
 
 -- a name as it is declared, as the binding that it makes
 abbrev pub made_of : Bound DeclaredAs → Binding
-made_of b = record { name = b.name; kind = b.how.kind; start = b.start; stop = b.stop; settled = b.how.settled; shadows = false }
+made_of b = record { name = b.name; kind = b.how.kind; start = b.start; stop = b.stop; settled = b.how.settled; shadows = false; exported = b.how.exported }
 
 abbrev pub declared_shown : BoundName DeclaredAs → Binding
 declared_shown x = made_of (bound x)
@@ -55,3 +55,13 @@ pub record Knows (f : List ℕ → Option (ℕ × ℕ)) (n : ℕ) (s : Option �
 abbrev pub is_of : Option (ℕ × ℕ) → ℕ → Bool
 is_of None n = false
 is_of (Some p) n = nat_eq p.0 n
+
+-- the binding at a place is exported
+abbrev pub exported_place : ℕ → List Binding → List Binding
+exported_place n [] = []
+exported_place zero (b ∷ bs) = record b { exported = true } ∷ bs
+exported_place (suc n) (b ∷ bs) = b ∷ exported_place n bs
+
+abbrev pub exported_at : Option (ℕ × ℕ) → List Binding → List Binding
+exported_at None bs = bs
+exported_at (Some p) bs = exported_place p.1 bs

@@ -1,9 +1,9 @@
 -- What the walk has found so far, and what it is given, in the words of `Found`.
 use Rattle.std.specs.Prelude.{ℕ, Bool, true, false, cond, ◌-◌, List}
 use Rattle.tree.specs.declared.kind.Kind.{Kind}
-use Rattle.tree.specs.declared.kind.Kind.TheVariants.{Program, BlockStatement, SwitchStatement, CatchClause, ForStatement, ForInStatement, ForOfStatement, FunctionDeclaration, FunctionExpression, ArrowFunctionExpression, ClassDeclaration, ClassExpression}
-use Rattle.tree.specs.Tree.{Tree, kind_of, text_of, flags_of, parts_of, part_count, start_of, stop_of, parts_drop}
-use Rattle.std.specs.Prelude.{unwrap_or}
+use Rattle.tree.specs.declared.kind.Kind.TheVariants.{Program, StaticBlock, BlockStatement, SwitchStatement, CatchClause, ForStatement, ForInStatement, ForOfStatement, FunctionDeclaration, FunctionExpression, ArrowFunctionExpression, ClassDeclaration, ClassExpression}
+use Rattle.tree.specs.Tree.{Tree, kind_of, text_of, flags_of, parts_of, part_at, part_count, start_of, stop_of, parts_drop}
+use Rattle.std.specs.Prelude.{is_some, unwrap_or}
 use Rattle.scopes.specs.declared.identifier_use.IdentifierUse.{IdentifierUse}
 use Rattle.scopes.specs.declared.walk.Context.{Context as CodeAround}
 use Rattle.scopes.specs.declared.walk.Walk.{Walk}
@@ -19,11 +19,12 @@ abbrev pub round : CodeAround → List Frame → Around
 round a fs = record { frames = fs; in_function = a.in_function; role = a.role }
 
 abbrev pub inside_of : IdentifierUse → Tree → Inside
-inside_of u tree = record { role = u; kind = kind_of tree; text = text_of tree; flags = flags_of tree; last = part_count (parts_of tree) - 1 }
+inside_of u tree = record { role = u; kind = kind_of tree; text = text_of tree; flags = flags_of tree; last = part_count (parts_of tree) - 1; has_last = is_some (part_at (parts_of tree) (part_count (parts_of tree) - 1)) }
 
 -- the kinds of nodes that may make a scope, or have an `arguments` of their own
 abbrev pub may_make_scope : Kind → Bool
 may_make_scope Program = true
+may_make_scope StaticBlock = true
 may_make_scope BlockStatement = true
 may_make_scope SwitchStatement = true
 may_make_scope CatchClause = true

@@ -15,6 +15,8 @@ pub struct Binding<'t> {
     pub settled: bool,
     /// A scope further out declares the name too.
     pub shadows: bool,
+    /// A declaration of the name stands in an export.
+    pub exported: bool,
 }
 
 /// An identifier that stands for the value or the target of a name, declared in the script or not.

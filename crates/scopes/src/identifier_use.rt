@@ -1,11 +1,12 @@
 //! How identifiers are used.
 
-ghost use Rattle.std.specs.Prelude.{◌≡◌, ◌-◌};
+ghost use Rattle.std.specs.Prelude.{◌≡◌, ◌-◌, is_some};
 ghost use Rattle.tree.specs.Node.{node_tree};
-ghost use Rattle.tree.specs.Tree.{flags_of, kind_of, part_count, parts_of, text_of};
+ghost use Rattle.tree.specs.Tree.{flags_of, kind_of, part_at, part_count, parts_of, text_of};
 ghost use Rattle.scopes.specs.Openings.{has_arguments};
-ghost use Rattle.scopes.specs.Roles.{is_typeof_operand, does_read, does_write, first_else, is_body, is_reference, key_role, operand_role, part_role, part_roles, role_by, target_role};
+ghost use Rattle.scopes.specs.Roles.{is_typeof_operand, does_read, does_write, exported_role, first_else, is_body, is_reference, key_role, operand_role, part_role, part_roles, role_by, target_role};
 
+use name_tables::last_part;
 use tree::{Flags, Kind, Node};
 
 /// What a node is to its parent: how an identifier that stands there is used.
@@ -65,6 +66,16 @@ fn operand_role(operator: &str) -> IdentifierUse
     }
 }
 
+/// The role of what an export names: read, but no reference where it comes from another module.
+fn exported_role(export: Node) -> IdentifierUse
+    ensures { result ≡ exported_role (is_some (part_at (parts_of (node_tree export.entry)) (part_count (parts_of (node_tree export.entry)) - 1))) }
+{
+    match last_part(export) {
+        Some(_) => IdentifierUse::NoReference,
+        None => IdentifierUse::Read,
+    }
+}
+
 /// The roles of a node's parts.
 #[derive(Clone, Copy)]
 pub(crate) enum PartRoles {
@@ -81,13 +92,16 @@ pub(crate) enum PartRoles {
 /// What each part of a node of this role is to it.
 #[inline(always)]
 pub(crate) fn part_roles(role: IdentifierUse, node: Node) -> PartRoles
-    ensures { result ≡ part_roles role (kind_of (node_tree node.entry)) (text_of (node_tree node.entry)) (flags_of (node_tree node.entry)) }
+    ensures { result ≡ part_roles role (kind_of (node_tree node.entry)) (text_of (node_tree node.entry)) (flags_of (node_tree node.entry)) (is_some (part_at (parts_of (node_tree node.entry)) (part_count (parts_of (node_tree node.entry)) - 1))) }
 {
     match node.kind() {
         Kind::ArrayPattern | Kind::ObjectPattern | Kind::RestElement => PartRoles::Same,
         Kind::AssignmentPattern => PartRoles::First(role, IdentifierUse::Read),
         Kind::Property => PartRoles::First(key_role(node.flags()), role),
-        Kind::MethodDefinition => PartRoles::First(key_role(node.flags()), IdentifierUse::Read),
+        Kind::MethodDefinition | Kind::PropertyDefinition => PartRoles::First(
+            key_role(node.flags()),
+            IdentifierUse::Read,
+        ),
         Kind::FunctionExpression | Kind::FunctionDeclaration | Kind::ArrowFunctionExpression =>
             PartRoles::Function,
         Kind::ClassExpression
@@ -98,9 +112,15 @@ pub(crate) fn part_roles(role: IdentifierUse, node: Node) -> PartRoles
             IdentifierUse::NoReference,
             IdentifierUse::Read,
         ),
-        Kind::MetaProperty | Kind::BreakStatement | Kind::ContinueStatement => PartRoles::All(
-            IdentifierUse::NoReference,
-        ),
+        Kind::MetaProperty
+        | Kind::BreakStatement
+        | Kind::ContinueStatement
+        | Kind::ImportSpecifier
+        | Kind::ImportDefaultSpecifier
+        | Kind::ImportNamespaceSpecifier
+        | Kind::ExportAllDeclaration => PartRoles::All(IdentifierUse::NoReference),
+        Kind::ExportNamedDeclaration => PartRoles::All(exported_role(node)),
+        Kind::ExportSpecifier => PartRoles::First(role, IdentifierUse::NoReference),
         Kind::MemberExpression => PartRoles::First(IdentifierUse::Read, key_role(node.flags())),
         Kind::UpdateExpression => PartRoles::All(IdentifierUse::ReadWrite),
         Kind::UnaryExpression => PartRoles::All(operand_role(node.text())),
@@ -141,7 +161,7 @@ pub(crate) fn role_by(
 
 /// The role of the part at a place, of a node of this role.
 pub(crate) fn part_role(role: IdentifierUse, node: Node, index: usize) -> IdentifierUse
-    ensures { result ≡ part_role role (kind_of (node_tree node.entry)) (text_of (node_tree node.entry)) (flags_of (node_tree node.entry)) (part_count (parts_of (node_tree node.entry)) - 1) index }
+    ensures { result ≡ part_role role (kind_of (node_tree node.entry)) (text_of (node_tree node.entry)) (flags_of (node_tree node.entry)) (is_some (part_at (parts_of (node_tree node.entry)) (part_count (parts_of (node_tree node.entry)) - 1))) (part_count (parts_of (node_tree node.entry)) - 1) index }
 {
     let last = node.part_count().saturating_sub(1);
     role_by(part_roles(role, node), role, last, index)

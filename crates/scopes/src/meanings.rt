@@ -2,7 +2,7 @@
 
 ghost use Rattle.std.specs.Prelude.{◌≡◌, [], ◌∷◌, List, OnOk};
 ghost use Rattle.scopes.specs.Found.{Frame, added, collected};
-ghost use Rattle.scopes.specs.Shown.{Below, Meant, all_declared, all_shown, declared_shown, frame, is_of};
+ghost use Rattle.scopes.specs.Shown.{Below, Meant, all_declared, all_shown, declared_shown, exported_at, frame, is_of};
 ghost use Rattle.name_tables.specs.Tables.{Agree, value_at, undone};
 
 use crate::binding::Binding;
@@ -41,6 +41,9 @@ fn declare<'t>(
     let before = meanings.save(declared.name)?;
     let meaning = before.value;
     if is_of(meaning, number) {
+        if declared.how.exported {
+            export_binding(meaning, bindings);
+        }
         return Ok(());
     }
     meanings.set(&before, Some((number, bindings.len())))?;
@@ -52,8 +55,21 @@ fn declare<'t>(
         end: declared.end,
         settled: declared.how.settled,
         shadows: meaning.is_some(),
+        exported: declared.how.exported,
     })?;
     Ok(())
+}
+
+/// Notes that a binding of this scope, which stands there already, is exported.
+fn export_binding(meaning: Option<(usize, usize)>, bindings: &mut Vec<Binding>)
+    ensures { all_shown bindings.new.items ≡ exported_at meaning (all_shown bindings.old.items) }
+{
+    let Some((_, place)) = meaning else {
+        return;
+    };
+    if place < bindings.len() {
+        bindings[place].exported = true;
+    }
 }
 
 /// Declares names in a new scope of this number.

@@ -14,17 +14,18 @@ ghost use Rattle.scopes.specs.Shown.{all_declared};
 use crate::binding::BindingKind;
 use crate::identifier_use::{IdentifierUse, is_body};
 use crate::names::{
-    Declared, DeclaredAs, DeclaredIn, push_block, push_cases, push_lexical, push_names,
-    push_parameters, push_vars,
+    Declared, DeclaredIn, push_block, push_cases, push_lexical, push_names, push_parameters,
+    push_vars, stands_in,
 };
+use name_tables::declaration_of;
 use std::alloc::AllocError;
 use tree::{Kind, Node};
 
 /// Kinds of scopes.
 #[derive(Clone, Copy)]
 pub(crate) enum ScopeKind {
-    /// The items of a Program.
-    Script,
+    /// The items of a Program or of a static block.
+    Items,
     /// A function, whose parameters begin at this place.
     Function(usize),
     /// The names of its first part, as a pattern.
@@ -41,7 +42,7 @@ fn opens_all(role: IdentifierUse, kind: Kind) -> ScopeKind
     ensures { result ≡ opens_all role kind }
 {
     match kind {
-        Kind::Program => ScopeKind::Script,
+        Kind::Program | Kind::StaticBlock => ScopeKind::Items,
         Kind::ArrowFunctionExpression => ScopeKind::Function(0),
         Kind::FunctionExpression => ScopeKind::FirstPart(BindingKind::OwnName),
         Kind::BlockStatement => {
@@ -105,7 +106,7 @@ fn push_scope<'t>(
     ensures { IfOk result (λ b. scope_names opens (parts_of (node_tree node.entry)) ≡ cond b (Some (all_declared names.new.items)) None) }
 {
     match opens {
-        ScopeKind::Script => push_items(node, names)?,
+        ScopeKind::Items => push_items(node, names)?,
         ScopeKind::Function(from) => push_function(node, from, names)?,
         ScopeKind::FirstPart(kind) => return push_first(node, kind, names),
         ScopeKind::Block => push_block(node, names)?,
@@ -128,14 +129,7 @@ fn push_first<'t>(
     let Some(part) = node.part(0) else {
         return Ok(false);
     };
-    push_names(
-        part,
-        DeclaredAs {
-            kind,
-            settled: false,
-        },
-        names,
-    )?;
+    push_names(part, kind, names)?;
     Ok(true)
 }
 
@@ -168,7 +162,7 @@ fn push_head<'t>(
     Ok(true)
 }
 
-/// Pushes what the items of a Program or of a function's body declare there.
+/// Pushes what the items of a Program, a function's body or a static block declare there.
 fn push_items<'t>(node: Node<'t, '_>, names: &mut Vec<Declared<'t>>) -> Result<(), AllocError>
     ensures { OnOk result (all_declared names.new.items ≡ all_declared names.old.items ++ each_part item_names (parts_of (node_tree node.entry))) }
 {
@@ -188,8 +182,9 @@ fn push_item<'t>(
     let Some(item) = item else {
         return Ok(());
     };
-    push_lexical(DeclaredIn::Statement, item, names)?;
-    push_vars(item, names)
+    let head = stands_in(item);
+    push_lexical(head, item, names)?;
+    push_vars(head, declaration_of(item), names)
 }
 
 /// Pushes the names of a function: its parameters, from a place on, and what its body declares.

@@ -124,6 +124,7 @@ fn may_make_scope(kind: Kind) -> bool
 {
     match kind {
         Kind::Program
+        | Kind::StaticBlock
         | Kind::BlockStatement
         | Kind::SwitchStatement
         | Kind::CatchClause

@@ -10,6 +10,7 @@ use Rattle.rules.specs.Settings.{is_on}
 use Rattle.commands.specs.declared.command.Command.{Command}
 use Rattle.commands.specs.declared.command.Command.TheVariants.{Check, Tree, Fix, Unwrap, Cost, Verify, Same}
 use Rattle.commands.specs.declared.command.ReportForm.{ReportForm}
+use Rattle.commands.specs.declared.language_choice.LanguageChoice.{LanguageChoice}
 use Rattle.commands.specs.declared.refused.Refused.{Refused}
 use Rattle.rules.specs.NineRules.{NamedRule, nine_rules}
 use Rattle.shipped_rules.specs.ShippedRules.{FindAs, RunsByRules, rules_of}
@@ -26,9 +27,9 @@ no_rules Verify h = refl
 no_rules Same h = refl
 
 -- a run without rules is one by those of the command
-pub without_rules : (command : Command) (seen : Seen) (result : Result ℕ Refused) → ((form : ReportForm) → command ≡ Check form → ⊥) → Runs (λ view. []) command seen result → RunsByRules command seen result
-without_rules command seen result h =
-    subst (λ rules. Runs (λ view. all_found (λ (r : NamedRule). r.called) (λ (r : NamedRule). r.finds) rules view) command seen result) (sym (no_rules command h))
+pub without_rules : (command : Command) (choice : LanguageChoice) (seen : Seen) (result : Result ℕ Refused) → ((form : ReportForm) → command ≡ Check form → ⊥) → Runs (λ view. []) command choice seen result → RunsByRules command choice seen result
+without_rules command choice seen result h =
+    subst (λ rules. Runs (λ view. all_found (λ (r : NamedRule). r.called) (λ (r : NamedRule). r.finds) rules view) command choice seen result) (sym (no_rules command h))
 
 -- ---- boxes
 

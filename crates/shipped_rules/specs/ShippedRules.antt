@@ -7,6 +7,7 @@ use Rattle.rules.specs.Rules.{View}
 use Rattle.rules.specs.Run.{all_found}
 use Rattle.commands.specs.declared.command.Command.{Command}
 use Rattle.commands.specs.declared.command.Command.TheVariants.{Check}
+use Rattle.commands.specs.declared.language_choice.LanguageChoice.{LanguageChoice}
 use Rattle.commands.specs.declared.refused.Refused.{Refused}
 
 -- the rules of a command: `check` has those of `rules`, no other has any
@@ -23,5 +24,5 @@ pub record FindAs {B : Type 0} (called : B → List ℕ) (finds : B → View →
   pub is : all_found called finds rules ≡ finds_of command
 
 -- a run by the rules of the command
-abbrev pub RunsByRules : Command → Seen → Result ℕ Refused → Type 0
-RunsByRules command seen result = Runs (finds_of command) command seen result
+abbrev pub RunsByRules : Command → LanguageChoice → Seen → Result ℕ Refused → Type 0
+RunsByRules command choice seen result = Runs (finds_of command) command choice seen result

@@ -10,7 +10,7 @@ ghost use Rattle.source_text.specs.declared.fault.Fault.TheVariants.{Usage};
 ghost use Rattle.commands.specs.declared.command.Command.TheVariants.{Check};
 ghost use Rattle.shipped_rules.specs.ShippedRules.{FindAs, RunsByRules};
 
-use commands::{Command, Refused, ReportForm};
+use commands::{Command, LanguageChoice, Refused, ReportForm};
 use lint::run::run;
 use rules::{RULE_COUNT, Rule, of_each_rule};
 use source_text::{Feed, Sink};
@@ -20,6 +20,7 @@ use std::alloc::Global;
 fn check_by<F: Feed, S: Feed, W: Sink>(
     alloc: Global,
     form: ReportForm,
+    choice: LanguageChoice,
     rules: &[Box<dyn Rule>],
     file: &mut F,
     settings: &mut S,
@@ -30,7 +31,7 @@ fn check_by<F: Feed, S: Feed, W: Sink>(
     requires reads_settings { S.failed settings.old ≡ false }
     requires writes { W.failed output.old ≡ false }
     ensures told { IfErr result (λ refused. refused.fault ≢ Usage) }
-    ensures answer { RunsByRules (Check form) (record {
+    ensures answer { RunsByRules (Check form) choice (record {
       given = F.left file.old;
       second = S.left settings.old;
       before = W.taken output.old;
@@ -40,13 +41,22 @@ fn check_by<F: Feed, S: Feed, W: Sink>(
       writer_failed = W.failed output.new;
     }) result }
 {
-    run(alloc, Command::Check(form), rules, file, settings, output)
+    run(
+        alloc,
+        Command::Check(form),
+        choice,
+        rules,
+        file,
+        settings,
+        output,
+    )
 }
 
 /// Runs `check` in a form with the rules of `rules`.
 fn check<F: Feed, S: Feed, W: Sink>(
     alloc: Global,
     form: ReportForm,
+    choice: LanguageChoice,
     file: &mut F,
     settings: &mut S,
     output: &mut W,
@@ -55,7 +65,7 @@ fn check<F: Feed, S: Feed, W: Sink>(
     requires reads_settings { S.failed settings.old ≡ false }
     requires writes { W.failed output.old ≡ false }
     ensures told { IfErr result (λ refused. refused.fault ≢ Usage) }
-    ensures answer { RunsByRules (Check form) (record {
+    ensures answer { RunsByRules (Check form) choice (record {
       given = F.left file.old;
       second = S.left settings.old;
       before = W.taken output.old;
@@ -66,7 +76,7 @@ fn check<F: Feed, S: Feed, W: Sink>(
     }) result }
 {
     let rules: [Box<dyn Rule>; RULE_COUNT] = of_each_rule!(boxed_rule, alloc);
-    check_by(alloc, form, &rules, file, settings, output)
+    check_by(alloc, form, choice, &rules, file, settings, output)
 }
 
 /// Runs a command over its two readers and a writer, with the rules of `rules` where it is `check`.
@@ -77,6 +87,7 @@ fn check<F: Feed, S: Feed, W: Sink>(
 pub fn run_with_rules<F: Feed, S: Feed, W: Sink>(
     alloc: Global,
     command: Command,
+    choice: LanguageChoice,
     file: &mut F,
     second: &mut S,
     output: &mut W,
@@ -85,7 +96,7 @@ pub fn run_with_rules<F: Feed, S: Feed, W: Sink>(
     requires reads_second { S.failed second.old ≡ false }
     requires writes { W.failed output.old ≡ false }
     ensures told { IfErr result (λ refused. refused.fault ≢ Usage) }
-    ensures answer { RunsByRules command (record {
+    ensures answer { RunsByRules command choice (record {
       given = F.left file.old;
       second = S.left second.old;
       before = W.taken output.old;
@@ -96,7 +107,7 @@ pub fn run_with_rules<F: Feed, S: Feed, W: Sink>(
     }) result }
 {
     match command {
-        Command::Check(form) => check(alloc, form, file, second, output),
-        _ => run(alloc, command, &[], file, second, output),
+        Command::Check(form) => check(alloc, form, choice, file, second, output),
+        _ => run(alloc, command, choice, &[], file, second, output),
     }
 }

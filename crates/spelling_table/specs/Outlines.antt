@@ -10,6 +10,7 @@ use Rattle.tree.specs.declared.kind.Kind.TheVariants as kind
 use Rattle.tree.specs.Tree.{Tree, Parts, none, part, gap, kind_of, flags_of}
 use Rattle.language.specs.FirstPart.{others}
 use Rattle.language.specs.Vocabulary.{is_target, is_pattern, is_identifier, is_rest, is_spread}
+use Rattle.language.specs.Statements.{is_module_item}
 use Rattle.language.specs.Pieces as piece
 use Rattle.spelling_table.specs.declared.position.Position.{Position}
 use Rattle.spelling_table.specs.declared.position.Position.TheVariants as at
@@ -53,6 +54,10 @@ role_of (at.SwitchCase r) = piece.switch_case r
 role_of (at.CatchClause r) = piece.handler r
 role_of at.ClassBody = piece.class_body
 role_of at.Member = piece.member
+role_of at.PrivateName = piece.private_name
+role_of at.ModuleItem = piece.module_item
+role_of at.Specifier = piece.specifier
+role_of at.DefaultItem = piece.default_item
 role_of at.Script = piece.script
 
 abbrev pub slot_of : Slot → piece.Slot
@@ -109,6 +114,14 @@ chunk_at _ last = (Fixed whole_at, tail.Chunks false)
 abbrev pub item_at : Bool → Bool → Bool → Slot × tails.ListSlots
 item_at r b d = (Fixed (cond b (at.PrologueItem r) (at.StatementListItem r)), tail.Prologue r (b && d))
 
+-- a part of an import or export behind what stands first: the last is the source
+abbrev pub specifier_at : Bool → Position
+specifier_at last = cond last at.DirectiveString at.Specifier
+
+-- an item of a module, of this kind, whether all before it are directives, and it too
+abbrev pub module_item_at : Bool → Kind → Bool → Slot × tails.ListSlots
+module_item_at b k d = (Fixed (cond (is_module_item k) at.ModuleItem (cond b (at.PrologueItem false) (at.StatementListItem false))), tail.ModuleItems (b && d))
+
 -- the next part of a tail, of this kind and whether it is a directive, with so many parts behind it: whether none and whether one
 abbrev pub tail_at : tails.ListSlots → Kind → Bool → Bool → Bool → Option (Slot × tails.ListSlots)
 tail_at tail.Nothing k d last before_last = None
@@ -122,12 +135,15 @@ tail_at (tail.Parameters x) k d last before_last = cond last (Some (x, tail.Noth
 tail_at (tail.Chunks b) k d last before_last = Some (chunk_at (tail.Chunks b) last)
 tail_at tail.Substitution k d last before_last = Some (chunk_at tail.Substitution last)
 tail_at (tail.Prologue r b) k d last before_last = Some (item_at r b d)
+tail_at (tail.ModuleItems b) k d last before_last = Some (module_item_at b k d)
+tail_at tail.Specifiers k d last before_last = Some (Fixed (specifier_at last), tail.Specifiers)
 
 -- a gap may be next
 abbrev pub skips_gap : tails.ListSlots → Bool
 skips_gap tail.Nothing = true
 skips_gap (tail.Arguments h) = h
 skips_gap (tail.PatternElements b) = true
+skips_gap tail.Specifiers = true
 skips_gap _ = false
 
 -- the parts may end here
@@ -149,6 +165,7 @@ is_over _ = false
 abbrev pub takes_all : tails.ListSlots → Bool
 takes_all (tail.Each x) = true
 takes_all (tail.Prologue r b) = true
+takes_all (tail.ModuleItems b) = true
 takes_all _ = false
 
 abbrev pub is_arguments : tails.ListSlots → Bool

@@ -1,7 +1,7 @@
 -- Productions: the outline of each.
 use Rattle.std.specs.Prelude.{Bool, true, false, cond}
 use Rattle.language.specs.declared.Rank.{Rank}
-use Rattle.language.specs.declared.Rank.TheVariants.{Expression, Assignment, Conditional, ShortCircuit, Exponentiation, Unary, Update, LeftHandSide, Call, Member, Primary}
+use Rattle.language.specs.declared.Rank.TheVariants.{Expression, Assignment, Conditional, ShortCircuit, Exponentiation, Relational, Shift, Unary, Update, LeftHandSide, Call, Member, Primary}
 use Rattle.language.specs.declared.Start.TheVariants.{Any}
 use Rattle.spelling_table.specs.declared.position.Position.{Position}
 use Rattle.spelling_table.specs.declared.position.Position.TheVariants as at
@@ -39,6 +39,10 @@ new_outline = lined Member (One (Fixed (at.Expression Member true Any))) (tail.A
 
 abbrev pub conditional_outline : Outline
 conditional_outline = fronted Conditional (Three (Left ShortCircuit) (Fixed assignment_at) (slot.Tail Assignment Any))
+
+-- `#x in a`
+abbrev pub private_in_outline : Outline
+private_in_outline = record (fronted Relational (Two (Fixed at.PrivateName) (slot.Tail Shift Any))) { needs_in = true }
 
 abbrev pub power_outline : Outline
 power_outline = fronted Exponentiation (Two (Lead Update) (Fixed (at.Expression Exponentiation true Any)))
@@ -101,29 +105,38 @@ outline_of by.Tagged = fronted Member (Two Callee (Fixed at.TaggedQuasi))
 outline_of (by.Member b c) = fronted Member (Two (cond b (Fixed at.Super) Callee) (selected_if c))
 outline_of (by.Call b) = lined Call (One (cond b (Fixed at.Super) (Lead Call))) (tail.Arguments false) 1
 outline_of by.New = new_outline
+outline_of by.PrivateMember = fronted Member (Two Callee (Fixed at.PrivateName))
 outline_of by.Meta = fronted Member (Two (Fixed at.IdentifierName) (Fixed at.IdentifierName))
 outline_of by.Import = fronted Call (One (Fixed assignment_at))
 outline_of by.Chain = fronted LeftHandSide (One LeadSpine)
 outline_of (by.Update b) = fronted Update (One (cond b (Fixed (at.Expression LeftHandSide true Any)) (Lead LeftHandSide)))
 outline_of by.Unary = fronted Unary (One (Fixed (at.Expression Unary true Any)))
 outline_of (by.Infix z q b) = record (fronted z (Two (Left z) (slot.Tail q Any))) { needs_in = b }
+outline_of by.PrivateIn = private_in_outline
 outline_of by.Exponentiation = power_outline
 outline_of by.Conditional = conditional_outline
+outline_of (by.Yield b) = fronted Assignment (cond b (One (slot.Tail Assignment Any)) Zero)
 outline_of (by.Assignment b) = fronted Assignment (Two (cond b LeadPattern (Lead LeftHandSide)) (slot.Tail Assignment Any))
 outline_of by.Sequence = lined Expression (One (Left Assignment)) (tail.Each (slot.Tail Assignment Any)) 1
 outline_of (by.MemberLink b c) = fronted Primary (Two (link_of b) (selected_if c))
+outline_of (by.PrivateMemberLink b) = fronted Primary (Two (link_of b) (Fixed at.PrivateName))
 outline_of (by.CallLink b) = call_link (link_of b)
 outline_of (by.Keyed b a) = fronted Primary (Two (key_slot b) (Fixed a))
+outline_of (by.PrivateKeyed a) = fronted Primary (Two (Fixed at.PrivateName) (Fixed a))
 outline_of (by.ShorthandProperty a) = fronted Primary (Two (Fixed at.ShorthandKey) (Fixed a))
 outline_of (by.ArrayPattern b) = lined Primary Zero (tail.PatternElements b) 0
 outline_of (by.ObjectPattern b) = opens_with_brace (lined Primary Zero (tail.PatternProperties b) 0)
 outline_of (by.WithDefault a) = fronted Primary (Two (Fixed a) (Fixed assignment_at))
 outline_of (by.Single a) = fronted Primary (One (Fixed a))
+outline_of (by.Pair a b) = fronted Primary (Two (Fixed a) (Fixed b))
 outline_of by.ClassBody = lined Primary Zero (tail.Each (Fixed at.Member)) 0
 outline_of (by.Setter a) = fronted Primary (Two (Fixed a) (Fixed at.Body))
 outline_of by.Method = lined Primary Zero (tail.Parameters (Fixed at.Body)) 1
 outline_of (by.Items r) = lined Primary Zero (tail.Each (Fixed (at.StatementListItem r))) 0
 outline_of (by.Prologue r) = lined Primary Zero (tail.Prologue r true) 0
+outline_of by.Module = lined Primary Zero (tail.ModuleItems true) 0
+outline_of by.ImportList = lined Primary Zero tail.Specifiers 0
+outline_of by.ExportList = lined Primary Zero tail.Specifiers 1
 outline_of (by.Declarators a) = lined Primary Zero (tail.Some (Fixed a)) 0
 outline_of (by.Initialised a i) = fronted Primary (Two (Fixed a) (Fixed (at.Expression Assignment i Any)))
 outline_of (by.If b r) = fronted Primary (cond b (Three (Fixed whole_at) (body_at r) (body_at r)) (Two (Fixed whole_at) (body_at r)))
@@ -154,6 +167,9 @@ has_list by.ClassBody = true
 has_list by.Method = true
 has_list (by.Items a) = true
 has_list (by.Prologue a) = true
+has_list by.Module = true
+has_list by.ImportList = true
+has_list by.ExportList = true
 has_list (by.Declarators a) = true
 has_list (by.Switch a) = true
 has_list (by.Case a b) = true

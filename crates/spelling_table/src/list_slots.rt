@@ -1,8 +1,10 @@
 //! How positions go on behind the first ones, part by part.
 
-ghost use Rattle.std.specs.Prelude.{◌≡◌, Bool, Option, Some, IfSome};
+ghost use Rattle.std.specs.Prelude.{◌≡◌, Bool, Option, Some, cond, false, IfSome};
+ghost use Rattle.language.specs.Statements.{is_module_item};
+ghost use Rattle.spelling_table.specs.declared.position.Position.TheVariants as at;
 ghost use Rattle.spelling_table.specs.declared.outline.ListSlots.TheVariants;
-ghost use Rattle.spelling_table.specs.Outlines.{chunk_at, item_at, tail_at, skips_gap as may_skip_gap, may_end as may_end_here, listed_at, bound_at, default_at, element_at, argument_at, object_part_at, pattern_part_at, is_over as is_over_tail, takes_all as takes_all_of, is_arguments as is_arguments_tail};
+ghost use Rattle.spelling_table.specs.Outlines.{chunk_at, item_at, module_item_at, specifier_at, tail_at, skips_gap as may_skip_gap, may_end as may_end_here, listed_at, bound_at, default_at, element_at, argument_at, object_part_at, pattern_part_at, is_over as is_over_tail, takes_all as takes_all_of, is_arguments as is_arguments_tail};
 
 use crate::outline::ListSlots;
 use crate::position::{ASSIGNMENT, Position, Slot, WHOLE};
@@ -49,6 +51,8 @@ pub fn next_slot(tail: ListSlots, next: Next) -> Option<(Slot, ListSlots)>
             next.is_last,
         )),
         ListSlots::Prologue { returns, is_open } => Some(item(returns, is_open, next.is_directive)),
+        ListSlots::ModuleItems { is_open } => Some(module_item(is_open, next)),
+        ListSlots::Specifiers => Some((Slot::Fixed(specifier(next.is_last)), tail)),
     }
 }
 
@@ -202,12 +206,59 @@ fn item(returns: bool, is_open: bool, is_directive: bool) -> (Slot, ListSlots)
     (Slot::Fixed(position), rest)
 }
 
+/// The slot of a module's next item and how the list goes on, as that of a script but for imports and exports.
+fn module_item(is_open: bool, next: Next) -> (Slot, ListSlots)
+    ensures { result ≡ module_item_at is_open next.kind next.is_directive }
+{
+    let rest = ListSlots::ModuleItems {
+        is_open: is_open && next.is_directive,
+    };
+    (Slot::Fixed(module_item_position(is_open, next.kind)), rest)
+}
+
+/// The position of a module's item of this kind.
+fn module_item_position(is_open: bool, kind: Kind) -> Position
+    ensures { result ≡ cond (is_module_item kind) at.ModuleItem (cond is_open (at.PrologueItem false) (at.StatementListItem false)) }
+{
+    if is_module_item(kind) {
+        return Position::ModuleItem;
+    }
+    if is_open {
+        return Position::PrologueItem { returns: false };
+    }
+    Position::StatementListItem { returns: false }
+}
+
+/// Whether the kind is that of an import or export.
+fn is_module_item(kind: Kind) -> bool
+    ensures { result ≡ is_module_item kind }
+{
+    matches!(
+        kind,
+        Kind::ImportDeclaration
+            | Kind::ExportNamedDeclaration
+            | Kind::ExportDefaultDeclaration
+            | Kind::ExportAllDeclaration
+    )
+}
+
+/// The position of a part of an import or export; the last is the source.
+fn specifier(is_last: bool) -> Position
+    ensures { result ≡ specifier_at is_last }
+{
+    if is_last {
+        Position::DirectiveString
+    } else {
+        Position::Specifier
+    }
+}
+
 /// Whether a gap may be next.
 pub fn skips_gap(tail: ListSlots) -> bool
     ensures { result ≡ may_skip_gap tail }
 {
     match tail {
-        ListSlots::Nothing | ListSlots::PatternElements { .. } => true,
+        ListSlots::Nothing | ListSlots::PatternElements { .. } | ListSlots::Specifiers => true,
         ListSlots::Arguments { holes } => holes,
         _ => false,
     }
@@ -237,7 +288,10 @@ pub fn is_over(tail: ListSlots) -> bool
 pub fn takes_all(tail: ListSlots) -> bool
     ensures { result ≡ takes_all_of tail }
 {
-    matches!(tail, ListSlots::Each(_) | ListSlots::Prologue { .. })
+    matches!(
+        tail,
+        ListSlots::Each(_) | ListSlots::Prologue { .. } | ListSlots::ModuleItems { .. }
+    )
 }
 
 /// Whether a list is of arguments, or of an array's elements.
@@ -270,6 +324,9 @@ pub fn steady_slot(tail: ListSlots, kind: Kind) -> Option<Slot>
             returns,
             is_open: false,
         } => Some(Slot::Fixed(Position::StatementListItem { returns })),
+        ListSlots::ModuleItems { is_open: false } => Some(Slot::Fixed(module_item_position(
+            false, kind,
+        ))),
         _ => None,
     }
 }

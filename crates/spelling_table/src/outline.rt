@@ -48,6 +48,10 @@ pub enum ListSlots {
     Substitution,
     /// Items; whether all before them are directives.
     Prologue { returns: bool, is_open: bool },
+    /// Items of a module; whether all before them are directives.
+    ModuleItems { is_open: bool },
+    /// Specifiers of an import or export, then the source; a gap may stand in its place.
+    Specifiers,
 }
 
 /// The symbol at which a node is spelled, whether it needs In, what it opens with, and the positions of its parts: the

@@ -92,6 +92,14 @@ pub enum Position {
     },
     ClassBody,
     Member,
+    /// A name with a `#`.
+    PrivateName,
+    /// An import or export among a module's items.
+    ModuleItem,
+    /// A name of an import or export, with its alias.
+    Specifier,
+    /// What `export default` declares.
+    DefaultItem,
     Script,
 }
 

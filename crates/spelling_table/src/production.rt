@@ -47,6 +47,8 @@ pub enum Production {
         of_super: bool,
         is_computed: bool,
     },
+    /// A member whose property is a private name.
+    PrivateMember,
     Call {
         of_super: bool,
     },
@@ -64,8 +66,13 @@ pub enum Production {
         right: Rank,
         needs_in: bool,
     },
+    /// A private name before `in`.
+    PrivateIn,
     Exponentiation,
     Conditional,
+    Yield {
+        has_operand: bool,
+    },
     Assignment {
         to_pattern: bool,
     },
@@ -75,6 +82,10 @@ pub enum Production {
         goes_on: bool,
         is_computed: bool,
     },
+    /// The same with a private name.
+    PrivateMemberLink {
+        goes_on: bool,
+    },
     CallLink {
         goes_on: bool,
     },
@@ -83,6 +94,8 @@ pub enum Production {
         is_computed: bool,
         value: Position,
     },
+    /// A private name as a key, and what stands behind it at a position.
+    PrivateKeyed(Position),
     /// A shorthand key, and its value at a position.
     ShorthandProperty(Position),
     ArrayPattern {
@@ -95,6 +108,8 @@ pub enum Production {
     WithDefault(Position),
     /// One part, at a position.
     Single(Position),
+    /// Two parts, each at a position.
+    Pair(Position, Position),
     ClassBody,
     /// The function of a setter, whose parameter is at a position.
     Setter(Position),
@@ -106,6 +121,12 @@ pub enum Production {
     Prologue {
         returns: bool,
     },
+    /// The items of a module.
+    Module,
+    /// The specifiers of an import, and its source.
+    ImportList,
+    /// The same of an export, behind the gap of its declaration.
+    ExportList,
     /// Declarators at a position.
     Declarators(Position),
     /// A declarator with an initialiser, whose name is at a position.
@@ -174,6 +195,7 @@ impl Production {
                 of_super,
                 is_computed,
             } => outlines::member(of_super, is_computed),
+            Production::PrivateMember => outlines::private_member(),
             Production::Call { of_super } => outlines::call(of_super),
             Production::New => outlines::new(),
             Production::Meta => outlines::meta(),
@@ -186,26 +208,34 @@ impl Production {
                 right,
                 needs_in,
             } => outlines::infix(own, right, needs_in),
+            Production::PrivateIn => outlines::private_in(),
             Production::Exponentiation => outlines::power(),
             Production::Conditional => outlines::conditional(),
+            Production::Yield { has_operand } => outlines::yield_expression(has_operand),
             Production::Assignment { to_pattern } => outlines::assignment(to_pattern),
             Production::Sequence => outlines::sequence(),
             Production::MemberLink {
                 goes_on,
                 is_computed,
             } => outlines::member_link(goes_on, is_computed),
+            Production::PrivateMemberLink { goes_on } => outlines::private_link(goes_on),
             Production::CallLink { goes_on } => outlines::call_link(goes_on),
             Production::Keyed { is_computed, value } => outlines::keyed(is_computed, value),
+            Production::PrivateKeyed(value) => outlines::pair(Position::PrivateName, value),
             Production::ShorthandProperty(value) => outlines::echo(value),
             Production::ArrayPattern { binds } => outlines::array_pattern(binds),
             Production::ObjectPattern { binds } => outlines::object_pattern(binds),
             Production::WithDefault(target) => outlines::defaulted(target),
             Production::Single(part) => outlines::single(part),
+            Production::Pair(first, second) => outlines::pair(first, second),
             Production::ClassBody => outlines::class_body(),
             Production::Setter(parameter) => outlines::setter(parameter),
             Production::Method => outlines::method(),
             Production::Items { returns } => outlines::items(returns),
             Production::Prologue { returns } => outlines::prologue(returns),
+            Production::Module => outlines::module(),
+            Production::ImportList => outlines::import_list(),
+            Production::ExportList => outlines::export_list(),
             Production::Declarators(position) => outlines::declarators(position),
             Production::Initialised { name, has_in } => outlines::initialised(name, has_in),
             Production::If { has_else, returns } => outlines::if_statement(has_else, returns),
@@ -253,6 +283,9 @@ impl Production {
                 | Production::Method
                 | Production::Items { .. }
                 | Production::Prologue { .. }
+                | Production::Module
+                | Production::ImportList
+                | Production::ExportList
                 | Production::Declarators(_)
                 | Production::Switch { .. }
                 | Production::Case { .. }

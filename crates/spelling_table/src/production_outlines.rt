@@ -15,6 +15,7 @@ use crate::outline::{FirstToken, FixedSlots, ListSlots, Outline};
 use crate::position::{ASSIGNMENT, Position, Slot, WHOLE};
 use crate::production::{ForInit, TryClauses};
 use language::{Rank, Start};
+
 /// The outline of two parts at these slots.
 fn two(first: Slot, second: Slot) -> Outline
     ensures { result ≡ fronted Primary (Two first second) }
@@ -63,6 +64,14 @@ pub(crate) fn member(of_super: bool, is_computed: bool) -> Outline
     ensures { result ≡ outline_of (by.Member of_super is_computed) }
 {
     let front = FixedSlots::Two(object_of(of_super), selected(is_computed));
+    Outline::of_front(Rank::Member, front)
+}
+
+/// The outline of a member whose property is a private name (13th edition, 13.3).
+pub(crate) fn private_member() -> Outline
+    ensures { result ≡ outline_of by.PrivateMember }
+{
+    let front = FixedSlots::Two(Slot::Callee, Slot::Fixed(Position::PrivateName));
     Outline::of_front(Rank::Member, front)
 }
 
@@ -141,6 +150,41 @@ pub(crate) fn member_link(goes_on: bool, is_computed: bool) -> Outline
     ensures { result ≡ outline_of (by.MemberLink goes_on is_computed) }
 {
     two(below(goes_on), selected(is_computed))
+}
+
+/// The outline of a member in an optional chain whose property is a private name (13th edition, 13.3).
+pub(crate) fn private_link(goes_on: bool) -> Outline
+    ensures { result ≡ outline_of (by.PrivateMemberLink goes_on) }
+{
+    two(below(goes_on), Slot::Fixed(Position::PrivateName))
+}
+
+/// The outline of two parts at these positions.
+pub(crate) fn pair(first: Position, second: Position) -> Outline
+    ensures { result ≡ outline_of (by.Pair first second) }
+{
+    two(Slot::Fixed(first), Slot::Fixed(second))
+}
+
+/// The outline of a module: its items (13th edition, 16.2).
+pub(crate) fn module() -> Outline
+    ensures { result ≡ outline_of by.Module }
+{
+    list(ListSlots::ModuleItems { is_open: true })
+}
+
+/// The outline of an import's specifiers and source (13th edition, 16.2.2).
+pub(crate) fn import_list() -> Outline
+    ensures { result ≡ outline_of by.ImportList }
+{
+    list(ListSlots::Specifiers)
+}
+
+/// The outline of an export's specifiers and source (13th edition, 16.2.3).
+pub(crate) fn export_list() -> Outline
+    ensures { result ≡ outline_of by.ExportList }
+{
+    Outline::of_list(Rank::Primary, FixedSlots::Zero, ListSlots::Specifiers, 1)
 }
 
 /// The outline of a call in an optional chain (12.3.9); `goes_on` says whether the chain goes on in its callee.
@@ -430,6 +474,18 @@ pub(crate) fn infix(own: Rank, right: Rank, needs_in: bool) -> Outline
     }
 }
 
+/// The outline of a private name before `in` (13th edition, 13.10).
+pub(crate) fn private_in() -> Outline
+    ensures { result ≡ outline_of by.PrivateIn }
+{
+    let right = Slot::Tail(Rank::Shift, Start::Any);
+    let front = FixedSlots::Two(Slot::Fixed(Position::PrivateName), right);
+    Outline {
+        needs_in: true,
+        ..Outline::of_front(Rank::Relational, front)
+    }
+}
+
 /// The outline of an ExponentiationExpression (12.6).
 pub(crate) fn power() -> Outline
     ensures { result ≡ outline_of by.Exponentiation }
@@ -449,6 +505,19 @@ pub(crate) fn conditional() -> Outline
         Slot::Tail(Rank::Assignment, Start::Any),
     );
     Outline::of_front(Rank::Conditional, front)
+}
+
+/// The outline of a YieldExpression, by whether it has an operand (14.4).
+pub(crate) fn yield_expression(has_operand: bool) -> Outline
+    ensures { result ≡ outline_of (by.Yield has_operand) }
+{
+    if has_operand {
+        return Outline::of_front(
+            Rank::Assignment,
+            FixedSlots::One(Slot::Tail(Rank::Assignment, Start::Any)),
+        );
+    }
+    Outline::of_front(Rank::Assignment, FixedSlots::Zero)
 }
 
 /// A property's key.

@@ -39,8 +39,17 @@ impl Production {
         ensures { result ≡ requirements_of (outline_of self) }
     {
         match self {
-            Production::Member { .. } | Production::Tagged | Production::New | Production::Meta => {
-                Requirements::rank(Rank::Member)
+            Production::Member { .. }
+            | Production::PrivateMember
+            | Production::Tagged
+            | Production::New
+            | Production::Meta => Requirements::rank(Rank::Member),
+            Production::PrivateIn => {
+                Requirements {
+                    rank: Rank::Relational,
+                    needs_in: true,
+                    opens: FirstToken::Other,
+                }
             }
             Production::Call { .. } | Production::Import => Requirements::rank(Rank::Call),
             Production::Infix {
@@ -54,9 +63,8 @@ impl Production {
                     opens: FirstToken::Other,
                 }
             }
-            Production::Assignment { .. } | Production::Arrow { .. } => Requirements::rank(
-                Rank::Assignment,
-            ),
+            Production::Assignment { .. } | Production::Arrow { .. } | Production::Yield { .. } =>
+                Requirements::rank(Rank::Assignment),
             Production::Object | Production::ObjectPattern { .. } => {
                 Requirements {
                     rank: Rank::Primary,

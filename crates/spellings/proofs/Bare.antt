@@ -1,22 +1,29 @@
 -- Outlines and their positions don't depend on places.
 use Rattle.std.proofs.Common.{◌≡◌, ℕ, zero, suc, ◌+◌, false, cond, List, [], refl, ap, ap₂, ◌∙◌}
 use Rattle.std.specs.Prelude.{Option, Some, None, not, nat_le, ◌||◌, ◌&&◌}
+use Rattle.tree.specs.declared.kind.Kind.{Kind}
+use Rattle.tree.specs.declared.kind.Kind.TheVariants as kind
 use Rattle.tree.specs.Tree.{Tree, node, Parts, none, part, gap, bare, bare_parts}
-use Rattle.language.specs.FirstPart.{others}
+use Rattle.language.specs.FirstPart.{lead, others, goes_left, is_braced, begins_with_brace, first_begins_with_brace}
 use Rattle.language.specs.Pieces.{is_none}
 use Rattle.language.specs.Edges.{trails, ends_in_if, last_ends_in_if}
 use Rattle.language.specs.Statements.{defaults}
-use Rattle.language.specs.Expressions.{has_optional, first_has_optional, is_chain_part}
+use Rattle.language.specs.Expressions.{has_optional, first_has_optional, is_chain_part, value_form}
 use Rattle.spelling_table.specs.declared.position.Slot.{Slot}
 use Rattle.spelling_table.specs.declared.outline.ListSlots.{ListSlots}
 use Rattle.spelling_table.specs.declared.outline.Outline.{Outline}
 use Rattle.spelling_table.specs.Outlines.{tail_slots, tail_at, part_of_tail, is_before_last, going, is_over, skips_gap, parts_after, front_before, outline_slots}
-use Rattle.spellings.specs.Entries.{entry_at, text_at, dangles_at, around}
+use Rattle.spellings.specs.Entries.{entry_at, text_at, dangles_at, is_import_specifier, is_export_specifier, specifiers_fit, behind_default_fits, import_fits, export_fits, around}
 
 pub none-bare : (ps : Parts) → is_none (bare_parts ps) ≡ is_none ps
 none-bare none = refl
 none-bare (part n ps) = refl
 none-bare (gap ps) = refl
+
+lead-bare : (ps : Parts) → lead (bare_parts ps) ≡ lead ps
+lead-bare none = refl
+lead-bare (part (node k w g s e us) ps) = refl
+lead-bare (gap ps) = refl
 
 pub others-bare : (ps : Parts) → others (bare_parts ps) ≡ bare_parts (others ps)
 others-bare none = refl
@@ -99,6 +106,69 @@ defaults-bare (gap ps) = defaults-bare ps
 twice-bare : (ps : Parts) → not (nat_le (defaults (others (bare_parts ps))) 1) ≡ not (nat_le (defaults (others ps)) 1)
 twice-bare ps = ap (λ n. not (nat_le n 1)) (ap defaults (others-bare ps) ∙ defaults-bare (others ps))
 
+value_form-bare : (ps : Parts) → value_form (bare_parts ps) ≡ value_form ps
+value_form-bare none = refl
+value_form-bare (gap ps) = refl
+value_form-bare (part n none) = refl
+value_form-bare (part n (gap ps)) = refl
+value_form-bare (part n (part (node k w g s e us) ps)) = refl
+
+mutual
+  braced-bare : (n : Tree) → begins_with_brace (bare n) ≡ begins_with_brace n
+  braced-bare (node k w g s e ps) = ap (λ b. cond (goes_left k g) b (is_braced k)) (first_braced-bare ps)
+
+  first_braced-bare : (ps : Parts) → first_begins_with_brace (bare_parts ps) ≡ first_begins_with_brace ps
+  first_braced-bare none = refl
+  first_braced-bare (part n ps) = braced-bare n
+  first_braced-bare (gap ps) = refl
+
+specifiers_fit-bare : (ps : Parts) → specifiers_fit (bare_parts ps) ≡ specifiers_fit ps
+specifiers_fit-bare none = refl
+specifiers_fit-bare (gap ps) = refl
+specifiers_fit-bare (part n none) = refl
+specifiers_fit-bare (part n (gap ps)) = refl
+specifiers_fit-bare (part (node k w g s e us) (part m ps)) = ap (λ b. is_import_specifier k && b) (specifiers_fit-bare (part m ps))
+
+behind_default-bare : (k : Kind) (ps : Parts) → behind_default_fits k (bare_parts ps) ≡ behind_default_fits k ps
+behind_default-bare kind.ImportSpecifier ps = specifiers_fit-bare ps
+behind_default-bare kind.ImportNamespaceSpecifier none = refl
+behind_default-bare kind.ImportNamespaceSpecifier (gap ps) = refl
+behind_default-bare kind.ImportNamespaceSpecifier (part n none) = refl
+behind_default-bare kind.ImportNamespaceSpecifier (part n (gap ps)) = refl
+behind_default-bare kind.ImportNamespaceSpecifier (part n (part m none)) = refl
+behind_default-bare kind.ImportNamespaceSpecifier (part n (part m (gap ps))) = refl
+behind_default-bare kind.ImportNamespaceSpecifier (part n (part m (part l ps))) = refl
+behind_default-bare kind.Literal none = refl
+behind_default-bare kind.Literal (gap ps) = refl
+behind_default-bare kind.Literal (part n none) = refl
+behind_default-bare kind.Literal (part n (gap ps)) = refl
+behind_default-bare kind.Literal (part n (part m ps)) = refl
+behind_default-bare _ ps = refl
+
+imports-bare : (k : Kind) (ps : Parts) → import_fits k (bare_parts ps) ≡ import_fits k ps
+imports-bare kind.ImportDefaultSpecifier none = refl
+imports-bare kind.ImportDefaultSpecifier (gap ps) = refl
+imports-bare kind.ImportDefaultSpecifier (part n ps) = ap (λ j. behind_default_fits j (bare_parts ps)) (lead-bare ps) ∙ behind_default-bare (lead ps) ps
+imports-bare kind.ImportSpecifier ps = specifiers_fit-bare ps
+imports-bare kind.ImportNamespaceSpecifier ps = behind_default-bare kind.ImportNamespaceSpecifier ps
+imports-bare kind.Literal ps = behind_default-bare kind.Literal ps
+imports-bare _ ps = refl
+
+imports_fit-bare : (ps : Parts) → import_fits (lead (bare_parts ps)) (bare_parts ps) ≡ import_fits (lead ps) ps
+imports_fit-bare ps = ap (λ j. import_fits j (bare_parts ps)) (lead-bare ps) ∙ imports-bare (lead ps) ps
+
+exports_fit-bare : (ps : Parts) → export_fits (bare_parts ps) ≡ export_fits ps
+exports_fit-bare none = refl
+exports_fit-bare (gap none) = refl
+exports_fit-bare (gap (gap ps)) = refl
+exports_fit-bare (gap (part n ps)) = refl
+exports_fit-bare (part n none) = refl
+exports_fit-bare (part (node k w g s e us) (gap ps)) = ap (λ b. is_export_specifier k && b) (exports_fit-bare (gap ps))
+exports_fit-bare (part (node k w g s e us) (part m ps)) = ap (λ b. is_export_specifier k && b) (exports_fit-bare (part m ps))
+
+exports_fit-others : (ps : Parts) → export_fits (others (bare_parts ps)) ≡ export_fits (others ps)
+exports_fit-others ps = ap export_fits (others-bare ps) ∙ exports_fit-bare (others ps)
+
 pub around-bare : (ps : Parts) → around (bare_parts ps) ≡ around ps
 around-bare ps = λ i. record {
   first = entry-bare ps 0 i;
@@ -110,4 +180,8 @@ around-bare ps = λ i. record {
   chained = first_chained-bare ps i;
   dangling = dangles-bare ps 1 i;
   defaults_twice = twice-bare ps i;
+  second_form = value_form-bare ps i;
+  braced = first_braced-bare ps i;
+  imports_fit = imports_fit-bare ps i;
+  exports_fit = exports_fit-others ps i;
 }

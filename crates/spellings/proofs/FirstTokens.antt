@@ -10,7 +10,7 @@ use Rattle.language.specs.Vocabulary.{is, among, is_reserved, is_prefix, is_upda
 use Rattle.language.specs.Pieces.{Piece, tok}
 use Rattle.language.specs.Grammar.{starts}
 use Rattle.language.proofs.table.Begins.{among_by, Each}
-use Rattle.spellings.proofs.OutlineWays.{word_starts, sign_starts}
+use Rattle.spellings.proofs.OutlineWays.{is_word_behind, word_starts, sign_starts}
 
 -- of a text among these, what holds of each
 by_words : (f : List ℕ → Bool) (w : List ℕ) (ss : List Prim.Native.String.String) → among w ss ≡ true → Each (λ v. f v ≡ false) ss → f w ≡ false
@@ -27,8 +27,8 @@ not_reserved w r = go (opens_function w) refl
     go false e = e
     go true e = absurd (false≢true (sym r ∙ among_by (λ v. is_reserved v ≡ true) w ("function" ∷ "class" ∷ []) e (refl, (refl, tt))))
 
-pub name_starts : (w : List ℕ) (qs : List Piece) → is_reserved w ≡ false → (f : Start) → starts f (tok class.IdentifierName w ∷ qs) ≡ true
-name_starts w qs r f = word_starts f w qs (not_reserved w r)
+pub name_starts : (w : List ℕ) → is_reserved w ≡ false → (f : Start) → starts f (tok class.IdentifierName w ∷ []) ≡ true
+name_starts w r f = word_starts f w [] refl (not_reserved w r)
 
 -- a literal
 class_starts : (c : TokenClass) (w : List ℕ) (f : Start) → is_name c ≡ false → (c ≡ class.Punctuator → ⊥) → starts f (tok c w ∷ []) ≡ true
@@ -59,12 +59,12 @@ literal_starts w h f = of (is_name (literal_class w)) refl (among w ("true" ∷ 
 
     of : (a : Bool) → is_name (literal_class w) ≡ a → (b : Bool) → among w ("true" ∷ "false" ∷ "null" ∷ []) ≡ b → (a && not b) ≡ false → starts f (tok (literal_class w) w ∷ []) ≡ true
     of false e b d k = class_starts (literal_class w) w f e (literal_sign w)
-    of true e true d k = subst (λ c. starts f (tok c w ∷ []) ≡ true) (sym (name_of (literal_class w) e)) (word_starts f w [] (word_literal w d))
+    of true e true d k = subst (λ c. starts f (tok c w ∷ []) ≡ true) (sym (name_of (literal_class w) e)) (word_starts f w [] refl (word_literal w d))
     of true e false d k = absurd (false≢true (sym k))
 
 -- operators
-pub prefix_word : (w : List ℕ) (qs : List Piece) → is_prefix w ≡ true → (f : Start) → starts f (tok class.IdentifierName w ∷ qs) ≡ true
-prefix_word w qs e f = word_starts f w qs (by_words opens_function w ("delete" ∷ "void" ∷ "typeof" ∷ "+" ∷ "-" ∷ "~" ∷ "!" ∷ []) e (refl, (refl, (refl, (refl, (refl, (refl, (refl, tt))))))))
+pub prefix_word : (w : List ℕ) (qs : List Piece) → is_word_behind qs ≡ false → is_prefix w ≡ true → (f : Start) → starts f (tok class.IdentifierName w ∷ qs) ≡ true
+prefix_word w qs h e f = word_starts f w qs h (by_words opens_function w ("delete" ∷ "void" ∷ "typeof" ∷ "+" ∷ "-" ∷ "~" ∷ "!" ∷ []) e (refl, (refl, (refl, (refl, (refl, (refl, (refl, tt))))))))
 
 pub prefix_sign : (w : List ℕ) (qs : List Piece) → is_prefix w ≡ true → (f : Start) → starts f (tok class.Punctuator w ∷ qs) ≡ true
 prefix_sign w qs e f = sign_starts f w qs (by_words (λ v. is v "{") w ("delete" ∷ "void" ∷ "typeof" ∷ "+" ∷ "-" ∷ "~" ∷ "!" ∷ []) e (refl, (refl, (refl, (refl, (refl, (refl, (refl, tt))))))))

@@ -15,8 +15,11 @@ pub mod Given
 pub mod LastParts
 pub mod OtherTable
 pub mod StatementTable
+pub mod ModuleTable
+pub mod ModuleParts
 pub mod Ways
 pub mod Wherever
+pub mod ExpressionSlots
 pub mod Slots
 pub mod Cursors
 pub mod LeafOutlines

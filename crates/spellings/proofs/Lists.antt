@@ -10,7 +10,7 @@ use Rattle.language.specs.Vocabulary.{is_rest, is_spread, is_pattern, is_identif
 use Rattle.language.specs.Pieces as piece
 use Rattle.language.specs.Pieces.{Piece, Slot, sub, never, may, absent, lay, fixed, put, put_at, sign, sp, nothing, is_none, separator, listed, elements, argument, pattern_element, parameters, bound, with_default}
 use Rattle.language.specs.Expressions.{template_elements, object_part, object_pattern_part, sequence}
-use Rattle.language.specs.Statements.{lines, prologue, declarators, member_lines, is_directive}
+use Rattle.language.specs.Statements.{lines, prologue, declarators, member_lines, is_directive, is_module_item, module_prologue}
 use Rattle.spelling_table.specs.declared.position.Position.{Position}
 use Rattle.spelling_table.specs.declared.position.Slot as own
 use Rattle.spelling_table.specs.declared.position.Slot.TheVariants as at
@@ -184,3 +184,15 @@ prologue-named r b x y (part n ps) e h =
     of : (c : Bool) → before (fixed (cond c (piece.opening r) (piece.item r))) (tail_slots (tail.Prologue r (b && is_directive n)) ps) ≡ before (fixed (role_of (cond c (position.PrologueItem r) (position.StatementListItem r)))) (tail_slots (tail.Prologue r (b && is_directive n)) ps)
     of true = refl
     of false = refl
+
+-- a module's items
+pub modules-named : (b : Bool) (ps : Parts) → named (module_prologue b ps) ≡ tail_slots (tail.ModuleItems b) ps
+modules-named b none = refl
+modules-named b (gap ps) = refl
+modules-named b (part n ps) = ap (before (fixed (cond (is_module_item (kind_of n)) piece.module_item (cond b (piece.opening false) (piece.item false))))) (modules-named (b && is_directive n) ps) ∙ of (is_module_item (kind_of n)) b
+  where
+    of : (c d : Bool) → before (fixed (cond c piece.module_item (cond d (piece.opening false) (piece.item false)))) (tail_slots (tail.ModuleItems (b && is_directive n)) ps) ≡
+        before (fixed (role_of (cond c position.ModuleItem (cond d (position.PrologueItem false) (position.StatementListItem false))))) (tail_slots (tail.ModuleItems (b && is_directive n)) ps)
+    of true d = refl
+    of false true = refl
+    of false false = refl

@@ -7,15 +7,15 @@ use Rattle.tree.specs.declared.kind.Kind.TheVariants as kind
 use Rattle.tree.specs.declared.kind.Form.{Form}
 use Rattle.tree.specs.declared.kind.Form.TheVariants as form
 use Rattle.tree.specs.declared.kind.Flags.{Flags}
-use Rattle.tree.specs.Tree.{node, Parts, none, part, gap, kind_of, text_of}
+use Rattle.tree.specs.Tree.{node, Parts, none, part, gap, kind_of}
 use Rattle.language.specs.declared.Rank.TheVariants.{Call, Primary}
 use Rattle.language.specs.FirstPart.{lead as lead_kind, others}
-use Rattle.language.specs.Vocabulary.{is_reserved, is_string, literal_class, is_rest, is_identifier, is_super}
+use Rattle.language.specs.Vocabulary.{is_reserved, is_string, literal_class, is_rest, is_identifier, is_private, is_super}
 use Rattle.language.specs.Pieces as piece
 use Rattle.language.specs.Pieces.{Piece, Slot, Spelling, only, put, put_at, sub, tok, lay, fixed, lead, lead_chain, sign, term, sp, is_none, elements, listed, pattern_element, bound, with_default, many, only_at, parameters, absent}
-use Rattle.language.specs.Expressions.{chain_parts, member_link, call_link, arguments, in_brackets, first_has_optional, properties, pattern_properties, keyed, object_pattern_part, shorthand_pattern, assignment, methods}
-use Rattle.language.specs.Statements.{braced, member_lines, members, class_members}
-use Rattle.language.specs.Grammar.{keys, names, words, shorthand_keys, bases, directive_strings, tagged_quasis, template_parts, patterns, elements_with_default, rests}
+use Rattle.language.specs.Expressions.{chain_parts, member_link, call_link, arguments, in_brackets, first_has_optional, properties, pattern_properties, keyed, object_pattern_part, shorthand_pattern, assignment, methods, method_words, value_form}
+use Rattle.language.specs.Statements.{braced, lines, member_lines, members, class_members, class_keyed, static_word, fields}
+use Rattle.language.specs.Grammar.{keys, names, words, private_names, is_function_at, shorthand_keys, bases, directive_strings, tagged_quasis, template_parts, patterns, elements_with_default, rests}
 use Rattle.spelling_table.specs.declared.position.Position.{Position}
 use Rattle.spelling_table.specs.declared.position.Position.TheVariants as position
 use Rattle.spelling_table.specs.declared.position.Slot.TheVariants as own
@@ -24,22 +24,28 @@ use Rattle.spelling_table.specs.declared.outline.ListSlots.TheVariants as tails
 use Rattle.spelling_table.specs.declared.outline.Outline.{Outline}
 use Rattle.spelling_table.specs.Outlines.{role_of, slot_of, before, front_before, tail_slots, outline_slots, assignment_at, whole_at, bound_at, default_at, fronted, lined}
 use Rattle.spellings.specs.Entries.{entry_at, around}
-use Rattle.spellings.specs.Expressions.{kind_at, selected}
-use Rattle.spellings.specs.Others.{leaf_if, is_key_class, names_constructor, method_of, name_outline, set_at, form_method_outline, is_chunk, key_outline, quoted_outline, quasi_outline, keyed_outline, echo_outline, form_outline, keyed_at, shorthand_outline, pattern_form_outline, pattern_outline, defaulted, element_outline, one_at, rest_outline, spine_outline, member_outline}
+use Rattle.spellings.specs.Expressions.{kind_at, only_if, selected}
+use Rattle.spellings.specs.Others.{leaf_if, is_key_class, class_key, class_keyed as keyed_as, method_keyed, fits_form, field_outline, private_outline, name_outline, set_at, form_method_outline, is_chunk, key_outline, quoted_outline, quasi_outline, keyed_outline, echo_outline, form_outline, keyed_at, shorthand_outline, pattern_form_outline, pattern_outline, defaulted, element_outline, one_at, rest_outline, spine_outline, member_outline}
 use Rattle.spellings.proofs.SlotPositions.{named, named-append, named-closed, joined}
-use Rattle.spellings.proofs.Lists.{piece_at, parameters-named, patterns-named, pattern-named, chunks-named, members-named, bound_piece, default_piece}
+use Rattle.spellings.proofs.Lists.{piece_at, lines-named, parameters-named, patterns-named, pattern-named, chunks-named, members-named, bound_piece, default_piece}
 use Rattle.spellings.proofs.OutlineWays.{nothing_slots, Outlined, no_way, one_way, lists}
-use Rattle.spellings.proofs.ExpressionTable.{arguments_names, lead_entry, brace_opens, bracket_starts}
+use Rattle.spellings.proofs.ExpressionTable.{second_kind, arguments_names, lead_entry, brace_opens, bracket_starts}
 
 -- of a position at which a start asks nothing: what the outline says of the only way
 pub data Placed (ps : Parts) : List Spelling → Option Outline → Type 0 where
   nowhere : Placed ps [] None
   unnamed : {s : Spelling} → named s.pieces ≡ None → Placed ps (s ∷ []) None
   placed : {s : Spelling} {x : Outline} → named s.pieces ≡ outline_slots x ps → Placed ps (s ∷ []) (Some x)
+  -- of two ways the first
+  placed_first : {s r : Spelling} {x : Outline} {xs : List Slot} → named s.pieces ≡ Some xs → outline_slots x ps ≡ Some xs → Placed ps (s ∷ r ∷ []) (Some x)
 
 module _ {ps : Parts} where
   pub places : (f : Rattle.spelling_table.specs.declared.outline.FixedSlots.FixedSlots) (qs : List Piece) → named qs ≡ front_before f (Some []) → Placed ps (only qs) (Some (fronted Primary f))
   places f qs e = placed (e ∙ sym (ap (front_before f) (nothing_slots ps)))
+
+  pub when : {xs : List Spelling} {o : Option Outline} (b : Bool) → Placed ps xs o → Placed ps (cond b xs []) (cond b o None)
+  when true h = h
+  when false h = nowhere
 
   leaf_of : (b : Bool) (qs : List Piece) → named qs ≡ Some [] → Placed ps (cond b (only qs) []) (leaf_if b)
   leaf_of true qs e = places Zero qs e
@@ -60,6 +66,10 @@ module _ {ps : Parts} where
   pub echoes_placed : (k : Kind) (w : List ℕ) → Placed ps (shorthand_keys k w) (leaf_if (is_identifier k))
   echoes_placed kind.Identifier w = places Zero _ refl
   echoes_placed _ w = nowhere
+
+  pub private_names_placed : (k : Kind) (w : List ℕ) → Placed ps (private_names k w) (private_outline k)
+  private_names_placed kind.PrivateIdentifier w = places Zero _ refl
+  private_names_placed _ w = nowhere
 
   pub bases_placed : (k : Kind) → Placed ps (bases k) (leaf_if (is_super k))
   bases_placed kind.Super = places Zero _ refl
@@ -86,22 +96,25 @@ module _ {ps : Parts} where
   echo_placed true a = nowhere
   echo_placed false a = places (Two (own.Fixed position.ShorthandKey) (own.Fixed a)) _ refl
 
-  pub properties_placed : (b : Bool) (x : Form) → Placed ps (properties b x) (form_outline b x)
-  properties_placed b form.Init = keyed_placed b [] _ assignment_at refl refl
-  properties_placed b form.Method = keyed_placed b [] _ (position.Method form.Method) refl refl
-  properties_placed b form.Get = keyed_placed b (term "get" ∷ sp ∷ []) _ (position.Method form.Get) refl refl
-  properties_placed b form.Set = keyed_placed b (term "set" ∷ sp ∷ []) _ (position.Method form.Set) refl refl
-  properties_placed b form.Shorthand = echo_placed b position.Name
-  properties_placed b form.Constructor = nowhere
+  -- a key behind what is never spelled
+  unkeyed : (b : Bool) (after : List Piece) → Placed ps (keyed (piece.never ∷ []) b after) None
+  unkeyed true after = unnamed refl
+  unkeyed false after = unnamed refl
 
-pub second_kind : (ps : Parts) → lead_kind (others ps) ≡ kind_at (entry_at ps 1)
-second_kind none = refl
-second_kind (part n none) = refl
-second_kind (part n (part m ps)) = refl
-second_kind (part n (gap ps)) = refl
-second_kind (gap none) = refl
-second_kind (gap (part m ps)) = refl
-second_kind (gap (gap ps)) = refl
+  methods_keyed : (b : Bool) (x : Form) → Placed ps (properties b form.Method x) (form_outline b form.Method x)
+  methods_keyed b form.Init = keyed_placed b [] _ (position.Method form.Method) refl refl
+  methods_keyed b form.Generator = keyed_placed b (method_words form.Generator) _ (position.Method form.Generator) refl refl
+  methods_keyed b form.Async = keyed_placed b (method_words form.Async) _ (position.Method form.Async) refl refl
+  methods_keyed b form.AsyncGenerator = keyed_placed b (method_words form.AsyncGenerator) _ (position.Method form.AsyncGenerator) refl refl
+  methods_keyed b _ = unkeyed b _
+
+  pub properties_placed : (b : Bool) (x y : Form) → Placed ps (properties b x y) (form_outline b x y)
+  properties_placed b form.Init y = keyed_placed b [] _ assignment_at refl refl
+  properties_placed b form.Method y = methods_keyed b y
+  properties_placed b form.Get y = keyed_placed b (term "get" ∷ sp ∷ []) _ (position.Method form.Get) refl refl
+  properties_placed b form.Set y = keyed_placed b (term "set" ∷ sp ∷ []) _ (position.Method form.Set) refl refl
+  properties_placed b form.Shorthand y = echo_placed b position.Name
+  properties_placed b _ y = nowhere
 
 module _ {ps : Parts} where
   shorthands_placed : (b : Bool) (k : Kind) → Placed ps (cond b [] (shorthand_pattern k)) (shorthand_outline b k)
@@ -121,10 +134,7 @@ module _ {ps : Parts} where
   pub pattern_properties_placed : (b c : Bool) (x : Form) (k : Kind) → Placed ps (pattern_properties b c x k) (pattern_form_outline b c x k)
   pattern_properties_placed b c form.Init k = keyed_maybe c (put_at (with_default b k)) (default_at b k) (default_piece b k)
   pattern_properties_placed b c form.Shorthand k = shorthands_placed c k
-  pattern_properties_placed b c form.Get k = nowhere
-  pattern_properties_placed b c form.Set k = nowhere
-  pattern_properties_placed b c form.Method k = nowhere
-  pattern_properties_placed b c form.Constructor k = nowhere
+  pattern_properties_placed b c _ k = nowhere
 
   pub defaults_placed : (p : Option piece.Role) (a : Option Position) (qs : List Piece) → put_at p ≡ piece_at a → named qs ≡ Some (fixed (role_of assignment_at) ∷ []) → Placed ps (only_at p qs) (defaulted a)
   defaults_placed None None qs e h = nowhere
@@ -176,14 +186,17 @@ rest_placed b o _ ps = nowhere
 pub members_placed : (ps : Parts) → Placed ps (only (braced ps (many (codes ";") ∷ member_lines ps))) (Some (lined Primary Zero (tails.Each (own.Fixed position.Member)) 0))
 members_placed ps = placed (braced-named ps (many (codes ";") ∷ member_lines ps) ∙ members-named ps)
 
-link-named : (g : Flags) → named (member_link g) ≡ Some (slot_of (selected g) ∷ [])
-link-named g = of g.optional g.computed
+link-named : (g : Flags) (p : Kind) → named (member_link g p) ≡ Some (slot_of (selected g p) ∷ [])
+link-named g p = of g.optional g.computed (is_private p)
   where
-    of : (a b : Bool) → named (cond a (sign "?." ∷ cond b in_brackets (put piece.word ∷ [])) (cond b in_brackets (sign "." ∷ put piece.word ∷ []))) ≡ Some (slot_of (own.Fixed (cond b whole_at position.IdentifierName)) ∷ [])
-    of true true = refl
-    of true false = refl
-    of false true = refl
-    of false false = refl
+    of : (a b c : Bool) → named (cond a (sign "?." ∷ cond b in_brackets (put (cond c piece.private_name piece.word) ∷ [])) (cond b in_brackets (sign "." ∷ put (cond c piece.private_name piece.word) ∷ []))) ≡
+        Some (slot_of (own.Fixed (cond b whole_at (cond c position.PrivateName position.IdentifierName))) ∷ [])
+    of true true c = refl
+    of false true c = refl
+    of true false true = refl
+    of true false false = refl
+    of false false true = refl
+    of false false false = refl
 
 called-named : (g : Flags) (ps : Parts) → named (call_link g ps) ≡ tail_slots (tails.Arguments false) (others ps)
 called-named g ps = of g.optional ∙ arguments_names (others ps)
@@ -200,9 +213,9 @@ linked_placed true o qs f h = placed (h lead_chain own.LeadSpine refl)
 linked_placed false true qs f h = placed (h (lead Call) (own.Lead Call) refl)
 linked_placed false false qs f h = nowhere
 
-pub spines_placed : (k : Kind) (g : Flags) (ps : Parts) → Placed ps (chain_parts k g ps) (spine_outline k g (first_has_optional ps))
-spines_placed kind.MemberExpression g ps = linked_placed (first_has_optional ps) g.optional (member_link g) (λ y. fronted Primary (Two y (selected g)))
-    (λ x y e. ap₂ (λ u v. before u v) e (link-named g) ∙ sym (ap (λ v. before (slot_of y) (before (slot_of (selected g)) v)) (nothing_slots ps)))
+pub spines_placed : (k : Kind) (g : Flags) (ps : Parts) → Placed ps (chain_parts k g ps) (spine_outline k g (first_has_optional ps) (kind_at (entry_at ps 1)))
+spines_placed kind.MemberExpression g ps = rw (second_kind ps) (linked_placed (first_has_optional ps) g.optional (member_link g (kind_at (entry_at ps 1))) (λ y. fronted Primary (Two y (selected g (kind_at (entry_at ps 1)))))
+    (λ x y e. ap₂ (λ u v. before u v) e (link-named g (kind_at (entry_at ps 1))) ∙ sym (ap (λ v. before (slot_of y) (before (slot_of (selected g (kind_at (entry_at ps 1)))) v)) (nothing_slots ps))))
 spines_placed kind.CallExpression g ps = linked_placed (first_has_optional ps) g.optional (call_link g ps) (λ y. lined Primary (One y) (tails.Arguments false) 1)
     (λ x y e. ap₂ (λ u v. before u v) e (called-named g ps))
 spines_placed _ g ps = nowhere
@@ -245,6 +258,10 @@ methods_placed _ none = nowhere
 methods_placed _ (part n ps) = nowhere
 methods_placed _ (gap ps) = plain_placed ps
 
+-- whether a method's function may stand there
+pub functions_at : (x y : Form) (ps : Parts) → Placed ps (cond (is_function_at x y) (methods x ps) []) (only_if (is_function_at x y) (form_method_outline x (around ps)))
+functions_at x y ps = when (is_function_at x y) (methods_placed x ps)
+
 -- keys
 key_by : {ps : Parts} (b c : Bool) (qs : List Piece) → named qs ≡ Some [] → not b ≡ c → Placed ps (cond b [] (only qs)) (leaf_if c)
 key_by {ps} b c qs h e = subst (λ v. Placed ps (cond b [] (only qs)) (leaf_if v)) e (unless_leaf b qs h)
@@ -270,45 +287,103 @@ keys_placed kind.Literal w = literal_key w (literal_classes w)
 keys_placed _ w = nowhere
 
 -- members
-members_by_form : {ps : Parts} (x : List Piece) (b : Bool) (f : Form) → named x ≡ Some [] → named (x ++ term "get" ∷ sp ∷ []) ≡ Some [] → named (x ++ term "set" ∷ sp ∷ []) ≡ Some [] →
-    Placed ps (members x b f) (method_of b f)
-members_by_form x b form.Get h g s = keyed_placed b (x ++ term "get" ∷ sp ∷ []) _ (position.Method form.Get) g refl
-members_by_form x b form.Set h g s = keyed_placed b (x ++ term "set" ∷ sp ∷ []) _ (position.Method form.Set) s refl
-members_by_form x b _ h g s = keyed_placed b x _ (position.Method form.Method) h refl
 
-static_members : {ps : Parts} (s b : Bool) (f : Form) → Placed ps (cond s (members (term "static" ∷ sp ∷ []) b f) (members [] b f)) (method_of b f)
-static_members true b f = members_by_form (term "static" ∷ sp ∷ []) b f refl refl refl
-static_members false b f = members_by_form [] b f refl refl refl
+-- a key, by its kind, between these
+class_keyed_placed : {ps : Parts} (b : Bool) (front after : List Piece) (k : Kind) (a : Position) → named front ≡ Some [] → named after ≡ Some (fixed (role_of a) ∷ []) → Placed ps (class_keyed front b k after) (keyed_as b k a)
+class_keyed_placed b front after k a e h = of b (is_private k)
+  where
+    between : (p : Position) → named (front ++ put (role_of p) ∷ after) ≡ Some (fixed (role_of p) ∷ fixed (role_of a) ∷ [])
+    between p = named-append front _ ∙ ap₂ (λ u v. joined u (before (fixed (role_of p)) v)) e h
 
-pub when : {ps : Parts} {xs : List Spelling} {o : Option Outline} (b : Bool) → Placed ps xs o → Placed ps (cond b xs []) (cond b o None)
-when true h = h
-when false h = nowhere
+    of : {ps : Parts} (c d : Bool) → Placed ps (cond c (only (front ++ sign "[" ∷ assignment ∷ sign "]" ∷ after)) (only (front ++ put (cond d piece.private_name piece.key) ∷ after)))
+        (Some (fronted Primary (Two (own.Fixed (cond c assignment_at (cond d position.PrivateName position.PropertyName))) (own.Fixed a))))
+    of true d = places (Two (own.Fixed assignment_at) (own.Fixed a)) _ (named-append front _ ∙ ap₂ (λ u v. joined u (before (fixed (role_of assignment_at)) v)) e h)
+    of false true = places (Two (own.Fixed position.PrivateName) (own.Fixed a)) _ (between position.PrivateName)
+    of false false = places (Two (own.Fixed position.PropertyName) (own.Fixed a)) _ (between position.PropertyName)
 
-never_constructor : (c s : Bool) → false ≡ (not c && not s && false)
+-- a key alone
+class_key_placed : {ps : Parts} (b : Bool) (front after : List Piece) (k : Kind) → named front ≡ Some [] → named after ≡ Some [] → Placed ps (class_keyed front b k after) (Some (fronted Primary (One (own.Fixed (class_key b k)))))
+class_key_placed b front after k e h = of b (is_private k)
+  where
+    between : (p : Position) → named (front ++ put (role_of p) ∷ after) ≡ Some (fixed (role_of p) ∷ [])
+    between p = named-append front _ ∙ ap₂ (λ u v. joined u (before (fixed (role_of p)) v)) e h
+
+    of : {ps : Parts} (c d : Bool) → Placed ps (cond c (only (front ++ sign "[" ∷ assignment ∷ sign "]" ∷ after)) (only (front ++ put (cond d piece.private_name piece.key) ∷ after)))
+        (Some (fronted Primary (One (own.Fixed (cond c assignment_at (cond d position.PrivateName position.PropertyName))))))
+    of true d = places (One (own.Fixed assignment_at)) _ (named-append front _ ∙ ap₂ (λ u v. joined u (before (fixed (role_of assignment_at)) v)) e h)
+    of false true = places (One (own.Fixed position.PrivateName)) _ (between position.PrivateName)
+    of false false = places (One (own.Fixed position.PropertyName)) _ (between position.PropertyName)
+
+static_named : (s : Bool) → named (static_word s) ≡ Some []
+static_named true = refl
+static_named false = refl
+
+worded : (s : Bool) (ws : List Piece) → named ws ≡ Some [] → named (static_word s ++ ws) ≡ Some []
+worded s ws e = named-append (static_word s) ws ∙ ap₂ (λ u v. joined u v) (static_named s) e
+
+-- a key behind what is never spelled
+never_keyed : {ps : Parts} (b s : Bool) (k : Kind) (after : List Piece) → Placed ps (class_keyed (static_word s ++ piece.never ∷ []) b k after) None
+never_keyed true true k after = unnamed refl
+never_keyed true false k after = unnamed refl
+never_keyed false true k after = unnamed refl
+never_keyed false false k after = unnamed refl
+
+plain_members : {ps : Parts} (s b : Bool) (y : Form) (k : Kind) → Placed ps (members (static_word s) b form.Method y k) (method_keyed b form.Method y k)
+plain_members s b form.Init k = class_keyed_placed b (static_word s ++ []) _ k (position.Method form.Method) (worded s [] refl) refl
+plain_members s b form.Generator k = class_keyed_placed b (static_word s ++ method_words form.Generator) _ k (position.Method form.Generator) (worded s (method_words form.Generator) refl) refl
+plain_members s b form.Async k = class_keyed_placed b (static_word s ++ method_words form.Async) _ k (position.Method form.Async) (worded s (method_words form.Async) refl) refl
+plain_members s b form.AsyncGenerator k = class_keyed_placed b (static_word s ++ method_words form.AsyncGenerator) _ k (position.Method form.AsyncGenerator) (worded s (method_words form.AsyncGenerator) refl) refl
+plain_members s b _ k = never_keyed b s k _
+
+members_by_form : {ps : Parts} (s b : Bool) (x y : Form) (k : Kind) → Placed ps (members (static_word s) b x y k) (method_keyed b x y k)
+members_by_form s b form.Get y k = class_keyed_placed b (static_word s ++ term "get" ∷ sp ∷ []) _ k (position.Method form.Get) (worded s (term "get" ∷ sp ∷ []) refl) refl
+members_by_form s b form.Set y k = class_keyed_placed b (static_word s ++ term "set" ∷ sp ∷ []) _ k (position.Method form.Set) (worded s (term "set" ∷ sp ∷ []) refl) refl
+members_by_form s b _ y k = plain_members s b y k
+
+never_constructor : (c s : Bool) → false ≡ ((not c && not s && false) && true)
 never_constructor true s = refl
 never_constructor false true = refl
 never_constructor false false = refl
 
-abbrev flags_with : Bool → Bool → Bool → Bool → Bool → Bool → Form → Flags
-flags_with c o s p d e f = record { computed = c; optional = o; is_static = s; prefix = p; directive = d; expression = e; form = f }
+abbrev with_form : Form → Flags → Flags
+with_form x g = record g { form = x }
 
-abbrev plain_members : Bool → Bool → List Spelling
-plain_members s b = cond s (members (term "static" ∷ sp ∷ []) b form.Method) (members [] b form.Method)
+-- a method whose first part is missing is no constructor
+unkeyed_methods : (x : Form) (g : Flags) (ps : Parts) → Placed ps (cond (fits_form false x) (members (static_word g.is_static) g.computed x form.Init kind.Program) [])
+    (only_if (fits_form ((not g.computed && not g.is_static && false) && true) x) (method_keyed g.computed x form.Init kind.Program))
+unkeyed_methods x g ps = subst (λ b. Placed ps (cond (fits_form false x) (members (static_word g.is_static) g.computed x form.Init kind.Program) []) (only_if (fits_form b x) (method_keyed g.computed x form.Init kind.Program)))
+    (never_constructor g.computed g.is_static) (when (fits_form false x) (members_by_form g.is_static g.computed x form.Init kind.Program))
 
-members_with : (c o s p d e : Bool) (f : Form) (ps : Parts) → Placed ps (class_members kind.MethodDefinition (flags_with c o s p d e f) ps) (member_outline kind.MethodDefinition (flags_with c o s p d e f) (around ps))
-members_with c o s p d e form.Get ps = static_members s c form.Get
-members_with c o s p d e form.Set ps = static_members s c form.Set
-members_with c o s p d e form.Method none = subst (λ b. Placed none (plain_members s c) (cond (not b) (method_of c form.Method) None)) (never_constructor c s) (static_members s c form.Method)
-members_with c o s p d e form.Method (gap ps) = subst (λ b. Placed (gap ps) (plain_members s c) (cond (not b) (method_of c form.Method) None)) (never_constructor c s) (static_members s c form.Method)
-members_with c o s p d e form.Method (part n ps) = when (not (not c && not s && names_constructor (kind_of n) (text_of n))) (static_members s c form.Method)
-members_with c o s p d e form.Constructor none = subst (λ b. Placed none [] (cond b (method_of c form.Constructor) None)) (never_constructor c s) nowhere
-members_with c o s p d e form.Constructor (gap ps) = subst (λ b. Placed (gap ps) [] (cond b (method_of c form.Constructor) None)) (never_constructor c s) nowhere
-members_with c o s p d e form.Constructor (part n ps) = when (not c && not s && names_constructor (kind_of n) (text_of n)) (static_members s c form.Constructor)
-members_with c o s p d e form.Init ps = nowhere
-members_with c o s p d e form.Shorthand ps = nowhere
+members_with : (x : Form) (g : Flags) (ps : Parts) → Placed ps (class_members kind.MethodDefinition (with_form x g) ps) (member_outline kind.MethodDefinition (with_form x g) (around ps))
+members_with form.Get g none = unkeyed_methods form.Get g none
+members_with form.Set g none = unkeyed_methods form.Set g none
+members_with form.Method g none = unkeyed_methods form.Method g none
+members_with form.Constructor g none = unkeyed_methods form.Constructor g none
+members_with form.Get g (gap ps) = unkeyed_methods form.Get g (gap ps)
+members_with form.Set g (gap ps) = unkeyed_methods form.Set g (gap ps)
+members_with form.Method g (gap ps) = unkeyed_methods form.Method g (gap ps)
+members_with form.Constructor g (gap ps) = unkeyed_methods form.Constructor g (gap ps)
+members_with form.Get g (part n ps) = members_by_form g.is_static g.computed form.Get (value_form (part n ps)) (kind_of n)
+members_with form.Set g (part n ps) = members_by_form g.is_static g.computed form.Set (value_form (part n ps)) (kind_of n)
+members_with form.Method g (part n ps) = when _ (members_by_form g.is_static g.computed form.Method (value_form (part n ps)) (kind_of n))
+members_with form.Constructor g (part n ps) = when _ (members_by_form g.is_static g.computed form.Constructor (value_form (part n ps)) (kind_of n))
+members_with _ g ps = nowhere
+
+fields_placed : (g : Flags) (ps : Parts) → Placed ps (fields g ps) (field_outline g.computed (entry_at ps 0) (entry_at ps 1) (entry_at ps 2))
+fields_placed g none = nowhere
+fields_placed g (gap ps) = nowhere
+fields_placed g (part n none) = nowhere
+fields_placed g (part n (gap none)) = class_key_placed g.computed (static_word g.is_static) _ (kind_of n) (static_named g.is_static) refl
+fields_placed g (part n (gap (gap ps))) = nowhere
+fields_placed g (part n (gap (part m ps))) = nowhere
+fields_placed g (part n (part v none)) = class_keyed_placed g.computed (static_word g.is_static) _ (kind_of n) assignment_at (static_named g.is_static) refl
+fields_placed g (part n (part v (gap ps))) = nowhere
+fields_placed g (part n (part v (part m ps))) = nowhere
 
 pub member_placed : (k : Kind) (g : Flags) (ps : Parts) → Placed ps (class_members k g ps) (member_outline k g (around ps))
-member_placed kind.MethodDefinition g ps = members_with g.computed g.optional g.is_static g.prefix g.directive g.expression g.form ps
+member_placed kind.MethodDefinition g ps = members_with g.form g ps
+member_placed kind.PropertyDefinition g ps = fields_placed g ps
+member_placed kind.StaticBlock g ps = placed (braced-named ps (lines (piece.item false) ps) ∙ lines-named (position.StatementListItem false) ps)
 member_placed _ g ps = nowhere
 
 -- patterns

@@ -1,13 +1,14 @@
 -- What an outline says of the ways to spell a node.
 use Rattle.std.proofs.Common.{◌≡◌, ℕ, Bool, true, false, cond, List, [], ◌∷◌, refl, sym, ap, ◌∙◌}
 use Rattle.std.specs.Prelude.{Option, Some, None, not, IsTrue}
+use Rattle.std.proofs.lemmas.Bool.{true≢false}
 use Rattle.tree.specs.Tree.{Parts, none, part, gap}
 use Rattle.tokens.specs.declared.token.TokenClass.TheVariants.{IdentifierName, Punctuator}
 use Rattle.language.specs.declared.Rank.{Rank}
 use Rattle.language.specs.declared.Start.{Start}
 use Rattle.language.specs.declared.Start.TheVariants.{Any, NoBrace, Statement}
 use Rattle.language.specs.Vocabulary.{is, among}
-use Rattle.language.specs.Pieces.{Role, Slot, Piece, tok, sub, Spelling, at}
+use Rattle.language.specs.Pieces.{Role, Slot, Piece, tok, sub, unbroken, lay, space, Spelling, at}
 use Rattle.language.specs.Grammar.{starts}
 use Rattle.language.proofs.lower_bound.Domination.{fits}
 use Rattle.spelling_table.specs.declared.outline.FixedSlots.{FixedSlots}
@@ -28,6 +29,7 @@ pub record Describes (ps : Parts) (s : Spelling) (x : Outline) : Type 0 where
 pub data Outlined (ps : Parts) : List Spelling → Option Outline → Type 0 where
   no_way : Outlined ps [] None
   never_runs : {s : Spelling} → named s.pieces ≡ None → Outlined ps (s ∷ []) None
+  neither_runs : {s r : Spelling} → named s.pieces ≡ None → named r.pieces ≡ None → Outlined ps (s ∷ r ∷ []) None
   one_way : {s : Spelling} {x : Outline} → Describes ps s x → Outlined ps (s ∷ []) (Some x)
   two_ways : {s r : Spelling} {x : Outline} → Describes ps s x → ((a : Role) → IsTrue (fits a r) → IsTrue (fits a s)) → Outlined ps (s ∷ r ∷ []) (Some x)
 
@@ -43,10 +45,16 @@ sub_starts Any s qs = refl
 sub_starts NoBrace s qs = refl
 sub_starts Statement s qs = refl
 
-pub word_starts : (f : Start) (w : List ℕ) (qs : List Piece) → among w ("function" ∷ "class" ∷ []) ≡ false → starts f (tok IdentifierName w ∷ qs) ≡ true
-word_starts Any w qs h = refl
-word_starts NoBrace w qs h = refl
-word_starts Statement w qs h = ap not h
+-- behind a word, a word on its line
+abbrev pub is_word_behind : List Piece → Bool
+is_word_behind (unbroken ∷ lay space ∷ tok IdentifierName v ∷ qs) = true
+is_word_behind _ = false
+
+pub word_starts : (f : Start) (w : List ℕ) (qs : List Piece) → is_word_behind qs ≡ false → among w ("function" ∷ "class" ∷ []) ≡ false → starts f (tok IdentifierName w ∷ qs) ≡ true
+word_starts Any w qs e h = refl
+word_starts NoBrace w qs e h = refl
+word_starts Statement w (unbroken ∷ lay space ∷ tok IdentifierName v ∷ qs) e h = absurd (true≢false e)
+word_starts Statement w qs e h = ap not h
 
 pub sign_starts : (f : Start) (w : List ℕ) (qs : List Piece) → is w "{" ≡ false → starts f (tok Punctuator w ∷ qs) ≡ true
 sign_starts Any w qs h = refl

@@ -168,9 +168,15 @@ prologue_over r b none = refl
 prologue_over r b (gap ps) = refl
 prologue_over r b (part n ps) = prologue_over r _ ps ∙ sym (before_over _ (tail_slots (tail.Prologue r _) ps))
 
+modules_over : (b : Bool) (ps : Parts) → are_whole ps ≡ goes_over (tail_slots (tail.ModuleItems b) ps)
+modules_over b none = refl
+modules_over b (gap ps) = refl
+modules_over b (part n ps) = modules_over _ ps ∙ sym (before_over _ (tail_slots (tail.ModuleItems _) ps))
+
 pub whole_over : (t : ListSlots) (ps : Parts) → takes_all t ≡ true → are_whole ps ≡ goes_over (tail_slots t ps)
 whole_over (tail.Each x) ps h = each_over x ps
 whole_over (tail.Prologue r b) ps h = prologue_over r b ps
+whole_over (tail.ModuleItems b) ps h = modules_over b ps
 whole_over _ ps h = absurd (false≢true h)
 
 arguments_over : (h : Bool) (ps : Parts) → are_plain ps ≡ true → goes_over (tail_slots (tail.Arguments h) ps) ≡ true

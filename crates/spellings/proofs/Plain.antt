@@ -1,6 +1,6 @@
 -- A node without flags has those of its kind.
-use Rattle.std.proofs.Common.{◌≡◌, Bool, true, false, refl, sym}
-use Rattle.std.specs.Prelude.{not, ◌&&◌, ◌||◌}
+use Rattle.std.proofs.Common.{◌≡◌, Bool, true, false, refl}
+use Rattle.std.specs.Prelude.{not, ◌&&◌}
 use Rattle.std.proofs.lemmas.Bool.{false≢true}
 use Rattle.tree.specs.declared.kind.Flags.{Flags}
 use Rattle.tree.specs.Uses.{implies, within, is_init}

@@ -1,8 +1,7 @@
 -- What a `for` is spelled as, by what stands in its head, and which productions have a list of parts.
 use Rattle.std.proofs.Common.{◌≡◌, Bool, true, false, refl, sym}
-use Rattle.std.specs.Prelude.{◌||◌, cond, Option, Some, None}
+use Rattle.std.specs.Prelude.{◌||◌, cond, Some, None}
 use Rattle.std.proofs.lemmas.Bool.{false≢true}
-use Rattle.tree.specs.declared.kind.Kind.{Kind}
 use Rattle.language.specs.Statements.{is_declaration}
 use Rattle.language.specs.declared.Rank.TheVariants.{Expression, Primary}
 use Rattle.language.specs.declared.Start.TheVariants.{Any}
@@ -14,9 +13,9 @@ use Rattle.spelling_table.specs.declared.production.ForInit.TheVariants.{Declara
 use Rattle.spelling_table.specs.declared.production.Production.TheVariants.{For}
 use Rattle.spelling_table.specs.declared.production.Production.{Production}
 use Rattle.spelling_table.specs.declared.production.Production.TheVariants as by
-use Rattle.spelling_table.specs.Outlines.{whole_at, fronted, is_over}
+use Rattle.spelling_table.specs.Outlines.{fronted, is_over}
 use Rattle.spellings.specs.Expressions.{is_past}
-use Rattle.spellings.specs.Statements.{is_part, given_before, part_before, placed_before, for_outline}
+use Rattle.spellings.specs.Statements.{is_part, for_outline}
 use Rattle.spelling_table.specs.Productions.{body_at}
 use Rattle.spellings.specs.Statements.{init_of}
 use Rattle.spelling_table.specs.Productions.{for_slots, for_after_first, outline_of, has_list}
@@ -61,49 +60,25 @@ for_given r (Part i) (Part j) Gap h = first r (is_declaration i) true false
 for_given r (Part i) (Part j) (Part k) h = first r (is_declaration i) true true
 
 pub without_list : (p : Production) → has_list p ≡ false → is_over (outline_of p).tail ≡ true
-without_list by.Leaf h = refl
 without_list by.Array h = absurd (false≢true (sym h))
 without_list by.Object h = absurd (false≢true (sym h))
 without_list by.Template h = absurd (false≢true (sym h))
 without_list (by.Function a) h = absurd (false≢true (sym h))
-without_list (by.Class a b) h = refl
 without_list (by.Arrow a) h = absurd (false≢true (sym h))
-without_list by.Tagged h = refl
-without_list (by.Member a b) h = refl
 without_list (by.Call a) h = absurd (false≢true (sym h))
 without_list by.New h = absurd (false≢true (sym h))
-without_list by.Meta h = refl
-without_list by.Import h = refl
-without_list by.Chain h = refl
-without_list (by.Update a) h = refl
-without_list by.Unary h = refl
-without_list (by.Infix a b c) h = refl
-without_list by.Exponentiation h = refl
-without_list by.Conditional h = refl
-without_list (by.Assignment a) h = refl
 without_list by.Sequence h = absurd (false≢true (sym h))
-without_list (by.MemberLink a b) h = refl
 without_list (by.CallLink a) h = absurd (false≢true (sym h))
-without_list (by.Keyed a b) h = refl
-without_list (by.ShorthandProperty a) h = refl
 without_list (by.ArrayPattern a) h = absurd (false≢true (sym h))
 without_list (by.ObjectPattern a) h = absurd (false≢true (sym h))
-without_list (by.WithDefault a) h = refl
-without_list (by.Single a) h = refl
 without_list by.ClassBody h = absurd (false≢true (sym h))
-without_list (by.Setter a) h = refl
 without_list by.Method h = absurd (false≢true (sym h))
 without_list (by.Items a) h = absurd (false≢true (sym h))
 without_list (by.Prologue a) h = absurd (false≢true (sym h))
+without_list by.Module h = absurd (false≢true (sym h))
+without_list by.ImportList h = absurd (false≢true (sym h))
+without_list by.ExportList h = absurd (false≢true (sym h))
 without_list (by.Declarators a) h = absurd (false≢true (sym h))
-without_list (by.Initialised a b) h = refl
-without_list (by.If a b) h = refl
-without_list (by.Labeled a) h = refl
-without_list (by.DoWhile a) h = refl
-without_list (by.While a) h = refl
-without_list (by.For a b c d) h = refl
-without_list (by.ForInOf a b c) h = refl
 without_list (by.Switch a) h = absurd (false≢true (sym h))
 without_list (by.Case a b) h = absurd (false≢true (sym h))
-without_list (by.Try a b) h = refl
-without_list (by.Catch a b) h = refl
+without_list _ h = refl

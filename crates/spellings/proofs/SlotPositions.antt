@@ -3,7 +3,7 @@ use Rattle.std.proofs.Common.{◌≡◌, Bool, true, false, List, [], ◌∷◌,
 use Rattle.std.specs.Prelude.{Option, Some, None, map}
 use Rattle.language.specs.declared.Rank.{Rank}
 use Rattle.language.specs.declared.Start.{Start}
-use Rattle.language.specs.Pieces.{Slot, PieceOf, Piece, tok, may, many, ahead, unbroken, ending, open_parameters, close_parameters, sub, absent, never, lay, settle, settle_piece}
+use Rattle.language.specs.Pieces.{Slot, PieceOf, Piece, tok, may, many, ahead, unbroken, no_operand, ending, open_parameters, close_parameters, sub, absent, never, lay, settle, settle_piece}
 use Rattle.language.specs.Grammar.{can_run}
 use Rattle.language.specs.RowPositions.{roles}
 use Rattle.spelling_table.specs.Outlines.{before}
@@ -17,6 +17,7 @@ named (may w ∷ qs) = named qs
 named (many w ∷ qs) = named qs
 named (ahead w ∷ qs) = named qs
 named (unbroken ∷ qs) = named qs
+named (no_operand ∷ qs) = named qs
 named (ending e ∷ qs) = named qs
 named (open_parameters ∷ qs) = named qs
 named (close_parameters ∷ qs) = named qs
@@ -42,6 +43,7 @@ named-append (may w ∷ qs) ys = named-append qs ys
 named-append (many w ∷ qs) ys = named-append qs ys
 named-append (ahead w ∷ qs) ys = named-append qs ys
 named-append (unbroken ∷ qs) ys = named-append qs ys
+named-append (no_operand ∷ qs) ys = named-append qs ys
 named-append (ending e ∷ qs) ys = named-append qs ys
 named-append (open_parameters ∷ qs) ys = named-append qs ys
 named-append (close_parameters ∷ qs) ys = named-append qs ys
@@ -76,6 +78,7 @@ runs-named (may w ∷ qs) = runs-named qs
 runs-named (many w ∷ qs) = runs-named qs
 runs-named (ahead w ∷ qs) = runs-named qs
 runs-named (unbroken ∷ qs) = runs-named qs
+runs-named (no_operand ∷ qs) = runs-named qs
 runs-named (ending e ∷ qs) = runs-named qs
 runs-named (open_parameters ∷ qs) = runs-named qs
 runs-named (close_parameters ∷ qs) = runs-named qs
@@ -100,6 +103,7 @@ module _ (z : Rank) (i : Bool) (f : Start) where
   roles-named (many w ∷ qs) xs h = roles-named qs xs h
   roles-named (ahead w ∷ qs) xs h = roles-named qs xs h
   roles-named (unbroken ∷ qs) xs h = roles-named qs xs h
+  roles-named (no_operand ∷ qs) xs h = roles-named qs xs h
   roles-named (ending e ∷ qs) xs h = roles-named qs xs h
   roles-named (open_parameters ∷ qs) xs h = roles-named qs xs h
   roles-named (close_parameters ∷ qs) xs h = roles-named qs xs h

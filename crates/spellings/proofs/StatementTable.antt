@@ -5,17 +5,21 @@ use Rattle.tokens.specs.declared.token.TokenClass.TheVariants as class
 use Rattle.tree.specs.declared.kind.Kind.{Kind}
 use Rattle.tree.specs.declared.kind.Kind.TheVariants as kind
 use Rattle.tree.specs.declared.kind.Flags.{Flags}
+use Rattle.tree.specs.declared.kind.Form.{Form}
+use Rattle.tree.specs.declared.kind.Form.TheVariants as form
+use Rattle.tree.specs.Uses.{is_empty}
 use Rattle.tree.specs.Tree.{Parts, none, part, gap, kind_of, plain}
-use Rattle.language.specs.declared.Rank.TheVariants.{Expression, Assignment, Grouped}
+use Rattle.language.specs.declared.Rank.TheVariants.{Expression, Assignment, Primary, Grouped}
 use Rattle.language.specs.declared.Start.TheVariants.{Any, Statement}
 use Rattle.language.specs.FirstPart.{lead as lead_kind, others}
 use Rattle.language.specs.Vocabulary.{is, is_pattern}
 use Rattle.language.specs.Edges.{last_edge, ends_in_if}
 use Rattle.language.specs.declared.Edge.TheVariants.{Closed, Other}
 use Rattle.language.specs.Pieces as piece
-use Rattle.language.specs.Pieces.{Piece, Slot, Spelling, only, only_at, put, put_at, sub, tok, lay, fixed, sign, term, sp, is_none, bound, absent, unbroken, ending, nothing}
+use Rattle.language.specs.Pieces.{Piece, Slot, Spelling, only, only_at, put, put_at, sub, tok, lay, fixed, sign, term, sp, is_none, bound, absent, unbroken, no_operand, ending, nothing}
 use Rattle.language.specs.Expressions.{given}
-use Rattle.language.specs.Statements.{statements, items, openings, heads, declarator_ways, cases, handlers, braced, lines, prologue, declaration, declarators, end_of, for_left, after_word, whole, is_one, is_declaration, is_string_literal, first_is_string, defaults}
+use Rattle.language.specs.Statements.{statements, items, openings, heads, declarator_ways, cases, handlers, braced, lines, prologue, declaration, declarators, end_of, for_left, after_word, whole, is_one, is_declaration, is_string_literal, first_is_string, defaults, for_words, module_prologue}
+use Rattle.language.specs.Grammar.{programs}
 use Rattle.spelling_table.specs.declared.position.Position.{Position}
 use Rattle.spelling_table.specs.declared.position.Position.TheVariants as position
 use Rattle.spelling_table.specs.declared.position.Slot as slot
@@ -23,19 +27,19 @@ use Rattle.spelling_table.specs.declared.position.Slot.TheVariants as own
 use Rattle.spelling_table.specs.declared.outline.FixedSlots.TheVariants.{Zero, One, Two, Three, Four}
 use Rattle.spelling_table.specs.declared.outline.ListSlots.TheVariants as tails
 use Rattle.spelling_table.specs.declared.outline.Outline.{Outline}
-use Rattle.spelling_table.specs.Outlines.{role_of, slot_of, before, tail_slots, assignment_at, whole_at, bound_at}
+use Rattle.spelling_table.specs.Outlines.{role_of, slot_of, before, tail_slots, assignment_at, whole_at, bound_at, lined}
 use Rattle.spellings.specs.Entries.{entry_at, text_at, around}
-use Rattle.spellings.specs.Expressions.{kind_at}
-use Rattle.spellings.specs.Statements.{statement_outline, item_outline, opening_outline, opened_outline, head_outline, declarator_outline, case_outline, handler_outline, items_outline, prologue_outline, declarators_outline, declaration_outline, initialised, bare_name, caught, left_at, each_outline, evaluated, is_declaring, is_one_part, init_at, of_front, given_before, one, two}
+use Rattle.spellings.specs.Expressions.{kind_at, only_if, is_arrow_form}
+use Rattle.spellings.specs.Statements.{program_outline, statement_outline, item_outline, opening_outline, opened_outline, head_outline, declarator_outline, case_outline, handler_outline, items_outline, prologue_outline, declarators_outline, declaration_outline, initialised, bare_name, caught, left_at, each_outline, evaluated, is_declaring, is_one_part, init_at, of_front, given_before, one, two}
 use Rattle.spelling_table.specs.Productions.{body_at}
 use Rattle.spellings.proofs.SlotPositions.{named, named-closed}
-use Rattle.spellings.proofs.Lists.{piece_at, lines-named, prologue-named, declarators-named, bound_piece}
+use Rattle.spellings.proofs.Lists.{piece_at, lines-named, modules-named, prologue-named, declarators-named, bound_piece}
 use Rattle.spellings.proofs.OutlineWays.{Outlined, never_runs, one_way}
 use Rattle.spellings.proofs.ExpressionTable.{lead_entry, functions, classes}
 use Rattle.spellings.proofs.OtherTable.{Placed, nowhere, unnamed, placed, places, unless, when, braced-named}
 
 -- what is outlined is placed
-outlined_placed : {ps : Parts} {s : Spelling} {o : Option Outline} → Outlined ps (s ∷ []) o → Placed ps (s ∷ []) o
+pub outlined_placed : {ps : Parts} {s : Spelling} {o : Option Outline} → Outlined ps (s ∷ []) o → Placed ps (s ∷ []) o
 outlined_placed (never_runs e) = unnamed e
 outlined_placed (one_way d) = placed d.names
 
@@ -45,8 +49,14 @@ items_placed r ps = placed (braced-named ps (lines (piece.item r) ps) ∙ lines-
 pub body_placed : (ps : Parts) → Placed ps (only (braced ps (prologue true true (lay piece.line ∷ []) [] ps))) (prologue_outline true)
 body_placed ps = placed (braced-named ps (prologue true true (lay piece.line ∷ []) [] ps) ∙ prologue-named true true (lay piece.line ∷ []) [] ps refl refl)
 
-pub script_placed : (ps : Parts) → Placed ps (only (prologue false true [] (lay piece.feed ∷ []) ps ++ tok class.End [] ∷ [])) (prologue_outline false)
-script_placed ps = placed (named-closed (prologue false true [] (lay piece.feed ∷ []) ps) (tok class.End [] ∷ []) refl ∙ prologue-named false true [] (lay piece.feed ∷ []) ps refl refl)
+pub script_placed : (w : List ℕ) (ps : Parts) → Placed ps (programs w ps) (program_outline w)
+script_placed w ps = of (is_empty w || is w "2022") (is w "module")
+  where
+    of : (a b : Bool) → Placed ps (cond a (only (prologue false true [] (lay piece.feed ∷ []) ps ++ tok class.End [] ∷ [])) (cond b (only (module_prologue true ps ++ tok class.End [] ∷ [])) []))
+        (cond a (prologue_outline false) (cond b (Some (lined Primary Zero (tails.ModuleItems true) 0)) None))
+    of true b = placed (named-closed (prologue false true [] (lay piece.feed ∷ []) ps) (tok class.End [] ∷ []) refl ∙ prologue-named false true [] (lay piece.feed ∷ []) ps refl refl)
+    of false true = placed (named-closed (module_prologue true ps) (tok class.End [] ∷ []) refl ∙ modules-named true ps)
+    of false false = nowhere
 
 -- declarations
 declared_placed : (w : List ℕ) (a : Position) (qs : List Piece) (ps : Parts) → named qs ≡ Some [] → Placed ps (only (declaration w (role_of a) ps ++ qs)) (declarators_outline a)
@@ -161,15 +171,22 @@ left_piece k = of (is_declaration k)
     of true = refl
     of false = bound_piece false k
 
-each_placed : {ps : Parts} (r : Bool) (b : Position) (w : Prim.Native.String.String) (p : Piece) (a : Option Position) → p ≡ piece_at a →
-    Placed ps (only (term "for" ∷ sp ∷ sign "(" ∷ p ∷ sp ∷ term w ∷ sp ∷ put (role_of b) ∷ sign ")" ∷ sp ∷ put (piece.statement r) ∷ [])) (each_outline r a b)
-each_placed r b w p None e = unnamed (ap (λ q. named (q ∷ sp ∷ term w ∷ sp ∷ put (role_of b) ∷ sign ")" ∷ sp ∷ put (piece.statement r) ∷ [])) e)
-each_placed r b w p (Some a) e = places (Three (own.Fixed a) (own.Fixed b) (body_at r)) _ (ap (λ q. named (q ∷ sp ∷ term w ∷ sp ∷ put (role_of b) ∷ sign ")" ∷ sp ∷ put (piece.statement r) ∷ [])) e)
+-- behind `for` and words that name nothing
+each_placed : {ps : Parts} (words : List Piece) → ((us : List Piece) → named (words ++ us) ≡ named us) → (r : Bool) (b : Position) (w : Prim.Native.String.String) (p : Piece) (a : Option Position) → p ≡ piece_at a →
+    Placed ps (only (term "for" ∷ sp ∷ words ++ sign "(" ∷ p ∷ sp ∷ term w ∷ sp ∷ put (role_of b) ∷ sign ")" ∷ sp ∷ put (piece.statement r) ∷ [])) (each_outline r a b)
+each_placed words free r b w p None e = unnamed (free _ ∙ ap (λ q. named (q ∷ sp ∷ term w ∷ sp ∷ put (role_of b) ∷ sign ")" ∷ sp ∷ put (piece.statement r) ∷ [])) e)
+each_placed words free r b w p (Some a) e = places (Three (own.Fixed a) (own.Fixed b) (body_at r)) _ (free _ ∙ ap (λ q. named (q ∷ sp ∷ term w ∷ sp ∷ put (role_of b) ∷ sign ")" ∷ sp ∷ put (piece.statement r) ∷ [])) e)
 
-each_by_kind : (r : Bool) (b : Position) (w : Prim.Native.String.String) (ps : Parts) →
-    Placed ps (only (term "for" ∷ sp ∷ sign "(" ∷ for_left ps ∷ sp ∷ term w ∷ sp ∷ put (role_of b) ∷ sign ")" ∷ sp ∷ put (piece.statement r) ∷ [])) (each_outline r (left_at (kind_at (entry_at ps 0))) b)
-each_by_kind r b w ps = subst (λ k. Placed ps (only (term "for" ∷ sp ∷ sign "(" ∷ for_left ps ∷ sp ∷ term w ∷ sp ∷ put (role_of b) ∷ sign ")" ∷ sp ∷ put (piece.statement r) ∷ [])) (each_outline r (left_at k) b)) (lead_entry ps)
-    (each_placed r b w (for_left ps) (left_at (lead_kind ps)) (left_piece (lead_kind ps)))
+each_formed : {ps : Parts} (x : Form) (r : Bool) (b : Position) (w : Prim.Native.String.String) (p : Piece) (a : Option Position) → p ≡ piece_at a →
+    Placed ps (only (term "for" ∷ sp ∷ for_words x ++ sign "(" ∷ p ∷ sp ∷ term w ∷ sp ∷ put (role_of b) ∷ sign ")" ∷ sp ∷ put (piece.statement r) ∷ [])) (only_if (is_arrow_form x) (each_outline r a b))
+each_formed form.Init r b w p a e = each_placed [] (λ us. refl) r b w p a e
+each_formed form.Async r b w p a e = each_placed (for_words form.Async) (λ us. refl) r b w p a e
+each_formed _ r b w p a e = unnamed refl
+
+each_by_kind : (x : Form) (r : Bool) (b : Position) (w : Prim.Native.String.String) (ps : Parts) →
+    Placed ps (only (term "for" ∷ sp ∷ for_words x ++ sign "(" ∷ for_left ps ∷ sp ∷ term w ∷ sp ∷ put (role_of b) ∷ sign ")" ∷ sp ∷ put (piece.statement r) ∷ [])) (only_if (is_arrow_form x) (each_outline r (left_at (kind_at (entry_at ps 0))) b))
+each_by_kind x r b w ps = subst (λ k. Placed ps (only (term "for" ∷ sp ∷ for_words x ++ sign "(" ∷ for_left ps ∷ sp ∷ term w ∷ sp ∷ put (role_of b) ∷ sign ")" ∷ sp ∷ put (piece.statement r) ∷ [])) (only_if (is_arrow_form x) (each_outline r (left_at k) b))) (lead_entry ps)
+    (each_formed x r b w (for_left ps) (left_at (lead_kind ps)) (left_piece (lead_kind ps)))
 
 switch_placed : (r : Bool) (ps : Parts) → Placed ps (statements r kind.SwitchStatement [] plain ps) (statement_outline r kind.SwitchStatement [] plain (around ps))
 unfolding statements
@@ -230,8 +247,8 @@ statements_placed r kind.IfStatement w g ps = if_placed r ps
 statements_placed r kind.DoWhileStatement w g ps = places (Two (body_at r) (own.Fixed whole_at)) _ refl
 statements_placed r kind.WhileStatement w g ps = places (Two (own.Fixed whole_at) (body_at r)) _ refl
 statements_placed r kind.ForStatement w g ps = for_placed r ps
-statements_placed r kind.ForInStatement w g ps = each_by_kind r whole_at "in" ps
-statements_placed r kind.ForOfStatement w g ps = each_by_kind r assignment_at "of" ps
+statements_placed r kind.ForInStatement w g ps = each_by_kind form.Init r whole_at "in" ps
+statements_placed r kind.ForOfStatement w g ps = each_by_kind g.form r assignment_at "of" ps
 statements_placed r kind.ContinueStatement w g ps = word_placed (codes "continue") position.Name (end_of Closed ∷ []) ps refl
 statements_placed r kind.BreakStatement w g ps = word_placed (codes "break") position.Name (end_of Closed ∷ []) ps refl
 statements_placed r kind.ReturnStatement w g ps = when r (word_placed (codes "return") whole_at (end_of (last_edge ps) ∷ []) ps refl)
@@ -246,7 +263,7 @@ pub item_placed : (r : Bool) (k : Kind) (w : List ℕ) (g : Flags) (ps : Parts) 
 unfolding items
 item_placed r kind.FunctionDeclaration w g none = nowhere
 item_placed r kind.FunctionDeclaration w g (gap ps) = nowhere
-item_placed r kind.FunctionDeclaration w g (part n ps) = outlined_placed (functions (part n ps))
+item_placed r kind.FunctionDeclaration w g (part n ps) = outlined_placed (functions g.form (part n ps))
 item_placed r kind.ClassDeclaration w g none = nowhere
 item_placed r kind.ClassDeclaration w g (gap ps) = nowhere
 item_placed r kind.ClassDeclaration w g (part n ps) = outlined_placed (classes (part n ps))

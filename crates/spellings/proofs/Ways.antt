@@ -7,7 +7,7 @@ use Rattle.tree.specs.Uses.{is_lean}
 use Rattle.language.specs.declared.Rank.{Rank}
 use Rattle.language.specs.declared.Start.{Start}
 use Rattle.language.specs.Pieces.{Role, expr, pattern, Slot, Spelling}
-use Rattle.language.specs.Grammar.{ways, ways_bare, spellings, fits_position, can_run, own_rank, own_in, own_start}
+use Rattle.language.specs.Grammar.{ways, ways_bare, spellings, fits_position, own_rank, own_in, own_start}
 use Rattle.language.proofs.lower_bound.Domination.{settled, fits, ways_of}
 use Rattle.spelling_table.specs.declared.outline.Outline.{Outline}
 use Rattle.spelling_table.specs.Outlines.{role_of, assignment_at, outline_slots}
@@ -23,14 +23,16 @@ use Rattle.tree.specs.declared.kind.Kind.{Kind}
 use Rattle.tree.specs.declared.kind.Kind.TheVariants as kind
 use Rattle.tree.specs.declared.kind.Flags.{Flags}
 use Rattle.language.specs.FirstPart.{lead, others}
+use Rattle.language.specs.Expressions.{value_form}
 use Rattle.spelling_table.specs.Requirements.{fits_outline}
 use Rattle.spellings.specs.Spelled.{settled_roles, outlined_roles, roles_by, Verdict}
 use Rattle.spellings.proofs.SlotPositions.{named, is_some, runs-named, roles-named}
-use Rattle.spellings.proofs.OutlineWays.{Describes, Outlined, no_way, never_runs, one_way, two_ways}
+use Rattle.spellings.proofs.OutlineWays.{Describes, Outlined, no_way, never_runs, neither_runs, one_way, two_ways}
 use Rattle.spellings.proofs.Bare.{around-bare, outline_slots-bare}
-use Rattle.spellings.proofs.ExpressionTable.{expressions_outlined}
-use Rattle.spellings.proofs.OtherTable.{Placed, nowhere, unnamed, placed, places, names_placed, words_placed, echoes_placed, bases_placed, chunks_placed, quotes_placed, quasis_placed, keys_placed, properties_placed, second_kind, pattern_properties_placed, elements_placed, rest_placed, members_placed, spines_placed, methods_placed, member_placed, patterns_outlined}
+use Rattle.spellings.proofs.ExpressionTable.{second_kind, expressions_outlined}
+use Rattle.spellings.proofs.OtherTable.{Placed, nowhere, unnamed, placed, placed_first, places, names_placed, private_names_placed, words_placed, echoes_placed, bases_placed, chunks_placed, quotes_placed, quasis_placed, keys_placed, properties_placed, pattern_properties_placed, elements_placed, rest_placed, members_placed, spines_placed, functions_at, member_placed, patterns_outlined}
 use Rattle.spellings.proofs.StatementTable.{items_placed, body_placed, script_placed, statements_placed, item_placed, opening_placed, heads_placed, declarators_placed, cases_placed, handlers_placed}
+use Rattle.spellings.proofs.ModuleTable.{module_items_placed, specifiers_placed, default_items_placed}
 
 fits-described : {ps : Parts} {s : Spelling} {x : Outline} (a : Role) → Describes ps s x → fits_position a s ≡ fits_outline a x
 fits-described (expr y i f) d = rw (d.rank, d.needs_in, d.opens f) refl
@@ -62,16 +64,18 @@ same_first a s r true c k (Some rs) h = h
 same_first a s r false true k o h = absurd (false≢true (k refl))
 same_first a s r false false k o h = h
 
+-- what is never spelled fits nowhere
+unfit : (a : Role) (s : Spelling) → named s.pieces ≡ None → fits a s ≡ false
+unfit a s e = ap (λ b. fits_position a s && b) (runs-named s.pieces ∙ ap is_some e) ∙ of (fits_position a s)
+  where
+    of : (w : Bool) → (w && false) ≡ false
+    of true = refl
+    of false = refl
+
 chosen_by : {ps : Parts} {xs : List Spelling} {o : Option Outline} (a : Role) → Outlined ps xs o → Verdict (ways_of a xs) (outlined_roles a ps o)
 chosen_by a no_way = refl
-chosen_by a (never_runs {s = s} e) = none_fits (fits_position a s)
-  where
-    none_fits : (v : Bool) → map (settled a) (cond (fits_position a s && can_run s.pieces) (s ∷ []) []) ≡ []
-    none_fits v = ap (λ b. map (settled a) (cond (fits_position a s && b) (s ∷ []) [])) (runs-named s.pieces ∙ ap is_some e) ∙ of (fits_position a s)
-      where
-        of : (w : Bool) → map (settled a) (cond (w && false) (s ∷ []) []) ≡ []
-        of true = refl
-        of false = refl
+chosen_by a (never_runs {s = s} e) = ap (λ b. map (settled a) (cond b (s ∷ []) [])) (unfit a s e)
+chosen_by a (neither_runs {s = s} {r = r} e h) = ap₂ (λ b c. map (settled a) (first_of_two a s r b c)) (unfit a s e) (unfit a r h)
 chosen_by a (one_way d) = one_chosen a d
 chosen_by {ps} a (two_ways {s = s} {r = r} {x = x} d c) = same_first a s r (fits a s) (fits a r) (c a) (outlined_roles a ps (Some x)) (one_chosen a d)
 
@@ -102,13 +106,17 @@ pub record Asks (a : Role) : Type 0 where
   pub spelling : (s : Spelling) → fits_position a s ≡ true
   pub outline : (x : Outline) → fits_outline a x ≡ true
 
-placed_by : {ps : Parts} {xs : List Spelling} {o : Option Outline} (a : Role) → Asks a → Placed ps xs o → Verdict (ways_of a xs) (outlined_roles a ps o)
-placed_by a f nowhere = refl
-placed_by a f (unnamed {s = s} e) = ap (λ b. map (settled a) (cond b (s ∷ []) [])) (ap₂ (λ u v. u && v) (f.spelling s) (runs-named s.pieces ∙ ap is_some e))
-placed_by {ps} a f (placed {s = s} {x = x} e) =
+sole_placed : (ps : Parts) (s : Spelling) (x : Outline) (a : Role) → Asks a → named s.pieces ≡ outline_slots x ps → Verdict (ways_of a (s ∷ [])) (outlined_roles a ps (Some x))
+sole_placed ps s x a f e =
     subst (λ b. Verdict (map (settled a) (cond b (s ∷ []) [])) (cond (fits_outline a x) (option_map (place a) (outline_slots x ps)) None))
     (sym (ap₂ (λ u v. u && v) (f.spelling s ∙ sym (f.outline x)) (runs-named s.pieces ∙ ap is_some e)))
     (chosen a s (fits_outline a x) (f.spelling s ∙ sym (f.outline x)) (outline_slots x ps) e)
+
+placed_by : {ps : Parts} {xs : List Spelling} {o : Option Outline} (a : Role) → Asks a → Placed ps xs o → Verdict (ways_of a xs) (outlined_roles a ps o)
+placed_by a f nowhere = refl
+placed_by a f (unnamed {s = s} e) = ap (λ b. map (settled a) (cond b (s ∷ []) [])) (unfit a s e)
+placed_by {ps} a f (placed {s = s} {x = x} e) = sole_placed ps s x a f e
+placed_by {ps} a f (placed_first {s = s} {r = r} {x = x} e h) = same_first a s r (fits a s) (fits a r) (λ c. ap₂ (λ u v. u && v) (f.spelling s) (runs-named s.pieces ∙ ap is_some e)) (outlined_roles a ps (Some x)) (sole_placed ps s x a f (e ∙ sym h))
 
 pub ways_placed : (a : Role) (n : Tree) (o : Option Outline) → Asks a → Placed (parts_of (bare n)) (spellings a (bare n)) o → Verdict (ways a n) (roles_by a n o)
 ways_placed a n o f h = ways_when a n o (placed_by a f h)
@@ -141,6 +149,7 @@ table_placed (at.Expression y i f) h k w g ps = absurd (cc)
 table_placed (at.Pattern b f) h k w g ps = absurd (cc)
 table_placed (at.ChainPart f) h k w g ps = spines_placed k g ps
 table_placed at.Name h k w g ps = names_placed k w
+table_placed at.PrivateName h k w g ps = private_names_placed k w
 table_placed at.IdentifierName h k w g ps = words_placed k w
 table_placed at.PropertyName h k w g ps = keys_placed k w
 table_placed at.ShorthandKey h k w g ps = echoes_placed k w
@@ -150,14 +159,14 @@ table_placed at.TaggedQuasi h k w g ps = quasis_placed k
 table_placed (at.TemplateElement b c) h k w g ps = chunks_placed b c k w
 table_placed at.Spread h kind.SpreadElement w g ps = places (One (own.Fixed assignment_at)) _ refl
 table_placed at.Spread h _ w g ps = nowhere
-table_placed at.Property h kind.Property w g ps = properties_placed g.computed g.form
+table_placed at.Property h kind.Property w g ps = properties_placed g.computed g.form (value_form ps)
 table_placed at.Property h _ w g ps = nowhere
 table_placed (at.PatternProperty b) h kind.Property w g ps =
     subst (λ k. Placed ps (Rattle.language.specs.Expressions.pattern_properties b g.computed g.form (lead (others ps))) (pattern_form_outline b g.computed g.form k)) (second_kind ps) (pattern_properties_placed b g.computed g.form (lead (others ps)))
 table_placed (at.PatternProperty b) h _ w g ps = nowhere
 table_placed (at.Element b) h k w g ps = elements_placed b k ps
 table_placed (at.Rest b o) h k w g ps = rest_placed b o k ps
-table_placed (at.Method x) h kind.FunctionExpression w g ps = methods_placed x ps
+table_placed (at.Method x) h kind.FunctionExpression w g ps = functions_at x g.form ps
 table_placed (at.Method x) h _ w g ps = nowhere
 table_placed at.Body h kind.BlockStatement w g ps = body_placed ps
 table_placed at.Body h _ w g ps = nowhere
@@ -173,7 +182,10 @@ table_placed (at.CatchClause r) h k w g ps = handlers_placed r k ps
 table_placed at.ClassBody h kind.ClassBody w g ps = members_placed ps
 table_placed at.ClassBody h _ w g ps = nowhere
 table_placed at.Member h k w g ps = member_placed k g ps
-table_placed at.Script h kind.Program w g ps = script_placed ps
+table_placed at.ModuleItem h k w g ps = module_items_placed k ps
+table_placed at.Specifier h k w g ps = specifiers_placed k g ps
+table_placed at.DefaultItem h k w g ps = default_items_placed k g ps
+table_placed at.Script h kind.Program w g ps = script_placed w ps
 table_placed at.Script h _ w g ps = nowhere
 
 plain_ways : (p : Position) → is_plain_position p ≡ true → (n : Tree) → Verdict (ways (role_of p) n) (roles_by (role_of p) n (outline_at p n))

@@ -15,7 +15,8 @@ use Rattle.spelling_table.specs.declared.position.Position.{Position}
 use Rattle.spelling_table.specs.declared.position.Position.TheVariants as at
 use Rattle.spelling_table.specs.declared.outline.Outline.{Outline}
 use Rattle.spelling_table.specs.Outlines.{role_of, tail_slots, parts_after, outline_slots}
-use Rattle.spellings.specs.Expressions.{chain_outline}
+use Rattle.spellings.specs.Entries.{entry_at}
+use Rattle.spellings.specs.Expressions.{kind_at, chain_outline}
 use Rattle.spellings.specs.Others.{member_link}
 use Rattle.spelling_table.specs.Productions.{call_link}
 use Rattle.spelling_table.specs.declared.position.Slot.TheVariants.{Lead, LeadSpine}
@@ -105,7 +106,7 @@ none_is_some x h = cc
 pub chain_known : (p : Position) (n : Tree) (x : Outline) → outline_at p n ≡ Some x → chain_above p (kind_of n) x.front ≡ true → first_has_optional (parts_of n) ≡ true
 chain_known (at.Expression y i f) (node kind.ChainExpression w g s e ps) x h k = chain_is (first_has_optional ps) x h
 chain_known (at.Expression y i f) (node _ w g s e ps) x h k = absurd (false≢true k)
-chain_known (at.ChainPart f) (node kind.MemberExpression w g s e ps) x h k = spine_known g.optional (first_has_optional ps) (member_link LeadSpine g) (member_link (Lead Call) g) x refl h k
+chain_known (at.ChainPart f) (node kind.MemberExpression w g s e ps) x h k = spine_known g.optional (first_has_optional ps) (member_link LeadSpine g (kind_at (entry_at ps 1))) (member_link (Lead Call) g (kind_at (entry_at ps 1))) x refl h k
 chain_known (at.ChainPart f) (node kind.CallExpression w g s e ps) x h k = spine_known g.optional (first_has_optional ps) (call_link LeadSpine) (call_link (Lead Call)) x refl h k
 chain_known (at.ChainPart f) (node _ w g s e ps) x h k = absurd (none_is_some x h)
 chain_known _ n x h k = absurd (false≢true k)
@@ -168,6 +169,10 @@ position_of (role.switch_case r) = at.SwitchCase r
 position_of (role.handler r) = at.CatchClause r
 position_of role.class_body = at.ClassBody
 position_of role.member = at.Member
+position_of role.private_name = at.PrivateName
+position_of role.module_item = at.ModuleItem
+position_of role.specifier = at.Specifier
+position_of role.default_item = at.DefaultItem
 position_of role.script = at.Script
 
 pub role-position : (a : Role) → role_of (position_of a) ≡ a

@@ -9,3 +9,4 @@ pub mod Wherever
 pub mod Cursors
 pub mod Leaves
 pub mod Groupings
+pub mod Modules

@@ -9,8 +9,10 @@ use Rattle.tree.specs.declared.kind.Kind.TheVariants as kind
 use Rattle.tree.specs.declared.kind.Form.{Form}
 use Rattle.tree.specs.declared.kind.Form.TheVariants as form
 use Rattle.tree.specs.declared.kind.Flags.{Flags}
-use Rattle.language.specs.Vocabulary.{is, is_reserved, is_string, literal_class, is_rest, is_pattern, is_identifier}
+use Rattle.language.specs.Vocabulary.{is, is_reserved, is_string, literal_class, is_rest, is_pattern, is_identifier, is_private}
+use Rattle.language.specs.Expressions.{method_of}
 use Rattle.language.specs.Statements.{is_string_literal}
+use Rattle.language.specs.Grammar.{is_function_at}
 use Rattle.language.specs.Strings.{literal_units}
 use Rattle.spellings.specs.declared.parts.PartAt.{PartAt}
 use Rattle.spellings.specs.declared.parts.PartAt.TheVariants.{Past, Gap, Part}
@@ -22,7 +24,8 @@ use Rattle.spelling_table.specs.declared.outline.FixedSlots.TheVariants.{Zero, O
 use Rattle.spelling_table.specs.declared.outline.ListSlots.TheVariants as tail
 use Rattle.spelling_table.specs.declared.outline.Outline.{Outline}
 use Rattle.spelling_table.specs.Outlines.{assignment_at, bound_at, default_at, leaf, fronted, lined}
-use Rattle.spellings.specs.Expressions.{Around, kind_at, selected}
+use Rattle.tree.specs.Uses.{is_function_form, is_init}
+use Rattle.spellings.specs.Expressions.{Around, kind_at, only_if, selected}
 use Rattle.spelling_table.specs.Productions.{opens_with_brace, key_slot, call_link}
 
 abbrev pub leaf_if : Bool → Option Outline
@@ -64,17 +67,18 @@ keyed_outline b a = Some (fronted Primary (Two (key_slot b) (Fixed a)))
 abbrev pub echo_outline : Bool → Position → Option Outline
 echo_outline b a = cond b None (Some (fronted Primary (Two (Fixed at.ShorthandKey) (Fixed a))))
 
-abbrev pub form_outline : Bool → Form → Option Outline
-form_outline b form.Init = keyed_outline b assignment_at
-form_outline b form.Method = keyed_outline b (at.Method form.Method)
-form_outline b form.Get = keyed_outline b (at.Method form.Get)
-form_outline b form.Set = keyed_outline b (at.Method form.Set)
-form_outline b form.Shorthand = echo_outline b at.Name
-form_outline b form.Constructor = None
+abbrev pub form_outline : Bool → Form → Form → Option Outline
+form_outline b form.Init x = keyed_outline b assignment_at
+form_outline b form.Method x = only_if (is_function_form x) (keyed_outline b (at.Method (method_of x)))
+form_outline b form.Get x = keyed_outline b (at.Method form.Get)
+form_outline b form.Set x = keyed_outline b (at.Method form.Set)
+form_outline b form.Shorthand x = echo_outline b at.Name
+form_outline b _ x = None
 
-abbrev pub property_outline : Kind → Flags → Option Outline
-property_outline kind.Property g = form_outline g.computed g.form
-property_outline _ g = None
+-- by the form of the value too
+abbrev pub property_outline : Kind → Flags → Form → Option Outline
+property_outline kind.Property g x = form_outline g.computed g.form x
+property_outline _ g x = None
 
 abbrev pub keyed_at : Bool → Option Position → Option Outline
 keyed_at b None = None
@@ -119,13 +123,14 @@ rest_outline b o _ k = None
 abbrev pub linked_by : Bool → Bool → Outline → Outline → Option Outline
 linked_by b o x y = cond b (Some x) (cond o (Some y) None)
 
-abbrev pub member_link : Slot → Flags → Outline
-member_link x g = fronted Primary (Two x (selected g))
+abbrev pub member_link : Slot → Flags → Kind → Outline
+member_link x g p = fronted Primary (Two x (selected g p))
 
-abbrev pub spine_outline : Kind → Flags → Bool → Option Outline
-spine_outline kind.MemberExpression g b = linked_by b g.optional (member_link LeadSpine g) (member_link (Lead Call) g)
-spine_outline kind.CallExpression g b = linked_by b g.optional (call_link LeadSpine) (call_link (Lead Call))
-spine_outline _ g b = None
+-- by the kind of the second part, a member's property
+abbrev pub spine_outline : Kind → Flags → Bool → Kind → Option Outline
+spine_outline kind.MemberExpression g b p = linked_by b g.optional (member_link LeadSpine g p) (member_link (Lead Call) g p)
+spine_outline kind.CallExpression g b p = linked_by b g.optional (call_link LeadSpine) (call_link (Lead Call))
+spine_outline _ g b p = None
 
 abbrev pub class_body_outline : Kind → Option Outline
 class_body_outline kind.ClassBody = Some (lined Primary Zero (tail.Each (Fixed at.Member)) 0)
@@ -153,9 +158,9 @@ form_method_outline form.Get a = getter_outline a.first a.second a.third
 form_method_outline form.Set a = setter_outline a.first a.second a.third a.fourth
 form_method_outline _ a = plain_method_outline a.first
 
-abbrev pub method_outline : Form → Kind → Around → Option Outline
-method_outline x kind.FunctionExpression a = form_method_outline x a
-method_outline x _ a = None
+abbrev pub method_outline : Form → Kind → Flags → Around → Option Outline
+method_outline x kind.FunctionExpression g a = only_if (is_function_at x g.form) (form_method_outline x a)
+method_outline x _ g a = None
 
 -- the first part of a member is a key with the value `constructor`
 abbrev pub names_constructor : Kind → List ℕ → Bool
@@ -164,11 +169,18 @@ names_constructor k w = (is_identifier k && is w "constructor") || (is_string_li
 abbrev pub is_constructor : Flags → Kind → List ℕ → Bool
 is_constructor g k w = not g.computed && not g.is_static && names_constructor k w
 
--- a member's key and function
-abbrev pub method_of : Bool → Form → Option Outline
-method_of b form.Get = keyed_outline b (at.Method form.Get)
-method_of b form.Set = keyed_outline b (at.Method form.Set)
-method_of b _ = keyed_outline b (at.Method form.Method)
+-- a key of a class, of this kind: in brackets, a private name or another
+abbrev pub class_key : Bool → Kind → Position
+class_key b k = cond b assignment_at (cond (is_private k) at.PrivateName at.PropertyName)
+
+abbrev pub class_keyed : Bool → Kind → Position → Option Outline
+class_keyed b k a = Some (fronted Primary (Two (Fixed (class_key b k)) (Fixed a)))
+
+-- a member's key and function, by its form, that of the function, and the key's kind
+abbrev pub method_keyed : Bool → Form → Form → Kind → Option Outline
+method_keyed b form.Get x k = class_keyed b k (at.Method form.Get)
+method_keyed b form.Set x k = class_keyed b k (at.Method form.Set)
+method_keyed b _ x k = only_if (is_function_form x) (class_keyed b k (at.Method (method_of x)))
 
 -- a member may have this form, by whether its key makes it the constructor
 abbrev pub fits_form : Bool → Form → Bool
@@ -178,9 +190,22 @@ fits_form c form.Get = true
 fits_form c form.Set = true
 fits_form c _ = false
 
-abbrev pub member_form_outline : Bool → Bool → Form → Option Outline
-member_form_outline c b x = cond (fits_form c x) (method_of b x) None
+-- a field: its key, and what stands at the place of its value
+abbrev pub field_outline : Bool → PartAt → PartAt → PartAt → Option Outline
+field_outline b (Part k) Gap Past = Some (fronted Primary (One (Fixed (class_key b k))))
+field_outline b (Part k) (Part j) Past = class_keyed b k assignment_at
+field_outline b _ _ _ = None
+
+abbrev pub method_definition_outline : Flags → Around → Option Outline
+method_definition_outline g a =
+    only_if (fits_form (is_constructor g (kind_at a.first) a.first_text && is_init a.second_form) g.form) (method_keyed g.computed g.form a.second_form (kind_at a.first))
 
 abbrev pub member_outline : Kind → Flags → Around → Option Outline
-member_outline kind.MethodDefinition g a = member_form_outline (is_constructor g (kind_at a.first) a.first_text) g.computed g.form
+member_outline kind.MethodDefinition g a = method_definition_outline g a
+member_outline kind.PropertyDefinition g a = field_outline g.computed a.first a.second a.third
+member_outline kind.StaticBlock g a = Some (lined Primary Zero (tail.Each (Fixed (at.StatementListItem false))) 0)
 member_outline _ g a = None
+
+-- a private name
+abbrev pub private_outline : Kind → Option Outline
+private_outline k = leaf_if (is_private k)

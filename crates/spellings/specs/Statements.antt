@@ -21,7 +21,8 @@ use Rattle.spelling_table.specs.declared.production.ForInit.{ForInit}
 use Rattle.spelling_table.specs.declared.production.ForInit.TheVariants.{Nothing, Declaration, Value}
 use Rattle.spelling_table.specs.Productions.{body_at}
 use Rattle.spelling_table.specs.Outlines.{assignment_at, whole_at, bound_at, leaf, fronted, lined}
-use Rattle.spellings.specs.Expressions.{Around, kind_at, is_past, function_outline, class_outline}
+use Rattle.tree.specs.Uses.{is_empty}
+use Rattle.spellings.specs.Expressions.{Around, kind_at, is_past, function_outline, class_outline, is_arrow_form, only_if}
 
 abbrev pub is_part : PartAt → Bool
 is_part (Part k) = true
@@ -109,22 +110,22 @@ try_outline r (Part j) Gap (Part l) Past = two (Fixed (at.Block r)) (Fixed (at.B
 try_outline r _ _ _ _ = None
 
 -- loops and their parts
-abbrev pub loop_outline : Bool → Kind → Around → Option Outline
-loop_outline r kind.DoWhileStatement a = two (body_at r) (Fixed whole_at)
-loop_outline r kind.WhileStatement a = two (Fixed whole_at) (body_at r)
-loop_outline r kind.ForStatement a = for_outline r a.first a.second a.third
-loop_outline r kind.ForInStatement a = each_outline r (left_at (kind_at a.first)) whole_at
-loop_outline r kind.ForOfStatement a = each_outline r (left_at (kind_at a.first)) assignment_at
-loop_outline r _ a = None
+abbrev pub loop_outline : Bool → Kind → Flags → Around → Option Outline
+loop_outline r kind.DoWhileStatement g a = two (body_at r) (Fixed whole_at)
+loop_outline r kind.WhileStatement g a = two (Fixed whole_at) (body_at r)
+loop_outline r kind.ForStatement g a = for_outline r a.first a.second a.third
+loop_outline r kind.ForInStatement g a = each_outline r (left_at (kind_at a.first)) whole_at
+loop_outline r kind.ForOfStatement g a = only_if (is_arrow_form g.form) (each_outline r (left_at (kind_at a.first)) assignment_at)
+loop_outline r _ g a = None
 
 -- statements that hold others, loops aside
-abbrev pub branch_outline : Bool → Kind → Around → Option Outline
-branch_outline r kind.BlockStatement a = items_outline r
-branch_outline r kind.IfStatement a = if_outline r a.dangling a.first a.second a.third a.fourth
-branch_outline r kind.LabeledStatement a = two (Fixed at.Name) (body_at r)
-branch_outline r kind.SwitchStatement a = switch_outline r a.defaults_twice
-branch_outline r kind.TryStatement a = try_outline r a.first a.second a.third a.fourth
-branch_outline r k a = loop_outline r k a
+abbrev pub branch_outline : Bool → Kind → Flags → Around → Option Outline
+branch_outline r kind.BlockStatement g a = items_outline r
+branch_outline r kind.IfStatement g a = if_outline r a.dangling a.first a.second a.third a.fourth
+branch_outline r kind.LabeledStatement g a = two (Fixed at.Name) (body_at r)
+branch_outline r kind.SwitchStatement g a = switch_outline r a.defaults_twice
+branch_outline r kind.TryStatement g a = try_outline r a.first a.second a.third a.fourth
+branch_outline r k g a = loop_outline r k g a
 
 abbrev pub statement_outline : Bool → Kind → List ℕ → Flags → Around → Option Outline
 statement_outline r kind.VariableDeclaration w g a = declaration_outline (is w "var")
@@ -135,7 +136,7 @@ statement_outline r kind.BreakStatement w g a = word_outline a.first at.Name
 statement_outline r kind.ReturnStatement w g a = return_outline r a.first
 statement_outline r kind.ThrowStatement w g a = one (Fixed whole_at)
 statement_outline r kind.DebuggerStatement w g a = Some (leaf Primary)
-statement_outline r k w g a = branch_outline r k a
+statement_outline r k w g a = branch_outline r k g a
 
 -- declarations that are no statements
 abbrev pub named_only : PartAt → Option Outline → Option Outline
@@ -146,7 +147,7 @@ abbrev pub is_declaring : List ℕ → Bool
 is_declaring w = among w ("var" ∷ "let" ∷ "const" ∷ [])
 
 abbrev pub item_outline : Bool → Kind → List ℕ → Flags → Around → Option Outline
-item_outline r kind.FunctionDeclaration w g a = named_only a.first (function_outline a.first)
+item_outline r kind.FunctionDeclaration w g a = named_only a.first (function_outline g.form a.first)
 item_outline r kind.ClassDeclaration w g a = named_only a.first (class_outline a.first a.second)
 item_outline r kind.VariableDeclaration w g a = declaration_outline (is_declaring w)
 item_outline r k w g a = statement_outline r k w g a
@@ -173,9 +174,14 @@ abbrev pub body_outline : Kind → Option Outline
 body_outline kind.BlockStatement = prologue_outline true
 body_outline _ = None
 
-abbrev pub script_outline : Kind → Option Outline
-script_outline kind.Program = prologue_outline false
-script_outline _ = None
+-- the Program, by its text
+abbrev pub program_outline : List ℕ → Option Outline
+program_outline w =
+    cond (is_empty w || is w "2022") (prologue_outline false) (cond (is w "module") (Some (lined Primary Zero (tail.ModuleItems true) 0)) None)
+
+abbrev pub script_outline : Kind → List ℕ → Option Outline
+script_outline kind.Program w = program_outline w
+script_outline _ w = None
 
 -- a declaration in the head of a `for`: with no initialisers there is one declarator
 abbrev pub is_one_part : Around → Bool

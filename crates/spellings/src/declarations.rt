@@ -5,7 +5,7 @@ ghost use Rattle.tree.specs.Node.{node_tree};
 ghost use Rattle.tree.specs.Tree.{kind_of, text_of, flags_of, parts_of};
 ghost use Rattle.language.specs.Statements.{is_string_literal as is_string_of_kind};
 ghost use Rattle.spellings.specs.Entries.{around};
-ghost use Rattle.spellings.specs.Statements.{named_only as outline_named_only, is_declaring as is_word_of_declaration, item_outline as outline_of_item, opened_outline as outline_opened, opening_outline as outline_of_opening, block_outline as outline_of_block, body_outline as outline_of_body, script_outline as outline_of_script, is_one_part as is_one_of, head_outline as outline_of_head, initialised as outline_initialised, bare_name as outline_of_bare_name, declared_outline as outline_of_declared, declarator_outline as outline_of_declarator, tested_outline as outline_tested, case_outline as outline_of_case, caught as outline_caught, caught_outline as outline_of_caught, handler_outline as outline_of_handler};
+ghost use Rattle.spellings.specs.Statements.{named_only as outline_named_only, is_declaring as is_word_of_declaration, item_outline as outline_of_item, opened_outline as outline_opened, opening_outline as outline_of_opening, block_outline as outline_of_block, body_outline as outline_of_body, script_outline as outline_of_script, program_outline as outline_of_program, is_one_part as is_one_of, head_outline as outline_of_head, initialised as outline_initialised, bare_name as outline_of_bare_name, declared_outline as outline_of_declared, declarator_outline as outline_of_declarator, tested_outline as outline_tested, case_outline as outline_of_case, caught as outline_caught, caught_outline as outline_of_caught, handler_outline as outline_of_handler};
 ghost use Rattle.spelling_table.specs.Productions.{outline_of};
 
 use crate::expressions::{class_production, function_production, kind_at};
@@ -22,7 +22,9 @@ pub(crate) fn item_production(node: Node, returns: bool) -> Option<Production>
 {
     let first = part_at(node, 0);
     match node.kind() {
-        Kind::FunctionDeclaration => named_only(first, function_production(first)),
+        Kind::FunctionDeclaration => {
+            named_only(first, function_production(node.flags().form, first))
+        }
         Kind::ClassDeclaration => named_only(first, class_production(first, part_at(node, 1))),
         Kind::VariableDeclaration => declaration_production(is_declaring(node.text())),
         _ => statement_production(node, returns),
@@ -96,14 +98,27 @@ pub(crate) fn body_production(kind: Kind) -> Option<Production>
     }
 }
 
-/// The production of a script (15.1); none for other kinds.
-pub(crate) fn script_production(kind: Kind) -> Option<Production>
-    ensures { option_map outline_of result ≡ outline_of_script kind }
+/// The production of a script (15.1) or a module (13th edition, 16.2), by the Program's text; none for other kinds.
+pub(crate) fn script_production(kind: Kind, text: &str) -> Option<Production>
+    ensures { option_map outline_of result ≡ outline_of_script kind text.now }
 {
     match kind {
-        Kind::Program => Some(Production::Prologue { returns: false }),
+        Kind::Program => program_production(text),
         _ => None,
     }
+}
+
+/// The production of a Program of a language, by its text.
+fn program_production(text: &str) -> Option<Production>
+    ensures { option_map outline_of result ≡ outline_of_program text.now }
+{
+    if text.is_empty() || text == "2022" {
+        return Some(Production::Prologue { returns: false });
+    }
+    if text == "module" {
+        return Some(Production::Module);
+    }
+    None
 }
 
 /// A declaration in the head of a `for`.

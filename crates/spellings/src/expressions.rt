@@ -2,10 +2,11 @@
 
 ghost use Rattle.std.specs.Prelude.{◌≡◌, option_map};
 ghost use Rattle.tree.specs.Node.{node_tree};
+ghost use Rattle.tree.specs.Uses.{is_function_form};
 ghost use Rattle.tree.specs.Tree.{kind_of, text_of, flags_of, parts_of};
 ghost use Rattle.grammar.specs.Operations.{operation_at};
 ghost use Rattle.spellings.specs.Entries.{around};
-ghost use Rattle.spellings.specs.Expressions.{expression_outline as outline_of_expression, definition_outline as outline_of_definition, reference_outline as outline_of_reference, operation_outline as outline_of_operation, identifier_outline as outline_of_identifier, literal_outline as outline_of_literal, function_outline as outline_of_function, class_outline as outline_of_class, member_outline as outline_of_member, call_outline as outline_of_call, update_outline as outline_of_update, unary_outline as outline_of_unary, binary_outline as outline_of_binary, logical_outline as outline_of_logical, assignment_outline as outline_of_assignment, kind_at as kind_of_entry, meta_outline as outline_of_meta, chain_outline as outline_of_chain, sequence_outline as outline_of_sequence, joined_outline as outline_joined, arrow_outline as outline_of_arrow};
+ghost use Rattle.spellings.specs.Expressions.{expression_outline as outline_of_expression, definition_outline as outline_of_definition, reference_outline as outline_of_reference, operation_outline as outline_of_operation, identifier_outline as outline_of_identifier, literal_outline as outline_of_literal, function_outline as outline_of_function, named_function as outline_of_named_function, is_arrow_form, class_outline as outline_of_class, member_outline as outline_of_member, call_outline as outline_of_call, update_outline as outline_of_update, unary_outline as outline_of_unary, binary_outline as outline_of_binary, binary_by as outline_of_binary_by, logical_outline as outline_of_logical, assignment_outline as outline_of_assignment, kind_at as kind_of_entry, meta_outline as outline_of_meta, chain_outline as outline_of_chain, sequence_outline as outline_of_sequence, yield_outline as outline_of_yield, joined_outline as outline_joined, arrow_outline as outline_of_arrow};
 ghost use Rattle.spelling_table.specs.Productions.{outline_of};
 
 use crate::parts::{PartAt, part_at, part_text};
@@ -15,7 +16,7 @@ use grammar::{
 };
 use language::Rank;
 use spelling_table::Production;
-use tree::{Flags, Kind, Node};
+use tree::{Flags, Form, Kind, Node};
 
 /// The production of an expression; none where the table has no way to spell it.
 pub(crate) fn expression_production(node: Node) -> Option<Production>
@@ -37,9 +38,9 @@ fn definition_production(node: Node) -> Option<Production>
     ensures { option_map outline_of result ≡ outline_of_definition (kind_of (node_tree node.entry)) (text_of (node_tree node.entry)) (flags_of (node_tree node.entry)) (around (parts_of (node_tree node.entry))) }
 {
     match node.kind() {
-        Kind::FunctionExpression => function_production(part_at(node, 0)),
+        Kind::FunctionExpression => function_production(node.flags().form, part_at(node, 0)),
         Kind::ClassExpression => class_production(part_at(node, 0), part_at(node, 1)),
-        Kind::ArrowFunctionExpression => Some(arrow_production(node.flags())),
+        Kind::ArrowFunctionExpression => arrow_production(node.flags()),
         _ => reference_production(node),
     }
 }
@@ -64,9 +65,39 @@ fn literal_production(raw: &str) -> Option<Production>
     None
 }
 
-/// A function, by what stands at its name's place.
-pub(crate) fn function_production(name: PartAt) -> Option<Production>
-    ensures { option_map outline_of result ≡ outline_of_function name }
+/// Whether the form is that of a function.
+pub(crate) fn is_function_form(form: Form) -> bool
+    ensures { result ≡ is_function_form form }
+{
+    match form {
+        Form::Init | Form::Generator | Form::Async | Form::AsyncGenerator => true,
+        _ => false,
+    }
+}
+
+/// Whether the form is that of an arrow function, or of a for-of.
+pub(crate) fn is_arrow_form(form: Form) -> bool
+    ensures { result ≡ is_arrow_form form }
+{
+    match form {
+        Form::Init | Form::Async => true,
+        _ => false,
+    }
+}
+
+/// A function, by its form and what stands at its name's place.
+pub(crate) fn function_production(form: Form, name: PartAt) -> Option<Production>
+    ensures { option_map outline_of result ≡ outline_of_function form name }
+{
+    if !is_function_form(form) {
+        return None;
+    }
+    named_function(name)
+}
+
+/// The same, by what stands at its name's place.
+fn named_function(name: PartAt) -> Option<Production>
+    ensures { option_map outline_of result ≡ outline_of_named_function name }
 {
     match name {
         PartAt::Past => None,
@@ -89,13 +120,16 @@ pub(crate) fn class_production(name: PartAt, heritage: PartAt) -> Option<Product
     Some(Production::Class { is_named, extends })
 }
 
-/// The production of an ArrowFunction, by its flags (14.2).
-fn arrow_production(flags: Flags) -> Production
-    ensures { outline_of result ≡ outline_of_arrow flags }
+/// The production of an ArrowFunction, by its flags (14.2); none for the forms of other functions.
+fn arrow_production(flags: Flags) -> Option<Production>
+    ensures { option_map outline_of result ≡ outline_of_arrow flags }
 {
-    Production::Arrow {
-        is_expression: flags.expression,
+    if !is_arrow_form(flags.form) {
+        return None;
     }
+    Some(Production::Arrow {
+        is_expression: flags.expression,
+    })
 }
 
 /// What stands at a symbol from LeftHandSide to Member.
@@ -105,7 +139,11 @@ fn reference_production(node: Node) -> Option<Production>
 {
     match node.kind() {
         Kind::TaggedTemplateExpression => Some(Production::Tagged),
-        Kind::MemberExpression => member_production(node.flags(), kind_at(part_at(node, 0))),
+        Kind::MemberExpression => member_production(
+            node.flags(),
+            kind_at(part_at(node, 0)),
+            kind_at(part_at(node, 1)),
+        ),
         Kind::CallExpression => call_production(node.flags(), kind_at(part_at(node, 0))),
         Kind::NewExpression => Some(Production::New),
         Kind::MetaProperty => meta_production(part_text(node, 0), part_text(node, 1)),
@@ -125,15 +163,20 @@ pub(crate) fn kind_at(entry: PartAt) -> Kind
     }
 }
 
-/// The production of a member outside a chain (12.3.2, 12.3.7); none for a link with `?.`.
-fn member_production(flags: Flags, object: Kind) -> Option<Production>
-    ensures { option_map outline_of result ≡ outline_of_member flags object }
+/// The production of a member outside a chain (12.3.2, 12.3.7), by the kinds of its object and its property; none for a link
+/// with `?.`.
+fn member_production(flags: Flags, object: Kind, property: Kind) -> Option<Production>
+    ensures { option_map outline_of result ≡ outline_of_member flags object property }
 {
     if flags.optional {
         return None;
     }
+    let of_super = object.is_super();
+    if property.is_private() && !flags.computed && !of_super {
+        return Some(Production::PrivateMember);
+    }
     Some(Production::Member {
-        of_super: object.is_super(),
+        of_super,
         is_computed: flags.computed,
     })
 }
@@ -150,11 +193,11 @@ fn call_production(flags: Flags, callee: Kind) -> Option<Production>
     })
 }
 
-/// The production of `new.target` (12.3.12); none for other names.
+/// The production of `new.target` (12.3.12) and `import.meta` (13th edition, 13.3.12); none for other names.
 fn meta_production(meta: &str, property: &str) -> Option<Production>
     ensures { option_map outline_of result ≡ outline_of_meta meta.now property.now }
 {
-    if meta == "new" && property == "target" {
+    if (meta == "new" && property == "target") || (meta == "import" && property == "meta") {
         return Some(Production::Meta);
     }
     None
@@ -178,9 +221,13 @@ fn operation_production(node: Node) -> Option<Production>
     match node.kind() {
         Kind::UpdateExpression => update_production(text, node.flags(), kind_at(part_at(node, 0))),
         Kind::UnaryExpression => unary_production(text),
-        Kind::BinaryExpression => binary_production(text),
+        Kind::AwaitExpression => Some(Production::Unary),
+        Kind::BinaryExpression => binary_by(text, kind_at(part_at(node, 0))),
         Kind::LogicalExpression => logical_production(text),
         Kind::ConditionalExpression => Some(Production::Conditional),
+        Kind::YieldExpression => {
+            yield_production(node.flags().form, part_at(node, 0), part_at(node, 1))
+        }
         Kind::AssignmentExpression => assignment_production(text, kind_at(part_at(node, 0))),
         Kind::SequenceExpression => sequence_production(part_at(node, 1)),
         _ => None,
@@ -220,6 +267,21 @@ fn infix_production(operator: &str, own: Rank, right: Rank) -> Production
     }
 }
 
+/// The production of a binary expression, by the kind of its left side: a private name stands before `in` alone (13th edition,
+/// 13.10).
+fn binary_by(operator: &str, left: Kind) -> Option<Production>
+    ensures { option_map outline_of result ≡ outline_of_binary_by operator.now left }
+{
+    if !left.is_private() {
+        return binary_production(operator);
+    }
+    if operator == "in" {
+        Some(Production::PrivateIn)
+    } else {
+        None
+    }
+}
+
 /// The production of a binary expression (12.6 to 12.12); none if the text isn't its operator.
 fn binary_production(operator: &str) -> Option<Production>
     ensures { option_map outline_of result ≡ outline_of_binary operator.now (operation_at operator.now) }
@@ -245,6 +307,19 @@ fn logical_production(operator: &str) -> Option<Production>
             own,
             right,
         } => Some(infix_production(operator, own, right)),
+        _ => None,
+    }
+}
+
+/// The production of a YieldExpression (14.4): with one operand, or with none and no `*`.
+fn yield_production(form: Form, operand: PartAt, further: PartAt) -> Option<Production>
+    ensures { option_map outline_of result ≡ outline_of_yield form operand further }
+{
+    match (form, operand, further) {
+        (Form::Init | Form::Generator, PartAt::Part(_), PartAt::Past) => {
+            Some(Production::Yield { has_operand: true })
+        }
+        (Form::Init, PartAt::Gap, PartAt::Past) => Some(Production::Yield { has_operand: false }),
         _ => None,
     }
 }

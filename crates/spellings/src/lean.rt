@@ -94,10 +94,25 @@ fn used_flags(kind: Kind, flags: Flags) -> Flags
         },
         Kind::ArrowFunctionExpression => Flags {
             expression: flags.expression,
+            form: flags.form,
+            ..plain
+        },
+        Kind::PropertyDefinition => Flags {
+            computed: flags.computed,
+            is_static: flags.is_static,
             ..plain
         },
         Kind::ExpressionStatement => Flags {
             directive: flags.directive,
+            ..plain
+        },
+        Kind::FunctionExpression
+        | Kind::FunctionDeclaration
+        | Kind::YieldExpression
+        | Kind::ForOfStatement
+        | Kind::ImportSpecifier
+        | Kind::ExportSpecifier => Flags {
+            form: flags.form,
             ..plain
         },
         _ => plain,

@@ -79,6 +79,7 @@ pub(crate) fn is_chunk(kind: Kind) -> bool
 }
 
 /// Whether a node of this kind and text may stand at a position as a leaf: a name or a literal.
+#[inline(always)]
 pub(crate) fn is_leaf_text(kind: Kind, text: &str, position: Position) -> bool
     ensures { result ≡ leaf_at position kind text.now }
 {

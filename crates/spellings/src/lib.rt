@@ -14,6 +14,7 @@ mod expressions;
 mod lean;
 mod leaves;
 mod members;
+mod modules;
 mod nodes;
 mod pairs;
 mod parts;
@@ -25,5 +26,6 @@ mod walk;
 mod words;
 
 pub use pairs::{PairRow, pair_rows};
+pub use properties::value_form;
 pub use slot_cursor::SlotCursor;
 pub use spelled_node::{holds_chain, is_leaf, leads_chain, node_production};

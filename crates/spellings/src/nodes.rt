@@ -22,6 +22,7 @@ use crate::leaves::{
     quasi_production,
 };
 use crate::members::{class_body_production, member_production, method_production};
+use crate::modules::{default_item_production, module_item_production, specifier_production};
 use crate::parts::part_at;
 use crate::properties::{
     element_production, pattern_production, pattern_property_production, property_production,
@@ -50,7 +51,7 @@ pub(crate) fn production_at(node: Node, position: Position, in_chain: bool) -> O
         Position::TaggedQuasi => quasi_production(kind),
         Position::TemplateElement { .. } => leaf_if(is_chunk(kind)),
         Position::Spread => spread_production(kind),
-        Position::Property => property_production(kind, node.flags()),
+        Position::Property => property_production(node),
         Position::Pattern { binds, .. } => pattern_production(binds, kind),
         Position::PatternProperty { binds } => pattern_property_at(node, binds),
         Position::Element { binds } => element_at(node, binds),
@@ -70,7 +71,11 @@ pub(crate) fn production_at(node: Node, position: Position, in_chain: bool) -> O
         Position::CatchClause { returns } => catch_clause_production(node, returns),
         Position::ClassBody => class_body_production(kind),
         Position::Member => member_production(node),
-        Position::Script => script_production(kind),
+        Position::PrivateName => leaf_if(kind.is_private()),
+        Position::ModuleItem => module_item_production(node),
+        Position::Specifier => specifier_production(node),
+        Position::DefaultItem => default_item_production(node),
+        Position::Script => script_production(kind, node.text()),
     }
 }
 

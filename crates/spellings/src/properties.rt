@@ -1,11 +1,16 @@
 //! The outlines of properties, patterns and what stands in them (ECMA-262 12.2.6, 12.15.5, 13.3.3).
 
 ghost use Rattle.std.specs.Prelude.{◌≡◌, option_map};
+ghost use Rattle.tree.specs.Node.{node_tree};
+ghost use Rattle.tree.specs.Tree.{flags_of, kind_of, parts_of};
+ghost use Rattle.language.specs.Expressions.{value_form};
 ghost use Rattle.spellings.specs.Others.{spread_outline as outline_of_spread, keyed_outline as outline_keyed, echo_outline as outline_of_echo, form_outline as outline_of_form, property_outline as outline_of_property, keyed_at as outline_keyed_at, shorthand_outline as outline_of_shorthand, pattern_form_outline as outline_of_pattern_form, pattern_property_outline as outline_of_pattern_property, pattern_outline as outline_of_pattern, defaulted as outline_defaulted, element_outline as outline_of_element, one_at as outline_one_at, rest_outline as outline_of_rest};
 ghost use Rattle.spelling_table.specs.Productions.{outline_of};
 
+use crate::expressions::is_function_form;
+use crate::members::method_of;
 use spelling_table::{ASSIGNMENT, Position, Production, bound, with_default};
-use tree::{Flags, Form, Kind};
+use tree::{Flags, Form, Kind, Node};
 
 /// The production of a spread (12.2.5, 12.2.6); none for other kinds.
 pub(crate) fn spread_production(kind: Kind) -> Option<Production>
@@ -37,25 +42,46 @@ fn shorthand_key_production(computed: bool, value: Position) -> Option<Productio
     Some(Production::ShorthandProperty(value))
 }
 
-/// A property of an object.
-pub(crate) fn property_production(kind: Kind, flags: Flags) -> Option<Production>
-    ensures { option_map outline_of result ≡ outline_of_property kind flags }
+/// The form of the second part, a method's function.
+#[inline(always)]
+pub fn value_form(node: Node) -> Form
+    ensures { result ≡ value_form (parts_of (node_tree node.entry)) }
 {
-    match kind {
-        Kind::Property => form_production(flags.computed, flags.form),
+    match (node.part(0), node.part(1)) {
+        (Some(_), Some(value)) => value.flags().form,
+        _ => Form::Init,
+    }
+}
+
+/// A property of an object.
+pub(crate) fn property_production(node: Node) -> Option<Production>
+    ensures { option_map outline_of result ≡ outline_of_property (kind_of (node_tree node.entry)) (flags_of (node_tree node.entry)) (value_form (parts_of (node_tree node.entry))) }
+{
+    match node.kind() {
+        Kind::Property => {
+            let flags = node.flags();
+            form_production(flags.computed, flags.form, value_form(node))
+        }
         _ => None,
     }
 }
 
-/// The production of an object's property, by its form (12.2.6); none for a constructor.
-fn form_production(computed: bool, form: Form) -> Option<Production>
-    ensures { option_map outline_of result ≡ outline_of_form computed form }
+/// The production of an object's property, by its form and that of its value (12.2.6); none for a constructor, and for the forms of
+/// functions.
+fn form_production(computed: bool, form: Form, value: Form) -> Option<Production>
+    ensures { option_map outline_of result ≡ outline_of_form computed form value }
 {
     match form {
         Form::Init => keyed_production(computed, ASSIGNMENT),
-        Form::Get | Form::Set | Form::Method => keyed_production(computed, Position::Method(form)),
+        Form::Get | Form::Set => keyed_production(computed, Position::Method(form)),
+        Form::Method => {
+            if !is_function_form(value) {
+                return None;
+            }
+            keyed_production(computed, Position::Method(method_of(value)))
+        }
         Form::Shorthand => shorthand_key_production(computed, Position::Name),
-        Form::Constructor => None,
+        Form::Constructor | Form::Generator | Form::Async | Form::AsyncGenerator => None,
     }
 }
 

@@ -6,18 +6,18 @@ ghost use Rattle.tree.specs.Tree.{kind_of, text_of, flags_of, parts_of};
 ghost use Rattle.language.specs.Statements.{is_declaration as declares};
 ghost use Rattle.spellings.specs.Entries.{around};
 ghost use Rattle.spellings.specs.Statements.{declaration_outline as outline_of_declaration, expression_statement_outline as outline_of_expression_statement, if_outline as outline_of_if, for_outline as outline_of_for, left_at as position_of_left, each_outline as outline_of_each, word_outline as outline_of_word, return_outline as outline_of_return, switch_outline as outline_of_switch, try_outline as outline_of_try, loop_outline as outline_of_loop, branch_outline as outline_of_branch, statement_outline as outline_of_statement, is_part as is_part_entry};
-ghost use Rattle.spellings.specs.Expressions.{is_past as is_past_entry};
+ghost use Rattle.spellings.specs.Expressions.{is_arrow_form, is_past as is_past_entry, only_if};
 ghost use Rattle.spelling_table.specs.Outlines.{assignment_at, whole_at};
 ghost use Rattle.spelling_table.specs.Productions.{outline_of};
 ghost use Rattle.spellings.specs.Statements.{init_of as init_at_entry};
 ghost use Rattle.spelling_table.specs.declared.production.ForInit.TheVariants;
 
 use crate::dangling::{dangles, has_two_defaults};
-use crate::expressions::kind_at;
+use crate::expressions::{is_arrow_form, kind_at};
 use crate::parts::{PartAt, part_at};
 use language::{Rank, Start};
 use spelling_table::{ForInit, Position, Production, TryClauses, WHOLE, bound};
-use tree::{Flags, Kind, Node};
+use tree::{Flags, Form, Kind, Node};
 
 /// A statement; the flag allows `return`.
 pub(crate) fn statement_production(node: Node, returns: bool) -> Option<Production>
@@ -38,7 +38,7 @@ pub(crate) fn statement_production(node: Node, returns: bool) -> Option<Producti
 
 /// Statements that hold others.
 fn branch_production(node: Node, returns: bool) -> Option<Production>
-    ensures { option_map outline_of result ≡ outline_of_branch returns (kind_of (node_tree node.entry)) (around (parts_of (node_tree node.entry))) }
+    ensures { option_map outline_of result ≡ outline_of_branch returns (kind_of (node_tree node.entry)) (flags_of (node_tree node.entry)) (around (parts_of (node_tree node.entry))) }
 {
     let (first, second) = (part_at(node, 0), part_at(node, 1));
     let (third, fourth) = (part_at(node, 2), part_at(node, 3));
@@ -56,7 +56,7 @@ fn branch_production(node: Node, returns: bool) -> Option<Production>
 
 /// Loops.
 fn loop_production(node: Node, returns: bool) -> Option<Production>
-    ensures { option_map outline_of result ≡ outline_of_loop returns (kind_of (node_tree node.entry)) (around (parts_of (node_tree node.entry))) }
+    ensures { option_map outline_of result ≡ outline_of_loop returns (kind_of (node_tree node.entry)) (flags_of (node_tree node.entry)) (around (parts_of (node_tree node.entry))) }
 {
     let (first, second) = (part_at(node, 0), part_at(node, 1));
     let left = left_at(kind_at(first));
@@ -65,9 +65,19 @@ fn loop_production(node: Node, returns: bool) -> Option<Production>
         Kind::WhileStatement => Some(Production::While { returns }),
         Kind::ForStatement => for_production(returns, first, second, part_at(node, 2)),
         Kind::ForInStatement => each_production(returns, left, false),
-        Kind::ForOfStatement => each_production(returns, left, true),
+        Kind::ForOfStatement => for_of_production(returns, node.flags().form, left),
         _ => None,
     }
+}
+
+/// A for-of, by its form and what stands on its left; none for the forms of other nodes.
+fn for_of_production(returns: bool, form: Form, left: Option<Position>) -> Option<Production>
+    ensures { option_map outline_of result ≡ only_if (is_arrow_form form) (outline_of_each returns left assignment_at) }
+{
+    if !is_arrow_form(form) {
+        return None;
+    }
+    each_production(returns, left, true)
 }
 
 /// A declaration that ends with `;`, where its word may stand.

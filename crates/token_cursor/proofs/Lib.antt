@@ -1,3 +1,4 @@
+pub mod SeenTokens
 pub mod Endings
 pub mod Moves
 pub mod TokensAhead

@@ -145,6 +145,8 @@ no_end NumericLiteral c cs h e = cc
 no_end StringLiteral c cs h e = cc
 no_end Template c cs h e = cc
 no_end LexicalClass.RegularExpressionLiteral c cs h e = cc
+no_end LexicalClass.PrivateName c cs h e = cc
+no_end LexicalClass.Keyword c cs h e = cc
 
 brace_text : encode_utf8_all (codes "}") ≡ codes "}"
 brace_text = ap (λ x. x ++ encode_utf8_all []) (encode_ascii 125 (omega arith))

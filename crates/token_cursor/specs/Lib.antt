@@ -1,3 +1,4 @@
+pub mod SourceText
 pub mod StatementEnds
 pub mod CursorState
 pub mod Seen

@@ -11,7 +11,8 @@ mod semicolon;
 mod token_tests;
 
 pub use cursor::Cursor;
-pub use semicolon::{StatementEnd, goes_on};
+pub use semicolon::{FieldKey, StatementEnd, field_key, goes_on};
 pub use token_tests::{
-    is_declaration_word, is_identifier, is_identifier_name, is_name_token, is_punctuator,
+    begins_key, is_declaration_word, is_identifier, is_identifier_name, is_key_class,
+    is_name_token, is_private_name, is_punctuator,
 };

@@ -4,19 +4,19 @@
 ghost use Rattle.std.specs.Prelude.{◌≡◌, ◌≤◌, false, true, codes, IfOk, IfErr, IfSome, IfNone};
 ghost use Rattle.std.specs.Bool.{OnTrue, OnFalse};
 ghost use Rattle.tokens.specs.Scanned.{token_of};
-ghost use Rattle.tokens.specs.Reading.{any_goal};
 ghost use Rattle.tokens.specs.declared.token.Goal.TheVariants.{RegExp};
 ghost use Rattle.language.specs.Token.{Token as Read, as_read};
-ghost use Rattle.language.specs.Places.{NextIn, itself};
+ghost use Rattle.token_cursor.specs.SourceText.{SeenNext, behind_in};
 ghost use Rattle.language.specs.Derivation.{Reads};
 ghost use Rattle.language.specs.Promises.{ReadBy};
 ghost use Rattle.token_cursor.specs.CursorState.{Passes, IsSyntaxHere};
 ghost use Rattle.token_cursor.specs.Refusals.{IsRefusal};
-ghost use Rattle.token_cursor.specs.Seen.{ReadsHere, Sees, Misses, NameHere, NoName, is_any, is_free_name, declares};
+ghost use Rattle.token_cursor.specs.Seen.{ReadsHere, Sees, Misses, NameHere, NoName, WordHere, NoWord, is_free_name, declares};
 
 use crate::cursor::Cursor;
 use crate::token_tests::{
-    is_declaration_word, is_identifier, is_identifier_name, is_name_token, is_punctuator,
+    is_declaration_word, is_identifier, is_identifier_name, is_keyword, is_name_token,
+    is_punctuator,
 };
 use source_text::Fault;
 use tokens::{Goal, Token, TokenClass};
@@ -64,9 +64,10 @@ impl<'t, 's> Cursor<'t, 's> {
     }
 
     /// Whether `=>` stands ahead on the same line (14.2).
+    #[inline(always)]
     pub fn sees_arrow(&self) -> bool
         ensures seen { OnTrue result ((t : Read) × (ReadsHere self.now.text TokenClass.Punctuator (codes "=>") self.now.last t) × (t.after_break ≡ false)) }
-        ensures missed { OnFalse result ((t e : Read) → Reads Read (NextIn self.now.text any_goal) itself TokenClass.Punctuator (codes "=>") self.now.last t e → t.after_break ≡ true) }
+        ensures missed { OnFalse result ((t e : Read) → Reads Read (SeenNext self.now.text) (behind_in self.now.text) TokenClass.Punctuator (codes "=>") self.now.last t e → t.after_break ≡ true) }
     {
         match self.peek(Goal::Div) {
             Some(token) => is_punctuator(&token, "=>") && !token.after_break,
@@ -76,8 +77,8 @@ impl<'t, 's> Cursor<'t, 's> {
 
     /// Whether a line break stands before what is ahead.
     pub fn sees_line_break(&self) -> bool
-        ensures seen { OnTrue result ((t e : Read) → NextIn self.now.text any_goal self.now.last t e → t.after_break ≡ true) }
-        ensures missed { OnFalse result ((t e : Read) → ReadBy Read (NextIn self.now.text any_goal) itself RegExp self.now.last t e → t.after_break ≡ false) }
+        ensures seen { OnTrue result ((t e : Read) → SeenNext self.now.text self.now.last t e → t.after_break ≡ true) }
+        ensures missed { OnFalse result ((t e : Read) → ReadBy Read (SeenNext self.now.text) (behind_in self.now.text) RegExp self.now.last t e → t.after_break ≡ false) }
     {
         match self.peek(Goal::RegExp) {
             Some(token) => token.after_break,
@@ -105,6 +106,7 @@ impl<'t, 's> Cursor<'t, 's> {
     }
 
     /// Goes past this name where it stands ahead.
+    #[inline(always)]
     pub fn accept_word(&mut self, word: &str) -> bool
         ensures text { self.new.text ≡ self.old.text }
         ensures forward { self.old.last.stop ≤ self.new.last.stop }
@@ -117,6 +119,36 @@ impl<'t, 's> Cursor<'t, 's> {
             return false;
         };
         if !is_name_token(&token, word) {
+            return false;
+        }
+        self.advance(token);
+        true
+    }
+
+    /// Whether the keyword `await` stands ahead: in texts of ECMAScript 2022.
+    pub fn sees_await(&self) -> bool
+        ensures seen { OnTrue result (Sees self.now.text TokenClass.Keyword (codes "await") self.now.last) }
+        ensures missed { OnFalse result (Misses self.now.text TokenClass.Keyword (codes "await") self.now.last) }
+    {
+        match self.peek(Goal::Div) {
+            Some(token) => is_keyword(&token),
+            None => false,
+        }
+    }
+
+    /// Goes past the keyword `await` where it stands ahead: in texts of ECMAScript 2022.
+    pub fn accept_await(&mut self) -> bool
+        ensures text { self.new.text ≡ self.old.text }
+        ensures forward { self.old.last.stop ≤ self.new.last.stop }
+        ensures passes { OnTrue result (Passes self.old self.new) }
+        ensures same_open { self.new.opened ≡ self.old.opened }
+        ensures accepted { OnTrue result (ReadsHere self.old.text TokenClass.Keyword (codes "await") self.old.last self.new.last) }
+        ensures missed { OnFalse result (Misses self.old.text TokenClass.Keyword (codes "await") self.old.last × (self.new.last ≡ self.old.last)) }
+    {
+        let Some(token) = self.peek(Goal::Div) else {
+            return false;
+        };
+        if !is_keyword(&token) {
             return false;
         }
         self.advance(token);
@@ -173,8 +205,8 @@ impl<'t, 's> Cursor<'t, 's> {
         ensures passes { IfOk result (λ _. Passes self.old self.new) }
         ensures refused { IfErr result (IsRefusal self.new.text) }
         ensures same_open { self.new.opened ≡ self.old.opened }
-        ensures accepted { IfOk result (λ token. NameHere self.old.text is_any self.old.last self.new.last × (self.new.last ≡ as_read (token_of token))) }
-        ensures missed { IfErr result (λ _. NoName self.old.text is_any self.old.last × (self.new.last ≡ self.old.last)) }
+        ensures accepted { IfOk result (λ token. WordHere self.old.text self.old.last self.new.last × (behind_in self.old.text self.new.last ≡ as_read (token_of token))) }
+        ensures missed { IfErr result (λ _. NoWord self.old.text self.old.last × (self.new.last ≡ self.old.last)) }
         ensures here { IfErr result (IsSyntaxHere self.new) }
     {
         let Some(token) = self.peek(Goal::Div) else {
@@ -191,6 +223,7 @@ impl<'t, 's> Cursor<'t, 's> {
     ///
     /// # Errors
     /// `Syntax` where none stands ahead; then the cursor stays as it was.
+    #[inline(always)]
     pub fn expect_identifier(&mut self) -> Result<Token<'s>, Fault>
         ensures text { self.new.text ≡ self.old.text }
         ensures forward { self.old.last.stop ≤ self.new.last.stop }

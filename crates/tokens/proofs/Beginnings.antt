@@ -4,7 +4,7 @@ use Rattle.std.proofs.lemmas.Bool.Decides.{nat_tests}
 use Rattle.source_text.specs.Lines.{is_line_terminator}
 use Rattle.tokens.specs.Alphabet.{begins_with, is_white_space}
 use Rattle.tokens.specs.Comments.{begins_comment, is_comment, Separators, nothing, blank, comment}
-use Rattle.tokens.specs.Lexical.{LexicalClass, IdentifierName, Punctuator, NumericLiteral, StringLiteral, Template, RegularExpressionLiteral, End, is_token}
+use Rattle.tokens.specs.Lexical.{LexicalClass, IdentifierName, Punctuator, NumericLiteral, StringLiteral, Template, RegularExpressionLiteral, PrivateName, Keyword, End, is_token}
 use Rattle.tokens.specs.Goals.{Goal, allows}
 use Rattle.tokens.specs.Tokens.{LexicalToken, IsTokenAt}
 
@@ -53,7 +53,7 @@ is_read goal class word rest = not (begins_comment (word ++ rest)) && is_token c
 abbrev pub none_fronts : Goal → List ℕ → Bool
 none_fronts goal cs =
     let has : LexicalClass → Bool = λ class. has_front (is_read goal class) [] cs in
-    not (has IdentifierName) && not (has Punctuator) && not (has NumericLiteral) && not (has StringLiteral) && not (has Template) && not (has RegularExpressionLiteral) && not (has End)
+    not (has IdentifierName) && not (has Punctuator) && not (has NumericLiteral) && not (has StringLiteral) && not (has Template) && not (has RegularExpressionLiteral) && not (has PrivateName) && not (has Keyword) && not (has End)
 
 pub of_each : (goal : Goal) (cs : List ℕ) → IsTrue (none_fronts goal cs) → (class : LexicalClass) → IsFalse (has_front (is_read goal class) [] cs)
 of_each goal cs h IdentifierName = grind (arith, nat_tests)
@@ -62,6 +62,8 @@ of_each goal cs h NumericLiteral = grind (arith, nat_tests)
 of_each goal cs h StringLiteral = grind (arith, nat_tests)
 of_each goal cs h Template = grind (arith, nat_tests)
 of_each goal cs h RegularExpressionLiteral = grind (arith, nat_tests)
+of_each goal cs h PrivateName = grind (arith, nat_tests)
+of_each goal cs h Keyword = grind (arith, nat_tests)
 of_each goal cs h End = grind (arith, nat_tests)
 
 pub all_three : (a b c : Bool) → IsTrue a → IsTrue b → IsTrue c → IsTrue (a && b && c)

@@ -8,7 +8,7 @@ use Rattle.std.proofs.lemmas.Bool.{cases_lt, cases_Bool, eqb-true}
 use Rattle.std.proofs.lemmas.Bool.Decides.{nat_tests}
 use Rattle.unicode_ident.proofs.IdentLemmas.{is_xid_start-ascii}
 use Rattle.tokens.specs.Alphabet.{one_of, is_empty, begins_with, is_identifier_start, is_decimal_digit}
-use Rattle.tokens.specs.Lexical.{LexicalClass, IdentifierName, Punctuator, NumericLiteral, StringLiteral, Template, End, is_one_of_words, punctuators, is_of, may_stand, none_longer, ends_well, is_token}
+use Rattle.tokens.specs.Lexical.{LexicalClass, IdentifierName, Punctuator, NumericLiteral, StringLiteral, Template, PrivateName, Keyword, End, is_name, is_one_of_words, punctuators, is_of, may_stand, none_longer, ends_well, is_token}
 use Rattle.tokens.specs.Numbers.{zero_read, integer, leading_point, fraction, no_numeral, numeral_after, is_complete, is_number}
 use Rattle.tokens.specs.Alphabet.{is_non_zero_digit, is_identifier_part}
 use Rattle.tokens.specs.Strings.{closes_string}
@@ -21,7 +21,7 @@ use Rattle.tokens.proofs.Beginnings.{true_false}
 
 -- a character of an identifier's start is none with which a token of another class begins
 abbrev pub is_special : ℕ → Bool
-is_special c = is_decimal_digit c || one_of "'\"" c || one_of "`" c || one_of "}" c || one_of "/" c || one_of "." c || is_mark c
+is_special c = is_decimal_digit c || one_of "'\"" c || one_of "`" c || one_of "}" c || one_of "/" c || one_of "." c || one_of "#" c || is_mark c
 
 pub start_plain : (c : ℕ) → IsTrue (is_identifier_start c) → IsFalse (is_special c)
 start_plain c h =
@@ -64,38 +64,40 @@ words_all (w ∷ ws) test text h k =
 
 -- ---- each class begins as `class_of` says
 
-none_of : (a b d e f g h : Bool) (r t m : LexicalClass) → IsFalse (a || b || d || e || f || g || h) →
-    IdentifierName ≡ (if a then NumericLiteral else if b then StringLiteral else if d then Template else if e then t else if f then r else if g then m else if h then Punctuator else IdentifierName)
-none_of false false false false false false false r t m k = refl
-none_of false false false false false false true r t m k = absurd (true_false _ refl k)
-none_of false false false false false true h r t m k = absurd (true_false _ refl k)
-none_of false false false false true g h r t m k = absurd (true_false _ refl k)
-none_of false false false true f g h r t m k = absurd (true_false _ refl k)
-none_of false false true e f g h r t m k = absurd (true_false _ refl k)
-none_of false true d e f g h r t m k = absurd (true_false _ refl k)
-none_of true b d e f g h r t m k = absurd (true_false _ refl k)
+none_of : (a b d e f g n h : Bool) (r t m : LexicalClass) → IsFalse (a || b || d || e || f || g || n || h) →
+    IdentifierName ≡ (if a then NumericLiteral else if b then StringLiteral else if d then Template else if e then t else if f then r else if g then m else if n then PrivateName else if h then Punctuator else IdentifierName)
+none_of false false false false false false false false r t m k = refl
+none_of false false false false false false false true r t m k = absurd (true_false _ refl k)
+none_of false false false false false false true h r t m k = absurd (true_false _ refl k)
+none_of false false false false false true n h r t m k = absurd (true_false _ refl k)
+none_of false false false false true g n h r t m k = absurd (true_false _ refl k)
+none_of false false false true f g n h r t m k = absurd (true_false _ refl k)
+none_of false false true e f g n h r t m k = absurd (true_false _ refl k)
+none_of false true d e f g n h r t m k = absurd (true_false _ refl k)
+none_of true b d e f g n h r t m k = absurd (true_false _ refl k)
 
-mark_of : (a b d e f g h : Bool) (r t m z : LexicalClass) → IsFalse (a || b || d || e || f || g) → IsTrue h →
-    Punctuator ≡ (if a then NumericLiteral else if b then StringLiteral else if d then Template else if e then t else if f then r else if g then m else if h then Punctuator else z)
-mark_of false false false false false false true r t m z k l = refl
-mark_of false false false false false false false r t m z k l = absurd (true_false _ l refl)
-mark_of false false false false false true h r t m z k l = absurd (true_false _ refl k)
-mark_of false false false false true g h r t m z k l = absurd (true_false _ refl k)
-mark_of false false false true f g h r t m z k l = absurd (true_false _ refl k)
-mark_of false false true e f g h r t m z k l = absurd (true_false _ refl k)
-mark_of false true d e f g h r t m z k l = absurd (true_false _ refl k)
-mark_of true b d e f g h r t m z k l = absurd (true_false _ refl k)
+mark_of : (a b d e f g n h : Bool) (r t m z : LexicalClass) → IsFalse (a || b || d || e || f || g || n) → IsTrue h →
+    Punctuator ≡ (if a then NumericLiteral else if b then StringLiteral else if d then Template else if e then t else if f then r else if g then m else if n then PrivateName else if h then Punctuator else z)
+mark_of false false false false false false false true r t m z k l = refl
+mark_of false false false false false false false false r t m z k l = absurd (true_false _ l refl)
+mark_of false false false false false false true h r t m z k l = absurd (true_false _ refl k)
+mark_of false false false false false true n h r t m z k l = absurd (true_false _ refl k)
+mark_of false false false false true g n h r t m z k l = absurd (true_false _ refl k)
+mark_of false false false true f g n h r t m z k l = absurd (true_false _ refl k)
+mark_of false false true e f g n h r t m z k l = absurd (true_false _ refl k)
+mark_of false true d e f g n h r t m z k l = absurd (true_false _ refl k)
+mark_of true b d e f g n h r t m z k l = absurd (true_false _ refl k)
 
 name_class : (goal : Goal) (c : ℕ) (cs : List ℕ) → IsTrue (is_identifier_start c) → IdentifierName ≡ class_of goal (c ∷ cs)
 name_class goal c cs h =
-    none_of (is_decimal_digit c) (one_of "'\"" c) (one_of "`" c) (one_of "}" c) (one_of "/" c) (one_of "." c) (is_mark c)
+    none_of (is_decimal_digit c) (one_of "'\"" c) (one_of "`" c) (one_of "}" c) (one_of "/" c) (one_of "." c) (one_of "#" c) (is_mark c)
     (if reads_regexps goal then LexicalClass.RegularExpressionLiteral else Punctuator) (if reads_template_parts goal then Template else Punctuator) (if begins_with is_decimal_digit cs then NumericLiteral else Punctuator) (start_plain c h)
 
 mark_class : (goal : Goal) (c : ℕ) (cs : List ℕ) → IsTrue (is_mark c) → Punctuator ≡ class_of goal (c ∷ cs)
 mark_class goal c cs h =
-    mark_of (is_decimal_digit c) (one_of "'\"" c) (one_of "`" c) (one_of "}" c) (one_of "/" c) (one_of "." c) (is_mark c)
+    mark_of (is_decimal_digit c) (one_of "'\"" c) (one_of "`" c) (one_of "}" c) (one_of "/" c) (one_of "." c) (one_of "#" c) (is_mark c)
     (if reads_regexps goal then LexicalClass.RegularExpressionLiteral else Punctuator) (if reads_template_parts goal then Template else Punctuator) (if begins_with is_decimal_digit cs then NumericLiteral else Punctuator) IdentifierName (others c h) h where
-      others : (c : ℕ) → IsTrue (is_mark c) → IsFalse (is_decimal_digit c || one_of "'\"" c || one_of "`" c || one_of "}" c || one_of "/" c || one_of "." c)
+      others : (c : ℕ) → IsTrue (is_mark c) → IsFalse (is_decimal_digit c || one_of "'\"" c || one_of "`" c || one_of "}" c || one_of "/" c || one_of "." c || one_of "#" c)
       others c h = grind (arith, nat_tests)
 
 pub dead_stays : (cs : List ℕ) → numeral_after no_numeral cs ≡ no_numeral
@@ -183,6 +185,9 @@ regexp_class goal c cs word h k =
       by_goal Goal.RegExp k = refl
       by_goal TemplateTail k = absurd (true_false _ k refl)
 
+private_class : (goal : Goal) (c : ℕ) (cs : List ℕ) → IsTrue (one_of "#" c) → PrivateName ≡ class_of goal (c ∷ cs)
+private_class goal c cs h = subst (λ x. PrivateName ≡ class_of goal (x ∷ cs)) (sym (eqb-true c 35 h)) refl
+
 -- the words of punctuators that don't begin with a mark
 abbrev pub starts_as_punctuator : List ℕ → Bool
 starts_as_punctuator w = begins_with is_mark w || begins_with (one_of "}/") w || bytes_eq w (codes ".") || bytes_eq w (codes "...")
@@ -263,5 +268,8 @@ class_fits goal class word rest h k = by_class class word rest (token_is class w
   by_class Template (c ∷ cs) rest h m k = template_class goal c (cs ++ rest) cs (first_true (one_of "`}" c) (closes_template false cs) h) k
   by_class LexicalClass.RegularExpressionLiteral [] rest h m k = absurd (true_false _ h refl)
   by_class LexicalClass.RegularExpressionLiteral (c ∷ cs) rest h m k = regexp_class goal c (cs ++ rest) cs (first_true (one_of "/" c) (has_flags (expression_after opened cs)) h) k
+  by_class PrivateName [] rest h m k = absurd (true_false _ h refl)
+  by_class PrivateName (c ∷ cs) rest h m k = private_class goal c (cs ++ rest) (first_true (one_of "#" c) (is_name cs) h)
+  by_class Keyword word rest h m k = absurd (true_false _ h refl)
   by_class End [] rest h m k = ended rest m
   by_class End (c ∷ cs) rest h m k = absurd (true_false _ h refl)

@@ -8,7 +8,7 @@ use Rattle.std.specs.List.{list_any}
 use Rattle.std.specs.Str.{bytes_eq}
 use Rattle.tokens.specs.Alphabet.{one_of, begins_with, is_identifier_start, is_decimal_digit}
 use Rattle.tokens.specs.Numbers.{Numeral, unread, next_numeral, numeral_after, is_complete, no_numeral}
-use Rattle.tokens.specs.Lexical.{LexicalClass, IdentifierName, Punctuator, NumericLiteral, StringLiteral, Template, RegularExpressionLiteral, End, is_one_of_words, is_at, none_longer, ends_well, is_token}
+use Rattle.tokens.specs.Lexical.{LexicalClass, IdentifierName, Punctuator, NumericLiteral, StringLiteral, Template, RegularExpressionLiteral, PrivateName, Keyword, End, is_one_of_words, is_at, none_longer, ends_well, is_token}
 use Rattle.tokens.specs.States.{is_dead}
 use Rattle.tokens.specs.Earlier.{is_new, earlier_is_at, earlier_none_longer, earlier_is_token}
 use Rattle.tokens.proofs.Beginnings.{true_false}
@@ -166,6 +166,11 @@ punctuator_stays word rest h m = stays Punctuator word rest h goes_on
 nothing_new : (class : LexicalClass) (word rest : List ℕ) → IsTrue (earlier_is_token class word rest) → ((v : List ℕ) → is_new class v ≡ false) → IsTrue (is_token class word rest)
 nothing_new class word rest h none = stays class word rest h (λ c more behind e k l. true_false _ l (none (word ++ c ∷ more)))
 
+-- all of a class is new
+all_new : (a n e : Bool) → IsTrue (((a && false) && n) && e) → ⊥
+all_new true n e h = true_false _ h refl
+all_new false n e h = true_false _ h refl
+
 pub earlier_stays : (class : LexicalClass) (word rest : List ℕ) → IsTrue (earlier_is_token class word rest) → meets_equals class word rest ≡ false → IsTrue (is_token class word rest)
 earlier_stays Punctuator word rest h m = punctuator_stays word rest h m
 earlier_stays NumericLiteral word rest h m = number_stays word rest h
@@ -173,4 +178,6 @@ earlier_stays IdentifierName word rest h m = nothing_new IdentifierName word res
 earlier_stays StringLiteral word rest h m = nothing_new StringLiteral word rest h (λ v. refl)
 earlier_stays Template word rest h m = nothing_new Template word rest h (λ v. refl)
 earlier_stays RegularExpressionLiteral word rest h m = nothing_new RegularExpressionLiteral word rest h (λ v. refl)
+earlier_stays PrivateName word rest h m = absurd (all_new (is_at PrivateName word rest) (earlier_none_longer PrivateName word rest) (ends_well PrivateName rest) h)
+earlier_stays Keyword word rest h m = absurd (all_new (is_at Keyword word rest) (earlier_none_longer Keyword word rest) (ends_well Keyword rest) h)
 earlier_stays End word rest h m = nothing_new End word rest h (λ v. refl)

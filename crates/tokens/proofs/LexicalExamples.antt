@@ -4,7 +4,7 @@ use Rattle.std.specs.List.{list_all, list_any}
 use Prim.Native.String.{String}
 use Rattle.unicode_ident.proofs.Computing.{unicode_ident}
 use Rattle.tokens.specs.Alphabet.{is_white_space}
-use Rattle.tokens.specs.Comments.{is_comment}
+use Rattle.tokens.specs.Comments.{is_comment, hashbang}
 use Rattle.tokens.specs.Numbers.{is_number}
 use Rattle.tokens.specs.Strings.{is_string, string_units}
 use Rattle.tokens.specs.Templates.{is_template, raw_value, cooked_value}
@@ -56,6 +56,13 @@ punctuators = refl
 
 no_punctuators : none_are is_punctuator ("" ∷ ".." ∷ "&&==" ∷ "|||=" ∷ "?=" ∷ "?.=" ∷ "<!--" ∷ "=>>" ∷ "//" ∷ "/*" ∷ "#" ∷ "@" ∷ "a" ∷ "\\" ∷ "?.." ∷ "<>" ∷ []) ≡ true
 no_punctuators = refl
+
+-- the line of `#!`, at the beginning alone
+lines_of_hashbang : (hashbang (codes "#!a b\n#!c") ≡ codes "#!a b") × (hashbang (codes "#!\r") ≡ codes "#!") × (hashbang (codes "#!") ≡ codes "#!")
+lines_of_hashbang = (refl, refl, refl)
+
+no_hashbang : (hashbang (codes " #!a") ≡ []) × (hashbang (codes "# !a") ≡ []) × (hashbang (codes "#") ≡ []) × (hashbang (codes "!#a") ≡ []) × (hashbang [] ≡ [])
+no_hashbang = (refl, refl, refl, refl, refl)
 
 -- earlier tokens: what follows each is the second text
 earlier_ones : earlier_is_token Punctuator (codes "&&") (codes "=b") && earlier_is_token Punctuator (codes "??") (codes "=") && earlier_is_token NumericLiteral (codes "10") (codes ";")

@@ -5,6 +5,8 @@ pub mod Longest
 pub mod PassedCharacters
 pub mod TriviaSteps
 pub mod Names
+pub mod PrivateNames
+pub mod Hashbangs
 pub mod Sets
 pub mod Classes
 pub mod TokenUniqueness

@@ -8,7 +8,7 @@ use Rattle.std.proofs.lemmas.List.{append_cancel_left}
 use Rattle.source_text.specs.Source.{IsPlace}
 use Rattle.tokens.specs.Alphabet.{one_of, begins_with, is_decimal_digit}
 use Rattle.tokens.specs.Comments.{begins_comment, Separators}
-use Rattle.tokens.specs.Lexical.{LexicalClass, IdentifierName, Punctuator, NumericLiteral, StringLiteral, Template, End, is_of, is_token}
+use Rattle.tokens.specs.Lexical.{LexicalClass, IdentifierName, Punctuator, NumericLiteral, StringLiteral, Template, PrivateName, Keyword, End, is_of, is_token}
 use Rattle.tokens.specs.Goals.{Goal, Div, TemplateTail, allows, reads_regexps, reads_template_parts}
 use Rattle.tokens.specs.Strings.{is_string}
 use Rattle.tokens.specs.TokenStarts.{class_by, class_of, is_mark}
@@ -33,7 +33,7 @@ class_at_point goal c cs d e = by_point (c == 46) refl e where
       if is_decimal_digit c then NumericLiteral else if one_of "'\"" c then StringLiteral else if one_of "`" c then Template
       else if one_of "}" c then (if reads_template_parts goal then Template else Punctuator)
       else if one_of "/" c then (if reads_regexps goal then LexicalClass.RegularExpressionLiteral else Punctuator)
-      else if t then (if x then NumericLiteral else Punctuator) else if is_mark c then Punctuator else IdentifierName in
+      else if t then (if x then NumericLiteral else Punctuator) else if one_of "#" c then PrivateName else if is_mark c then Punctuator else IdentifierName in
       ap (λ t. Z t d) f ∙ sym (ap (λ t. Z t (begins_with is_decimal_digit cs)) f)
 
 -- the end is a word of its class where nothing stands behind
@@ -43,7 +43,7 @@ end_word text at p e = record { word = []; passed = passed_none text at p; longe
 -- the class of no character is End
 pub class_not_end : (goal : Goal) (c : ℕ) (digit : Bool) → class_by goal c digit ≡ End → ⊥
 class_not_end goal c digit e =
-    never (is_decimal_digit c) (one_of "'\"" c) (one_of "`" c) (one_of "}" c) (one_of "/" c) (one_of "." c) (is_mark c) (reads_template_parts goal) (reads_regexps goal) digit e where
+    never (is_decimal_digit c) (one_of "'\"" c) (one_of "`" c) (one_of "}" c) (one_of "/" c) (one_of "." c) (one_of "#" c) (is_mark c) (reads_template_parts goal) (reads_regexps goal) digit e where
       pick : (t : Bool) (x y : LexicalClass) → (x ≡ End → ⊥) → (y ≡ End → ⊥) → (if t then x else y) ≡ End → ⊥
       pick true x y f g e = f e
       pick false x y f g e = g e
@@ -60,17 +60,20 @@ class_not_end goal c digit e =
       regexp_no : LexicalClass.RegularExpressionLiteral ≡ End → ⊥
       regexp_no e = cc
 
+      private_no : PrivateName ≡ End → ⊥
+      private_no e = cc
+
       punctuator_no : Punctuator ≡ End → ⊥
       punctuator_no e = cc
 
       name_no : IdentifierName ≡ End → ⊥
       name_no e = cc
 
-      never : (a b d e f g h t r p : Bool) → (if a then NumericLiteral else if b then StringLiteral else if d then Template else if e then (if t then Template else Punctuator) else if f then (if r then LexicalClass.RegularExpressionLiteral else Punctuator)
-          else if g then (if p then NumericLiteral else Punctuator) else if h then Punctuator else IdentifierName) ≡ End → ⊥
-      never a b d e f g h t r p =
+      never : (a b d e f g n h t r p : Bool) → (if a then NumericLiteral else if b then StringLiteral else if d then Template else if e then (if t then Template else Punctuator) else if f then (if r then LexicalClass.RegularExpressionLiteral else Punctuator)
+          else if g then (if p then NumericLiteral else Punctuator) else if n then PrivateName else if h then Punctuator else IdentifierName) ≡ End → ⊥
+      never a b d e f g n h t r p =
           pick a _ _ number_no (pick b _ _ text_no (pick d _ _ template_no (pick e _ _ (pick t _ _ template_no punctuator_no) (pick f _ _ (pick r _ _ regexp_no punctuator_no)
-          (pick g _ _ (pick p _ _ number_no punctuator_no) (pick h _ _ punctuator_no name_no))))))
+          (pick g _ _ (pick p _ _ number_no punctuator_no) (pick n _ _ private_no (pick h _ _ punctuator_no name_no)))))))
 
 -- where the class is that of the first character, the goal allows the word
 pub allowed : (goal : Goal) (class : LexicalClass) (word rest : List ℕ) → class ≡ class_of goal (word ++ rest) → IsTrue (is_token class word rest) → IsTrue (allows goal class word)
@@ -166,6 +169,8 @@ word_forward class text at stop w ne = by_word w.word (token_is class w.word (be
     empty StringLiteral ne h = true_false _ h refl
     empty Template ne h = true_false _ h refl
     empty LexicalClass.RegularExpressionLiteral ne h = true_false _ h refl
+    empty PrivateName ne h = true_false _ h refl
+    empty Keyword ne h = true_false _ h refl
     empty End ne h = ne refl
   by_word (c ∷ cs) h e =
       let s = size_append (c ∷ []) cs in

@@ -6,7 +6,7 @@ use Prim.Native.String.{String}
 use Rattle.unicode_ident.proofs.Computing.{unicode_ident}
 use Rattle.source_text.specs.Lines.{is_line_terminator}
 use Rattle.tokens.specs.Comments.{begins_comment, Separators, nothing, blank, comment}
-use Rattle.tokens.specs.Lexical.{LexicalClass, IdentifierName, Punctuator, NumericLiteral, StringLiteral, Template, RegularExpressionLiteral, End, is_token}
+use Rattle.tokens.specs.Lexical.{LexicalClass, IdentifierName, Punctuator, NumericLiteral, StringLiteral, Template, RegularExpressionLiteral, PrivateName, Keyword, End, is_token}
 use Rattle.tokens.specs.Goals.{Goal, Div, TemplateTail, allows}
 use Rattle.tokens.proofs.Beginnings.{none_begins, none_fronts, has_separator}
 use Rattle.tokens.specs.Tokens.{LexicalToken, IsTokenAt, IsReading, more, last, size}
@@ -79,7 +79,7 @@ unfolding unicode_ident
 no_string token rest = none_begins Div 0 (codes "'\\08'") token rest refl refl
 
 refused : refuses "3in" && refuses "010" && refuses "08" && refuses "\\u0061" && refuses "'\\08'" && refuses "1.a" && refuses "1_" && refuses "1__0" && refuses "0_1" && refuses "0x_F" && refuses "1_.5" && refuses "1._5" && refuses "1e_5" && refuses "0x1nin" && refuses "0b12" && refuses "1e" && refuses "1n1" && refuses ".5a"
-    && refuses "'abc" && refuses "`abc" && refuses "#" && refuses "@a" && refuses "/*" && refuses "/* a" && refuses "/*/" && refuses "²" ≡ true
+    && refuses "'abc" && refuses "`abc" && refuses "#" && refuses "# a" && refuses "#1" && refuses "##a" && refuses "@a" && refuses "/*" && refuses "/* a" && refuses "/*/" && refuses "²" ≡ true
 unfolding unicode_ident
 refused = refl
 
@@ -99,6 +99,14 @@ shorter_ones : reads Div Punctuator ">>" ">=" || reads Div Punctuator "&&" "=" |
     || reads Div Punctuator "/" "/a" || reads Div RegularExpressionLiteral "/a/" "" || reads Goal.RegExp Punctuator "/" "a/" || reads Goal.RegExp Punctuator "/=" "a/" || reads TemplateTail Punctuator "}" "`" || reads Div Template "}`" "" ≡ false
 unfolding unicode_ident
 shorter_ones = refl
+
+private_names : reads Div PrivateName "#a" ".b" && reads Goal.RegExp PrivateName "#if" "" && reads TemplateTail PrivateName "#a1" " in" && reads Div PrivateName "#a" "#b" ≡ true
+unfolding unicode_ident
+private_names = refl
+
+no_private_names : reads Div PrivateName "#a" "b" || reads Div PrivateName "#" "a" || reads Div Punctuator "#" "a" || reads Div Keyword "await" "" ≡ false
+unfolding unicode_ident
+no_private_names = refl
 
 -- whole texts, the last one with a choice of two readings
 abbrev plain : LexicalClass → String → ℕ → ℕ → LexicalToken

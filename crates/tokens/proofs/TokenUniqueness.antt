@@ -12,7 +12,7 @@ use Rattle.unicode_ident.proofs.IdentLemmas.{is_xid_start-ascii}
 use Rattle.source_text.specs.Lines.{is_line_terminator}
 use Rattle.tokens.specs.Alphabet.{one_of, is_among, is_empty, begins_with, is_identifier_start, is_identifier_part, is_decimal_digit}
 use Rattle.tokens.specs.Comments.{begins_comment, closes_comment, is_comment, Separators, nothing, blank, comment}
-use Rattle.tokens.specs.Lexical.{LexicalClass, IdentifierName, Punctuator, NumericLiteral, StringLiteral, Template, End, punctuators, is_of, may_stand, is_at, none_longer, ends_well, is_token}
+use Rattle.tokens.specs.Lexical.{LexicalClass, IdentifierName, Punctuator, NumericLiteral, StringLiteral, Template, PrivateName, Keyword, End, is_name, punctuators, is_of, may_stand, is_at, none_longer, ends_well, is_token}
 use Rattle.tokens.specs.Strings.{closes_string}
 use Rattle.tokens.specs.Templates.{closes_template}
 use Rattle.tokens.specs.RegularExpressions.{opened, expression_after, has_flags}
@@ -135,6 +135,9 @@ token_begins class c cs h = by_class class h where
   slash : (c : ℕ) → IsTrue (one_of "/" c) → IsTrue (is_special c)
   slash c h = grind (arith, nat_tests)
 
+  hash : (c : ℕ) → IsTrue (one_of "#" c) → IsTrue (is_special c)
+  hash c h = grind (arith, nat_tests)
+
   by_class : (class : LexicalClass) → IsTrue (is_of class (c ∷ cs)) → IsFalse (is_blank c)
   by_class IdentifierName h = start (is_blank c) (first_true (is_identifier_start c) (list_all is_identifier_part cs) h) refl
   by_class Punctuator h = special_no_blank c (words_all punctuators (begins_with is_special) (c ∷ cs) refl h)
@@ -142,6 +145,8 @@ token_begins class c cs h = by_class class h where
   by_class StringLiteral h = special_no_blank c (quote c (first_true (one_of "'\"" c) (closes_string c 0 cs) h))
   by_class Template h = special_no_blank c (accent c (first_true (one_of "`}" c) (closes_template false cs) h))
   by_class LexicalClass.RegularExpressionLiteral h = special_no_blank c (slash c (first_true (one_of "/" c) (has_flags (expression_after opened cs)) h))
+  by_class PrivateName h = special_no_blank c (hash c (first_true (one_of "#" c) (is_name cs) h))
+  by_class Keyword h = absurd (true_false _ h refl)
   by_class End h = absurd (true_false _ h refl)
 
 -- ---- comments
@@ -232,6 +237,8 @@ token_solid class word rest h k =
       no_blank StringLiteral [] rest h m = absurd (true_false _ h refl)
       no_blank Template [] rest h m = absurd (true_false _ h refl)
       no_blank LexicalClass.RegularExpressionLiteral [] rest h m = absurd (true_false _ h refl)
+      no_blank PrivateName [] rest h m = absurd (true_false _ h refl)
+      no_blank Keyword [] rest h m = absurd (true_false _ h refl)
 
 slash_no_blank : (c : ℕ) → c ≡ 0x2F → IsTrue (is_blank c) → ⊥
 slash_no_blank c e h = true_false _ (subst (λ x. IsTrue (is_blank x)) e h) refl

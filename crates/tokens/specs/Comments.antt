@@ -1,5 +1,5 @@
 -- Comments, and all that may stand between tokens (ECMA-262 11.2 to 11.4).
-use Rattle.std.specs.Prelude.{◌≡◌, ℕ, Bool, false, not, ◌&&◌, ◌||◌, List, [], ◌∷◌, ◌++◌, IsTrue}
+use Rattle.std.specs.Prelude.{◌≡◌, ℕ, Bool, false, not, cond, ◌&&◌, ◌||◌, List, [], ◌∷◌, ◌++◌, IsTrue}
 use Rattle.std.specs.List.{list_any}
 use Rattle.source_text.specs.Lines.{is_line_terminator}
 use Rattle.tokens.specs.Alphabet.{one_of, begins_with, is_empty, is_white_space}
@@ -31,6 +31,16 @@ is_block_comment (c ∷ d ∷ cs) = one_of "/" c && one_of "*" d && closes_comme
 -- a comment, where `rest` follows it
 abbrev pub is_comment : List ℕ → List ℕ → Bool
 is_comment body rest = is_line_comment body rest || is_block_comment body
+
+-- what stands before the first line terminator
+abbrev pub first_line : List ℕ → List ℕ
+first_line [] = []
+first_line (c ∷ cs) = cond (is_line_terminator c) [] (c ∷ first_line cs)
+
+-- Hashbang (12.5 of the 14th edition): the first line of a text that begins with `#!`, else nothing
+abbrev pub hashbang : List ℕ → List ℕ
+hashbang (c ∷ d ∷ cs) = cond (one_of "#" c && one_of "!" d) (c ∷ d ∷ first_line cs) []
+hashbang _ = []
 
 -- nothing but white space, line terminators and comments, where `rest` follows
 pub data Separators : List ℕ → List ℕ → Type 0 where

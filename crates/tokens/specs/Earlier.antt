@@ -5,7 +5,7 @@ use Rattle.std.specs.List.{list_any}
 use Rattle.source_text.specs.Lines.{is_line_terminator}
 use Rattle.tokens.specs.Alphabet.{one_of}
 use Rattle.tokens.specs.Comments.{begins_comment, Separators}
-use Rattle.tokens.specs.Lexical.{LexicalClass, IdentifierName, Punctuator, NumericLiteral, StringLiteral, Template, RegularExpressionLiteral, End, is_one_of_words, is_at, ends_well}
+use Rattle.tokens.specs.Lexical.{LexicalClass, IdentifierName, Punctuator, NumericLiteral, StringLiteral, Template, RegularExpressionLiteral, PrivateName, Keyword, End, is_one_of_words, is_at, ends_well}
 use Rattle.tokens.specs.Goals.{Goal, allows}
 use Rattle.tokens.specs.Tokens.{LexicalToken, size}
 use Rattle.tokens.specs.Reading.{behind}
@@ -13,7 +13,7 @@ use Rattle.tokens.specs.Reading.{behind}
 abbrev pub new_punctuators : List String
 new_punctuators = "&&=" ∷ "||=" ∷ "??=" ∷ []
 
--- what the 12th edition added to a class
+-- what later editions added to a class
 abbrev pub is_new : LexicalClass → List ℕ → Bool
 is_new Punctuator text = is_one_of_words new_punctuators text
 is_new NumericLiteral text = list_any (one_of "_") text
@@ -21,6 +21,8 @@ is_new IdentifierName text = false
 is_new StringLiteral text = false
 is_new Template text = false
 is_new RegularExpressionLiteral text = false
+is_new PrivateName text = true
+is_new Keyword text = true
 is_new End text = false
 
 -- an earlier text of the class at its place, where no longer one goes on into what stands behind

@@ -5,8 +5,8 @@ use Rattle.std.specs.Str.{bytes_eq}
 use Prim.Native.String.{String}
 -- the classes, as the program has them: `StringLiteral` is that of strings; the end of the text is a token too
 pub use Rattle.tokens.specs.declared.token.TokenClass.{TokenClass as LexicalClass}
-pub use Rattle.tokens.specs.declared.token.TokenClass.TheVariants.{IdentifierName, Punctuator, NumericLiteral, StringLiteral, Template, RegularExpressionLiteral, End}
-use Rattle.tokens.specs.Alphabet.{begins_with, is_empty, is_identifier_start, is_identifier_part, is_decimal_digit}
+pub use Rattle.tokens.specs.declared.token.TokenClass.TheVariants.{IdentifierName, Punctuator, NumericLiteral, StringLiteral, Template, RegularExpressionLiteral, PrivateName, Keyword, End}
+use Rattle.tokens.specs.Alphabet.{one_of, begins_with, is_empty, is_identifier_start, is_identifier_part, is_decimal_digit}
 use Rattle.tokens.specs.Numbers.{is_number}
 use Rattle.tokens.specs.Strings.{is_string}
 use Rattle.tokens.specs.Templates.{is_template}
@@ -16,6 +16,11 @@ use Rattle.tokens.specs.RegularExpressions.{is_regular_expression}
 abbrev pub is_name : List ℕ → Bool
 is_name [] = false
 is_name (c ∷ cs) = is_identifier_start c && list_all is_identifier_part cs
+
+-- PrivateIdentifier (12.6 of the 13th edition)
+abbrev pub is_private_name : List ℕ → Bool
+is_private_name [] = false
+is_private_name (c ∷ cs) = one_of "#" c && is_name cs
 
 abbrev pub is_one_of_words : List String → List ℕ → Bool
 is_one_of_words [] text = false
@@ -38,6 +43,9 @@ is_of NumericLiteral text = is_number text
 is_of StringLiteral text = is_string text
 is_of Template text = is_template text
 is_of RegularExpressionLiteral text = is_regular_expression text
+is_of PrivateName text = is_private_name text
+-- a language sees a name so; no scan gives it
+is_of Keyword text = false
 is_of End text = is_empty text
 
 -- What a class asks of what stands behind, for a text to be of it at its place: `?.` is no punctuator before a digit
@@ -50,6 +58,8 @@ may_stand NumericLiteral text rest = true
 may_stand StringLiteral text rest = true
 may_stand Template text rest = true
 may_stand RegularExpressionLiteral text rest = true
+may_stand PrivateName text rest = true
+may_stand Keyword text rest = true
 
 -- a text of the class at its place
 abbrev pub is_at : LexicalClass → List ℕ → List ℕ → Bool
@@ -68,6 +78,8 @@ ends_well Punctuator rest = true
 ends_well StringLiteral rest = true
 ends_well Template rest = true
 ends_well RegularExpressionLiteral rest = true
+ends_well PrivateName rest = true
+ends_well Keyword rest = true
 ends_well End rest = true
 
 -- the longest of its class at its place (11)

@@ -1,7 +1,7 @@
 -- The class of the tokens that a goal reads in front of a text, by the first character, and the second behind a point.
 use Rattle.std.specs.Prelude.{ℕ, Bool, List, [], ◌∷◌, if◌then◌else◌}
 use Rattle.tokens.specs.Alphabet.{one_of, begins_with, is_decimal_digit}
-use Rattle.tokens.specs.Lexical.{LexicalClass, IdentifierName, Punctuator, NumericLiteral, StringLiteral, Template, End}
+use Rattle.tokens.specs.Lexical.{LexicalClass, IdentifierName, Punctuator, NumericLiteral, StringLiteral, Template, PrivateName, End}
 use Rattle.tokens.specs.Goals.{Goal, reads_regexps, reads_template_parts}
 
 -- a character with which nothing but a punctuator begins
@@ -15,6 +15,7 @@ class_by goal c digit =
     else if one_of "}" c then (if reads_template_parts goal then Template else Punctuator)
     else if one_of "/" c then (if reads_regexps goal then LexicalClass.RegularExpressionLiteral else Punctuator)
     else if one_of "." c then (if digit then NumericLiteral else Punctuator)
+    else if one_of "#" c then PrivateName
     else if is_mark c then Punctuator else IdentifierName
 
 abbrev pub class_of : Goal → List ℕ → LexicalClass

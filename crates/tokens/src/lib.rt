@@ -25,5 +25,5 @@ pub use character::{CharAt, char_at};
 pub use laws::{at_most_one_token, readings_take_tokens};
 pub use scanner::{ScanFault, scan};
 pub use token::{Goal, Token, TokenClass};
-pub use trivia::{Trivia, comment};
+pub use trivia::{Trivia, comment, hashbang_end};
 pub use value::{quoted_units, string_is, string_units, template_value};

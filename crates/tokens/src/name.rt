@@ -1,4 +1,4 @@
-//! Names (ECMA-262 11.6.1).
+//! Names (ECMA-262 11.6.1), and private names (12.6 of the 13th edition).
 
 ghost use Rattle.std.specs.Prelude.{◌≡◌, ◌<◌, ◌||◌, [], ◌∷◌, ℕ, IfSome, IfNone};
 ghost use Rattle.std.specs.Char.{is_ascii_alphabetic, is_ascii_alphanumeric};
@@ -69,7 +69,7 @@ pub(crate) fn is_part(c: char) -> bool
 }
 
 /// Where the name that begins with this character ends, in bytes; none if no name begins with it.
-#[inline]
+#[inline(always)]
 pub(crate) fn name_end(text: &str, first: CharAt) -> Option<usize>
     requires { IsPlace text.now first.end }
     ensures some { (at : ℕ) → Passed text.now at first.end (first.c ∷ []) → IfSome result (λ e. IsWordAt TokenClass.IdentifierName text.now at e) }
@@ -81,7 +81,24 @@ pub(crate) fn name_end(text: &str, first: CharAt) -> Option<usize>
     None
 }
 
+/// Where the private name that begins with this character ends, in bytes: `#` and a name; none if no private name begins with it.
+#[inline]
+pub(crate) fn private_name_end(text: &str, first: CharAt) -> Option<usize>
+    requires { IsPlace text.now first.end }
+    ensures some { (at : ℕ) → Passed text.now at first.end (first.c ∷ []) → IfSome result (λ e. IsWordAt TokenClass.PrivateName text.now at e) }
+    ensures none { (at : ℕ) → Passed text.now at first.end (first.c ∷ []) → IfNone result (NoWordAt TokenClass.PrivateName text.now at) }
+{
+    if first.c != '#' {
+        return None;
+    }
+    let Some(second) = char_at(text, first.end) else {
+        return None;
+    };
+    name_end(text, second)
+}
+
 /// Where the IdentifierPart characters from this place on end, in bytes.
+#[inline(always)]
 pub(crate) fn parts_end(text: &str, at: usize) -> usize
     requires { IsPlace text.now at }
     ensures { IsRun is_identifier_part text.now at result }

@@ -13,7 +13,7 @@ ghost use Rattle.tokens.specs.Strings.{is_string};
 
 use crate::ascii::is_in;
 use crate::character::{CharAt, char_at};
-use crate::name::name_end;
+use crate::name::{name_end, private_name_end};
 use crate::number::number_end;
 use crate::punctuator::punctuator_end;
 use crate::regexp::regexp_end;
@@ -115,6 +115,7 @@ fn class_by(c: char, goal: Goal, digit: bool) -> TokenClass
                 TokenClass::Punctuator
             }
         }
+        '#' => TokenClass::PrivateName,
         _ => {
             if begins_punctuator(c) {
                 TokenClass::Punctuator
@@ -154,6 +155,8 @@ fn token_end(text: &str, at: usize, first: CharAt, class: TokenClass) -> Option<
         TokenClass::StringLiteral => string_end(text, at),
         TokenClass::Template => template_end(text, at),
         TokenClass::RegularExpressionLiteral => regexp_end(text, at),
+        TokenClass::PrivateName => private_name_end(text, first),
+        TokenClass::Keyword => None,
         TokenClass::End => None,
     }
 }

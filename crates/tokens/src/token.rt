@@ -25,6 +25,11 @@ pub enum TokenClass {
     Template,
     /// A RegularExpressionLiteral.
     RegularExpressionLiteral,
+    /// A PrivateIdentifier, `#` included (12.6 of the 13th edition).
+    PrivateName,
+    /// A name that the language of the text reserves, and the base profile doesn't: `await`. No scan gives it; a language
+    /// sees such a name so.
+    Keyword,
     /// The end of the text.
     End,
 }

@@ -1,4 +1,4 @@
-//! White space, line terminators and comments (ECMA-262 11.2 to 11.4).
+//! White space, line terminators and comments (ECMA-262 11.2 to 11.4), and the line of `#!` (12.5 of the 14th edition).
 
 ghost use Rattle.std.specs.Prelude.{◌≡◌, ◌<◌, ◌||◌, not, IfSome, IfNone, IsTrue};
 ghost use Rattle.source_text.specs.Lines.{is_line_terminator};
@@ -6,7 +6,9 @@ ghost use Rattle.source_text.specs.Source.{IsPlace};
 ghost use Rattle.source_text.specs.Spaces.{is_white_space};
 ghost use Rattle.tokens.specs.Alphabet.{one_of};
 ghost use Rattle.tokens.specs.Closers.{is_plain};
-ghost use Rattle.tokens.specs.Comments.{begins_comment};
+ghost use Rattle.std.specs.Str.{chars};
+ghost use Rattle.tokens.specs.Comments.{begins_comment, hashbang};
+ghost use Rattle.tokens.specs.Tokens.{size};
 ghost use Rattle.tokens.specs.Reading.{behind};
 ghost use Rattle.tokens.specs.Scanned.{AllPass, IsBlockRest, IsCommentRest, IsGap, IsRun, IsSeparator, IsSolid, NoBlockRest, NoCommentRest};
 
@@ -162,6 +164,7 @@ pub fn comment(text: &str, at: usize) -> Option<Trivia>
 }
 
 /// Where the line ends, in bytes: at its line terminator, or at the end of the text.
+#[inline(always)]
 fn line_end(text: &str, at: usize) -> usize
     requires { IsPlace text.now at }
     ensures { IsRun (λ c. not (is_line_terminator c)) text.now at result }
@@ -174,6 +177,26 @@ fn line_end(text: &str, at: usize) -> usize
         end = plain_end(text, step.end);
     }
     end
+}
+
+/// Where the line ends, in bytes, that begins a text with `#!` (Hashbang, 12.5 of the 14th edition); 0 if the text begins otherwise.
+pub fn hashbang_end(text: &str) -> usize
+    ensures value { result ≡ size (hashbang (chars text.now)) }
+    ensures place { IsPlace text.now result }
+{
+    let Some(first) = char_at(text, 0) else {
+        return 0;
+    };
+    if first.c != '#' {
+        return 0;
+    }
+    let Some(second) = char_at(text, first.end) else {
+        return 0;
+    };
+    if second.c != '!' {
+        return 0;
+    }
+    line_end(text, second.end)
 }
 
 /// Where the run of characters of ASCII ends, in bytes, that neither end a line nor are `*`.

@@ -7,6 +7,7 @@ use Rattle.tree.specs.declared.kind.Kind.TheVariants as kind
 abbrev pub type_name : Kind → List ℕ
 type_name kind.Program = codes "Program"
 type_name kind.Identifier = codes "Identifier"
+type_name kind.PrivateIdentifier = codes "PrivateIdentifier"
 type_name kind.Literal = codes "Literal"
 type_name kind.ThisExpression = codes "ThisExpression"
 type_name kind.Super = codes "Super"
@@ -19,6 +20,8 @@ type_name kind.ArrowFunctionExpression = codes "ArrowFunctionExpression"
 type_name kind.ClassExpression = codes "ClassExpression"
 type_name kind.ClassBody = codes "ClassBody"
 type_name kind.MethodDefinition = codes "MethodDefinition"
+type_name kind.PropertyDefinition = codes "PropertyDefinition"
+type_name kind.StaticBlock = codes "StaticBlock"
 type_name kind.TemplateLiteral = codes "TemplateLiteral"
 type_name kind.TemplateElement = codes "TemplateElement"
 type_name kind.TaggedTemplateExpression = codes "TaggedTemplateExpression"
@@ -30,11 +33,13 @@ type_name kind.ImportExpression = codes "ImportExpression"
 type_name kind.ChainExpression = codes "ChainExpression"
 type_name kind.UpdateExpression = codes "UpdateExpression"
 type_name kind.UnaryExpression = codes "UnaryExpression"
+type_name kind.AwaitExpression = codes "AwaitExpression"
 type_name kind.BinaryExpression = codes "BinaryExpression"
 type_name kind.LogicalExpression = codes "LogicalExpression"
 type_name kind.ConditionalExpression = codes "ConditionalExpression"
 type_name kind.AssignmentExpression = codes "AssignmentExpression"
 type_name kind.SequenceExpression = codes "SequenceExpression"
+type_name kind.YieldExpression = codes "YieldExpression"
 type_name kind.ArrayPattern = codes "ArrayPattern"
 type_name kind.ObjectPattern = codes "ObjectPattern"
 type_name kind.AssignmentPattern = codes "AssignmentPattern"
@@ -62,6 +67,14 @@ type_name kind.VariableDeclaration = codes "VariableDeclaration"
 type_name kind.VariableDeclarator = codes "VariableDeclarator"
 type_name kind.FunctionDeclaration = codes "FunctionDeclaration"
 type_name kind.ClassDeclaration = codes "ClassDeclaration"
+type_name kind.ImportDeclaration = codes "ImportDeclaration"
+type_name kind.ImportSpecifier = codes "ImportSpecifier"
+type_name kind.ImportDefaultSpecifier = codes "ImportDefaultSpecifier"
+type_name kind.ImportNamespaceSpecifier = codes "ImportNamespaceSpecifier"
+type_name kind.ExportNamedDeclaration = codes "ExportNamedDeclaration"
+type_name kind.ExportSpecifier = codes "ExportSpecifier"
+type_name kind.ExportDefaultDeclaration = codes "ExportDefaultDeclaration"
+type_name kind.ExportAllDeclaration = codes "ExportAllDeclaration"
 
 abbrev pub is_expression : Kind → Bool
 is_expression kind.Identifier = true
@@ -82,11 +95,13 @@ is_expression kind.ImportExpression = true
 is_expression kind.ChainExpression = true
 is_expression kind.UpdateExpression = true
 is_expression kind.UnaryExpression = true
+is_expression kind.AwaitExpression = true
 is_expression kind.BinaryExpression = true
 is_expression kind.LogicalExpression = true
 is_expression kind.ConditionalExpression = true
 is_expression kind.AssignmentExpression = true
 is_expression kind.SequenceExpression = true
+is_expression kind.YieldExpression = true
 is_expression _ = false
 
 -- a simple target
@@ -123,6 +138,10 @@ is_loop _ = false
 abbrev pub is_identifier : Kind → Bool
 is_identifier kind.Identifier = true
 is_identifier _ = false
+
+abbrev pub is_private : Kind → Bool
+is_private kind.PrivateIdentifier = true
+is_private _ = false
 
 abbrev pub is_rest : Kind → Bool
 is_rest kind.RestElement = true

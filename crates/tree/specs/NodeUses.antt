@@ -29,8 +29,12 @@ value_use NotEvaluated Init = NotEvaluated
 value_use _ Init = Evaluated
 value_use _ _ = NotEvaluated
 
+-- a key
+abbrev pub key_use : Flags → NodeUse
+key_use flags = cond flags.computed Evaluated NotEvaluated
+
 abbrev pub property_use : NodeUse → Flags → ℕ → NodeUse
-property_use a flags i = first_else i (cond flags.computed Evaluated NotEvaluated) (value_use a flags.form)
+property_use a flags i = first_else i (key_use flags) (value_use a flags.form)
 
 -- what a member or a call is of
 abbrev pub on_chain : NodeUse → Bool → NodeUse
@@ -46,6 +50,7 @@ member_use a p = first_else p.index (callee_use a p) (cond a.flags.computed Eval
 abbrev pub part_use_in : Kind → ParentUse → ChildPlace → NodeUse
 part_use_in kind.Property a p = property_use a.node_use a.flags p.index
 part_use_in kind.MethodDefinition a p = property_use a.node_use a.flags p.index
+part_use_in kind.PropertyDefinition a p = first_else p.index (key_use a.flags) Evaluated
 part_use_in kind.MemberExpression a p = member_use a p
 part_use_in kind.CallExpression a p = callee_use a p
 part_use_in kind.ChainExpression a p = ChainPart
@@ -54,6 +59,13 @@ part_use_in kind.MetaProperty a p = NotEvaluated
 part_use_in kind.LabeledStatement a p = NotEvaluated
 part_use_in kind.BreakStatement a p = NotEvaluated
 part_use_in kind.ContinueStatement a p = NotEvaluated
+part_use_in kind.ImportDeclaration a p = NotEvaluated
+part_use_in kind.ImportSpecifier a p = NotEvaluated
+part_use_in kind.ImportDefaultSpecifier a p = NotEvaluated
+part_use_in kind.ImportNamespaceSpecifier a p = NotEvaluated
+part_use_in kind.ExportNamedDeclaration a p = NotEvaluated
+part_use_in kind.ExportSpecifier a p = NotEvaluated
+part_use_in kind.ExportAllDeclaration a p = NotEvaluated
 part_use_in kind.FunctionExpression a p = cond p.is_last NotEvaluated (first_else p.index NotEvaluated Bound)
 part_use_in kind.FunctionDeclaration a p = cond p.is_last NotEvaluated (first_else p.index NotEvaluated Bound)
 part_use_in kind.ArrowFunctionExpression a p = cond p.is_last (cond a.flags.expression Evaluated NotEvaluated) Bound

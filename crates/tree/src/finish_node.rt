@@ -76,6 +76,7 @@ fn append(parts: &mut Vec<PartNumber>, waiting: &[PartNumber]) -> Result<(), All
 }
 
 /// The row of a node where it stands, if it has one. The next one stays at the greatest, and then no node is finished.
+#[inline(always)]
 pub(crate) fn own_row(growing: &mut FlatBuilder, node_use: NodeUse, kind: Kind) -> Option<u32>
     ensures { NumbersRow growing.old growing.new node_use kind result }
 {

@@ -1,7 +1,7 @@
 //! Where nodes stand, as far as it says which of them have rows.
 
 ghost use Rattle.std.specs.Prelude.{◌≡◌, ◌<◌};
-ghost use Rattle.tree.specs.NodeUses.{has_row as has_row_at, part_use as part_standing_at, property_use as keyed_at, value_use as value_at, member_use as selected_at, callee_use as linked_at, first_else as head_at, child_place as inner_at, looks as looks_at, contains_optional as chains_tree};
+ghost use Rattle.tree.specs.NodeUses.{has_row as has_row_at, part_use as part_standing_at, property_use as keyed_at, key_use as key_at, value_use as value_at, member_use as selected_at, callee_use as linked_at, first_else as head_at, child_place as inner_at, looks as looks_at, contains_optional as chains_tree};
 
 use crate::boxed_node::BoxedNode;
 use crate::kind::{Flags, Form, Kind};
@@ -39,6 +39,7 @@ pub struct ChildPlace {
 }
 
 /// Whether a node of this kind has a row where it stands.
+#[inline(always)]
 pub(crate) fn has_row(node_use: NodeUse, kind: Kind) -> bool
     ensures { result ≡ has_row_at node_use kind }
 {
@@ -106,6 +107,7 @@ pub(crate) fn part_use(around: ParentUse, part: ChildPlace) -> NodeUse
     } = around;
     match kind {
         Kind::Property | Kind::MethodDefinition => property_use(node_use, flags, part.index),
+        Kind::PropertyDefinition => first_else(part.index, key_use(flags), NodeUse::Evaluated),
         Kind::MemberExpression => member_use(around, part),
         Kind::CallExpression => callee_use(around, part),
         Kind::ChainExpression => NodeUse::ChainPart,
@@ -117,7 +119,14 @@ pub(crate) fn part_use(around: ParentUse, part: ChildPlace) -> NodeUse
         Kind::MetaProperty
         | Kind::LabeledStatement
         | Kind::BreakStatement
-        | Kind::ContinueStatement => NodeUse::NotEvaluated,
+        | Kind::ContinueStatement
+        | Kind::ImportDeclaration
+        | Kind::ImportSpecifier
+        | Kind::ImportDefaultSpecifier
+        | Kind::ImportNamespaceSpecifier
+        | Kind::ExportNamedDeclaration
+        | Kind::ExportSpecifier
+        | Kind::ExportAllDeclaration => NodeUse::NotEvaluated,
         Kind::FunctionExpression | Kind::FunctionDeclaration => {
             if part.is_last {
                 return NodeUse::NotEvaluated;
@@ -176,6 +185,13 @@ fn property_use(node_use: NodeUse, flags: Flags, index: usize) -> NodeUse
     if index != 0 {
         return value_use(node_use, flags.form);
     }
+    key_use(flags)
+}
+
+/// The key of a property, a method or a field: it is evaluated if it is computed.
+fn key_use(flags: Flags) -> NodeUse
+    ensures { result ≡ key_at flags }
+{
     if flags.computed {
         return NodeUse::Evaluated;
     }

@@ -1,6 +1,7 @@
 -- Expressions: which part is which field.
 use Rattle.std.specs.Prelude.{ℕ, Bool, List, Option, Some, None, option_map, if◌then◌else◌}
 use Rattle.tree.specs.Tree.{Tree, Parts, kind_of, text_of, flags_of, parts_of}
+use Rattle.tree.specs.Uses.{is_generator}
 use Rattle.tree.specs.Node.{node_tree, list_parts}
 use Rattle.tree.specs.Fields.{field, list_from, with_one, with_two, with_three}
 use Rattle.typed_nodes.specs.Arity.{is_whole}
@@ -29,11 +30,13 @@ pub data ExpressionView : Type 0 where
   chain_expression : (expression : Tree) → ExpressionView
   update_expression : (operator : List ℕ) (prefix : Bool) (argument : Tree) → ExpressionView
   unary_expression : (operator : List ℕ) (argument : Tree) → ExpressionView
+  await_expression : (argument : Tree) → ExpressionView
   binary_expression : (operator : List ℕ) (left right : Tree) → ExpressionView
   logical_expression : (operator : List ℕ) (left right : Tree) → ExpressionView
   conditional_expression : (test consequent alternate : Tree) → ExpressionView
   assignment_expression : (operator : List ℕ) (left right : Tree) → ExpressionView
   sequence_expression : (expressions : Parts) → ExpressionView
+  yield_expression : (argument : Option Tree) (delegate : Bool) → ExpressionView
 
 -- operations with two operands
 abbrev pub operands_by : Kind → Tree → Option ExpressionView
@@ -46,6 +49,7 @@ operands_by _ t = None
 abbrev pub operation_by : Kind → Tree → Option ExpressionView
 operation_by kind.UpdateExpression t = with_one (field 0 t) (update_expression (text_of t) (flags_of t).prefix)
 operation_by kind.UnaryExpression t = with_one (field 0 t) (unary_expression (text_of t))
+operation_by kind.AwaitExpression t = with_one (field 0 t) await_expression
 operation_by kind.ConditionalExpression t = with_three (field 0 t) (field 1 t) (field 2 t) conditional_expression
 operation_by k t = operands_by k t
 
@@ -80,6 +84,7 @@ expression_by kind.ArrowFunctionExpression t = option_map arrow_function (functi
 expression_by kind.ClassExpression t = option_map class_expression (class_of t)
 expression_by kind.TemplateLiteral t = Some (template_literal (parts_of t))
 expression_by kind.SequenceExpression t = Some (sequence_expression (parts_of t))
+expression_by kind.YieldExpression t = Some (yield_expression (field 0 t) (is_generator (flags_of t).form))
 expression_by k t = member_by k t
 
 -- the tree as an expression
@@ -106,8 +111,10 @@ expression_seen (e.Import source) = import_expression (node_tree source)
 expression_seen (e.Chain expression) = chain_expression (node_tree expression)
 expression_seen (e.Update operator prefix argument) = update_expression operator.now prefix (node_tree argument)
 expression_seen (e.Unary operator argument) = unary_expression operator.now (node_tree argument)
+expression_seen (e.Await argument) = await_expression (node_tree argument)
 expression_seen (e.Binary operator left right) = binary_expression operator.now (node_tree left) (node_tree right)
 expression_seen (e.Logical operator left right) = logical_expression operator.now (node_tree left) (node_tree right)
 expression_seen (e.Conditional test consequent alternate) = conditional_expression (node_tree test) (node_tree consequent) (node_tree alternate)
 expression_seen (e.Assignment operator left right) = assignment_expression operator.now (node_tree left) (node_tree right)
 expression_seen (e.Sequence expressions) = sequence_expression (list_parts expressions)
+expression_seen (e.Yield argument delegate) = yield_expression (option_map node_tree argument) delegate

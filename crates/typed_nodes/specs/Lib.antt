@@ -4,3 +4,5 @@ pub mod Expressions
 pub mod Patterns
 pub mod Statements
 pub mod Pieces
+pub mod ClassElements
+pub mod Modules

@@ -1,6 +1,7 @@
 -- Statements and declarations: which part is which field.
 use Rattle.std.specs.Prelude.{ℕ, Bool, List, Option, Some, None, option_map, if◌then◌else◌}
 use Rattle.tree.specs.Tree.{Tree, Parts, kind_of, text_of, flags_of, parts_of}
+use Rattle.tree.specs.Uses.{is_async}
 use Rattle.tree.specs.Node.{node_tree, list_parts}
 use Rattle.tree.specs.Fields.{field, list_from, with_one, with_two, with_three}
 use Rattle.typed_nodes.specs.Arity.{is_whole}
@@ -27,7 +28,7 @@ pub data StatementView : Type 0 where
   do_while_statement : (body test : Tree) → StatementView
   for_statement : (init test update : Option Tree) (body : Tree) → StatementView
   for_in_statement : (left right body : Tree) → StatementView
-  for_of_statement : (left right body : Tree) → StatementView
+  for_of_statement : (left right body : Tree) (is_await : Bool) → StatementView
   variable_declaration : (word : List ℕ) (declarations : Parts) → StatementView
   function_declaration : FunctionView → StatementView
   class_declaration : ClassView → StatementView
@@ -48,7 +49,7 @@ loop_by kind.WhileStatement t = with_two (field 0 t) (field 1 t) while_statement
 loop_by kind.DoWhileStatement t = with_two (field 0 t) (field 1 t) do_while_statement
 loop_by kind.ForStatement t = with_one (field 3 t) (for_statement (field 0 t) (field 1 t) (field 2 t))
 loop_by kind.ForInStatement t = with_three (field 0 t) (field 1 t) (field 2 t) for_in_statement
-loop_by kind.ForOfStatement t = with_three (field 0 t) (field 1 t) (field 2 t) for_of_statement
+loop_by kind.ForOfStatement t = with_three (field 0 t) (field 1 t) (field 2 t) (λ left right body. for_of_statement left right body (is_async (flags_of t).form))
 loop_by kind.VariableDeclaration t = Some (variable_declaration (text_of t) (parts_of t))
 loop_by kind.FunctionDeclaration t = option_map function_declaration (function_of t)
 loop_by kind.ClassDeclaration t = option_map class_declaration (class_of t)
@@ -118,7 +119,7 @@ statement_seen (s.While test body) = while_statement (node_tree test) (node_tree
 statement_seen (s.DoWhile body test) = do_while_statement (node_tree body) (node_tree test)
 statement_seen (s.For init test update body) = for_statement (option_map node_tree init) (option_map node_tree test) (option_map node_tree update) (node_tree body)
 statement_seen (s.ForIn left right body) = for_in_statement (node_tree left) (node_tree right) (node_tree body)
-statement_seen (s.ForOf left right body) = for_of_statement (node_tree left) (node_tree right) (node_tree body)
+statement_seen (s.ForOf left right body is_await) = for_of_statement (node_tree left) (node_tree right) (node_tree body) is_await
 statement_seen (s.VariableDeclaration kind declarations) = variable_declaration kind.now (list_parts declarations)
 statement_seen (s.FunctionDeclaration function) = function_declaration (function_seen function)
 statement_seen (s.ClassDeclaration class) = class_declaration (class_seen class)

@@ -19,6 +19,7 @@ fn has_arity(kind: Kind, count: usize) -> bool
 {
     match kind {
         Kind::Identifier
+        | Kind::PrivateIdentifier
         | Kind::Literal
         | Kind::ThisExpression
         | Kind::Super
@@ -36,6 +37,7 @@ fn has_pair(kind: Kind, count: usize) -> bool
     match kind {
         Kind::Property
         | Kind::MethodDefinition
+        | Kind::PropertyDefinition
         | Kind::TaggedTemplateExpression
         | Kind::MemberExpression
         | Kind::MetaProperty
@@ -47,7 +49,8 @@ fn has_pair(kind: Kind, count: usize) -> bool
         | Kind::CatchClause
         | Kind::WhileStatement
         | Kind::DoWhileStatement
-        | Kind::VariableDeclarator => count == 2,
+        | Kind::VariableDeclarator
+        | Kind::ExportAllDeclaration => count == 2,
         Kind::ClassExpression
         | Kind::ConditionalExpression
         | Kind::IfStatement
@@ -70,10 +73,13 @@ fn has_length(kind: Kind, count: usize) -> bool
         | Kind::NewExpression
         | Kind::SwitchStatement
         | Kind::SwitchCase
-        | Kind::VariableDeclaration => count >= 1,
-        Kind::FunctionExpression | Kind::FunctionDeclaration | Kind::SequenceExpression => {
-            count >= 2
-        }
+        | Kind::VariableDeclaration
+        | Kind::ImportDeclaration => count >= 1,
+        Kind::FunctionExpression
+        | Kind::FunctionDeclaration
+        | Kind::SequenceExpression
+        | Kind::ExportNamedDeclaration => count >= 2,
+        Kind::ImportSpecifier | Kind::ExportSpecifier => count >= 1 && count <= 2,
         Kind::TemplateLiteral => count % 2 == 1,
         Kind::Program
         | Kind::ArrayExpression
@@ -81,7 +87,8 @@ fn has_length(kind: Kind, count: usize) -> bool
         | Kind::ClassBody
         | Kind::ArrayPattern
         | Kind::ObjectPattern
-        | Kind::BlockStatement => true,
+        | Kind::BlockStatement
+        | Kind::StaticBlock => true,
         _ => count == 1,
     }
 }

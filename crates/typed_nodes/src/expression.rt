@@ -76,6 +76,9 @@ pub enum Expression<'t, 's> {
         operator: &'t str,
         argument: Node<'t, 's>,
     },
+    Await {
+        argument: Node<'t, 's>,
+    },
     Binary {
         operator: &'t str,
         left: Node<'t, 's>,
@@ -99,6 +102,10 @@ pub enum Expression<'t, 's> {
     },
     Sequence {
         expressions: NodeList<'t, 's>,
+    },
+    Yield {
+        argument: Option<Node<'t, 's>>,
+        delegate: bool,
     },
 }
 
@@ -137,12 +144,20 @@ fn any_expression<'t, 's>(node: Node<'t, 's>) -> Option<Expression<'t, 's>>
         Kind::SequenceExpression => Some(Expression::Sequence {
             expressions: node.parts(),
         }),
+        Kind::YieldExpression => {
+            let flags = node.flags();
+            Some(Expression::Yield {
+                argument: node.part(0),
+                delegate: flags.form.is_generator(),
+            })
+        }
         Kind::CallExpression
         | Kind::NewExpression
         | Kind::ImportExpression
         | Kind::ChainExpression
         | Kind::UpdateExpression
         | Kind::UnaryExpression
+        | Kind::AwaitExpression
         | Kind::TaggedTemplateExpression
         | Kind::MemberExpression
         | Kind::MetaProperty
@@ -185,6 +200,7 @@ fn headed<'t, 's>(node: Node<'t, 's>) -> Option<Expression<'t, 's>>
             operator,
             argument: first,
         }),
+        Kind::AwaitExpression => Some(Expression::Await { argument: first }),
         Kind::TaggedTemplateExpression
         | Kind::MemberExpression
         | Kind::MetaProperty

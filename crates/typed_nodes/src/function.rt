@@ -4,7 +4,7 @@ ghost use Rattle.std.specs.Prelude.{◌≡◌, option_map};
 ghost use Rattle.tree.specs.Tree.{kind_of};
 ghost use Rattle.tree.specs.Node.{node_tree};
 ghost use Rattle.typed_nodes.specs.Functions.{function_of, function_by, function_seen, class_of, class_by, class_seen};
-ghost use Rattle.tree.specs.declared.kind.Kind.TheVariants.{ArrowFunctionExpression};
+ghost use Rattle.tree.specs.declared.kind.Kind.TheVariants.{ArrowFunctionExpression, FunctionExpression};
 
 use crate::arity::is_whole;
 use tree::{Kind, Node, NodeList};
@@ -12,7 +12,7 @@ use tree::{Kind, Node, NodeList};
 /// A function: a declaration, an expression or an arrow.
 #[derive(Clone, Copy)]
 pub struct Function<'t, 's> {
-    /// Its name; a declaration has one, an arrow has none.
+    /// Its name; a declaration has one, unless it is exported by default; an arrow has none.
     pub id: Option<Node<'t, 's>>,
     /// Patterns, the last perhaps a rest element.
     pub params: NodeList<'t, 's>,
@@ -21,12 +21,14 @@ pub struct Function<'t, 's> {
     pub is_arrow: bool,
     /// Whether the body is an expression.
     pub expression: bool,
+    pub generator: bool,
+    pub is_async: bool,
 }
 
 /// A class: a declaration or an expression.
 #[derive(Clone, Copy)]
 pub struct Class<'t, 's> {
-    /// Its name; a declaration has one.
+    /// Its name; a declaration has one, unless it is exported by default.
     pub id: Option<Node<'t, 's>>,
     /// What stands behind `extends`.
     pub super_class: Option<Node<'t, 's>>,
@@ -62,25 +64,29 @@ impl<'t, 's> Class<'t, 's> {
 fn any_function<'t, 's>(node: Node<'t, 's>) -> Option<Function<'t, 's>>
     ensures { option_map function_seen result ≡ function_by (kind_of (node_tree node.entry)) (node_tree node.entry) }
 {
-    let params = node.parts().skip(1);
-    match (node.kind(), node.part(0), params.last()) {
-        (Kind::FunctionDeclaration, Some(id), Some(body)) => Some(Function {
-            id: Some(id),
-            params: params.without_last(),
-            body,
-            is_arrow: false,
-            expression: false,
-        }),
-        (Kind::FunctionExpression, id, Some(body)) => Some(Function {
-            id,
-            params: params.without_last(),
-            body,
-            is_arrow: false,
-            expression: false,
-        }),
-        (Kind::ArrowFunctionExpression, _, _) => arrow(node),
+    match node.kind() {
+        Kind::FunctionDeclaration | Kind::FunctionExpression => plain_function(node),
+        Kind::ArrowFunctionExpression => arrow(node),
         _ => None,
     }
+}
+
+/// The function with the word `function` that the node is; none without a body.
+fn plain_function<'t, 's>(node: Node<'t, 's>) -> Option<Function<'t, 's>>
+    ensures { option_map function_seen result ≡ function_by FunctionExpression (node_tree node.entry) }
+{
+    let params = node.parts().skip(1);
+    let body = params.last()?;
+    let flags = node.flags();
+    Some(Function {
+        id: node.part(0),
+        params: params.without_last(),
+        body,
+        is_arrow: false,
+        expression: false,
+        generator: flags.form.is_generator(),
+        is_async: flags.form.is_async(),
+    })
 }
 
 /// The arrow function that the node is; none without a body.
@@ -96,6 +102,8 @@ fn arrow<'t, 's>(node: Node<'t, 's>) -> Option<Function<'t, 's>>
         body,
         is_arrow: true,
         expression: flags.expression,
+        generator: flags.form.is_generator(),
+        is_async: flags.form.is_async(),
     })
 }
 
@@ -103,14 +111,9 @@ fn arrow<'t, 's>(node: Node<'t, 's>) -> Option<Function<'t, 's>>
 fn any_class<'t, 's>(node: Node<'t, 's>) -> Option<Class<'t, 's>>
     ensures { option_map class_seen result ≡ class_by (kind_of (node_tree node.entry)) (node_tree node.entry) }
 {
-    match (node.kind(), node.part(0), node.part(2)) {
-        (Kind::ClassDeclaration, Some(id), Some(body)) => Some(Class {
-            id: Some(id),
-            super_class: node.part(1),
-            body,
-        }),
-        (Kind::ClassExpression, id, Some(body)) => Some(Class {
-            id,
+    match (node.kind(), node.part(2)) {
+        (Kind::ClassDeclaration | Kind::ClassExpression, Some(body)) => Some(Class {
+            id: node.part(0),
             super_class: node.part(1),
             body,
         }),

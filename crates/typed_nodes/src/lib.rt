@@ -7,14 +7,18 @@
 //! - Begin at: `expression.rt`, `Expression`; `arity.rt` says how many parts each kind has.
 
 mod arity;
+mod class_elements;
 mod expression;
 mod function;
+mod module;
 mod pattern;
 mod pieces;
 mod statement;
 
+pub use class_elements::{PrivateIdentifier, PropertyDefinition, StaticBlock};
 pub use expression::Expression;
 pub use function::{Class, Function};
+pub use module::{ModuleItem, Specifier};
 pub use pattern::Pattern;
 pub use pieces::{
     CatchClause, ClassBody, MethodDefinition, Property, SpreadElement, SwitchCase, TemplateElement,

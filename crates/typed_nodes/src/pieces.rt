@@ -87,7 +87,7 @@ impl<'t> TemplateElement<'t> {
 /// The members of a class.
 #[derive(Clone, Copy)]
 pub struct ClassBody<'t, 's> {
-    /// Methods.
+    /// Methods, fields and static blocks.
     pub body: NodeList<'t, 's>,
 }
 

@@ -81,6 +81,7 @@ pub enum Statement<'t, 's> {
         left: Node<'t, 's>,
         right: Node<'t, 's>,
         body: Node<'t, 's>,
+        is_await: bool,
     },
     VariableDeclaration {
         /// `var`, `let` or `const`.
@@ -242,9 +243,15 @@ fn for_each<'t, 's>(
     ensures { option_map statement_seen result ≡ for_each_by (kind_of (node_tree node.entry)) (node_tree node.entry) }
 {
     let body = node.part(2)?;
+    let flags = node.flags();
     match node.kind() {
         Kind::ForInStatement => Some(Statement::ForIn { left, right, body }),
-        Kind::ForOfStatement => Some(Statement::ForOf { left, right, body }),
+        Kind::ForOfStatement => Some(Statement::ForOf {
+            left,
+            right,
+            body,
+            is_await: flags.form.is_async(),
+        }),
         _ => None,
     }
 }

@@ -1,3 +1,4 @@
+pub mod EarlierTrees
 pub mod OrderedPairs
 pub mod Steps
 pub mod TiedSteps
@@ -5,5 +6,6 @@ pub mod Unique
 pub mod cores
 pub mod heights
 pub mod list_items
+pub mod modules
 pub mod statements
 pub mod turns

@@ -1,8 +1,8 @@
 -- The grouping pairs of a derivation stand between its places, in order of their `(`, and each closes behind it.
-use Rattle.std.proofs.Common.{◌≡◌, ℕ, suc, ◌≤◌, ◌<◌, List, [], ◌∷◌, ◌++◌, sym, ◌∙◌, arith}
+use Rattle.std.proofs.Common.{◌≡◌, ℕ, suc, Bool, true, false, ◌≤◌, ◌<◌, List, [], ◌∷◌, ◌++◌, sym, ◌∙◌, arith}
 use Rattle.std.specs.Str.{IsUtf8, IsCharBoundary}
 use Rattle.std.proofs.lemmas.Str.{IsCharBoundary-from_drop}
-use Rattle.tokens.specs.declared.token.TokenClass.TheVariants.{Punctuator, End}
+use Rattle.tokens.specs.declared.token.TokenClass.TheVariants.{Punctuator, End, IdentifierName, Keyword}
 use Rattle.tokens.specs.Reading.{any_goal}
 use Rattle.tokens.proofs.Bounds.{IsWithin, token_within, token_goes_on}
 use Rattle.tree.specs.declared.kind.Pair.{Pair}
@@ -10,10 +10,15 @@ use Rattle.tree.specs.Tree.{Tree, Parts}
 use Rattle.language.specs.Pieces.{Role, PieceOf}
 use Rattle.language.specs.Token.{Token}
 use Rattle.language.specs.Places.{NextIn, next_in, itself}
-use Rattle.language.specs.Derivation.{Reads, Spells, direct, grouped, Runs, done, step, opened, closed, within, missing}
+use Rattle.language.specs.Derivation.{reserved_key, reserved_word, Reads, Spells, direct, grouped, Runs, done, step, opened, closed, within, missing}
 use Rattle.language.specs.Grammar.{ways}
-use Rattle.unambiguity_laws.specs.Laws.{InOrder, PairsInOrder}
-use Rattle.unambiguity_laws.proofs.heights.Heights.{Passes, read_forward, step_forward, text_passes}
+use Rattle.unambiguity_laws.specs.Laws.{InOrder, PairsInOrder, PairsInOrderIn}
+use Rattle.unambiguity_laws.proofs.heights.Heights.{Passes, read_forward, step_forward, text_passes, seen_passes, beginning_places}
+use Rattle.language.specs.declared.Language.{Language}
+use Rattle.language.specs.Languages.{is_of_2022, class_in, seen_in, Seen, seen_next, beginning_in}
+use Rattle.language.specs.Vocabulary.{is_keyword}
+use Rattle.tokens.specs.declared.token.TokenClass.{TokenClass}
+use Rattle.std.specs.Prelude.{cond, ◌&&◌}
 
 -- the `(` of the pairs stand at a or behind it and before b, each behind the one before, and each pair closes behind its `(`
 abbrev Between : ℕ → ℕ → List Pair → Type 0
@@ -79,6 +84,8 @@ module _ (S : Type 0) (Next : S → Token → S → Type 0) (behind : S → Toke
         let f = y.past in
         let inside = between_to (at m) (at l) (at e) P (omega (arith, c, f)) v.pairs in
         record { ok = w.ok; pairs = (x.from, omega (arith, a, b, c), between_from (suc left.start) (at m) (at e) P a inside) }
+    spells_held {s = s} {e = e} (reserved_key r h p) k = let u = read_forward S Next behind Ok at passes r k in let x = u.far in record { ok = u.ok; pairs = omega (arith, x) }
+    spells_held {s = s} {e = e} (reserved_word r h p) k = let u = read_forward S Next behind Ok at passes r k in let x = u.far in record { ok = u.ok; pairs = omega (arith, x) }
 
     runs_held : {o : ℕ} {qs : List (PieceOf Role)} {ps : Parts} {s e : S} {P : List Pair} → Runs ways S Next behind o qs ps s e P → Ok s → Held s e P
     runs_held done k = record { ok = k; pairs = omega arith }
@@ -120,3 +127,24 @@ pairs_ordered text n P u d =
     let start : IsCharBoundary text 0 = IsCharBoundary-from_drop text 0 (omega arith) u in
     let h = spells_held Token (NextIn text any_goal) itself (λ p. IsCharBoundary text p.stop) (λ p. p.stop) (text_passes text u) (text_stands text u) d.1.1 start in
     between_order 0 d.1.0.stop P h.pairs
+
+-- In a language
+
+punctuator_seen : (language : Language) (c : TokenClass) (w : List ℕ) → class_in language c w ≡ Punctuator → c ≡ Punctuator
+punctuator_seen language IdentifierName w h = of (is_of_2022 language && is_keyword w) h
+  where
+    of : (b : Bool) → cond b Keyword IdentifierName ≡ Punctuator → IdentifierName ≡ Punctuator
+    of true h = cc
+    of false h = h
+punctuator_seen language _ w h = h
+
+seen_stands : (language : Language) (text : List ℕ) → IsUtf8 text → (s e t : Token) → Seen Token (NextIn text any_goal) language s t e → IsCharBoundary text s.stop → t.class ≡ Punctuator → Stands s.stop e.stop t
+seen_stands language text u s e _ (seen_next {t = t} n) p c =
+    let v = text_stands text u s e t n p (punctuator_seen language t.class t.text c) in
+    record { from = v.from; past = v.past }
+
+-- the pairs of a script are in order there
+pub pairs_ordered_in : PairsInOrderIn
+pairs_ordered_in language text n P u d =
+    let h = spells_held Token (Seen Token (NextIn text any_goal) language) (seen_in language) (λ p. IsCharBoundary text p.stop) (λ p. p.stop) (seen_passes language text u) (seen_stands language text u) d.1.2 (beginning_places language text u) in
+    between_order (beginning_in language text).stop d.1.1.stop P h.pairs

@@ -2,10 +2,9 @@
 use Rattle.std.proofs.Common.{◌≡◌, ℕ, zero, suc, ◌≤◌, Bool, true, List, arith}
 use Rattle.std.specs.Prelude.{Some, codes}
 use Rattle.std.proofs.lemmas.Bool.{false≢true}
-use Rattle.tokens.specs.Reading.{any_goal}
 use Rattle.tree.specs.declared.kind.Form.{Form}
 use Rattle.tree.specs.declared.kind.Pair.{Pair}
-use Rattle.tree.specs.Tree.{Tree, node, height, kind_of}
+use Rattle.tree.specs.Tree.{Tree, node, height, kind_of, text_of}
 use Rattle.language.specs.declared.Start.{Start}
 use Rattle.language.specs.Vocabulary.{op_optional}
 use Rattle.language.specs.Pieces.{Role, tagged_quasi, pattern, method, body, block, handler, class_body, member, declarator, script}
@@ -16,15 +15,12 @@ use Rattle.language.specs.Following.{IsAlike, Finished, Declared, FoundWhere}
 use Rattle.language.specs.Covers.{Reading, element_as, property_as, FoundItem}
 use Rattle.language.specs.Grammar.{ways}
 use Rattle.language.specs.Derivation.{Spells}
-use Rattle.language.specs.Places.{NextIn, itself}
 use Rattle.language.proofs.list_loops.CommaLists.{Separated}
 use Rattle.language.proofs.covers.CoverEnds.{Closing}
 use Rattle.language.proofs.table.StatementWays.{Stands}
 use Rattle.language.proofs.climbing.Suffixes.{argument_pieces}
-use Rattle.language.proofs.texts.TextOffsets.{text_determined}
-use Rattle.language.proofs.texts.TextAlike.{text_alike}
-use Rattle.unambiguity_laws.specs.Laws.{AtMostOneScript}
 use Rattle.unambiguity_laws.proofs.Unique.{is_closed, Expressions, Unique, UniqueParts, Turn, CoreStep, NewCallee}
+use Rattle.unambiguity_laws.proofs.list_items.MemberEnds.{MemberEnds}
 use Rattle.unambiguity_laws.proofs.turns.OperatorLoop.{expressions_step}
 
 -- a tree has a node
@@ -48,7 +44,7 @@ module _ (S : Type 0) (Next : S → Token → S → Type 0) (behind : S → Toke
     pub block_closed : {r : Bool} {o : ℕ} {n : Tree} {s e : S} {P : List Pair} → height n ≤ suc h → Spells ways S Next behind o (block r) n s e P → FoundAt S Next behind o (block r) s e n P
     pub handler_closed : {r : Bool} {o : ℕ} {n : Tree} {s e : S} {P : List Pair} → height n ≤ suc h → Spells ways S Next behind o (handler r) n s e P → FoundAt S Next behind o (handler r) s e n P
     pub class_body_closed : {o : ℕ} {n : Tree} {s e : S} {P : List Pair} → height n ≤ suc h → Spells ways S Next behind o class_body n s e P → FoundAt S Next behind o class_body s e n P
-    pub member_closed : {o : ℕ} {n : Tree} {s e : S} {P : List Pair} → height n ≤ suc h → Spells ways S Next behind o member n s e P → FoundAt S Next behind o member s e n P
+    pub member : {o : ℕ} {n : Tree} {s e : S} {P : List Pair} → height n ≤ suc h → Spells ways S Next behind o member n s e P → MemberEnds S Next behind det e → FoundWhere S Next behind (λ n e. MemberEnds S Next behind det e) o member s e n P
     pub statement : {a : Role} {p d r : Bool} {o : ℕ} {n : Tree} {s e : S} {P : List Pair} → Stands a p d r → height n ≤ suc h → Spells ways S Next behind o a n s e P → Finished S Next behind n e → FoundWhere S Next behind (Finished S Next behind) o a s e n P
     pub declarator : {i b : Bool} {o : ℕ} {n : Tree} {s e : S} {P : List Pair} → height n ≤ suc h → Spells ways S Next behind o (declarator i b) n s e P → Declared S Next behind i n e → FoundWhere S Next behind (Declared S Next behind i) o (declarator i b) s e n P
     pub element : (x : Reading) {w : List ℕ} {a : Role} {o : ℕ} {n : Tree} {s e : S} {P : List Pair} → Closing w → height n ≤ suc h → element_as x (kind_of n) ≡ Some a → Spells ways S Next behind o a n s e P → Separated S Next behind det w e → FoundItem S Next behind (Separated S Next behind det w) (element_as x) o s e n P
@@ -67,7 +63,6 @@ module _ (S : Type 0) (Next : S → Token → S → Type 0) (behind : S → Toke
   any_closed {a = block r} c is low d = c.block_closed low d
   any_closed {a = handler r} c is low d = c.handler_closed low d
   any_closed {a = class_body} c is low d = c.class_body_closed low d
-  any_closed {a = member} c is low d = c.member_closed low d
   any_closed c is low d = absurd (false≢true is)
 
   -- All positions of the next height.
@@ -75,6 +70,7 @@ module _ (S : Type 0) (Next : S → Token → S → Type 0) (behind : S → Toke
   together x c = record {
     expressions = x;
     closed = λ {a} {o} {n} {s} {e} {P} is low d. any_closed c is low d;
+    member = λ {o} {n} {s} {e} {P} low d ends. c.member low d ends;
     statement = λ {a} {p} {d} {r} {o} {n} {s} {e} {P} st low d1 fine. c.statement st low d1 fine;
     declarator = λ {i} {b} {o} {n} {s} {e} {P} low d fine. c.declarator low d fine;
     element = λ x {w} {a} {o} {n} {s} {e} {P} w1 low is d ends. c.element x w1 low is d ends;
@@ -91,6 +87,7 @@ module _ (S : Type 0) (Next : S → Token → S → Type 0) (behind : S → Toke
   none_so_low = record {
     expressions = record { found = λ {o} {y} {i} {f} {n} low a b d st. no_tree n low; callee = λ {o} {n} low d st. no_tree n low };
     closed = λ {a} {o} {n} is low d. no_tree n low;
+    member = λ {o} {n} low d ends. no_tree n low;
     statement = λ {a} {p} {d} {r} {o} {n} st low d1 fine. no_tree n low;
     declarator = λ {i} {b} {o} {n} low d fine. no_tree n low;
     element = λ x {w} {a} {o} {n} w1 low is d ends. no_tree n low;
@@ -104,7 +101,7 @@ module _ (S : Type 0) (Next : S → Token → S → Type 0) (behind : S → Toke
   pub record Steps : Type 0 where
     pub expression_steps : {h : ℕ} → Unique S Next behind det h → ExpressionSteps S Next behind det h
     pub other_steps : {h : ℕ} → Unique S Next behind det h → Expressions S Next behind det (suc h) → OtherSteps S Next behind det h
-    pub script_unique : {h : ℕ} {o : ℕ} {n : Tree} {s e : S} {P : List Pair} → Unique S Next behind det h → height n ≤ suc h → Spells ways S Next behind o script n s e P → FoundAt S Next behind o script s e n P
+    pub script_unique : {h : ℕ} {o : ℕ} {n : Tree} {s e : S} {P : List Pair} → Unique S Next behind det h → height n ≤ suc h → Spells ways S Next behind o script n s e P → FoundWhere S Next behind (λ m e. text_of m ≡ text_of n) o script s e n P
 
   -- trees of each height are unique
   pub unique : Steps → (h : ℕ) → Unique S Next behind det h
@@ -117,13 +114,6 @@ module _ (S : Type 0) (Next : S → Token → S → Type 0) (behind : S → Toke
           let x = expressions_step S Next behind det alike u c.arguments c.chain_turn c.core c.new_callee in
           together S Next behind det x (steps.other_steps u x)
 
-  -- so is a script
-  pub any_script : Steps → {o : ℕ} {n : Tree} {s e : S} {P : List Pair} → Spells ways S Next behind o script n s e P → FoundAt S Next behind o script s e n P
+  -- so is a script, among those with its text
+  pub any_script : Steps → {o : ℕ} {n : Tree} {s e : S} {P : List Pair} → Spells ways S Next behind o script n s e P → FoundWhere S Next behind (λ m e. text_of m ≡ text_of n) o script s e n P
   any_script steps {n = n} d = steps.script_unique (unique steps (height n)) (omega arith) d
-
--- a text derives at most one script
-pub at_most_one_script : ((text : List ℕ) → Steps Token (NextIn text any_goal) itself (text_determined text) (text_alike text)) → AtMostOneScript
-at_most_one_script steps text n m P Q d d' =
-    let found = any_script Token (NextIn text any_goal) itself (text_determined text) (text_alike text) (steps text) d.1.1 in
-    let same = found.only d'.0 d'.1.0 m Q d'.1.1 in
-    (same.1, same.2)

@@ -26,6 +26,7 @@ use Rattle.language.proofs.climbing.Callees.{ClimbingCallee}
 use Rattle.language.proofs.list_loops.CommaLists.{Separated}
 use Rattle.language.proofs.covers.CoverEnds.{Closing}
 use Rattle.language.proofs.table.StatementWays.{Stands}
+use Rattle.unambiguity_laws.proofs.list_items.MemberEnds.{MemberEnds}
 
 -- positions that end with a token of their own, or whose ways alone say where they end
 abbrev pub is_closed : Role → Bool
@@ -36,7 +37,6 @@ is_closed body = true
 is_closed (block r) = true
 is_closed (handler r) = true
 is_closed class_body = true
-is_closed member = true
 is_closed _ = false
 
 module _ (S : Type 0) (Next : S → Token → S → Type 0) (behind : S → Token) (det : IsDetermined S Next behind) where
@@ -50,6 +50,7 @@ module _ (S : Type 0) (Next : S → Token → S → Type 0) (behind : S → Toke
   pub record Unique (h : ℕ) : Type 0 where
     pub expressions : Expressions h
     pub closed : {a : Role} {o : ℕ} {n : Tree} {s e : S} {P : List Pair} → is_closed a ≡ true → height n ≤ h → Spells ways S Next behind o a n s e P → FoundAt S Next behind o a s e n P
+    pub member : {o : ℕ} {n : Tree} {s e : S} {P : List Pair} → height n ≤ h → Spells ways S Next behind o member n s e P → MemberEnds S Next behind det e → FoundWhere S Next behind (λ n e. MemberEnds S Next behind det e) o member s e n P
     pub statement : {a : Role} {p d r : Bool} {o : ℕ} {n : Tree} {s e : S} {P : List Pair} → Stands a p d r → height n ≤ h → Spells ways S Next behind o a n s e P → Finished S Next behind n e → FoundWhere S Next behind (Finished S Next behind) o a s e n P
     pub declarator : {i b : Bool} {o : ℕ} {n : Tree} {s e : S} {P : List Pair} → height n ≤ h → Spells ways S Next behind o (declarator i b) n s e P → Declared S Next behind i n e → FoundWhere S Next behind (Declared S Next behind i) o (declarator i b) s e n P
     pub element : (x : Reading) {w : List ℕ} {a : Role} {o : ℕ} {n : Tree} {s e : S} {P : List Pair} → Closing w → height n ≤ h → element_as x (kind_of n) ≡ Some a → Spells ways S Next behind o a n s e P → Separated S Next behind det w e → FoundItem S Next behind (Separated S Next behind det w) (element_as x) o s e n P

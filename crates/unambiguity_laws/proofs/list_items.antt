@@ -11,6 +11,11 @@ pub mod GroupEnds
 pub mod GroupLists
 pub mod LinesOnce
 pub mod ListEnds
+pub mod MemberEnds
+pub mod MemberForms
+pub mod MemberLists
+pub mod MemberStops
+pub mod MembersOnce
 pub mod ObjectLists
 pub mod PatternLists
 pub mod PieceRuns
@@ -20,3 +25,4 @@ pub mod PropertySteps
 pub mod StatementLists
 pub mod TemplateElements
 pub mod UniqueRuns
+pub mod WordsOnce

@@ -2,14 +2,19 @@
 
 //! Theorems: the grammar is unambiguous, short scripts are within the limits, grouping pairs come in order.
 //! - May touch: nothing. It has no word about the parser, so the theorems hold for every text.
-//! - Contract: `at_most_one_script`: two derivations of a text agree in tree, places and pairs.
+//! - Contract: `at_most_one_script_in`: two derivations of a text in a language agree in tree, places and pairs.
 //! - Begin at: `specs/Laws.antt` for what is said; `proofs/Unique.antt` for why.
 
-ghost use Rattle.unambiguity_laws.specs.Laws.{AtMostOneScript, EarlierScriptIsTheOne, ShortScriptsFit, PairsInOrder};
+ghost use Rattle.unambiguity_laws.specs.Laws.{AtMostOneScript, AtMostOneScriptIn, EarlierScriptIsTheOne, ShortScriptsFit, ShortScriptsFitIn, PairsInOrder, PairsInOrderIn};
 
-/// A text derives at most one script: any two derivations of it agree in tree, places and pairs.
+/// A text derives at most one script of the base profile: any two derivations of it agree in tree, places and pairs.
 pub fn at_most_one_script()
     ensures { AtMostOneScript }
+{}
+
+/// The same in each language.
+pub fn at_most_one_script_in()
+    ensures { AtMostOneScriptIn }
 {}
 
 /// What a text derived by the 11th edition, without separators in numbers and without logical assignments, is all that it derives today.
@@ -23,7 +28,17 @@ pub fn short_scripts_fit()
     ensures { ShortScriptsFit }
 {}
 
+/// The same in each language.
+pub fn short_scripts_fit_in()
+    ensures { ShortScriptsFitIn }
+{}
+
 /// The grouping pairs of a script come in order of their `(`: each stands before the next one's, and each pair closes behind it.
 pub fn pairs_in_order()
     ensures { PairsInOrder }
+{}
+
+/// The same in each language.
+pub fn pairs_in_order_in()
+    ensures { PairsInOrderIn }
 {}

@@ -1,11 +1,10 @@
 -- Comments of gaps, and tokens that are kept or aren't.
-use Rattle.std.proofs.Common.{◌≡◌, ℕ, Bool, true, false, List, [], ◌∷◌, ◌++◌, IsTrue, refl}
+use Rattle.std.proofs.Common.{◌≡◌, ℕ, true, false, List, [], ◌∷◌, ◌++◌, refl}
 use Prim.Native.String.{String}
 use Rattle.std.specs.Prelude.{codes}
-use Rattle.tokens.specs.Comments.{Separators, nothing, blank, comment}
+use Rattle.tokens.specs.Comments.{nothing, blank, comment}
 use Rattle.tokens.specs.declared.token.TokenClass.{TokenClass}
 use Rattle.tokens.specs.declared.token.TokenClass.TheVariants.{IdentifierName, Punctuator}
-use Rattle.tokens.specs.Tokens.{LexicalToken}
 use Rattle.tokens.proofs.Beginnings.{true_false}
 use Rattle.tree.specs.declared.kind.Pair.{Pair}
 use Rattle.unwrapping.specs.Keeps.{Comment, SpacedToken, comments, AreKept, all, kept, moved_before, moved_after, gone, put, called, ended, IsSameToken}
@@ -125,3 +124,26 @@ semicolon_came (gone h k) = true_false _ h refl
 semicolon_came (put h k) = true_false _ h refl
 semicolon_came (called h k) = true_false _ h refl
 semicolon_came (moved_before s h e k) = true_false _ h refl
+
+-- `return yield (// c` and `a)`: the comment goes before both words
+comment_before_words : Kept (name "return" ∷ name "yield" ∷ sign "(" 0 ∷ spaced IdentifierName "a" 0 "// c " (d ∷ []) ∷ sign ")" 2 ∷ []) (spaced IdentifierName "return" 0 "// c " (d ∷ []) ∷ name "yield" ∷ spaced IdentifierName "a" 0 " " [] ∷ [])
+comment_before_words = moved_before {moved = d ∷ []} (same refl refl) refl refl (moved_before {moved = d ∷ []} (same refl refl) refl refl (gone refl (kept (same refl refl) (λ e. cc) refl (gone refl all))))
+
+-- `}` and `(from)`, and `};from`
+semicolon_before_from : Kept (sign "}" 5 ∷ sign "(" 0 ∷ name "from" ∷ sign ")" 2 ∷ []) (sign "}" 5 ∷ sign ";" 6 ∷ name "from" ∷ [])
+semicolon_before_from = kept (same refl refl) (λ e. refl) refl (ended refl (gone refl (kept (same refl refl) (λ e. cc) refl (gone refl all))))
+
+-- but none before another word
+semicolon_before_name : Kept (sign "}" 5 ∷ name "a" ∷ []) (sign "}" 5 ∷ sign ";" 6 ∷ name "a" ∷ []) → ⊥
+semicolon_before_name (kept s g e (kept t h f k)) = other (t.class)
+  where
+    other : IdentifierName ≡ Punctuator → ⊥
+    other h = cc
+semicolon_before_name (kept s g e (gone h k)) = true_false _ h refl
+semicolon_before_name (kept s g e (put h k)) = true_false _ h refl
+semicolon_before_name (kept s g e (called h k)) = true_false _ h refl
+semicolon_before_name (kept s g e (moved_before t h f k)) = true_false _ h refl
+semicolon_before_name (gone h k) = true_false _ h refl
+semicolon_before_name (put h k) = true_false _ h refl
+semicolon_before_name (called h k) = true_false _ h refl
+semicolon_before_name (moved_before s h e k) = true_false _ h refl

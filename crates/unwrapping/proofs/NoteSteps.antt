@@ -1,5 +1,5 @@
 -- What notes say of a tree.
-use Rattle.std.proofs.Common.{◌≡◌, ◌≢◌, ℕ, ◌+◌, ◌<◌, ◌≤◌, Bool, true, false, ◌&&◌, ◌||◌, ◌==◌, List, [], ◌∷◌, ◌++◌, length, take, get_or, IsTrue, refl, sym, ap, ◌∙◌, subst, arith, add-one, Some}
+use Rattle.std.proofs.Common.{◌≡◌, ℕ, ◌+◌, ◌<◌, ◌≤◌, Bool, true, false, ◌&&◌, ◌||◌, ◌==◌, List, [], ◌∷◌, ◌++◌, take, IsTrue, refl, sym, ap, ◌∙◌, subst, arith, add-one, Some}
 use Rattle.std.specs.Prelude.{nat_le, unwrap_or, if◌then◌else◌}
 use Rattle.std.specs.List.{list_any, slice_get}
 use Rattle.std.proofs.Math.Seq.{take-suc}
@@ -9,13 +9,12 @@ use Rattle.std.proofs.lemmas.List.Folds.{list_any-append}
 use Rattle.std.proofs.lemmas.Bool.Decides.{nat_tests}
 use Rattle.tokens.specs.declared.token.Goal.{Goal}
 use Rattle.tokens.specs.declared.token.Goal.TheVariants.{Div, RegExp, TemplateTail}
-use Rattle.tree.specs.Tree.{Tree, node, node_total}
-use Rattle.tree.specs.declared.kind.Kind.{Kind}
+use Rattle.tree.specs.Tree.{Tree, node_total}
 use Rattle.tree.specs.Flat.{post_order}
 use Rattle.tree.proofs.Grown.{length-post_order}
 use Rattle.reading_laws.specs.TreeReadings.{is_regexp_at, is_element_after, tree_goal}
 use Rattle.unwrapping.specs.declared.note.Note.{Note}
-use Rattle.unwrapping.specs.declared.note.Reading.TheVariants.{RegularExpression, TemplatePart, Postfix}
+use Rattle.unwrapping.specs.declared.note.Reading.TheVariants.{RegularExpression, TemplatePart, Postfix, ExportEnd}
 use Rattle.unwrapping.specs.declared.note.Reading.{Reading}
 use Rattle.unwrapping.specs.Readings.{is_regexp, is_part, is_regexp_note, is_part_note, ascend, AreNoted, InOrder, goal_of}
 
@@ -27,6 +26,10 @@ noted_on ns ms low notes others a b =
       regexps = λ at h. list_any-append (is_regexp_at at) ns ms ∙ (λ i. a.regexps at h i || b.regexps at h i) ∙ sym (list_any-append (is_regexp_note at) notes others);
       elements = λ at h. list_any-append (is_element_after at) ns ms ∙ (λ i. a.elements at h i || b.elements at h i) ∙ sym (list_any-append (is_part_note at) notes others);
     }
+
+-- from a later place on they are still these
+pub noted_from : (nodes : List Tree) (low : ℕ) (notes : List Note) → AreNoted nodes 0 notes → AreNoted nodes low notes
+noted_from nodes low notes a = record { regexps = λ at h. a.regexps at (omega arith); elements = λ at h. a.elements at (omega arith) }
 
 -- one node more
 taken : (n : Tree) (number : ℕ) (m : Tree) → slice_get (post_order n) number ≡ Some m → take (number + 1) (post_order n) ≡ take number (post_order n) ++ m ∷ []
@@ -96,6 +99,7 @@ by_reading : (r : Reading) → goal_by (is_regexp r) (is_part r) ≡ goal_of r
 by_reading RegularExpression = refl
 by_reading TemplatePart = refl
 by_reading Postfix = refl
+by_reading ExportEnd = refl
 
 -- where it is of this place
 pub goal_noted : (n : Tree) (at start : ℕ) (note : Note) (notes : List Note) → AreNoted (post_order n) at (note ∷ notes) → InOrder (note ∷ notes) → at ≤ start → note.at ≡ start → tree_goal n start ≡ goal_of note.reading

@@ -14,7 +14,7 @@ use Rattle.tokens.proofs.TriviaSteps.{begins_slash}
 use Rattle.tokens.proofs.TokenUniqueness.{comment_same, gap_same, token_solid, determined}
 use Rattle.tree.specs.Tree.{Tree}
 use Rattle.reading_laws.specs.TreeReadings.{tree_goal, IsTreeReading, last, more}
-use Rattle.unwrapping.specs.Keeps.{comments, SpacedToken, spaced_tokens}
+use Rattle.unwrapping.specs.Keeps.{comments, spaced_tokens}
 
 nil_cons : (c : ℕ) (cs : List ℕ) → [] ≡ c ∷ cs → ⊥
 nil_cons c cs e = cc

@@ -1,7 +1,7 @@
 -- The turns of the loop that reads a text by its tree.
-use Rattle.std.proofs.Common.{◌≡◌, ℕ, ◌+◌, ◌<◌, ◌≤◌, Bool, true, false, not, ◌&&◌, List, [], ◌∷◌, ◌++◌, length, map, drop, IsTrue, refl, sym, ap, ◌∙◌, subst, append_assoc, append-nil, arith}
+use Rattle.std.proofs.Common.{◌≡◌, ℕ, ◌+◌, Bool, true, not, ◌&&◌, List, [], ◌∷◌, ◌++◌, drop, IsTrue, refl, sym, ap, ◌∙◌, subst, append_assoc, arith}
 use Rattle.std.specs.Prelude.{encode_utf8_all, slice_range}
-use Rattle.std.specs.Str.{chars, IsUtf8}
+use Rattle.std.specs.Str.{IsUtf8}
 use Rattle.std.specs.Char.{encode_utf8, len_utf8}
 use Rattle.std.proofs.lemmas.Bool.Decides.{nat_tests}
 use Rattle.std.proofs.lemmas.Str.{encodes-chars, IsUtf8-drop}
@@ -12,15 +12,15 @@ use Rattle.tokens.specs.Comments.{Separators}
 use Rattle.tokens.specs.declared.token.Goal.{Goal}
 use Rattle.tokens.specs.declared.token.TokenClass.{TokenClass}
 use Rattle.tokens.specs.declared.token.TokenClass.TheVariants.{End}
-use Rattle.tokens.specs.Lexical.{is_of, may_stand, none_longer, ends_well, is_token}
+use Rattle.tokens.specs.Lexical.{is_of, none_longer, ends_well, is_token}
 use Rattle.tokens.specs.Tokens.{LexicalToken, IsTokenAt, is_end, size}
 use Rattle.tokens.specs.Reading.{behind, Reads}
 use Rattle.tokens.specs.Scanned.{Passed}
-use Rattle.tokens.proofs.PassedCharacters.{size_append, size_one, passed_none, passed_on, passed_slice, pass_char}
+use Rattle.tokens.proofs.PassedCharacters.{size_one, passed_none, passed_on, passed_slice, pass_char}
 use Rattle.tokens.proofs.TriviaSteps.{nil_only}
 use Rattle.tree.specs.Tree.{Tree}
 use Rattle.tree.specs.declared.kind.Pair.{Pair}
-use Rattle.reading_laws.specs.TreeReadings.{tree_goal, IsTreeReading, last, more}
+use Rattle.reading_laws.specs.TreeReadings.{tree_goal, IsTreeReading, last, more, hashbang_line, IsReadingBehind}
 use Rattle.unwrapping.specs.declared.comment.CommentRow.{CommentRow}
 use Rattle.unwrapping.specs.declared.reading.TokenRow.{TokenRow}
 use Rattle.unwrapping.specs.declared.reading.TreeReading.{TreeReading}
@@ -78,17 +78,18 @@ row_of_token text pairs goal at t rest row u p x class bytes start grouping =
 
 pub record IsWhole (n : Tree) (text : List ℕ) (before after : List SpacedToken) : Type 0 where
   pub tokens : List LexicalToken
-  pub reading : IsTreeReading n 0 (chars text) tokens
+  pub reading : IsReadingBehind n text tokens
   pub same : spaced_tokens reading ≡ before ++ after
 
--- rows have the tokens up to a place: with whatever is read from there on they are the reading of the tree
-pub record IsReadTo (text : List ℕ) (n : Tree) (pairs : List Pair) (at : ℕ) (rows : List TokenRow) : Type 0 where
+-- rows have the tokens from a place to another: with whatever is read from there on they are the reading of the tree
+pub record IsReadTo (text : List ℕ) (n : Tree) (pairs : List Pair) (from at : ℕ) (rows : List TokenRow) : Type 0 where
   pub tokens : List SpacedToken
-  pub hold : AreRows text pairs 0 rows tokens at
+  pub hold : AreRows text pairs from rows tokens at
   pub goes_on : (others : List LexicalToken) (r : IsTreeReading n at (behind text at) others) → IsWhole n text tokens (spaced_tokens r)
 
-pub begins_reading : (text : List ℕ) (n : Tree) (pairs : List Pair) → IsReadTo text n pairs 0 []
-begins_reading text n pairs = record { tokens = []; hold = none; goes_on = λ others r. record { tokens = others; reading = r; same = refl } }
+-- the first token is read behind the line of `#!`
+pub begins_reading : (text : List ℕ) (n : Tree) (pairs : List Pair) (from : ℕ) → from ≡ size (hashbang_line n text) → IsReadTo text n pairs from from []
+begins_reading text n pairs from e = subst (λ at. IsReadTo text n pairs at at []) (sym e) (record { tokens = []; hold = none; goes_on = λ others r. record { tokens = others; reading = r; same = refl } })
 
 rows_on : (text : List ℕ) (pairs : List Pair) {at stop : ℕ} (rows : List TokenRow) (ss : List SpacedToken) (row : TokenRow) (s : SpacedToken) → AreRows text pairs at rows ss stop → IsRow text pairs stop row s →
     AreRows text pairs at (rows ++ row ∷ []) (ss ++ s ∷ []) row.span.end
@@ -96,12 +97,12 @@ rows_on text pairs rows ss row s none is = one is none
 rows_on text pairs rows ss row s (one h others) is = one h (rows_on text pairs _ _ row s others is)
 
 -- one token more
-pub reads_on : (text : List ℕ) (n : Tree) (pairs : List Pair) (at : ℕ) (rows : List TokenRow) (row : TokenRow) (t : LexicalToken) → IsReadTo text n pairs at rows →
-    (read : Reads text (tree_goal n t.start) at t) → IsRow text pairs at row (spaced t read) → row.span.end ≡ t.stop → IsTrue (not (is_end t.class)) → IsReadTo text n pairs t.stop (rows ++ row ∷ [])
-reads_on text n pairs at rows row t h read is stop goes =
+pub reads_on : (text : List ℕ) (n : Tree) (pairs : List Pair) (from at : ℕ) (rows : List TokenRow) (row : TokenRow) (t : LexicalToken) → IsReadTo text n pairs from at rows →
+    (read : Reads text (tree_goal n t.start) at t) → IsRow text pairs at row (spaced t read) → row.span.end ≡ t.stop → IsTrue (not (is_end t.class)) → IsReadTo text n pairs from t.stop (rows ++ row ∷ [])
+reads_on text n pairs from at rows row t h read is stop goes =
     record {
       tokens = h.tokens ++ spaced t read ∷ [];
-      hold = subst (AreRows text pairs 0 (rows ++ row ∷ []) (h.tokens ++ spaced t read ∷ [])) stop (rows_on text pairs rows h.tokens row (spaced t read) h.hold is);
+      hold = subst (AreRows text pairs from (rows ++ row ∷ []) (h.tokens ++ spaced t read ∷ [])) stop (rows_on text pairs rows h.tokens row (spaced t read) h.hold is);
       goes_on = λ others r.
           let w = h.goes_on (t ∷ others) (more read goes r) in
           record { tokens = w.tokens; reading = w.reading; same = w.same ∙ sym (append_assoc h.tokens (spaced t read ∷ []) (spaced_tokens r)) };
@@ -114,18 +115,20 @@ ends_text class word rest e h = nil_only rest (second (is_of End word) (is_empty
   second a b d e h = grind (arith, nat_tests)
 
 -- the end of the text
-pub reads_end : (text : List ℕ) (n : Tree) (pairs : List Pair) (at : ℕ) (rows : List TokenRow) (row : TokenRow) (t : LexicalToken) (read : TreeReading) → IsReadTo text n pairs at rows →
+pub reads_end : (text : List ℕ) (n : Tree) (pairs : List Pair) (from at : ℕ) (rows : List TokenRow) (row : TokenRow) (t : LexicalToken) (read : TreeReading) → read.start ≡ from → from ≡ size (hashbang_line n text) → IsReadTo text n pairs from at rows →
     ((rest : List ℕ) (x : IsTokenAt (tree_goal n t.start) at (behind text at) t rest) → IsRow text pairs at row (spaced t x)) → Reads text (tree_goal n t.start) at t → t.class ≡ End → read.tokens.items ≡ rows ++ row ∷ [] → IsRead text n pairs read
-reads_end text n pairs at rows row t read h is reads ends same =
+reads_end text n pairs from at rows row t read start line h is reads ends same =
     let nothing_more = ends_text t.class reads.word (behind text t.stop) ends reads.longest in
     let at_end : IsTokenAt (tree_goal n t.start) at (behind text at) t [] = subst (λ r. IsTokenAt (tree_goal n t.start) at (behind text at) t r) nothing_more reads in
     let w = h.goes_on (t ∷ []) (last at_end (subst (λ c. IsTrue (is_end c)) (sym ends) refl)) in
     record {
       tokens = w.tokens;
       reading = w.reading;
+      start = start ∙ line;
       stop = row.span.end;
-      rows = subst (λ ss. AreRows text pairs 0 read.tokens.items ss row.span.end) (sym w.same)
-          (subst (λ rs. AreRows text pairs 0 rs (h.tokens ++ spaced t at_end ∷ []) row.span.end) (sym same) (rows_on text pairs rows h.tokens row (spaced t at_end) h.hold (is [] at_end)));
+      rows = subst (λ ss. AreRows text pairs read.start read.tokens.items ss row.span.end) (sym w.same)
+          (subst (λ rs. AreRows text pairs read.start rs (h.tokens ++ spaced t at_end ∷ []) row.span.end) (sym same)
+          (subst (λ k. AreRows text pairs k (rows ++ row ∷ []) (h.tokens ++ spaced t at_end ∷ []) row.span.end) (sym start) (rows_on text pairs rows h.tokens row (spaced t at_end) h.hold (is [] at_end))));
     }
 
 pub no_end : (class : TokenClass) → (class ≡ End → ⊥) → IsTrue (not (is_end class))

@@ -1,8 +1,11 @@
 -- The turns of the comparison of a text with its unwrapped text.
-use Rattle.std.specs.Prelude.{◌≡◌, ◌<◌, ◌+◌, ℕ, Bool, true, false, ◌&&◌, List, [], ◌∷◌, ◌++◌, length, IsTrue}
+use Rattle.std.specs.Prelude.{◌≡◌, ◌<◌, ◌+◌, ℕ, Bool, true, false, cond, ◌&&◌, ◌||◌, List, [], ◌∷◌, ◌++◌, length, IsTrue}
 use Prim.Native.String.{String}
 use Rattle.tokens.specs.Lexical.{is_one_of_words}
+use Rattle.tokens.specs.Tokens.{size}
+use Rattle.tree.specs.Tree.{Tree}
 use Rattle.tree.specs.declared.kind.Pair.{Pair}
+use Rattle.reading_laws.specs.TreeReadings.{hashbang_line}
 use Rattle.unwrapping.specs.declared.comment.CommentRow.{CommentRow}
 use Rattle.unwrapping.specs.declared.reading.TokenRow.{TokenRow}
 use Rattle.unwrapping.specs.declared.keeping.Rest.{Rest}
@@ -18,6 +21,20 @@ next_is words text (row ∷ rows) = is_one_of_words words (bytes_in text row.spa
 abbrev pub next_is_grouping : List TokenRow → Bool
 next_is_grouping [] = false
 next_is_grouping (row ∷ rows) = row.is_grouping
+
+-- a grouping parenthesis comes next, perhaps behind words that no line may end after
+abbrev pub leads_rows : List ℕ → List TokenRow → Bool
+leads_rows text [] = false
+leads_rows text (row ∷ rows) = row.is_grouping || (is_one_of_words ("return" ∷ "throw" ∷ "yield" ∷ []) (bytes_in text row.span) && leads_rows text rows)
+
+-- grouping parentheses aside, the next row has the word `from`
+abbrev pub from_rows : List ℕ → List TokenRow → Bool
+from_rows text [] = false
+from_rows text (row ∷ rows) = cond row.is_grouping (from_rows text rows) (is_one_of_words ("from" ∷ []) (bytes_in text row.span))
+
+-- a `;` may come behind a token of these bytes, before these rows
+abbrev pub may_be_ended_before : List ℕ → List ℕ → List TokenRow → Bool
+may_be_ended_before bytes text rows = is_one_of_words ("++" ∷ "--" ∷ []) bytes || (is_one_of_words ("}" ∷ []) bytes && from_rows text rows)
 
 -- the next rows have `(` and `)`
 abbrev pub begins_call : List ℕ → List TokenRow → Bool
@@ -57,7 +74,7 @@ pub record IsSameRest (old new : Comparison) : Type 0 where
   pub rows_again : new.unwrapped.rows.now ≡ old.unwrapped.rows.now
   pub at : new.text.at ≡ old.text.at
   pub at_again : new.unwrapped.at ≡ old.unwrapped.at
-  pub updated : new.updated ≡ old.updated
+  pub may_end : new.may_end ≡ old.may_end
 
 abbrev pub row_count : Comparison → ℕ
 row_count left = length left.text.rows.now + length left.unwrapped.rows.now
@@ -75,7 +92,7 @@ pub record IsLeft (text : List ℕ) (pairs : List Pair) (unwrapped : List ℕ) (
 -- what is left is kept
 abbrev pub IsKept : List ℕ → List Pair → List ℕ → List Pair → Comparison → List SpacedToken → List SpacedToken → Type 0
 IsKept text pairs unwrapped pairs_again left ss ts =
-    AreKept pairs pairs_again left.updated left.alike (comments_in text left.text.passed.items) (comments_in unwrapped left.unwrapped.passed.items) ss ts
+    AreKept pairs pairs_again left.may_end left.alike (comments_in text left.text.passed.items) (comments_in unwrapped left.unwrapped.passed.items) ss ts
 
 -- if what is left later is kept, so is what is left now
 pub record IsReduced (text : List ℕ) (pairs : List Pair) (unwrapped : List ℕ) (pairs_again : List Pair) (old new : Comparison) (ss ts : List SpacedToken) : Type 0 where
@@ -88,8 +105,12 @@ abbrev pub Leads : List ℕ → List ℕ → Comparison → Comparison → Type 
 Leads text unwrapped old new =
     (pairs pairs_again : List Pair) (ss ts : List SpacedToken) → IsLeft text pairs unwrapped pairs_again old ss ts → IsReduced text pairs unwrapped pairs_again old new ss ts
 
--- rows of the tokens of two texts: these are kept
-abbrev pub KeepsRows : List ℕ → List TokenRow → List ℕ → List TokenRow → Type 0
-KeepsRows text rows unwrapped others =
-    (pairs pairs_again : List Pair) (ss ts : List SpacedToken) (stop stop_again : ℕ) → AreRows text pairs 0 rows ss stop → AreRows unwrapped pairs_again 0 others ts stop_again →
+-- of two texts whose tokens begin at these places: the lines of `#!` before them are the same
+abbrev pub BeginsAlike : List ℕ → ℕ → List ℕ → ℕ → Type 0
+BeginsAlike text from unwrapped from_again = (n again : Tree) → from ≡ size (hashbang_line n text) → from_again ≡ size (hashbang_line again unwrapped) → hashbang_line n text ≡ hashbang_line again unwrapped
+
+-- rows of the tokens of two texts, from these places on: these are kept
+abbrev pub KeepsRows : ℕ → List ℕ → List TokenRow → ℕ → List ℕ → List TokenRow → Type 0
+KeepsRows from text rows from_again unwrapped others =
+    (pairs pairs_again : List Pair) (ss ts : List SpacedToken) (stop stop_again : ℕ) → AreRows text pairs from rows ss stop → AreRows unwrapped pairs_again from_again others ts stop_again →
     AreKept pairs pairs_again false true [] [] ss ts

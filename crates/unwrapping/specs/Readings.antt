@@ -1,19 +1,17 @@
 -- The program's own rows for the tokens and comments of a text, and its notes of the places where the tree decides how a token is read.
 use Rattle.std.specs.Prelude.{◌≡◌, ℕ, ◌≤◌, Bool, true, false, ◌&&◌, ◌==◌, ◌+◌, nat_le, List, [], ◌∷◌, ◌++◌, map, slice_range, IsTrue}
 use Rattle.std.specs.List.{list_any}
-use Rattle.std.specs.Str.{chars}
 use Rattle.tokens.specs.Comments.{Separators}
 use Rattle.tokens.specs.declared.token.Goal.{Goal}
 use Rattle.tokens.specs.declared.token.Goal.TheVariants.{Div, RegExp, TemplateTail}
 use Rattle.tokens.specs.Reading.{behind}
 use Rattle.tokens.specs.Scanned.{Passed}
-use Rattle.tokens.specs.Tokens.{LexicalToken}
+use Rattle.tokens.specs.Tokens.{LexicalToken, size}
 use Rattle.tree.specs.Tree.{Tree}
 use Rattle.tree.specs.declared.kind.Pair.{Pair}
-use Rattle.tree.specs.Flat.{post_order}
-use Rattle.reading_laws.specs.TreeReadings.{is_regexp_at, is_element_after, IsTreeReading}
+use Rattle.reading_laws.specs.TreeReadings.{is_regexp_at, is_element_after, hashbang_line, IsReadingBehind}
 use Rattle.unwrapping.specs.declared.note.Reading.{Reading}
-use Rattle.unwrapping.specs.declared.note.Reading.TheVariants.{RegularExpression, TemplatePart, Postfix}
+use Rattle.unwrapping.specs.declared.note.Reading.TheVariants.{RegularExpression, TemplatePart, Postfix, ExportEnd}
 use Rattle.unwrapping.specs.declared.note.Note.{Note}
 use Rattle.unwrapping.specs.declared.comment.CommentRow.{CommentRow}
 use Rattle.unwrapping.specs.declared.reading.ByteSpan.{ByteSpan}
@@ -54,19 +52,22 @@ pub data AreRows (text : List ℕ) (pairs : List Pair) : ℕ → List TokenRow �
 -- what was read of a text is the reading of a tree
 pub record IsRead (text : List ℕ) (n : Tree) (pairs : List Pair) (read : TreeReading) : Type 0 where
   pub tokens : List LexicalToken
-  pub reading : IsTreeReading n 0 (chars text) tokens
+  pub reading : IsReadingBehind n text tokens
+  pub start : read.start ≡ size (hashbang_line n text)
   pub stop : ℕ
-  pub rows : AreRows text pairs 0 read.tokens.items (spaced_tokens reading) stop
+  pub rows : AreRows text pairs read.start read.tokens.items (spaced_tokens reading) stop
 
 abbrev pub is_regexp : Reading → Bool
 is_regexp RegularExpression = true
 is_regexp TemplatePart = false
 is_regexp Postfix = false
+is_regexp ExportEnd = false
 
 abbrev pub is_part : Reading → Bool
 is_part RegularExpression = false
 is_part TemplatePart = true
 is_part Postfix = false
+is_part ExportEnd = false
 
 -- the note of a regular expression at a place
 abbrev pub is_regexp_note : ℕ → Note → Bool
@@ -90,6 +91,7 @@ abbrev pub goal_of : Reading → Goal
 goal_of RegularExpression = RegExp
 goal_of TemplatePart = TemplateTail
 goal_of Postfix = Div
+goal_of ExportEnd = Div
 
 -- some nodes have regular expressions and elements of templates at just the places that the notes say
 pub record AreNoted (nodes : List Tree) (low : ℕ) (notes : List Note) : Type 0 where

@@ -6,7 +6,7 @@ ghost use Rattle.tree.specs.Tree.{Tree};
 ghost use Rattle.tree.specs.declared.kind.Pair.{Pair};
 ghost use Rattle.unwrapping.specs.Keeps.{Keeps, first_ends_line, last_ends_line};
 ghost use Rattle.unwrapping.specs.Readings.{bytes_in, comments_in, IsRead};
-ghost use Rattle.unwrapping.specs.Comparing.{AreSameRows, BeginsWith, Cancels, IsSameRest, IsShorter, KeepsRows, Leads, PassesRow, Settles, begins_call, next_is, next_is_grouping};
+ghost use Rattle.unwrapping.specs.Comparing.{AreSameRows, BeginsAlike, BeginsWith, Cancels, IsSameRest, IsShorter, KeepsRows, Leads, PassesRow, Settles, begins_call, from_rows, leads_rows, may_be_ended_before, next_is, next_is_grouping};
 
 use crate::comment::{CommentRow, ends_line, push_comments};
 use crate::reading::{ByteSpan, TokenRow, TreeReading, tree_reading};
@@ -26,15 +26,15 @@ pub(crate) struct Rest<'t> {
 }
 
 impl<'t> Rest<'t> {
-    /// All of a text; no memory.
-    fn all(alloc: Global, rows: &'t [TokenRow]) -> Rest<'t>
+    /// All of a text from a place on; no memory.
+    fn all(alloc: Global, rows: &'t [TokenRow], at: u32) -> Rest<'t>
         ensures rows { result.rows.now ≡ rows.now }
-        ensures at { result.at ≡ 0 }
+        ensures at { result.at ≡ at }
         ensures passed { result.passed.items ≡ [] }
     {
         Rest {
             rows,
-            at: 0,
+            at,
             passed: Vec::new(alloc),
         }
     }
@@ -145,15 +145,68 @@ fn is_update(text: &[u8], row: TokenRow) -> bool
 
 /// Whether no line may end after a token.
 fn binds_next(text: &[u8], row: TokenRow) -> bool
-    ensures { result ≡ true → IsTrue (is_one_of_words ("return" ∷ "throw" ∷ []) (bytes_in text.now row.span)) }
+    ensures { result ≡ true → IsTrue (is_one_of_words ("return" ∷ "throw" ∷ "yield" ∷ []) (bytes_in text.now row.span)) }
 {
     let Some(bytes) = row.span.bytes_in(text) else {
         return false;
     };
-    if bytes == b"return".as_slice() {
+    if bytes == b"return".as_slice() || bytes == b"throw".as_slice() {
         return true;
     }
-    bytes == b"throw".as_slice()
+    bytes == b"yield".as_slice()
+}
+
+/// Whether a token is `}`.
+fn is_closing_brace(text: &[u8], row: TokenRow) -> bool
+    ensures { result ≡ true → IsTrue (is_one_of_words ("}" ∷ []) (bytes_in text.now row.span)) }
+{
+    match row.span.bytes_in(text) {
+        Some([b'}']) => true,
+        _ => false,
+    }
+}
+
+/// Whether, grouping parentheses aside, the word `from` comes next.
+fn comes_from(text: &[u8], rows: &[TokenRow]) -> bool
+    ensures { result ≡ true → from_rows text.now rows.now ≡ true }
+{
+    for row in rows {
+        if !row.is_grouping {
+            return match row.span.bytes_in(text) {
+                Some(bytes) => bytes == b"from".as_slice(),
+                None => false,
+            };
+        }
+    }
+    false
+}
+
+/// Whether a `;` may come behind a token of the unwrapped text, before these tokens of the text.
+fn may_be_ended(unwrapped: &[u8], other: TokenRow, text: &[u8], rows: &[TokenRow]) -> bool
+    ensures { result ≡ true → may_be_ended_before (bytes_in unwrapped.now other.span) text.now rows.now ≡ true }
+{
+    if is_update(unwrapped, other) {
+        return true;
+    }
+    if !is_closing_brace(unwrapped, other) {
+        return false;
+    }
+    comes_from(text, rows)
+}
+
+/// Whether a grouping parenthesis comes next, perhaps behind words that no line may end after.
+fn leads_to_group(text: &[u8], rows: &[TokenRow]) -> bool
+    ensures { result ≡ true → leads_rows text.now rows.now ≡ true }
+{
+    for row in rows {
+        if row.is_grouping {
+            return true;
+        }
+        if !binds_next(text, *row) {
+            return false;
+        }
+    }
+    false
 }
 
 /// Whether no line may end before a token, or none ends there in the usual layout.
@@ -211,8 +264,8 @@ fn cancel_front(
 pub(crate) struct Comparison<'t> {
     text: Rest<'t>,
     unwrapped: Rest<'t>,
-    /// Whether the last token that was kept is `++` or `--`.
-    updated: bool,
+    /// Whether a `;` may come behind the last token that was kept.
+    may_end: bool,
     /// Whether nothing has gone, come or moved since.
     alike: bool,
 }
@@ -240,10 +293,10 @@ impl<'t> Comparison<'t> {
 
     /// Whether a `;` comes next in the unwrapped text, and may.
     fn is_ended(&self, unwrapped: &[u8]) -> bool
-        ensures updated { result ≡ true → self.now.updated ≡ true }
+        ensures may_end { result ≡ true → self.now.may_end ≡ true }
         ensures semicolon { result ≡ true → next_is (";" ∷ []) unwrapped.now self.now.unwrapped.rows.now ≡ true }
     {
-        self.updated
+        self.may_end
             && match self.unwrapped.rows.first() {
                 Some(row) => is_semicolon(unwrapped, *row),
                 None => false,
@@ -299,13 +352,13 @@ impl<'t> Comparison<'t> {
 
     /// A `;` comes.
     fn end(&mut self, unwrapped: &Source<'_>) -> Result<bool, AllocError>
-        requires updated { self.old.updated ≡ true }
+        requires may_end { self.old.may_end ≡ true }
         requires semicolon { next_is (";" ∷ []) unwrapped.now self.old.unwrapped.rows.now ≡ true }
         ensures leads { IfOk result (λ is. is ≡ true → (text : List ℕ) → Leads text unwrapped.now self.old self.new) }
         ensures fewer { IfOk result (λ is. is ≡ true → IsShorter self.old self.new) }
     {
         self.alike = false;
-        self.updated = false;
+        self.may_end = false;
         self.unwrapped.pass(unwrapped)
     }
 
@@ -316,7 +369,7 @@ impl<'t> Comparison<'t> {
         ensures fewer { IfOk result (λ is. is ≡ true → IsShorter self.old self.new) }
     {
         self.alike = false;
-        self.updated = false;
+        self.may_end = false;
         let opened = self.unwrapped.pass(unwrapped)?;
         if !opened {
             return Ok(false);
@@ -347,7 +400,7 @@ impl<'t> Comparison<'t> {
         if !passed || !passed_again {
             return Ok(false);
         }
-        self.updated = is_update(again, other);
+        self.may_end = may_be_ended(again, other, text, self.text.rows);
         let may_lead = self.may_lead(text, row);
         self.settle(text, again, stays, may_lead, may_follow)
     }
@@ -380,13 +433,13 @@ impl<'t> Comparison<'t> {
 
     /// Whether comments that stand after a token, which was passed, may move before it.
     fn may_lead(&self, text: &[u8], row: TokenRow) -> bool
-        ensures word { result ≡ true → IsTrue (is_one_of_words ("return" ∷ "throw" ∷ []) (bytes_in text.now row.span)) }
-        ensures next { result ≡ true → next_is_grouping self.now.text.rows.now ≡ true }
+        ensures word { result ≡ true → IsTrue (is_one_of_words ("return" ∷ "throw" ∷ "yield" ∷ []) (bytes_in text.now row.span)) }
+        ensures next { result ≡ true → leads_rows text.now self.now.text.rows.now ≡ true }
     {
-        if !self.text.is_grouping() {
+        if !binds_next(text, row) {
             return false;
         }
-        binds_next(text, row)
+        leads_to_group(text, self.text.rows)
     }
 
     /// Takes the comments that both texts have off their lists, and says whether those that are left may move over the token that was
@@ -467,16 +520,16 @@ fn begins_call(text: &[u8], rows: &[TokenRow]) -> bool
 fn are_kept(
     alloc: Global,
     source: &Source<'_>,
-    rows: &[TokenRow],
+    reading: &TreeReading,
     unwrapped: &Source<'_>,
-    others: &[TokenRow],
+    again: &TreeReading,
 ) -> Result<bool, AllocError>
-    ensures { IfOk result (λ are. are ≡ true → KeepsRows source.now rows.now unwrapped.now others.now) }
+    ensures { IfOk result (λ are. are ≡ true → KeepsRows reading.now.start source.now reading.now.tokens.items again.now.start unwrapped.now again.now.tokens.items) }
 {
     let mut left = Comparison {
-        text: Rest::all(alloc, rows),
-        unwrapped: Rest::all(alloc, others),
-        updated: false,
+        text: Rest::all(alloc, &reading.tokens, reading.start),
+        unwrapped: Rest::all(alloc, &again.tokens, again.start),
+        may_end: false,
         alike: true,
     };
     while !left.is_done() {
@@ -485,6 +538,27 @@ fn are_kept(
         }
     }
     Ok(true)
+}
+
+/// Whether the same bytes stand before the first tokens' beginnings: the line of `#!`, or none.
+fn begin_alike_before(
+    source: &Source<'_>,
+    reading: &TreeReading,
+    unwrapped: &Source<'_>,
+    again: &TreeReading,
+) -> bool
+    ensures { result ≡ true → BeginsAlike source.now reading.now.start unwrapped.now again.now.start }
+{
+    let line = ByteSpan {
+        start: 0,
+        end: reading.start,
+    };
+    let line_again = ByteSpan {
+        start: 0,
+        end: again.start,
+    };
+    let (text, text_again) = (source.text(), unwrapped.text());
+    are_same(text.as_bytes(), line, text_again.as_bytes(), line_again)
 }
 
 /// Whether an unwrapped text keeps the tokens of a text, and the comments and bytes between them. `reading` is what was read of the text,
@@ -504,8 +578,11 @@ pub fn keeps(
 ) -> Result<bool, AllocError>
     ensures { IfOk result (λ keeps. keeps ≡ true → (n : Tree) (pairs : List Pair) → IsRead source.now n pairs reading.now → Keeps source.now n pairs unwrapped.now program.now pairs_again.now) }
 {
-    match tree_reading(alloc, unwrapped, program, pairs_again)? {
-        Some(again) => are_kept(alloc, source, &reading.tokens, unwrapped, &again.tokens),
-        None => Ok(false),
+    let Some(again) = tree_reading(alloc, unwrapped, program, pairs_again)? else {
+        return Ok(false);
+    };
+    if !begin_alike_before(source, reading, unwrapped, &again) {
+        return Ok(false);
     }
+    are_kept(alloc, source, reading, unwrapped, &again)
 }

@@ -12,6 +12,8 @@ pub(crate) struct Lexeme<'s> {
     pub end: usize,
     pub gap: &'s [u8],
     pub is_postfix: bool,
+    /// It ends an export of the module's own names.
+    pub ends_export: bool,
 }
 
 impl TokenRow {
@@ -33,6 +35,7 @@ impl<'s> Lexeme<'s> {
             end,
             gap: bytes_between(bytes, at, start),
             is_postfix: row.is_postfix,
+            ends_export: row.ends_export,
         }
     }
 }

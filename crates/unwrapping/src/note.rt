@@ -3,7 +3,7 @@
 ghost use Rattle.std.specs.Prelude.{◌≡◌, IfOk, IfSome, IfNone, true, [], ◌∷◌};
 ghost use Rattle.tree.specs.Node.{node_tree};
 ghost use Rattle.tree.specs.Tree.{kind_of};
-ghost use Rattle.tree.specs.declared.kind.Kind.TheVariants.{Literal, TemplateElement, UpdateExpression};
+ghost use Rattle.tree.specs.declared.kind.Kind.TheVariants.{ExportNamedDeclaration, Literal, TemplateElement, UpdateExpression};
 ghost use Rattle.tree.specs.Flat.{post_order};
 ghost use Rattle.unwrapping.specs.Readings.{AreNoted, InOrder};
 
@@ -19,6 +19,8 @@ pub enum Reading {
     TemplatePart,
     /// `++` or `--` after its operand.
     Postfix,
+    /// The last token of an export of the module's own names.
+    ExportEnd,
 }
 
 /// The place of such a token, in bytes, and how it is read.
@@ -55,6 +57,7 @@ fn note_of(node: Node) -> Option<Note>
         Kind::Literal => regexp_note(node),
         Kind::TemplateElement => part_note(node),
         Kind::UpdateExpression => postfix_note(node),
+        Kind::ExportNamedDeclaration => export_note(node),
         _ => None,
     }
 }
@@ -102,6 +105,22 @@ fn postfix_note(node: Node) -> Option<Note>
     Some(Note {
         at: node.span().end.saturating_sub(2),
         reading: Reading::Postfix,
+    })
+}
+
+/// What an export notes: where its last token is, if it has neither a declaration nor a source.
+fn export_note(node: Node) -> Option<Note>
+    requires { kind_of (node_tree node) ≡ ExportNamedDeclaration }
+    ensures some { IfSome result (λ note. AreNoted (node_tree node.entry ∷ []) 0 (note ∷ [])) }
+    ensures none { IfNone result (AreNoted (node_tree node.entry ∷ []) 0 []) }
+{
+    let last = node.part_count().saturating_sub(1);
+    if node.part(0).is_some() || node.part(last).is_some() {
+        return None;
+    }
+    Some(Note {
+        at: node.span().end.saturating_sub(1),
+        reading: Reading::ExportEnd,
     })
 }
 

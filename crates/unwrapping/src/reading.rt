@@ -8,14 +8,15 @@ ghost use Rattle.tokens.specs.declared.token.Goal.TheVariants.{Div};
 ghost use Rattle.tokens.specs.declared.token.TokenClass.TheVariants.{End};
 ghost use Rattle.tree.specs.Tree.{Tree};
 ghost use Rattle.tree.specs.Flat.{post_order};
-ghost use Rattle.reading_laws.specs.TreeReadings.{tree_goal};
+ghost use Rattle.reading_laws.specs.TreeReadings.{hashbang_line, tree_goal};
+ghost use Rattle.tokens.specs.Tokens.{size};
 ghost use Rattle.unwrapping.specs.Readings.{IsRead, AreNoted, InOrder, goal_of, bytes_in};
 
 use crate::note::{Note, Reading, are_ascending, notes};
 use crate::pair_walk::PairWalk;
 use source_text::Source;
 use std::alloc::{AllocError, Global};
-use tokens::{Goal, Token, TokenClass, scan};
+use tokens::{Goal, Token, TokenClass, hashbang_end, scan};
 use tree::{Pair, Program};
 
 /// A part of a text, in bytes, four bytes for each end.
@@ -60,6 +61,8 @@ pub struct TokenRow {
     pub class: TokenClass,
     /// It is `++` or `--` after its operand.
     pub is_postfix: bool,
+    /// It ends an export of the module's own names: `}`, or the `;` behind it.
+    pub ends_export: bool,
     /// It is a parenthesis of a grouping pair.
     pub is_grouping: bool,
 }
@@ -67,6 +70,8 @@ pub struct TokenRow {
 /// The tokens of a text, in order, up to its end.
 #[derive(Drop)]
 pub struct TreeReading {
+    /// Where they begin, in bytes: behind the line of `#!`, if there is one.
+    pub start: u32,
     pub tokens: Vec<TokenRow>,
 }
 
@@ -75,6 +80,7 @@ pub struct TreeReading {
 struct Step<'s, 'n> {
     token: Token<'s>,
     is_postfix: bool,
+    ends_export: bool,
     notes: &'n [Note],
 }
 
@@ -96,6 +102,7 @@ fn next_token<'s, 'n>(source: &Source<'s>, at: usize, notes: &'n [Note]) -> Opti
         return Some(Step {
             token,
             is_postfix: false,
+            ends_export: false,
             notes,
         });
     };
@@ -103,6 +110,7 @@ fn next_token<'s, 'n>(source: &Source<'s>, at: usize, notes: &'n [Note]) -> Opti
         return Some(Step {
             token,
             is_postfix: false,
+            ends_export: false,
             notes,
         });
     }
@@ -118,6 +126,7 @@ fn next_token<'s, 'n>(source: &Source<'s>, at: usize, notes: &'n [Note]) -> Opti
     Some(Step {
         token,
         is_postfix: matches!(note.reading, Reading::Postfix),
+        ends_export: matches!(note.reading, Reading::ExportEnd),
         notes: &notes[1..],
     })
 }
@@ -141,7 +150,7 @@ fn noted_token<'s>(
     ensures slice { IfSome result (λ t. t.text.now ≡ slice_range source.now t.start t.end) }
 {
     let goal = match reading {
-        Reading::Postfix => return Some(token),
+        Reading::Postfix | Reading::ExportEnd => return Some(token),
         Reading::RegularExpression => Goal::RegExp,
         Reading::TemplatePart => Goal::TemplateTail,
     };
@@ -158,22 +167,24 @@ fn is_end(class: TokenClass) -> bool
     matches!(class, TokenClass::End)
 }
 
-/// What is read of a text where the notes of its tree say how; nothing where they don't.
+/// What is read of a text from a place on where the notes of its tree say how; nothing where they don't.
 fn read(
     alloc: Global,
     source: &Source<'_>,
+    start: usize,
     notes: &[Note],
     pairs: &[Pair],
 ) -> Result<Option<TreeReading>, AllocError>
-    requires { InOrder notes.now }
-    ensures { IfOk result (λ found. IfSome found (λ read. (n : Tree) → AreNoted (post_order n) 0 notes.now → IsRead source.now n pairs.now read)) }
+    requires order { InOrder notes.now }
+    requires place { IsPlace source.now start }
+    ensures { IfOk result (λ found. IfSome found (λ read. (n : Tree) → AreNoted (post_order n) 0 notes.now → start ≡ size (hashbang_line n source.now) → IsRead source.now n pairs.now read)) }
 {
     // (a text is short, and so is each place in it)
     let _text = source.text();
     let mut tokens = Vec::new(alloc);
     let mut walk = PairWalk::new(alloc, pairs);
     let mut rest = notes;
-    let mut at = 0;
+    let mut at = start;
     loop {
         let Some(step) = next_token(source, at, rest) else {
             return Ok(None);
@@ -183,13 +194,29 @@ fn read(
             span: ByteSpan::of(token.start, token.end),
             class: token.class,
             is_postfix: step.is_postfix,
+            ends_export: step.ends_export,
             is_grouping: walk.takes(token.text, token.start)?,
         })?;
         if is_end(token.class) {
-            return Ok(Some(TreeReading { tokens }));
+            return Ok(Some(TreeReading {
+                start: start as u32,
+                tokens,
+            }));
         }
         rest = step.notes;
         at = token.end;
+    }
+}
+
+/// Where the tokens of a text with this tree begin: behind the line of `#!` in the language of 2022.
+fn first_token_place(source: &Source<'_>, program: &Program<'_>) -> usize
+    ensures place { IsPlace source.now result }
+    ensures behind { result ≡ size (hashbang_line program.now source.now) }
+{
+    let text = source.text();
+    match program.root().text() {
+        "2022" | "module" => hashbang_end(text),
+        _ => 0,
     }
 }
 
@@ -211,5 +238,11 @@ pub fn tree_reading(
     if !are_ascending(&notes) {
         return Ok(None);
     }
-    read(alloc, source, &notes, pairs)
+    read(
+        alloc,
+        source,
+        first_token_place(source, program),
+        &notes,
+        pairs,
+    )
 }

@@ -22,7 +22,11 @@ pub(crate) struct Last<'s> {
     pub text: &'s [u8],
     /// Where it begins in what is written.
     pub start: usize,
+    /// Where the first of the words begins that stand before it on its line, if no line may end after each of them; else where it does.
+    pub first_word: usize,
     pub is_postfix: bool,
+    /// Whether it is the `}` of an export of the module's own names.
+    pub ends_export: bool,
     /// Whether `)` or `()` was put after it.
     pub is_closed: bool,
     /// Whether it is a `!` right after a `<`.
@@ -38,20 +42,27 @@ impl<'s> Last<'s> {
                 && is_less_and_not(less.text(bytes), text),
             None => false,
         };
+        let start = end.saturating_sub(text.len());
         Last {
             class: row.class,
             text,
-            start: end.saturating_sub(text.len()),
+            start,
+            first_word: start,
             is_postfix: row.is_postfix,
+            ends_export: row.ends_export && matches!(text, b"}"),
             is_closed: false,
             follows_less,
         }
     }
 
+    /// Whether a token would go on with the statement that it ends, though another one begins with that.
+    fn wants_semicolon(&self, token: &[u8]) -> bool {
+        (self.is_postfix && goes_on(token)) || (self.ends_export && matches!(token, b"from"))
+    }
+
     /// Whether it is a word that no line may end after.
     fn binds_its_line(&self) -> bool {
-        matches!(self.class, TokenClass::IdentifierName)
-            && matches!(self.text, b"return" | b"throw")
+        binds_its_line(self.class, self.text)
     }
 }
 
@@ -88,7 +99,9 @@ impl<'s> Writer<'s> {
                 class: TokenClass::End,
                 text: b"",
                 start: 0,
+                first_word: 0,
                 is_postfix: false,
+                ends_export: false,
                 is_closed: false,
                 follows_less: false,
             },
@@ -121,8 +134,43 @@ impl<'s> Writer<'s> {
         }
         self.out
             .extend_from_slice(bytes_between(bytes, self.passed, end))?;
+        let from = self.passed;
         self.passed = end;
-        self.last = Last::copied(bytes, before, *row, self.out.len());
+        let mut last = Last::copied(bytes, before, *row, self.out.len());
+        if last.binds_its_line() {
+            last.first_word = self.first_word(bytes, rows, from);
+        }
+        self.last = last;
+        Ok(())
+    }
+
+    /// Where the first word begins, in what is written, of those with which copied rows end, if no line may end after each of them, and none
+    /// ends. From a place on they were copied as they stand.
+    fn first_word(&self, bytes: &'s [u8], rows: &[TokenRow], from: usize) -> usize {
+        let Some(last) = rows.last() else {
+            return self.out.len();
+        };
+        let mut first = *last;
+        for index in 1..rows.len() {
+            let row = rows[rows.len() - 1 - index];
+            let end = row.span.end as usize;
+            let gap = bytes_between(bytes, end, first.span.start as usize);
+            if !binds_its_line(row.class, row.text(bytes)) || has_line_end(gap) {
+                break;
+            }
+            if (row.span.start as usize) < from {
+                return self.last.first_word;
+            }
+            first = row;
+        }
+        let length = (last.span.end as usize).saturating_sub(first.span.start as usize);
+        self.out.len().saturating_sub(length)
+    }
+
+    /// Copies what stands before the first token's beginning: the line of `#!`, if there is one.
+    fn copy_first_line(&mut self, bytes: &'s [u8], end: usize) -> Result<(), AllocError> {
+        self.out.extend_from_slice(bytes_between(bytes, 0, end))?;
+        self.passed = end;
         Ok(())
     }
 
@@ -184,19 +232,30 @@ impl<'s> Writer<'s> {
     fn keep(&mut self, lexeme: Lexeme<'s>, cursor: &mut Cursor<'_>) -> Result<(), AllocError> {
         self.write_closed(lexeme.start, cursor)?;
         let opened = count_opened(lexeme.start, cursor);
+        let end = self.out.len();
         let is_tight = self.write_gap(lexeme, opened > 0)?;
+        let goes_on = opened == 0 && self.last.binds_its_line() && self.is_on_one_line(end);
         for _ in 0..opened {
             self.out.push(b'(')?;
         }
+        let start = self.out.len();
         self.last = Last {
             class: lexeme.class,
             text: lexeme.text,
-            start: self.out.len(),
+            start,
+            first_word: if goes_on { self.last.first_word } else { start },
             is_postfix: lexeme.is_postfix,
+            ends_export: lexeme.ends_export && matches!(lexeme.text, b"}"),
             is_closed: false,
             follows_less: is_tight && opened == 0 && is_less_and_not(self.last.text, lexeme.text),
         };
         self.out.extend_from_slice(lexeme.text)
+    }
+
+    /// Whether no line ends in what was written from a place on.
+    fn is_on_one_line(&self, from: usize) -> bool {
+        let out = self.out.as_slice();
+        from <= out.len() && !has_line_end(&out[from..])
     }
 
     /// Writes what comes after the last token.
@@ -248,7 +307,7 @@ impl<'s> Writer<'s> {
                 return self.lift(index);
             }
         }
-        if self.last.is_postfix && !is_opened && goes_on(lexeme.text) {
+        if !is_opened && self.last.wants_semicolon(lexeme.text) {
             self.out.push(b';')?;
         }
         let next = Next::of(&self.parts, is_opened, lexeme.class, lexeme.text);
@@ -296,13 +355,17 @@ impl<'s> Writer<'s> {
         Ok(!wanted)
     }
 
-    /// Writes the comments up to an index before the last token, a word that no line may end after, and the others after it.
+    /// Writes the comments up to an index before the last token, a word that no line may end after, and before further such words right
+    /// before it, with the comments between them; and the others after it.
     fn lift(&mut self, index: usize) -> Result<bool, AllocError> {
         let indent = Indent::of_last_line(&self.out);
-        self.out.truncate(self.last.start);
+        let from = self.last.first_word.min(self.out.len());
+        let words = self.out.split_off(from)?;
+        write_comments_between(words.as_slice(), &mut self.out)?;
         indent.write_lifted(&self.parts, index, &mut self.out)?;
-        self.last.start = self.out.len();
-        self.out.extend_from_slice(self.last.text)?;
+        self.last.first_word = self.out.len();
+        write_words(words.as_slice(), &mut self.out)?;
+        self.last.start = self.out.len().saturating_sub(self.last.text.len());
         self.out.push(b' ')?;
         drop_front(&mut self.parts, index.saturating_add(1))?;
         if let Some(part) = self.parts.first() {
@@ -314,6 +377,77 @@ impl<'s> Writer<'s> {
         self.parts.clear();
         Ok(false)
     }
+}
+
+/// Writes the comments that stand between words on one line, each with a space behind it.
+fn write_comments_between(words: &[u8], out: &mut Vec<u8>) -> Result<(), AllocError> {
+    let mut at = 0;
+    while at < words.len() {
+        let end = comment_end(words, at);
+        if end > at {
+            out.extend_from_slice(&words[at..end])?;
+            out.push(b' ')?;
+            at = end;
+        } else {
+            at += 1;
+        }
+    }
+    Ok(())
+}
+
+/// Writes the words that stand on one line, with a space between each two, and without the comments.
+fn write_words(words: &[u8], out: &mut Vec<u8>) -> Result<(), AllocError> {
+    let mut at = 0;
+    let mut is_first = true;
+    while at < words.len() {
+        let end = word_end(words, at);
+        if end > at {
+            if !is_first {
+                out.push(b' ')?;
+            }
+            out.extend_from_slice(&words[at..end])?;
+            is_first = false;
+            at = end;
+        } else {
+            at = comment_end(words, at).max(at + 1);
+        }
+    }
+    Ok(())
+}
+
+/// Where the run of lower-case letters ends that begins at a place.
+fn word_end(bytes: &[u8], at: usize) -> usize
+    requires { at ≤ length bytes.now }
+    ensures { (at ≤ result) × (result ≤ length bytes.now) }
+{
+    let mut end = at;
+    while end < bytes.len() && bytes[end].is_ascii_lowercase() {
+        end += 1;
+    }
+    end
+}
+
+/// Where the comment on one line ends that begins at a place; that place if none does.
+fn comment_end(bytes: &[u8], at: usize) -> usize
+    requires { at ≤ length bytes.now }
+    ensures { (at ≤ result) × (result ≤ length bytes.now) }
+{
+    if !matches!(bytes.get(at), Some(b'/')) || !matches!(bytes.get(at + 1), Some(b'*')) {
+        return at;
+    }
+    let mut end = at + 2;
+    while end + 1 < bytes.len() {
+        if bytes[end] == b'*' && bytes[end + 1] == b'/' {
+            return end + 2;
+        }
+        end += 1;
+    }
+    bytes.len()
+}
+
+/// Whether no line may end after a token of this class and text.
+fn binds_its_line(class: TokenClass, text: &[u8]) -> bool {
+    matches!(class, TokenClass::IdentifierName) && matches!(text, b"return" | b"throw" | b"yield")
 }
 
 /// Writes parts of a gap, on one line if it is wanted.
@@ -386,6 +520,7 @@ pub fn rewritten(
     let rows = reading.tokens.as_slice();
     let mut writer = Writer::new(alloc, bytes.len())?;
     let mut cursor = Cursor::new(changes);
+    writer.copy_first_line(bytes, reading.start as usize)?;
     let mut place = writer.next_place(&cursor);
     for index in 0..rows.len() {
         let row = rows[index];

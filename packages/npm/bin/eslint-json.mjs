@@ -43,14 +43,25 @@ function settingsOf(name) {
   }
 }
 
-function resultOfFile(name, settings) {
+function resultOfFile(name, settings, takesModules) {
   let text;
   try {
     text = read(name, MOST + 1);
   } catch (error) {
     return unreadResult(resolve(name), unread(error));
   }
-  return resultOf(resolve(name), text, { settings });
+  return resultOf(resolve(name), text, { settings, language: takesModules && name.endsWith('.mjs') ? 'module' : undefined });
+}
+
+/** Whether modules go with the settings. */
+function takesModules(settings) {
+  try {
+    check('', { settings, language: 'module' });
+    return true;
+  } catch (error) {
+    if (error instanceof Refused) return false;
+    throw error;
+  }
 }
 
 function say(text) {
@@ -67,8 +78,8 @@ function main(words) {
     say(USAGE);
     return 0;
   }
-  const settings = line.settings === undefined ? '' : settingsOf(line.settings);
-  const results = [...new Set(line.names)].map((it) => resultOfFile(it, settings));
+  const settings = line.settings === undefined ? '' : settingsOf(line.settings), areModulesTaken = takesModules(settings);
+  const results = [...new Set(line.names)].map((it) => resultOfFile(it, settings, areModulesTaken));
   say(`${format(results)}\n`);
   return results.some((it) => it.fatalErrorCount > 0) ? 2 : results.some((it) => it.errorCount > 0) ? 1 : 0;
 }

@@ -3,21 +3,29 @@
 import { run } from '../jslint.mjs';
 import { read, warn, write } from './streams.mjs';
 
-const USAGE = `usage: jslint-with-proofs check [--spans] [--settings SETTINGS] FILE
-       jslint-with-proofs fix|unwrap|tree|cost FILE
-       jslint-with-proofs verify FILE TABLE
-       jslint-with-proofs same FILE OTHER
+const USAGE = `usage: jslint-with-proofs check [--edition 2020|2022] [--module] [--spans] [--settings SETTINGS] FILE
+       jslint-with-proofs fix|unwrap|tree|cost [--edition 2020|2022] [--module] FILE
+       jslint-with-proofs verify [--edition 2020|2022] [--module] FILE TABLE
+       jslint-with-proofs same [--edition 2020|2022] [--module] FILE OTHER
 `;
+const COMMANDS = ['check', 'fix', 'unwrap', 'tree', 'cost', 'verify', 'same'];
 
-/** The command and the names of its files, or null where these are no words of the program. */
+/** Takes a flag, or an option with its value, out of words before `--`: whether it is there, its value, or null where that is missing. */
+function taken(words, name, hasValue) {
+  const marks = words.indexOf('--'), at = words.indexOf(name);
+  if (at < 0 || (marks >= 0 && marks < at)) return undefined;
+  const [, value = null] = words.splice(at, hasValue ? 2 : 1);
+  return hasValue ? value : true;
+}
+
+/** The command, the names of its files and what is said of the language, or null where these are no words of the program. */
 function lineOf(words) {
-  const [command, ...rest] = words, at = rest.indexOf('--settings');
-  const settings = command === 'check' && at >= 0 ? rest.splice(at, 2)[1] : undefined;
-  const marks = rest.indexOf('--'), flag = rest.indexOf('--spans'), hasSpans = command === 'check' && flag >= 0 && (marks < 0 || flag < marks);
-  if (hasSpans) rest.splice(flag, 1);
+  const [command, ...rest] = words, isCheck = command === 'check';
+  const settings = isCheck ? taken(rest, '--settings', true) : undefined, hasSpans = isCheck && taken(rest, '--spans');
+  const edition = taken(rest, '--edition', true), isModule = taken(rest, '--module');
   const files = rest.filter((it) => it !== '--');
-  const isWell = ['check', 'fix', 'unwrap', 'tree', 'cost', 'verify', 'same'].includes(command) && files.length === (['verify', 'same'].includes(command) ? 2 : 1);
-  return isWell && (at < 0 || settings !== undefined) ? { command: hasSpans ? 'spans' : command, names: [files[0], files[1] ?? settings] } : null;
+  const isWell = COMMANDS.includes(command) && files.length === (['verify', 'same'].includes(command) ? 2 : 1) && settings !== null && edition !== null;
+  return isWell ? { command: hasSpans ? 'spans' : command, names: [files[0], files[1] ?? settings], edition, isModule } : null;
 }
 
 function refuse(words) {
@@ -42,6 +50,8 @@ function main(words) {
     warn(USAGE);
     return 2;
   }
+  if (![undefined, '2020', '2022'].includes(line.edition)) return refuse('--edition is 2020 or 2022');
+  if (line.isModule && line.edition === '2020') return refuse("--module doesn't go with --edition 2020");
   if (line.names[0] === '-' && line.names[1] === '-') return refuse('read failed: -: both files are standard input');
   let texts;
   try {
@@ -49,7 +59,7 @@ function main(words) {
   } catch {
     return refuse('read failed');
   }
-  const answer = run(line.command, ...texts);
+  const answer = run(line.command, ...texts, line.isModule ? 'module' : line.edition);
   if (!answer.isRefusal) return say(answer.text, answer.status);
   warn(answer.text);
   return answer.status;

@@ -62,9 +62,9 @@ export class Actions {
 
   /** Changes of the text: one pair, and `let` to `const`. */
   async changes(document, here, options) {
-    const { revision, text } = document, wanted = here.filter((it) => it.rule === 'no-extra-parens' || it.rule === 'prefer-const').slice(0, MOST_CHANGES);
+    const { revision } = document, wanted = here.filter((it) => it.rule === 'no-extra-parens' || it.rule === 'prefer-const').slice(0, MOST_CHANGES);
     if (wanted.length === 0) return [];
-    const { changes = [] } = await this.engine.run('changes', { text, wanted }, options), seen = new Set(), found = [];
+    const { changes = [] } = await this.engine.run('changes', { ...this.rewriting.jobOf(document), wanted }, options), seen = new Set(), found = [];
     for (const [at, change] of changes.entries()) {
       const key = JSON.stringify(change?.edits);
       if (!change || seen.has(key)) continue;
@@ -82,7 +82,7 @@ export class Actions {
     const version = this.editor.documents.get(settings.uri)?.version, target = new Document({ ...settings, version }, this.editor.encoding);
     for (const [title, wish] of [...wishes].slice(0, MOST_OF_SETTINGS)) {
       const changed = settingsWith(settings.text, wish);
-      const { isGood } = await this.engine.run('settingsEffect', { text: document.text, settings: settings.text, changed, ...wish }, options);
+      const { isGood } = await this.engine.run('settingsEffect', { text: document.text, ...this.editor.askedFor(document.uri), settings: settings.text, changed, ...wish }, options);
       if (!isGood) continue;
       const edits = editsBetween(settings.text, changed).map((it) => ({ range: target.rangeOf(it.start, it.end), newText: it.text }));
       found.push({ title, kind: KINDS.fix, edit: this.rewriting.workspaceEdit(settings.uri, version, edits) });

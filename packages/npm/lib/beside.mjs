@@ -3,12 +3,15 @@ import { lstatSync, readFileSync, readdirSync, statSync } from 'node:fs';
 import path from 'node:path';
 import { unread } from '../bin/streams.mjs';
 import { isIgnored, patternsOf, verdict } from './ignore.mjs';
+import { saysModule } from './languages.mjs';
 
 export const SETTINGS = 'jslint.toml';
 // (what the first says goes before what the second says; the third is in the top folder of a repository alone)
 export const IGNORES = ['.jslintignore', '.gitignore', '.git/info/exclude'];
 // The commands take no longer text.
 export const MOST_BYTES = 16777216;
+// How the names of scripts and modules end.
+const SCRIPTS = ['.js', '.mjs'];
 // Folders that nobody has checked.
 const LEFT_OUT = new Set(['.git', 'node_modules']);
 
@@ -84,6 +87,16 @@ export class Beside {
     return found && { file, ...found };
   }
 
+  /** Whether a name, or the nearest package.json, says that a file is a module. */
+  isModule(script, openText) {
+    if (!script.endsWith('.js')) return script.endsWith('.mjs');
+    for (const folder of this.foldersOf(script)) {
+      const file = path.join(folder, 'package.json'), text = openText(file) ?? this.texts.of(file)?.text;
+      if (text !== undefined) return saysModule(text);
+    }
+    return false;
+  }
+
   patternsIn(folder) {
     return IGNORES.flatMap((name) => {
       const file = path.join(folder, name), text = this.texts.of(file)?.text;
@@ -112,7 +125,7 @@ export class Beside {
     const entries = readdirSync(folder, { withFileTypes: true }).sort((a, b) => (a.name < b.name ? -1 : 1)), found = { scripts: [], folders: [] };
     const { name, patternsAt } = this.ignoring(path.join(folder, 'any')), above = name.split('/').slice(0, -1);
     for (const it of entries) {
-      const isScript = it.isFile() && it.name.endsWith('.js'), isFolder = it.isDirectory() && !LEFT_OUT.has(it.name);
+      const isScript = it.isFile() && SCRIPTS.some((end) => it.name.endsWith(end)), isFolder = it.isDirectory() && !LEFT_OUT.has(it.name);
       // (the folders above were asked on the way down)
       if ((!isScript && !isFolder) || verdict([...above, it.name], isFolder, patternsAt)) continue;
       found[isScript ? 'scripts' : 'folders'].push(path.join(folder, it.name));

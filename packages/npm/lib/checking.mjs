@@ -75,10 +75,10 @@ export class Checking {
 
   /** What `check` answers for a text. It is kept for the following request, until the text or the settings change. */
   async checked(document, settings, options) {
-    const text = settings?.text ?? '', { revision, kept } = document;
-    if (kept?.revision === revision && kept.settings === text) return kept.found;
-    const found = await this.engine.run('check', { text: document.text, settings: text }, options);
-    if (document.revision === revision) document.kept = { revision, settings: text, found };
+    const text = settings?.text ?? '', { isModule } = this.editor.askedFor(document.uri), { revision, kept } = document;
+    if (kept?.revision === revision && kept.settings === text && kept.isModule === isModule) return kept.found;
+    const found = await this.engine.run('check', { text: document.text, settings: text, isModule }, options);
+    if (document.revision === revision) document.kept = { revision, settings: text, isModule, found };
     return found;
   }
 

@@ -87,6 +87,12 @@ export class Editor {
     return found ? { ...found, uri: this.openOf(found.file)?.uri ?? uriOf(found.file) } : null;
   }
 
+  /** What the language of a text is asked by: its settings, and whether its name or package.json says that it is a module. */
+  askedFor(uri) {
+    const file = fileOf(uri), openText = (name) => this.openOf(name)?.text ?? null;
+    return { settings: this.settingsFor(uri)?.text ?? '', isModule: file !== null && this.beside.isModule(file, openText) };
+  }
+
   isIgnored(uri) {
     const file = fileOf(uri);
     return file !== null && this.beside.isIgnored(file);

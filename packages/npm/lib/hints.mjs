@@ -7,14 +7,14 @@ const table = JSON.parse(readFileSync(new URL('./hints.json', import.meta.url), 
 const rows = table.rows.map((it) => ({ ...it, before: new RegExp(it.before, 'u'), at: new RegExp(`^(?:${it.at})`, 'u') }));
 const early = table.early.map((it) => ({ ...it, at: new RegExp(`^(?:${it.at})`, 'u') }));
 
-/** The hint for a syntax error at an index of the text, or null. */
-export function syntaxHint(text, index) {
+/** The hint for a syntax error at an index of a text of a language, or null. */
+export function syntaxHint(text, index, language) {
   const before = text.slice(Math.max(0, index - MOST_BEFORE), index), at = text.slice(index, index + MOST_AT);
-  return rows.find((it) => it.at.test(at) && it.before.test(before)) ?? null;
+  return rows.find((it) => !it.readBy?.includes(language) && it.at.test(at) && it.before.test(before)) ?? null;
 }
 
 /** The hint for an early error, or null. */
-export function earlyHint(number, text, index) {
+export function earlyHint(number, text, index, language) {
   const at = text.slice(index, index + MOST_AT).split('\n')[0];
-  return early.find((it) => it.number === number && it.at.test(at)) ?? null;
+  return early.find((it) => it.number === number && !it.readBy?.includes(language) && it.at.test(at)) ?? null;
 }

@@ -3,6 +3,7 @@ import { Refused, indexOf } from '../core.mjs';
 import { Judge, mayHaveComments } from './changes.mjs';
 import { editsBetween } from './edits.mjs';
 import { earlyHint, syntaxHint } from './hints.mjs';
+import { Languages, inLanguage } from './languages.mjs';
 
 const HALF_PAIR = /(?:[^\ud800-\udbff]|^)[\udc00-\udfff]|[\ud800-\udbff](?![\udc00-\udfff])/;
 // How many lines of refused settings are taken away one by one.
@@ -12,22 +13,22 @@ const MOST_REPORTS = 20000;
 // How much of a report of these rules is underlined: `var` and `(`, where all that they hold is reported.
 const UNDERLINED = { 'no-var': 'var'.length, 'no-extra-parens': 1 };
 
-/** A refusal in the program's words, with its place, and a hint where there is one. */
-function refusalOf(error, text) {
+/** A refusal of a text of a language in the program's words, with its place, and a hint where there is one. */
+function refusalOf(error, text, language) {
   const { code = 'other', message, number } = error, start = error.line === undefined || code === 'settings' ? 0 : indexOf(text, error.line, error.column);
-  const hint = code === 'syntax' ? syntaxHint(text, start) : code === 'early' ? earlyHint(number, text, start) : null;
+  const hint = code === 'syntax' ? syntaxHint(text, start, language) : code === 'early' ? earlyHint(number, text, start, language) : null;
   return { code, message, number, start, ...(hint ? { hint: hint.hint, hintId: hint.id ?? `early-${number}`, isLacking: hint.lacks } : {}) };
 }
 
-/** What a call answers, or why it was refused. */
-function tried(text, call) {
+/** What a call for a text answers, or why it was refused; `languageOf` says the text's language. */
+function tried(text, languageOf, call) {
   // (half a pair of surrogates has no UTF-8, so a text with one is no script's)
   const half = HALF_PAIR.exec(text);
   if (half) return { refusal: { code: 'utf8', message: 'half a pair of surrogates, which has no UTF-8', start: half.index } };
   try {
     return call();
   } catch (error) {
-    if (error instanceof Refused) return { refusal: refusalOf(error, text) };
+    if (error instanceof Refused) return { refusal: refusalOf(error, text, languageOf()) };
     throw error;
   }
 }
@@ -45,12 +46,21 @@ function answered(call) {
 export class Jobs {
   /** The commands are those of core.mjs. */
   constructor(commands) {
-    Object.assign(this, { commands, judge: null });
+    const isTaken = (text, options) => !HALF_PAIR.test(options.settings) && answered(() => commands.check(text, options)) !== null;
+    Object.assign(this, { commands, judge: null, languages: new Languages(isTaken) });
+  }
+
+  /** The commands for a job's text. */
+  commandsFor(job, isCheck) {
+    return inLanguage(this.commands, this.languages.of(job, isCheck));
   }
 
   /** The judge of a text's changes, kept since an editor asks for several changes of one text. */
-  judgeOf(text) {
-    if (this.judge?.text !== text) this.judge = new Judge(this.commands, answered, text);
+  judgeOf(job) {
+    const language = this.languages.of(job);
+    if (this.judge?.text !== job.text || this.judge.language !== language) {
+      this.judge = Object.assign(new Judge(inLanguage(this.commands, language), answered, job.text), { language });
+    }
     return this.judge;
   }
 
@@ -71,39 +81,44 @@ export class Jobs {
   }
 
   /** The reports, from where to where each is underlined, and how many more there are. */
-  check({ text, settings }) {
+  check(job) {
+    const { text, settings } = job;
     if (HALF_PAIR.test(settings)) return { refusal: { code: 'settings', message: 'bad settings', start: 0 } };
-    return tried(text, () => {
-      const all = this.commands.spans(text, { settings }), reports = all.slice(0, MOST_REPORTS);
+    return tried(text, () => this.languages.of(job), () => {
+      const all = this.commandsFor(job, true).spans(text, { settings }), reports = all.slice(0, MOST_REPORTS);
       return { reports: reports.map((it) => ({ ...it, end: it.start + (UNDERLINED[it.rule] ?? it.end - it.start) })), left: all.length - reports.length };
     });
   }
 
-  unwrap({ text }) {
-    return tried(text, () => ({ edits: editsBetween(text, this.commands.unwrap(text)) }));
+  unwrap(job) {
+    const { text } = job;
+    return tried(text, () => this.languages.of(job), () => ({ edits: editsBetween(text, this.commandsFor(job).unwrap(text)) }));
   }
 
   /** The edits that make the fixed text, with CR LF where the first line of the text ends so and that keeps the tree. */
-  fix({ text }) {
-    return tried(text, () => {
-      const fixed = this.commands.fix(text), isCrLf = /^[^\r\n]*\r\n/.test(text), other = isCrLf ? fixed.replaceAll('\n', '\r\n') : fixed;
-      const to = other !== fixed && answered(() => this.commands.fix(other)) !== fixed ? fixed : other;
+  fix(job) {
+    const { text } = job;
+    return tried(text, () => this.languages.of(job), () => {
+      const commands = this.commandsFor(job), fixed = commands.fix(text), isCrLf = /^[^\r\n]*\r\n/.test(text), other = isCrLf ? fixed.replaceAll('\n', '\r\n') : fixed;
+      const to = other !== fixed && answered(() => commands.fix(other)) !== fixed ? fixed : other;
       return { edits: editsBetween(text, to), hasComments: mayHaveComments(text) };
     });
   }
 
-  unwrapWithin({ text, start, end }) {
-    return tried(text, () => {
+  unwrapWithin(job) {
+    const { text, start, end } = job;
+    return tried(text, () => this.languages.of(job), () => {
       // (a refusal is said as such)
-      this.commands.unwrap(text);
-      return { edits: this.judgeOf(text).unwrappedWithin(start, end) };
+      this.commandsFor(job).unwrap(text);
+      return { edits: this.judgeOf(job).unwrappedWithin(start, end) };
     });
   }
 
   /** The changes that some reports have: for each `{ rule, start }` its edits and whether it is of a name at the top, or null. */
-  changes({ text, wanted }) {
-    return tried(text, () => {
-      const judge = this.judgeOf(text), withoutPair = (start) => { const edits = judge.withoutPair(start); return edits && { edits, isTop: false }; };
+  changes(job) {
+    const { text, wanted } = job;
+    return tried(text, () => this.languages.of(job), () => {
+      const judge = this.judgeOf(job), withoutPair = (start) => { const edits = judge.withoutPair(start); return edits && { edits, isTop: false }; };
       return { changes: wanted.map(({ rule, start }) => (rule === 'no-extra-parens' ? withoutPair(start) : judge.letToConst(start))) };
     });
   }
@@ -120,9 +135,10 @@ export class Jobs {
   }
 
   /** Whether changed settings are taken, and turn the reports of a rule, or of a name, off, and nothing else on or off. */
-  settingsEffect({ text, settings, changed, rule, name }) {
-    return tried(text, () => {
-      const reportsWith = (it) => (HALF_PAIR.test(it) ? null : answered(() => this.commands.check(text, { settings: it })));
+  settingsEffect(job) {
+    const { text, settings, changed, rule, name } = job;
+    return tried(text, () => this.languages.of(job), () => {
+      const commands = this.commandsFor(job, true), reportsWith = (it) => (HALF_PAIR.test(it) ? null : answered(() => commands.check(text, { settings: it })));
       const before = reportsWith(settings), after = reportsWith(changed);
       if (before === null || after === null) return { isGood: false };
       const isOff = (it) => it.rule === rule && (name === null || it.message === `'${name}' is not defined`);

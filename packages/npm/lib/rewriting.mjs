@@ -33,21 +33,26 @@ export class Rewriting {
     return found;
   }
 
+  /** A text's job, with what its language is asked by. */
+  jobOf({ uri, text }) {
+    return { text, ...this.editor.askedFor(uri) };
+  }
+
   /** The edits that unwrap a text. */
-  async unwrapped({ text }, signal) {
-    return (await this.answerOf('unwrap', { text }, signal)).edits;
+  async unwrapped(document, signal) {
+    return (await this.answerOf('unwrap', this.jobOf(document), signal)).edits;
   }
 
   /** The edits that write a text in one layout, which drops comments. */
-  async fixed({ text }, signal) {
-    return (await this.answerOf('fix', { text }, signal)).edits;
+  async fixed(document, signal) {
+    return (await this.answerOf('fix', this.jobOf(document), signal)).edits;
   }
 
   /** What formatting does: in one layout only if that is set, and no comment can go. */
-  async formatted({ text }, signal) {
-    if (this.editor.options.format !== 'layout') return this.unwrapped({ text }, signal);
-    const { edits, hasComments } = await this.answerOf('fix', { text }, signal);
-    return hasComments ? this.unwrapped({ text }, signal) : edits;
+  async formatted(document, signal) {
+    if (this.editor.options.format !== 'layout') return this.unwrapped(document, signal);
+    const { edits, hasComments } = await this.answerOf('fix', this.jobOf(document), signal);
+    return hasComments ? this.unwrapped(document, signal) : edits;
   }
 
   async format({ textDocument, workDoneToken }, { signal }) {
@@ -57,9 +62,9 @@ export class Rewriting {
   }
 
   async formatRange({ textDocument, range }, { signal }) {
-    const document = this.editor.document(textDocument), { revision, text } = document, [start, end] = document.indicesOf(range);
+    const document = this.editor.document(textDocument), { revision } = document, [start, end] = document.indicesOf(range);
     if (!this.editor.isScript(document)) return null;
-    return this.editsOf(document, revision, (await this.answerOf('unwrapWithin', { text, start, end }, signal)).edits);
+    return this.editsOf(document, revision, (await this.answerOf('unwrapWithin', { ...this.jobOf(document), start, end }, signal)).edits);
   }
 
   /** Rewrites a text by a command, and has the editor apply it. */

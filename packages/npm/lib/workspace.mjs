@@ -46,7 +46,7 @@ export class Workspace {
     if (fault) return this.shown.fault(none, 'failed', `not checked: ${fault}`);
     // (an editor doesn't count the byte order mark)
     const text = read.text.replace(/^\ufeff/, ''), document = new Document({ uri, text, languageId }, this.editor.encoding);
-    const found = await this.engine.run('check', { text, settings: settings?.text ?? '' }, { signal });
+    const found = await this.engine.run('check', { text, ...this.editor.askedFor(uri) }, { signal });
     return this.checking.diagnosticsOf(document, found, settings);
   }
 

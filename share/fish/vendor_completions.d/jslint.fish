@@ -13,6 +13,8 @@ complete -c jslint -n '__fish_seen_subcommand_from help' -f -a "$commands"
 complete -c jslint -n "not __fish_seen_subcommand_from $commands" -l version -d 'Print the version'
 complete -c jslint -n '__fish_seen_subcommand_from check' -l settings -r -F -d 'Rules and options, as TOML'
 complete -c jslint -n '__fish_seen_subcommand_from check' -l spans -d 'Where a report is, in bytes'
+complete -c jslint -n "__fish_seen_subcommand_from $commands; and not __fish_seen_subcommand_from help" -l edition -x -a '2020 2022' -d 'The language of scripts'
+complete -c jslint -n "__fish_seen_subcommand_from $commands; and not __fish_seen_subcommand_from help" -l module -d 'Modules of ECMAScript 2022'
 complete -c jslint -s h -l help -d 'Print help'
 
 set -l rewriting fix unwrap
@@ -29,6 +31,8 @@ complete -c jslint-files -n "not __fish_seen_subcommand_from $rewriting" -l expl
 complete -c jslint-files -n "__fish_seen_subcommand_from $rewriting" -l write -d 'Replace the scripts'
 complete -c jslint-files -n "__fish_seen_subcommand_from $rewriting" -l diff -d 'Show how the scripts would differ'
 complete -c jslint-files -n '__fish_seen_subcommand_from fix' -l drop-comments -d 'Replace scripts whose comments are lost, too'
+complete -c jslint-files -l edition -x -a '2020 2022' -d 'The language of scripts'
+complete -c jslint-files -l module -d 'Modules of ECMAScript 2022'
 complete -c jslint-files -l project -d 'Folders, the nearest jslint.toml, ignore files'
 complete -c jslint-files -l stdin -r -F -d 'Standard input as this file'
 complete -c jslint-files -l hints -d 'Guess what a refused script has'

@@ -64,7 +64,7 @@ StandardAnswer standard_answer(Reader &reader, const string &text) {
 }
 
 void Comparison::compare(const string &text) {
-    ProgramAnswer program = program_answer(text);
+    ProgramAnswer program = program_answer(text, reader.language());
     tally.texts++;
     if (program.verdict == Verdict::TooDeep) {
         tally.too_deep++;
@@ -96,7 +96,7 @@ void Comparison::compare_trees(const string &text, const Reading &reading, const
     Estree estree(reader.source);
     string tree = estree.program(reading.tree);
     if (tree != program.tree) return tally.disagree("tree", text + "\n        standard " + tree + "\n        program  " + program.tree);
-    int pairs = program_pairs(text);
+    int pairs = program_pairs(text, reader.language());
     if (pairs != estree.grouping_pairs())
         tally.disagree("grouping pairs",
                        text + "   [standard " + std::to_string(estree.grouping_pairs()) + ", program " + std::to_string(pairs) + "]");

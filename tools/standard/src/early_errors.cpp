@@ -13,6 +13,7 @@ bool has(const vector<string> &names, const string &name) { return std::find(nam
 
 const vector<EarlyError> &EarlyErrors::of_script(const ParseNode *node) {
     errors_.clear();
+    is_module_ = is(node, "Module");
     walk(node, Surroundings());
     return errors_;
 }
@@ -67,6 +68,11 @@ void EarlyErrors::walk(Node node, Surroundings around) {
         {"Block", &EarlyErrors::block},
         {"CaseBlock", &EarlyErrors::case_block},
         {"Script", &EarlyErrors::script},
+        {"Module", &EarlyErrors::module},
+        {"ModuleExportName", &EarlyErrors::module_export_name},
+        {"ClassElementName", &EarlyErrors::class_element_name},
+        {"IdentifierReference", &EarlyErrors::identifier_reference},
+        {"ImportMeta", &EarlyErrors::import_meta},
         {"Catch", &EarlyErrors::catch_clause},
         {"ContinueStatement", &EarlyErrors::jump},
         {"BreakStatement", &EarlyErrors::jump},
@@ -75,7 +81,14 @@ void EarlyErrors::walk(Node node, Surroundings around) {
         {"IterationStatement", &EarlyErrors::iteration},
         {"FunctionDeclaration", &EarlyErrors::function},
         {"FunctionExpression", &EarlyErrors::function},
+        {"GeneratorDeclaration", &EarlyErrors::function},
+        {"GeneratorExpression", &EarlyErrors::function},
+        {"AsyncFunctionDeclaration", &EarlyErrors::function},
+        {"AsyncFunctionExpression", &EarlyErrors::function},
+        {"AsyncGeneratorDeclaration", &EarlyErrors::function},
+        {"AsyncGeneratorExpression", &EarlyErrors::function},
         {"ArrowFunction", &EarlyErrors::arrow},
+        {"AsyncArrowFunction", &EarlyErrors::arrow},
         {"MethodDefinition", &EarlyErrors::method},
         {"ClassTail", &EarlyErrors::class_tail},
         {"SuperProperty", &EarlyErrors::super_property},
@@ -92,8 +105,14 @@ void EarlyErrors::walk(Node node, Surroundings around) {
 }
 
 void EarlyErrors::walk_children(Node node, const Surroundings &around) {
-    for (Node it : node->children)
+    // 15.5, 15.8, and the [Yield] and [Await] of the productions.
+    bool has_yield = node->parameters & Yield, has_await = node->parameters & Await;
+    for (Node it : node->children) {
+        if (is(it, "YieldExpression") && !(has_yield && !around.bars_yield)) report(22, source_.start(it));
+        if (is(it, "AwaitExpression") && !(has_await && !around.bars_await)) report(23, source_.start(it));
+        if (it && it->is_leaf() && source_.token(it).kind == Token::Kind::PrivateIdentifier) report_private_reference(it, around);
         walk(it, around);
+    }
 }
 
 // 12.2.8.1: the flags.
@@ -102,7 +121,7 @@ void EarlyErrors::walk_regexp(Node leaf) {
     string spelled = source_.spelled(leaf), flags = spelled.substr(spelled.rfind('/') + 1);
     std::set<char> seen;
     for (char c : flags)
-        if (!strchr("gimsuy", c) || !seen.insert(c).second) return report(21, source_.start(leaf));
+        if (!strchr(source_.has("indices-flag") ? "dgimsuy" : "gimsuy", c) || !seen.insert(c).second) return report(21, source_.start(leaf));
 }
 
 void EarlyErrors::binding_identifier(Node node, const Surroundings &) { report_restricted_name(node); }
@@ -138,8 +157,17 @@ void EarlyErrors::unary(Node node, const Surroundings &around) {
         while (is(operand, "ParenthesizedExpression"))
             operand = source_.bare(operand->children[1]);
         if (is(operand, "Identifier") || is(operand, "IdentifierReference")) report(2, source_.start(node));
+        if (has_private_end(operand)) report(29, source_.start(node));
     }
     walk_children(node, around);
+}
+
+// 13.5.1.1 of the 13th edition: a member or a chain that ends in a private name.
+bool EarlyErrors::has_private_end(Node operand) const {
+    if (operand->is_leaf()) return false;
+    Node last = operand->last();
+    if (is(operand, "OptionalExpression")) last = last->last();
+    return last && last->is_leaf() && !is(operand, "ClassElementName") && source_.token(last).kind == Token::Kind::PrivateIdentifier;
 }
 
 // 13.3.1.1.
@@ -224,6 +252,9 @@ void EarlyErrors::iteration(Node node, const Surroundings &around) {
         if (is(it, "ForDeclaration") || is(it, "LexicalDeclaration")) head = semantics_.bound_names(it);
         if (is(it, "LeftHandSideExpression")) report_restricted_target(it);
     }
+    bool is_await = is_token(node->children[1], "await");
+    if (is_await && (!(node->parameters & Await) || around.bars_await)) report(23, source_.start(node));
+    if (!is_await && source_.has("edition-2022")) report_async_of(node);
     report_shared(head, semantics_.var_declared_names(body), 13);
     Surroundings outside = around, inside = around;
     outside.pending_labels.clear();
@@ -235,10 +266,30 @@ void EarlyErrors::iteration(Node node, const Surroundings &around) {
     walk(body, inside);
 }
 
+// 14.7.5: `async` before `of`, grouped or not.
+void EarlyErrors::report_async_of(Node node) {
+    Node target = node->children[2];
+    if (!is(target, "LeftHandSideExpression") || !is_token(node->children[3], "of")) return;
+    while (target && !target->is_leaf() && !is(target, "IdentifierReference")) {
+        bool is_grouped = is(target, "ParenthesizedExpression");
+        if (!is_grouped && target->children.size() != 1) return;
+        target = target->children[is_grouped ? 1 : 0];
+    }
+    if (target && source_.spelled(target) == "async") report(35, source_.start(target));
+}
+
+EarlyErrors::Surroundings EarlyErrors::begun(const Surroundings &around) {
+    Surroundings inside;
+    inside.private_names = around.private_names;
+    return inside;
+}
+
 // 14.1.2, 14.2.1, 14.3.1; the body may be an ExpressionBody.
 void EarlyErrors::walk_function(Node parameters, Node body, const Surroundings &inside) {
     NamesAt names = semantics_.bound_names(parameters);
     report_duplicates(names, 6);
+    while (!is(body, "FunctionBody") && !is(body, "ExpressionBody"))
+        body = body->children[0];
     if (is(body, "FunctionBody")) {
         Node list = body->children[0]->children[0];
         NamesAt lexical = semantics_.top_level_lexically_declared_names(list);
@@ -247,64 +298,161 @@ void EarlyErrors::walk_function(Node parameters, Node body, const Surroundings &
         int directive = semantics_.use_strict(list);
         if (directive >= 0 && !semantics_.is_simple_parameter_list(parameters)) report(8, directive);
     }
-    walk(parameters, inside);
+    // 15.5.1, 15.6.1, 15.8.1, 15.9.1: parameters contain no YieldExpression and no AwaitExpression.
+    Surroundings of_parameters = inside;
+    of_parameters.bars_yield = of_parameters.bars_await = true;
+    walk(parameters, of_parameters);
     walk(body, inside);
 }
 
 void EarlyErrors::function(Node node, const Surroundings &around) {
-    walk(node->children[1], around);
-    Surroundings inside;
+    Surroundings inside = begun(around);
     inside.has_new_target = true;
-    walk_function(node->children[3], node->children[6], inside);
+    Node parameters = nullptr;
+    for (Node it : node->children) {
+        if (is(it, "BindingIdentifier")) walk(it, around);
+        if (is(it, "FormalParameters")) parameters = it;
+    }
+    walk_function(parameters, node->children[node->children.size() - 2], inside);
 }
 
-// 14.2.3: `super` and `new.target` belong to what surrounds an arrow.
+// 14.2.3: `super` and `new.target` belong to what surrounds an arrow; `arguments` too.
 void EarlyErrors::arrow(Node node, const Surroundings &around) {
-    Surroundings inside;
+    Surroundings inside = begun(around);
     inside.has_super_property = around.has_super_property;
     inside.has_super_call = around.has_super_call;
     inside.has_new_target = around.has_new_target;
-    Node given = node->children[0]->children[0], body = node->children[2];
+    inside.bars_arguments = around.bars_arguments;
+    Node given = node->children[0], body = node->last();
+    if (given->is_leaf()) given = node->children[1];
+    else if (is(given, "AsyncArrowHead")) given = given->children[1];
+    else given = given->children[0];
     walk_function(is(given, "ArrowFormalParameters") ? given->children[1] : given, body->children[body->children.size() == 1 ? 0 : 1], inside);
 }
 
 void EarlyErrors::method(Node node, const Surroundings &around) { walk_method(node, around, false); }
 
 void EarlyErrors::walk_method(Node node, const Surroundings &around, bool may_call_super) {
-    // (a generator or an async method is outside the profile)
-    if (node->children.size() == 1) return walk_children(node, around);
-    walk(node->children[is(node->children[0], "PropertyName") ? 0 : 1], around);
+    if (node->children.size() == 1) node = node->children[0];
     Node parameters = nullptr;
-    for (Node it : node->children)
+    for (Node it : node->children) {
+        if (is(it, "PropertyName") || is(it, "ClassElementName")) walk(it, around);
         if (is(it, "UniqueFormalParameters") || is(it, "PropertySetParameterList")) parameters = it;
-    Surroundings inside;
+    }
+    Surroundings inside = begun(around);
     inside.has_super_property = inside.has_new_target = true;
     inside.has_super_call = may_call_super;
     walk_function(parameters, node->children[node->children.size() - 2], inside);
 }
 
-// 14.6.1.
+// 15.7.1 of the 13th edition; 14.6.1.
 void EarlyErrors::class_tail(Node node, const Surroundings &around) {
     walk(node->children[0], around);
     int constructors = 0;
     Node list = node->children[2] ? node->children[2]->children[0] : nullptr;
+    PrivateNames names{{}, around.private_names};
+    Surroundings inside = around;
+    inside.private_names = &names;
+    report_private_duplicates(list, names);
     for (Node it : semantics_.items(list))
-        walk_class_element(it, around, node->children[0] != nullptr, constructors);
+        walk_class_element(it, inside, node->children[0] != nullptr, constructors);
 }
 
-void EarlyErrors::walk_class_element(Node element, const Surroundings &around, bool is_derived, int &constructors) {
-    if (element->children[0]->is_leaf() && element->children.size() == 1) return;
-    bool is_static = element->children.size() == 2;
-    Node definition = element->last();
-    bool is_plain = is(definition->children[0], "PropertyName");
-    Node name = is_plain || definition->children.size() == 1 ? definition->children[0] : definition->children[1];
-    if (!is(name, "PropertyName")) return walk(definition, around);
-    string key = semantics_.prop_name(name);
-    bool is_constructor = !is_static && is_plain && key == "constructor";
-    if (is_constructor && constructors++) report(17, source_.start(name));
-    if (!is_static && !is_plain && key == "constructor") report(18, source_.start(name));
-    if (is_static && key == "prototype") report(19, source_.start(name));
-    walk_method(definition, around, is_constructor && is_derived);
+// PrivateBoundIdentifiers: twice only as a getter and a setter, both static or neither.
+void EarlyErrors::report_private_duplicates(Node list, PrivateNames &names) {
+    std::map<string, vector<ClassElement>> by_name;
+    for (Node it : semantics_.items(list)) {
+        ClassElement element = semantics_.class_element(it);
+        if (element.name && element.is_private) by_name[source_.spelled(element.name)].push_back(element);
+    }
+    for (const auto &it : by_name) {
+        const vector<ClassElement> &elements = it.second;
+        names.names.insert(it.first);
+        bool is_pair = elements.size() == 2 && elements[0].is_static == elements[1].is_static &&
+                       ((elements[0].kind == "get" && elements[1].kind == "set") || (elements[0].kind == "set" && elements[1].kind == "get"));
+        for (size_t i = 1; i < elements.size() && !is_pair; i++)
+            report(26, source_.start(elements[i].name));
+    }
+}
+
+void EarlyErrors::walk_class_element(Node node, const Surroundings &around, bool is_derived, int &constructors) {
+    ClassElement element = semantics_.class_element(node);
+    if (element.block) return walk_static_block(element.block, around);
+    if (!element.name) return;
+    string key = element.is_private ? "" : semantics_.prop_name(element.name);
+    bool is_constructor = !element.is_static && key == "constructor";
+    if (element.is_static && key == "prototype") report(19, source_.start(element.name));
+    if (element.kind == "field") {
+        if (key == "constructor") report(24, source_.start(element.name));
+        return walk_field(element.definition, around);
+    }
+    if (is_constructor && element.kind == "method" && constructors++) report(17, source_.start(element.name));
+    if (is_constructor && element.kind != "method") report(18, source_.start(element.name));
+    walk_method(element.definition, around, is_constructor && element.kind == "method" && is_derived);
+}
+
+// A field's value and a static block: `super` properties and `new.target` may stand in them, calls of `super` and `arguments` not.
+EarlyErrors::Surroundings EarlyErrors::initializing(const Surroundings &around) {
+    Surroundings inside = begun(around);
+    inside.has_super_property = inside.has_new_target = inside.bars_arguments = true;
+    return inside;
+}
+
+void EarlyErrors::walk_field(Node field, const Surroundings &around) {
+    walk(field->children[0], around);
+    walk(field->children[1], initializing(around));
+}
+
+void EarlyErrors::walk_static_block(Node block, const Surroundings &around) {
+    Node list = block->children[2]->children[0]->children[0];
+    report_declarations(semantics_.top_level_lexically_declared_names(list), semantics_.top_level_var_declared_names(list));
+    Surroundings inside = initializing(around);
+    inside.bars_await = true;
+    walk(list, inside);
+}
+
+// 15.7.1: no private name is `#constructor`.
+void EarlyErrors::class_element_name(Node node, const Surroundings &around) {
+    if (!node->children[0]->is_leaf()) return walk_children(node, around);
+    if (source_.spelled(node) == "#constructor") report(25, source_.start(node));
+}
+
+// 8.3.1 of later editions, AllPrivateIdentifiersValid.
+void EarlyErrors::report_private_reference(Node leaf, const Surroundings &around) {
+    for (const PrivateNames *it = around.private_names; it; it = it->around)
+        if (it->names.count(source_.spelled(leaf))) return;
+    report(27, source_.start(leaf));
+}
+
+// ContainsArguments.
+void EarlyErrors::identifier_reference(Node node, const Surroundings &around) {
+    if (around.bars_arguments && source_.spelled(node) == "arguments") report(28, source_.start(node));
+}
+
+// 13.3.12.1.
+void EarlyErrors::import_meta(Node node, const Surroundings &) {
+    if (!is_module_) report(30, source_.start(node));
+}
+
+// 16.2.1.1, 16.2.3.1.
+void EarlyErrors::module(Node node, const Surroundings &around) {
+    ModuleNames names = semantics_.module_names(node);
+    report_declarations(names.lexical, names.var);
+    report_duplicates(names.exported, 31);
+    std::set<string> declared;
+    for (const NamesAt *it : {&names.lexical, &names.var})
+        for (const NameAt &each : *it)
+            declared.insert(each.name);
+    for (const NameAt &it : names.referenced) {
+        if (it.name.empty() || source_.is_reserved(it.name)) report(32, it.place);
+        else if (!declared.count(it.name)) report(33, it.place);
+    }
+    walk_children(node, around);
+}
+
+// 16.2: a string is well-formed Unicode.
+void EarlyErrors::module_export_name(Node node, const Surroundings &) {
+    if (source_.token(node).kind == Token::Kind::String && !semantics_.is_well_formed(node)) report(34, source_.start(node));
 }
 
 // 15.1.1, 14.1.2.

@@ -53,6 +53,9 @@ string Estree::expression(Node node) {
         {"ArrayLiteral", &Estree::array_literal},
         {"ObjectLiteral", &Estree::object_literal},
         {"FunctionExpression", &Estree::function_expression},
+        {"GeneratorExpression", &Estree::function_expression},
+        {"AsyncFunctionExpression", &Estree::function_expression},
+        {"AsyncGeneratorExpression", &Estree::function_expression},
         {"ClassExpression", &Estree::class_expression},
         {"TemplateLiteral", &Estree::template_literal},
         {"SubstitutionTemplate", &Estree::template_literal},
@@ -63,6 +66,7 @@ string Estree::expression(Node node) {
         {"SuperCall", &Estree::super_call},
         {"ImportCall", &Estree::import_call},
         {"NewTarget", &Estree::new_target},
+        {"ImportMeta", &Estree::new_target},
         {"NewExpression", &Estree::new_expression},
         {"OptionalExpression", &Estree::optional_expression},
         {"UpdateExpression", &Estree::update},
@@ -70,8 +74,13 @@ string Estree::expression(Node node) {
         {"ConditionalExpression", &Estree::conditional},
         {"AssignmentExpression", &Estree::assignment},
         {"ArrowFunction", &Estree::arrow},
+        {"AsyncArrowFunction", &Estree::arrow},
+        {"YieldExpression", &Estree::yield_expression},
+        {"AwaitExpression", &Estree::await_expression},
         {"Expression", &Estree::sequence},
     };
+    // (a PrivateIdentifier before `in`)
+    if (node->is_leaf()) return name_or_private(node);
     node = source_.bare(const_cast<ParseNode *>(node));
     auto it = SHAPES.find(source_.name(node));
     if (it != SHAPES.end()) return (this->*it->second)(node);
@@ -130,16 +139,12 @@ void Estree::push_definitions(Node node, Items &out) {
         out.push_back(property(definition, key, expression(definition->children[2]), "init", false, false, is_computed));
     } else if (is(first, "MethodDefinition")) {
         Method it = method(first);
-        bool is_method = it.kind == "method";
+        bool is_method = it.kind == "method" || it.kind == "special";
         out.push_back(property(definition, it.key, it.function, is_method ? "init" : it.kind, is_method, false, it.is_computed));
     } else out.push_back(spread(first, definition->children[1]));
 }
 
-string Estree::function_expression(Node node) {
-    const auto &parts = node->children;
-    string id = parts[1] ? identifier(parts[1]) : "null", given = parameters(parts[3]);
-    return function("FunctionExpression", node, node, id, given, function_body(parts[5], parts[6], parts[7]));
-}
+string Estree::function_expression(Node node) { return named_function("FunctionExpression", node); }
 
 string Estree::class_expression(Node node) { return class_of("ClassExpression", node, node->children[1], node->children[2]); }
 
@@ -197,7 +202,7 @@ string Estree::member_or_call(Node node) {
     if (is(parts[1], "Arguments")) return call(start, node, first, arguments(parts[1]), false);
     if (parts.size() == 2) return object("TaggedTemplateExpression", node, {{"tag", first}, {"quasi", template_literal(parts[1])}});
     bool is_computed = parts.size() == 4;
-    return member(start, node, first, is_computed ? expression(parts[2]) : identifier(parts[2]), is_computed, false);
+    return member(start, node, first, is_computed ? expression(parts[2]) : name_or_private(parts[2]), is_computed, false);
 }
 
 string Estree::super_node(Node node) const { return object("Super", node->children[0]); }
@@ -233,7 +238,7 @@ string Estree::chain_parts(Node node, int start, const string &base) {
     if (is(parts[1], "Arguments")) return call(start, node, of, arguments(parts[1]), is_optional);
     bool is_computed = is_token(parts[1], "[");
     Node property = is_computed || is_token(parts[1], ".") ? parts[2] : parts[1];
-    return member(start, node, of, is_computed ? expression(property) : identifier(property), is_computed, is_optional);
+    return member(start, node, of, is_computed ? expression(property) : name_or_private(property), is_computed, is_optional);
 }
 
 string Estree::update(Node node) {
@@ -277,11 +282,26 @@ void Estree::push_sequence(Node node, Items &out) {
 }
 
 string Estree::arrow(Node node) {
-    Node given = node->children[0]->children[0], body = node->children[2];
+    Node given = node->children[0], body = node->last();
+    if (given->is_leaf()) given = node->children[1];
+    else given = given->children[is(given, "AsyncArrowHead") ? 1 : 0];
     bool is_concise = body->children.size() == 1;
     string names = is(given, "ArrowFormalParameters") ? parameters(given->children[1]->children[0]) : listed({identifier(given)});
     string shown = is_concise ? expression(body->children[0]->children[0]) : function_body(body->children[0], body->children[1], body->children[2]);
-    return function("ArrowFunctionExpression", node, node, "null", names, shown, {{"expression", flag(is_concise)}});
+    return function("ArrowFunctionExpression", node, node, "null", names, shown, source_.name(node), {{"expression", flag(is_concise)}});
+}
+
+string Estree::yield_expression(Node node) {
+    size_t count = node->children.size();
+    return object("YieldExpression", node, {{"argument", count > 1 ? expression(node->last()) : "null"}, {"delegate", flag(count > 2)}});
+}
+
+string Estree::await_expression(Node node) { return object("AwaitExpression", node, {{"argument", expression(node->children[1])}}); }
+
+// An IdentifierName or a PrivateIdentifier.
+string Estree::name_or_private(Node leaf) {
+    if (source_.token(leaf).kind != Token::Kind::PrivateIdentifier) return identifier(leaf);
+    return object("PrivateIdentifier", leaf, {{"name", quoted(source_.spelled(leaf).substr(1))}});
 }
 
 // Targets and assignment patterns; binding patterns and parameters.

@@ -17,7 +17,7 @@ class Estree {
     using Items = vector<string>;
     using Shape = string (Estree::*)(Node);
     struct Method {
-        string key, kind, function;
+        string key, kind, function; // the kind `special` is a method's with `*` or `async`
         bool is_computed;
         Node name;
     };
@@ -54,6 +54,9 @@ class Estree {
     string conditional(Node node);
     string assignment(Node node);
     string arrow(Node node);
+    string yield_expression(Node node);
+    string await_expression(Node node);
+    string name_or_private(Node leaf);
     string sequence(Node node);
     string binary(Node node);
     void push_sequence(Node node, Items &out);
@@ -91,16 +94,25 @@ class Estree {
     // Functions and classes.
     string property_key(Node name, bool &is_computed);
     string property(Node node, const string &key, const string &value, const string &kind, bool is_method, bool is_shorthand, bool is_computed) const;
-    string function(const string &type, Node first, Node last, const string &id, const string &parameters, const string &body,
+    string function(const string &type, Node first, Node last, const string &id, const string &parameters, const string &body, const string &symbol,
                     Fields more = {}) const;
+    string named_function(const string &type, Node node);
     string function_body(Node open, Node body, Node close);
     Method method(Node node);
     string class_of(const string &type, Node node, Node id, Node tail);
     void push_members(Node node, Items &out);
+    string field(Node element, Node definition, bool is_static);
+    string static_block(Node node);
 
     // Statements and declarations.
     void push_items(Node list, Items &out, bool has_prologue);
     string item(Node node);
+    string declared(Node node);
+    string import_declaration(Node node);
+    string export_declaration(Node node);
+    string module_name(Node node);
+    void push_import_specifiers(Node node, Items &out);
+    void push_export_specifiers(Node node, Items &out);
     string directive(Node statement);
     string statement(Node node);
     string block(Node node);

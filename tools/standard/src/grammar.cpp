@@ -71,15 +71,22 @@ void Grammar::expand() {
 void Grammar::expand_nonterminal(int nonterminal) {
     // (expanding makes further nonterminals, so nothing of this one is held)
     unsigned parameters = nonterminals[static_cast<size_t>(nonterminal)].parameters;
+    // (the profile of 2022 makes a `yield` or `await` without its parameter an early error)
+    unsigned seen = parameters | (has("yield-and-await-everywhere") ? Yield | Await : 0);
     const vector<Alternative> &alternatives = production_of(nonterminal).alternatives;
     for (size_t i = 0; i < alternatives.size(); i++) {
-        if (!holds(alternatives[i].guards, parameters)) continue;
+        if (!holds(alternatives[i].guards, seen)) continue;
         unsigned options = 0;
         for (const Symbol &it : alternatives[i].symbols)
             options += it.is_optional;
         for (unsigned given = 1u << options; given-- > 0;)
             add_rule(nonterminal, static_cast<int>(i), given);
     }
+}
+
+bool Grammar::is_misplaced(const Rule &rule) const {
+    const Alternative &alternative = production_of(rule.nonterminal).alternatives[static_cast<size_t>(rule.alternative)];
+    return !holds(alternative.guards, nonterminals[static_cast<size_t>(rule.nonterminal)].parameters);
 }
 
 void Grammar::add_rule(int nonterminal, int alternative, unsigned given_options) {

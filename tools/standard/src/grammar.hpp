@@ -57,6 +57,8 @@ class Grammar {
     Element element(Dot dot) const { return elements[static_cast<size_t>(dot)]; }
     Dot end_of(const Rule &rule) const { return rule.first + static_cast<Dot>(rule.children.size()); }
     bool has(const string &rule) const { return source.has(rule); }
+    // Whether a rule stands where its guards don't hold: a `yield` or `await` that is an early error.
+    bool is_misplaced(const Rule &rule) const;
 
   private:
     std::unordered_map<string, int> terminal_numbers_;

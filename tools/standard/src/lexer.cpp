@@ -97,7 +97,8 @@ Character character_at(const string &text, int at) {
 bool is_line_terminator(unsigned c) { return c == '\n' || c == '\r' || c == 0x2028 || c == 0x2029; }
 
 Lexer::Lexer(Grammar &grammar)
-    : grammar_(grammar), has_separators_(grammar.has("numeric-separators")), has_private_identifiers_(grammar.has("private-identifiers")) {
+    : grammar_(grammar), has_separators_(grammar.has("numeric-separators")), has_private_identifiers_(grammar.has("private-identifiers")),
+      has_hashbang_(grammar.has("hashbang")) {
     identifier_name_ = grammar.terminal("<IdentifierName>");
     identifier_ = grammar.terminal("<IdentifierName but not ReservedWord>");
     number_ = grammar.terminal("<NumericLiteral>");
@@ -110,7 +111,8 @@ Lexer::Lexer(Grammar &grammar)
     private_identifier_ = has_private_identifiers_ ? grammar.terminal("<PrivateIdentifier>") : -1;
 }
 
-int Lexer::skip(const string &text, int at, bool &has_line_terminator) {
+int Lexer::skip(const string &text, int at, bool &has_line_terminator) const {
+    if (at == 0 && has_hashbang_ && is_at(text, 0, "#!")) at = line_comment_end(text, 2);
     while (at >= 0 && at < size_of(text)) {
         Character it = character_at(text, at);
         if (is_at(text, at, "//")) at = line_comment_end(text, at + 2);

@@ -34,11 +34,11 @@ class Lexer {
 
     Token next(const string &text, int at, Goal goal) const;
     // The place after white space and comments; -1 if a comment has no end.
-    static int skip(const string &text, int at, bool &has_line_terminator);
+    int skip(const string &text, int at, bool &has_line_terminator) const;
 
   private:
     Grammar &grammar_;
-    bool has_separators_, has_private_identifiers_;
+    bool has_separators_, has_private_identifiers_, has_hashbang_;
     int identifier_name_, identifier_, number_, string_, regexp_, no_substitution_, head_, middle_, tail_, private_identifier_;
 
     void read_token(const string &text, Goal goal, Token &token) const;

@@ -4,6 +4,7 @@
 #include "mutants.hpp"
 #include "positions.hpp"
 #include "sentences.hpp"
+#include <algorithm>
 #include <chrono>
 #include <cstdio>
 #include <cstdlib>
@@ -23,7 +24,7 @@ struct Options {
     string command, goal_symbol = "Script";
     vector<string> files, arguments;
     int seconds = 0, length = 0, deep_length = 0;
-    size_t most = 1000000;
+    size_t most = 1000000, each = 1;
 };
 
 // Whether the time of a command is up; with 0 seconds it never is.
@@ -82,11 +83,20 @@ void print_reading(Reader &reader, const string &path) {
     printf("%s\npairs %d\n", tree.c_str(), estree.grouping_pairs());
 }
 
+// Whether an early error of the profile of 2022 is a derivation that the standard itself hasn't.
+bool is_derived(Reader &reader, const Reading &reading) {
+    static const std::set<int> NO_DERIVATION{22, 23, 30, 35};
+    if (!reading.is_accepted) return false;
+    EarlyErrors early(reader.source);
+    const vector<EarlyError> &errors = early.of_script(reading.tree);
+    return std::none_of(errors.begin(), errors.end(), [](const EarlyError &it) { return NO_DERIVATION.count(it.number) > 0; });
+}
+
 // A word for each text: whether it is derived, in one way or two.
 void print_derivations(Reader &reader, const string &path) {
     for (const string &it : texts_of(path)) {
         Reading reading = reader.read(it);
-        puts(!reading.is_accepted ? "refused" : reading.refined > 1 || reading.is_cover_ambiguous ? "twice" : "once");
+        puts(!is_derived(reader, reading) ? "refused" : reading.refined > 1 || reading.is_cover_ambiguous ? "twice" : "once");
     }
 }
 
@@ -149,10 +159,12 @@ bool run_positions(const Options &options, Reader &reader) {
     Comparison comparison(reader);
     std::set<string> seen;
     Positions positions(reader.grammar, reader.start_symbol());
+    size_t number = 0;
     long count = positions.texts([&](int, const string &text) {
+        if (number++ % options.each) return;
         if (comparison.tally.texts < static_cast<long>(options.most) && seen.insert(text).second) comparison.compare(text);
     });
-    printf("positions %ld, each with %zu probes, line ends and missing semicolons\n", count, Positions::probe_count());
+    printf("positions %ld, each with %zu probes, line ends and missing semicolons\n", count, positions.probes().size());
     return finished(comparison);
 }
 
@@ -179,7 +191,9 @@ bool run_texts(const Options &options, Reader &reader) {
 bool run_mutants(const Options &options) {
     vector<string> words(options.arguments.begin() + (options.arguments.empty() ? 0 : 1), options.arguments.end());
     Deadline deadline(options.seconds);
-    return MutantRun(options.files, read_alphabets(argument(options, 0), "")).run(options.most, words, [&] { return deadline.is_over(); });
+    return MutantRun(options.files, options.goal_symbol, read_alphabets(argument(options, 0), "")).run(options.most, words, [&] {
+        return deadline.is_over();
+    });
 }
 
 bool run(const Options &options) {
@@ -219,6 +233,7 @@ Options read_options(const vector<string> &words) {
         else if (words[i] == "--seconds") out.seconds = number_of(words[++i]);
         else if (words[i] == "--length") out.length = number_of(words[++i]);
         else if (words[i] == "--deep") out.deep_length = number_of(words[++i]);
+        else if (words[i] == "--each") out.each = static_cast<size_t>(std::max(1, number_of(words[++i])));
         else if (words[i] == "--most") out.most = static_cast<size_t>(number_of(words[++i]));
         else throw std::runtime_error("no option " + words[i] + "\n" + USAGE);
     }

@@ -154,11 +154,12 @@ vector<Mutant> mutants_of(const GrammarSource &source) {
     return out;
 }
 
-MutantRun::MutantRun(const vector<string> &files, const vector<Alphabet> &alphabets) {
+MutantRun::MutantRun(const vector<string> &files, const string &goal_symbol, const vector<Alphabet> &alphabets) : goal_symbol_(goal_symbol) {
     for (const string &it : files)
         source_.read(it);
     Grammar grammar(source_);
-    Reader reader(grammar);
+    Reader reader(grammar, goal_symbol_);
+    language_ = reader.language();
     know_positions(reader);
     know_alphabets(alphabets);
 }
@@ -166,7 +167,7 @@ MutantRun::MutantRun(const vector<string> &files, const vector<Alphabet> &alphab
 size_t MutantRun::know(const string &text, std::map<string, size_t> &numbers) {
     auto found = numbers.emplace(text, texts_.size());
     if (!found.second) return found.first->second;
-    ProgramAnswer answer = program_answer(text);
+    ProgramAnswer answer = program_answer(text, language_);
     texts_.push_back({text, answer.verdict, std::hash<string>()(answer.tree)});
     return texts_.size() - 1;
 }
@@ -205,7 +206,7 @@ MutantRun::Outcome MutantRun::outcome(const Mutant &mutant) const {
     auto nearby = nearby_.find(mutant.production);
     if (nearby == nearby_.end()) return Outcome::Unreached;
     Grammar grammar(mutant.source);
-    Reader reader(grammar);
+    Reader reader(grammar, goal_symbol_);
     if (SelfDerivation(grammar).exists()) return Outcome::DerivesItself;
     if (is_shown(reader, nearby->second)) return Outcome::ShownNearby;
     return is_shown(reader, elsewhere_) ? Outcome::ShownElsewhere : Outcome::Unshown;

@@ -14,7 +14,7 @@ vector<Mutant> mutants_of(const GrammarSource &source);
 
 class MutantRun {
   public:
-    MutantRun(const vector<string> &files, const vector<Alphabet> &alphabets);
+    MutantRun(const vector<string> &files, const string &goal_symbol, const vector<Alphabet> &alphabets);
 
     // Tries the mutants whose slip holds one of the words, all if there is no word, until so many were tried or the time is up, and prints
     // those that no text shows. False if none was tried.
@@ -29,6 +29,8 @@ class MutantRun {
     };
     enum class Outcome { ShownNearby, ShownElsewhere, Unshown, DerivesItself, Unreached };
     GrammarSource source_;
+    string goal_symbol_;
+    Language language_ = Language::Base;
     vector<Known> texts_;
     std::map<string, vector<size_t>> nearby_; // by production: the texts at its positions
     vector<size_t> elsewhere_;                // texts of all productions and of the alphabets

@@ -151,6 +151,104 @@ const char *const PROBES[] = {"",
                               "extends new a",
                               "extends a ?. b",
                               "extends x => x"};
+// What is tried beside them in the languages of 2022.
+const char *const PROBES_2022[] = {"yield",
+                                   "yield a",
+                                   "yield * a",
+                                   "yield \n a",
+                                   "yield \n * a",
+                                   "await a",
+                                   "await \n a",
+                                   "await a ** b",
+                                   "- await a",
+                                   "await /r/",
+                                   "a ( await b )",
+                                   "async a => b",
+                                   "async \n a => b",
+                                   "async ( a ) => b",
+                                   "async ( a = await b ) => c",
+                                   "async ( { a } , [ b ] ) => { }",
+                                   "async ( ... a ) => b in c",
+                                   "async ( a )",
+                                   "async ( { a = 1 } )",
+                                   "async function ( ) { }",
+                                   "async function f ( ) { await a ; }",
+                                   "async \n function f ( ) { }",
+                                   "function * ( ) { }",
+                                   "function * f ( ) { yield a ; }",
+                                   "async function * ( ) { }",
+                                   "async function * f ( ) { yield await a ; }",
+                                   "a . #a",
+                                   "a ?. #a",
+                                   "a ?. b . #a",
+                                   "delete a . #a",
+                                   "delete ( a ?. #a )",
+                                   "#a",
+                                   "#a in b",
+                                   "#b in b",
+                                   "a in #a",
+                                   "import . meta",
+                                   "import . meta . a",
+                                   "* a ( ) { }",
+                                   "async a ( ) { }",
+                                   "async \n a ( ) { }",
+                                   "async * a ( ) { }",
+                                   "* constructor ( ) { }",
+                                   "#a ( ) { }",
+                                   "get #a ( ) { }",
+                                   "set #a ( b ) { }",
+                                   "#constructor",
+                                   "static #a",
+                                   "static { }",
+                                   "static \n { }",
+                                   "static { await a ; }",
+                                   "static a = arguments",
+                                   "a = b",
+                                   "a = super . b",
+                                   "a = super ( )",
+                                   "a = new . target",
+                                   "a = x => arguments",
+                                   "get",
+                                   "set",
+                                   "static",
+                                   "constructor",
+                                   "'constructor'",
+                                   "[ a ]",
+                                   "[ a ] = b",
+                                   "static prototype",
+                                   "for await ( a of b ) ;",
+                                   "for await ( var a of b ) ;",
+                                   "for await ( a in b ) ;",
+                                   "for ( async of a ) ;",
+                                   "for ( ( async ) of a ) ;",
+                                   "for ( async of => a ; ; ) ;",
+                                   "/r/d",
+                                   "import 's'",
+                                   "import a from 's'",
+                                   "import * as a from 's'",
+                                   "import { a } from 's'",
+                                   "import a , { b as c , 's' as d , } from 's'",
+                                   "import { await } from 's'",
+                                   "export { a }",
+                                   "export { a as b } from 's'",
+                                   "export { a as '\\ud800' }",
+                                   "export { if }",
+                                   "export * from 's'",
+                                   "export * as a from 's'",
+                                   "export var a",
+                                   "export let a ; export { a }",
+                                   "export function f ( ) { }",
+                                   "export default a",
+                                   "export default a , b",
+                                   "export default function ( ) { }",
+                                   "export default async function ( ) { }",
+                                   "export default async \n function f ( ) { }",
+                                   "export default class { }",
+                                   "export default { }",
+                                   "default",
+                                   "as",
+                                   "from",
+                                   "* as a"};
 // What is tried for a semicolon that is left out.
 const char *const CONTINUATIONS[] = {"", "( c )", "/ c /", "++ c"};
 // (a name is the shortest expression, so that targets are valid; `yield` is never one)
@@ -167,6 +265,7 @@ const std::map<string, string> SPELLED{{"<IdentifierName but not ReservedWord>",
                                        {"<IdentifierName>", "a"},
                                        {"<NumericLiteral>", "1"},
                                        {"<StringLiteral>", "'s'"},
+                                       {"<PrivateIdentifier>", "#a"},
                                        {"<RegularExpressionLiteral>", "/r/"},
                                        {"<NoSubstitutionTemplate>", "``"},
                                        {"<TemplateHead>", "`${"},
@@ -201,7 +300,11 @@ Positions::Positions(Grammar &grammar, int start_symbol) : grammar_(grammar) {
     find_contexts(start_symbol);
 }
 
-size_t Positions::probe_count() { return sizeof PROBES / sizeof *PROBES; }
+vector<const char *> Positions::probes() const {
+    vector<const char *> out(std::begin(PROBES), std::end(PROBES));
+    if (grammar_.has("edition-2022")) out.insert(out.end(), std::begin(PROBES_2022), std::end(PROBES_2022));
+    return out;
+}
 
 string Positions::spelled(int terminal) const {
     auto it = SPELLED.find(grammar_.terminals[index(terminal)]);
@@ -257,6 +360,7 @@ void Positions::find_contexts(int start_symbol) {
     // The symbols that refine covers are reached from no start.
     reach(grammar_.nonterminal("AssignmentPattern", 0), {"("}, {"=", "a", ")"});
     reach(grammar_.nonterminal("ArrowFormalParameters", 0), {"("}, {"=>", "a", ")"});
+    if (grammar_.has("edition-2022")) reach(grammar_.nonterminal("AsyncArrowHead", 0), {"("}, {"=>", "a", ")"});
     for (bool is_changed = true; is_changed;) {
         is_changed = false;
         for (const Rule &it : grammar_.rules)
@@ -274,6 +378,7 @@ bool Positions::reach(int nonterminal, const Words &before, const Words &after) 
 }
 
 bool Positions::reach_children(const Rule &rule) {
+    if (grammar_.is_misplaced(rule)) return false;
     if (!is_reached_[index(rule.nonterminal)] || length(rule) >= UNREACHED || grammar_.name_of(rule.nonterminal).compare(0, 5, "Cover") == 0)
         return false;
     bool is_changed = false;
@@ -306,7 +411,7 @@ void Positions::try_probes(const Rule &rule, Dot dot, const Take &take) const {
     push_elements(rule.first, dot, before);
     push_elements(dot + 1, grammar_.end_of(rule), after);
     after.insert(after.end(), after_[index(rule.nonterminal)].begin(), after_[index(rule.nonterminal)].end());
-    for (const char *probe : PROBES) {
+    for (const char *probe : probes()) {
         Words words = before, tried = split(probe);
         words.insert(words.end(), tried.begin(), tried.end());
         size_t to = words.size();
@@ -316,7 +421,12 @@ void Positions::try_probes(const Rule &rule, Dot dot, const Take &take) const {
 }
 
 // The text; the same with a line end before the probe, with one behind it, and without the `;` behind it.
-void Positions::try_around(int production, const Words &words, size_t from, size_t to, const Take &take) const {
+void Positions::try_around(int production, const Words &words, size_t from, size_t to, const Take &given) const {
+    // A private name is of no class mostly: so the text is also put into one that has it.
+    auto take = [&](int of, const string &text) {
+        given(of, text);
+        if (text.find('#') != string::npos) given(of, "class A { #a ; m ( ) { " + text + " } }");
+    };
     take(production, joined(words));
     take(production, joined(with(words, to, "\n")));
     take(production, joined(with(words, from, "\n")));

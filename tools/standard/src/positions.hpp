@@ -12,7 +12,8 @@ class Positions {
     Positions(Grammar &grammar, int start_symbol);
     // Gives each text; the number of positions.
     long texts(const Take &take) const;
-    static size_t probe_count();
+    // What is put at each of them.
+    vector<const char *> probes() const;
 
   private:
     using Words = vector<string>;
@@ -32,6 +33,6 @@ class Positions {
     void push_shortest(int nonterminal, Words &out) const;
     void push_elements(Dot from, Dot to, Words &out) const;
     void try_probes(const Rule &rule, Dot dot, const Take &take) const;
-    void try_around(int production, const Words &words, size_t from, size_t to, const Take &take) const;
+    void try_around(int production, const Words &words, size_t from, size_t to, const Take &given) const;
 };
 } // namespace standard

@@ -13,13 +13,14 @@ struct Output {
     string text;
 };
 
-Output answer(uint32_t command, const string &text, const string &second) {
+Output answer(Language language, uint32_t command, const string &text, const string &second) {
     static thread_local std::vector<uint8_t> room(1 << 20);
     static const uint8_t nothing[1] = {0};
     auto bytes = [](const string &it) { return it.empty() ? nothing : reinterpret_cast<const uint8_t *>(it.data()); };
     for (;;) {
         jslint_outcome outcome;
-        jslint_answer(command, bytes(text), text.size(), bytes(second), second.size(), room.data(), room.size(), &outcome);
+        jslint_answer_in(static_cast<uint32_t>(language), command, bytes(text), text.size(), bytes(second), second.size(), room.data(), room.size(),
+                         &outcome);
         if (outcome.length <= room.size()) return {outcome.is_refusal != 0, string(reinterpret_cast<const char *>(room.data()), outcome.length)};
         room.resize(outcome.length);
     }
@@ -87,9 +88,9 @@ class ValuelessJson {
 };
 } // namespace
 
-ProgramAnswer program_answer(const string &text) {
+ProgramAnswer program_answer(const string &text, Language language) {
     ProgramAnswer out;
-    Output tree = answer(JSLINT_TREE, text, "");
+    Output tree = answer(language, JSLINT_TREE, text, "");
     if (!tree.is_refusal) {
         out.verdict = Verdict::Accepted;
         out.tree = ValuelessJson(tree.text).value();
@@ -106,9 +107,9 @@ ProgramAnswer program_answer(const string &text) {
     return out;
 }
 
-int program_pairs(const string &text) {
-    Output table = answer(JSLINT_COST, text, "");
-    Output verified = table.is_refusal ? table : answer(JSLINT_VERIFY, text, table.text);
+int program_pairs(const string &text, Language language) {
+    Output table = answer(language, JSLINT_COST, text, "");
+    Output verified = table.is_refusal ? table : answer(language, JSLINT_VERIFY, text, table.text);
     return verified.is_refusal || verified.text.compare(0, 6, "pairs ") ? -1 : atoi(verified.text.c_str() + 6);
 }
 } // namespace standard

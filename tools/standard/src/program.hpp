@@ -1,5 +1,6 @@
 // The program, asked through its C library.
 #pragma once
+#include <cstdint>
 #include <string>
 
 namespace standard {
@@ -15,7 +16,10 @@ struct ProgramAnswer {
     string tree;    // of an accepted text: its JSON without the values of literals and templates
 };
 
-ProgramAnswer program_answer(const string &text);
+// The languages, by the numbers of jslint.h.
+enum class Language : uint32_t { Base = 0, Script2022 = 2, Module = 3 };
+
+ProgramAnswer program_answer(const string &text, Language language);
 // How many grouping pairs `verify` counts in an accepted text; -1 if it refuses.
-int program_pairs(const string &text);
+int program_pairs(const string &text, Language language);
 } // namespace standard

@@ -9,6 +9,12 @@ const char *const SUPPLEMENTAL[] = {"ParenthesizedExpression", "AssignmentPatter
                                     "AsyncArrowHead"};
 } // namespace
 
+// 12.6.2, 13.1.1 of the 13th edition.
+bool SourceText::is_reserved(const string &word) const {
+    static const std::set<string> STRICT_WORDS{"implements", "interface", "let", "package", "private", "protected", "public", "static", "yield"};
+    return STRICT_WORDS.count(word) || grammar_.reserved_words.count(word);
+}
+
 ParseNode *SourceText::bare(ParseNode *node) const {
     while (node && !node->is_leaf() && node->children.size() == 1 && node->children[0] && !node->children[0]->is_leaf())
         node = node->children[0];
@@ -85,7 +91,7 @@ int Reader::needed_for(const Token &token) const {
     int needed = is_parted ? end + 1 : end + 4;
     if (chart_.is_spelled(token, "let") || chart_.is_spelled(token, "async")) {
         bool has_line_terminator = false;
-        int after = Lexer::skip(source.text, end, has_line_terminator);
+        int after = lexer_.skip(source.text, end, has_line_terminator);
         needed = after < 0 ? size + 1 : after + 9;
     }
     return end >= size ? std::max(needed, size + 1) : needed;
@@ -110,7 +116,7 @@ bool Reader::recognise(const string &text) {
     int at = steps_.empty() ? 0 : steps_.back().end;
     for (;;) {
         bool has_line_terminator = false;
-        int next = Lexer::skip(source.text, at, has_line_terminator);
+        int next = lexer_.skip(source.text, at, has_line_terminator);
         if (next < 0) return false;
         if (next >= static_cast<int>(source.text.size())) return recognise_end();
         size_t count = tokens_.size();

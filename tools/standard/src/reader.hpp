@@ -1,6 +1,7 @@
 // A text read by the standard: tokens by the goals that are permitted, semicolons by 11.9.1, covers refined (5.1.4).
 #pragma once
 #include "derivations.hpp"
+#include "program.hpp"
 #include <memory>
 
 namespace standard {
@@ -21,6 +22,10 @@ class SourceText {
     string text;
     vector<Token> tokens;
 
+    // Whether the grammar has a rule that isn't a production.
+    bool has(const char *rule) const { return grammar_.has(rule); }
+    // Of strict code.
+    bool is_reserved(const string &word) const;
     const string &name(const ParseNode *node) const { return grammar_.source.productions[static_cast<size_t>(node->production)].name; }
     bool is(const ParseNode *node, const char *symbol) const { return node && !node->is_leaf() && name(node) == symbol; }
     const Token &token(const ParseNode *node) const { return tokens[static_cast<size_t>(node->from)]; }
@@ -57,6 +62,10 @@ class Reader {
     bool is_dead() const { return !steps_.empty() && steps_.back().is_dead && steps_.back().needed <= static_cast<int>(source.text.size()); }
     const GoalConflicts &conflicts() const { return chart_.conflicts; }
     int start_symbol() const { return start_symbol_; }
+    // The program's language for this grammar and goal.
+    Language language() const {
+        return goal_symbol_ == "Module" ? Language::Module : grammar.has("edition-2022") ? Language::Script2022 : Language::Base;
+    }
     int last_token_start() const { return last_.start; }
 
   private:

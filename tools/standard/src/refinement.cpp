@@ -20,7 +20,8 @@ const std::set<string> KEYED{"GeneratorMethod", "AsyncMethod", "AsyncGeneratorMe
 
 CoverRefiner::CoverRefiner(Chart &chart, const SourceText &source, ParseNodes &nodes, const string &goal_symbol)
     : grammar_(chart.grammar), source_(source), nodes_(nodes), chart_(chart), is_module_(goal_symbol == "Module"),
-      reserves_await_(is_module_ || grammar_.has("await-reserved")) {}
+      reserves_await_(is_module_ || grammar_.has("await-reserved")), has_early_yield_(grammar_.has("yield-and-await-everywhere")),
+      has_early_meta_(grammar_.has("import-meta-everywhere")) {}
 
 ParseNode *CoverRefiner::refuse(const string &reason) {
     reason_ = reason;
@@ -126,7 +127,7 @@ const char *CoverRefiner::fault_before(const ParseNode *node) const {
     if (name == "IdentifierReference" || name == "BindingIdentifier" || name == "LabelIdentifier") return name_fault(node);
     if (name == "CoverInitializedName") return "CoverInitializedName in an expression";
     if (name == "OptionalChain" && source_.is(node->children.back(), "TemplateLiteral")) return "a template in a chain";
-    if (name == "ImportMeta" && !is_module_) return "import.meta in a Script";
+    if (name == "ImportMeta" && !is_module_ && !has_early_meta_) return "import.meta in a Script";
     if (name == "PropertyDefinition" && has_private_method(node)) return "a private name in an object";
     if (name == "AsyncArrowFunction" && contains_yield_or_await(node->children[0])) return "yield or await in an arrow's parameters";
     return nullptr;
@@ -155,7 +156,7 @@ const char *CoverRefiner::fault_after(const ParseNode *node) const {
     bool is_arrow = name == "ArrowFunction" || name == "AsyncArrowFunction";
     if (is_arrow && contains_yield_or_await(node->children[0])) return "yield or await in an arrow's parameters";
     if (name.compare(0, 9, "Generator") == 0 || name.compare(0, 5, "Async") == 0) return parameter_fault(node);
-    if (name == "ClassStaticBlockStatementList" && contains(node, "AwaitExpression")) return "await in a static block";
+    if (name == "ClassStaticBlockStatementList" && !has_early_yield_ && contains(node, "AwaitExpression")) return "await in a static block";
     if (name == "LabelledItem" && source_.is(node->children[0], "FunctionDeclaration")) return "a labelled function in strict code";
     if (name == "WithStatement") return "with in strict code";
     // 13.6.1, 13.7.1.1: IsLabelledFunction
@@ -173,7 +174,9 @@ const char *CoverRefiner::parameter_fault(const ParseNode *node) const {
     return nullptr;
 }
 
+// (where that isn't an early error with a place)
 bool CoverRefiner::contains_yield_or_await(const ParseNode *node) const {
+    if (has_early_yield_) return false;
     return contains(node, "YieldExpression") || contains(node, "AwaitExpression");
 }
 

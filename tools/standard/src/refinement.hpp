@@ -20,7 +20,7 @@ class CoverRefiner {
     const SourceText &source_;
     ParseNodes &nodes_;
     Chart &chart_;
-    bool is_module_, reserves_await_, is_ambiguous_ = false;
+    bool is_module_, reserves_await_, has_early_yield_, has_early_meta_, is_ambiguous_ = false;
     string reason_;
     std::map<std::tuple<int, int, int>, ParseNode *> read_again_;
 

@@ -12,6 +12,8 @@ const char *const NUMBERS[] = {"0", "1.", ".5", "1n", "0x1F", "1e3", "1_0"};
 const char *const STRINGS[] = {"'s'", "\"t\"", "'constructor'", "'use strict'", "'prototype'"};
 const char *const REGEXPS[] = {"/x/", "/[/]/g", "/=/", "/a/gg"};
 const char *const TEMPLATES[] = {"`t`", "``", "`\\u`"};
+const char *const PRIVATE[] = {"#a", "#b", "#constructor"};
+const char *const MODULE_STRINGS[] = {"'a'", "\"\\u0061\"", "'\\ud800'", "'default'"};
 const char *const TAILS[] = {"}`", "}\\1`"};
 // How often of a hundred times an expression is just one of the next symbol, so that sentences stay short.
 const std::map<string, unsigned> PLAIN{{"AssignmentExpression", 45}, {"LeftHandSideExpression", 70}, {"MemberExpression", 70},
@@ -68,6 +70,7 @@ void SentenceMaker::push_terminal(int terminal) {
     else if (text == "<TemplateHead>") out = "`h${";
     else if (text == "<TemplateMiddle>") out = "}m${";
     else if (text == "<TemplateTail>") out = random_.pick(TAILS);
+    else if (text == "<PrivateIdentifier>") out = random_.below(10) ? random_.below(3) ? PRIVATE[0] : PRIVATE[1] : PRIVATE[2];
     tokens_.push_back(out);
 }
 
@@ -76,6 +79,7 @@ int SentenceMaker::replacement(int parent, int nonterminal) {
     const string &name = grammar_.name_of(nonterminal), &around = grammar_.name_of(parent);
     unsigned parameters = grammar_.nonterminals[index(parent)].parameters & (Yield | Await);
     if (around == "ArrowParameters" && name[0] == 'C') return grammar_.nonterminal("ArrowFormalParameters", parameters);
+    if (around == "AsyncArrowFunction" && name[0] == 'C') return grammar_.nonterminal("AsyncArrowHead", 0);
     if (name == "CoverParenthesizedExpressionAndArrowParameterList" && random_.below(20))
         return grammar_.nonterminal("ParenthesizedExpression", parameters);
     if (name != "LeftHandSideExpression" || !HAS_TARGET.count(around)) return nonterminal;
@@ -105,7 +109,8 @@ int SentenceMaker::chosen_rule(int nonterminal, int budget) {
     for (int highest : {budget, heights_[index(nonterminal)]}) {
         if (!rules.empty()) break;
         for (int it : grammar_.nonterminals[index(nonterminal)].rules)
-            if (height(grammar_.rules[index(it)]) <= highest) rules.push_back(it);
+            if (height(grammar_.rules[index(it)]) <= highest && (!grammar_.is_misplaced(grammar_.rules[index(it)]) || random_.below(30) == 0))
+                rules.push_back(it);
     }
     if (rules.empty()) return -1;
     return plainer_rule(nonterminal, rules, rules[random_.below(static_cast<unsigned>(rules.size()))]);
@@ -120,7 +125,9 @@ void SentenceMaker::make_rule(int rule, int budget) {
     const Rule made = grammar_.rules[index(rule)];
     for (Dot dot = made.first; dot < grammar_.end_of(made); dot++) {
         Element it = grammar_.element(dot);
-        if (is_terminal(it)) push_terminal(it);
+        bool is_module_name = grammar_.name_of(made.nonterminal) == "ModuleExportName";
+        if (is_terminal(it) && is_module_name && grammar_.terminals[index(it)] == "<StringLiteral>") tokens_.push_back(random_.pick(MODULE_STRINGS));
+        else if (is_terminal(it)) push_terminal(it);
         else if (is_nonterminal(it)) make(replacement(made.nonterminal, it - FIRST_NONTERMINAL), budget - 1);
     }
 }
@@ -152,11 +159,21 @@ void SentenceMaker::change_token() {
     }
 }
 
+// Puts a class around, mostly, that has the private names.
+void SentenceMaker::enclose_private_names() {
+    bool has_any = std::any_of(tokens_.begin(), tokens_.end(), [](const string &it) { return it[0] == '#'; });
+    if (!has_any || !random_.below(4)) return;
+    static const vector<string> BEFORE{"class", "A", "extends", "B", "{", "#a", ";", "#b", ";", "m", "(", ")", "{"};
+    tokens_.insert(tokens_.begin(), BEFORE.begin(), BEFORE.end());
+    tokens_.insert(tokens_.end(), {"}", "}"});
+}
+
 string SentenceMaker::sentence(int nonterminal) {
     tokens_.clear();
     make(nonterminal, 30 + static_cast<int>(random_.below(100)));
     for (unsigned changes = random_.below(4); changes > 0 && !tokens_.empty(); changes--)
         change_token();
+    enclose_private_names();
     string out;
     for (const string &it : tokens_)
         out += it + (random_.below(9) ? ' ' : '\n');

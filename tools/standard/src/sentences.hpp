@@ -35,5 +35,6 @@ class SentenceMaker {
     int plainer_rule(int nonterminal, const vector<int> &rules, int chosen);
     int replacement(int parent, int nonterminal);
     void change_token();
+    void enclose_private_names();
 };
 } // namespace standard

@@ -10,6 +10,20 @@ struct NameAt {
 };
 using NamesAt = vector<NameAt>;
 
+// 15.7 of the 13th edition: what a ClassElement is; all is null of a `;`.
+struct ClassElement {
+    string kind; // method, get, set, special (a generator or async), field
+    bool is_static = false, is_private = false;
+    const ParseNode *name = nullptr;       // the PropertyName, or the PrivateIdentifier
+    const ParseNode *definition = nullptr; // the MethodDefinition or FieldDefinition
+    const ParseNode *block = nullptr;      // the ClassStaticBlock
+};
+
+// 16.2.1.2 to 16.2.1.7 of the 13th edition. A name that is a string counts by its value; in `referenced` it is empty.
+struct ModuleNames {
+    NamesAt lexical, var, exported, referenced;
+};
+
 class StaticSemantics {
   public:
     explicit StaticSemantics(const SourceText &source) : source_(source) {}
@@ -29,6 +43,10 @@ class StaticSemantics {
     int use_strict(const ParseNode *list) const;
     // 12.2.6.5: PropName; none if it is computed or a number
     string prop_name(const ParseNode *name) const;
+    ClassElement class_element(const ParseNode *element) const;
+    ModuleNames module_names(const ParseNode *module) const;
+    // Whether a string has no lone surrogate.
+    bool is_well_formed(const ParseNode *string_token) const;
     // The items of a StatementList.
     vector<ParseNode *> items(const ParseNode *list) const;
 
@@ -40,5 +58,12 @@ class StaticSemantics {
     void push_lexical(const ParseNode *node, NamesAt &out) const;
     void push_labelled(ParseNode *statement, NamesAt &out) const;
     void push_var(const ParseNode *node, NamesAt &out) const;
+    void push_import(const ParseNode *node, NamesAt &out) const;
+    void push_export(const ParseNode *node, ModuleNames &out) const;
+    void push_specifiers(const ParseNode *node, bool has_source, ModuleNames &out) const;
+    NameAt export_name(const ParseNode *node) const;
+    // 12.9.4.2: SV, as code units
+    vector<unsigned> code_units(const ParseNode *string_token) const;
+    string string_value(const ParseNode *string_token) const;
 };
 } // namespace standard

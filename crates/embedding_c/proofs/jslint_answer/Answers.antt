@@ -1,6 +1,9 @@
-use Rattle.std.proofs.Common.{Some}
-use Rattle.embedding_c.proofs.Telling.{tells_refusal}
+use Rattle.std.proofs.Common.{Some, None, refl}
+use Rattle.commands.specs.declared.language_choice.LanguageChoice.TheVariants.{Unsaid}
 use Rattle.embedding_c.proofs.jslint_answer.Goals as goal
 
-pub returns-in-Err : goal.returns-in-Err
-returns-in-Err c = (Some c.in-Some.command, c.in-Some.ensures, tells_refusal _ c.args.text.now c.args.second.now _ _ _ _ c.in-Err.ensures.answer c.tell_refusal.ensures)
+pub returns-in-Some : goal.returns-in-Some
+returns-in-Some c = (Some c.in-Some.command, Some Unsaid, c.in-Some.ensures, refl, c.tell_answer.ensures)
+
+pub returns-in-None : goal.returns-in-None
+returns-in-None c = (None, Some Unsaid, c.in-None.ensures, refl, (refl, c.tell_nothing.ensures))

@@ -32,7 +32,7 @@ use Rattle.language.proofs.table.Productions.{spell, starts_led}
 use Rattle.language.proofs.table.Begins.{goes_to, retell}
 use Rattle.language.proofs.climbing.SpineContinuations.{makes}
 use Rattle.language.proofs.table.LeftRecursiveWays.{Led}
-use Rattle.language.proofs.table.TokenFirstWays.{head_identifier, head_short_arrow, opens, identifier_opens}
+use Rattle.language.proofs.table.TokenFirstWays.{head_identifier, head_short_arrow, head_async, opens, identifier_opens}
 use Rattle.language.proofs.climbing.LeftmostParts.{Cored, in_way, core_by}
 use Rattle.language.proofs.climbing.RightOperands.{OnePart, one_part}
 use Rattle.language.proofs.list_loops.FirstPieces.{run_token, run_laid, run_unbroken, run_part}
@@ -44,7 +44,8 @@ use Rattle.language.proofs.climbing.OperatorLoop.{Climbing, led_on}
 use Rattle.language.proofs.climbing.BinaryTurns.{same_node, replaced, same_places}
 use Rattle.language.proofs.climbing.Conditionals.{same_sign}
 use Rattle.language.proofs.climbing.FirstTurn.{Begun, climb_start, begun_stops, core_spelled}
-use Rattle.language.proofs.climbing.Leaves.{by_name, name_found}
+use Rattle.language.proofs.climbing.Leaves.{by_name, name_found, AsyncNext, function_next, name_next, parameters_next, async_next}
+use Rattle.std.proofs.lemmas.Bool.{false≢true}
 
 -- the flags of an arrow
 abbrev pub arrow_flags : Bool → Flags
@@ -95,13 +96,36 @@ module _ (S : Type 0) (Next : S → Token → S → Type 0) (behind : S → Toke
       spelled : Spells ways S Next behind o (cond flag (expr Assignment j NoBrace) body) operand x2 mid Q
       places : Placed S Next behind (expr h j f) m s0 mid
 
+    -- no `=>` follows `async` in one of its own heads
+    no_word_next : {w : List ℕ} {t' u : Token} {k z : S} → Reads S Next behind IdentifierName (codes "async") s0 t' k → Reads S Next behind IdentifierName w k u z → ⊥
+    no_word_next {w = w} {u = u} {z = z} ra rb =
+        let here = by_name S Next behind det {w = codes "async"} r _ _ ra in
+        let rc = subst (λ c. Reads S Next behind IdentifierName w c u z) here.1 rb in
+        let al : IsTrue (allows Div v.class v.text) = subst (λ c. IsTrue (allows Div c v.text)) (sym eq.class) (subst (λ c. IsTrue (allows Div Punctuator c)) (sym eq.text) refl) in
+        let same = det.same Div x u v z x2 rc.next eq.next (det.free Div x u z rc.next (ap Rattle.language.specs.Promises.is_free rc.class)) al in
+        let clash : IdentifierName ≡ Punctuator = sym rc.class ∙ ap (λ (c : Token). c.class) same.0 ∙ eq.class in
+        cc
+
+    no_async_arrow : {h : Rank} → AsyncNext S Next behind det h s0 → ⊥
+    no_async_arrow (function_next ra rb broken) = no_word_next ra rb
+    no_async_arrow (name_next ra rb free broken arrow on tk) = no_word_next ra rb
+    no_async_arrow (parameters_next {v = u} {x = z} ra rb broken d arrow on tk) =
+        let here = by_name S Next behind det {w = codes "async"} r _ _ ra in
+        let rc = subst (λ c. Reads S Next behind Punctuator (codes "(") c u z) here.1 rb in
+        let al : IsTrue (allows Div v.class v.text) = subst (λ c. IsTrue (allows Div c v.text)) (sym eq.class) (subst (λ c. IsTrue (allows Div Punctuator c)) (sym eq.text) refl) in
+        let al' : IsTrue (allows Div u.class u.text) = subst (λ c. IsTrue (allows Div c u.text)) (sym rc.class) (subst (λ c. IsTrue (allows Div Punctuator c)) (sym rc.text) refl) in
+        let same = det.same Div x u v z x2 rc.next eq.next al' al in
+        let clash : true ≡ false = ap (λ w. is w "(") (sym rc.text ∙ ap (λ (c : Token). c.text) same.0 ∙ eq.text) in
+        false≢true (sym clash)
+
     arrow_core : {o : ℕ} {h : Rank} {j : Bool} {m : Tree} {mid : S} {Q : List Pair} → (edge m ≡ Other → mid ≡ x → ⊥) → Cored S Next behind det o h j f m s0 mid Q with_name → ArrowCore o h j m mid Q
     arrow_core {m = m} {mid = mid} other (in_way {w = w} {g = g} {st = st} {en = en} {ps = ps} is (head_identifier k c q) lean pl d) =
         let v1 = run_token S Next behind (retell S Next behind q d) in
         let here = by_name S Next behind det r v1.sign v1.mid v1.reads in
         let end = Rattle.language.proofs.list_loops.FirstPieces.run_none S Next behind v1.runs in
         absurd (other (ap edge (is ∙ ap (λ c. node c w g st en ps) k)) (sym end.place ∙ here.1))
-    arrow_core {o} {h} {j} {m} {mid} {Q} other (in_way {w = w} {g = g} {st = st} {en = en} {ps = ps} is (head_short_arrow k p n tk q) lean pl d) =
+    arrow_core {h = h} {j = j} other (in_way is (head_async u st q) lean pl d) = absurd (no_async_arrow (async_next S Next behind det h j f u (retell S Next behind q d)))
+    arrow_core {o} {h} {j} {m} {mid} {Q} other (in_way {w = w} {g = g} {st = st} {en = en} {ps = ps} is (head_short_arrow k z p n tk q) lean pl d) =
         let bares : is_lean (bare (node _ w g st en ps)) ≡ true = ap (λ v. is_lean (bare v)) (sym is) ∙ lean in
         let a = run_part S Next behind (retell S Next behind q d) in
         let found = name_found S Next behind det {o = o} (record { next = r.next; class = class; text = refl }) free in
@@ -109,7 +133,7 @@ module _ (S : Type 0) (Next : S → Token → S → Type 0) (behind : S → Toke
         let on_line = run_unbroken S Next behind a.runs in
         let sign = run_token S Next behind (run_laid S Next behind on_line.runs) in
         let there = same_sign S Next behind det (subst (λ c. Reads S Next behind Punctuator (codes "=>") c sign.sign sign.mid) first.0 sign.reads) eq refl in
-        let flags : g ≡ arrow_flags g.expression = lean_flags (bare (node _ w g st en ps)) bares ∙ ap (λ v. used_flags v g) k in
+        let flags : g ≡ arrow_flags g.expression = lean_flags (bare (node _ w g st en ps)) bares ∙ ap (λ v. used_flags v g) k ∙ (λ i. record plain { expression = g.expression; form = z i }) in
         let text : w ≡ [] = lean_text (bare (node _ w g st en ps)) bares (ap has_text k) in
         let b = body_part g.expression (run_laid S Next behind sign.runs) in
         let parts : ps ≡ part (node Identifier t.text plain t.start (behind x).stop none) (part b.operand none) = a.parts ∙ ap (λ c. part c a.rest) first.1 ∙ ap (part (node Identifier t.text plain t.start (behind x).stop none)) b.parts in

@@ -1,5 +1,5 @@
 -- What stands behind `new`: how it is read, turn by turn.
-use Rattle.std.proofs.Common.{◌≡◌, ℕ, ◌≤◌, ◌<◌, Bool, true, false, cond, List, [], ◌∷◌, ◌++◌, refl, sym, ap, ◌∙◌, subst, arith}
+use Rattle.std.proofs.Common.{◌≡◌, ℕ, ◌≤◌, Bool, true, false, cond, List, [], ◌∷◌, ◌++◌, refl, sym, ap, ◌∙◌, subst, arith}
 use Rattle.std.specs.Prelude.{IsTrue, Some, None, Option, codes, not, ◌&&◌, ◌||◌}
 use Rattle.std.proofs.lemmas.Bool.{and_parts, and_from}
 use Rattle.std.proofs.lemmas.Bool.Decides.{nat_tests}
@@ -18,7 +18,7 @@ use Rattle.language.specs.declared.Edge.TheVariants.{Arrow, Postfix, Other, Clos
 use Rattle.tree.specs.declared.kind.Pair.{Pair}
 use Rattle.tree.specs.Tree.{Tree, node, Parts, none, part, parts_of, plain}
 use Rattle.language.specs.Vocabulary.{is, takes, takes_number, precedence, op_dot, op_index, op_call, op_template}
-use Rattle.language.specs.Pieces.{Role, expr, word, tagged_quasi, PieceOf, Piece, Slot, fixed, left, lead, tail, callee, lead_chain, lead_pattern, sub, is_tight, settle_piece}
+use Rattle.language.specs.Pieces.{Role, expr, tagged_quasi, PieceOf, Piece, Slot, fixed, left, lead, tail, callee, lead_chain, lead_pattern, sub, is_tight, settle_piece}
 use Rattle.language.specs.Token.{Token}
 use Rattle.language.specs.Edges.{edge, edge_as_written}
 use Rattle.language.specs.Continuations.{operation, rank_made_by, holds, stops_at, stops}
@@ -33,6 +33,7 @@ use Rattle.language.proofs.table.LeftRecursiveWays.{callee_rank, Led, led_call}
 use Rattle.language.proofs.table.RightEdges.{Edged, standing_closed}
 use Rattle.language.proofs.table.Reaches.{is_loose}
 use Rattle.language.proofs.table.OperatorTokens.{reads_dot, reads_index}
+use Rattle.language.proofs.climbing.RightOperands.{PropertyFound}
 use Rattle.language.proofs.climbing.OperatorNodes.{dot_grows, index_grows, tag_grows}
 use Rattle.language.proofs.climbing.NoContinuation.{ends_where_stops}
 use Rattle.language.proofs.climbing.BinaryTurns.{replaced, retold, regrown}
@@ -132,11 +133,11 @@ module _ (S : Type 0) (Next : S → Token → S → Type 0) (behind : S → Toke
 
   -- what can't go on at New can't at Member
   pub member_stops : (n : Tree) {e : S} → Stops S Next behind New true n e → Stops S Next behind Member true n e
-  member_stops n {e} st t m r = of (rank_made_by (operation t) t.after_break) (st t m r)
+  member_stops n {e} st = record { before = λ t m r. of t (rank_made_by (operation t) t.after_break) (st.before t m r); apart = st.apart }
     where
-      of : (z : Option Rank) → stops_at New true (edge_as_written (edge n) (behind e)) t z ≡ true → stops_at Member true (edge_as_written (edge n) (behind e)) t z ≡ true
-      of None h = refl
-      of (Some z) h = tighter (takes New z) (takes Member z) ((is t.text "in" && not true) || not (holds (edge_as_written (edge n) (behind e)) z)) h (member_new z)
+      of : (t : Token) (z : Option Rank) → stops_at New true (edge_as_written (edge n) (behind e)) t z ≡ true → stops_at Member true (edge_as_written (edge n) (behind e)) t z ≡ true
+      of t None h = refl
+      of t (Some z) h = tighter (takes New z) (takes Member z) ((is t.text "in" && not true) || not (holds (edge_as_written (edge n) (behind e)) z)) h (member_new z)
 
 module _ (S : Type 0) (Next : S → Token → S → Type 0) (behind : S → Token) (det : IsDetermined S Next behind) where
   -- a growth to a whole at Member is one to a whole at New
@@ -231,7 +232,7 @@ module _ (S : Type 0) (Next : S → Token → S → Type 0) (behind : S → Toke
   module _ {s0 mid x : S} {m : Tree} {t : Token} (r : ReadBy S Next behind Div mid t x) where
     module _ (is_op : operation t ≡ op_dot) (goes : stops New true (edge m) (behind mid) t ≡ false) where
       -- `.` and a name
-      pub callee_dot : {o : ℕ} {c : Rank} {Q : List Pair} {u : Tree} {to : S} {U : List Pair} {st en : ℕ} → ClimbingCallee o c s0 m mid Q → IsTrue (takes Call c) → FoundAt S Next behind o word x to u U →
+      pub callee_dot : {o : ℕ} {c : Rank} {Q : List Pair} {u : Tree} {to : S} {U : List Pair} {st en : ℕ} → ClimbingCallee o c s0 m mid Q → IsTrue (takes Call c) → PropertyFound S Next behind det o x to u U →
           Placed S Next behind (expr New true Any) (node MemberExpression [] plain st en (part m (part u none))) s0 to → ClimbingCallee o (suffix_rank c) s0 (node MemberExpression [] plain st en (part m (part u none))) to (Q ++ U)
       callee_dot {c = c} {u = u} {to = to} {U = U} {st = st} {en = en} climb fits found places = record {
         low = suffix_fits New c (stands_callee New c climb.low fits refl) refl;

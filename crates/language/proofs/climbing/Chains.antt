@@ -18,7 +18,7 @@ use Rattle.tree.specs.Tree.{Tree, node, Parts, none, part, bare, bare_parts, pla
 use Rattle.tree.specs.Uses.{is_lean, used_flags, has_text, implies}
 use Rattle.tree.proofs.Lean.{lean_flags, lean_text}
 use Rattle.language.specs.Vocabulary.{is, takes, takes_number, precedence, Operator, op_dot, op_index, op_call, op_optional, op_none}
-use Rattle.language.specs.Pieces.{Role, expr, chain_part, word, PieceOf, tok, sub, is_tight}
+use Rattle.language.specs.Pieces.{Role, expr, chain_part, PieceOf, tok, sub, is_tight}
 use Rattle.language.specs.Token.{Token}
 use Rattle.language.specs.Edges.{edge, edge_as_written}
 use Rattle.language.specs.Expressions.{arguments, has_optional}
@@ -30,8 +30,9 @@ use Rattle.language.proofs.climbing.Spine.{Grows, grow, grows_on_spine}
 use Rattle.language.proofs.table.ViewIsComplete.{way_of, made}
 use Rattle.language.proofs.list_loops.FirstPieces.{run_none}
 use Rattle.std.proofs.lemmas.List.{append-nil}
+use Rattle.language.specs.FirstPart.{lead as lead_kind}
 use Rattle.language.proofs.table.Begins.{goes_to, retell, taken}
-use Rattle.language.proofs.table.LeftRecursiveWays.{bracketed, dotted, Led, led_binary, led_power, led_assign, led_postfix, led_sequence, led_conditional, led_dot, led_index, led_call, led_tag, led_chain, Linked, link_dot, link_index, link_call, link_chained_name, link_chained_index, link_chained_call, led_of, linked_of}
+use Rattle.language.proofs.table.LeftRecursiveWays.{bracketed, property_role, dotted, Led, led_binary, led_power, led_assign, led_postfix, led_sequence, led_conditional, led_dot, led_index, led_call, led_tag, led_chain, Linked, link_dot, link_index, link_call, link_chained_name, link_chained_index, link_chained_call, led_of, linked_of}
 use Rattle.language.proofs.climbing.SpineContinuations.{Onward, ended, by_led, by_link, by_chain, onward, Goes, linked_read, way_spelled}
 use Rattle.language.proofs.climbing.OperatorNodes.{link_grows, link_call_grows, base_grows, base_call_grows, chain_grows}
 use Rattle.language.proofs.table.Reaches.{linked_base}
@@ -45,12 +46,16 @@ use Rattle.language.proofs.climbing.BinaryTurns.{same_node, same_places, replace
 abbrev pub optional_flags : Bool → Flags
 optional_flags c = record plain { computed = c; optional = true }
 
+-- a property, at a position by its own kind
+abbrev pub property_pieces : Parts → List (PieceOf Role)
+property_pieces ps = sub (property_role (lead_kind (bare_parts ps))) ∷ []
+
 -- The parts of a chain by their token: the node's kind and flags, and the pieces behind the token.
 pub data Link : Operator → Kind → Flags → (Parts → List (PieceOf Role)) → Type 0 where
-  on_dot : Link op_dot MemberExpression plain (λ ps. sub word ∷ [])
+  on_dot : Link op_dot MemberExpression plain property_pieces
   on_index : Link op_index MemberExpression computed_flags (λ ps. sub (expr Expression true Any) ∷ tok Punctuator (codes "]") ∷ [])
   on_call : Link op_call CallExpression plain argument_pieces
-  on_name : Link op_optional MemberExpression (optional_flags false) (λ ps. sub word ∷ [])
+  on_name : Link op_optional MemberExpression (optional_flags false) property_pieces
   on_brackets : Link op_optional MemberExpression (optional_flags true) (λ ps. bracketed)
   on_arguments : Link op_optional CallExpression (optional_flags false) (λ ps. tok Punctuator (codes "(") ∷ argument_pieces ps)
 
@@ -142,7 +147,7 @@ module _ (S : Type 0) (Next : S → Token → S → Type 0) (behind : S → Toke
 
   link_runs : {o : ℕ} {f : Start} {k : Kind} {w : List ℕ} {g : Flags} {st en : ℕ} {m : Tree} {ps : Parts} {b : Role} {rest : List (PieceOf Role)} {z : Operator} {mid x to : S} {R : List Pair} {t : Token} → Linked f k g (bare_parts (part m ps)) b rest z →
       is_lean (bare (node k w g st en (part m ps))) ≡ true → Runs ways S Next behind o rest ps mid to R → ReadBy S Next behind Div mid t x → LinkRuns o k w g st en m ps x to R z
-  link_runs {g = g} (link_dot k o c fc b e) lean d r = record { K = MemberExpression; G = plain; pieces = λ ps. sub word ∷ []; link = on_dot; runs = (taken S Next behind det Div dotted refl refl (retell S Next behind e d) r).runs; tree = as_node lean k refl (member_flags g false false c o) }
+  link_runs {g = g} {ps = ps} (link_dot k o c fc b e) lean d r = record { K = MemberExpression; G = plain; pieces = property_pieces; link = on_dot; runs = (taken S Next behind det Div (dotted (lead_kind (bare_parts ps))) refl refl (retell S Next behind e d) r).runs; tree = as_node lean k refl (member_flags g false false c o) }
   link_runs {g = g} (link_index k o c fc b e) lean d r = record {
     K = MemberExpression;
     G = computed_flags;
@@ -159,12 +164,12 @@ module _ (S : Type 0) (Next : S → Token → S → Type 0) (behind : S → Toke
     runs = retell S Next behind (arguments_fixed Expression true f (bare_parts ps)) (taken S Next behind det Div (goes_to Expression true f (arguments (bare_parts ps))) refl refl (retell S Next behind e d) r).runs;
     tree = as_node lean k refl (call_flags g false o);
   }
-  link_runs {g = g} (link_chained_name k o c b e) lean d r = record {
+  link_runs {g = g} {ps = ps} (link_chained_name k o c b e) lean d r = record {
     K = MemberExpression;
     G = optional_flags false;
-    pieces = λ ps. sub word ∷ [];
+    pieces = property_pieces;
     link = on_name;
-    runs = (taken S Next behind det Div (tok Punctuator (codes "?.") ∷ sub word ∷ []) refl refl (retell S Next behind e d) r).runs;
+    runs = (taken S Next behind det Div (tok Punctuator (codes "?.") ∷ property_pieces ps) refl refl (retell S Next behind e d) r).runs;
     tree = as_node lean k refl (member_flags g false true c o);
   }
   link_runs {g = g} (link_chained_index k o c b e) lean d r = record {
@@ -243,7 +248,7 @@ module _ (S : Type 0) (Next : S → Token → S → Type 0) (behind : S → Toke
       after : {y2 : Rank} {i2 : Bool} {f2 : Start} {w : List ℕ} {fl : Flags} {st en : ℕ} → IsTrue (takes y2 LeftHandSide) → Onward S Next behind det o s0 (expr y i f) n e P (expr y2 i2 f2) (node ChainExpression w fl st en (part m none)) mid Q t → ⊥
       after tk (ended a b d p) =
           let other : edge_as_written (edge n) (behind e) ≡ Other = ap (λ v. edge_as_written (edge v) (behind e)) b in
-          stops_none S Next behind det y i t (edge_as_written (edge n) (behind e)) (stopped t x (subst (λ v. ReadBy S Next behind Div v t x) (sym d) r)) (record {
+          stops_none S Next behind det y i t (edge_as_written (edge n) (behind e)) (stopped.before t x (subst (λ v. ReadBy S Next behind Div v t x) (sym d) r)) (record {
             symbol = c;
             makes = ap (λ v. rank_made_by v t.after_break) op ∙ symbol_makes t.after_break is;
             taken = symbol_taken y is low;

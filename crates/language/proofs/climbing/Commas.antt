@@ -158,7 +158,7 @@ module _ (S : Type 0) (Next : S → Token → S → Type 0) (behind : S → Toke
   -- where a comma is read, a sequence isn't at its end
   pub comma_goes : {o : ℕ} {i : Bool} {f : Start} {n : Tree} {s e x : S} {P : List Pair} {t : Token} → Spells ways S Next behind o (expr Expression i f) n s e P → Stops S Next behind Expression i n e → ReadBy S Next behind Div e t x → operation t ≡ op_comma → ⊥
   comma_goes {i = i} {n = n} {e = e} {x = x} {t = t} d st r op =
-      let h : stops_at Expression i (edge_as_written (edge n) (behind e)) t (Some Expression) ≡ true = subst (λ v. stops_at Expression i (edge_as_written (edge n) (behind e)) t (rank_made_by v t.after_break) ≡ true) op (st t x r) in
+      let h : stops_at Expression i (edge_as_written (edge n) (behind e)) t (Some Expression) ≡ true = subst (λ v. stops_at Expression i (edge_as_written (edge n) (behind e)) t (rank_made_by v t.after_break) ≡ true) op (st.before t x r) in
       let sign = reads_comma S Next behind r.next op in
       let no_in : is t.text "in" ≡ false = ap (λ w. is w "in") sign.text in
       let held = holds_any (edge_as_written (edge n) (behind e)) (λ c. (edged S Next behind det d).ends (closed (edge n) (behind e) c)) in

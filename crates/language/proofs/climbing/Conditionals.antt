@@ -37,6 +37,7 @@ use Rattle.language.proofs.climbing.NoContinuation.{goes_where_not}
 use Rattle.language.proofs.table.Tails.{tails_conditional}
 use Rattle.language.proofs.climbing.OperatorLoop.{goes_on, Leads, Climbing, led_on, stops_inside}
 use Rattle.language.proofs.climbing.BinaryTurns.{same_node, replaced, same_places, retold, regrown}
+use Rattle.language.proofs.climbing.NamesBehind.{apart_sign}
 
 rank_is : {y z : Rank} {i j : Bool} {f g : Start} → expr y i f ≡ expr z j g → y ≡ z
 rank_is e = cc
@@ -70,10 +71,13 @@ module _ (S : Type 0) (Next : S → Token → S → Type 0) (behind : S → Toke
   -- before a sign that makes nothing at the symbol, nothing goes on
   pub stops_before : {w : List ℕ} {s e : S} {t : Token} {x : Operator} (y : Rank) (i : Bool) (n : Tree) → Reads S Next behind Punctuator w s t e → IsTrue (allows Div Punctuator w) → of_class Punctuator w ≡ x →
       ((c : Edge) (u : Token) → stops_at y i c u (rank_made_by x u.after_break) ≡ true) → Stops S Next behind y i n s
-  stops_before {w} {s} {e} {t} {x} y i n h al op none_made u m r =
-      let same = read_there h al r in
-      let op' : operation u ≡ x = ap operation same.0 ∙ makes t h.class h.text op in
-      subst (λ v. stops_at y i (Rattle.language.specs.Edges.edge_as_written (edge n) (behind s)) u (rank_made_by v u.after_break) ≡ true) (sym op') (none_made (Rattle.language.specs.Edges.edge_as_written (edge n) (behind s)) u)
+  stops_before {w} {s} {e} {t} {x} y i n h al op none_made = record { before = at; apart = apart_sign S Next behind det h al }
+    where
+      at : (u : Token) (m : S) → ReadBy S Next behind Div s u m → IsTrue (stops y i (edge n) (behind s) u)
+      at u m r =
+          let same = read_there h al r in
+          let op' : operation u ≡ x = ap operation same.0 ∙ makes t h.class h.text op in
+          subst (λ v. stops_at y i (Rattle.language.specs.Edges.edge_as_written (edge n) (behind s)) u (rank_made_by v u.after_break) ≡ true) (sym op') (none_made (Rattle.language.specs.Edges.edge_as_written (edge n) (behind s)) u)
 
   -- the conditional on the spine of a whole that can't go on, with what stands behind `?` and behind `:`
   pub record AskOn (o : ℕ) (s0 : S) (y : Rank) (i : Bool) (f : Start) (n : Tree) (e : S) (P : List Pair) (m : Tree) (x : S) (Q : List Pair) (c : Rank) : Type 0 where

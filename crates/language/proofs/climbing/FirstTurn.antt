@@ -16,7 +16,7 @@ use Rattle.language.specs.Edges.{edge, edge_as_written}
 use Rattle.language.specs.Promises.{IsDetermined, Stops, Absent}
 use Rattle.language.specs.Grammar.{ways, spellings, own_start}
 use Rattle.language.specs.Derivation.{Spells, direct, grouped, Runs}
-use Rattle.language.proofs.climbing.Spine.{Core, group, plain, Grows, whole, grow, on_spine, grows_on_spine, spine_of}
+use Rattle.language.proofs.climbing.Spine.{core_key, core_word, Core, group, plain, Grows, whole, grow, on_spine, grows_on_spine, spine_of}
 use Rattle.language.proofs.table.ViewIsComplete.{way_of, made}
 use Rattle.language.proofs.table.LeftRecursiveWays.{Led, led_binary, led_power, led_assign, led_postfix, led_sequence, led_conditional, led_dot, led_index, led_call, led_tag, led_chain, led_of, on_part, on_base, Linked, link_dot, link_index, link_call, link_chained_name, link_chained_index, link_chained_call, linked_of}
 use Rattle.language.proofs.climbing.LeftmostParts.{no_spine_core}
@@ -61,6 +61,8 @@ module _ (S : Type 0) (Next : S → Token → S → Type 0) (behind : S → Toke
   -- a core is spelled at its position
   pub core_spelled : {o : ℕ} {a : Role} {n : Tree} {s e : S} {P : List Pair} → Core S Next behind o a n s e P → Spells ways S Next behind o a n s e P
   core_spelled (group p d q) = grouped p d q
+  core_spelled (core_key d) = d
+  core_spelled (core_word d) = d
   core_spelled {o} {s = s} {e = e} {P = P} (plain qs h un pl eq d) = direct qs h pl (subst (λ v. Runs ways S Next behind o qs v s e P) (sym eq) d)
 
 module _ (S : Type 0) (Next : S → Token → S → Type 0) (behind : S → Token) (det : IsDetermined S Next behind) where

@@ -25,12 +25,8 @@ use Rattle.language.proofs.table.TokenFirstWays.{opens}
 use Rattle.language.proofs.climbing.OperatorLoop.{Climbing}
 use Rattle.language.proofs.climbing.Arrows.{ArrowBody, as_expression, as_block}
 use Rattle.language.proofs.climbing.Targets.{start_brace_unfit}
-use Rattle.language.proofs.climbing.SingleStarts.{function_parts, class_parts, climb_sole, template_production}
+use Rattle.language.proofs.climbing.SingleStarts.{class_parts, climb_sole, template_production, one_form}
 use Rattle.language.proofs.list_loops.FirstItems.{chunk_pieces}
-
--- the pieces behind the word
-abbrev pub function_behind : Parts → List (PieceOf Role)
-function_behind ps = behind_first (function_parts ps)
 
 abbrev pub class_behind : Parts → List (PieceOf Role)
 class_behind ps = behind_first (class_parts ps)
@@ -40,7 +36,7 @@ module _ (S : Type 0) (Next : S → Token → S → Type 0) (behind : S → Toke
   module _ {f : Start} {s0 m : S} {t : Token} (r : ReadBy S Next behind Goal.RegExp s0 t m) (opening : expression_start t ≡ with_template) where
     pub climb_template : {o : ℕ} {y : Rank} {i : Bool} {ps : Parts} {to : S} {U : List Pair} {st en : ℕ} → IsTrue (takes y Primary) → FoundParts S Next behind o (chunk_pieces true) s0 to ps U → Placed S Next behind (expr y i f) (node TemplateLiteral [] plain st en ps) s0 to →
         Climbing S Next behind det o y i f Primary s0 (node TemplateLiteral [] plain st en ps) to U
-    climb_template low found places = climb_sole S Next behind det (template_production S Next behind det f) r opening low found places
+    climb_template low found places = climb_sole S Next behind det (template_production S Next behind det f s0) r opening low (one_form S Next behind det found) places
 
   -- A body begins with `{`.
   pub body_begins : {o : ℕ} {n : Tree} {s e : S} {P : List Pair} → Spells ways S Next behind o body n s e P → (t : Token) × (m : S) × Reads S Next behind Punctuator (codes "{") s t m

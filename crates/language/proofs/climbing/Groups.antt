@@ -14,7 +14,7 @@ use Rattle.language.specs.declared.Edge.{Edge}
 use Rattle.language.specs.declared.Edge.TheVariants.{Arrow, Postfix, Other, Closed}
 use Rattle.tree.specs.declared.kind.Flags.{Flags}
 use Rattle.tree.specs.declared.kind.Pair.{Pair}
-use Rattle.tree.specs.Tree.{Tree, node, Parts, none, part, gap, bare, bare_parts, join}
+use Rattle.tree.specs.Tree.{Tree, node, Parts, none, part, gap, bare, bare_parts, join, plain}
 use Rattle.tree.specs.Uses.{is_lean, used_flags, has_text}
 use Rattle.tree.proofs.Lean.{lean_flags, lean_text}
 use Rattle.language.specs.Vocabulary.{is, takes, op_arrow}
@@ -135,7 +135,7 @@ module _ (S : Type 0) (Next : S → Token → S → Type 0) (behind : S → Toke
   paren_core {m = m} opens_it (in_group {less = less} {left = left} {right = right} {l = l} {Q = inner} o p d q e) =
       let same = same_sign S Next behind det p opens_it refl in
       as_group o (subst (λ c. Spells ways S Next behind less (expr Expression true Any) m c l inner) same.1 d) q (e ∙ ap (λ c. pair_of c right ∷ inner) same.0)
-  paren_core {h = h} {j = j} {f = f} {mid = mid} {Q = Q} opens_it (in_way {k = k} {w = w} {g = g} {st = st} {en = en} {ps = ps} tree (head_arrow kind tk q) lean pl d) =
+  paren_core {h = h} {j = j} {f = f} {mid = mid} {Q = Q} opens_it (in_way {k = k} {w = w} {g = g} {st = st} {en = en} {ps = ps} tree (head_arrow kind z tk q) lean pl d) =
       let bares : is_lean (bare (node k w g st en ps)) ≡ true = ap (λ v. is_lean (bare v)) (sym tree) ∙ lean in
       let a = run_opened S Next behind (retell S Next behind q d) in
       let there = same_sign S Next behind det a.reads opens_it refl in
@@ -144,7 +144,7 @@ module _ (S : Type 0) (Next : S → Token → S → Type 0) (behind : S → Toke
       let on_line = run_unbroken S Next behind b.runs in
       let sign = run_token S Next behind (run_laid S Next behind on_line.runs) in
       let u = body_part g.expression (run_laid S Next behind sign.runs) in
-      let flags : g ≡ arrow_flags g.expression = lean_flags (bare (node k w g st en ps)) bares ∙ ap (λ v. used_flags v g) kind in
+      let flags : g ≡ arrow_flags g.expression = lean_flags (bare (node k w g st en ps)) bares ∙ ap (λ v. used_flags v g) kind ∙ (λ i. record plain { expression = g.expression; form = z i }) in
       let text : w ≡ [] = lean_text (bare (node k w g st en ps)) bares (ap has_text kind) in
       as_arrow a.more (tree ∙ same_node kind text flags refl refl (b.parts ∙ ap (λ v. join b.given v) u.parts)) tk pl b.list sign.reads (det.break b.mid sign.sign on_line.sign sign.mid on_line.mid sign.reads.next on_line.next ∙ on_line.unbroken) u.spelled b.pairs
     where

@@ -1,32 +1,33 @@
 -- Leftmost parts of one token: names, `this`, literals; and names of properties.
-use Rattle.std.proofs.Common.{◌≡◌, ℕ, ◌≤◌, Bool, true, false, cond, List, [], ◌∷◌, refl, sym, ap, ◌∙◌, subst, arith}
+use Rattle.std.proofs.Common.{◌≡◌, ℕ, ◌≤◌, Bool, true, false, cond, List, [], ◌∷◌, ◌++◌, refl, sym, ap, ◌∙◌, subst, arith}
 use Rattle.std.specs.Prelude.{IsTrue, codes, not, ◌&&◌}
 use Rattle.std.proofs.lemmas.Bool.{and_parts, false≢true}
 use Rattle.std.proofs.lemmas.Bool.Decides.{nat_tests}
 use Rattle.tokens.specs.declared.token.TokenClass.{TokenClass}
-use Rattle.tokens.specs.declared.token.TokenClass.TheVariants.{IdentifierName, Punctuator, NumericLiteral, StringLiteral}
+use Rattle.tokens.specs.declared.token.TokenClass.TheVariants.{IdentifierName, Punctuator, NumericLiteral, StringLiteral, PrivateName}
 use Rattle.tokens.specs.declared.token.Goal.{Goal}
 use Rattle.tokens.specs.declared.token.Goal.TheVariants.{Div}
 use Rattle.tokens.specs.Goals.{allows}
 use Rattle.tokens.specs.Alphabet.{one_of, begins_with}
 use Rattle.tree.specs.declared.kind.Kind.{Kind}
-use Rattle.tree.specs.declared.kind.Kind.TheVariants.{Identifier, Literal}
+use Rattle.tree.specs.declared.kind.Kind.TheVariants.{Identifier, PrivateIdentifier, Literal}
 use Rattle.language.specs.declared.Rank.{Rank}
 use Rattle.language.specs.declared.Rank.TheVariants.{Assignment, Primary}
 use Rattle.language.specs.declared.Start.{Start}
 use Rattle.language.specs.declared.Start.TheVariants.{Any, NoBrace, Statement}
 use Rattle.tree.specs.declared.kind.Flags.{Flags}
 use Rattle.tree.specs.declared.kind.Pair.{Pair}
-use Rattle.tree.specs.Tree.{Tree, node, Parts, none, bare, plain}
+use Rattle.tree.specs.Tree.{Tree, node, Parts, none, kind_of, bare, plain, bare_parts}
 use Rattle.tree.specs.Uses.{is_lean, used_flags}
 use Rattle.tree.proofs.Lean.{lean_flags}
-use Rattle.language.specs.Vocabulary.{is, among, takes, takes_number, precedence, is_reserved, is_name, literal_class}
-use Rattle.language.specs.Pieces.{expr, name, word, tok, at, Spelling}
+use Rattle.language.specs.Vocabulary.{is, among, takes, takes_number, precedence, is_reserved, is_name, literal_class, is_keyword, is_private}
+use Rattle.language.specs.Pieces.{expr, name, word, private_name, Piece, tok, at, Spelling}
+use Rattle.language.specs.Expressions.{async_word, arrow_end}
 use Rattle.language.specs.Token.{Token}
 use Rattle.language.specs.ExpressionStart.{with_name, with_literal, with_parenthesis, expression_start}
 use Rattle.language.specs.Promises.{is_free, IsDetermined, ReadBy, FoundAt}
 use Rattle.language.specs.Grammar.{ways, spellings, starts}
-use Rattle.language.specs.Derivation.{first, Reads, Spells, direct, Runs, done, step, token, Placed, placed}
+use Rattle.language.specs.Derivation.{first, Reads, Spells, direct, Runs, done, step, token, Placed, placed, reserved_word}
 use Rattle.language.specs.Chosen as chosen
 use Rattle.language.specs.Chosen.{Chosen}
 use Rattle.language.specs.Forms.{Production, form}
@@ -35,17 +36,20 @@ use Rattle.language.proofs.table.ViewIsComplete.{way_of, made, one, unless}
 use Rattle.language.proofs.table.OperatorFacts.{binding}
 use Rattle.language.proofs.climbing.Spine.{Core, group, plain as plain_core}
 use Rattle.language.proofs.table.Productions.{spell, way_from, in_false}
-use Rattle.language.proofs.table.Begins.{among_by, retell}
-use Rattle.language.proofs.table.TokenFirstWays.{head_identifier, head_literal, head_short_arrow, either_class, opens, identifier_opens}
+use Rattle.language.proofs.table.Begins.{among_by, goes_to, retell}
+use Rattle.language.proofs.table.LeftRecursiveWays.{property_role}
+use Rattle.language.proofs.climbing.RightOperands.{PropertyFound}
+use Rattle.language.proofs.table.TokenFirstWays.{BehindAsync, async_function, async_name, async_parameters, head_identifier, head_literal, head_short_arrow, head_async, either_class, opens, identifier_opens}
 use Rattle.language.proofs.climbing.LeftmostParts.{Cored, in_way, core_by}
 use Rattle.language.proofs.list_loops.FirstPieces.{run_none, run_token, run_laid, run_unbroken, run_part}
 use Rattle.language.proofs.climbing.OperatorLoop.{Climbing}
 use Rattle.language.proofs.climbing.FirstTurn.{climb_start}
 use Rattle.language.proofs.climbing.BinaryTurns.{same_node}
+use Rattle.language.proofs.list_loops.ParameterLists.{parameter_list, parameters_split, function_closer}
 
 -- no form is of a symbol tighter than Primary
 form_rank : {k : Kind} {w : List ℕ} {g : Flags} {ps : Parts} {p : Production} {y : Rank} {i : Bool} {f : Start} → Chosen w g ps (expr y i f) k p → precedence (form p).rank ≤ 22
-form_rank {w = w} (chosen.binary op) = let v = binding w op in let up = v.rises.0 in let most = v.most in omega arith
+form_rank {w = w} (chosen.binary p op) = let v = binding w op in let up = v.rises.0 in let most = v.most in omega arith
 form_rank {w = w} (chosen.logical op) = let v = binding w op in let up = v.rises.0 in let most = v.most in omega arith
 form_rank (chosen.of_statement s c) = elim s [ ]
 form_rank (chosen.of_declaration s c) = elim s [ ]
@@ -57,6 +61,27 @@ made_rank m = subst (λ (x : Spelling). precedence x.rank ≤ 22) (sym m.is) (fo
 
 below : (h z : ℕ) → IsTrue (takes_number h z) → z ≤ 22 → IsTrue (takes_number h 22)
 below h z t l = grind (arith, nat_tests)
+
+-- a name, or a word that some languages reserve
+abbrev pub is_worded : TokenClass → List ℕ → Bool
+is_worded IdentifierName w = true
+is_worded TokenClass.Keyword w = is_keyword w
+is_worded _ w = false
+
+pub worded_free : (c : TokenClass) (w : List ℕ) → is_worded c w ≡ true → is_free c ≡ true
+worded_free IdentifierName w h = refl
+worded_free TokenClass.Keyword w h = refl
+worded_free _ w h = cc
+
+pub worded_no_sign : (c : TokenClass) (w : List ℕ) → is_worded c w ≡ true → c ≡ Punctuator → ⊥
+worded_no_sign Punctuator w h e = cc
+worded_no_sign _ w h e = cc
+
+-- what no language reserves is a name
+pub named_class : (c : TokenClass) (w : List ℕ) → is_worded c w ≡ true → is_keyword w ≡ false → c ≡ IdentifierName
+named_class IdentifierName w h k = refl
+named_class TokenClass.Keyword w h k = absurd (false≢true (sym k ∙ h))
+named_class _ w h k = cc
 
 module _ (S : Type 0) (Next : S → Token → S → Type 0) (behind : S → Token) (det : IsDetermined S Next behind) where
   -- a node of one token, and what is read there
@@ -82,10 +107,24 @@ module _ (S : Type 0) (Next : S → Token → S → Type 0) (behind : S → Toke
       }
 
   -- what spells a property's name is a name token
-  pub word_form : {o : ℕ} {n : Tree} {s e : S} {P : List Pair} → Spells ways S Next behind o word n s e P → OneToken IdentifierName Identifier n s e P
+  -- a name token, or one that the language reserves
+  pub record AnyName (n : Tree) (s e : S) (P : List Pair) : Type 0 where
+    pub class : TokenClass
+    pub text : List ℕ
+    pub sign : Token
+    pub is_word : is_worded class text ≡ true
+    pub reads : Reads S Next behind class text s sign e
+    pub tree : n ≡ node Identifier text plain sign.start (behind e).stop none
+    pub pairs : P ≡ []
+
+  any_name : {n : Tree} {s e : S} {P : List Pair} → OneToken IdentifierName Identifier n s e P → AnyName n s e P
+  any_name u = record { class = IdentifierName; text = u.text; sign = u.sign; is_word = refl; reads = u.reads; tree = u.tree; pairs = u.pairs }
+
+  pub word_form : {o : ℕ} {n : Tree} {s e : S} {P : List Pair} → Spells ways S Next behind o word n s e P → AnyName n s e P
   unfolding spellings
   word_form {n = node Identifier w g st en ps} (direct qs h (placed nx p) d) = let v = way_of h in
-      one_token (retell S Next behind (v.is ∙ ap (Rattle.language.proofs.lower_bound.Domination.settled word) (one v.listed)) d) (lean_flags (bare (node Identifier w g st en ps)) v.lean) nx (ap (λ (x : ℕ × ℕ). x.0) p) (ap (λ (x : ℕ × ℕ). x.1) p)
+      any_name (one_token (retell S Next behind (v.is ∙ ap (Rattle.language.proofs.lower_bound.Domination.settled word) (one v.listed)) d) (lean_flags (bare (node Identifier w g st en ps)) v.lean) nx (ap (λ (x : ℕ × ℕ). x.0) p) (ap (λ (x : ℕ × ℕ). x.1) p))
+  word_form (reserved_word r k e) = record { class = TokenClass.Keyword; text = _; sign = _; is_word = k; reads = r; tree = e; pairs = refl }
   word_form {n = node _ w g st en ps} (direct qs h pl d) = elim ((way_of h).listed) [ ]
 
   -- what spells a name that binds is a name token that isn't reserved
@@ -94,6 +133,45 @@ module _ (S : Type 0) (Next : S → Token → S → Type 0) (behind : S → Toke
   name_form {n = node Identifier w g st en ps} (direct qs h (placed nx p) d) = let v = way_of h in
       unless (is_reserved w) v.listed (λ c k. (one_token (retell S Next behind (v.is ∙ ap (Rattle.language.proofs.lower_bound.Domination.settled name) (one k)) d) (lean_flags (bare (node Identifier w g st en ps)) v.lean) nx (ap (λ (x : ℕ × ℕ). x.0) p) (ap (λ (x : ℕ × ℕ). x.1) p), c))
   name_form {n = node _ w g st en ps} (direct qs h pl d) = elim ((way_of h).listed) [ ]
+
+  -- what spells a private name
+  pub record PrivateToken (n : Tree) (s e : S) (P : List Pair) : Type 0 where
+    pub text : List ℕ
+    pub sign : Token
+    pub reads : Reads S Next behind PrivateName (codes "#" ++ text) s sign e
+    pub tree : n ≡ node PrivateIdentifier text plain sign.start (behind e).stop none
+    pub pairs : P ≡ []
+
+  pub private_form : {o : ℕ} {n : Tree} {s e : S} {P : List Pair} → Spells ways S Next behind o private_name n s e P → PrivateToken n s e P
+  unfolding spellings
+  private_form {n = node PrivateIdentifier w g st en ps} {s = s} (direct qs h (placed {t = t} {m = m} nx p) d) =
+      let v = way_of h in
+      let u = run_token S Next behind (retell S Next behind (v.is ∙ ap (Rattle.language.proofs.lower_bound.Domination.settled private_name) (one v.listed)) d) in
+      let z = run_none S Next behind u.runs in
+      record {
+        text = w;
+        sign = u.sign;
+        reads = subst (λ x. Reads S Next behind PrivateName (codes "#" ++ w) s u.sign x) z.place u.reads;
+        tree = same_node refl refl (lean_flags (bare (node PrivateIdentifier w g st en ps)) v.lean) (sym (ap (λ (x : ℕ × ℕ). x.0) p) ∙ det.start s t u.sign m u.mid nx u.reads.next) (sym (ap (λ (x : ℕ × ℕ). x.1) p)) z.parts;
+        pairs = z.pairs;
+      }
+  private_form {n = node _ w g st en ps} (direct qs h pl d) = elim ((way_of h).listed) [ ]
+
+  -- the token of a property's name, which every goal reads and which is no sign
+  pub record PropertyToken (s e : S) : Type 0 where
+    pub class : TokenClass
+    pub text : List ℕ
+    pub sign : Token
+    pub reads : Reads S Next behind class text s sign e
+    pub free : is_free class ≡ true
+    pub no_sign : class ≡ Punctuator → ⊥
+
+  pub property_token : {o : ℕ} (k : Kind) {n : Tree} {s e : S} {P : List Pair} → Spells ways S Next behind o (property_role k) n s e P → PropertyToken s e
+  property_token {o} k {n} {s} {e} {P} d = of (is_private k) d
+    where
+      of : (b : Bool) → Spells ways S Next behind o (cond b private_name word) n s e P → PropertyToken s e
+      of true d = let u = private_form d in record { class = PrivateName; text = _; sign = u.sign; reads = u.reads; free = refl; no_sign = λ e. cc }
+      of false d = let u = word_form d in record { class = u.class; text = u.text; sign = u.sign; reads = u.reads; free = worded_free u.class u.text u.is_word; no_sign = worded_no_sign u.class u.text u.is_word }
 
   -- two readings of a name are one
   same_name : {s e e' : S} {w w' : List ℕ} {t t' : Token} → Reads S Next behind IdentifierName w s t e → Reads S Next behind IdentifierName w' s t' e' → (t ≡ t') × (e ≡ e')
@@ -104,17 +182,94 @@ module _ (S : Type 0) (Next : S → Token → S → Type 0) (behind : S → Toke
       let text : u.text ≡ v.text = sym u.reads.text ∙ ap (λ (t : Token). t.text) h.0 ∙ v.reads.text in
       (h.1, u.tree ∙ same_node {k = k} refl text refl (ap (λ (t : Token). t.start) h.0) (ap (λ x. (behind x).stop) h.1) refl ∙ sym v.tree, u.pairs ∙ sym v.pairs)
 
-  -- so a name that is read is the only property's name there
-  pub word_found : {o : ℕ} {s e : S} {t : Token} {w : List ℕ} → Reads S Next behind IdentifierName w s t e → FoundAt S Next behind o word s e (node Identifier w plain t.start (behind e).stop none) []
+  same_word : {n : Tree} {s e e' : S} {c : TokenClass} {w : List ℕ} {t : Token} {P : List Pair} → is_worded c w ≡ true → Reads S Next behind c w s t e → AnyName n s e' P → (e' ≡ e) × (n ≡ node Identifier w plain t.start (behind e).stop none) × (P ≡ [])
+  same_word {s = s} {e = e} {e' = e'} {c = c} {w = w} {t = t} k h u =
+      let same = det.same Div s u.sign t e' e u.reads.next h.next (det.free Div s u.sign e' u.reads.next (ap is_free u.reads.class ∙ worded_free u.class u.text u.is_word)) (det.free Div s t e h.next (ap is_free h.class ∙ worded_free c w k)) in
+      (same.1, u.tree ∙ same_node refl (sym u.reads.text ∙ ap (λ (x : Token). x.text) same.0 ∙ h.text) refl (ap (λ (x : Token). x.start) same.0) (ap (λ x. (behind x).stop) same.1) refl, u.pairs)
+
+  word_spells : {o : ℕ} {s e : S} {t : Token} {w : List ℕ} (c : TokenClass) → is_worded c w ≡ true → Reads S Next behind c w s t e → Spells ways S Next behind o word (node Identifier w plain t.start (behind e).stop none) s e []
   unfolding spellings
-  word_found {o} {s} {e} {t} {w} h =
-      let n : Tree = node Identifier w plain t.start (behind e).stop none in
+  word_spells {e = e} {t = t} {w = w} IdentifierName k h =
       let x : Spelling = at Primary (tok IdentifierName w ∷ []) in
-      let here : OneToken IdentifierName Identifier n s e [] = record { text = w; sign = t; reads = h; tree = refl; pairs = refl } in
-      record {
-        spelled = direct (Rattle.language.proofs.lower_bound.Domination.settled word x) (way_from word n x refl first refl) (placed h.next refl) (step (token h) done);
-        only = λ o' e' n' P' d. let u = word_form d in same_leaf u here (same_name u.reads h);
-      }
+      direct (Rattle.language.proofs.lower_bound.Domination.settled word x) (way_from word (node Identifier w plain t.start (behind e).stop none) x refl first refl) (placed h.next refl) (step (token h) done)
+  word_spells TokenClass.Keyword k h = reserved_word h k refl
+  word_spells _ k h = cc
+
+  -- so a name that is read is the only property's name there
+  pub word_found : {o : ℕ} {s e : S} {t : Token} {c : TokenClass} {w : List ℕ} → is_worded c w ≡ true → Reads S Next behind c w s t e → FoundAt S Next behind o word s e (node Identifier w plain t.start (behind e).stop none) []
+  word_found {c = c} k h = record { spelled = word_spells c k h; only = λ o' e' n' P' d. same_word k h (word_form d) }
+
+  -- the same where a private name may stand
+  pub property_found : {o : ℕ} {s e : S} {t : Token} {c : TokenClass} {w : List ℕ} → is_worded c w ≡ true → Reads S Next behind c w s t e → PropertyFound S Next behind det o s e (node Identifier w plain t.start (behind e).stop none) []
+  property_found {s = s} {e = e} {t = t} {c = c} {w = w} k h = record { spelled = word_spells c k h; only = λ o' e' n' P' d. of n' (is_private (kind_of n')) d }
+    where
+      of : {o' : ℕ} {e' : S} {P' : List Pair} (n' : Tree) (b : Bool) → Spells ways S Next behind o' (cond b private_name word) n' s e' P' → (e' ≡ e) × (n' ≡ node Identifier w plain t.start (behind e).stop none) × (P' ≡ [])
+      of n' false d = same_word k h (word_form d)
+      of {e' = e'} n' true d =
+          let u = private_form d in
+          let same = det.same Div s u.sign t e' e u.reads.next h.next (det.free Div s u.sign e' u.reads.next (ap is_free u.reads.class)) (det.free Div s t e h.next (ap is_free h.class ∙ worded_free c w k)) in
+          let clash : PrivateName ≡ c = sym u.reads.class ∙ ap (λ (x : Token). x.class) same.0 ∙ h.class in
+          absurd (false≢true (ap (λ x. is_worded x w) clash ∙ k))
+
+  private_spells : {o : ℕ} {s e : S} {t : Token} {w : List ℕ} → Reads S Next behind PrivateName (codes "#" ++ w) s t e → Spells ways S Next behind o private_name (node PrivateIdentifier w plain t.start (behind e).stop none) s e []
+  unfolding spellings
+  private_spells {e = e} {t = t} {w = w} h =
+      let x : Spelling = at Primary (tok PrivateName (codes "#" ++ w) ∷ []) in
+      direct (Rattle.language.proofs.lower_bound.Domination.settled private_name x) (way_from private_name (node PrivateIdentifier w plain t.start (behind e).stop none) x refl first refl) (placed h.next refl) (step (token h) done)
+
+  -- a private name that is read is the only property there
+  pub private_found : {o : ℕ} {s e : S} {t : Token} {w : List ℕ} → Reads S Next behind PrivateName (codes "#" ++ w) s t e → PropertyFound S Next behind det o s e (node PrivateIdentifier w plain t.start (behind e).stop none) []
+  private_found {s = s} {e = e} {t = t} {w = w} h = record { spelled = private_spells h; only = λ o' e' n' P' d. of n' (is_private (kind_of n')) d }
+    where
+      of : {o' : ℕ} {e' : S} {P' : List Pair} (n' : Tree) (b : Bool) → Spells ways S Next behind o' (cond b private_name word) n' s e' P' → (e' ≡ e) × (n' ≡ node PrivateIdentifier w plain t.start (behind e).stop none) × (P' ≡ [])
+      of {e' = e'} n' false d =
+          let u = word_form d in
+          let same = det.same Div s u.sign t e' e u.reads.next h.next (det.free Div s u.sign e' u.reads.next (ap is_free u.reads.class ∙ worded_free u.class u.text u.is_word)) (det.free Div s t e h.next (ap is_free h.class)) in
+          let clash : u.class ≡ PrivateName = sym u.reads.class ∙ ap (λ (x : Token). x.class) same.0 ∙ h.class in
+          absurd (false≢true (sym (ap (λ x. is_worded x u.text) clash) ∙ u.is_word))
+      of {e' = e'} n' true d =
+          let u = private_form d in
+          let same = det.same Div s u.sign t e' e u.reads.next h.next (det.free Div s u.sign e' u.reads.next (ap is_free u.reads.class)) (det.free Div s t e h.next (ap is_free h.class)) in
+          let whole : codes "#" ++ u.text ≡ codes "#" ++ w = sym u.reads.text ∙ ap (λ (x : Token). x.text) same.0 ∙ h.text in
+          let text : u.text ≡ w = cc in
+          (same.1, u.tree ∙ same_node refl text refl (ap (λ (x : Token). x.start) same.0) (ap (λ x. (behind x).stop) same.1) refl, u.pairs)
+
+  -- what stands behind `async` on its line: the word of a function; and where the position takes an arrow, a name or parameters and `=>`
+  pub data AsyncNext (y : Rank) (s : S) : Type 0 where
+    function_next : {t v : Token} {m e : S} → Reads S Next behind IdentifierName (codes "async") s t m → Reads S Next behind IdentifierName (codes "function") m v e → v.after_break ≡ false → AsyncNext y s
+    name_next : {w : List ℕ} {t v u : Token} {m x e : S} → Reads S Next behind IdentifierName (codes "async") s t m → Reads S Next behind IdentifierName w m v x → is_reserved w ≡ false → v.after_break ≡ false → Reads S Next behind Punctuator (codes "=>") x u e → u.after_break ≡ false →
+        IsTrue (takes y Assignment) → AsyncNext y s
+    parameters_next : {t v u : Token} {o : ℕ} {ps : Parts} {m x z e : S} {R : List Pair} → Reads S Next behind IdentifierName (codes "async") s t m → Reads S Next behind Punctuator (codes "(") m v x → v.after_break ≡ false → Runs ways S Next behind o (parameter_list ps) ps x z R →
+        Reads S Next behind Punctuator (codes "=>") z u e → u.after_break ≡ false → IsTrue (takes y Assignment) → AsyncNext y s
+
+  -- where another position takes an arrow if this one does
+  pub async_at : {h y : Rank} {s : S} → (IsTrue (takes h Assignment) → IsTrue (takes y Assignment)) → AsyncNext h s → AsyncNext y s
+  async_at taken (function_next a b line) = function_next a b line
+  async_at taken (name_next a b free line c on tk) = name_next a b free line c on (taken tk)
+  async_at taken (parameters_next a b line d c on tk) = parameters_next a b line d c on (taken tk)
+
+  pub async_next : {o : ℕ} {y : Rank} (h : Rank) (j : Bool) (f : Start) {k : Kind} {g : Flags} {ps : Parts} {rest : List Piece} {s e : S} {P : List Pair} → BehindAsync y g (bare_parts ps) k rest → Runs ways S Next behind o (goes_to h j f (async_word ++ rest)) ps s e P → AsyncNext y s
+  async_next h j f (async_function z) d =
+      let a = run_token S Next behind d in
+      let b = run_unbroken S Next behind a.runs in
+      let c = run_token S Next behind (run_laid S Next behind b.runs) in
+      function_next a.reads c.reads (det.break a.mid c.sign b.sign c.mid b.mid c.reads.next b.next ∙ b.unbroken)
+  async_next h j f (async_name z p i tk) d =
+      let a = run_token S Next behind d in
+      let b = run_unbroken S Next behind a.runs in
+      let c = run_part S Next behind (run_laid S Next behind b.runs) in
+      let u = name_form c.spelled in
+      let l = run_unbroken S Next behind c.runs in
+      let q = run_token S Next behind (run_laid S Next behind l.runs) in
+      name_next a.reads u.0.reads u.1 (det.break a.mid u.0.sign b.sign c.mid b.mid u.0.reads.next b.next ∙ b.unbroken) q.reads (det.break c.mid q.sign l.sign q.mid l.mid q.reads.next l.next ∙ l.unbroken) tk
+  async_next {o} h j f {g = g} {ps = ps} (async_parameters z tk) d =
+      let a = run_token S Next behind d in
+      let b = run_unbroken S Next behind a.runs in
+      let c = run_token S Next behind (run_laid S Next behind b.runs) in
+      let u = parameters_split S Next behind (arrow_end g) (function_closer S Next behind h j f o) ps c.runs in
+      let l = run_unbroken S Next behind u.runs in
+      let q = run_token S Next behind (run_laid S Next behind l.runs) in
+      parameters_next a.reads c.reads (det.break a.mid c.sign b.sign c.mid b.mid c.reads.next b.next ∙ b.unbroken) u.list q.reads (det.break u.mid q.sign l.sign q.mid l.mid q.reads.next l.next ∙ l.unbroken) tk
 
   -- so a name that isn't reserved is the only one that binds there
   pub name_found : {o : ℕ} {s e : S} {t : Token} {w : List ℕ} → Reads S Next behind IdentifierName w s t e → is_reserved w ≡ false → FoundAt S Next behind o name s e (node Identifier w plain t.start (behind e).stop none) []
@@ -184,6 +339,9 @@ module _ (S : Type 0) (Next : S → Token → S → Type 0) (behind : S → Toke
   pub by_name : {s0 x : S} {t : Token} {w : List ℕ} → ReadBy S Next behind Goal.RegExp s0 t x → (t1 : Token) (m1 : S) → Reads S Next behind IdentifierName w s0 t1 m1 → (t1 ≡ t) × (m1 ≡ x)
   by_name {s0} {x} {t} r t1 m1 h = det.same Goal.RegExp s0 t1 t m1 x h.next r.next (det.free Goal.RegExp s0 t1 m1 h.next (ap is_free h.class)) r.allowed
 
+  pub by_class : {s0 x : S} {t : Token} {c : TokenClass} {w : List ℕ} → is_free c ≡ true → ReadBy S Next behind Goal.RegExp s0 t x → (t1 : Token) (m1 : S) → Reads S Next behind c w s0 t1 m1 → (t1 ≡ t) × (m1 ≡ x)
+  by_class {s0} {x} {t} f r t1 m1 h = det.same Goal.RegExp s0 t1 t m1 x h.next r.next (det.free Goal.RegExp s0 t1 m1 h.next (ap is_free h.class ∙ f)) r.allowed
+
   -- a leftmost part that isn't a group stands at a symbol that takes a Primary
   pub core_primary : {o : ℕ} {h : Rank} {j : Bool} {f : Start} {m : Tree} {s mid x : S} {Q : List Pair} {t : Token} → Core S Next behind o (expr h j f) m s mid Q → ReadBy S Next behind Goal.RegExp s t x → (expression_start t ≡ with_parenthesis → ⊥) → IsTrue (takes h Primary)
   unfolding spellings
@@ -213,9 +371,9 @@ module _ (S : Type 0) (Next : S → Token → S → Type 0) (behind : S → Toke
             (u.0, u.1, u.2, tk)
 
     -- an identifier, where no `=>` makes it the parameter of an arrow that the position takes
-    pub climb_identifier : {o : ℕ} → t.class ≡ IdentifierName → is_reserved t.text ≡ false → (IsTrue (takes y Assignment) → (v : Token) (k : S) → Reads S Next behind Punctuator (codes "=>") x v k → v.after_break ≡ false → ⊥) →
+    pub climb_identifier : {o : ℕ} → t.class ≡ IdentifierName → is_reserved t.text ≡ false → (IsTrue (takes y Assignment) → (v : Token) (k : S) → Reads S Next behind Punctuator (codes "=>") x v k → v.after_break ≡ false → ⊥) → (AsyncNext y s0 → ⊥) →
         Climbing S Next behind det o y i f Primary s0 (node Identifier t.text plain t.start (behind x).stop none) x []
-    climb_identifier class free no_arrow = climb_start S Next behind det low
+    climb_identifier class free no_arrow no_async = climb_start S Next behind det low
         (λ h j tk lo. spell S Next behind (at Primary (tok IdentifierName t.text ∷ [])) (identifier free) refl tk refl (starts_name f t.text free) (placed r.next refl) (step (token (record { next = r.next; class = class; text = refl })) done))
         (λ o' n e P h j m mid Q b. let op = opens t class refl (identifier_opens t.text free) in only (b.reached.taken Assignment) (core_by S Next behind det r op b.core) (core_primary b.core r (λ q. (let z = sym q ∙ op in cc))))
       where
@@ -227,7 +385,8 @@ module _ (S : Type 0) (Next : S → Token → S → Type 0) (behind : S → Toke
             let text : w ≡ t.text = sym v.reads.text ∙ ap (λ (t : Token). t.text) (by_name r v.sign v.mid v.reads).0 in
             let u = leaf_same is k text (lean_flags (bare (node _ w g st en ps)) bares ∙ ap (λ v. used_flags v g) k) pl (retell S Next behind q d) (by_name r) in
             (u.0, u.1, u.2, tk)
-        only taken (in_way {g = g} is (head_short_arrow k p n tk' q) lean pl d) tk =
+        only {h = h} {j = j} taken (in_way is (head_async u st q) lean pl d) tk = absurd (no_async (async_at taken (async_next h j f u (retell S Next behind q d))))
+        only taken (in_way {g = g} is (head_short_arrow k z p n tk' q) lean pl d) tk =
             let a = run_part S Next behind (retell S Next behind q d) in
             let w = name_form a.spelled in
             let here = by_name r w.0.sign a.mid w.0.reads in

@@ -16,6 +16,7 @@ use Rattle.tree.specs.declared.kind.Pair.{Pair}
 use Rattle.tree.specs.Tree.{Tree, node, Parts, bare, bare_parts}
 use Rattle.tree.specs.Uses.{is_lean}
 use Rattle.language.specs.Pieces.{Role, expr, chain_part, Piece, PieceOf, Spelling}
+use Rattle.language.specs.FirstPart.{lead as lead_kind, others}
 use Rattle.language.specs.Expressions.{chain_parts, chain_element, member_link, call_link, first_has_optional}
 use Rattle.language.proofs.lower_bound.Domination.{settled}
 use Rattle.language.specs.Token.{Token}
@@ -69,7 +70,7 @@ module _ (S : Type 0) (Next : S → Token → S → Type 0) (behind : S → Toke
 
   -- each way of a part of a chain is led
   spines_led : (f : Start) (k : Kind) (g : Flags) (ps : Parts) {x : Spelling} → Among x (chain_parts k g ps) → is_led (settled (chain_part f) x) ≡ true
-  spines_led f MemberExpression g ps h = linked_led f g.optional ps (member_link g) h
+  spines_led f MemberExpression g ps h = linked_led f g.optional ps (member_link g (lead_kind (others ps))) h
   spines_led f CallExpression g ps h = linked_led f g.optional ps (call_link g ps) h
   spines_led f _ g ps h = elim h [ ]
 

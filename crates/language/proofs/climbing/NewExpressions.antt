@@ -31,7 +31,7 @@ use Rattle.language.specs.Derivation.{Reads, Spells, Runs, done, step, within, t
 use Rattle.language.proofs.table.NodeForms.{new_with, new_without, new_target}
 use Rattle.language.proofs.climbing.Spine.{Core}
 use Rattle.language.proofs.table.Productions.{spell, starts_led}
-use Rattle.language.proofs.table.Begins.{goes_to, retell}
+use Rattle.language.proofs.table.Begins.{goes_to, retell, starts_more, joins_first}
 use Rattle.language.proofs.table.TokenFirstWays.{head_new_with, head_new_without, head_new_target, opens}
 use Rattle.language.proofs.climbing.LeftmostParts.{Cored, in_way, core_by}
 use Rattle.language.proofs.list_loops.FirstPieces.{run_token, run_laid, run_part}
@@ -44,14 +44,17 @@ use Rattle.language.proofs.climbing.OperatorLoop.{Climbing}
 use Rattle.language.proofs.climbing.Conditionals.{stops_before, same_sign}
 use Rattle.language.proofs.climbing.Suffixes.{argument_pieces, arguments_fixed}
 use Rattle.language.proofs.climbing.FirstTurn.{Begun, climb_start, begun_stops}
-use Rattle.language.proofs.climbing.Leaves.{by_name, word_form, word_found}
+use Rattle.language.proofs.climbing.Leaves.{by_name, word_form, word_found, by_class, worded_free}
 use Rattle.language.proofs.climbing.Supers.{none_begins}
 use Rattle.language.proofs.climbing.Callees.{callee_new, standing_tight, ClimbingCallee, Uncalled, uncalled_at, callee_start}
 
-starts_new : (f : Start) (qs : List Piece) → IsTrue (starts f (term "new" ∷ qs))
-starts_new Any qs = refl
-starts_new NoBrace qs = refl
-starts_new Statement qs = refl
+starts_new : (f : Start) (qs : List Piece) → joins_first qs ≡ false → IsTrue (starts f (term "new" ∷ qs))
+starts_new f qs h = starts_more f (codes "new") qs h (of f)
+  where
+    of : (f : Start) → IsTrue (starts f (term "new" ∷ []))
+    of Any = refl
+    of NoBrace = refl
+    of Statement = refl
 
 module _ (S : Type 0) (Next : S → Token → S → Type 0) (behind : S → Token) (det : IsDetermined S Next behind) where
   -- the name that a word is, from a token to a place
@@ -94,7 +97,7 @@ module _ (S : Type 0) (Next : S → Token → S → Type 0) (behind : S → Toke
         of (in_way {ps = ps} tree (head_new_target k c tk q) lean pl d) =
             let a = run_part S Next behind (retell S Next behind q d) in
             let w = word_form S Next behind det a.spelled in
-            let here = by_name S Next behind det r w.sign a.mid w.reads in
+            let here = by_class S Next behind det (worded_free w.class w.text w.is_word) r w.sign a.mid w.reads in
             let dot = run_token S Next behind a.runs in
             let u = one_part S Next behind det dot.runs in
             let parts = a.parts ∙ ap (part a.item) u.parts in
@@ -131,9 +134,9 @@ module _ (S : Type 0) (Next : S → Token → S → Type 0) (behind : S → Toke
           Placed S Next behind (expr y i f) (node MetaProperty [] plain st en (part (word_node (codes "new") t x) (part (word_node (codes "target") v to) none))) s0 to → NewCore o' h j f m mid Q →
           Same st en MetaProperty (part (word_node (codes "new") t x) (part (word_node (codes "target") v to) none)) to [] Member h m mid Q
       target_alone {o'} {mid = mid} class text reads places (as_target {n = n} {u = u} {x2 = x3} {v = v'} {U = U} tree tk pl d eq p said q) =
-          let first = (word_found S Next behind det {o = o'} (record { next = r.next; class = class; text = text })).only o' x n [] d in
+          let first = (word_found S Next behind det {o = o'} {c = IdentifierName} refl (record { next = r.next; class = class; text = text })).only o' x n [] d in
           let there = same_sign S Next behind det eq dotted_by refl in
-          let last = (word_found S Next behind det {o = o'} reads).only o' mid u U (subst (λ c. Spells ways S Next behind o' word u c mid U) there.1 p) in
+          let last = (word_found S Next behind det {o = o'} {c = IdentifierName} refl reads).only o' mid u U (subst (λ c. Spells ways S Next behind o' word u c mid U) there.1 p) in
           let where_is = same_places S Next behind det pl places last.0 in
           (last.0, tree ∙ same_node refl refl refl where_is.0 where_is.1 (λ k. part (first.1 k) (part (last.1 k) none)), q ∙ last.2, tk)
       target_alone class text reads places (as_given tree tk pl d eq p q) = absurd (undotted d dotted_by)
@@ -144,7 +147,7 @@ module _ (S : Type 0) (Next : S → Token → S → Type 0) (behind : S → Toke
           Spells ways S Next behind o (expr h j f) (node MetaProperty [] plain st en (part (word_node (codes "new") t x) (part (word_node (codes "target") v to) none))) s0 to []
       target_spells {o} {f = f} h j class text reads tk pl =
           spell S Next behind (at Member (put word ∷ sign "." ∷ put word ∷ [])) (new_target refl) refl tk refl (starts_led f (Rattle.language.specs.Pieces.fixed word) (sign "." ∷ put word ∷ [])) pl
-          (within (word_found S Next behind det {o = o} (record { next = r.next; class = class; text = text })).spelled (step (token dotted_by) (within (word_found S Next behind det {o = o} reads).spelled done)))
+          (within (word_found S Next behind det {o = o} {c = IdentifierName} refl (record { next = r.next; class = class; text = text })).spelled (step (token dotted_by) (within (word_found S Next behind det {o = o} {c = IdentifierName} refl reads).spelled done)))
 
       pub climb_new_target : {o : ℕ} {y : Rank} {i : Bool} {f : Start} {to : S} {st en : ℕ} {v : Token} → t.class ≡ IdentifierName → t.text ≡ codes "new" → IsTrue (takes y Member) → Reads S Next behind IdentifierName (codes "target") x2 v to →
           Placed S Next behind (expr y i f) (node MetaProperty [] plain st en (part (word_node (codes "new") t x) (part (word_node (codes "target") v to) none))) s0 to →
@@ -188,7 +191,7 @@ module _ (S : Type 0) (Next : S → Token → S → Type 0) (behind : S → Toke
         given_spells : {f : Start} {ps : Parts} {to : S} {B : List Pair} {st en : ℕ} (h : Rank) (j : Bool) → t.class ≡ IdentifierName → t.text ≡ codes "new" → IsTrue (takes h Member) → Runs ways S Next behind o (argument_pieces ps) ps x2 to B →
             Placed S Next behind (expr h j f) (node NewExpression [] plain st en (part u ps)) s0 to → Spells ways S Next behind o (expr h j f) (node NewExpression [] plain st en (part u ps)) s0 to (A ++ B)
         given_spells {f} {ps} h j class text tk d pl =
-            spell S Next behind (at Member (term "new" ∷ sp ∷ put (expr Member true Any) ∷ arguments (bare_parts ps))) new_with refl tk refl (starts_new f (sp ∷ put (expr Member true Any) ∷ arguments (bare_parts ps))) pl
+            spell S Next behind (at Member (term "new" ∷ sp ∷ put (expr Member true Any) ∷ arguments (bare_parts ps))) new_with refl tk refl (starts_new f (sp ∷ put (expr Member true Any) ∷ arguments (bare_parts ps)) refl) pl
             (step (token (reads_new class text)) (step laid (within callee_complete (step (token calls_it) (retell S Next behind (sym (arguments_fixed h j f (bare_parts ps))) d)))))
 
         given_alone : {o' : ℕ} {y y' : Rank} {i i' : Bool} {f : Start} {n : Tree} {e to : S} {P B : List Pair} {h : Rank} {j : Bool} {m : Tree} {mid : S} {Q : List Pair} {ps : Parts} {st en : ℕ} → FoundParts S Next behind o argument_pieces x2 to ps B →
@@ -224,7 +227,7 @@ module _ (S : Type 0) (Next : S → Token → S → Type 0) (behind : S → Toke
             (same.0, tree ∙ same_node refl refl refl where_is.0 where_is.1 (ap (λ c. part c none) same.1), same.2, tk)
 
         bare_spells : {f : Start} {st en : ℕ} (h : Rank) (j : Bool) → t.class ≡ IdentifierName → t.text ≡ codes "new" → IsTrue (takes h New) → Placed S Next behind (expr h j f) (node NewExpression [] plain st en (part u none)) s0 e1 → Spells ways S Next behind o (expr h j f) (node NewExpression [] plain st en (part u none)) s0 e1 A
-        bare_spells {f} h j class text tk pl = spell S Next behind (at New (term "new" ∷ sp ∷ put (expr New true Any) ∷ [])) (new_without refl) refl tk refl (starts_new f (sp ∷ put (expr New true Any) ∷ [])) pl
+        bare_spells {f} h j class text tk pl = spell S Next behind (at New (term "new" ∷ sp ∷ put (expr New true Any) ∷ [])) (new_without refl) refl tk refl (starts_new f (sp ∷ put (expr New true Any) ∷ []) refl) pl
             (step (token (reads_new class text)) (step laid (last_runs S Next behind (callee_new S Next behind found.callee))))
 
         -- `new` without arguments

@@ -4,7 +4,7 @@ use Rattle.std.specs.Prelude.{IsTrue, Some, codes, not, ◌&&◌, ◌||◌}
 use Rattle.std.proofs.lemmas.Bool.{false≢true}
 use Rattle.std.proofs.lemmas.Slice.Eq.{bytes_eq-Decides}
 use Rattle.tokens.specs.declared.token.TokenClass.{TokenClass}
-use Rattle.tokens.specs.declared.token.TokenClass.TheVariants.{IdentifierName, Punctuator, NumericLiteral, StringLiteral, Template, RegularExpressionLiteral, End}
+use Rattle.tokens.specs.declared.token.TokenClass.TheVariants.{IdentifierName, Punctuator, NumericLiteral, StringLiteral, Template, RegularExpressionLiteral, PrivateName, Keyword, End}
 use Rattle.tokens.specs.declared.token.Goal.TheVariants.{Div}
 use Rattle.tokens.specs.Goals.{allows}
 use Rattle.tree.specs.declared.kind.Kind.{Kind}
@@ -39,6 +39,8 @@ in_makes Template w e h f g = g (sym h ∙ ap (of_class Template) e)
 in_makes NumericLiteral w e h f g = g (sym h)
 in_makes StringLiteral w e h f g = g (sym h)
 in_makes RegularExpressionLiteral w e h f g = g (sym h)
+in_makes PrivateName w e h f g = g (sym h)
+in_makes Keyword w e h f g = g (sym h)
 in_makes End w e h f g = g (sym h)
 
 -- an operator that isn't one with two sides asks for no In
@@ -193,6 +195,6 @@ module _ (S : Type 0) (Next : S → Token → S → Type 0) (behind : S → Toke
   pub goes_where_not : {e x : S} (y : Rank) (i : Bool) {a : Role} {n : Tree} {P : List Pair} {b : Role} {m : Tree} {mid : S} {Q : List Pair} {t : Token} →
       ReadBy S Next behind Div mid t x → Stops S Next behind y i n e → stops y i (edge m) (behind mid) t ≡ false → Ended a n e P b m mid Q → ⊥
   goes_where_not {e} {x} y i {n = n} {m = m} {mid = mid} {t = t} r st goes u =
-      let h : stops y i (edge n) (behind e) t ≡ true = st t x (subst (λ z. ReadBy S Next behind Div z t x) (sym u.place) r) in
+      let h : stops y i (edge n) (behind e) t ≡ true = st.before t x (subst (λ z. ReadBy S Next behind Div z t x) (sym u.place) r) in
       let k : stops y i (edge m) (behind mid) t ≡ true = subst (λ z. stops y i (edge m) (behind z) t ≡ true) u.place (subst (λ z. stops y i (edge z) (behind e) t ≡ true) u.tree h) in
       false≢true (sym goes ∙ k)

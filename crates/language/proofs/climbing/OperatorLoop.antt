@@ -4,7 +4,7 @@ use Rattle.std.specs.Prelude.{IsTrue, Some, None, Option, not, ◌&&◌, ◌||�
 use Rattle.std.proofs.lemmas.Bool.{false≢true}
 use Rattle.std.proofs.lemmas.Slice.Eq.{bytes_eq-Decides}
 use Rattle.tokens.specs.declared.token.TokenClass.{TokenClass}
-use Rattle.tokens.specs.declared.token.TokenClass.TheVariants.{IdentifierName, Punctuator, NumericLiteral, StringLiteral, Template, RegularExpressionLiteral, End}
+use Rattle.tokens.specs.declared.token.TokenClass.TheVariants.{IdentifierName, Punctuator, NumericLiteral, StringLiteral, Template, RegularExpressionLiteral, PrivateName, Keyword, End}
 use Rattle.tokens.specs.declared.token.Goal.TheVariants.{Div}
 use Rattle.tree.specs.declared.kind.Kind.{Kind}
 use Rattle.language.specs.declared.Rank.{Rank}
@@ -31,6 +31,7 @@ use Rattle.language.proofs.table.Reaches.{is_loose, linked_base}
 use Rattle.language.proofs.table.Tails.{Tails, no_further}
 use Rattle.language.proofs.table.RightEdges.{takes_less}
 use Rattle.language.proofs.climbing.NoContinuation.{Ended, ends_where_stops, no_spine, led_makes}
+use Rattle.language.proofs.climbing.NamesBehind.{apart_inside}
 
 -- what the test says where something goes on
 pub record GoesOn (q : Rank) (i : Bool) (x : Edge) (t : Token) (s : Option Rank) : Type 0 where
@@ -79,6 +80,8 @@ of_in Template w e = makes_none (ap (of_class Template) e)
 of_in NumericLiteral w e = makes_none refl
 of_in StringLiteral w e = makes_none refl
 of_in RegularExpressionLiteral w e = makes_none refl
+of_in PrivateName w e = makes_none refl
+of_in Keyword w e = makes_none refl
 of_in End w e = makes_none refl
 
 some_same : {b c : Rank} → Some b ≡ Some c → b ≡ c
@@ -160,7 +163,7 @@ module _ (S : Type 0) (Next : S → Token → S → Type 0) (behind : S → Toke
     where
       of : ReadsOn (expr y i f) n e P (expr h j f') m mid Q → Ended S Next behind det (expr y i f) n e P (expr h j f') m mid Q
       of (no_more u) = u
-      of (one_more t x r) = ends_where_stops S Next behind det sp r (st t x r) gs
+      of (one_more t x r) = ends_where_stops S Next behind det sp r (st.before t x r) gs
 
   -- where nothing can go on, what stands so far is found
   pub climb_stop : {o : ℕ} {y : Rank} {i : Bool} {f : Start} {r : Rank} {s0 : S} {m : Tree} {mid : S} {Q : List Pair} → Climbing o y i f r s0 m mid Q → Stops S Next behind y i m mid → Found S Next behind o y i f s0 mid m Q
@@ -226,12 +229,12 @@ module _ (S : Type 0) (Next : S → Token → S → Type 0) (behind : S → Toke
   pub stops_inside : {o : ℕ} {s0 e : S} {y : Rank} {i : Bool} {f : Start} {n : Tree} {P : List Pair} {h : Rank} {j : Bool} {f' : Start} {m : Tree} {to : S} {Q : List Pair} (z q : Rank) (i' : Bool) (u : Tree) → Tails z q →
       (precedence y ≡ 2 → precedence z ≡ 2 → ⊥) → IsTrue (takes h z) → (takes q Relational ≡ true → i' ≡ j) → edge_as_written (edge m) (behind to) ≡ edge_as_written (edge u) (behind to) → Stops S Next behind y i n e →
       Grows S Next behind o s0 (expr y i f) n e P (expr h j f') m to Q → Stops S Next behind q i' u to
-  stops_inside {o} {s0} {e} {y} {i} {f} {n} {P} {h} {j} {f'} {m} {to} {Q} z q i' u tails conditional stands ins same st gs t x r = decide (stops q i' (edge u) (behind to) t) refl
+  stops_inside {o} {s0} {e} {y} {i} {f} {n} {P} {h} {j} {f'} {m} {to} {Q} z q i' u tails conditional stands ins same st gs = record { before = λ t x r. decide r (stops q i' (edge u) (behind to) t) refl; apart = apart_inside S Next behind det gs st.apart }
     where
-      goes : GoesOn q i' (edge_as_written (edge u) (behind to)) t (rank_made_by (operation t) t.after_break) → Onward S Next behind det o s0 (expr y i f) n e P (expr h j f') m to Q t → ⊥
-      goes c (ended a b d p) =
+      goes : {t : Token} {x : S} → ReadBy S Next behind Div to t x → GoesOn q i' (edge_as_written (edge u) (behind to)) t (rank_made_by (operation t) t.after_break) → Onward S Next behind det o s0 (expr y i f) n e P (expr h j f') m to Q t → ⊥
+      goes {t} {x} r c (ended a b d p) =
           let role = role_is a in
-          let stopped : stops_at y i (edge_as_written (edge n) (behind e)) t (rank_made_by (operation t) t.after_break) ≡ true = st t x (subst (λ v. ReadBy S Next behind Div v t x) (sym d) r) in
+          let stopped : stops_at y i (edge_as_written (edge n) (behind e)) t (rank_made_by (operation t) t.after_break) ≡ true = st.before t x (subst (λ v. ReadBy S Next behind Div v t x) (sym d) r) in
           let standing' : edge_as_written (edge n) (behind e) ≡ edge_as_written (edge u) (behind to) = ap (λ v. edge_as_written (edge v) (behind e)) b ∙ ap (λ v. edge_as_written (edge m) (behind v)) d ∙ same in
           let stopped2 : stops_at y i (edge_as_written (edge u) (behind to)) t (Some c.symbol) ≡ true = subst (λ v. stops_at y i v t (Some c.symbol) ≡ true) standing' (subst (λ v. stops_at y i (edge_as_written (edge n) (behind e)) t v ≡ true) c.makes stopped) in
           let taken : takes y c.symbol ≡ true = tails.passes (precedence y) (precedence c.symbol) conditional (subst (λ v. IsTrue (takes v z)) (sym role.0) stands) c.taken in
@@ -242,13 +245,13 @@ module _ (S : Type 0) (Next : S → Token → S → Type 0) (behind : S → Toke
           has_in true e k =
               let w : takes q Relational ≡ true = subst (λ v. takes q v ≡ true) (in_symbol t e c.makes) c.taken in
               k ∙ sym (ins w) ∙ ap (λ b. not b || i') (sym e) ∙ c.has_in
-      goes c (by_led led some op lean d pl grown gs') =
+      goes {t} {x} r c (by_led led some op lean d pl grown gs') =
           let w = led_makes S Next behind det led some d r in
           no_further t.after_break z q led (ap (λ v. rank_made_by v t.after_break) (sym op) ∙ c.makes) tails stands c.taken
-      goes c (by_link linked op lean d pl grown gs') =
+      goes r c (by_link linked op lean d pl grown gs') =
           let less = takes_less Call z (subst (λ v. IsTrue (takes v z)) (linked_base linked) stands) in let high = tails.highest in absurd (omega arith)
-      goes c (by_chain b tk lean pl grown gs') = no_spine b
+      goes r c (by_chain b tk lean pl grown gs') = no_spine b
 
-      decide : (b : Bool) → stops q i' (edge u) (behind to) t ≡ b → IsTrue (stops q i' (edge u) (behind to) t)
-      decide true k = k
-      decide false k = absurd (goes (goes_on q i' (edge u) (behind to) t k) (onward S Next behind det refl r gs))
+      decide : {t : Token} {x : S} → ReadBy S Next behind Div to t x → (b : Bool) → stops q i' (edge u) (behind to) t ≡ b → IsTrue (stops q i' (edge u) (behind to) t)
+      decide r true k = k
+      decide {t} r false k = absurd (goes r (goes_on q i' (edge u) (behind to) t k) (onward S Next behind det refl r gs))

@@ -1,10 +1,10 @@
 -- Which node an operator makes of what stands before it: where the parts spell, the node does.
-use Rattle.std.proofs.Common.{◌≡◌, ℕ, Bool, true, false, cond, List, [], ◌∷◌, ◌++◌, refl, ap, ◌∙◌, subst}
+use Rattle.std.proofs.Common.{◌≡◌, ℕ, Bool, true, false, cond, List, [], ◌∷◌, ◌++◌, refl, ap, ◌∙◌, subst, sym}
 use Rattle.std.specs.Prelude.{IsTrue, codes}
 use Rattle.std.proofs.lemmas.List.{append-nil}
 use Rattle.tokens.specs.declared.token.TokenClass.TheVariants.{IdentifierName, Punctuator}
 use Rattle.tree.specs.declared.kind.Kind.{Kind}
-use Rattle.tree.specs.declared.kind.Kind.TheVariants.{TaggedTemplateExpression, MemberExpression, CallExpression, ChainExpression, UpdateExpression, BinaryExpression, LogicalExpression, ConditionalExpression, AssignmentExpression, SequenceExpression}
+use Rattle.tree.specs.declared.kind.Kind.TheVariants.{PrivateIdentifier, TaggedTemplateExpression, MemberExpression, CallExpression, ChainExpression, UpdateExpression, BinaryExpression, LogicalExpression, ConditionalExpression, AssignmentExpression, SequenceExpression}
 use Rattle.language.specs.declared.Rank.{Rank}
 use Rattle.language.specs.declared.Rank.TheVariants.{Expression, Assignment, Conditional, ShortCircuit, Exponentiation, Update, LeftHandSide, Call, Member}
 use Rattle.language.specs.declared.Start.{Start}
@@ -13,16 +13,18 @@ use Rattle.tree.specs.declared.kind.Flags.{Flags}
 use Rattle.tree.specs.declared.kind.Pair.{Pair}
 use Rattle.tree.specs.Tree.{Tree, node, plain, Parts, none, part, gap, kind_of, bare, bare_parts}
 use Rattle.tree.specs.Uses.{is_lean, implies}
-use Rattle.language.specs.Vocabulary.{is, takes, is_target, is_super, is_word_operator, op_binary, op_power, op_assign, op_update, operator_of}
-use Rattle.language.specs.Pieces.{Role, expr, chain_part, word, tagged_quasi, Piece, tok, sub, unbroken, left, lead, tail, callee, lead_chain, put, sp, sign, at, is_none, Spelling}
+use Rattle.language.specs.Vocabulary.{is, takes, is_target, is_super, is_private, is_word_operator, op_binary, op_power, op_assign, op_update, operator_of}
+use Rattle.language.specs.Pieces.{Role, expr, chain_part, tagged_quasi, Piece, tok, sub, unbroken, left, lead, tail, callee, lead_chain, put, sp, sign, at, is_none, Spelling}
 use Rattle.language.specs.Token.{Token}
 use Rattle.language.specs.Grammar.{spellings, ways}
-use Rattle.language.specs.Expressions.{assignment, arguments, after_number, selector, first_has_optional, chain_parts, member_link, call_link, sequence, joined, infix_pieces}
-use Rattle.language.specs.Derivation.{Among, first, Reads, Spells, direct, Runs, done, step, within, token, laid, same_line, Placed}
+use Rattle.language.specs.Expressions.{expressions, assignment, arguments, after_number, selector, first_has_optional, chain_parts, member_link, call_link, sequence, joined, infix_pieces}
+use Rattle.language.specs.FirstPart.{lead as lead_kind}
+use Rattle.language.proofs.table.ViewIsComplete.{way_of}
+use Rattle.language.specs.Derivation.{Among, first, Reads, Spells, grouped, direct, Runs, done, step, within, token, laid, same_line, Placed}
 use Rattle.language.proofs.table.NodeForms.{tagged, member, call, chain, postfix, power, binary, logical, conditional, assign, several}
 use Rattle.language.proofs.lower_bound.Domination.{settled}
 use Rattle.language.proofs.table.Begins.{goes_to, AllLaid, no_piece, one_laid, number_laid}
-use Rattle.language.proofs.table.LeftRecursiveWays.{callee_rank}
+use Rattle.language.proofs.table.LeftRecursiveWays.{callee_rank, property_role}
 use Rattle.language.proofs.table.Productions.{spell, starts_led, way_from, runs_can, in_true, in_false}
 
 pub kind_bare : (n : Tree) → kind_of (bare n) ≡ kind_of n
@@ -44,6 +46,13 @@ module _ (S : Type 0) (Next : S → Token → S → Type 0) (behind : S → Toke
   pub last_runs : {o : ℕ} {a : Role} {n : Tree} {s e : S} {P : List Pair} → Spells ways S Next behind o a n s e P → Runs ways S Next behind o (sub a ∷ []) (part n none) s e P
   last_runs {o} {a} {n} {s} {e} {P} d = subst (λ z. Runs ways S Next behind o (sub a ∷ []) (part n none) s e z) (append-nil P) (within d done)
 
+  -- no expression is a private name
+  no_private : {o : ℕ} {y : Rank} {i : Bool} {f : Start} {n : Tree} {s e : S} {P : List Pair} → Spells ways S Next behind o (expr y i f) n s e P → is_private (kind_of n) ≡ false
+  unfolding spellings expressions
+  no_private (grouped p d q) = no_private d
+  no_private {n = node PrivateIdentifier w g st en ps} (direct qs h pl d) = elim ((way_of h).listed) [ ]
+  no_private {n = node _ w g st en ps} (direct qs h pl d) = refl
+
   abbrev pub Whole : ℕ → Rank → Bool → Start → ℕ → ℕ → Tree → S → S → List Pair → Kind → List ℕ → Flags → Parts → List Pair → Type 0
   Whole o y i f st en m s e P k w g ps Q = Spells ways S Next behind o (expr y i f) (node k w g st en (part m ps)) s e (P ++ Q)
 
@@ -55,7 +64,7 @@ module _ (S : Type 0) (Next : S → Token → S → Type 0) (behind : S → Toke
     pub binary_grows : {w : List ℕ} {l : Bool} {z q : Rank} {t : Token} {x : S} {u : Tree} {Q : List Pair} → operator_of w ≡ op_binary l z q → IsTrue (takes y z) → IsTrue (implies (is w "in") i) →
         Spells ways S Next behind o (expr z i f) m s mid P → Reads S Next behind (cond (is_word_operator w) IdentifierName Punctuator) w mid t x → Spells ways S Next behind o (expr q i Any) u x e Q →
         Here y i f st en m s e (cond l LogicalExpression BinaryExpression) w plain (part u none) → Whole o y i f st en m s e P (cond l LogicalExpression BinaryExpression) w plain (part u none) Q
-    binary_grows {w = w} {l = false} {z = z} {q = q} op tk im d r k pl = spell S Next behind (joined w z q) (binary op) refl tk im (starts_led f (left z) _) pl (within d (step laid (step (token r) (step laid (last_runs k)))))
+    binary_grows {w = w} {l = false} {z = z} {q = q} op tk im d r k pl = spell S Next behind (joined w z q) (binary (ap is_private (kind_bare m) ∙ no_private d) op) refl tk im (starts_led f (left z) _) pl (within d (step laid (step (token r) (step laid (last_runs k)))))
     binary_grows {w = w} {l = true} {z = z} {q = q} op tk im d r k pl = spell S Next behind (joined w z q) (logical op) refl tk im (starts_led f (left z) _) pl (within d (step laid (step (token r) (step laid (last_runs k)))))
 
     -- `**`
@@ -63,7 +72,7 @@ module _ (S : Type 0) (Next : S → Token → S → Type 0) (behind : S → Toke
         Spells ways S Next behind o (expr Update true f) m s mid P → Reads S Next behind (cond (is_word_operator w) IdentifierName Punctuator) w mid t x → Spells ways S Next behind o (expr Exponentiation true Any) u x e Q →
         Here y i f st en m s e BinaryExpression w plain (part u none) → Whole o y i f st en m s e P BinaryExpression w plain (part u none) Q
     power_grows {w = w} op tk d r k pl =
-        spell S Next behind (at Exponentiation (sub (lead Update) ∷ infix_pieces w ++ put (expr Exponentiation true Any) ∷ [])) (power op) refl tk refl (starts_led f (lead Update) _) pl
+        spell S Next behind (at Exponentiation (sub (lead Update) ∷ infix_pieces w ++ put (expr Exponentiation true Any) ∷ [])) (power (ap is_private (kind_bare m) ∙ no_private d) op) refl tk refl (starts_led f (lead Update) _) pl
         (within d (step laid (step (token r) (step laid (last_runs k)))))
 
     -- an assignment to a simple target
@@ -99,18 +108,18 @@ module _ (S : Type 0) (Next : S → Token → S → Type 0) (behind : S → Toke
 
     -- `.` and a name
     pub dot_grows : {t : Token} {x : S} {u : Tree} {Q : List Pair} → is_super (kind_of m) ≡ false → IsTrue (takes y Member) → Spells ways S Next behind o (expr (callee_rank y) true f) m s mid P →
-        Reads S Next behind Punctuator (codes ".") mid t x → Spells ways S Next behind o word u x e Q → Here y i f st en m s e MemberExpression [] plain (part u none) → Whole o y i f st en m s e P MemberExpression [] plain (part u none) Q
-    dot_grows {u = u} h tk d r k pl =
-        spell S Next behind (at Member (sub callee ∷ after_number (bare_parts (part m (part u none))) plain ++ selector plain)) (member refl (ap is_super (kind_bare m) ∙ h)) refl tk refl (starts_led f callee _) pl
-        (within d (lay_runs y i f (selector plain) (number_laid (bare_parts (part m (part u none))) plain) (step (token r) (last_runs k))))
+        Reads S Next behind Punctuator (codes ".") mid t x → Spells ways S Next behind o (property_role (kind_of u)) u x e Q → Here y i f st en m s e MemberExpression [] plain (part u none) → Whole o y i f st en m s e P MemberExpression [] plain (part u none) Q
+    dot_grows {x = x} {u = u} {Q = Q} h tk d r k pl =
+        spell S Next behind (at Member (sub callee ∷ after_number (bare_parts (part m (part u none))) plain ++ selector plain (kind_of (bare u)))) (member refl (ap is_super (kind_bare m) ∙ h)) refl tk refl (starts_led f callee _) pl
+        (within d (lay_runs y i f (selector plain (kind_of (bare u))) (number_laid (bare_parts (part m (part u none))) plain) (step (token r) (last_runs (subst (λ v. Spells ways S Next behind o (property_role v) u x e Q) (sym (kind_bare u)) k)))))
 
     -- `[` and an expression
     pub index_grows : {t v : Token} {x z : S} {u : Tree} {Q : List Pair} → is_super (kind_of m) ≡ false → IsTrue (takes y Member) → Spells ways S Next behind o (expr (callee_rank y) true f) m s mid P →
         Reads S Next behind Punctuator (codes "[") mid t x → Spells ways S Next behind o (expr Expression true Any) u x z Q → Reads S Next behind Punctuator (codes "]") z v e →
         Here y i f st en m s e MemberExpression [] (record plain { computed = true }) (part u none) → Whole o y i f st en m s e P MemberExpression [] (record plain { computed = true }) (part u none) (Q ++ [])
     index_grows {u = u} h tk d r k r' pl = let g : Flags = record plain { computed = true } in
-        spell S Next behind (at Member (sub callee ∷ after_number (bare_parts (part m (part u none))) g ++ selector g)) (member refl (ap is_super (kind_bare m) ∙ h)) refl tk refl (starts_led f callee _) pl
-        (within d (lay_runs y i f (selector g) (number_laid (bare_parts (part m (part u none))) g) (step (token r) (within k (step (token r') done)))))
+        spell S Next behind (at Member (sub callee ∷ after_number (bare_parts (part m (part u none))) g ++ selector g (kind_of (bare u)))) (member refl (ap is_super (kind_bare m) ∙ h)) refl tk refl (starts_led f callee _) pl
+        (within d (lay_runs y i f (selector g (kind_of (bare u))) (number_laid (bare_parts (part m (part u none))) g) (step (token r) (within k (step (token r') done)))))
 
     -- arguments
     pub call_grows : {ps : Parts} {Q : List Pair} → is_super (kind_of m) ≡ false → IsTrue (takes y Call) → Spells ways S Next behind o (expr Call true f) m s mid P →
@@ -137,9 +146,9 @@ module _ (S : Type 0) (Next : S → Token → S → Type 0) (behind : S → Toke
 
   -- what follows in a chain, behind a part of it
   pub link_grows : {o : ℕ} {f : Start} {g : Flags} {st en : ℕ} {m : Tree} {ps : Parts} {s mid e : S} {P Q : List Pair} → first_has_optional (bare_parts (part m ps)) ≡ true → is_lean (bare (node MemberExpression [] g st en (part m ps))) ≡ true →
-      Spells ways S Next behind o (chain_part f) m s mid P → Runs ways S Next behind o (goes_to Expression true f (member_link g)) ps mid e Q →
+      Spells ways S Next behind o (chain_part f) m s mid P → Runs ways S Next behind o (goes_to Expression true f (member_link g (lead_kind (bare_parts ps)))) ps mid e Q →
       Placed S Next behind (chain_part f) (node MemberExpression [] g st en (part m ps)) s e → Spells ways S Next behind o (chain_part f) (node MemberExpression [] g st en (part m ps)) s e (P ++ Q)
-  link_grows {g = g} h lean d k pl = spell_link (at Rattle.language.specs.declared.Rank.TheVariants.Primary (sub lead_chain ∷ member_link g)) (in_true _ _ h first) lean pl (within d k)
+  link_grows {g = g} {ps = ps} h lean d k pl = spell_link (at Rattle.language.specs.declared.Rank.TheVariants.Primary (sub lead_chain ∷ member_link g (lead_kind (bare_parts ps)))) (in_true _ _ h first) lean pl (within d k)
 
   pub link_call_grows : {o : ℕ} {f : Start} {g : Flags} {st en : ℕ} {m : Tree} {ps : Parts} {s mid e : S} {P Q : List Pair} → first_has_optional (bare_parts (part m ps)) ≡ true → is_lean (bare (node CallExpression [] g st en (part m ps))) ≡ true →
       Spells ways S Next behind o (chain_part f) m s mid P → Runs ways S Next behind o (goes_to Expression true f (call_link g (bare_parts (part m ps)))) ps mid e Q →
@@ -148,9 +157,9 @@ module _ (S : Type 0) (Next : S → Token → S → Type 0) (behind : S → Toke
 
   -- the first link of a chain, behind its base
   pub base_grows : {o : ℕ} {f : Start} {g : Flags} {st en : ℕ} {m : Tree} {ps : Parts} {s mid e : S} {P Q : List Pair} → first_has_optional (bare_parts (part m ps)) ≡ false → g.optional ≡ true → is_lean (bare (node MemberExpression [] g st en (part m ps))) ≡ true →
-      Spells ways S Next behind o (expr Call true f) m s mid P → Runs ways S Next behind o (goes_to Expression true f (member_link g)) ps mid e Q →
+      Spells ways S Next behind o (expr Call true f) m s mid P → Runs ways S Next behind o (goes_to Expression true f (member_link g (lead_kind (bare_parts ps)))) ps mid e Q →
       Placed S Next behind (chain_part f) (node MemberExpression [] g st en (part m ps)) s e → Spells ways S Next behind o (chain_part f) (node MemberExpression [] g st en (part m ps)) s e (P ++ Q)
-  base_grows {g = g} h o lean d k pl = spell_link (at Rattle.language.specs.declared.Rank.TheVariants.Primary (sub (lead Call) ∷ member_link g)) (in_false _ _ h (in_true _ _ o first)) lean pl (within d k)
+  base_grows {g = g} {ps = ps} h o lean d k pl = spell_link (at Rattle.language.specs.declared.Rank.TheVariants.Primary (sub (lead Call) ∷ member_link g (lead_kind (bare_parts ps)))) (in_false _ _ h (in_true _ _ o first)) lean pl (within d k)
 
   pub base_call_grows : {o : ℕ} {f : Start} {g : Flags} {st en : ℕ} {m : Tree} {ps : Parts} {s mid e : S} {P Q : List Pair} → first_has_optional (bare_parts (part m ps)) ≡ false → g.optional ≡ true → is_lean (bare (node CallExpression [] g st en (part m ps))) ≡ true →
       Spells ways S Next behind o (expr Call true f) m s mid P → Runs ways S Next behind o (goes_to Expression true f (call_link g (bare_parts (part m ps)))) ps mid e Q →

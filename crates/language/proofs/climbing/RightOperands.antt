@@ -1,5 +1,5 @@
 -- What follows an operator: what a derivation must look like behind the token that was read.
-use Rattle.std.proofs.Common.{◌≡◌, ℕ, Bool, true, false, List, [], ◌∷◌, ◌++◌, refl, sym, ap, subst}
+use Rattle.std.proofs.Common.{◌≡◌, ℕ, Bool, true, false, List, [], ◌∷◌, ◌++◌, refl, sym, ap, ◌∙◌, subst}
 use Rattle.std.specs.Prelude.{codes}
 use Rattle.std.proofs.lemmas.List.{append-nil}
 use Rattle.tokens.specs.declared.token.TokenClass.TheVariants.{Punctuator}
@@ -10,16 +10,18 @@ use Rattle.language.specs.declared.Start.{Start}
 use Rattle.language.specs.declared.Start.TheVariants.{Any}
 use Rattle.tree.specs.declared.kind.Flags.{Flags}
 use Rattle.tree.specs.declared.kind.Pair.{Pair}
-use Rattle.tree.specs.Tree.{Tree, Parts, none, part}
+use Rattle.tree.specs.declared.kind.Kind.{Kind}
+use Rattle.tree.specs.Tree.{Tree, node, Parts, none, part, kind_of, bare_parts}
+use Rattle.language.specs.FirstPart.{lead as lead_kind}
 use Rattle.language.specs.Vocabulary.{is_word_operator}
-use Rattle.language.specs.Pieces.{Role, expr, word, tok, lay, sub, unbroken, space}
+use Rattle.language.specs.Pieces.{Role, expr, tok, lay, sub, unbroken, space}
 use Rattle.language.specs.Token.{Token}
 use Rattle.language.specs.Promises.{IsDetermined, ReadBy}
 use Rattle.language.specs.Grammar.{ways}
 use Rattle.language.specs.Expressions.{arguments, after_number}
 use Rattle.language.specs.Derivation.{Reads, Spells, Runs, done, step, within, token, laid}
 use Rattle.language.proofs.table.Begins.{behind_first, goes_to, number_laid, laid_first, laid_behind, div_allows, taken, retell}
-use Rattle.language.proofs.table.LeftRecursiveWays.{between, bracketed, dotted}
+use Rattle.language.proofs.table.LeftRecursiveWays.{between, bracketed, dotted, property_role}
 
 module _ (S : Type 0) (Next : S → Token → S → Type 0) (behind : S → Token) (det : IsDetermined S Next behind) where
   -- one part and nothing behind it
@@ -54,10 +56,22 @@ module _ (S : Type 0) (Next : S → Token → S → Type 0) (behind : S → Toke
   pub nothing_more : {o : ℕ} {w : List ℕ} {ps : Parts} {s m e : S} {R : List Pair} {t : Token} → Runs ways S Next behind o (unbroken ∷ tok Punctuator w ∷ []) ps s e R → ReadBy S Next behind Div s t m → Nothing ps m e R
   nothing_more {w = w} d r = no_more_runs (taken S Next behind det Div (unbroken ∷ tok Punctuator w ∷ []) refl (div_allows false w) d r).runs
 
-  -- `.`: a name
-  pub selected : {o : ℕ} (y : Rank) (i : Bool) (f : Start) (qs : Parts) (g : Flags) {ps : Parts} {s m e : S} {R : List Pair} {t : Token} →
-      Runs ways S Next behind o (goes_to y i f (after_number qs g) ++ dotted) ps s e R → ReadBy S Next behind Div s t m → OnePart o word ps m e R
-  selected y i f qs g d r = one_part (retell S Next behind (laid_behind y i f dotted (number_laid qs g)) (taken S Next behind det Div (goes_to y i f (after_number qs g) ++ dotted) (laid_first y i f dotted (number_laid qs g)) refl d r).runs)
+  -- where the part alone decides, a property stands as its own kind says
+  pub as_property : {o : ℕ} {ps : Parts} {s e : S} {R : List Pair} (b : OnePart o (property_role (lead_kind (bare_parts ps))) ps s e R) → Spells ways S Next behind o (property_role (kind_of b.operand)) b.operand s e R
+  as_property {o} {s = s} {e = e} {R = R} b = subst (λ k. Spells ways S Next behind o (property_role k) b.operand s e R) (ap (λ v. lead_kind (bare_parts v)) b.parts ∙ of b.operand) b.spelled
+    where
+      of : (n : Tree) → lead_kind (bare_parts (part n none)) ≡ kind_of n
+      of (node k w g st en qs) = refl
+
+  -- `.`: a name, or a private one
+  pub selected : {o : ℕ} (y : Rank) (i : Bool) (f : Start) (k : Kind) (qs : Parts) (g : Flags) {ps : Parts} {s m e : S} {R : List Pair} {t : Token} →
+      Runs ways S Next behind o (goes_to y i f (after_number qs g) ++ dotted k) ps s e R → ReadBy S Next behind Div s t m → OnePart o (property_role k) ps m e R
+  selected y i f k qs g d r = one_part (retell S Next behind (laid_behind y i f (dotted k) (number_laid qs g)) (taken S Next behind det Div (goes_to y i f (after_number qs g) ++ dotted k) (laid_first y i f (dotted k) (number_laid qs g)) refl d r).runs)
+
+  -- the only property there, whatever its kind
+  pub record PropertyFound (o : ℕ) (s e : S) (n : Tree) (P : List Pair) : Type 0 where
+    pub spelled : Spells ways S Next behind o (property_role (kind_of n)) n s e P
+    pub only : (o' : ℕ) (e' : S) (n' : Tree) (P' : List Pair) → Spells ways S Next behind o' (property_role (kind_of n')) n' s e' P' → (e' ≡ e) × (n' ≡ n) × (P' ≡ P)
 
   -- `[`: an expression, and `]`
   pub record Bracketed (o : ℕ) (ps : Parts) (m e : S) (R : List Pair) : Type 0 where

@@ -23,7 +23,7 @@ use Rattle.language.specs.Token.{Token}
 use Rattle.language.specs.Edges.{edge, last_edge, edge_as_written}
 use Rattle.language.specs.Expressions.{sequence}
 use Rattle.language.specs.Continuations.{operation, rank_made_by, holds, stops_at, stops}
-use Rattle.language.specs.Promises.{IsDetermined, ReadBy, Stops, Found, Absent, later_parts, LaterStop, FoundLater}
+use Rattle.language.specs.Promises.{IsDetermined, ReadBy, Stops, Found, Absent, later_parts, LaterStop, FoundLater, Apart}
 use Rattle.language.specs.Grammar.{ways}
 use Rattle.language.specs.Derivation.{Reads, Spells, Runs, done, step, within, token, laid, Placed}
 use Rattle.language.proofs.climbing.Spine.{whole}
@@ -155,15 +155,20 @@ module _ (S : Type 0) (Next : S → Token → S → Type 0) (behind : S → Toke
   pub record Listing (o : ℕ) (i : Bool) (s : S) (qs : Parts) (k : S) (R : List Pair) : Type 0 where
     pub runs : Runs ways S Next behind o (later_parts i qs) qs s k R
     pub ends : (t : Token) (m : S) → ReadBy S Next behind Div k t m → IsTrue (stops Assignment i (last_edge qs) (behind k) t)
+    pub apart : Apart S Next behind k
     pub edge_is : last_edge qs ≡ Closed → ⊥
     pub leads : (o' : ℕ) (e' : S) (ps' : Parts) (P' : List Pair) → Runs ways S Next behind o' (later_parts i ps') ps' s e' P' → LaterStop S Next behind i ps' e' → Further o' i e' ps' P' qs k R
 
   -- an item before a comma, or the last one, can't go on
   item_stops : {o : ℕ} (i : Bool) {k e : S} {P : List Pair} (u : Tree) (rest : Parts) → Runs ways S Next behind o (comma_pieces i Any rest) rest k e P → LaterStop S Next behind i (part u rest) e → Stops S Next behind Assignment i u k
-  item_stops i {k = k} {e = e} u none d st = λ t m r.
+  item_stops i {k = k} {e = e} u none d st =
       let end = run_none S Next behind d in
-      stops_assignment i (edge_as_written (edge u) (behind k)) t (rank_made_by (operation t) t.after_break)
-      (subst (λ c. stops Expression i (edge u) (behind c) t ≡ true) (sym end.place) (st t m (subst (λ c. ReadBy S Next behind Div c t m) end.place r)))
+      record {
+        before = λ t m r.
+            stops_assignment i (edge_as_written (edge u) (behind k)) t (rank_made_by (operation t) t.after_break)
+            (subst (λ c. stops Expression i (edge u) (behind c) t ≡ true) (sym end.place) (st.before t m (subst (λ c. ReadBy S Next behind Div c t m) end.place r)));
+        apart = subst (Apart S Next behind) (sym end.place) st.apart;
+      }
   item_stops i u (gap rest) d st = absurd (run_never S Next behind d)
   item_stops i u (part n rest) d st = stops_before S Next behind det Assignment i u (run_token S Next behind d).reads refl refl (λ c b. refl)
 
@@ -190,7 +195,8 @@ module _ (S : Type 0) (Next : S → Token → S → Type 0) (behind : S → Toke
   pub listing_first : {o : ℕ} {i : Bool} {s k : S} {u : Tree} {U : List Pair} → Found S Next behind o Assignment i Any s k u U → Listing o i s (part u none) k U
   listing_first {o} {i} {s} {k} {u} {U} found = record {
     runs = subst (λ v. Runs ways S Next behind o (later_parts i (part u none)) (part u none) s k v) (append-nil U) (within found.spelled done);
-    ends = found.stopped;
+    ends = found.stopped.before;
+    apart = found.stopped.apart;
     edge_is = (edged S Next behind det found.spelled).ends;
     leads = λ o' e' ps' P' d st.
         let w = first_item ps' d st in
@@ -218,7 +224,7 @@ module _ (S : Type 0) (Next : S → Token → S → Type 0) (behind : S → Toke
     runs : Runs ways S Next behind o (comma_pieces i Any rest) rest to e more
 
   joined_stop : (i : Bool) (qs ps : Parts) (n : Tree) (rest : Parts) {e : S} → ps ≡ join qs (part n rest) → LaterStop S Next behind i ps e → LaterStop S Next behind i (part n rest) e
-  joined_stop i qs ps n rest {e} h st t m r = subst (λ c. stops Expression i c (behind e) t ≡ true) (ap last_edge h ∙ last_joined qs n rest) (st t m r)
+  joined_stop i qs ps n rest {e} h st = record { before = λ t m r. subst (λ c. stops Expression i c (behind e) t ≡ true) (ap last_edge h ∙ last_joined qs n rest) (st.before t m r); apart = st.apart }
 
   module _ {i : Bool} {s k x : S} {qs : Parts} {R : List Pair} {t : Token} (r : ReadBy S Next behind Div k t x) (op : operation t ≡ op_comma) where
     next_item : {o o' : ℕ} {e : S} {ps : Parts} {P : List Pair} → Listing o i s qs k R → LaterStop S Next behind i ps e → Further o' i e ps P qs k R → NextItem o' i x e ps P qs R
@@ -228,7 +234,7 @@ module _ (S : Type 0) (Next : S → Token → S → Type 0) (behind : S → Toke
         of none d parts all =
             let end = run_none S Next behind d in
             let same : ps ≡ qs = parts ∙ join-none qs in
-            let stopped : stops Expression i (last_edge qs) (behind e) t ≡ true = subst (λ c. stops Expression i (last_edge c) (behind e) t ≡ true) same (st t x (subst (λ c. ReadBy S Next behind Div c t x) end.place r)) in
+            let stopped : stops Expression i (last_edge qs) (behind e) t ≡ true = subst (λ c. stops Expression i (last_edge c) (behind e) t ≡ true) same (st.before t x (subst (λ c. ReadBy S Next behind Div c t x) end.place r)) in
             let at : stops_at Expression i (edge_as_written (last_edge qs) (behind e)) t (Some Expression) ≡ true = subst (λ v. stops_at Expression i (edge_as_written (last_edge qs) (behind e)) t (rank_made_by v t.after_break) ≡ true) op stopped in
             let sign = reads_comma S Next behind r.next op in
             absurd (refused (is t.text "in") i (holds (edge_as_written (last_edge qs) (behind e)) Expression) (ap (λ w. is w "in") sign.text) (open_edge (last_edge qs) (behind e) listing.edge_is) at)
@@ -259,7 +265,8 @@ module _ (S : Type 0) (Next : S → Token → S → Type 0) (behind : S → Toke
     pub listing_more : {o : ℕ} {u : Tree} {to : S} {U : List Pair} → Listing o i s qs k R → Found S Next behind o Assignment i Any x to u U → Listing o i s (push qs u) to (R ++ U)
     listing_more {o} {u} {to} {U} listing found = record {
       runs = snoc qs listing.runs;
-      ends = λ t m r. subst (λ c. stops Assignment i c (behind to) t ≡ true) (sym (last_push qs u)) (found.stopped t m r);
+      ends = λ t m r. subst (λ c. stops Assignment i c (behind to) t ≡ true) (sym (last_push qs u)) (found.stopped.before t m r);
+      apart = found.stopped.apart;
       edge_is = λ e. (edged S Next behind det found.spelled).ends (sym (last_push qs u) ∙ e);
       leads = λ o' e' ps' P' d st.
           let w = next_item listing st (listing.leads o' e' ps' P' d st) in
@@ -297,7 +304,7 @@ module _ (S : Type 0) (Next : S → Token → S → Type 0) (behind : S → Toke
   pub listing_stop : {o : ℕ} {i : Bool} {s k : S} {qs : Parts} {R : List Pair} → Listing o i s qs k R → ((t : Token) (x : S) → ReadBy S Next behind Div k t x → operation t ≡ op_comma → ⊥) → FoundLater S Next behind o i s k qs R
   listing_stop {o} {i} {s} {k} {qs} {R} listing no_comma = record {
     runs = listing.runs;
-    stopped = λ t x r. stops_expression i (edge_as_written (last_edge qs) (behind k)) t (rank_made_by (operation t) t.after_break) (λ e. no_comma t x r (comma_symbol t (operation t) refl e)) (listing.ends t x r);
+    stopped = record { before = λ t x r. stops_expression i (edge_as_written (last_edge qs) (behind k)) t (rank_made_by (operation t) t.after_break) (λ e. no_comma t x r (comma_symbol t (operation t) refl e)) (listing.ends t x r); apart = listing.apart };
     only = λ o' e' ps' P' d st. (let w = listing.leads o' e' ps' P' d st in of w.rest w.runs w.parts w.all);
   }
     where
@@ -336,7 +343,7 @@ module _ (S : Type 0) (Next : S → Token → S → Type 0) (behind : S → Toke
               later = part u ps;
               pairs = W;
               runs = subst (λ k. Runs ways S Next behind o' (later_parts i (part u ps)) (part u ps) k e W) same.1 (run_laid S Next behind comma.runs);
-              stopped = λ t1 x1 r1. subst (λ k. stops Expression i k (behind e) t1 ≡ true) (ap edge tree) (st t1 x1 r1);
+              stopped = record { before = λ t1 x1 r1. subst (λ k. stops Expression i k (behind e) t1 ≡ true) (ap edge tree) (st.before t1 x1 r1); apart = st.apart };
               tree = tree;
               all = all;
               places = places;

@@ -9,10 +9,10 @@ use Rattle.language.specs.declared.Start.{Start}
 use Rattle.language.specs.declared.Start.TheVariants.{Any}
 use Rattle.tree.specs.declared.kind.Pair.{Pair}
 use Rattle.tree.specs.Tree.{Tree, Parts, part, parts_of}
-use Rattle.language.specs.Pieces.{Role, expr, chain_part, PieceOf, sub}
+use Rattle.language.specs.Pieces.{key, word, Role, expr, chain_part, PieceOf, sub}
 use Rattle.language.specs.Token.{Token}
 use Rattle.language.specs.Grammar.{ways}
-use Rattle.language.specs.Derivation.{Among, pair_of, Reads, Spells, direct, grouped, Runs, step, within, Placed}
+use Rattle.language.specs.Derivation.{reserved_key, reserved_word, Among, pair_of, Reads, Spells, direct, grouped, Runs, step, within, Placed}
 
 -- it begins with a part that is read by the same loop
 abbrev pub is_led : List (PieceOf Role) → Bool
@@ -34,6 +34,8 @@ led_on_spine _ rest h = absurd (false≢true h)
 module _ (S : Type 0) (Next : S → Token → S → Type 0) (behind : S → Token) where
   -- what a spine begins with: a group, or a way that begins with no such part
   pub data Core : ℕ → Role → Tree → S → S → List Pair → Type 0 where
+    core_key : {o : ℕ} {n : Tree} {s e : S} {P : List Pair} → Spells ways S Next behind o key n s e P → Core o key n s e P
+    core_word : {o : ℕ} {n : Tree} {s e : S} {P : List Pair} → Spells ways S Next behind o word n s e P → Core o word n s e P
     group : {o : ℕ} {y : Rank} {i : Bool} {f : Start} {n : Tree} {left right : Token} {s m l e : S} {P : List Pair} →
         Reads S Next behind Punctuator (codes "(") s left m → Spells ways S Next behind o (expr Expression true Any) n m l P →
         Reads S Next behind Punctuator (codes ")") l right e → Core (suc o) (expr y i f) n s e (pair_of left right ∷ P)
@@ -76,6 +78,8 @@ module _ (S : Type 0) (Next : S → Token → S → Type 0) (behind : S → Toke
   mutual
     pub spine_of : {o : ℕ} {a : Role} {n : Tree} {s e : S} {P : List Pair} → Spells ways S Next behind o a n s e P → Spine o a n s e P
     spine_of (grouped p d q) = as_plain (group p d q)
+    spine_of (reserved_key r k p) = as_plain (core_key (reserved_key r k p))
+    spine_of (reserved_word r k p) = as_plain (core_word (reserved_word r k p))
     spine_of (direct qs h pl d) = spine_way qs h pl refl d
 
     spine_way : {o : ℕ} {a : Role} {n : Tree} {s e : S} {P : List Pair} {ps : Parts} (qs : List (PieceOf Role)) →

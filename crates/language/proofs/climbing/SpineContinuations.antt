@@ -15,7 +15,7 @@ use Rattle.language.specs.declared.Start.{Start}
 use Rattle.tree.specs.declared.kind.Flags.{Flags}
 use Rattle.tree.specs.declared.kind.Pair.{Pair}
 use Rattle.tree.specs.Tree.{Tree, node, Parts, none, part, gap, parts_of, bare, bare_parts}
-use Rattle.language.specs.FirstPart.{others}
+use Rattle.language.specs.FirstPart.{lead as lead_kind, others}
 use Rattle.language.specs.Vocabulary.{is_word_operator, takes, Operator, op_binary, op_update, op_comma, op_template, op_none, operator_of}
 use Rattle.language.specs.Pieces.{Role, expr, chain_part, tagged_quasi, template_element, PieceOf, sub, at, is_none}
 use Rattle.language.specs.Token.{Token}
@@ -115,7 +115,7 @@ module _ (S : Type 0) (Next : S → Token → S → Type 0) (behind : S → Toke
   led_read {w = w} {rest = rest} (led_postfix k op ta p tk b e) h d = by_token rest (ap first_of e) (div_allows false w) (steps_sign w op) d
   led_read {y} {i} {f} {ps = ps} (led_sequence k c tk b e) h d = comma_runs y i f (others ps) c (retell S Next behind e d)
   led_read {rest = rest} (led_conditional k tk b e) h d = by_token rest (ap first_of e) refl refl d
-  led_read {y} {i} {f} {g = g} {ps = ps} {rest = rest} (led_dot k o c s tk b e) h d = by_token rest (ap first_of e ∙ laid_first y i f dotted (number_laid ps g)) refl refl d
+  led_read {y} {i} {f} {g = g} {ps = ps} {rest = rest} (led_dot k o c s tk b e) h d = by_token rest (ap first_of e ∙ laid_first y i f (dotted (lead_kind (others ps))) (number_laid ps g)) refl refl d
   led_read {y} {i} {f} {g = g} {ps = ps} {rest = rest} (led_index k o c s tk b e) h d = by_token rest (ap first_of e ∙ laid_first y i f bracketed (number_laid ps g)) refl refl d
   led_read {rest = rest} (led_call k o s tk b e) h d = by_token rest (ap first_of e) refl refl d
   led_read (led_tag k tk b e) h d = tag_runs (retell S Next behind e d)

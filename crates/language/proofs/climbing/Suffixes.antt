@@ -16,21 +16,21 @@ use Rattle.tree.specs.declared.kind.Pair.{Pair}
 use Rattle.tree.specs.Tree.{Tree, node, Parts, none, part, gap, height, kind_of, bare, bare_parts, plain}
 use Rattle.tree.specs.Uses.{used_flags, has_text}
 use Rattle.tree.proofs.Lean.{lean_flags, lean_text}
-use Rattle.language.specs.FirstPart.{lead as lead_kind}
+use Rattle.language.specs.FirstPart.{lead as lead_kind, others}
 use Rattle.language.specs.Vocabulary.{takes, takes_number, precedence, is_target, is_super, Operator, op_update, op_dot}
-use Rattle.language.specs.Pieces.{Role, expr, word, PieceOf, tok, unbroken, is_tight, listed, argument, sign}
+use Rattle.language.specs.Pieces.{Role, expr, PieceOf, tok, unbroken, is_tight, listed, argument, sign}
 use Rattle.language.specs.Token.{Token}
 use Rattle.language.specs.Edges.{edge}
 use Rattle.language.specs.Expressions.{expressions, after_number}
 use Rattle.language.specs.Continuations.{operation, rank_made_by, stops}
-use Rattle.language.specs.Promises.{IsDetermined, ReadBy, Stops, Absent, FoundAt}
+use Rattle.language.specs.Promises.{IsDetermined, ReadBy, Stops, Absent}
 use Rattle.language.specs.Grammar.{ways, spellings}
-use Rattle.language.specs.Derivation.{Among, Spells, direct, grouped, Placed}
+use Rattle.language.specs.Derivation.{reserved_key, reserved_word, Among, Spells, direct, grouped, Placed}
 use Rattle.language.proofs.table.Begins.{retell, goes_to}
 use Rattle.language.proofs.table.ViewIsComplete.{way_of}
 use Rattle.language.proofs.table.FixedPieces.{all_done, one_more, same_pieces, fixed_join, fixed_listed}
-use Rattle.language.proofs.table.LeftRecursiveWays.{callee_rank, dotted, Led, led_postfix, led_dot}
-use Rattle.language.proofs.climbing.RightOperands.{nothing_more, selected}
+use Rattle.language.proofs.table.LeftRecursiveWays.{callee_rank, property_role, dotted, Led, led_postfix, led_dot}
+use Rattle.language.proofs.climbing.RightOperands.{nothing_more, selected, as_property, PropertyFound}
 use Rattle.language.proofs.table.OperatorTokens.{reads_dot, reads_step}
 use Rattle.language.proofs.climbing.OperatorNodes.{kind_bare, postfix_grows, dot_grows}
 use Rattle.language.proofs.table.Reaches.{is_loose}
@@ -124,6 +124,8 @@ module _ (S : Type 0) (Next : S → Token → S → Type 0) (behind : S → Toke
   -- what stands at the position of an expression is no `super`
   pub no_super : {o : ℕ} {a : Role} {n : Tree} {s e : S} {P : List Pair} → Spells ways S Next behind o a n s e P → NoSuper a n
   no_super (grouped p d q) = no_super d
+  no_super (reserved_key r k p) = tt
+  no_super (reserved_word r k p) = tt
   no_super {a = expr y i f} {n = n} (direct qs h pl d) = not_super y i f n h
   no_super {a = _} (direct qs h pl d) = tt
 
@@ -216,7 +218,7 @@ module _ (S : Type 0) (Next : S → Token → S → Type 0) (behind : S → Toke
     computed : g.computed ≡ false
     head : h ≡ callee_rank y
     stands : IsTrue (takes y Member)
-    rest_is : rest ≡ goes_to y i f (after_number ps g) ++ dotted
+    rest_is : rest ≡ goes_to y i f (after_number ps g) ++ dotted (lead_kind (others ps))
 
   dot_led : {y : Rank} {i : Bool} {f : Start} {k : Kind} {w : List ℕ} {g : Flags} {ps : Parts} {h : Rank} {j : Bool} {f' : Start} {rest : List (PieceOf Role)} → Led y i f k w g ps (expr h j f') rest op_dot → DotLed y i f k g ps h rest
   dot_led (led_dot k o c s tk b e) = record { kind = k; optional = o; computed = c; head = rank_is b; stands = tk; rest_is = e }
@@ -227,7 +229,7 @@ module _ (S : Type 0) (Next : S → Token → S → Type 0) (behind : S → Toke
     pub name : Tree
     pub to : S
     pub pairs : List Pair
-    pub spelled : Spells ways S Next behind o word name x to pairs
+    pub spelled : Spells ways S Next behind o (property_role (kind_of name)) name x to pairs
     pub low : height name ≤ height n - 1
     pub leads : (st en : ℕ) (u : Tree) (to' : S) (U : List Pair) → name ≡ u → to ≡ to' → pairs ≡ U → Placed S Next behind (expr y i f) (node MemberExpression [] plain st en (part m (part u none))) s0 to' →
         Leads S Next behind det o s0 y i f n e P (suffix_rank c) (node MemberExpression [] plain st en (part m (part u none))) to' (Q ++ U)
@@ -237,7 +239,7 @@ module _ (S : Type 0) (Next : S → Token → S → Type 0) (behind : S → Toke
     dot_on {c = c} st v =
         let on = led_on S Next behind det r is_op (λ q. cc) (goes_where_not S Next behind det y i r st goes) v.spelled v.grows in
         let led = dot_led on.led in
-        let b = selected S Next behind det on.y on.i on.f (bare_parts (part m on.ps)) on.g (retell S Next behind led.rest_is on.runs) r in
+        let b = selected S Next behind det on.y on.i on.f (lead_kind (bare_parts on.ps)) (bare_parts (part m on.ps)) on.g (retell S Next behind led.rest_is on.runs) r in
         let flags : on.g ≡ plain = lean_flags (bare (node on.k on.w on.g on.st on.en (part m on.ps))) on.lean ∙ ap (λ v. used_flags v on.g) led.kind ∙ member_flags on.g false led.optional led.computed in
         let text : on.w ≡ [] = lean_text (bare (node on.k on.w on.g on.st on.en (part m on.ps))) on.lean (ap has_text led.kind) in
         let head : IsTrue (takes (callee_rank on.y) c) = subst (λ k. IsTrue (takes k c)) led.head v.fits in
@@ -248,13 +250,13 @@ module _ (S : Type 0) (Next : S → Token → S → Type 0) (behind : S → Toke
           name = b.operand;
           to = on.to;
           pairs = on.more;
-          spelled = b.spelled;
+          spelled = as_property S Next behind det b;
           low = omega arith;
           leads = λ st en u to' U name place pairs places. leads_on (suffix_rank c) on led.kind text flags (b.parts ∙ ap (λ k. part k none) name) place pairs places (suffix_fits on.y c head led.stands);
         }
 
     -- `.` and a name
-    pub climb_dot : {o : ℕ} {f : Start} {c : Rank} {Q : List Pair} {u : Tree} {to : S} {U : List Pair} {st en : ℕ} → Climbing S Next behind det o y i f c s0 m mid Q → IsTrue (takes Call c) → FoundAt S Next behind o word x to u U →
+    pub climb_dot : {o : ℕ} {f : Start} {c : Rank} {Q : List Pair} {u : Tree} {to : S} {U : List Pair} {st en : ℕ} → Climbing S Next behind det o y i f c s0 m mid Q → IsTrue (takes Call c) → PropertyFound S Next behind det o x to u U →
         Placed S Next behind (expr y i f) (node MemberExpression [] plain st en (part m (part u none))) s0 to → Climbing S Next behind det o y i f (suffix_rank c) s0 (node MemberExpression [] plain st en (part m (part u none))) to (Q ++ U)
     climb_dot {c = c} {u = u} {to = to} {U = U} {st = st} {en = en} climb fits found places =
         let taken : IsTrue (takes y Member) = symbol_taken y i m mid t Member goes is_op (λ n c h. some_same h) in

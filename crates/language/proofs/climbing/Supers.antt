@@ -7,7 +7,7 @@ use Rattle.tokens.specs.declared.token.Goal.{Goal}
 use Rattle.tokens.specs.declared.token.Goal.TheVariants.{Div}
 use Rattle.tokens.specs.Goals.{allows}
 use Rattle.tree.specs.declared.kind.Kind.{Kind}
-use Rattle.tree.specs.declared.kind.Kind.TheVariants.{Super}
+use Rattle.tree.specs.declared.kind.Kind.TheVariants.{Super, Identifier}
 use Rattle.language.specs.declared.Rank.{Rank}
 use Rattle.language.specs.declared.Rank.TheVariants.{Call, Member, Primary}
 use Rattle.language.specs.declared.Start.{Start}
@@ -16,13 +16,13 @@ use Rattle.tree.specs.declared.kind.Pair.{Pair}
 use Rattle.tree.specs.Tree.{Tree, node, Parts, none, part, bare, bare_parts, plain}
 use Rattle.tree.specs.Uses.{is_lean, used_flags, has_text}
 use Rattle.tree.proofs.Lean.{lean_flags, lean_text}
-use Rattle.language.specs.FirstPart.{others}
-use Rattle.language.specs.Vocabulary.{takes, Operator, op_dot, op_index, op_call}
-use Rattle.language.specs.Pieces.{Role, expr, chain_part, base, word, PieceOf, tok, sub, put, sign, at, fixed, Spelling}
+use Rattle.language.specs.FirstPart.{others, lead as lead_kind}
+use Rattle.language.specs.Vocabulary.{takes, Operator, op_dot, op_index, op_call, is_private}
+use Rattle.language.specs.Pieces.{Role, expr, chain_part, base, word, PieceOf, tok, sub, put, sign, at, fixed, Spelling, private_name}
 use Rattle.language.specs.Token.{Token}
-use Rattle.language.specs.Expressions.{arguments, selector}
+use Rattle.language.specs.Expressions.{arguments, selector, property_name}
 use Rattle.language.specs.Continuations.{of_class, operation}
-use Rattle.language.specs.ExpressionStart.{with_super, no_start, expression_start}
+use Rattle.language.specs.ExpressionStart.{with_super, no_start, expression_start, expression_start_by}
 use Rattle.language.specs.Promises.{IsDetermined, ReadBy}
 use Rattle.language.specs.Grammar.{ways, spellings}
 use Rattle.language.specs.Derivation.{first, Reads, Spells, direct, Runs, done, step, within, token, Placed, placed}
@@ -39,9 +39,14 @@ use Rattle.language.proofs.table.OperatorTokens.{reads_dot, reads_index, reads_c
 use Rattle.language.proofs.climbing.BinaryTurns.{same_node, replaced, same_places}
 use Rattle.language.proofs.climbing.OperatorLoop.{Climbing}
 use Rattle.language.proofs.climbing.Suffixes.{computed_flags, arguments_fixed, member_flags, call_flags}
-use Rattle.language.proofs.climbing.Chains.{Link, on_dot, on_index, on_call, FoundLink}
+use Rattle.language.proofs.climbing.Chains.{Link, on_dot, on_index, on_call, FoundLink, property_pieces}
 use Rattle.language.proofs.climbing.FirstTurn.{climb_start}
-use Rattle.language.proofs.climbing.Leaves.{by_name}
+use Rattle.language.proofs.climbing.Leaves.{by_name, word_form}
+use Rattle.language.proofs.climbing.RightOperands.{one_part}
+
+-- behind the point stands no private name
+abbrev pub Unprivate : Operator → Parts → Type 0
+Unprivate z ps = z ≡ op_dot → is_private (lead_kind (bare_parts ps)) ≡ false
 
 -- what follows `super`, and the symbol of the node
 pub data SuperLink : Operator → Rank → Type 0 where
@@ -91,14 +96,14 @@ module _ (S : Type 0) (Next : S → Token → S → Type 0) (behind : S → Toke
       let x : Spelling = at Primary (tok IdentifierName (codes "super") ∷ []) in
       direct (Rattle.language.proofs.lower_bound.Domination.settled base x) (way_from base (super_node t e) x refl first refl) (placed h.next refl) (step (token h) done)
 
-  super_spells : {z : Operator} {c : Rank} {K : Kind} {G : Flags} {pieces : Parts → List (PieceOf Role)} {o : ℕ} {f : Start} {s0 x0 x1 e : S} {t v : Token} {st en : ℕ} {ps : Parts} {P : List Pair} → SuperLink z c → Link z K G pieces → operation v ≡ z → (h : Rank) (j : Bool) →
+  super_spells : {z : Operator} {c : Rank} {K : Kind} {G : Flags} {pieces : Parts → List (PieceOf Role)} {o : ℕ} {f : Start} {s0 x0 x1 e : S} {t v : Token} {st en : ℕ} {ps : Parts} {P : List Pair} → SuperLink z c → Link z K G pieces → Unprivate z ps → operation v ≡ z → (h : Rank) (j : Bool) →
       Reads S Next behind IdentifierName (codes "super") s0 t x0 → Next x0 v x1 → IsTrue (takes h c) → Runs ways S Next behind o (pieces ps) ps x1 e P → Placed S Next behind (expr h j f) (node K [] G st en (part (super_node t x0) ps)) s0 e →
       Spells ways S Next behind o (expr h j f) (node K [] G st en (part (super_node t x0) ps)) s0 e P
-  super_spells {f = f} super_dot on_dot op h j reads nx tk d pl =
-      spell S Next behind (at Member (put base ∷ selector plain)) (super_member refl refl) refl tk refl (starts_led f (fixed base) (selector plain)) pl (within (base_spelled reads) (step (token (reads_dot S Next behind nx op)) d))
-  super_spells {f = f} super_index on_index op h j reads nx tk d pl =
-      spell S Next behind (at Member (put base ∷ selector computed_flags)) (super_member refl refl) refl tk refl (starts_led f (fixed base) (selector computed_flags)) pl (within (base_spelled reads) (step (token (reads_index S Next behind nx op)) d))
-  super_spells {f = f} {ps = ps} super_arguments on_call op h j reads nx tk d pl =
+  super_spells {f = f} super_dot on_dot free op h j reads nx tk d pl =
+      spell S Next behind (at Member (put base ∷ selector plain Identifier)) (super_member refl refl) refl tk refl (starts_led f (fixed base) (selector plain Identifier)) pl (within (base_spelled reads) (step (token (reads_dot S Next behind nx op)) (retell S Next behind (ap (λ b. sub (cond b private_name word) ∷ []) (free refl)) d)))
+  super_spells {f = f} super_index on_index free op h j reads nx tk d pl =
+      spell S Next behind (at Member (put base ∷ selector computed_flags Identifier)) (super_member refl refl) refl tk refl (starts_led f (fixed base) (selector computed_flags Identifier)) pl (within (base_spelled reads) (step (token (reads_index S Next behind nx op)) d))
+  super_spells {f = f} {ps = ps} super_arguments on_call free op h j reads nx tk d pl =
       spell S Next behind (at Call (put base ∷ arguments (bare_parts ps))) (super_call refl refl) refl tk refl (starts_led f (fixed base) (arguments (bare_parts ps))) pl
       (within (base_spelled reads) (step (token (reads_call S Next behind nx op)) (retell S Next behind (sym (arguments_fixed h j f (bare_parts ps))) d)))
 
@@ -156,16 +161,23 @@ module _ (S : Type 0) (Next : S → Token → S → Type 0) (behind : S → Toke
           runs = subst (λ x. Runs ways S Next behind o (pieces rest) rest there.mid mid x) (sym (pairs ∙ ap (λ x. x ++ more) u.pairs)) (retell S Next behind same_qs there.runs);
         }
 
+    -- what stands behind the point is no private name
+    by_word : {o : ℕ} {ps : Parts} {s e : S} {P : List Pair} → Runs ways S Next behind o (tok Punctuator (codes ".") ∷ sub word ∷ []) ps s e P → sub word ∷ [] ≡ property_pieces ps
+    by_word d =
+        let b = one_part S Next behind det (run_token S Next behind d).runs in
+        let w = word_form S Next behind det b.spelled in
+        sym (ap property_pieces (b.parts ∙ ap (λ n. part n none) w.tree))
+
     super_core : {o : ℕ} {h : Rank} {j : Bool} {f : Start} {m : Tree} {mid : S} {Q : List Pair} → Cored S Next behind det o h j f m s0 mid Q with_super → SuperCore o h j f m mid Q
     super_core {o} {h} {j} {f} {m} {mid} {Q} (in_way {k = k} {w = w} {g = g} {st = st} {en = en} {ps = ps} tree (head_super_member kind opt sup tk q) lean pl d) = of g.computed refl
       where
         of : (b : Bool) → g.computed ≡ b → SuperCore o h j f m mid Q
         of true comp =
-            let a = run_part S Next behind (retell S Next behind (q ∙ ap (λ v. sub base ∷ goes_to h j f (cond v Rattle.language.specs.Expressions.in_brackets (sign "." ∷ put word ∷ []))) comp) d) in
+            let a = run_part S Next behind (retell S Next behind (q ∙ ap (λ v. sub base ∷ goes_to h j f (cond v Rattle.language.specs.Expressions.in_brackets (sign "." ∷ property_name Identifier ∷ []))) comp) d) in
             super_made super_index on_index tk tree lean kind refl (member_flags S Next behind det g true opt comp) pl a.parts a.pairs a.spelled a.runs refl refl refl
         of false comp =
-            let a = run_part S Next behind (retell S Next behind (q ∙ ap (λ v. sub base ∷ goes_to h j f (cond v Rattle.language.specs.Expressions.in_brackets (sign "." ∷ put word ∷ []))) comp) d) in
-            super_made super_dot on_dot tk tree lean kind refl (member_flags S Next behind det g false opt comp) pl a.parts a.pairs a.spelled a.runs refl refl refl
+            let a = run_part S Next behind (retell S Next behind (q ∙ ap (λ v. sub base ∷ goes_to h j f (cond v Rattle.language.specs.Expressions.in_brackets (sign "." ∷ property_name Identifier ∷ []))) comp) d) in
+            super_made super_dot on_dot tk tree lean kind refl (member_flags S Next behind det g false opt comp) pl a.parts a.pairs a.spelled a.runs refl refl (by_word a.runs)
     super_core {o} {h} {j} {f} {m} {mid} {Q} (in_way {k = k} {w = w} {g = g} {st = st} {en = en} {ps = ps} tree (head_super_call kind opt sup tk q) lean pl d) =
         let a = run_part S Next behind (retell S Next behind q d) in
         super_made super_arguments on_call tk tree lean kind refl (call_flags S Next behind det g opt) pl a.parts a.pairs a.spelled (retell S Next behind (ap (λ v. goes_to h j f (arguments (others (bare_parts v)))) a.parts) a.runs) refl refl (arguments_fixed h j f (bare_parts a.rest))
@@ -207,10 +219,10 @@ module _ (S : Type 0) (Next : S → Token → S → Type 0) (behind : S → Toke
           }
 
       -- a member of `super`, or its call
-      pub climb_super : {o : ℕ} {y : Rank} {i : Bool} {f : Start} {K : Kind} {G : Flags} {pieces : Parts → List (PieceOf Role)} {ps : Parts} {to : S} {U : List Pair} {st en : ℕ} → t.class ≡ IdentifierName → t.text ≡ codes "super" → IsTrue (takes y c) →
+      pub climb_super : {o : ℕ} {y : Rank} {i : Bool} {f : Start} {K : Kind} {G : Flags} {pieces : Parts → List (PieceOf Role)} {ps : Parts} {to : S} {U : List Pair} {st en : ℕ} → t.class ≡ IdentifierName → t.text ≡ codes "super" → IsTrue (takes y c) → Unprivate z ps →
           FoundLink S Next behind det o z x1 to K G pieces ps U → Placed S Next behind (expr y i f) (node K [] G st en (part (super_node t x0) ps)) s0 to → Climbing S Next behind det o y i f c s0 (node K [] G st en (part (super_node t x0) ps)) to U
-      climb_super {o} {f = f} {K = K} {G = G} {ps = ps} {to = to} {U = U} {st = st} {en = en} class text low found places = climb_start S Next behind det low
-          (λ h j tk lo. super_spells link found.link is_op h j (super_reads class text) read.next tk found.runs (replaced S Next behind det places))
+      climb_super {o} {f = f} {K = K} {G = G} {ps = ps} {to = to} {U = U} {st = st} {en = en} class text low free found places = climb_start S Next behind det low
+          (λ h j tk lo. super_spells link found.link free is_op h j (super_reads class text) read.next tk found.runs (replaced S Next behind det places))
           (λ o' n e P h j m mid Q b.
           let u = super_on b.core in
           let same = found.only o' u.K u.G u.pieces u.ps mid Q u.is_link u.runs in
@@ -228,3 +240,9 @@ module _ (S : Type 0) (Next : S → Token → S → Type 0) (behind : S → Toke
       of (expr h j g) on c = unopened (core_by S Next behind det r op c)
       of (chain_part g) on c = no_spine_core S Next behind det c
       of _ on c = false≢true on
+
+  -- nor with `=>`
+  pub no_arrow_begins : {y : Rank} {i : Bool} {f : Start} {o : ℕ} {n : Tree} {s e : S} {P : List Pair} → Spells ways S Next behind o (expr y i f) n s e P → (v : Token) (k : S) → Reads S Next behind Punctuator (codes "=>") s v k → ⊥
+  no_arrow_begins d v k h =
+      let al : IsTrue (allows Goal.RegExp v.class v.text) = subst (λ c. IsTrue (allows Goal.RegExp c v.text)) (sym h.class) (subst (λ c. IsTrue (allows Goal.RegExp Punctuator c)) (sym h.text) refl) in
+      none_begins (record { next = h.next; allowed = al }) (ap (λ c. expression_start_by c v.text) h.class ∙ ap (expression_start_by Punctuator) h.text) d

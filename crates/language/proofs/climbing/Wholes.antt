@@ -18,7 +18,7 @@ use Rattle.language.specs.Vocabulary.{takes, precedence}
 use Rattle.language.specs.Pieces.{expr, Spelling, at, sub, left, is_none}
 use Rattle.language.specs.Token.{Token}
 use Rattle.language.specs.Expressions.{sequence}
-use Rattle.language.specs.Promises.{IsDetermined, Found}
+use Rattle.language.specs.Promises.{IsDetermined}
 use Rattle.language.specs.Grammar.{ways, spellings}
 use Rattle.language.specs.Derivation.{Spells, direct, grouped, Runs, Placed, placed}
 use Rattle.language.specs.Chosen as chosen
@@ -48,7 +48,7 @@ high_takes _ h = refl
 
 form_stood : {k : Kind} {w : List ℕ} {g : Flags} {ps : Parts} {p : Production} → Chosen w g ps (expr Expression true Any) k p → Stood k ps (spelling_of (form p) w g ps)
 form_stood (chosen.several h) = as_several refl refl h
-form_stood {w = w} (chosen.binary {z = z} op) = let v = binding w op in at_assignment (high_takes z v.least)
+form_stood {w = w} (chosen.binary {z = z} p op) = let v = binding w op in at_assignment (high_takes z v.least)
 form_stood {w = w} (chosen.logical {z = z} op) = let v = binding w op in at_assignment (high_takes z v.least)
 form_stood (chosen.of_statement s c) = elim s [ ]
 form_stood (chosen.of_declaration s c) = elim s [ ]

@@ -13,11 +13,11 @@ use Rattle.tree.proofs.Lean.{lean_flags, lean_text}
 use Rattle.language.specs.declared.Rank.{Rank}
 use Rattle.language.specs.declared.Rank.TheVariants.{Expression, Assignment, LeftHandSide, Member, Primary}
 use Rattle.language.specs.declared.Start.TheVariants.{Any}
-use Rattle.language.specs.FirstPart.{lead as lead_kind}
+use Rattle.language.specs.FirstPart.{lead as lead_kind, others}
 use Rattle.language.specs.Vocabulary.{takes, is_target, is_pattern, is_identifier}
 use Rattle.language.specs.Pieces.{Role, expr, name, pattern, element, PieceOf, Piece, Spelling, tok, sub, callee, sp, sign, at, bound, only_at, with_default, is_tight}
 use Rattle.language.specs.Token.{Token}
-use Rattle.language.specs.Expressions.{assignment, selector, after_number}
+use Rattle.language.specs.Expressions.{assignment, selector, after_number, property_name}
 use Rattle.language.specs.Promises.{IsDetermined}
 use Rattle.language.specs.Grammar.{ways, spellings}
 use Rattle.language.specs.Derivation.{Among, first, Reads, Spells, direct, grouped, Runs, step, done, within, token, laid, Placed, placed}
@@ -73,10 +73,10 @@ bound_defaults true AssignmentPattern h = cc
 bound_defaults false AssignmentPattern h = cc
 bound_defaults b _ h = h
 
-fixed_selector : (g : Flags) → Fixed (selector g)
-fixed_selector g = of g.computed
+fixed_selector : (g : Flags) (k : Kind) → Fixed (selector g k)
+fixed_selector g k = of g.computed
   where
-    of : (c : Bool) → Fixed (cond c (Rattle.language.specs.Expressions.in_brackets) (sign "." ∷ Rattle.language.specs.Pieces.put Rattle.language.specs.Pieces.word ∷ []))
+    of : (c : Bool) → Fixed (cond c (Rattle.language.specs.Expressions.in_brackets) (sign "." ∷ property_name k ∷ []))
     of true = one_more refl (one_more refl (one_more refl all_done))
     of false = one_more refl (one_more refl all_done)
 
@@ -90,11 +90,11 @@ module _ (S : Type 0) (Next : S → Token → S → Type 0) (behind : S → Toke
       is_lean (bare (node MemberExpression w g st en ps)) ≡ true → Placed S Next behind (expr y i Any) (node MemberExpression w g st en ps) s e → Runs ways S Next behind o (settled (expr y i Any) (spelling_of (form p) w g (bare_parts ps))) ps s e P →
       Spells ways S Next behind o (expr y' i' Any) (node MemberExpression w g st en ps) s e P
   member_moves {g = g} {i = i} {i' = i'} y y' tk tight (chosen.super_member op s) lean pl d =
-      spell S Next behind (at Member (Rattle.language.specs.Pieces.put Rattle.language.specs.Pieces.base ∷ selector g)) (super_member op s) lean tk refl refl (replaced S Next behind det pl)
-      (retell S Next behind (same_pieces y y' i i' Any Any (one_more {p = Rattle.language.specs.Pieces.put Rattle.language.specs.Pieces.base} refl (fixed_selector g))) d)
+      spell S Next behind (at Member (Rattle.language.specs.Pieces.put Rattle.language.specs.Pieces.base ∷ selector g Identifier)) (super_member op s) lean tk refl refl (replaced S Next behind det pl)
+      (retell S Next behind (same_pieces y y' i i' Any Any (one_more {p = Rattle.language.specs.Pieces.put Rattle.language.specs.Pieces.base} refl (fixed_selector g Identifier))) d)
   member_moves {g = g} {ps = ps} {i = i} {i' = i'} y y' tk tight (chosen.member_access op s) lean pl d =
-      spell S Next behind (at Member (sub callee ∷ after_number (bare_parts ps) g ++ selector g)) (member op s) lean tk refl refl (replaced S Next behind det pl)
-      (retell S Next behind (λ k. sub (expr (cond (tight k) Member Rattle.language.specs.declared.Rank.TheVariants.Call) true Any) ∷ same_pieces y y' i i' Any Any (fixed_join (fixed_laid (number_laid (bare_parts ps) g)) (fixed_selector g)) k) d)
+      spell S Next behind (at Member (sub callee ∷ after_number (bare_parts ps) g ++ selector g (lead_kind (others (bare_parts ps))))) (member op s) lean tk refl refl (replaced S Next behind det pl)
+      (retell S Next behind (λ k. sub (expr (cond (tight k) Member Rattle.language.specs.declared.Rank.TheVariants.Call) true Any) ∷ same_pieces y y' i i' Any Any (fixed_join (fixed_laid (number_laid (bare_parts ps) g)) (fixed_selector g (lead_kind (others (bare_parts ps))))) k) d)
   member_moves y y' tk tight (chosen.of_statement s c) lean pl d = elim s [ ]
   member_moves y y' tk tight (chosen.of_declaration s c) lean pl d = elim s [ ]
 

@@ -57,6 +57,7 @@ module _ (S : Type 0) (Next : S → Token → S → Type 0) (behind : S → Toke
     no_equals = apart (λ x. is x ",") refl refl;
     no_call = apart (λ x. is x ",") refl refl;
     no_bracket = apart (λ x. is x ",") refl refl;
+    no_star = apart (λ x. is x ",") refl refl;
   }
   item_marks a_bracket e (by_closing {t = t} {m = m} h) = record {
     text = codes "]";
@@ -69,6 +70,7 @@ module _ (S : Type 0) (Next : S → Token → S → Type 0) (behind : S → Toke
     no_equals = apart (λ x. is x "]") refl refl;
     no_call = apart (λ x. is x "]") refl refl;
     no_bracket = apart (λ x. is x "]") refl refl;
+    no_star = apart (λ x. is x "]") refl refl;
   }
   item_marks a_parenthesis e (by_closing {t = t} {m = m} h) = record {
     text = codes ")";
@@ -81,6 +83,7 @@ module _ (S : Type 0) (Next : S → Token → S → Type 0) (behind : S → Toke
     no_equals = apart (λ x. is x ")") refl refl;
     no_call = apart (λ x. is x ")") refl refl;
     no_bracket = apart (λ x. is x ")") refl refl;
+    no_star = apart (λ x. is x ")") refl refl;
   }
   item_marks a_brace e (by_closing {t = t} {m = m} h) = record {
     text = codes "}";
@@ -93,4 +96,5 @@ module _ (S : Type 0) (Next : S → Token → S → Type 0) (behind : S → Toke
     no_equals = apart (λ x. is x "}") refl refl;
     no_call = apart (λ x. is x "}") refl refl;
     no_bracket = apart (λ x. is x "}") refl refl;
+    no_star = apart (λ x. is x "}") refl refl;
   }

@@ -1,13 +1,11 @@
 -- A list of covers, as a loop reads it: each reading of the list is right so far, or nothing runs over it; an item keeps it where it fits.
-use Rattle.std.proofs.Common.{◌≡◌, ℕ, Bool, List, [], sym, ap, ◌∙◌}
-use Rattle.std.specs.Prelude.{IsTrue, Option, Some, None, codes, ◌&&◌}
+use Rattle.std.proofs.Common.{◌≡◌, ℕ, Bool, List, sym, ap, ◌∙◌}
+use Rattle.std.specs.Prelude.{Option, Some, None}
 use Rattle.tree.specs.declared.kind.Kind.{Kind}
 use Rattle.tree.specs.declared.kind.Flags.{Flags}
 use Rattle.tree.specs.Tree.{Tree, Parts, kind_of}
-use Rattle.language.specs.Vocabulary.{is, is_rest}
-use Rattle.language.specs.Token.{Token}
+use Rattle.language.specs.Vocabulary.{is_rest}
 use Rattle.language.specs.Covers.{with_parts}
-use Rattle.language.specs.Promises.{IsDetermined}
 
 some_trees : {m n : Tree} → Some m ≡ Some n → m ≡ n
 some_trees e = cc

@@ -10,13 +10,13 @@ use Rattle.tree.specs.declared.kind.Kind.{Kind}
 use Rattle.tree.specs.declared.kind.Kind.TheVariants.{Identifier, Property, SpreadElement, RestElement, AssignmentPattern}
 use Rattle.tree.specs.declared.kind.Form.TheVariants.{Init, Shorthand}
 use Rattle.tree.specs.declared.kind.Pair.{Pair}
-use Rattle.tree.specs.Tree.{Tree, node, Parts, none, part, kind_of, height, bare, plain}
+use Rattle.tree.specs.Tree.{Tree, node, Parts, none, part, kind_of, height, bare, plain, bare_parts}
 use Rattle.language.specs.declared.Rank.TheVariants.{Assignment, Primary}
 use Rattle.language.specs.declared.Start.TheVariants.{Any}
 use Rattle.language.specs.Vocabulary.{is, is_reserved}
 use Rattle.language.specs.Pieces.{Role, expr, name, element, property, pattern_property, Spelling, sign, sp, put, put_at, at, only, with_default}
 use Rattle.language.specs.Token.{Token}
-use Rattle.language.specs.Expressions.{assignment, keyed, properties, pattern_properties}
+use Rattle.language.specs.Expressions.{assignment, keyed, properties, pattern_properties, value_form}
 use Rattle.language.specs.Covers.{Reading, as_expression, as_pattern, property_as, FoundItem}
 use Rattle.language.specs.Promises.{is_free, IsDetermined}
 use Rattle.language.specs.Grammar.{ways, spellings}
@@ -30,11 +30,12 @@ use Rattle.language.proofs.climbing.Leaves.{name_found}
 use Rattle.language.proofs.covers.CoverElements.{BoundForm, a_pattern, a_simple, a_name, a_target, Defaulted, default_core, default_spells}
 use Rattle.language.proofs.covers.CoverSpreads.{two_texts, spread_form, rest_form}
 use Rattle.language.proofs.covers.CoverReadings.{named_unbracketed}
-use Rattle.language.proofs.covers.CoverProperties.{flags_as, key_pieces, KeyAt, key_runs, Valued, Short, to_expression, PropertyAt, by_value, by_name, by_method, by_accessor, PatternPropertyAt, with_value, with_name, with_element, property_at, pattern_property_at}
+use Rattle.language.proofs.covers.CoverProperties.{flags_as, key_pieces, KeyAt, key_runs, Valued, Short, to_expression, PropertyAt, by_value, by_name, by_method, by_star, by_async, by_async_star, by_accessor, PatternPropertyAt, with_value, with_name, with_element, property_at, pattern_property_at}
 use Rattle.language.proofs.table.KindViews.{InObject, a_spread, a_property, in_object, InPattern, a_rest, a_property_there, in_pattern}
 use Rattle.language.proofs.table.PropertyNameWays.{word_key}
 use Rattle.language.proofs.covers.CoverKeys.{Echo, KeyFound, key_at_sign, name_key, echo_form, echo_spells}
 use Rattle.language.proofs.covers.CoverProperties.{plain_key}
+use Rattle.tree.specs.declared.kind.Form.{Form}
 
 colon_call : codes ":" ≡ codes "(" → ⊥
 colon_call e = false≢true (sym (ap (λ w. is w ":") e))
@@ -44,6 +45,12 @@ colon_bracket e = false≢true (sym (ap (λ w. is w ":") e))
 
 colon_equals : codes ":" ≡ codes "=" → ⊥
 colon_equals e = false≢true (sym (ap (λ w. is w ":") e))
+
+pub star_bracket : codes "*" ≡ codes "[" → ⊥
+star_bracket e = false≢true (sym (ap (λ w. is w "*") e))
+
+colon_star : codes ":" ≡ codes "*" → ⊥
+colon_star e = false≢true (sym (ap (λ w. is w ":") e))
 
 some_same : {a b : Role} → Some a ≡ Some b → a ≡ b
 some_same e = cc
@@ -61,9 +68,9 @@ property_there : (a : Reading) → property_as a Property ≡ Some (property_rol
 property_there as_expression = refl
 property_there (as_pattern b) = refl
 
-value_listed : (c : Bool) → Among (at Primary (key_pieces c (sign ":" ∷ sp ∷ assignment ∷ []))) (properties c Init)
-value_listed true = first
-value_listed false = first
+value_listed : (c : Bool) (x : Form) → Among (at Primary (key_pieces c (sign ":" ∷ sp ∷ assignment ∷ []))) (properties c Init x)
+value_listed true x = first
+value_listed false x = first
 
 value_can : (c : Bool) (r : Role) → Rattle.language.specs.Grammar.can_run (key_pieces c (sign ":" ∷ sp ∷ put r ∷ [])) ≡ true
 value_can true r = refl
@@ -81,7 +88,7 @@ module _ (S : Type 0) (Next : S → Token → S → Type 0) (behind : S → Toke
   value_spells as_expression {o} {c} {r} {n} {u} {st} {en} {x = x} {e = e} {Q = Q} key colon it d pl =
       let y : Spelling = at Primary (key_pieces c (sign ":" ∷ sp ∷ assignment ∷ [])) in
       let d' = subst (λ z. Spells ways S Next behind o z u x e Q) (sym (some_same it)) d in
-      direct (settled property y) (way_from property (node Property [] (flags_as c Init) st en (part n (part u none))) y (lean c) (value_listed c) (value_can c (expr Assignment true Any))) pl (key_runs S Next behind det c (sign ":" ∷ sp ∷ assignment ∷ []) key (step (token colon) (step laid (last_runs S Next behind d'))))
+      direct (settled property y) (way_from property (node Property [] (flags_as c Init) st en (part n (part u none))) y (lean c) (value_listed c (value_form (bare_parts (part n (part u none))))) (value_can c (expr Assignment true Any))) pl (key_runs S Next behind det c (sign ":" ∷ sp ∷ assignment ∷ []) key (step (token colon) (step laid (last_runs S Next behind d'))))
     where
       lean : (c : Bool) → Rattle.tree.specs.Uses.is_lean (bare (node Property [] (flags_as c Init) st en (part n (part u none)))) ≡ true
       lean true = refl
@@ -107,6 +114,7 @@ module _ (S : Type 0) (Next : S → Token → S → Type 0) (behind : S → Toke
     pub no_equals : text ≡ codes "=" → ⊥
     pub no_call : text ≡ codes "(" → ⊥
     pub no_bracket : text ≡ codes "[" → ⊥
+    pub no_star : text ≡ codes "*" → ⊥
 
   -- what a property's item is, in each reading
   abbrev pub FormAs : Reading → ℕ → Tree → S → S → List Pair → Type 0
@@ -163,6 +171,11 @@ module _ (S : Type 0) (Next : S → Token → S → Type 0) (behind : S → Toke
             let there : x' ≡ k = (found.only false o' x' (node Identifier w plain t.start (behind x').stop none) [] (plain_key (word_key S Next behind word))).1 in
             key_at_sign S Next behind det al' al other (subst (λ z. KeyAt S Next behind det o' u z k' Q c') there key) reads
 
+        pub async_star_is : {w : List ℕ} {x' y' : S} {t z : Token} → (W ≡ codes "*" → ⊥) → Reads S Next behind IdentifierName w s t x' → Reads S Next behind Punctuator (codes "*") x' z y' → ⊥
+        async_star_is {w} {x'} {y'} {t} {z} other word star =
+            let there : x' ≡ k = (found.only false o x' (node Identifier w plain t.start (behind x').stop none) [] (plain_key (word_key S Next behind word))).1 in
+            other (two_texts S Next behind det al refl reads (subst (λ c. Reads S Next behind Punctuator (codes "*") c z y') there star))
+
         pub equals_is : Equals → W ≡ codes "="
         equals_is u = two_texts S Next behind det al refl reads u.reads
 
@@ -175,6 +188,9 @@ module _ (S : Type 0) (Next : S → Token → S → Type 0) (behind : S → Toke
         valued_by as_expression is (by_name u) ends = let m = mark_is ends (short_ends u) in absurd (m.0.no_colon (sym m.1 ∙ is))
         valued_by as_expression is (by_method u) ends = absurd (colon_call (sym is ∙ call_is u.key u.reads))
         valued_by as_expression is (by_accessor f h word u) ends = absurd (accessor_is (λ e. colon_bracket (sym is ∙ e)) word u.key)
+        valued_by as_expression is (by_star star u) ends = absurd (key_at_sign S Next behind det refl refl star_bracket found.spelled star)
+        valued_by as_expression is (by_async word nx line u) ends = absurd (accessor_is (λ e. colon_bracket (sym is ∙ e)) word u.key)
+        valued_by as_expression is (by_async_star word star line u) ends = absurd (async_star_is (λ e. colon_star (sym is ∙ e)) word star)
         valued_by (as_pattern b) is (with_value u) ends = u
         valued_by (as_pattern b) is (with_name u) ends = let m = mark_is ends (short_ends u) in absurd (m.0.no_colon (sym m.1 ∙ is))
         valued_by (as_pattern b) is (with_element u) ends = absurd (colon_equals (sym is ∙ equals_is (default_ends u)))
@@ -265,6 +281,9 @@ module _ (S : Type 0) (Next : S → Token → S → Type 0) (behind : S → Toke
           of as_expression o' n' e' P' pl (by_name u) = there as_expression pl u
           of as_expression o' n' e' P' pl (by_method u) = absurd (m.no_call (call_is Ends marks found m.reads m.allowed m.operand u.key u.reads))
           of as_expression o' n' e' P' pl (by_accessor f h before u) = absurd (accessor_is Ends marks found m.reads m.allowed m.operand m.no_bracket before u.key)
+          of as_expression o' n' e' P' pl (by_star star u) = absurd (key_at_sign S Next behind det refl refl star_bracket found.spelled star)
+          of as_expression o' n' e' P' pl (by_async before nx line u) = absurd (accessor_is Ends marks found m.reads m.allowed m.operand m.no_bracket before u.key)
+          of as_expression o' n' e' P' pl (by_async_star before star line u) = absurd (async_star_is Ends marks found m.reads m.allowed m.operand m.no_star before star)
           of (as_pattern b) o' n' e' P' pl (with_value u) = absurd (m.no_colon (colon_is Ends marks found m.reads m.allowed m.operand u.key u.reads))
           of (as_pattern b) o' n' e' P' pl (with_name u) = there (as_pattern b) pl u
           of (as_pattern b) o' n' e' P' pl (with_element u) = absurd (m.no_equals (equals_is Ends marks found m.reads m.allowed m.operand (default_ends Ends marks found u)))

@@ -6,7 +6,7 @@ use Rattle.tree.specs.declared.kind.Kind.{Kind}
 use Rattle.tree.specs.declared.kind.Kind.TheVariants.{Identifier, Property, FunctionExpression, AssignmentPattern}
 use Rattle.tree.specs.declared.kind.Flags.{Flags}
 use Rattle.tree.specs.declared.kind.Form.{Form}
-use Rattle.tree.specs.declared.kind.Form.TheVariants.{Init, Get, Set, Method, Shorthand, Constructor}
+use Rattle.tree.specs.declared.kind.Form.TheVariants.{Init, Get, Set, Method, Shorthand, Generator, Async, AsyncGenerator}
 use Rattle.tree.specs.declared.kind.Pair.{Pair}
 use Rattle.tree.specs.Tree.{Tree, node, Parts, none, part, gap, kind_of, bare, bare_parts, plain}
 use Rattle.tree.proofs.Lean.{lean_flags, lean_text}
@@ -16,14 +16,14 @@ use Rattle.language.specs.FirstPart.{lead, others}
 use Rattle.language.specs.Vocabulary.{is_reserved, literal_class, is_name}
 use Rattle.language.specs.Pieces.{Role, expr, name, key, shorthand_key, element, method, property, pattern_property, Piece, PieceOf, Spelling, tok, ahead, sub, sign, term, sp, at, only, put, put_at, with_default}
 use Rattle.language.specs.Token.{Token}
-use Rattle.language.specs.Expressions.{assignment, keyed, properties, pattern_properties, shorthand_pattern, methods}
+use Rattle.language.specs.Expressions.{assignment, keyed, properties, pattern_properties, shorthand_pattern, methods, method_words, method_of, value_form}
 use Rattle.language.specs.Promises.{IsDetermined}
-use Rattle.language.specs.Grammar.{ways, spellings}
+use Rattle.language.specs.Grammar.{ways, spellings, is_function_at}
 use Rattle.language.specs.Derivation.{Among, Reads, Spells, direct, Runs, step, within, token, placed}
 use Rattle.language.proofs.lower_bound.Domination.{settled}
-use Rattle.language.proofs.table.ViewIsComplete.{way_of, one, unless}
+use Rattle.language.proofs.table.ViewIsComplete.{way_of, one, unless, cases}
 use Rattle.language.proofs.table.Begins.{goes_to, retell}
-use Rattle.language.proofs.list_loops.FirstPieces.{run_none, run_token, run_laid, run_part, run_absent}
+use Rattle.language.proofs.list_loops.FirstPieces.{run_none, run_token, run_laid, run_part, run_absent, run_unbroken, run_never}
 use Rattle.language.proofs.climbing.RightOperands.{one_part}
 use Rattle.language.proofs.climbing.BinaryTurns.{same_node}
 use Rattle.language.proofs.table.PropertyNameWays.{is_accessor}
@@ -48,6 +48,10 @@ key_pieces c after = cond c (sign "[" ∷ assignment ∷ sign "]" ∷ after) (pu
 key_way : (c : Bool) (after : List Piece) {x : Spelling} → Among x (keyed [] c after) → x.pieces ≡ key_pieces c after
 key_way true after h = ap (λ (y : Spelling). y.pieces) (one h)
 key_way false after h = ap (λ (y : Spelling). y.pieces) (one h)
+
+before_way : (before : List Piece) (c : Bool) (after : List Piece) {x : Spelling} → Among x (keyed before c after) → x.pieces ≡ before ++ key_pieces c after
+before_way before true after h = ap (λ (y : Spelling). y.pieces) (one h)
+before_way before false after h = ap (λ (y : Spelling). y.pieces) (one h)
 
 word_way : (w : List ℕ) (c : Bool) (after : List Piece) {x : Spelling} → Among x (keyed (tok IdentifierName w ∷ sp ∷ []) c after) → x.pieces ≡ tok IdentifierName w ∷ sp ∷ key_pieces c after
 word_way w true after h = ap (λ (y : Spelling). y.pieces) (one h)
@@ -95,7 +99,7 @@ module _ (S : Type 0) (Next : S → Token → S → Type 0) (behind : S → Toke
 
   pub method_begins : {o : ℕ} (f : Form) {n : Tree} {s e : S} {P : List Pair} → Spells ways S Next behind o (method f) n s e P → Begins (codes "(") s
   unfolding spellings
-  method_begins {o} f {n = node FunctionExpression w g st en ps} {s} {e} {P} (direct qs h pl d) = of f (bare_parts ps) ((way_of h).listed)
+  method_begins {o} f {n = node FunctionExpression w g st en ps} {s} {e} {P} (direct qs h pl d) = cases {ys = []} (is_function_at f g.form) ((way_of h).listed) (λ b l. of f (bare_parts ps) l) (λ b l. elim l [ ])
     where
       run : Runs ways S Next behind o (settled (method f) (way_of h).spelling) ps s e P
       run = retell S Next behind (way_of h).is d
@@ -117,18 +121,9 @@ module _ (S : Type 0) (Next : S → Token → S → Type 0) (behind : S → Toke
       of Set (gap (part b (gap ps'))) l = elim l [ ]
       of Set (gap (part b (part c (part d' ps')))) l = elim l [ ]
       of Set (gap (part b (part c (gap ps')))) l = elim l [ ]
-      of Init (gap ps') l = method_way (method f) l run
-      of Init none l = elim l [ ]
-      of Init (part n ps') l = elim l [ ]
-      of Method (gap ps') l = method_way (method f) l run
-      of Method none l = elim l [ ]
-      of Method (part n ps') l = elim l [ ]
-      of Shorthand (gap ps') l = method_way (method f) l run
-      of Shorthand none l = elim l [ ]
-      of Shorthand (part n ps') l = elim l [ ]
-      of Constructor (gap ps') l = method_way (method f) l run
-      of Constructor none l = elim l [ ]
-      of Constructor (part n ps') l = elim l [ ]
+      of _ (gap ps') l = method_way (method f) l run
+      of _ none l = elim l [ ]
+      of _ (part n ps') l = elim l [ ]
   method_begins f {n = node _ w g st en ps} (direct qs h pl d) = elim ((way_of h).listed) [ ]
 
   -- A property with a value behind `:`, at the position that its kind has.
@@ -175,8 +170,8 @@ module _ (S : Type 0) (Next : S → Token → S → Type 0) (behind : S → Toke
     pub spelled : Spells ways S Next behind o a value mid e more
     pub pairs : P ≡ one ++ more
 
-  -- A function behind its key: of a method, or of a getter or setter, whose key stands behind a word.
-  pub record Called (f : Form) (o : ℕ) (n : Tree) (s z e : S) (P : List Pair) : Type 0 where
+  -- A function behind its key, at a method's position of its form: of a method, or of a getter or setter, whose key stands behind a word.
+  pub record Called (f y : Form) (o : ℕ) (n : Tree) (s z e : S) (P : List Pair) : Type 0 where
     pub computed : Bool
     pub st : ℕ
     pub en : ℕ
@@ -195,15 +190,18 @@ module _ (S : Type 0) (Next : S → Token → S → Type 0) (behind : S → Toke
     pub stops : (behind e).stop ≡ en
     pub key : KeyAt o name z mid one computed
     pub reads : Reads S Next behind Punctuator (codes "(") mid sign x
-    pub spelled : Spells ways S Next behind o (method f) function mid e more
+    pub spelled : Spells ways S Next behind o (method y) function mid e more
     pub pairs : P ≡ one ++ more
 
   -- a property of an object: a value, a shorthand, a method, or a getter or setter
   pub data PropertyAt (o : ℕ) (n : Tree) (s e : S) (P : List Pair) : Type 0 where
     by_value : Valued to_expression o n s e P → PropertyAt o n s e P
     by_name : Short name o n s e P → PropertyAt o n s e P
-    by_method : Called Method o n s s e P → PropertyAt o n s e P
-    by_accessor : {x : S} {t : Token} (f : Form) → is_accessor f ≡ true → Reads S Next behind IdentifierName (accessor_word f) s t x → Called f o n s x e P → PropertyAt o n s e P
+    by_method : Called Method Method o n s s e P → PropertyAt o n s e P
+    by_star : {x : S} {t : Token} → Reads S Next behind Punctuator (codes "*") s t x → Called Method Generator o n s x e P → PropertyAt o n s e P
+    by_async : {x k : S} {t v : Token} → Reads S Next behind IdentifierName (codes "async") s t x → Next x v k → v.after_break ≡ false → Called Method Async o n s x e P → PropertyAt o n s e P
+    by_async_star : {x k : S} {t v : Token} → Reads S Next behind IdentifierName (codes "async") s t x → Reads S Next behind Punctuator (codes "*") x v k → v.after_break ≡ false → Called Method AsyncGenerator o n s k e P → PropertyAt o n s e P
+    by_accessor : {x : S} {t : Token} (f : Form) → is_accessor f ≡ true → Reads S Next behind IdentifierName (accessor_word f) s t x → Called f f o n s x e P → PropertyAt o n s e P
 
   -- of an object pattern: a value, a shorthand, or one with a default
   pub data PatternPropertyAt (b : Bool) (o : ℕ) (n : Tree) (s e : S) (P : List Pair) : Type 0 where
@@ -243,12 +241,12 @@ module _ (S : Type 0) (Next : S → Token → S → Type 0) (behind : S → Toke
         pairs = k.pairs;
       }
 
-  called_at : {o : ℕ} (f : Form) {n : Tree} (c : Bool) {g : Flags} {w : List ℕ} {st en : ℕ} {ps : Parts} {s z e m : S} {t : Token} {P : List Pair} → n ≡ node Property w g st en ps → w ≡ [] → g ≡ flags_as c f → Next s t m → t.start ≡ st → (behind e).stop ≡ en →
-      Runs ways S Next behind o (goes_to Expression true Any (key_pieces c (put (method f) ∷ []))) ps z e P → Called f o n s z e P
-  called_at f c {st = st} {en = en} {m = m} {t = t} is text flags nx p q d =
-      let k = run_key c (put (method f) ∷ []) d in
+  called_at : {o : ℕ} (f y : Form) {n : Tree} (c : Bool) {g : Flags} {w : List ℕ} {st en : ℕ} {ps : Parts} {s z e m : S} {t : Token} {P : List Pair} → n ≡ node Property w g st en ps → w ≡ [] → g ≡ flags_as c f → Next s t m → t.start ≡ st → (behind e).stop ≡ en →
+      Runs ways S Next behind o (goes_to Expression true Any (key_pieces c (put (method y) ∷ []))) ps z e P → Called f y o n s z e P
+  called_at f y c {st = st} {en = en} {m = m} {t = t} is text flags nx p q d =
+      let k = run_key c (put (method y) ∷ []) d in
       let u = one_part S Next behind det k.runs in
-      let b = method_begins f u.spelled in
+      let b = method_begins y u.spelled in
       record {
         computed = c;
         st = st;
@@ -310,23 +308,37 @@ module _ (S : Type 0) (Next : S → Token → S → Type 0) (behind : S → Toke
       run : {rs : List Piece} → (way_of h).spelling.pieces ≡ rs → Runs ways S Next behind o (goes_to Expression true Any rs) ps s e P
       run k = retell S Next behind ((way_of h).is ∙ ap (goes_to Expression true Any) k) d
 
-      called : {z : S} (f : Form) → g.form ≡ f → Runs ways S Next behind o (goes_to Expression true Any (key_pieces g.computed (put (method f) ∷ []))) ps z e P → Called f o (node Property w g st en ps) s z e P
-      called f k r = called_at f g.computed refl text (flags refl k) nx (ap (λ (c : ℕ × ℕ). c.0) p) (ap (λ (c : ℕ × ℕ). c.1) p) r
+      called : {z : S} (f y : Form) → g.form ≡ f → Runs ways S Next behind o (goes_to Expression true Any (key_pieces g.computed (put (method y) ∷ []))) ps z e P → Called f y o (node Property w g st en ps) s z e P
+      called f y k r = called_at f y g.computed refl text (flags refl k) nx (ap (λ (c : ℕ × ℕ). c.0) p) (ap (λ (c : ℕ × ℕ). c.1) p) r
 
       accessed : (f : Form) → is_accessor f ≡ true → g.form ≡ f → Runs ways S Next behind o (goes_to Expression true Any (tok IdentifierName (accessor_word f) ∷ sp ∷ key_pieces g.computed (put (method f) ∷ []))) ps s e P → PropertyAt o (node Property w g st en ps) s e P
-      accessed f is k r = let v = run_token S Next behind r in by_accessor f is v.reads (called f k (run_laid S Next behind v.runs))
+      accessed f is k r = let v = run_token S Next behind r in by_accessor f is v.reads (called f f k (run_laid S Next behind v.runs))
 
       shortened : (c : Bool) → g.computed ≡ c → g.form ≡ Shorthand → Among (way_of h).spelling (cond c [] (only (put shorthand_key ∷ put name ∷ []))) → PropertyAt o (node Property w g st en ps) s e P
       shortened true k f l = elim l [ ]
       shortened false k f l = by_name (short_at name refl text (flags k f) nx (ap (λ (c : ℕ × ℕ). c.0) p) (ap (λ (c : ℕ × ℕ). c.1) p) (run (ap (λ (y : Spelling). y.pieces) (one l))))
 
-      of : (f : Form) → g.form ≡ f → Among (way_of h).spelling (properties g.computed f) → PropertyAt o (node Property w g st en ps) s e P
+      methodical : (x : Form) → g.form ≡ Method → Among (way_of h).spelling (properties g.computed Method x) → PropertyAt o (node Property w g st en ps) s e P
+      methodical Init f l = by_method (called Method Method f (run (key_way g.computed (put (method Method) ∷ []) l)))
+      methodical Generator f l = let v = run_token S Next behind (run (before_way (method_words Generator) g.computed (put (method Generator) ∷ []) l)) in by_star v.reads (called Method Generator f v.runs)
+      methodical Async f l =
+          let a = run_token S Next behind (run (before_way (method_words Async) g.computed (put (method Async) ∷ []) l)) in
+          let b = run_unbroken S Next behind a.runs in
+          by_async a.reads b.next b.unbroken (called Method Async f (run_laid S Next behind b.runs))
+      methodical AsyncGenerator f l =
+          let a = run_token S Next behind (run (before_way (method_words AsyncGenerator) g.computed (put (method AsyncGenerator) ∷ []) l)) in
+          let b = run_unbroken S Next behind a.runs in
+          let c = run_token S Next behind (run_laid S Next behind b.runs) in
+          by_async_star a.reads c.reads (det.break a.mid c.sign b.sign c.mid b.mid c.reads.next b.next ∙ b.unbroken) (called Method AsyncGenerator f c.runs)
+      methodical x f l = absurd (run_never S Next behind (run (before_way (method_words x) g.computed (put (method (method_of x)) ∷ []) l)))
+
+      of : (f : Form) → g.form ≡ f → Among (way_of h).spelling (properties g.computed f (value_form (bare_parts ps))) → PropertyAt o (node Property w g st en ps) s e P
       of Init f l = by_value (value_at to_expression g.computed refl text (flags refl f) nx (ap (λ (c : ℕ × ℕ). c.0) p) (ap (λ (c : ℕ × ℕ). c.1) p) (λ u rest i v j. refl) (run (key_way g.computed (sign ":" ∷ sp ∷ assignment ∷ []) l)))
-      of Method f l = by_method (called Method f (run (key_way g.computed (put (method Method) ∷ []) l)))
+      of Method f l = methodical (value_form (bare_parts ps)) f l
       of Get f l = accessed Get refl f (run (word_way (codes "get") g.computed (put (method Get) ∷ []) l))
       of Set f l = accessed Set refl f (run (word_way (codes "set") g.computed (put (method Set) ∷ []) l))
       of Shorthand f l = shortened g.computed refl f l
-      of Constructor f l = elim l [ ]
+      of _ f l = elim l [ ]
   property_at {n = node _ w g st en ps} (direct qs h pl d) = elim ((way_of h).listed) [ ]
 
   -- what spells a property of an object pattern
@@ -364,8 +376,5 @@ module _ (S : Type 0) (Next : S → Token → S → Type 0) (behind : S → Toke
       of : (f : Form) → g.form ≡ f → Among (way_of h).spelling (pattern_properties b g.computed f (lead (others (bare_parts ps)))) → PatternPropertyAt b o (node Property w g st en ps) s e P
       of Init f l = valued (with_default b (lead (others (bare_parts ps)))) refl (run (key_way g.computed (sign ":" ∷ sp ∷ put_at (with_default b (lead (others (bare_parts ps)))) ∷ []) l)) f
       of Shorthand f l = shortened g.computed refl f l
-      of Method f l = elim l [ ]
-      of Get f l = elim l [ ]
-      of Set f l = elim l [ ]
-      of Constructor f l = elim l [ ]
+      of _ f l = elim l [ ]
   pattern_property_at b {n = node _ w g st en ps} (direct qs h pl d) = elim ((way_of h).listed) [ ]

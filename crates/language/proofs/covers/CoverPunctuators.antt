@@ -28,7 +28,7 @@ use Rattle.language.proofs.covers.PatternsByToken.{no_pattern}
 use Rattle.language.proofs.covers.CoverElements.{Simple, simple_expression, ElementForm, bare_pattern, bare_simple, pattern_default, simple_default, element_form}
 use Rattle.language.proofs.covers.CoverSpreads.{two_texts, spread_form, rest_form}
 use Rattle.language.proofs.covers.CoverReadings.{name_or_sign}
-use Rattle.language.proofs.covers.CoverProperties.{PropertyAt, by_value, by_name, by_method, by_accessor, PatternPropertyAt, with_value, with_name, with_element, property_at, pattern_property_at}
+use Rattle.language.proofs.covers.CoverProperties.{PropertyAt, by_value, by_name, by_method, by_star, by_async, by_async_star, by_accessor, PatternPropertyAt, with_value, with_name, with_element, property_at, pattern_property_at}
 use Rattle.language.proofs.table.KindViews.{InObject, a_spread, a_property, in_object, InPattern, a_rest, a_property_there, in_pattern}
 use Rattle.language.proofs.covers.CoverKeys.{key_at_sign, echo_form}
 
@@ -46,18 +46,19 @@ pub record Separates (w : List ℕ) : Type 0 where
   pub no_bracket : w ≡ codes "[" → ⊥
   pub no_brace : w ≡ codes "{" → ⊥
   pub no_dots : w ≡ codes "..." → ⊥
+  pub no_star : w ≡ codes "*" → ⊥
 
 pub comma_separates : Separates (codes ",")
-comma_separates = record { operand = refl; allowed = refl; opens_none = refl; no_bracket = apart (λ x. is x ",") refl refl; no_brace = apart (λ x. is x ",") refl refl; no_dots = apart (λ x. is x ",") refl refl }
+comma_separates = record { operand = refl; allowed = refl; opens_none = refl; no_bracket = apart (λ x. is x ",") refl refl; no_brace = apart (λ x. is x ",") refl refl; no_dots = apart (λ x. is x ",") refl refl; no_star = apart (λ x. is x ",") refl refl }
 
 pub bracket_separates : Separates (codes "]")
-bracket_separates = record { operand = refl; allowed = refl; opens_none = refl; no_bracket = apart (λ x. is x "]") refl refl; no_brace = apart (λ x. is x "]") refl refl; no_dots = apart (λ x. is x "]") refl refl }
+bracket_separates = record { operand = refl; allowed = refl; opens_none = refl; no_bracket = apart (λ x. is x "]") refl refl; no_brace = apart (λ x. is x "]") refl refl; no_dots = apart (λ x. is x "]") refl refl; no_star = apart (λ x. is x "]") refl refl }
 
 pub parenthesis_separates : Separates (codes ")")
-parenthesis_separates = record { operand = refl; allowed = refl; opens_none = refl; no_bracket = apart (λ x. is x ")") refl refl; no_brace = apart (λ x. is x ")") refl refl; no_dots = apart (λ x. is x ")") refl refl }
+parenthesis_separates = record { operand = refl; allowed = refl; opens_none = refl; no_bracket = apart (λ x. is x ")") refl refl; no_brace = apart (λ x. is x ")") refl refl; no_dots = apart (λ x. is x ")") refl refl; no_star = apart (λ x. is x ")") refl refl }
 
 pub brace_separates : Separates (codes "}")
-brace_separates = record { operand = refl; allowed = refl; opens_none = refl; no_bracket = apart (λ x. is x "}") refl refl; no_brace = apart (λ x. is x "}") refl refl; no_dots = apart (λ x. is x "}") refl refl }
+brace_separates = record { operand = refl; allowed = refl; opens_none = refl; no_bracket = apart (λ x. is x "}") refl refl; no_brace = apart (λ x. is x "}") refl refl; no_dots = apart (λ x. is x "}") refl refl; no_star = apart (λ x. is x "}") refl refl }
 
 module _ (S : Type 0) (Next : S → Token → S → Type 0) (behind : S → Token) (det : IsDetermined S Next behind) {w : List ℕ} (sep : Separates w) {s x : S} {t : Token} (sign : Reads S Next behind Punctuator w s t x) where
   pub no_expression_begins : {y : Rank} {i : Bool} {f : Start} {o : ℕ} {n : Tree} {e : S} {P : List Pair} → Spells ways S Next behind o (expr y i f) n s e P → ⊥
@@ -104,6 +105,9 @@ module _ (S : Type 0) (Next : S → Token → S → Type 0) (behind : S → Toke
   no_property (by_value u) = key_at_sign S Next behind det sep.operand sep.allowed sep.no_bracket u.key sign
   no_property (by_name u) = name_or_sign S Next behind det sep.allowed (echo_form S Next behind det u.echoes).reads sign
   no_property (by_method u) = key_at_sign S Next behind det sep.operand sep.allowed sep.no_bracket u.key sign
+  no_property (by_star star u) = sep.no_star (two_texts S Next behind det sep.allowed refl sign star)
+  no_property (by_async word nx line u) = name_or_sign S Next behind det sep.allowed word sign
+  no_property (by_async_star word star line u) = name_or_sign S Next behind det sep.allowed word sign
   no_property (by_accessor f h word u) = name_or_sign S Next behind det sep.allowed word sign
 
   no_pattern_property : {b : Bool} {o : ℕ} {n : Tree} {e : S} {P : List Pair} → PatternPropertyAt S Next behind det b o n s e P → ⊥

@@ -1,18 +1,11 @@
 -- What stands behind `...` in an object: a spread of an expression; a rest, which is no pattern (ECMA-262 12.2.6, 12.15.5, 13.3.3).
-use Rattle.std.proofs.Common.{◌≡◌, ℕ, ◌-◌, Bool, true, false, List, [], sym, ap, ◌∙◌}
-use Rattle.std.specs.Prelude.{Option, Some, None, codes}
-use Rattle.tokens.specs.declared.token.TokenClass.TheVariants.{Punctuator}
+use Rattle.std.proofs.Common.{◌≡◌, ℕ, Bool, List, sym, ap, ◌∙◌}
+use Rattle.std.specs.Prelude.{Option, Some, None}
 use Rattle.tree.specs.declared.kind.Kind.{Kind}
 use Rattle.tree.specs.declared.kind.Flags.{Flags}
 use Rattle.tree.specs.Tree.{Tree, Parts, kind_of}
-use Rattle.language.specs.declared.Rank.{Rank}
-use Rattle.language.specs.declared.Rank.TheVariants.{Expression}
-use Rattle.language.specs.Vocabulary.{is, takes, is_pattern}
-use Rattle.language.specs.Pieces.{spread}
-use Rattle.language.specs.Token.{Token}
+use Rattle.language.specs.Vocabulary.{is_pattern}
 use Rattle.language.specs.Covers.{with_parts}
-use Rattle.language.specs.Promises.{IsDetermined, Stops}
-use Rattle.language.specs.Derivation.{Reads}
 
 some_trees : {m n : Tree} → Some m ≡ Some n → m ≡ n
 some_trees e = cc

@@ -1,4 +1,5 @@
 -- What is derived can be laid out: each of its nodes can be spelled where it stands, or in parentheses where it is wrapped.
+use Rattle.tree.specs.declared.kind.Kind.TheVariants.{Identifier}
 use Rattle.std.proofs.Common.{◌≡◌, ℕ, ◌+◌, Bool, true, false, cond, List, [], ◌∷◌, refl, sym, ◌∙◌, subst, ◌⊎◌, inl, inr, is_some}
 use Rattle.std.specs.Prelude.{Option, Some, None, IsTrue, ◌&&◌, nat_eq}
 use Rattle.std.proofs.lemmas.Bool.{and_from, false≢true, true≢false}
@@ -7,14 +8,14 @@ use Rattle.language.specs.declared.Rank.TheVariants.{Expression}
 use Rattle.language.specs.declared.Start.{Start}
 use Rattle.language.specs.declared.Start.TheVariants.{Any}
 use Rattle.tree.specs.declared.kind.Pair.{Pair}
-use Rattle.tree.specs.Tree.{Tree, node, Parts, parts_of, bare}
+use Rattle.tree.specs.Tree.{plain, none, Tree, node, Parts, parts_of, bare}
 use Rattle.tree.specs.Uses.{implies, is_lean}
 use Rattle.language.specs.Vocabulary.{precedence}
-use Rattle.language.specs.Pieces.{Role, expr, PieceOf, Spelling}
+use Rattle.language.specs.Pieces.{key, word, Role, expr, PieceOf, Spelling}
 use Rattle.language.specs.Token.{Token}
 use Rattle.language.specs.Grammar.{ways, ways_bare, spellings, own_start}
 use Rattle.language.specs.RowPositions.{has_row, rows, roles, first_roles}
-use Rattle.language.specs.Derivation.{Among, first, Spells, direct, grouped, Runs, done, step, opened, closed, within, missing, Step, token, with_mark, without_mark, one_more, no_more, seen, same_line, explicit, implicit, laid}
+use Rattle.language.specs.Derivation.{Among, first, Spells, direct, grouped, Runs, done, step, opened, closed, within, missing, Step, token, with_mark, without_mark, one_more, no_more, seen, same_line, left_bare, explicit, implicit, laid, reserved_key, reserved_word}
 use Rattle.language.specs.Cost.{add_cost, lesser, AtMost, at_most, if_any, cell, cell_position, least, parts_least}
 use Rattle.language.specs.Layout.{exceeds, some_way, wants_pair, inside, first_way}
 use Rattle.language.specs.LayoutFits.{lines_up, fits, parts_fit, Marks, PartsMark}
@@ -184,6 +185,15 @@ module _ (W : ℕ → Bool) where
           subst (λ z. (some_way (ways (inside z b) (node k w g s e ps)) && (lines_up (first_way (ways (inside z b) (node k w g s e ps))) ps && parts_fit W ps (first_roles (ways (inside z b) (node k w g s e ps))) (has_row b + r))) ≡ true) (sym is)
           (and_from _ _ x.way (and_from _ _ (sym (u.1 ps) ∙ h.lines) (f (first_roles (ways (inside t b) (node k w g s e ps))) (has_row b + r) u.0 x.parts m)))
 
+-- a name can be laid out where reserved words stand too
+key_fits : (W : ℕ → Bool) (w : List ℕ) (a b r : ℕ) → fits W (node Identifier w plain a b none) key r ≡ true
+unfolding fits parts_fit ways ways_bare spellings
+key_fits W w a b r = refl
+
+word_fits : (W : ℕ → Bool) (w : List ℕ) (a b r : ℕ) → fits W (node Identifier w plain a b none) word r ≡ true
+unfolding fits parts_fit ways ways_bare spellings
+word_fits W w a b r = refl
+
 module _ (S : Type 0) (Next : S → Token → S → Type 0) (behind : S → Token) where
   whole_cell : {o : ℕ} {y : Rank} {i : Bool} {f : Start} {n : Tree} {s e : S} {P : List Pair} → Spells ways S Next behind o (expr y i f) n s e P → is_some (cell n (expr Expression true Any)) ≡ true
   whole_cell {y = y} {i = i} {f = f} {n = n} d =
@@ -228,6 +238,7 @@ module _ (S : Type 0) (Next : S → Token → S → Type 0) (behind : S → Toke
       step_lines qs ps no_more h = h
       step_lines qs ps (seen x) h = h
       step_lines qs ps (same_line x y) h = h
+      step_lines qs ps (left_bare x y) h = h
       step_lines qs ps (explicit x) h = h
       step_lines qs ps (implicit x y) h = h
       step_lines qs ps laid h = h
@@ -246,6 +257,8 @@ module _ (S : Type 0) (Next : S → Token → S → Type 0) (behind : S → Toke
           node_fits W (record { among = h; lines = runs_line_up d; near = λ xs ys u v x. near_parts d xs ys u v x; whole = λ e. cell_known (direct qs h p d) e }) b l c r m (λ xs q u v x. runs_fit d xs q u v x)
       spelled_fits (grouped p d q) b same c r m = spelled_fits d b at_expressions c r m
       spelled_fits (grouped p d q) b at_expressions c r m = spelled_fits d b at_expressions c r m
+      spelled_fits (reserved_key {w = w} x k e) b same c r m = subst (λ v. fits W v key r ≡ true) (sym e) (key_fits W w _ _ r)
+      spelled_fits (reserved_word {w = w} x k e) b same c r m = subst (λ v. fits W v word r ≡ true) (sym e) (word_fits W w _ _ r)
 
       pub runs_fit : {o : ℕ} {qs : List (PieceOf Role)} {ps : Parts} {s e : S} {P : List Pair} → Runs ways S Next behind o qs ps s e P →
           (xs : List Role) (r : ℕ) → AllLike false (roles qs) xs → is_some (parts_least ps xs) ≡ true → PartsMark W ps xs r → parts_fit W ps xs r ≡ true

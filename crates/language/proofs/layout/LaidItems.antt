@@ -4,11 +4,11 @@ use Rattle.std.specs.Prelude.{slice_index_or, codes}
 use Rattle.language.specs.declared.Rank.TheVariants.{Expression}
 use Rattle.language.specs.declared.Start.TheVariants.{Any}
 use Rattle.tree.specs.Tree.{Tree, node, Parts, none, part, gap}
-use Rattle.language.specs.Pieces.{Role, expr, PieceOf, tok, may, many, ahead, unbroken, ending, open_parameters, close_parameters, sub, absent, never, lay, space, line, feed, deeper, shallower, apart, loose}
+use Rattle.language.specs.Pieces.{Role, expr, PieceOf, tok, may, many, ahead, unbroken, no_operand, ending, open_parameters, close_parameters, sub, absent, never, lay, space, line, feed, deeper, shallower, apart, loose}
 use Rattle.language.specs.Grammar.{ways}
 use Rattle.language.specs.RowPositions.{has_row, rows, roles}
 use Rattle.language.specs.Layout.{layout, parts_layout, lead_text, lead_depth, after_part, first_way, next_role, indent, fixed_text, has_number, wrapped_rows}
-use Rattle.language.specs.Printed.{Item, word, blank, name_ahead, joined, items_text, sign_item, lead_items, printed, parts_printed}
+use Rattle.language.specs.Printed.{Item, word, blank, name_ahead, joined, closing, items_text, sign_item, lead_items, printed, parts_printed}
 use Rattle.language.specs.Pieces.{script}
 
 pub text_join : (xs ys : List Item) → items_text (xs ++ ys) ≡ items_text xs ++ items_text ys
@@ -17,6 +17,7 @@ text_join (word c w ∷ xs) ys = ap (λ t. w ++ t) (text_join xs ys) ∙ sym (ap
 text_join (blank w ∷ xs) ys = ap (λ t. w ++ t) (text_join xs ys) ∙ sym (append_assoc w (items_text xs) (items_text ys))
 text_join (name_ahead w ∷ xs) ys = text_join xs ys
 text_join (joined ∷ xs) ys = text_join xs ys
+text_join (closing ∷ xs) ys = text_join xs ys
 
 space_text : (b : Bool) (is : List Item) → items_text (cond b (blank (32 ∷ []) ∷ is) is) ≡ cond b (32 ∷ items_text is) (items_text is)
 space_text true is = refl
@@ -31,6 +32,7 @@ lead_items_text d b (may w ∷ qs) is = lead_items_text d b qs is
 lead_items_text d b (many w ∷ qs) is = lead_items_text d b qs is
 lead_items_text d b (ahead w ∷ qs) is = lead_items_text d b qs is
 lead_items_text d b (unbroken ∷ qs) is = lead_items_text d b qs is
+lead_items_text d b (no_operand ∷ qs) is = lead_items_text d b qs is
 lead_items_text d b (ending e ∷ qs) is = ap (λ t. codes ";" ++ t) (lead_items_text d b qs is)
 lead_items_text d b (open_parameters ∷ qs) is = ap (λ t. codes "(" ++ t) (lead_items_text d b qs is)
 lead_items_text d b (close_parameters ∷ qs) is = ap (λ t. codes ")" ++ t) (lead_items_text d b qs is)

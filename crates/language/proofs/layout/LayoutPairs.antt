@@ -1,5 +1,5 @@
 -- There are as many pairs as wrapped rows; so what reads a layout's items derives the tree, with a pair for each of them.
-use Rattle.std.proofs.Common.{◌≡◌, ℕ, ◌+◌, ◌≤◌, Bool, true, false, cond, ◌&&◌, nat_eq, List, [], ◌∷◌, ◌++◌, length, refl, ap, ◌∙◌, subst, arith, length-append}
+use Rattle.std.proofs.Common.{◌≡◌, ℕ, ◌+◌, ◌≤◌, Bool, true, false, cond, ◌&&◌, nat_eq, List, [], ◌∷◌, ◌++◌, length, refl, ap, ◌∙◌, arith, length-append}
 use Rattle.tree.specs.declared.kind.Pair.{Pair}
 use Rattle.tree.specs.Tree.{Tree, node, Parts, none, part, gap, SameTree}
 use Rattle.tokens.specs.Reading.{any_goal}
@@ -11,13 +11,11 @@ use Rattle.language.specs.Derivation.{Spells}
 use Rattle.language.specs.Cursor.{beginning, Next, behind}
 use Rattle.language.specs.Places.{NextIn, itself}
 use Rattle.language.specs.Claims.{Derives, DerivesOpen}
-use Rattle.language.specs.Layout.{wants_pair, inside, wrapped_rows, parts_wrapped, has_number, fixed_text}
+use Rattle.language.specs.Layout.{wants_pair, inside, wrapped_rows, parts_wrapped, has_number}
 use Rattle.language.specs.LayoutFits.{fits, Marks, PartsMark}
-use Rattle.language.specs.Printed.{items_text, printed, open_in, pair_count, parts_pair_count, Follows, GoesOn}
+use Rattle.language.specs.Printed.{printed, open_in, pair_count, parts_pair_count, Follows, GoesOn}
 use Rattle.language.proofs.layout.WrappedRows.{wrapped_marks, text_fits}
 use Rattle.language.proofs.layout.PrintedSpells.{printed_spells}
-use Rattle.language.proofs.layout.LaidItems.{fixed_items}
-use Rattle.language.proofs.layout.ReadItems.{Readable, text_is_read}
 
 module _ (W : ℕ → Bool) where
   own_pair : (t b : Bool) (r : ℕ) (below : List ℕ) (x : ℕ) → t ≡ b → x ≡ length below → cond t 1 0 + x ≡ length (cond b (r ∷ []) [] ++ below)
@@ -54,14 +52,3 @@ pub layout_spelled : (W : ℕ → Bool) (n : Tree) (a : Role) (r d o : ℕ) (ts 
     (m : Tree) × (P : List Pair) × SameTree m n × Spells ways (List Token) Next behind o a m ts us P × (length P ≡ pair_count W n a r)
 layout_spelled W n a r d o ts us h k f g =
     let x = printed_spells (List Token) Next behind W n a r d o h k f g in (x.tree, x.pairs, x.same, x.spells, x.counted)
-
--- where the items of a script's layout are readable, its fixed text derives the script, with a pair for each wrapped node
-pub fixed_read : (other : List ℕ) (n : Tree) (P : List Pair) → Derives other n P → Readable (printed (has_number (wrapped_rows n script 1)) n script 1 0) →
-    (m : Tree) × (Q : List Pair) × SameTree m n × DerivesOpen (open_in (has_number (wrapped_rows n script 1)) n script 1) (fixed_text n) m Q × (length Q ≡ length (wrapped_rows n script 1))
-fixed_read other n P d h =
-    let W = has_number (wrapped_rows n script 1) in
-    let is = printed W n script 1 0 in
-    let o = open_in W n script 1 in
-    let r = text_is_read is h in
-    subst (λ t. (m : Tree) × (Q : List Pair) × SameTree m n × DerivesOpen o t m Q × (length Q ≡ length (wrapped_rows n script 1))) (fixed_items n)
-    (layout_derives other n P d (items_text is) r.last o r.follows r.goes_on (omega arith))

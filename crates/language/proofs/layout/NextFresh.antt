@@ -3,11 +3,11 @@ use Rattle.std.proofs.Common.{◌≡◌, Bool, true, false, List, [], ◌∷◌,
 use Rattle.std.specs.Prelude.{codes}
 use Rattle.std.proofs.lemmas.Bool.{and_parts, false≢true}
 use Rattle.tree.specs.Tree.{Tree, Parts, part}
-use Rattle.language.specs.Pieces.{Role, Piece, tok, may, many, ahead, unbroken, ending, open_parameters, close_parameters, sub, absent, never, lay, space, line, feed, deeper, shallower, apart, loose}
+use Rattle.language.specs.Pieces.{Role, Piece, tok, may, many, ahead, unbroken, no_operand, ending, open_parameters, close_parameters, sub, absent, never, lay, space, line, feed, deeper, shallower, apart, loose}
 use Rattle.language.specs.Grammar.{can_run}
 use Rattle.language.specs.LayoutFits.{lines_up}
 use Rattle.language.proofs.table.Alike.{standing_at}
-use Rattle.language.proofs.table.NeatPieces.{Touch, fresh, apart_from, broken, solid, closed, signed, slot_sort, takes_token, takes_part, takes_sign, takes_space, takes_line, takes_joined, takes_apart, takes_loose, is_loose, goes_on_here, echo_followed, goes_behind, behind_token, neat}
+use Rattle.language.proofs.table.NeatPieces.{Touch, fresh, apart_from, broken, solid, closed, signed, slot_sort, takes_token, takes_part, takes_sign, takes_space, takes_line, takes_joined, takes_apart, takes_loose, is_loose, goes_on_here, no_pieces, echo_followed, goes_behind, behind_token, neat}
 use Rattle.language.proofs.table.WayPieces.{TailOf, whole_tail, is_tail}
 use Rattle.language.proofs.layout.WalkLead.{is_lead, pass}
 
@@ -32,6 +32,7 @@ next_fresh a n ps s b o (may v ∷ qs) h k l = further a (may v) qs refl (next_f
 next_fresh a n ps s b o (many v ∷ qs) h k l = further a (many v) qs refl (next_fresh a n ps s b o qs h k l)
 next_fresh a n ps s b o (ahead v ∷ qs) h k l = absurd (false≢true h)
 next_fresh a n ps s b o (unbroken ∷ qs) h k l = further a unbroken qs refl (next_fresh a n ps s b o qs (and_parts (goes_on_here qs) _ (and_parts (takes_joined s) _ h).1).1 k l)
+next_fresh a n ps s b o (no_operand ∷ qs) h k l = further a no_operand qs refl (next_fresh a n ps s b o qs (and_parts (no_pieces qs) _ h).1 k l)
 next_fresh a n ps s b o (ending e ∷ qs) h k l = further a (ending e) qs refl (next_fresh a n ps solid b o qs (and_parts (takes_sign s (codes ";")) _ h).1 k l)
 next_fresh a n ps s b true (open_parameters ∷ qs) h k l = absurd (false≢true h)
 next_fresh a n ps s b false (open_parameters ∷ qs) h k l = further a open_parameters qs refl (next_fresh a n ps solid b true qs (and_parts (is_loose s) _ h).1 k l)

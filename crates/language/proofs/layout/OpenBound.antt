@@ -2,14 +2,14 @@
 use Rattle.std.proofs.Common.{◌≡◌, ℕ, zero, suc, pred, ◌+◌, ◌≤◌, max, Bool, true, false, cond, not, ◌&&◌, nat_eq, List, [], ◌∷◌, ◌++◌, refl, arith, map, filter}
 use Rattle.std.proofs.lemmas.Bool.{and_parts, false≢true}
 use Rattle.tree.specs.Tree.{Tree, node, Parts, none, part, gap, bare, height, parts_height}
-use Rattle.tree.specs.Uses.{is_lean}
+use Rattle.tree.specs.Uses.{is_lean, is_empty}
 use Rattle.language.specs.declared.Rank.TheVariants.{Expression}
 use Rattle.language.specs.declared.Start.TheVariants.{Any}
 use Rattle.tree.specs.declared.kind.Kind.TheVariants as kind
 use Rattle.tokens.specs.declared.token.TokenClass.TheVariants.{End}
 use Rattle.language.specs.declared.Rank.TheVariants.{Primary}
-use Rattle.language.specs.Statements.{prologue, is_directive}
-use Rattle.language.specs.Pieces.{at, shorthand_key, script, Role, expr, PieceOf, Piece, tok, may, many, ahead, unbroken, ending, open_parameters, close_parameters, sub, absent, never, lay, space, line, feed, deeper, shallower, apart, loose, Spelling}
+use Rattle.language.specs.Statements.{prologue, is_directive, module_prologue}
+use Rattle.language.specs.Pieces.{at, shorthand_key, script, Role, expr, PieceOf, Piece, tok, may, many, ahead, unbroken, no_operand, ending, open_parameters, close_parameters, sub, absent, never, lay, space, line, feed, deeper, shallower, apart, loose, Spelling, only}
 use Rattle.language.specs.Grammar.{ways, ways_bare, spellings}
 use Rattle.language.specs.RowPositions.{has_row, rows, roles}
 use Rattle.language.specs.Derivation.{Among, first}
@@ -19,9 +19,11 @@ use Rattle.language.proofs.lower_bound.Domination.{ways_of, settled}
 use Rattle.language.proofs.lower_bound.Domination.{fits as fits_at}
 use Rattle.language.proofs.table.Alike.{standing_at}
 use Rattle.language.proofs.layout.PrintedSpells.{has_no_never, way_runs}
-use Rattle.language.proofs.table.NeatPieces.{Touch, fresh, neat, takes_token, behind_token, takes_part, behind_part as touch_behind, slot_sort, takes_sign, is_loose, takes_space, takes_line, goes_on_here, solid, apart_from, signed, closed, is_item_touch, goes_behind, takes_joined, echo_followed, loose_first, broken, takes_apart, takes_loose}
+use Rattle.language.proofs.table.NeatPieces.{Touch, fresh, neat, takes_token, behind_token, takes_part, behind_part as touch_behind, slot_sort, takes_sign, is_loose, takes_space, takes_line, goes_on_here, no_pieces, solid, apart_from, signed, closed, is_item_touch, goes_behind, takes_joined, echo_followed, loose_first, broken, takes_apart, takes_loose}
 use Rattle.language.proofs.table.NeatExpressions.{Neat, no_spelling, a_spelling}
 use Rattle.language.proofs.table.NeatTable.{table_neat}
+use Rattle.std.specs.Prelude.{◌||◌}
+use Rattle.language.specs.Vocabulary.{is}
 
 -- parameters stand open, or don't; each way closes what it opens
 abbrev pub nested : Bool → List (PieceOf Role) → Bool
@@ -38,6 +40,7 @@ neat_nested a b o s (may w ∷ qs) h = neat_nested a b o s qs h
 neat_nested a b o s (many w ∷ qs) h = neat_nested a b o s qs h
 neat_nested a b o s (ahead w ∷ qs) h = absurd (false≢true h)
 neat_nested a b o s (unbroken ∷ qs) h = neat_nested a b o s qs (and_parts (goes_on_here qs) _ (and_parts (takes_joined s) _ h).1).1
+neat_nested a b o s (no_operand ∷ qs) h = neat_nested a b o s qs (and_parts (no_pieces qs) _ h).1
 neat_nested a b o s (ending e ∷ qs) h = neat_nested a b o solid qs (and_parts (takes_sign s _) _ h).1
 neat_nested a b true s (open_parameters ∷ qs) h = absurd (false≢true h)
 neat_nested a b false s (open_parameters ∷ qs) h = neat_nested a b true solid qs (and_parts (is_loose s) _ h).1
@@ -72,14 +75,27 @@ way_nested a n = go (is_lean (bare n))
     script_nested b (gap ps) = refl
     script_nested b (part m ps) = script_nested (b && is_directive m) ps
 
+    module_nested : (b : Bool) (ps : Parts) → nested false (standing_at script (module_prologue b ps ++ tok End [] ∷ [])) ≡ true
+    module_nested b none = refl
+    module_nested b (gap ps) = refl
+    module_nested b (part m ps) = module_nested (b && is_directive m) ps
+
     of : (a : Role) (m : Tree) → nested false (first_way (ways_of a (spellings a m))) ≡ true
     of shorthand_key (node kind.Identifier w g s e ps) = refl
     of shorthand_key (node _ w g s e ps) = refl
-    of script (node kind.Program w g s e ps) = of_script (Rattle.language.specs.Grammar.can_run (prologue false true [] (lay feed ∷ []) ps ++ tok End [] ∷ []))
+    of script (node kind.Program w g s e ps) = by_text (is_empty w || is w "2022") (is w "module")
       where
-        of_script : (t : Bool) → nested false (first_way (map (settled script) (cond t (at Primary (prologue false true [] (lay feed ∷ []) ps ++ tok End [] ∷ []) ∷ []) []))) ≡ true
-        of_script true = script_nested true ps
-        of_script false = refl
+        one_nested : (x : Spelling) → nested false (standing_at script x.pieces) ≡ true → nested false (first_way (ways_of script (x ∷ []))) ≡ true
+        one_nested x h = of_one (fits_at script x)
+          where
+            of_one : (t : Bool) → nested false (first_way (map (settled script) (cond t (x ∷ []) []))) ≡ true
+            of_one true = h
+            of_one false = refl
+
+        by_text : (t u : Bool) → nested false (first_way (ways_of script (cond t (only (prologue false true [] (lay feed ∷ []) ps ++ tok End [] ∷ [])) (cond u (only (module_prologue true ps ++ tok End [] ∷ [])) [])))) ≡ true
+        by_text true u = one_nested (at Primary (prologue false true [] (lay feed ∷ []) ps ++ tok End [] ∷ [])) (script_nested true ps)
+        by_text false true = one_nested (at Primary (module_prologue true ps ++ tok End [] ∷ [])) (module_nested true ps)
+        by_text false false = refl
     of script (node _ w g s e ps) = refl
     of a m = first_of_neat a (table_neat a m refl)
 
@@ -101,6 +117,7 @@ behind_runs (may w ∷ qs) h = behind_runs qs h
 behind_runs (many w ∷ qs) h = behind_runs qs h
 behind_runs (ahead w ∷ qs) h = behind_runs qs h
 behind_runs (unbroken ∷ qs) h = behind_runs qs h
+behind_runs (no_operand ∷ qs) h = behind_runs qs h
 behind_runs (ending e ∷ qs) h = behind_runs qs h
 behind_runs (open_parameters ∷ qs) h = behind_runs qs h
 behind_runs (close_parameters ∷ qs) h = behind_runs qs h
@@ -121,6 +138,7 @@ lead_bound (may w ∷ qs) o k m h r f = lead_bound qs o k m h r f
 lead_bound (many w ∷ qs) o k m h r f = lead_bound qs o k m h r f
 lead_bound (ahead w ∷ qs) o k m h r f = lead_bound qs o k m h r f
 lead_bound (unbroken ∷ qs) o k m h r f = lead_bound qs o k m h r f
+lead_bound (no_operand ∷ qs) o k m h r f = lead_bound qs o k m h r f
 lead_bound (ending e ∷ qs) o k m h r f = lead_bound qs o k m h r f
 lead_bound (open_parameters ∷ qs) true k m h r f = absurd (false≢true h)
 lead_bound (open_parameters ∷ qs) false k m h r f = let x = lead_bound qs true k m h r f in omega (arith, x)

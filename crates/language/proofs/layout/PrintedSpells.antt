@@ -8,15 +8,15 @@ use Rattle.tree.specs.Tree.{Tree, node, Parts, none, part, gap, parts_of, bare, 
 use Rattle.tree.specs.Uses.{is_lean}
 use Rattle.language.specs.declared.Rank.TheVariants.{Expression}
 use Rattle.language.specs.declared.Start.TheVariants.{Any}
-use Rattle.language.specs.Pieces.{Role, expr, PieceOf, Piece, tok, may, many, ahead, unbroken, ending, open_parameters, close_parameters, sub, absent, never, lay, space, line, feed, deeper, shallower, apart, loose, Spelling, settle_piece}
+use Rattle.language.specs.Pieces.{Role, expr, PieceOf, Piece, tok, may, many, ahead, unbroken, no_operand, ending, open_parameters, close_parameters, sub, absent, never, lay, space, line, feed, deeper, shallower, apart, loose, Spelling, settle_piece}
 use Rattle.language.specs.Token.{Token}
 use Rattle.language.specs.Grammar.{ways, ways_bare, spellings, can_run, own_rank, own_in, own_start}
 use Rattle.language.specs.RowPositions.{has_row, rows, roles, first_roles}
 use Rattle.language.specs.Search.{tail_pieces}
-use Rattle.language.specs.Derivation.{Among, first, later, Reads, Spells, direct, grouped, Runs, done, step, opened, closed, within, missing, token, without_mark, no_more, seen, same_line, explicit, laid, placed, place, pair_of}
+use Rattle.language.specs.Derivation.{Among, first, later, Reads, Spells, direct, grouped, Runs, done, step, opened, closed, within, missing, token, without_mark, no_more, seen, same_line, left_bare, explicit, laid, placed, place, pair_of}
 use Rattle.language.specs.Layout.{some_way, inside, lead_depth, after_part, first_way, next_role}
 use Rattle.language.specs.LayoutFits.{lines_up, fits, parts_fit}
-use Rattle.language.specs.Printed.{Item, word, blank, sign_item, items_text, lead_items, printed, parts_printed, lead_open, open_in, parts_open, pair_count, parts_pair_count, Follows, over, reads, passes, sees, stays, GoesOn}
+use Rattle.language.specs.Printed.{Item, word, blank, sign_item, items_text, lead_items, printed, parts_printed, lead_open, open_in, parts_open, pair_count, parts_pair_count, Follows, over, reads, passes, sees, stays, leaves, GoesOn}
 use Rattle.language.proofs.lower_bound.Domination.{ways_of, settled}
 use Rattle.language.proofs.lower_bound.Domination.{fits as fits_at}
 use Rattle.language.proofs.layout.DerivedFits.{first_among, first_roles_are}
@@ -35,6 +35,7 @@ settled_run a (may w ∷ qs) h = settled_run a qs h
 settled_run a (many w ∷ qs) h = settled_run a qs h
 settled_run a (ahead w ∷ qs) h = settled_run a qs h
 settled_run a (unbroken ∷ qs) h = settled_run a qs h
+settled_run a (no_operand ∷ qs) h = settled_run a qs h
 settled_run a (ending e ∷ qs) h = settled_run a qs h
 settled_run a (open_parameters ∷ qs) h = settled_run a qs h
 settled_run a (close_parameters ∷ qs) h = settled_run a qs h
@@ -80,6 +81,7 @@ next_part (may w ∷ qs) n ps h = let x = next_part qs n ps h in record { tail =
 next_part (many w ∷ qs) n ps h = let x = next_part qs n ps h in record { tail = x.tail; lines = x.lines; names = x.names; runs = x.runs }
 next_part (ahead w ∷ qs) n ps h = let x = next_part qs n ps h in record { tail = x.tail; lines = x.lines; names = x.names; runs = x.runs }
 next_part (unbroken ∷ qs) n ps h = let x = next_part qs n ps h in record { tail = x.tail; lines = x.lines; names = x.names; runs = x.runs }
+next_part (no_operand ∷ qs) n ps h = let x = next_part qs n ps h in record { tail = x.tail; lines = x.lines; names = x.names; runs = x.runs }
 next_part (ending e ∷ qs) n ps h = let x = next_part qs n ps h in record { tail = x.tail; lines = x.lines; names = x.names; runs = x.runs }
 next_part (open_parameters ∷ qs) n ps h = let x = next_part qs n ps h in record { tail = x.tail; lines = x.lines; names = x.names; runs = x.runs }
 next_part (close_parameters ∷ qs) n ps h = let x = next_part qs n ps h in record { tail = x.tail; lines = x.lines; names = x.names; runs = x.runs }
@@ -101,6 +103,7 @@ next_gap (may w ∷ qs) ps h = let x = next_gap qs ps h in record { tail = x.tai
 next_gap (many w ∷ qs) ps h = let x = next_gap qs ps h in record { tail = x.tail; lines = x.lines; names = x.names; runs = x.runs }
 next_gap (ahead w ∷ qs) ps h = let x = next_gap qs ps h in record { tail = x.tail; lines = x.lines; names = x.names; runs = x.runs }
 next_gap (unbroken ∷ qs) ps h = let x = next_gap qs ps h in record { tail = x.tail; lines = x.lines; names = x.names; runs = x.runs }
+next_gap (no_operand ∷ qs) ps h = let x = next_gap qs ps h in record { tail = x.tail; lines = x.lines; names = x.names; runs = x.runs }
 next_gap (ending e ∷ qs) ps h = let x = next_gap qs ps h in record { tail = x.tail; lines = x.lines; names = x.names; runs = x.runs }
 next_gap (open_parameters ∷ qs) ps h = let x = next_gap qs ps h in record { tail = x.tail; lines = x.lines; names = x.names; runs = x.runs }
 next_gap (close_parameters ∷ qs) ps h = let x = next_gap qs ps h in record { tail = x.tail; lines = x.lines; names = x.names; runs = x.runs }
@@ -116,6 +119,7 @@ next_none (may w ∷ qs) h = next_none qs h
 next_none (many w ∷ qs) h = next_none qs h
 next_none (ahead w ∷ qs) h = next_none qs h
 next_none (unbroken ∷ qs) h = next_none qs h
+next_none (no_operand ∷ qs) h = next_none qs h
 next_none (ending e ∷ qs) h = next_none qs h
 next_none (open_parameters ∷ qs) h = next_none qs h
 next_none (close_parameters ∷ qs) h = next_none qs h
@@ -138,6 +142,7 @@ module _ (S : Type 0) (Next : S → Token → S → Type 0) (behind : S → Toke
   halves (blank w ∷ xs) (passes f) = let h = halves xs f in record { mid = h.mid; left = passes h.left; right = h.right }
   halves (Item.name_ahead w ∷ xs) (sees r f) = let h = halves xs f in record { mid = h.mid; left = sees r h.left; right = h.right }
   halves (Item.joined ∷ xs) (stays n b f) = let h = halves xs f in record { mid = h.mid; left = stays n b h.left; right = h.right }
+  halves (Item.closing ∷ xs) (leaves n b f) = let h = halves xs f in record { mid = h.mid; left = leaves n b h.left; right = h.right }
 
   -- where something is read behind them, something is read before them
   goes_on_before : {is : List Item} {s e : S} → Follows S Next behind is s e → GoesOn S Next behind e → GoesOn S Next behind s
@@ -146,6 +151,7 @@ module _ (S : Type 0) (Next : S → Token → S → Type 0) (behind : S → Toke
   goes_on_before (passes f) g = goes_on_before f g
   goes_on_before (sees {t = t} {m = m} r f) g = record { token = t; place = m; next = r.next }
   goes_on_before (stays {t = t} {m = m} n b f) g = record { token = t; place = m; next = n }
+  goes_on_before (leaves {t = t} {m = m} n b f) g = record { token = t; place = m; next = n }
 
   space_follows : (b : Bool) {is : List Item} {s e : S} → Follows S Next behind (cond b (blank (32 ∷ []) ∷ is) is) s e → Follows S Next behind is s e
   space_follows true (passes f) = f
@@ -180,6 +186,7 @@ module _ (S : Type 0) (Next : S → Token → S → Type 0) (behind : S → Toke
   leads d b (many w ∷ qs) is ps k o count h l f go = let x = leads d b qs is ps k o count h l f go in record { parts = x.parts; pairs = x.pairs; runs = step no_more x.runs; same = x.same; counted = x.counted }
   leads d b (ahead w ∷ qs) is ps k o count h l (sees r f) go = let x = leads d b qs is ps k o count h l f go in record { parts = x.parts; pairs = x.pairs; runs = step (seen r) x.runs; same = x.same; counted = x.counted }
   leads d b (unbroken ∷ qs) is ps k o count h l (stays n u f) go = let x = leads d b qs is ps k o count h l f go in record { parts = x.parts; pairs = x.pairs; runs = step (same_line n u) x.runs; same = x.same; counted = x.counted }
+  leads d b (no_operand ∷ qs) is ps k o count h l (leaves n u f) go = let x = leads d b qs is ps k o count h l f go in record { parts = x.parts; pairs = x.pairs; runs = step (left_bare n u) x.runs; same = x.same; counted = x.counted }
   leads d b (ending y ∷ qs) is ps k o count h l (reads r f) go = let x = leads d b qs is ps k o count h l f go in record { parts = x.parts; pairs = x.pairs; runs = step (explicit r) x.runs; same = x.same; counted = x.counted }
   leads d b (open_parameters ∷ qs) is ps k zero count h l (reads r f) go = absurd (omega (arith, l))
   leads d b (open_parameters ∷ qs) is ps k (suc o) count h l (reads r f) go = let x = leads d b qs is ps k o count h (omega (arith, l)) f go in record { parts = x.parts; pairs = x.pairs; runs = opened r x.runs; same = x.same; counted = x.counted }

@@ -164,6 +164,12 @@ minus_apart rest c cs e h k = before_front (one_sign 45 (omega arith) refl) rest
     parts : (c : ℕ) → (c == 61) ≡ false → (c == 45) ≡ false → parts_from (codes "-") c ≡ true
     parts c h k = ap (λ b. not (b && true) && (not (c == 61 && true) && true)) k ∙ ap (λ b. not (b && true) && true) h
 
+pub star_apart : (rest : List ℕ) (c : ℕ) (cs : List ℕ) → chars rest ≡ c ∷ cs → (c == 61) ≡ false → (c == 42) ≡ false → Apart Punctuator (codes "*") rest
+star_apart rest c cs e h k = before_front (one_sign 42 (omega arith) refl) rest c cs e (parts c h k) refl refl
+  where
+    parts : (c : ℕ) → (c == 61) ≡ false → (c == 42) ≡ false → parts_from (codes "*") c ≡ true
+    parts c h k = ap (λ b. not (b && true) && (not (c == 61 && true) && (not (b && true) && true))) k ∙ ap (λ b. not (b && true) && true) h
+
 pub dot_apart : (rest : List ℕ) (c : ℕ) (cs : List ℕ) → chars rest ≡ c ∷ cs → (c == 46) ≡ false → is_decimal_digit c ≡ false → Apart Punctuator (codes ".") rest
 dot_apart rest c cs e h k = before_front (one_sign 46 (omega arith) refl) rest c cs e (ap (λ b. not (b && true) && true) h) (ap not k) refl
 
@@ -176,3 +182,13 @@ open_word = word_of (one_sign 40 (omega arith) refl)
 
 pub close_word : Word Punctuator (codes ")")
 close_word = word_of (one_sign 41 (omega arith) refl)
+
+-- the two braces, and a comma
+pub open_brace : Word Punctuator (codes "{")
+open_brace = word_of (one_sign 123 (omega arith) refl)
+
+pub close_brace : Word Punctuator (codes "}")
+close_brace = word_of (one_sign 125 (omega arith) refl)
+
+pub comma_word : Word Punctuator (codes ",")
+comma_word = word_of (one_sign 44 (omega arith) refl)

@@ -2,11 +2,11 @@
 use Rattle.std.proofs.Common.{◌≡◌, ℕ, zero, suc, ◌+◌, Bool, true, false, List, [], ◌∷◌, ◌++◌, refl, sym, ◌∙◌, subst}
 use Rattle.std.specs.Prelude.{codes}
 use Rattle.std.proofs.lemmas.Bool.{and_parts, false≢true, true≢false}
-use Rattle.language.specs.Pieces.{Role, Piece, tok, may, many, ahead, unbroken, ending, open_parameters, close_parameters, sub, absent, never, lay, space, line, feed, deeper, shallower, apart, loose}
+use Rattle.language.specs.Pieces.{Role, Piece, tok, may, many, ahead, unbroken, no_operand, ending, open_parameters, close_parameters, sub, absent, never, lay, space, line, feed, deeper, shallower, apart, loose}
 use Rattle.language.specs.Grammar.{can_run}
 use Rattle.language.specs.Layout.{indent}
 use Rattle.language.specs.Printed.{Item, items_text, lead_items}
-use Rattle.language.proofs.layout.ReadItems.{Apart, Readable, a_word, a_gap, a_line, readable_utf8}
+use Rattle.language.proofs.layout.ReadItems.{Apart, Readable, a_word, a_gap, a_line, a_close, readable_utf8}
 use Rattle.language.proofs.table.Alike.{standing_at}
 use Rattle.language.proofs.table.NeatPieces.{Touch, apart_from, broken, solid, closed, signed, takes_token, takes_sign, takes_space, takes_line, takes_joined, takes_apart, takes_loose, is_loose, goes_on_here, leads_part, goes_behind, behind_token, neat}
 use Rattle.language.proofs.table.TreesOfWords.{PieceWords}
@@ -14,7 +14,7 @@ use Rattle.language.proofs.table.FirstWords.{FrontIs, Starts}
 use Rattle.language.proofs.table.WayPieces.{TailOf, whole_tail}
 use Rattle.language.proofs.layout.TextAfter.{BehindSign, token_apart, token_unvalued, token_behind, sign_behind}
 use Rattle.language.proofs.table.EndsOf.{EndsOk}
-use Rattle.language.proofs.layout.WalkPieces.{Seen, sign_seen, loose_seen, apart_seen, lead_line, AtTail, line_gap, line_precedes, space_readable, space_behind, line_behind, skip_behind, joined_behind, open_behind}
+use Rattle.language.proofs.layout.WalkPieces.{Seen, sign_seen, loose_seen, apart_seen, lead_line, AtTail, line_gap, line_precedes, space_readable, space_behind, line_behind, skip_behind, joined_behind, closing_behind, open_behind}
 
 abbrev pub is_lead : Piece → Bool
 is_lead (sub x) = false
@@ -27,6 +27,7 @@ pass a (may w) qs rs h u = record { roles = u.roles; behind = u.behind; lines = 
 pass a (many w) qs rs h u = record { roles = u.roles; behind = u.behind; lines = u.lines }
 pass a (ahead w) qs rs h u = record { roles = u.roles; behind = u.behind; lines = u.lines }
 pass a unbroken qs rs h u = record { roles = u.roles; behind = u.behind; lines = u.lines }
+pass a no_operand qs rs h u = record { roles = u.roles; behind = u.behind; lines = u.lines }
 pass a (ending w) qs rs h u = record { roles = u.roles; behind = u.behind; lines = u.lines }
 pass a open_parameters qs rs h u = record { roles = u.roles; behind = u.behind; lines = u.lines }
 pass a close_parameters qs rs h u = record { roles = u.roles; behind = u.behind; lines = u.lines }
@@ -51,6 +52,7 @@ lead_first a b (may w ∷ qs) d t is xs y h = absurd (false≢true h)
 lead_first a b (many w ∷ qs) d t is xs y h = absurd (false≢true h)
 lead_first a b (ahead w ∷ qs) d t is xs y h = absurd (false≢true h)
 lead_first a b (unbroken ∷ qs) d t is xs y h = absurd (false≢true h)
+lead_first a b (no_operand ∷ qs) d t is xs y h = absurd (false≢true h)
 lead_first a b (ending w ∷ qs) d t is xs y h = absurd (false≢true h)
 lead_first a b (open_parameters ∷ qs) d t is xs y h = absurd (false≢true h)
 lead_first a b (close_parameters ∷ qs) d t is xs y h = absurd (false≢true h)
@@ -66,6 +68,7 @@ sign_front (may w ∷ qs) t h f = absurd (false≢true h)
 sign_front (many w ∷ qs) t h f = absurd (false≢true h)
 sign_front (ahead w ∷ qs) t h f = absurd (false≢true h)
 sign_front (unbroken ∷ qs) t h f = absurd (false≢true h)
+sign_front (no_operand ∷ qs) t h f = absurd (false≢true h)
 sign_front (ending w ∷ qs) t h f = absurd (false≢true h)
 sign_front (open_parameters ∷ qs) t h f = absurd (false≢true h)
 sign_front (close_parameters ∷ qs) t h f = absurd (false≢true h)
@@ -96,6 +99,10 @@ walk_lead a (unbroken ∷ qs) d t b o s is xs x h k w e =
     let z = pass_tail a b unbroken qs is xs refl x in
     let y = walk_lead a qs d t b o s is xs z g.1 k w e in
     record { readable = a_line (lead_line a qs d t is xs g.0 z.starts) y.readable; behind = λ f. joined_behind s qs _ u.0 (y.behind f) }
+walk_lead a (no_operand ∷ q ∷ qs) d t b o s is xs x h k w e = absurd (false≢true h)
+walk_lead a (no_operand ∷ []) d t b o s is xs x h k w e =
+    let y = walk_lead a [] d t b o s is xs (pass_tail a b no_operand [] is xs refl x) h k w e in
+    record { readable = a_close y.readable; behind = λ f. closing_behind s _ (y.behind f) }
 walk_lead a (ending v ∷ qs) d t b o s is xs x h k w e =
     let u = and_parts (takes_sign s (codes ";")) _ h in
     sign_seen t s solid (codes ";") (ending v) qs _ refl (sign_behind s (codes ";") (ending v ∷ qs) _ u.0) (walk_lead a qs d t b o solid is xs (pass_tail a b (ending v) qs is xs refl x) u.1 k w e)

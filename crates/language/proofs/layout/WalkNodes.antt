@@ -6,7 +6,7 @@ use Rattle.tokens.specs.declared.token.TokenClass.TheVariants.{IdentifierName}
 use Rattle.tree.specs.Tree.{Tree, node, Parts, none, part, gap, parts_of, text_of, kind_of}
 use Rattle.language.specs.declared.Rank.TheVariants.{Expression}
 use Rattle.language.specs.declared.Start.TheVariants.{Any}
-use Rattle.language.specs.Pieces.{Role, expr, shorthand_key, Slot, Piece, tok, may, many, ahead, unbroken, ending, open_parameters, close_parameters, sub, absent, never, lay}
+use Rattle.language.specs.Pieces.{Role, expr, shorthand_key, Slot, Piece, tok, may, many, ahead, unbroken, no_operand, ending, open_parameters, close_parameters, sub, absent, never, lay}
 use Rattle.language.specs.Grammar.{ways, can_run, own_rank, own_in, own_start}
 use Rattle.language.specs.RowPositions.{has_row, rows, roles, first_roles}
 use Rattle.language.specs.Layout.{some_way, inside, lead_depth, after_part, first_way, next_role}
@@ -17,7 +17,7 @@ use Rattle.language.proofs.layout.ReadItems.{Readable, a_word, a_name}
 use Rattle.language.proofs.layout.WordsApart.{closes, closes_word}
 use Rattle.language.proofs.layout.PunctuatorsApart.{closed_sign_apart}
 use Rattle.language.proofs.table.Alike.{standing_at}
-use Rattle.language.proofs.table.NeatPieces.{Touch, fresh, apart_from, broken, solid, named, valued, closed, stated, dotted, signed, echoed, Sort, an_operand, a_tight, a_name, an_ended, a_quasi, a_method, a_chunk, an_echo, a_script, another, slot_sort, sort_of, takes_part, is_valued, loose_first, leads_part, echo_followed, neat}
+use Rattle.language.proofs.table.NeatPieces.{Touch, fresh, apart_from, broken, solid, named, valued, closed, stated, dotted, starred, signed, echoed, Sort, an_operand, a_tight, a_name, an_ended, a_quasi, a_method, a_chunk, a_key, an_echo, a_script, another, slot_sort, sort_of, takes_part, is_valued, loose_first, leads_part, echo_followed, neat}
 use Rattle.language.proofs.table.NeatPieces.{behind_part as touch_behind}
 use Rattle.language.proofs.table.NeatExpressions.{first_is_open, is_open_literal}
 use Rattle.language.proofs.table.NeatTable.{is_plain}
@@ -25,7 +25,7 @@ use Rattle.language.proofs.table.TreesOfWords.{PieceWords, NameFirst, name_first
 use Rattle.language.proofs.table.FirstWords.{Starts, starts_free, starts_front}
 use Rattle.language.proofs.table.WayPieces.{settled_sort, placed, part_position, FirstWay, first_is_neat, is_tail}
 use Rattle.language.proofs.table.BeginsNodes.{echo_items, node_starts, part_starts, next_start}
-use Rattle.language.proofs.layout.TextAfter.{Behind, Undotted, closes_any}
+use Rattle.language.proofs.layout.TextAfter.{Behind, Undotted, Unstarred, closes_any}
 use Rattle.language.proofs.table.EndsOf.{EndsOk, ends_closes}
 use Rattle.language.proofs.layout.WalkPieces.{Seen, skip_behind}
 use Rattle.language.proofs.layout.WalkLead.{walk_lead}
@@ -45,6 +45,7 @@ After an_ended o t = closes_word t
 After a_quasi o t = closes_word t
 After a_method o t = closes_word t
 After a_chunk o t = true
+After a_key o t = closes t
 After an_echo o t = true
 After a_script o t = true
 After another o t = closes t
@@ -60,6 +61,7 @@ after_of b an_ended o qs is f h = h
 after_of b a_quasi o qs is f h = h
 after_of b a_method o qs is f h = h
 after_of b a_chunk o qs is f h = refl
+after_of b a_key o qs is f h = h
 after_of b an_echo o qs is f h = refl
 after_of b a_script o qs is f h = refl
 after_of b another o qs is f h = h
@@ -77,6 +79,7 @@ pub record Fronts (e : Role) (is : List Item) : Type 0 where
   pub starts : Starts is
   pub closer : (sort_of e ≡ a_quasi) ⊎ ((sort_of e ≡ a_method) ⊎ (sort_of e ≡ a_chunk)) → closes (items_text is) ≡ true
   pub undotted : sort_of e ≡ a_name → Undotted (items_text is)
+  pub unstarred : (sort_of e ≡ a_name) ⊎ (sort_of e ≡ a_key) → Unstarred (items_text is)
 
 touched : (x : Sort) (t : List ℕ) → takes_part valued x ≡ true → ((x ≡ a_quasi) ⊎ ((x ≡ a_method) ⊎ (x ≡ a_chunk)) → closes t ≡ true) → closes t ≡ true
 touched a_quasi t h f = f (inl refl)
@@ -87,6 +90,11 @@ touched _ t h f = absurd (false≢true h)
 dotted_name : (x : Sort) (t : List ℕ) → takes_part dotted x ≡ true → (x ≡ a_name → Undotted t) → Undotted t
 dotted_name a_name t h f = f refl
 dotted_name _ t h f = absurd (false≢true h)
+
+starred_key : (x : Sort) (t : List ℕ) → takes_part starred x ≡ true → ((x ≡ a_name) ⊎ (x ≡ a_key) → Unstarred t) → Unstarred t
+starred_key a_name t h f = f (inl refl)
+starred_key a_key t h f = f (inr refl)
+starred_key _ t h f = absurd (false≢true h)
 
 part_behind : (s : Touch) (e : Role) (x : Slot) (qs : List Piece) (is : List Item) → takes_part s (sort_of e) ≡ true → Fronts e is → Behind s (sub x ∷ qs) is
 part_behind fresh e x qs is h f = tt
@@ -103,6 +111,7 @@ part_behind stated e x qs is h f = touched (sort_of e) (items_text is) (same (so
 part_behind named e x qs is h f = closes_any (items_text is) (touched (sort_of e) (items_text is) h f.closer)
 part_behind closed e x qs is h f = closes_any (items_text is) (touched (sort_of e) (items_text is) h f.closer)
 part_behind dotted e x qs is h f = dotted_name (sort_of e) (items_text is) h f.undotted
+part_behind starred e x qs is h f = starred_key (sort_of e) (items_text is) h f.unstarred
 
 echo_behind : (s : Touch) (x : Slot) (qs : List Piece) (w v : List ℕ) (is : List Item) → takes_part s an_echo ≡ true → Behind s (sub x ∷ qs) (name_ahead w ∷ word IdentifierName v ∷ is)
 echo_behind fresh x qs w v is h = tt
@@ -116,6 +125,7 @@ echo_behind stated x qs w v is h = absurd (false≢true h)
 echo_behind named x qs w v is h = absurd (false≢true h)
 echo_behind closed x qs w v is h = absurd (false≢true h)
 echo_behind dotted x qs w v is h = absurd (false≢true h)
+echo_behind starred x qs w v is h = absurd (false≢true h)
 
 -- a shorthand key before a name of its text
 pub record KeySeen (s : Touch) (x : Slot) (qs : List Piece) (is : List Item) : Type 0 where
@@ -135,6 +145,7 @@ at_end a s b o (may w ∷ qs) xs h l r e = absurd (false≢true h)
 at_end a s b o (many w ∷ qs) xs h l r e = absurd (false≢true h)
 at_end a s b o (ahead w ∷ qs) xs h l r e = absurd (false≢true h)
 at_end a s b o (unbroken ∷ qs) xs h l r e = absurd (false≢true h)
+at_end a s b o (no_operand ∷ qs) xs h l r e = absurd (false≢true h)
 at_end a s b o (ending w ∷ qs) xs h l r e = absurd (false≢true h)
 at_end a s b o (open_parameters ∷ qs) xs h l r e = absurd (false≢true h)
 at_end a s b o (close_parameters ∷ qs) xs h l r e = absurd (false≢true h)
@@ -149,6 +160,7 @@ not_led a (may w ∷ qs) h l = false≢true h
 not_led a (many w ∷ qs) h l = false≢true h
 not_led a (ahead w ∷ qs) h l = false≢true h
 not_led a (unbroken ∷ qs) h l = false≢true h
+not_led a (no_operand ∷ qs) h l = false≢true h
 not_led a (ending w ∷ qs) h l = false≢true h
 not_led a (open_parameters ∷ qs) h l = false≢true h
 not_led a (close_parameters ∷ qs) h l = false≢true h
@@ -164,6 +176,7 @@ not_led_gap a ps (may w ∷ qs) h l = false≢true h
 not_led_gap a ps (many w ∷ qs) h l = false≢true h
 not_led_gap a ps (ahead w ∷ qs) h l = false≢true h
 not_led_gap a ps (unbroken ∷ qs) h l = false≢true h
+not_led_gap a ps (no_operand ∷ qs) h l = false≢true h
 not_led_gap a ps (ending w ∷ qs) h l = false≢true h
 not_led_gap a ps (open_parameters ∷ qs) h l = false≢true h
 not_led_gap a ps (close_parameters ∷ qs) h l = false≢true h
@@ -246,6 +259,7 @@ module _ (W : ℕ → Bool) (node_ends : NodeEnds) (node_fronts : NodeFronts W) 
   after_key n ps a x (many w ∷ qs) r d t s xs lead takes lines fit shown reads = absurd (false≢true lead)
   after_key n ps a x (ahead w ∷ qs) r d t s xs lead takes lines fit shown reads = absurd (false≢true lead)
   after_key n ps a x (unbroken ∷ qs) r d t s xs lead takes lines fit shown reads = absurd (false≢true lead)
+  after_key n ps a x (no_operand ∷ qs) r d t s xs lead takes lines fit shown reads = absurd (false≢true lead)
   after_key n ps a x (ending w ∷ qs) r d t s xs lead takes lines fit shown reads = absurd (false≢true lead)
   after_key n ps a x (open_parameters ∷ qs) r d t s xs lead takes lines fit shown reads = absurd (false≢true lead)
   after_key n ps a x (close_parameters ∷ qs) r d t s xs lead takes lines fit shown reads = absurd (false≢true lead)
@@ -295,6 +309,7 @@ module _ (W : ℕ → Bool) (node_ends : NodeEnds) (node_fronts : NodeFronts W) 
   a_part n ps a (many w ∷ qs) r d b o s xs walk go tail ok runs lines words fit parts flag reads last = absurd (false≢true tail)
   a_part n ps a (ahead w ∷ qs) r d b o s xs walk go tail ok runs lines words fit parts flag reads last = absurd (false≢true tail)
   a_part n ps a (unbroken ∷ qs) r d b o s xs walk go tail ok runs lines words fit parts flag reads last = absurd (false≢true tail)
+  a_part n ps a (no_operand ∷ qs) r d b o s xs walk go tail ok runs lines words fit parts flag reads last = absurd (false≢true tail)
   a_part n ps a (ending w ∷ qs) r d b o s xs walk go tail ok runs lines words fit parts flag reads last = absurd (false≢true tail)
   a_part n ps a (open_parameters ∷ qs) r d b o s xs walk go tail ok runs lines words fit parts flag reads last = absurd (false≢true tail)
   a_part n ps a (close_parameters ∷ qs) r d b o s xs walk go tail ok runs lines words fit parts flag reads last = absurd (false≢true tail)
@@ -316,6 +331,7 @@ module _ (W : ℕ → Bool) (node_ends : NodeEnds) (node_fronts : NodeFronts W) 
   a_gap_part ps a (many w ∷ qs) r d b o s xs go tail ok runs lines words fit parts reads last = absurd (false≢true tail)
   a_gap_part ps a (ahead w ∷ qs) r d b o s xs go tail ok runs lines words fit parts reads last = absurd (false≢true tail)
   a_gap_part ps a (unbroken ∷ qs) r d b o s xs go tail ok runs lines words fit parts reads last = absurd (false≢true tail)
+  a_gap_part ps a (no_operand ∷ qs) r d b o s xs go tail ok runs lines words fit parts reads last = absurd (false≢true tail)
   a_gap_part ps a (ending w ∷ qs) r d b o s xs go tail ok runs lines words fit parts reads last = absurd (false≢true tail)
   a_gap_part ps a (open_parameters ∷ qs) r d b o s xs go tail ok runs lines words fit parts reads last = absurd (false≢true tail)
   a_gap_part ps a (close_parameters ∷ qs) r d b o s xs go tail ok runs lines words fit parts reads last = absurd (false≢true tail)

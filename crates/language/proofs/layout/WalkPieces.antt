@@ -6,19 +6,19 @@ use Rattle.std.specs.Str.{IsAscii}
 use Rattle.std.proofs.lemmas.Str.{chars-IsAscii, chars-nil, IsUtf8-from_ascii}
 use Rattle.std.proofs.lemmas.Bool.{and_from, false≢true, true≢false}
 use Rattle.std.proofs.lemmas.Bool.Decides.{nat_tests}
-use Rattle.language.specs.Pieces.{Role, Slot, PieceOf, Piece, tok, may, many, ahead, unbroken, ending, open_parameters, close_parameters, sub, absent, never, lay, space, line, feed, deeper, shallower, apart, loose}
+use Rattle.language.specs.Pieces.{Role, Slot, PieceOf, Piece, tok, may, many, ahead, unbroken, no_operand, ending, open_parameters, close_parameters, sub, absent, never, lay, space, line, feed, deeper, shallower, apart, loose}
 use Rattle.language.specs.Grammar.{can_run}
 use Rattle.language.specs.Readable.{is_blank, breaks, on_this_line, joins_none, may_precede}
-use Rattle.language.specs.Printed.{Item, blank, joined, items_text, sign_item, lead_items}
+use Rattle.language.specs.Printed.{Item, blank, joined, closing, items_text, sign_item, lead_items}
 use Rattle.language.proofs.layout.ReadItems.{IsGap, Readable, a_word, a_gap}
 use Rattle.language.proofs.layout.WordsApart.{closes_word}
 use Rattle.language.proofs.layout.PunctuatorsApart.{closed_sign_apart}
 use Rattle.language.proofs.table.Alike.{standing_at}
-use Rattle.language.proofs.table.NeatPieces.{Touch, fresh, apart_from, broken, solid, named, valued, closed, stated, dotted, signed, echoed, takes_space, takes_line, takes_joined, takes_apart, takes_loose, is_loose, is_valued, goes_on_here, loose_first, leads_part, neat}
+use Rattle.language.proofs.table.NeatPieces.{Touch, fresh, apart_from, broken, solid, named, valued, closed, stated, dotted, starred, signed, echoed, takes_space, takes_line, takes_joined, takes_apart, takes_loose, is_loose, is_valued, goes_on_here, loose_first, leads_part, neat}
 use Rattle.language.proofs.table.TreesOfWords.{PieceWords}
 use Rattle.language.proofs.table.FirstWords.{FrontIs, Starts, starts_on, starts_line, a_word_first, a_name_seen}
 use Rattle.language.proofs.table.WayPieces.{TailOf, whole_tail, is_tail}
-use Rattle.language.proofs.layout.TextAfter.{Behind, space_first, a_space, another_front, undotted_code}
+use Rattle.language.proofs.layout.TextAfter.{Behind, space_first, a_space, another_front, undotted_code, unstarred_code}
 use Rattle.language.proofs.table.EndsOf.{EndsOk}
 
 -- Blanks
@@ -70,6 +70,7 @@ space_behind valued qs is h = refl
 space_behind closed qs is h = refl
 space_behind stated qs is h = refl
 space_behind dotted qs is h = undotted_code 32 (items_text is) (omega arith) refl refl
+space_behind starred qs is h = unstarred_code 32 (items_text is) (omega arith) refl refl
 space_behind signed qs is h = space_first
 space_behind echoed qs is h = tt
 
@@ -83,6 +84,7 @@ line_behind valued x qs w is h = refl
 line_behind closed x qs w is h = refl
 line_behind stated x qs w is h = refl
 line_behind dotted x qs w is h = undotted_code 10 (w ++ items_text is) (omega arith) refl refl
+line_behind starred x qs w is h = absurd (false≢true h)
 line_behind signed x qs w is h = absurd (false≢true h)
 line_behind echoed x qs w is h = tt
 
@@ -104,6 +106,7 @@ skip_behind signed absent qs is k h = tt
 skip_behind signed (tok c w) qs is k h = absurd (false≢true k)
 skip_behind signed (ahead w) qs is k h = absurd (false≢true k)
 skip_behind signed unbroken qs is k h = absurd (false≢true k)
+skip_behind signed no_operand qs is k h = absurd (false≢true k)
 skip_behind signed (ending e) qs is k h = absurd (false≢true k)
 skip_behind signed open_parameters qs is k h = absurd (false≢true k)
 skip_behind signed close_parameters qs is k h = absurd (false≢true k)
@@ -119,6 +122,7 @@ skip_behind valued q qs is k h = h
 skip_behind closed q qs is k h = h
 skip_behind stated q qs is k h = h
 skip_behind dotted q qs is k h = h
+skip_behind starred q qs is k h = h
 skip_behind echoed q qs is k h = tt
 
 pub joined_behind : (s : Touch) (qs : List Piece) (is : List Item) → takes_joined s ≡ true → Behind s qs is → Behind s (unbroken ∷ qs) (joined ∷ is)
@@ -131,8 +135,23 @@ joined_behind valued qs is k h = h
 joined_behind closed qs is k h = h
 joined_behind stated qs is k h = h
 joined_behind dotted qs is k h = h
+joined_behind starred qs is k h = h
 joined_behind signed qs is k h = tt
 joined_behind echoed qs is k h = tt
+
+pub closing_behind : (s : Touch) (is : List Item) → Behind s [] is → Behind s (no_operand ∷ []) (closing ∷ is)
+closing_behind fresh is h = tt
+closing_behind apart_from is h = tt
+closing_behind broken is h = h
+closing_behind solid is h = tt
+closing_behind named is h = h
+closing_behind valued is h = h
+closing_behind closed is h = h
+closing_behind stated is h = h
+closing_behind dotted is h = h
+closing_behind starred is h = h
+closing_behind signed is h = tt
+closing_behind echoed is h = tt
 
 pub open_behind : (s : Touch) (qs : List Piece) (is : List Item) → is_loose s ≡ true → Behind s qs is
 open_behind fresh qs is h = tt
@@ -144,6 +163,7 @@ open_behind valued qs is h = absurd (false≢true h)
 open_behind closed qs is h = absurd (false≢true h)
 open_behind stated qs is h = absurd (false≢true h)
 open_behind dotted qs is h = absurd (false≢true h)
+open_behind starred qs is h = absurd (false≢true h)
 open_behind signed qs is h = absurd (false≢true h)
 open_behind echoed qs is h = absurd (false≢true h)
 
@@ -170,6 +190,7 @@ loose_seen t solid qs is xs h r c = absurd (false≢true h)
 loose_seen t named qs is xs h r c = absurd (false≢true h)
 loose_seen t stated qs is xs h r c = absurd (false≢true h)
 loose_seen t dotted qs is xs h r c = absurd (false≢true h)
+loose_seen t starred qs is xs h r c = absurd (false≢true h)
 loose_seen t signed qs is xs h r c = absurd (false≢true h)
 loose_seen t echoed qs is xs h r c = absurd (false≢true h)
 
@@ -207,6 +228,7 @@ apart_seen t s y qs is xs h r st f = go (nat_eq (slice_index_or (items_text is) 
     behind_space closed h = absurd (false≢true h)
     behind_space stated h = absurd (false≢true h)
     behind_space dotted h = absurd (false≢true h)
+    behind_space starred h = absurd (false≢true h)
     behind_space echoed h = absurd (false≢true h)
 
     behind_none : (s : Touch) → takes_apart s ≡ true → nat_eq (slice_index_or (items_text is) 0 0) y ≡ false → Behind s (lay (apart y) ∷ qs) (is ++ xs)
@@ -220,6 +242,7 @@ apart_seen t s y qs is xs h r st f = go (nat_eq (slice_index_or (items_text is) 
     behind_none closed h e = absurd (false≢true h)
     behind_none stated h e = absurd (false≢true h)
     behind_none dotted h e = absurd (false≢true h)
+    behind_none starred h e = absurd (false≢true h)
     behind_none echoed h e = absurd (false≢true h)
 
     go : (b : Bool) → nat_eq (slice_index_or (items_text is) 0 0) y ≡ b → Seen t s (lay (apart y) ∷ qs) (cond b (blank (32 ∷ []) ∷ is) is ++ xs)
@@ -236,8 +259,9 @@ lead_line a (may w ∷ qs) d t is xs h st = absurd (false≢true h)
 lead_line a (many w ∷ qs) d t is xs h st = absurd (false≢true h)
 lead_line a (ahead w ∷ qs) d t is xs h st = absurd (false≢true h)
 lead_line a (unbroken ∷ qs) d t is xs h st = absurd (false≢true h)
+lead_line a (no_operand ∷ qs) d t is xs h st = absurd (false≢true h)
 lead_line a (ending e ∷ qs) d t is xs h st = absurd (false≢true h)
-lead_line a (open_parameters ∷ qs) d t is xs h st = absurd (false≢true h)
+lead_line a (open_parameters ∷ qs) d t is xs h st = refl
 lead_line a (close_parameters ∷ qs) d t is xs h st = absurd (false≢true h)
 lead_line a (absent ∷ qs) d t is xs h st = absurd (false≢true h)
 lead_line a (never ∷ qs) d t is xs h st = absurd (false≢true h)

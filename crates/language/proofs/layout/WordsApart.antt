@@ -1,6 +1,6 @@
 -- Words that stand apart from what follows, by its first character.
 use Rattle.std.proofs.Common.{◌≡◌, ℕ, zero, suc, ◌<◌, Bool, true, false, not, ◌&&◌, ◌||◌, List, [], ◌∷◌, ◌++◌, refl, sym, ap, ◌∙◌, subst, arith, IsTrue, IsFalse, inl, inr, ◌⊎◌}
-use Rattle.std.specs.Prelude.{◌==◌, if◌then◌else◌}
+use Rattle.std.specs.Prelude.{◌==◌, if◌then◌else◌, codes}
 use Rattle.std.specs.List.{list_all, list_any}
 use Rattle.std.specs.Str.{chars, IsUtf8, IsAscii}
 use Rattle.std.proofs.lemmas.Str.{chars-append, chars-IsAscii, IsUtf8-from_ascii}
@@ -10,22 +10,26 @@ use Rattle.std.specs.Char.{is_ascii_alphabetic, is_ascii_alphanumeric}
 use Rattle.tokens.specs.Alphabet.{one_of, is_among, begins_with, is_identifier_start, is_identifier_part, is_decimal_digit}
 use Rattle.tokens.specs.Comments.{begins_comment}
 use Rattle.tokens.specs.declared.token.TokenClass.{TokenClass}
-use Rattle.tokens.specs.declared.token.TokenClass.TheVariants.{IdentifierName, Punctuator, NumericLiteral, StringLiteral}
+use Rattle.tokens.specs.declared.token.TokenClass.TheVariants.{IdentifierName, Punctuator, NumericLiteral, StringLiteral, PrivateName}
 use Rattle.tokens.specs.Lexical.{is_of, is_at, none_longer, is_token, may_stand, is_punctuator, punctuators}
 use Rattle.tokens.specs.declared.token.Goal.TheVariants.{Div}
 use Rattle.tokens.specs.Goals.{allows}
-use Rattle.tokens.proofs.Names.{all_stop, ascii_part}
+use Rattle.tokens.proofs.Names.{all_stop, ascii_start, ascii_part}
 use Rattle.tokens.proofs.Longest.{none_is_longer}
 use Rattle.tokens.proofs.Beginnings.{true_false}
 use Rattle.tokens.proofs.Classes.{words_all, start_plain, is_special}
-use Rattle.language.specs.Token.{table_text}
-use Rattle.language.proofs.layout.ReadItems.{Apart}
+use Rattle.language.specs.Readable.{scanned}
+use Rattle.language.proofs.layout.ReadItems.{Apart, KeptText}
 
 -- the text of a token of a class, by itself, as the table has it
 pub record Word (class : TokenClass) (w : List ℕ) : Type 0 where
   pub utf8 : IsUtf8 w
-  pub is : IsTrue (is_of class (chars w))
-  pub kept : table_text class w ≡ w
+  pub is : IsTrue (is_of (scanned class) (chars w))
+  pub kept : KeptText class w
+
+-- a keyword is a name
+pub keyword_named : {w : List ℕ} → Word TokenClass.Keyword w → Word IdentifierName w
+keyword_named x = record { utf8 = x.utf8; is = x.is; kept = refl }
 
 -- What follows
 
@@ -33,9 +37,9 @@ pub record Word (class : TokenClass) (w : List ℕ) : Type 0 where
 abbrev pub is_closer : ℕ → Bool
 is_closer c = is_among c (32 ∷ 10 ∷ 40 ∷ 41 ∷ 44 ∷ 58 ∷ 59 ∷ 63 ∷ 91 ∷ 93 ∷ 96 ∷ 125 ∷ [])
 
--- behind any word but a number: `.`, `+` and `-` too
+-- behind any word but a number: `.`, `+`, `-` and `*` too
 abbrev pub is_sign_closer : ℕ → Bool
-is_sign_closer c = is_among c (46 ∷ 43 ∷ 45 ∷ [])
+is_sign_closer c = is_among c (46 ∷ 43 ∷ 45 ∷ 42 ∷ [])
 
 abbrev pub begins : (ℕ → Bool) → List ℕ → Bool
 begins f [] = false
@@ -122,6 +126,60 @@ name_apart {w} {rest} h k = record {
   kept = h.kept;
 }
 
+-- a keyword stands apart where its name does
+pub keyword_apart : {w rest : List ℕ} → Word TokenClass.Keyword w → closes_word rest ≡ true → Apart TokenClass.Keyword w rest
+keyword_apart x k =
+    let a = name_apart (keyword_named x) k in
+    record { utf8 = a.utf8; longest = a.longest; no_comment = a.no_comment; goal = a.goal; allowed = a.allowed; kept = x.kept }
+
+-- Private names
+
+private_longest : (w rest : List ℕ) → IsTrue (is_of PrivateName w) → IsFalse (begins_with is_identifier_part rest) → IsTrue (is_token PrivateName w rest)
+private_longest [] rest h e = absurd (true_false _ h refl)
+private_longest (c ∷ []) rest h e = absurd (true_false _ h (ends (one_of "#" c)))
+  where
+    ends : (a : Bool) → (a && false) ≡ false
+    ends true = refl
+    ends false = refl
+private_longest (c ∷ x ∷ parts) rest h e =
+    whole (is_of PrivateName (c ∷ x ∷ parts)) (none_longer PrivateName (c ∷ x ∷ parts) rest) h
+    (none_is_longer PrivateName (c ∷ x ∷ parts) rest (λ d more behind q.
+    at_more (one_of "#" c) (is_identifier_start x) (list_all is_identifier_part (parts ++ d ∷ more)) (all_stop is_identifier_part parts more d (subst (λ y. IsFalse (begins_with is_identifier_part y)) q e))))
+  where
+    whole : (a n : Bool) → IsTrue a → IsTrue n → IsTrue (((a && true) && n) && true)
+    whole a n h k = grind (arith, nat_tests)
+
+    at_more : (a b c : Bool) → IsFalse c → IsFalse ((a && (b && c)) && true)
+    at_more a b c h = grind (arith, nat_tests)
+
+private_no_comment : (w rest : List ℕ) → IsTrue (is_of PrivateName w) → IsTrue (not (begins_comment (w ++ rest)))
+private_no_comment [] rest h = absurd (true_false _ h refl)
+private_no_comment (c ∷ parts) rest h = slash (one_of "/" c) (begins_with (one_of "/*") (parts ++ rest)) (no_slash c (and_parts _ _ h).0)
+  where
+    no_slash : (c : ℕ) → IsTrue (one_of "#" c) → IsFalse (one_of "/" c)
+    no_slash c h = grind (arith, nat_tests)
+
+    slash : (a b : Bool) → IsFalse a → IsTrue (not (a && b))
+    slash a b h = grind (arith, nat_tests)
+
+private_allowed : (w : List ℕ) → IsTrue (allows Div PrivateName w)
+private_allowed w = plain (begins_with (one_of "/") w) (begins_with (one_of "}") w)
+  where
+    plain : (a b : Bool) → IsTrue (if a then true else if b then true else true)
+    plain true b = refl
+    plain false true = refl
+    plain false false = refl
+
+pub private_apart : {w rest : List ℕ} → Word PrivateName w → closes_word rest ≡ true → Apart PrivateName w rest
+private_apart {w} {rest} h k = record {
+  utf8 = h.utf8;
+  longest = private_longest (chars w) (chars rest) h.is (no_part rest k);
+  no_comment = private_no_comment (chars w) (chars rest) h.is;
+  goal = Div;
+  allowed = private_allowed (chars w);
+  kept = h.kept;
+}
+
 -- Punctuators
 
 pub sign_whole : (w rest : List ℕ) → IsTrue (is_at Punctuator w rest) → ((c : ℕ) (more behind : List ℕ) → rest ≡ c ∷ more ++ behind → IsFalse (is_at Punctuator (w ++ c ∷ more) behind)) → IsTrue (is_token Punctuator w rest)
@@ -180,3 +238,19 @@ sign_before_gap {w} c cs h k = record {
   allowed = div_allows (chars w) Punctuator (inr (inr (inr refl)));
   kept = h.kept;
 }
+
+-- the word `from`
+pub from_word : Word IdentifierName (codes "from")
+from_word = record {
+  utf8 = IsUtf8-from_ascii (codes "from") ascii;
+  is = subst (λ x. IsTrue (is_of IdentifierName x)) (sym (chars-IsAscii (codes "from") ascii))
+      (and_from _ _ (sym (ascii_start 102 refl)) (and_from _ _ (sym (ascii_part 114 refl)) (and_from _ _ (sym (ascii_part 111 refl)) (and_from _ _ (sym (ascii_part 109 refl)) refl))));
+  kept = refl;
+}
+  where
+    ascii : IsAscii (codes "from")
+    ascii zero = omega arith
+    ascii (suc zero) = omega arith
+    ascii (suc (suc zero)) = omega arith
+    ascii (suc (suc (suc zero))) = omega arith
+    ascii (suc (suc (suc (suc i)))) = omega arith

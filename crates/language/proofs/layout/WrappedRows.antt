@@ -16,6 +16,8 @@ use Rattle.language.specs.LayoutFits.{fits, Marks, PartsMark}
 use Rattle.language.specs.Claims.{Derives}
 use Rattle.language.specs.Token.{Token}
 use Rattle.language.specs.Places.{NextIn, itself}
+use Rattle.language.specs.declared.Language.{Language}
+use Rattle.language.specs.Languages.{DerivesIn, Seen, seen_in}
 use Rattle.tokens.specs.Reading.{any_goal}
 use Rattle.tree.specs.declared.kind.Pair.{Pair}
 use Rattle.language.proofs.lower_bound.Domination.{ways_of, settled}
@@ -233,3 +235,7 @@ wrapped_marks n a r = marks _ n a r (λ k low high. refl)
 -- so what a text derives can be laid out
 pub text_fits : (text : List ℕ) (n : Tree) (P : List Pair) → Derives text n P → fits (has_number (wrapped_rows n script 1)) n script 1 ≡ true
 text_fits text n P d = derived_fits Token (NextIn text any_goal) itself (has_number (wrapped_rows n script 1)) d.1.1 1 (wrapped_marks n script 1)
+
+-- in each language
+pub text_fits_in : (language : Language) (text : List ℕ) (n : Tree) (P : List Pair) → DerivesIn language text n P → fits (has_number (wrapped_rows n script 1)) n script 1 ≡ true
+text_fits_in language text n P d = derived_fits Token (Seen Token (NextIn text any_goal) language) (seen_in language) (has_number (wrapped_rows n script 1)) d.1.2 1 (wrapped_marks n script 1)

@@ -1,5 +1,5 @@
 -- Lists with commas, as a loop reads them: before an item; behind one, where a comma or the closing token stands.
-use Rattle.std.proofs.Common.{◌≡◌, ℕ, true, List, [], ◌∷◌, ◌++◌, refl, ◌∙◌, subst}
+use Rattle.std.proofs.Common.{◌≡◌, ℕ, true, List, ◌∷◌, ◌++◌, refl, subst}
 use Rattle.std.specs.Prelude.{Option, Some, None, codes}
 use Rattle.tokens.specs.declared.token.TokenClass.TheVariants.{Punctuator}
 use Rattle.tree.specs.declared.kind.Pair.{Pair}
@@ -10,7 +10,7 @@ use Rattle.language.specs.Pieces.{Role, PieceOf, put_at, settle_piece}
 use Rattle.language.specs.Token.{Token}
 use Rattle.language.specs.Promises.{IsDetermined}
 use Rattle.language.specs.Grammar.{ways}
-use Rattle.language.specs.Derivation.{Reads, Spells, Runs, within, token}
+use Rattle.language.specs.Derivation.{Reads, Spells, Runs, within}
 use Rattle.language.proofs.list_loops.FirstPieces.{run_never, run_the_part}
 
 module _ (S : Type 0) (Next : S → Token → S → Type 0) (behind : S → Token) (det : IsDetermined S Next behind) where

@@ -25,8 +25,7 @@ use Rattle.language.proofs.table.BareEdges.{edge_bare}
 use Rattle.language.proofs.climbing.Conditionals.{same_sign}
 use Rattle.language.proofs.table.ForDeclarationWays.{two_signs}
 use Rattle.language.proofs.list_loops.StatementLists.{closed_by}
-use Rattle.language.proofs.statements.MissingSemicolons.{ended_stops}
-use Rattle.language.proofs.statements.StatementFollow.{idle_stops}
+use Rattle.language.proofs.statements.StatementFollow.{idle_stops, end_stops}
 use Rattle.language.proofs.list_loops.PiecesSoFar.{Rest, Sofar, turned, run_end}
 
 -- declarators, and what stands behind the last, which may ask for its right edge
@@ -52,7 +51,7 @@ module _ (S : Type 0) (Next : S → Token → S → Type 0) (behind : S → Toke
   -- before a comma a declarator can't go on
   pub comma_declared : {i : Bool} {n : Tree} {k m : S} {t : Token} → Reads S Next behind Punctuator (codes ",") k t m → Declared S Next behind i n k
   comma_declared {i} {n} h = record {
-    stopped = λ u m r. idle_stops S Next behind det Assignment i n refl (λ x b. refl) h u m r;
+    stopped = idle_stops S Next behind det Assignment i n refl (λ x b. refl) h;
     no_value = λ u m r. comma_equals (two_signs S Next behind det refl refl h r).0;
   }
 
@@ -140,7 +139,7 @@ module _ (S : Type 0) (Next : S → Token → S → Type 0) (behind : S → Toke
   pub end_declared : {i : Bool} {f : Bool} (o : ℕ) (n : Tree) (k e : S) (P : List Pair) → Runs ways S Next behind o (goes_to Expression true Any (its_end (edge n))) none k e P → Followed S Next behind f e → Declared S Next behind i n k
   end_declared {i} {f} o n k e P d fine =
       let z = run_end S Next behind det d in
-      record { stopped = λ u m r. ended_stops S Next behind det alike Assignment i (edge n) z.ends fine r; no_value = λ u m r. unequal z.ends fine u m r }
+      record { stopped = end_stops S Next behind det alike Assignment i n z.ends fine; no_value = λ u m r. unequal z.ends fine u m r }
     where
       equals_follows : (f : Bool) (u : Token) → u.class ≡ Punctuator → u.text ≡ codes "=" → may_follow f u ≡ false
       equals_follows f u c w = ap (λ x. may_follow f (record { class = x; text = u.text; start = 0; stop = 0; after_break = false })) c ∙ ap (λ x. may_follow f (record { class = Punctuator; text = x; start = 0; stop = 0; after_break = false })) w

@@ -23,7 +23,7 @@ use Rattle.language.proofs.list_loops.StatementLists.{closed_by}
 use Rattle.language.proofs.statements.StatementFollow.{idle_stops}
 use Rattle.language.proofs.covers.CoverReadings.{name_or_sign}
 use Rattle.language.proofs.list_loops.DeclaratorLists.{before_declarator}
-use Rattle.language.proofs.statements.ForHeads.{Worded, Parted}
+use Rattle.language.proofs.statements.ForHeads.{Worded, Parted, word_stops}
 use Rattle.language.proofs.list_loops.PiecesSoFar.{Sofar, retold}
 
 -- nothing behind the last declarator
@@ -36,13 +36,13 @@ semicolon_equals e = false≢true (sym (ap (λ w. is w ";") e))
 module _ (S : Type 0) (Next : S → Token → S → Type 0) (behind : S → Token) (det : IsDetermined S Next behind) where
   -- a declarator can't go on before these
   pub in_declared : {n : Tree} {k : S} → Worded S Next behind det (codes "in") k → Declared S Next behind false n k
-  in_declared {n} u = record { stopped = λ v m r. idle_stops S Next behind det Assignment false n refl (λ x b. refl) u.reads v m r; no_value = λ v m r. name_or_sign S Next behind det refl u.reads r }
+  in_declared {n} u = record { stopped = word_stops S Next behind det Assignment false n refl (λ x b. refl) u; no_value = λ v m r. name_or_sign S Next behind det refl u.reads r }
 
   pub of_declared : {n : Tree} {k : S} → Worded S Next behind det (codes "of") k → Declared S Next behind false n k
-  of_declared {n} u = record { stopped = λ v m r. idle_stops S Next behind det Assignment false n refl (λ x b. refl) u.reads v m r; no_value = λ v m r. name_or_sign S Next behind det refl u.reads r }
+  of_declared {n} u = record { stopped = word_stops S Next behind det Assignment false n refl (λ x b. refl) u; no_value = λ v m r. name_or_sign S Next behind det refl u.reads r }
 
   pub semicolon_declared : {n : Tree} {k : S} → Parted S Next behind det k → Declared S Next behind false n k
-  semicolon_declared {n} u = record { stopped = λ v m r. idle_stops S Next behind det Assignment false n refl (λ x b. refl) u.reads v m r; no_value = λ v m r. semicolon_equals (two_signs S Next behind det refl refl u.reads r).0 }
+  semicolon_declared {n} u = record { stopped = idle_stops S Next behind det Assignment false n refl (λ x b. refl) u.reads; no_value = λ v m r. semicolon_equals (two_signs S Next behind det refl refl u.reads r).0 }
 
   module _ {Fine : Parts → S → Type 0} {o : ℕ} {mid : S} where
     -- behind the word, before `;`

@@ -73,11 +73,13 @@ end_begins_none t h = of t.class t.text h
         go : (x : Bool) → among w ("}" ∷ []) ≡ x → (x || false) ≡ true → begins_item (record { class = Punctuator; text = w; start = 0; stop = 0; after_break = false }) ≡ false
         go true e h = among_by (λ v. begins_item (record { class = Punctuator; text = v; start = 0; stop = 0; after_break = false }) ≡ false) w ("}" ∷ []) e (refl, tt)
         go false e h = cc
-    of IdentifierName w h = among_by (λ v. begins_item (record { class = IdentifierName; text = v; start = 0; stop = 0; after_break = false }) ≡ false) w ("case" ∷ "default" ∷ []) h (refl, (refl, tt))
+    of IdentifierName w h = among_by (λ v. begins_item (record { class = IdentifierName; text = v; start = 0; stop = 0; after_break = false }) ≡ false) w ("case" ∷ "default" ∷ "export" ∷ []) h (refl, (refl, (refl, tt)))
     of NumericLiteral w h = cc
     of StringLiteral w h = cc
     of Template w h = cc
     of TokenClass.RegularExpressionLiteral w h = cc
+    of TokenClass.PrivateName w h = cc
+    of TokenClass.Keyword w h = cc
 
 module _ (S : Type 0) (Next : S → Token → S → Type 0) (behind : S → Token) (det : IsDetermined S Next behind) where
   -- layout aside, the lines of the table are these

@@ -1,5 +1,5 @@
 -- The parts of a template (ECMA-262 12.2.9), as a loop reads them: the last, or one with an expression behind it.
-use Rattle.std.proofs.Common.{◌≡◌, ℕ, ◌+◌, ◌-◌, Bool, true, false, cond, List, [], ◌∷◌, ◌++◌, refl, sym, ap, ◌∙◌, subst}
+use Rattle.std.proofs.Common.{◌≡◌, ◌⊎◌, inl, inr, ℕ, ◌+◌, ◌-◌, Bool, true, false, cond, List, [], ◌∷◌, ◌++◌, refl, sym, ap, ◌∙◌, subst}
 use Rattle.std.specs.Prelude.{IsTrue, codes, not, ◌&&◌, ◌||◌, nat_eq, slice_index_or, if◌then◌else◌}
 use Rattle.std.specs.Bool.{beq}
 use Prim.Native.String.{String}
@@ -203,7 +203,15 @@ module _ (S : Type 0) (Next : S → Token → S → Type 0) (behind : S → Toke
   -- an expression between parts can't go on
   module _ (alike : IsAlike S Next behind) where
     pub before_chunk : {o : ℕ} (m : Tree) (ps : Parts) {k e : S} {P : List Pair} → Runs ways S Next behind o (chunk_pieces false ps) ps k e P → Stops S Next behind Expression true m k
-    before_chunk m ps {k} d = λ u j r.
+    before_chunk m ps {k} d =
         let v = later_begins ps d in
-        let none_made : operation u ≡ op_none = brace_class u.class u.text (alike.brace k u v.0 j v.1 r.next v.2 ∙ v.3) r.allowed in
-        ap (λ x. stops_at Expression true (edge_as_written (edge m) (behind k)) u (rank_made_by x u.after_break)) none_made
+        record {
+          before = λ u j r.
+              let none_made : operation u ≡ op_none = brace_class u.class u.text (alike.brace k u v.0 j v.1 r.next v.2 ∙ v.3) r.allowed in
+              ap (λ x. stops_at Expression true (edge_as_written (edge m) (behind k)) u (rank_made_by x u.after_break)) none_made;
+          apart = record { name = λ u j next class line. no_name class (alike.sort k u j next (alike.brace k u v.0 j v.1 next v.2 ∙ v.3)) };
+        }
+      where
+        no_name : {A : Type 0} {c : TokenClass} → c ≡ IdentifierName → (c ≡ Punctuator) ⊎ (c ≡ Template) → A
+        no_name class (inl sign) = (let clash : IdentifierName ≡ Punctuator = sym class ∙ sign in cc)
+        no_name class (inr chunk) = (let clash : IdentifierName ≡ Template = sym class ∙ chunk in cc)

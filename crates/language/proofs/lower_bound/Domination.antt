@@ -9,7 +9,7 @@ use Rattle.language.specs.declared.Start.TheVariants.{Any, NoBrace, Statement}
 use Rattle.tokens.specs.declared.token.TokenClass.TheVariants.{IdentifierName, Punctuator}
 use Rattle.tree.specs.Tree.{Tree, node, parts_of, bare}
 use Rattle.language.specs.Vocabulary.{precedence}
-use Rattle.language.specs.Pieces.{Role, expr, Slot, fixed, left, lead, tail, callee, lead_chain, lead_pattern, PieceOf, Piece, tok, may, many, ahead, unbroken, ending, open_parameters, close_parameters, sub, absent, never, lay, Spelling, settle, settle_piece}
+use Rattle.language.specs.Pieces.{Role, expr, Slot, fixed, left, lead, tail, callee, lead_chain, lead_pattern, PieceOf, Piece, tok, may, many, ahead, unbroken, no_operand, ending, open_parameters, close_parameters, sub, absent, never, lay, Spelling, settle, settle_piece}
 use Rattle.tree.specs.Uses.{implies, is_lean}
 use Rattle.language.specs.Grammar.{ways, ways_bare, spellings, fits_position, can_run, starts, own_rank, own_in, own_start}
 use Rattle.language.specs.Derivation.{Among, first, later}
@@ -50,6 +50,7 @@ roles-looser (may w ∷ qs) l = roles-looser qs l
 roles-looser (many w ∷ qs) l = roles-looser qs l
 roles-looser (ahead w ∷ qs) l = roles-looser qs l
 roles-looser (unbroken ∷ qs) l = roles-looser qs l
+roles-looser (no_operand ∷ qs) l = roles-looser qs l
 roles-looser (ending e ∷ qs) l = roles-looser qs l
 roles-looser (open_parameters ∷ qs) l = roles-looser qs l
 roles-looser (close_parameters ∷ qs) l = roles-looser qs l

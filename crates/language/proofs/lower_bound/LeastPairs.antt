@@ -10,6 +10,8 @@ use Rattle.language.specs.Cursor.{Next, behind}
 use Rattle.language.specs.Derivation.{Spells}
 use Rattle.tokens.specs.Reading.{any_goal}
 use Rattle.language.specs.Places.{NextIn, itself}
+use Rattle.language.specs.declared.Language.{Language}
+use Rattle.language.specs.Languages.{DerivesIn, Seen, seen_in}
 use Rattle.language.specs.Cost.{AtMost, least, parts_least, cell_position, add_cost}
 use Rattle.language.specs.Claims.{Derives}
 use Rattle.language.proofs.lower_bound.LowerBound.{at_least}
@@ -50,3 +52,7 @@ spelled_at_least n m a P h d = subst (λ c. AtMost c (length P)) (same_least n m
 -- every derivation of every text with the same tree
 pub derived_at_least : (n m : Tree) (text : List ℕ) (P : List Pair) → SameTree m n → Derives text m P → AtMost (least n script) (length P)
 derived_at_least n m text P h d = subst (λ c. AtMost c (length P)) (same_least n m script h) (at_least Token (NextIn text any_goal) itself d.1.1)
+
+-- in each language
+pub derived_at_least_in : (language : Language) (n m : Tree) (text : List ℕ) (P : List Pair) → SameTree m n → DerivesIn language text m P → AtMost (least n script) (length P)
+derived_at_least_in language n m text P h d = subst (λ c. AtMost c (length P)) (same_least n m script h) (at_least Token (Seen Token (NextIn text any_goal) language) (seen_in language) d.1.2)

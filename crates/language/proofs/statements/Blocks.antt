@@ -1,11 +1,11 @@
 -- Blocks, bodies, cases, handlers, spreads, rests, methods, declarators and elements with a default: each position has nodes of one kind.
-use Rattle.std.proofs.Common.{◌≡◌, ℕ, Bool, true, false, cond, List, [], ◌∷◌, ◌++◌, refl}
+use Rattle.std.proofs.Common.{◌≡◌, ℕ, Bool, true, false, cond, List, [], ◌∷◌, ◌++◌, refl, ap}
 use Rattle.std.specs.Prelude.{Option, Some, None, codes, ◌&&◌}
 use Rattle.tree.specs.declared.kind.Kind.{Kind}
 use Rattle.tree.specs.declared.kind.Kind.TheVariants.{FunctionExpression, BlockStatement, ClassBody, CatchClause, SwitchCase, VariableDeclarator}
 use Rattle.tree.specs.declared.kind.Flags.{Flags}
 use Rattle.tree.specs.declared.kind.Form.{Form}
-use Rattle.tree.specs.declared.kind.Form.TheVariants.{Init, Get, Set, Method, Shorthand, Constructor}
+use Rattle.tree.specs.declared.kind.Form.TheVariants.{Init, Get, Set, Method, Shorthand, Constructor, Generator, Async, AsyncGenerator}
 use Rattle.tree.specs.Tree.{node, Parts, none, part, gap, kind_of, plain}
 use Rattle.language.specs.declared.Rank.TheVariants.{Assignment, Primary}
 use Rattle.language.specs.declared.Start.TheVariants.{Any}
@@ -13,10 +13,13 @@ use Rattle.language.specs.Vocabulary.{is_rest, is_pattern}
 use Rattle.language.specs.Pieces.{Role, expr, method, body, block, declarator, switch_case, handler, class_body, item, Piece, many, absent, lay, line, deeper, shallower, Spelling, at, only, only_at, put, put_at, sign, term, sp, nothing, bound, with_default, parameters}
 use Rattle.language.specs.Statements.{lines, prologue, member_lines, whole, declarator_ways}
 use Rattle.language.specs.Expressions.{methods}
-use Rattle.language.specs.Grammar.{spellings, rests, can_run}
+use Rattle.tree.specs.Uses.{is_init, is_lean}
+use Rattle.language.specs.Grammar.{spellings, can_run, is_function_at}
 use Rattle.language.specs.Derivation.{Among, first}
 use Rattle.language.proofs.table.StatementWays.{behind_brace, pieces_of_one}
 use Rattle.language.proofs.table.OneKind.{OneKind}
+use Rattle.language.proofs.table.ViewIsComplete.{cases}
+use Rattle.language.proofs.table.Productions.{in_true}
 
 -- the pieces of each
 abbrev pub block_pieces : Bool → Parts → List Piece
@@ -73,14 +76,8 @@ method_way Set (gap (part n (part b none))) h = of (is_rest (kind_of n)) h
     of true h = elim h [ ]
     of false h = pieces_of_one h
 method_way Set _ h = elim h [ ]
-method_way Init (gap ps) h = pieces_of_one h
-method_way Method (gap ps) h = pieces_of_one h
-method_way Shorthand (gap ps) h = pieces_of_one h
-method_way Constructor (gap ps) h = pieces_of_one h
-method_way Init _ h = elim h [ ]
-method_way Method _ h = elim h [ ]
-method_way Shorthand _ h = elim h [ ]
-method_way Constructor _ h = elim h [ ]
+method_way _ (gap ps) h = pieces_of_one h
+method_way _ _ h = elim h [ ]
 
 method_there : (f : Form) (ps : Parts) → can_run (method_pieces f ps) ≡ true → Among (at Primary (method_pieces f ps)) (methods f ps)
 method_there Get (gap (part b none)) h = first
@@ -94,14 +91,8 @@ method_there Set (gap (part n (part b none))) h = of (is_rest (kind_of n)) h
     of true h = cc
     of false h = first
 method_there Set _ h = cc
-method_there Init (gap ps) h = first
-method_there Method (gap ps) h = first
-method_there Shorthand (gap ps) h = first
-method_there Constructor (gap ps) h = first
-method_there Init _ h = cc
-method_there Method _ h = cc
-method_there Shorthand _ h = cc
-method_there Constructor _ h = cc
+method_there _ (gap ps) h = first
+method_there _ _ h = cc
 
 declarator_way : (i b : Bool) (ps : Parts) {x : Spelling} → Among x (declarator_ways i b VariableDeclarator ps) → x.pieces ≡ declarator_pieces i b ps
 declarator_way i true (part n (part e none)) h = at_pieces (bound true (kind_of n)) (sp ∷ sign "=" ∷ sp ∷ put (expr Assignment i Any) ∷ []) h
@@ -124,14 +115,14 @@ declarator_there i b (part n (gap none)) h = of (b && is_pattern (kind_of n)) h
 declarator_there i b _ h = cc
 
 -- a block
-pub one_block : (r : Bool) → OneKind (block r) BlockStatement (block_pieces r)
+pub one_block : (r : Bool) → OneKind (block r) BlockStatement plain (block_pieces r)
 unfolding spellings
 one_block r = record {
-  position = record { spans = λ t l. refl; settles = λ x. refl; fitting = λ x. refl; ungrouped = λ y i f e. cc };
+  position = record { spans = λ t l. refl; settles = λ x. refl; fitting = λ x. refl; ungrouped = λ y i f e. cc; unnamed = (λ e. cc, λ e. cc) };
   only = only_one;
   there = λ ps h. first;
   textless = refl;
-  flagless = λ g. refl;
+  flagged = λ w g ps x h. refl;
   lean = λ ps. refl;
 }
   where
@@ -140,14 +131,14 @@ one_block r = record {
     only_one _ w g ps x h = elim h [ ]
 
 -- the body of a function
-pub one_body : OneKind (body) BlockStatement (body_pieces)
+pub one_body : OneKind (body) BlockStatement plain (body_pieces)
 unfolding spellings
 one_body = record {
-  position = record { spans = λ t l. refl; settles = λ x. refl; fitting = λ x. refl; ungrouped = λ y i f e. cc };
+  position = record { spans = λ t l. refl; settles = λ x. refl; fitting = λ x. refl; ungrouped = λ y i f e. cc; unnamed = (λ e. cc, λ e. cc) };
   only = only_one;
   there = λ ps h. first;
   textless = refl;
-  flagless = λ g. refl;
+  flagged = λ w g ps x h. refl;
   lean = λ ps. refl;
 }
   where
@@ -156,14 +147,14 @@ one_body = record {
     only_one _ w g ps x h = elim h [ ]
 
 -- the body of a class
-pub one_class_body : OneKind (class_body) ClassBody (class_body_pieces)
+pub one_class_body : OneKind (class_body) ClassBody plain (class_body_pieces)
 unfolding spellings
 one_class_body = record {
-  position = record { spans = λ t l. refl; settles = λ x. refl; fitting = λ x. refl; ungrouped = λ y i f e. cc };
+  position = record { spans = λ t l. refl; settles = λ x. refl; fitting = λ x. refl; ungrouped = λ y i f e. cc; unnamed = (λ e. cc, λ e. cc) };
   only = only_one;
   there = λ ps h. first;
   textless = refl;
-  flagless = λ g. refl;
+  flagged = λ w g ps x h. refl;
   lean = λ ps. refl;
 }
   where
@@ -172,14 +163,14 @@ one_class_body = record {
     only_one _ w g ps x h = elim h [ ]
 
 -- a case
-pub one_case : (r : Bool) → OneKind (switch_case r) SwitchCase (case_pieces r)
+pub one_case : (r : Bool) → OneKind (switch_case r) SwitchCase plain (case_pieces r)
 unfolding spellings
 one_case r = record {
-  position = record { spans = λ t l. refl; settles = λ x. refl; fitting = λ x. refl; ungrouped = λ y i f e. cc };
+  position = record { spans = λ t l. refl; settles = λ x. refl; fitting = λ x. refl; ungrouped = λ y i f e. cc; unnamed = (λ e. cc, λ e. cc) };
   only = only_one;
   there = there_one;
   textless = refl;
-  flagless = λ g. refl;
+  flagged = λ w g ps x h. refl;
   lean = λ ps. refl;
 }
   where
@@ -195,14 +186,14 @@ one_case r = record {
     there_one none h = cc
 
 -- a handler
-pub one_handler : (r : Bool) → OneKind (handler r) CatchClause (handler_pieces r)
+pub one_handler : (r : Bool) → OneKind (handler r) CatchClause plain (handler_pieces r)
 unfolding spellings
 one_handler r = record {
-  position = record { spans = λ t l. refl; settles = λ x. refl; fitting = λ x. refl; ungrouped = λ y i f e. cc };
+  position = record { spans = λ t l. refl; settles = λ x. refl; fitting = λ x. refl; ungrouped = λ y i f e. cc; unnamed = (λ e. cc, λ e. cc) };
   only = only_one;
   there = there_one;
   textless = refl;
-  flagless = λ g. refl;
+  flagged = λ w g ps x h. refl;
   lean = λ ps. refl;
 }
   where
@@ -217,31 +208,71 @@ one_handler r = record {
     there_one (gap ps) h = first
     there_one none h = cc
 
+-- the form of the function at a method's position
+abbrev pub function_of : Form → Form
+function_of Generator = Generator
+function_of Async = Async
+function_of AsyncGenerator = AsyncGenerator
+function_of _ = Init
+
+abbrev pub method_flags : Form → Flags
+method_flags f = record plain { form = function_of f }
+
+init_is : (z : Form) → is_init z ≡ true → z ≡ Init
+init_is Init e = refl
+init_is _ e = cc
+
+form_is : (f z : Form) → is_function_at f z ≡ true → z ≡ function_of f
+form_is Generator Generator e = refl
+form_is Generator _ e = cc
+form_is Async Async e = refl
+form_is Async _ e = cc
+form_is AsyncGenerator AsyncGenerator e = refl
+form_is AsyncGenerator _ e = cc
+form_is Init z e = init_is z e
+form_is Get z e = init_is z e
+form_is Set z e = init_is z e
+form_is Method z e = init_is z e
+form_is Shorthand z e = init_is z e
+form_is Constructor z e = init_is z e
+
+its_own : (f : Form) → is_function_at f (function_of f) ≡ true
+its_own Generator = refl
+its_own Async = refl
+its_own AsyncGenerator = refl
+its_own _ = refl
+
+lean_method : (f : Form) (ps : Parts) → is_lean (node FunctionExpression [] (method_flags f) 0 0 ps) ≡ true
+lean_method Generator ps = refl
+lean_method Async ps = refl
+lean_method AsyncGenerator ps = refl
+lean_method _ ps = refl
+
 -- the function of a method, a getter or a setter
-pub one_method : (f : Form) → OneKind (method f) FunctionExpression (method_pieces f)
+pub one_method : (f : Form) → OneKind (method f) FunctionExpression (method_flags f) (method_pieces f)
 unfolding spellings
 one_method f = record {
-  position = record { spans = λ t l. refl; settles = λ x. refl; fitting = λ x. refl; ungrouped = λ y i f e. cc };
+  position = record { spans = λ t l. refl; settles = λ x. refl; fitting = λ x. refl; ungrouped = λ y i f e. cc; unnamed = (λ e. cc, λ e. cc) };
   only = only_one;
-  there = λ ps h. method_there f ps h;
+  there = λ ps h. in_true [] (is_function_at f (function_of f)) (its_own f) (method_there f ps h);
   textless = refl;
-  flagless = λ g. refl;
-  lean = λ ps. refl;
+  flagged = λ w g ps x h. cases {ys = []} (is_function_at f g.form) h (λ e k. ap (λ z. record plain { form = z }) (form_is f g.form e)) (λ e k. elim k [ ]);
+  lean = lean_method f;
 }
   where
     only_one : (k' : Kind) (w : List ℕ) (g : Flags) (ps : Parts) (x : Spelling) → Among x (spellings (method f) (node k' w g 0 0 ps)) → (k' ≡ FunctionExpression) × (x.pieces ≡ method_pieces f ps)
-    only_one FunctionExpression w g ps x h = (refl, method_way f ps h)
+    only_one FunctionExpression w g ps x h = cases {ys = []} (is_function_at f g.form) h (λ e k. (refl, method_way f ps k)) (λ e k. elim k [ ])
     only_one _ w g ps x h = elim h [ ]
 
 -- a declarator
-pub one_declarator : (i b : Bool) → OneKind (declarator i b) VariableDeclarator (declarator_pieces i b)
+pub one_declarator : (i b : Bool) → OneKind (declarator i b) VariableDeclarator plain (declarator_pieces i b)
 unfolding spellings
 one_declarator i b = record {
-  position = record { spans = λ t l. refl; settles = λ x. refl; fitting = λ x. refl; ungrouped = λ y i f e. cc };
+  position = record { spans = λ t l. refl; settles = λ x. refl; fitting = λ x. refl; ungrouped = λ y i f e. cc; unnamed = (λ e. cc, λ e. cc) };
   only = only_one;
   there = λ ps h. declarator_there i b ps h;
   textless = refl;
-  flagless = λ g. refl;
+  flagged = λ w g ps x h. refl;
   lean = λ ps. refl;
 }
   where

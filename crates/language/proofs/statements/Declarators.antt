@@ -109,7 +109,7 @@ module _ (S : Type 0) (Next : S → Token → S → Type 0) (behind : S → Toke
       moved {o'} {v} {k'} {x'} {e'} {t'} {V'} h r d = subst (λ c. Spells ways S Next behind o' (expr Assignment i Any) v c e' V') (same_sign S Next behind det (subst (λ c. Reads S Next behind Punctuator (codes "=") c t' x') h r) equals refl).1 d
 
       its_stop : {n' target' v : Tree} {st en : ℕ} {e' : S} → n' ≡ node VariableDeclarator [] plain st en (part target' (part v none)) → Declared S Next behind i n' e' → Stops S Next behind Assignment i v e'
-      its_stop {e' = e'} h fine = λ u m r. subst (λ c. IsTrue (stops Assignment i c (behind e') u)) (ap edge h) (fine.stopped u m r)
+      its_stop {e' = e'} h fine = record { before = λ u m r. subst (λ c. IsTrue (stops Assignment i c (behind e') u)) (ap edge h) (fine.stopped.before u m r); apart = fine.stopped.apart }
 
       no_more : {e' : S} {n' : Tree} {o' : ℕ} {m' : Tree} {P' : List Pair} → Target o' s e' m' P' → Declared S Next behind i n' e' → ⊥
       no_more u fine = fine.no_value t x (subst (λ c. Reads S Next behind Punctuator (codes "=") c t x) (sym (same_target u).0) equals)

@@ -4,7 +4,7 @@ use Rattle.std.specs.Prelude.{IsTrue, codes}
 use Rattle.std.proofs.lemmas.Bool.{and_parts, false≢true}
 use Rattle.std.proofs.lemmas.List.{append-nil}
 use Rattle.tokens.specs.declared.token.TokenClass.{TokenClass}
-use Rattle.tokens.specs.declared.token.TokenClass.TheVariants.{Punctuator, StringLiteral}
+use Rattle.tokens.specs.declared.token.TokenClass.TheVariants.{Punctuator, StringLiteral, IdentifierName}
 use Rattle.tokens.specs.declared.token.Goal.{Goal}
 use Rattle.tokens.specs.declared.token.Goal.TheVariants.{Div}
 use Rattle.tokens.specs.Goals.{allows}
@@ -18,12 +18,11 @@ use Rattle.language.specs.declared.Start.TheVariants.{Any, Statement}
 use Rattle.language.specs.declared.Edge.{Edge}
 use Rattle.language.specs.declared.Edge.TheVariants.{Other}
 use Rattle.language.specs.Vocabulary.{is, precedence, literal_class, is_string}
-use Rattle.language.specs.Edges.{edge, last_edge, ends_in_if, edge_as_written}
+use Rattle.language.specs.Edges.{edge, last_edge, ends_in_if}
 use Rattle.language.specs.Pieces.{Role, expr, name, directive_string, statement, opening, PieceOf, tok, ending, sub, lay, space, at, put, sign, sp, Spelling, Ending}
 use Rattle.language.specs.Statements.{first_is_string, is_string_literal, end_of}
 use Rattle.language.specs.Token.{Token}
 use Rattle.language.specs.StatementStart.{an_expression, statement_start}
-use Rattle.language.specs.Continuations.{of_class, operation, rank_made_by, stops_at}
 use Rattle.language.specs.Promises.{is_free, IsDetermined, ReadBy, Stops, Found, FoundAt}
 use Rattle.language.specs.Following.{IsAlike, Followed, Finished, may_follow, FoundWhere}
 use Rattle.language.specs.Grammar.{ways, spellings}
@@ -37,17 +36,19 @@ use Rattle.language.proofs.table.Productions.{way_from, in_true}
 use Rattle.language.proofs.table.Begins.{retell}
 use Rattle.language.proofs.list_loops.FirstPieces.{run_none, run_token, run_laid, run_part}
 use Rattle.language.proofs.climbing.BinaryTurns.{same_node}
-use Rattle.language.proofs.climbing.Conditionals.{same_sign}
+use Rattle.language.proofs.climbing.Conditionals.{same_sign, stops_before}
 use Rattle.language.proofs.climbing.OperatorNodes.{last_runs}
 use Rattle.language.proofs.climbing.Leaves.{name_form}
 use Rattle.language.proofs.table.BareEdges.{edge_bare}
-use Rattle.language.proofs.statements.MissingSemicolons.{ended_stops}
 use Rattle.language.proofs.table.StatementWays.{Stands, as_opening, label_listed, expression_listed, directive_listed, group_listed}
-use Rattle.language.proofs.table.Beginnings.{directive_flags, made_rank, too_tight, settled_at, OtherWay, a_label, evaluated, a_directive, a_group, other_way}
+use Rattle.language.proofs.table.Beginnings.{directive_flags, made_rank, too_tight, settled_at, OtherWay, a_label, evaluated, a_directive, a_group, other_way, LaterWay, later_async, later_next}
 use Rattle.language.proofs.table.OwnTokenWays.{statement_spans, statement_fits}
 use Rattle.language.proofs.table.SoleWays.{same_span}
 use Rattle.language.proofs.list_loops.PiecesSoFar.{run_end}
 use Rattle.language.proofs.climbing.AsExpressions.{text_class, name_expression, quoted_form, quoted_expression, group_expression}
+use Rattle.language.proofs.statements.StatementFollow.{end_stops}
+use Rattle.language.proofs.climbing.AsyncNames.{no_async_function}
+use Rattle.language.proofs.covers.CoverReadings.{name_or_sign}
 
 -- a token of this class and text
 abbrev colon : TokenClass → List ℕ → Token
@@ -63,10 +64,7 @@ string_bare (node k w g s e ps) = refl
 module _ (S : Type 0) (Next : S → Token → S → Type 0) (behind : S → Token) (det : IsDetermined S Next behind) (alike : IsAlike S Next behind) where
   -- where `:` is read nothing goes on
   colon_stops : {e k : S} {v : Token} (n : Tree) → Reads S Next behind Punctuator (codes ":") e v k → Stops S Next behind Expression true n e
-  colon_stops {e} {k} {v} n h t m r =
-      let al : IsTrue (allows Div v.class v.text) = subst (λ x. IsTrue (allows Div x v.text)) (sym h.class) (subst (λ x. IsTrue (allows Div Punctuator x)) (sym h.text) refl) in
-      let same = det.same Div e t v m k r.next h.next r.allowed al in
-      ap (λ x. stops_at Expression true (edge_as_written (edge n) (behind e)) t (rank_made_by x t.after_break)) (ap operation same.0 ∙ ap (λ c. of_class c v.text) h.class ∙ ap (of_class Punctuator) h.text)
+  colon_stops n h = stops_before S Next behind det Expression true n h refl refl (λ c u. refl)
 
   -- nor does a statement end before one that isn't at the end of a list
   no_end : {b : Bool} {e k e' : S} {v : Token} (y : Ending) → Reads S Next behind Punctuator (codes ":") e v k → Step S Next behind (ending y) e e' → Followed S Next behind b e' → ⊥
@@ -126,25 +124,37 @@ module _ (S : Type 0) (Next : S → Token → S → Type 0) (behind : S → Toke
       let u = ends_of d in
       let x : last_edge (bare_parts ps) ≡ edge u.item = ap (λ v. last_edge (bare_parts v)) u.parts ∙ edge_bare u.item in
       let end : Step S Next behind (end_behind (edge u.item)) u.mid e = subst (λ v. Step S Next behind (end_behind v) u.mid e) x u.ends in
-      seen_expression (tree ∙ ap (node ExpressionStatement [] plain st en) u.parts) pl u.spelled (λ t m r. ended_stops S Next behind det alike Expression true (edge u.item) end fine r) end
+      seen_expression (tree ∙ ap (node ExpressionStatement [] plain st en) u.parts) pl u.spelled (end_stops S Next behind det alike Expression true u.item end fine) end
       (as_plain (λ h. sym (string_bare u.item) ∙ sym (ap (λ v. first_is_string (bare_parts v)) u.parts) ∙ single h))
   seen {e = e} fine (a_directive {st = st} {en = en} {ps = ps} here tree pl single d) =
       let u = ends_of d in
       let q = quoted_form S Next behind det u.spelled in
       let x : Other ≡ edge u.item = sym (ap edge q.tree) in
       let end : Step S Next behind (end_behind (edge u.item)) u.mid e = subst (λ v. Step S Next behind (end_behind v) u.mid e) x u.ends in
-      seen_expression (tree ∙ ap (node ExpressionStatement [] directive_flags st en) u.parts) pl (quoted_expression S Next behind det u.spelled) (λ t m r. ended_stops S Next behind det alike Expression true (edge u.item) end fine r) end
+      seen_expression (tree ∙ ap (node ExpressionStatement [] directive_flags st en) u.parts) pl (quoted_expression S Next behind det u.spelled) (end_stops S Next behind det alike Expression true u.item end fine) end
       (as_directive here (sym (string_bare u.item) ∙ sym (ap (λ v. first_is_string (bare_parts v)) u.parts) ∙ single) u.spelled)
   seen {e = e} fine (a_group {st = st} {en = en} {ps = ps} here tree pl single d) =
       let u = ends_of d in
       let x : last_edge (bare_parts ps) ≡ edge u.item = ap (λ v. last_edge (bare_parts v)) u.parts ∙ edge_bare u.item in
       let end : Step S Next behind (end_behind (edge u.item)) u.mid e = subst (λ v. Step S Next behind (end_behind v) u.mid e) x u.ends in
-      seen_expression (tree ∙ ap (node ExpressionStatement [] plain st en) u.parts) pl (group_expression S Next behind det u.spelled) (λ t m r. ended_stops S Next behind det alike Expression true (edge u.item) end fine r) end
+      seen_expression (tree ∙ ap (node ExpressionStatement [] plain st en) u.parts) pl (group_expression S Next behind det u.spelled) (end_stops S Next behind det alike Expression true u.item end fine) end
       (as_group here (sym (string_bare u.item) ∙ sym (ap (λ v. first_is_string (bare_parts v)) u.parts) ∙ single) u.spelled)
 
-  module _ {p d r : Bool} {a : Role} {s m : S} {t : Token} (stands : Stands a p d r) (read : ReadBy S Next behind Goal.RegExp s t m) (begun : statement_start d r t ≡ an_expression) where
+  -- a label or an expression doesn't begin with `async` and the word `function` on its line
+  pub other_no_function : {p r : Bool} {o : ℕ} {a : Role} {n : Tree} {s e m k : S} {P : List Pair} {t v : Token} → Finished S Next behind n e → OtherWay S Next behind det p r o a n s e P →
+      Reads S Next behind IdentifierName (codes "async") s t m → Reads S Next behind IdentifierName (codes "function") m v k → v.after_break ≡ false → ⊥
+  other_no_function {p} {r} {o} {a} {n} {s} {e} {m} {k} {P} {v = v} fine w async word line = of (seen fine w)
+    where
+      of : Seen p r o a n s e P → ⊥
+      of (seen_label {next = next} {v = x} tree pl d sign rest pairs) =
+          let same = det.same Div s _ _ _ m (name_form S Next behind det d).0.reads.next async.next (det.free Div s _ _ (name_form S Next behind det d).0.reads.next (ap is_free (name_form S Next behind det d).0.reads.class)) (det.free Div s _ m async.next (ap is_free async.class)) in
+          name_or_sign S Next behind det refl word (subst (λ z. Reads S Next behind Punctuator (codes ":") z x next) same.1 sign)
+      of (seen_expression tree pl d st end sort) = no_async_function S Next behind det st.apart d async word line
+
+  module _ {p d r : Bool} {a : Role} {s m : S} {t : Token} (stands : Stands a p d r) (read : ReadBy S Next behind Goal.RegExp s t m) (begun : statement_start d r t ≡ an_expression)
+      (no_later : (o : ℕ) (n : Tree) (e : S) (P : List Pair) → LaterWay S Next behind det r o a t m n s e P an_expression → ⊥) where
     look : {o : ℕ} {n : Tree} {e : S} {P : List Pair} → Spells ways S Next behind o a n s e P → Finished S Next behind n e → Seen p r o a n s e P
-    look d1 fine = seen fine (other_way S Next behind det stands read begun d1)
+    look d1 fine = seen fine (other_way S Next behind det stands read begun (no_later _ _ _ _) d1)
 
     module _ {o : ℕ} {x : Tree} {e0 : S} {P : List Pair} (found : Found S Next behind o Expression true Statement s e0 x P)
         (no_label : (o' : ℕ) (n' : Tree) (P' : List Pair) (v : Token) (k : S) → Spells ways S Next behind o' name n' s e0 P' → Reads S Next behind Punctuator (codes ":") e0 v k → ⊥) where
@@ -247,6 +257,10 @@ module _ (S : Type 0) (Next : S → Token → S → Type 0) (behind : S → Toke
       let u = (name_form S Next behind det d).0 in
       false≢true (ap (λ z. is_string_literal (kind_of z) (text_of z)) (sym u.tree ∙ same.1) ∙ lit)
 
+  -- an async function begins with a name
+  no_name : {r : Bool} {o : ℕ} {a : Role} {t : Token} {m : S} {n : Tree} {s e : S} {P : List Pair} → LaterWay S Next behind det r o a t m n s e P an_expression → (t.class ≡ IdentifierName → ⊥) → ⊥
+  no_name (later_async c w h tree pl d) other = other c
+
   -- In a prologue, where a string alone is found.
   module _ {r : Bool} {s m : S} {t : Token} (read : ReadBy S Next behind Goal.RegExp s t m) (begun : statement_start true r t ≡ an_expression) {o : ℕ} {x : Tree} {e0 : S} {P : List Pair} (found : Found S Next behind o Expression true Statement s e0 x P)
       (lit : is_string_literal (kind_of x) (text_of x) ≡ true) where
@@ -254,7 +268,7 @@ module _ (S : Type 0) (Next : S → Token → S → Type 0) (behind : S → Toke
     pub directive_found : {st en : ℕ} {e : S} → t.class ≡ StringLiteral → Step S Next behind (end_behind Other) e0 e → ((e' : S) → Step S Next behind (end_behind Other) e0 e' → e' ≡ e) →
         Placed S Next behind (opening r) (node ExpressionStatement [] directive_flags st en (part x none)) s e → FoundWhere S Next behind (Finished S Next behind) o (opening r) s e (node ExpressionStatement [] directive_flags st en (part x none)) P
     directive_found {st} {en} {e} text end only pl =
-        statement_found as_opening read begun found (stays found lit) directive_flags flags (λ e' h. only e' (subst (λ v. Step S Next behind (end_behind v) e0 e') (sym other) h)) (spells (as_string found.spelled lit)) pl
+        statement_found as_opening read begun (λ o n e P u. no_name u (λ h. let v : StringLiteral ≡ IdentifierName = sym text ∙ h in cc)) found (stays found lit) directive_flags flags (λ e' h. only e' (subst (λ v. Step S Next behind (end_behind v) e0 e') (sym other) h)) (spells (as_string found.spelled lit)) pl
       where
         not_both : t.class ≡ Punctuator → ⊥
         not_both h = let u : StringLiteral ≡ Punctuator = sym text ∙ h in cc
@@ -280,7 +294,7 @@ module _ (S : Type 0) (Next : S → Token → S → Type 0) (behind : S → Toke
     -- in parentheses it is none
     pub string_group_found : {st en : ℕ} {e : S} → t.class ≡ Punctuator → Step S Next behind (end_behind (edge x)) e0 e → ((e' : S) → Step S Next behind (end_behind (edge x)) e0 e' → e' ≡ e) →
         Placed S Next behind (opening r) (node ExpressionStatement [] plain st en (part x none)) s e → FoundWhere S Next behind (Finished S Next behind) o (opening r) s e (node ExpressionStatement [] plain st en (part x none)) P
-    string_group_found {st} {en} {e} sign end only pl = statement_found as_opening read begun found (stays found lit) plain flags only (spells (as_string found.spelled lit)) pl
+    string_group_found {st} {en} {e} sign end only pl = statement_found as_opening read begun (λ o n e P u. no_name u (λ h. let v : Punctuator ≡ IdentifierName = sym sign ∙ h in cc)) found (stays found lit) plain flags only (spells (as_string found.spelled lit)) pl
       where
         not_both : t.class ≡ StringLiteral → ⊥
         not_both h = let u : Punctuator ≡ StringLiteral = sym sign ∙ h in cc
@@ -303,6 +317,18 @@ module _ (S : Type 0) (Next : S → Token → S → Type 0) (behind : S → Toke
   -- A name with a `:` behind it, which begins no expression that a statement may be.
   module _ {p d r : Bool} {a : Role} {s m : S} {t : Token} (stands : Stands a p d r) (read : ReadBy S Next behind Goal.RegExp s t m) (begun : statement_start d r t ≡ an_expression)
       {o : ℕ} {l : Tree} {e0 k : S} {v : Token} (label : FoundAt S Next behind o name s e0 l []) {x : Tree} {Q : List Pair} (found : Found S Next behind o Expression true Statement s e0 x Q) (colon_read : Reads S Next behind Punctuator (codes ":") e0 v k) where
+    -- behind the name no function's word stands
+    unlater : {o' : ℕ} {n : Tree} {e : S} {P : List Pair} → LaterWay S Next behind det r o' a t m n s e P an_expression → ⊥
+    unlater w =
+        let f = later_next S Next behind det w in
+        let u = (name_form S Next behind det label.spelled).0 in
+        let here = det.same Goal.RegExp s t u.sign m e0 read.next u.reads.next read.allowed (det.free Goal.RegExp s u.sign e0 u.reads.next (ap is_free u.reads.class)) in
+        let word = subst (λ z. Reads S Next behind IdentifierName (codes "function") z f.0 f.1) here.1 f.2 in
+        let al : IsTrue (allows Div v.class v.text) = subst (λ c. IsTrue (allows Div c v.text)) (sym colon_read.class) (subst (λ c. IsTrue (allows Div Punctuator c)) (sym colon_read.text) refl) in
+        let same = det.same Div e0 f.0 v f.1 k word.next colon_read.next (det.free Div e0 f.0 f.1 word.next (ap is_free word.class)) al in
+        let clash : IdentifierName ≡ Punctuator = sym word.class ∙ ap (λ (c : Token). c.class) same.0 ∙ colon_read.class in
+        cc
+
     -- what spells such a statement is a label
     record Labelled (o' : ℕ) (n : Tree) (e : S) (P : List Pair) : Type 0 where
       st : ℕ
@@ -344,7 +370,7 @@ module _ (S : Type 0) (Next : S → Token → S → Type 0) (behind : S → Toke
           direct (settled a w) (way_from a (node LabeledStatement [] plain st en ps) w refl (label_listed [] plain 0 0 (bare_parts ps) stands) (statement_fits stands w)) pl
           (retell S Next behind (sym (settled_at stands w)) (within label.spelled (step (token colon_read) (step laid (last_runs S Next behind inner.spelled)))));
       only = λ o' e' n' P' d1 fine.
-          let u = labelled fine (look stands read begun d1 fine) in
+          let u = labelled fine (look stands read begun (λ o n e P u. unlater u) d1 fine) in
           let same = inner.only o' e' u.inner P' u.spelled u.fine in
           let span = same_span S Next behind det (statement_spans stands) (subst (λ h. Placed S Next behind a h s e') u.tree u.placed) pl same.0 in
           (same.0, u.tree ∙ same_node refl refl refl span.0 span.1 (ap (λ h. part l (part h none)) same.1), same.2);

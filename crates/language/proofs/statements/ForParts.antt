@@ -1,5 +1,5 @@
 -- The first part of the head of a `for` (ECMA-262 13.7), by what was read there: a declaration, an expression, a target or a pattern.
-use Rattle.std.proofs.Common.{◌≡◌, ℕ, Bool, false, List, [], ◌∷◌, refl, ◌∙◌}
+use Rattle.std.proofs.Common.{◌≡◌, ℕ, Bool, false, List, refl}
 use Rattle.std.specs.Prelude.{codes}
 use Rattle.tree.specs.declared.kind.Kind.TheVariants.{VariableDeclaration}
 use Rattle.tree.specs.declared.kind.Pair.{Pair}
@@ -7,7 +7,7 @@ use Rattle.tree.specs.Tree.{Tree, node, kind_of}
 use Rattle.language.specs.declared.Rank.{Rank}
 use Rattle.language.specs.declared.Rank.TheVariants.{Expression}
 use Rattle.language.specs.declared.Start.{Start}
-use Rattle.language.specs.Pieces.{expr, head, pattern}
+use Rattle.language.specs.Pieces.{expr}
 use Rattle.language.specs.Statements.{is_declaration}
 use Rattle.language.specs.Token.{Token}
 use Rattle.language.specs.Promises.{IsDetermined, Stops}
@@ -15,15 +15,15 @@ use Rattle.language.specs.Grammar.{ways, spellings}
 use Rattle.language.specs.Derivation.{Spells, direct, grouped}
 use Rattle.language.proofs.table.ViewIsComplete.{way_of}
 use Rattle.language.proofs.statements.StatementFollow.{idle_stops}
-use Rattle.language.proofs.statements.ForHeads.{Worded, Parted}
+use Rattle.language.proofs.statements.ForHeads.{Worded, Parted, word_stops}
 
 module _ (S : Type 0) (Next : S → Token → S → Type 0) (behind : S → Token) (det : IsDetermined S Next behind) where
   -- nothing goes on before these
   pub before_in : (n : Tree) (e : S) → Worded S Next behind det (codes "in") e → Stops S Next behind Expression false n e
-  before_in n e u = idle_stops S Next behind det Expression false n refl (λ x b. refl) u.reads
+  before_in n e u = word_stops S Next behind det Expression false n refl (λ x b. refl) u
 
   pub before_of : (n : Tree) (e : S) → Worded S Next behind det (codes "of") e → Stops S Next behind Expression false n e
-  before_of n e u = idle_stops S Next behind det Expression false n refl (λ x b. refl) u.reads
+  before_of n e u = word_stops S Next behind det Expression false n refl (λ x b. refl) u
 
   pub before_semicolon : (n : Tree) (e : S) → Parted S Next behind det e → Stops S Next behind Expression false n e
   before_semicolon n e u = idle_stops S Next behind det Expression false n refl (λ x b. refl) u.reads

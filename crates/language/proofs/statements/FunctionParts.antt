@@ -20,8 +20,8 @@ use Rattle.language.proofs.table.Begins.{goes_to}
 use Rattle.language.proofs.list_loops.FirstPieces.{run_token, run_laid, run_part, run_never, run_no_part, run_gap_part, run_the_gap, run_the_part}
 use Rattle.language.proofs.climbing.Leaves.{name_form}
 use Rattle.language.proofs.list_loops.ParameterLists.{parameters_and_body}
-use Rattle.language.proofs.climbing.FunctionsAndClasses.{function_behind, class_behind}
-use Rattle.language.proofs.table.StatementWays.{behind_function, behind_class}
+use Rattle.language.proofs.climbing.FunctionsAndClasses.{class_behind}
+use Rattle.language.proofs.table.StatementWays.{behind_class}
 use Rattle.language.proofs.statements.Blocks.{one_class_body}
 use Rattle.language.proofs.table.OneKind.{one_kind}
 use Rattle.language.proofs.table.SoleWays.{Anyhow, found_where}
@@ -42,12 +42,6 @@ function_name ps = goes_to Expression true Any (named (bare_parts ps) ++ sign "(
 
 abbrev pub class_name : Parts → List (PieceOf Role)
 class_name ps = goes_to Expression true Any (given (bare_parts ps) (put name ∷ sp ∷ []) ++ given (others (bare_parts ps)) (term "extends" ∷ sp ∷ put (expr LeftHandSide true Any) ∷ sp ∷ []) ++ put class_body ∷ [])
-
--- a name, as a declaration has it
-abbrev pub declared_function : Parts → List (PieceOf Role)
-declared_function none = goes_to Expression true Any Rattle.language.specs.Pieces.nothing
-declared_function (gap ps) = goes_to Expression true Any Rattle.language.specs.Pieces.nothing
-declared_function (part n ps) = sub name ∷ call_and_body ps
 
 abbrev pub declared_class : Parts → List (PieceOf Role)
 declared_class none = goes_to Expression true Any Rattle.language.specs.Pieces.nothing
@@ -90,10 +84,6 @@ module _ (S : Type 0) (Next : S → Token → S → Type 0) (behind : S → Toke
   no_heritage (gap ps) d r = let u = run_part S Next behind (run_the_gap S Next behind r) in name_or_sign S Next behind det refl (name_form S Next behind det d).0.reads (class_body_begins u.spelled).reads
 
   module _ {Fine : Parts → S → Type 0} {o : ℕ} {mid : S} where
-    -- an expression: behind the word
-    pub function_spaced : Sofar S Next behind det Fine o function_behind mid function_name mid (λ ps. ps) []
-    function_spaced = lay_on S Next behind det
-
     pub function_named : {k : S} {n : Tree} {A : List Pair} → FoundAt S Next behind o name mid k n A → Sofar S Next behind det Fine o function_name mid call_and_body k (part n) A
     function_named found = part_is S Next behind det {FineNode = Anyhow} (λ m ps. refl) (λ o' e P d fine. run_never S Next behind d)
         (λ o' ps e P d fine. (let u = run_token S Next behind (run_the_gap S Next behind d) in name_or_sign S Next behind det refl (name_form S Next behind det found.spelled).0.reads u.reads))
@@ -114,24 +104,6 @@ module _ (S : Type 0) (Next : S → Token → S → Type 0) (behind : S → Toke
     pub class_unnamed : AbsentAt S Next behind name mid → Sofar S Next behind det Fine o class_name mid heritage_and_body mid gap []
     class_unnamed missed = gap_is S Next behind det (λ ps. refl) (λ o' e P d fine. run_never S Next behind d)
         (λ o' m ps e P d fine. (let u = run_the_part S Next behind d in missed.nothing o' u.mid m u.one u.spelled))
-
-    -- a declaration: behind the word
-    pub declared_function_spaced : Sofar S Next behind det Fine o (λ ps. goes_to Expression true Any (behind_function (bare_parts ps))) mid (λ ps. lay space ∷ declared_function ps) mid (λ ps. ps) []
-    declared_function_spaced = retold_where S Next behind det (λ o' ps e P d fine. there ps d) (λ ps e P d. back ps d)
-      where
-        there : {o' : ℕ} {e : S} {P : List Pair} (ps : Parts) → Runs ways S Next behind o' (goes_to Expression true Any (behind_function (bare_parts ps))) ps mid e P → goes_to Expression true Any (behind_function (bare_parts ps)) ≡ lay space ∷ declared_function ps
-        there none d = absurd (run_never S Next behind d)
-        there (gap ps) d = absurd (run_never S Next behind d)
-        there (part n ps) d = refl
-
-        back : {e : S} {P : List Pair} (ps : Parts) → Runs ways S Next behind o (lay space ∷ declared_function ps) ps mid e P → goes_to Expression true Any (behind_function (bare_parts ps)) ≡ lay space ∷ declared_function ps
-        back none d = absurd (run_never S Next behind (run_laid S Next behind d))
-        back (gap ps) d = absurd (run_never S Next behind (run_laid S Next behind d))
-        back (part n ps) d = refl
-
-    pub declared_function_named : {k : S} {n : Tree} {A : List Pair} → FoundAt S Next behind o name mid k n A → Sofar S Next behind det Fine o declared_function mid call_and_body k (part n) A
-    declared_function_named found = part_is S Next behind det {FineNode = Anyhow} (λ m ps. refl) (λ o' e P d fine. run_never S Next behind d) (λ o' ps e P d fine. run_never S Next behind d)
-        (found_where S Next behind det found) (λ o' m ps k' e A' P d r fine. tt)
 
     pub declared_class_spaced : Sofar S Next behind det Fine o (λ ps. goes_to Expression true Any (behind_class (bare_parts ps))) mid (λ ps. lay space ∷ declared_class ps) mid (λ ps. ps) []
     declared_class_spaced = retold_where S Next behind det (λ o' ps e P d fine. there ps d) (λ ps e P d. back ps d)

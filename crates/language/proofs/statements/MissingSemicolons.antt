@@ -98,6 +98,8 @@ follow_makes b Punctuator w h = of (either _ _ h)
 follow_makes b NumericLiteral w h = makes_nothing
 follow_makes b StringLiteral w h = makes_nothing
 follow_makes b TokenClass.RegularExpressionLiteral w h = makes_nothing
+follow_makes b TokenClass.PrivateName w h = makes_nothing
+follow_makes b TokenClass.Keyword w h = makes_nothing
 follow_makes b End w h = makes_nothing
 follow_makes b Template w h = go (nat_eq (slice_index_or w 0 0) 96) refl
   where

@@ -5,7 +5,7 @@ use Rattle.tree.specs.Tree.{Parts, none, part, gap, bare_parts}
 use Rattle.language.specs.declared.Rank.TheVariants.{Expression}
 use Rattle.language.specs.declared.Start.TheVariants.{Any}
 use Rattle.language.specs.declared.Edge.{Edge}
-use Rattle.language.specs.Pieces.{Role, PieceOf, Ending, unbroken, ending, sub, lay, space, put}
+use Rattle.language.specs.Pieces.{Role, PieceOf, Ending, unbroken, ending, sub, lay, space, put, no_operand}
 use Rattle.language.specs.Statements.{after_word, end_of}
 use Rattle.language.specs.Token.{Token}
 use Rattle.language.specs.Promises.{IsDetermined}

@@ -1,17 +1,18 @@
 -- Positions of one sort, and that a node's ways at such positions name the same parts, at positions of one sort.
-use Rattle.std.proofs.Common.{◌≡◌, Bool, true, false, cond, List, [], ◌∷◌, refl, sym, subst}
+use Rattle.std.proofs.Common.{◌≡◌, Bool, true, false, cond, ◌&&◌, List, [], ◌∷◌, refl, sym, ap, subst}
 use Rattle.std.specs.Prelude.{nat_le, map}
 use Rattle.language.specs.declared.Rank.{Rank}
 use Rattle.language.specs.declared.Rank.TheVariants.{Expression, Member}
 use Rattle.language.specs.declared.Start.{Start}
 use Rattle.tree.specs.Tree.{Tree, node, Parts, none, part, gap}
 use Rattle.language.specs.Vocabulary.{precedence}
-use Rattle.language.specs.Pieces.{Role, expr, chain_part, pattern, Slot, fixed, left, lead, tail, callee, lead_chain, lead_pattern, PieceOf, Piece, tok, may, many, ahead, unbroken, ending, open_parameters, close_parameters, sub, absent, never, lay, Spelling, settle, settle_piece}
+use Rattle.language.specs.Pieces.{Role, expr, chain_part, pattern, Slot, fixed, left, lead, tail, callee, lead_chain, lead_pattern, PieceOf, Piece, tok, may, many, ahead, unbroken, no_operand, ending, open_parameters, close_parameters, sub, absent, never, lay, Spelling, settle, settle_piece}
 use Rattle.language.specs.Grammar.{spellings, own_rank, own_in, own_start}
 use Rattle.language.specs.RowPositions.{roles}
 use Rattle.language.specs.Cost.{cell_position}
 use Rattle.language.specs.LayoutFits.{lines_up}
-use Rattle.language.proofs.table.TreesOfWords.{PieceWords}
+use Rattle.language.proofs.table.TreesOfWords.{PieceWords, name_stays, names_stay}
+use Rattle.tokens.specs.declared.token.TokenClass.TheVariants.{IdentifierName}
 
 -- both at an expression, or one position; or, with false, but for the start both at a chain's part or both at a pattern
 pub data Like : Bool → Role → Role → Type 0 where
@@ -56,6 +57,7 @@ roles_like b a c (may w ∷ qs) h = roles_like b a c qs h
 roles_like b a c (many w ∷ qs) h = roles_like b a c qs h
 roles_like b a c (ahead w ∷ qs) h = roles_like b a c qs h
 roles_like b a c (unbroken ∷ qs) h = roles_like b a c qs h
+roles_like b a c (no_operand ∷ qs) h = roles_like b a c qs h
 roles_like b a c (ending e ∷ qs) h = roles_like b a c qs h
 roles_like b a c (open_parameters ∷ qs) h = roles_like b a c qs h
 roles_like b a c (close_parameters ∷ qs) h = roles_like b a c qs h
@@ -71,6 +73,7 @@ lines_alike a c (may w ∷ qs) ps = lines_alike a c qs ps
 lines_alike a c (many w ∷ qs) ps = lines_alike a c qs ps
 lines_alike a c (ahead w ∷ qs) ps = lines_alike a c qs ps
 lines_alike a c (unbroken ∷ qs) ps = lines_alike a c qs ps
+lines_alike a c (no_operand ∷ qs) ps = lines_alike a c qs ps
 lines_alike a c (ending e ∷ qs) ps = lines_alike a c qs ps
 lines_alike a c (open_parameters ∷ qs) ps = lines_alike a c qs ps
 lines_alike a c (close_parameters ∷ qs) ps = lines_alike a c qs ps
@@ -90,6 +93,7 @@ words_alike a c (may w ∷ qs) h = words_alike a c qs h
 words_alike a c (many w ∷ qs) h = words_alike a c qs h
 words_alike a c (ahead w ∷ qs) h = words_alike a c qs h
 words_alike a c (unbroken ∷ qs) h = words_alike a c qs h
+words_alike a c (no_operand ∷ qs) h = words_alike a c qs h
 words_alike a c (ending e ∷ qs) h = words_alike a c qs h
 words_alike a c (open_parameters ∷ qs) h = words_alike a c qs h
 words_alike a c (close_parameters ∷ qs) h = words_alike a c qs h
@@ -98,18 +102,35 @@ words_alike a c (absent ∷ qs) h = words_alike a c qs h
 words_alike a c (never ∷ qs) h = words_alike a c qs h
 words_alike a c (lay x ∷ qs) h = words_alike a c qs h
 
+pub stay_alike : (told : Bool) (a c : Role) (qs : List Piece) → names_stay told (standing_at a qs) ≡ names_stay told (standing_at c qs)
+stay_alike told a c [] = refl
+stay_alike told a c (tok x w ∷ qs) = ap (λ b. name_stays told x w && b) (stay_alike told a c qs)
+stay_alike told a c (may w ∷ qs) = stay_alike told a c qs
+stay_alike told a c (many w ∷ qs) = stay_alike told a c qs
+stay_alike told a c (ahead w ∷ qs) = ap (λ b. name_stays told IdentifierName w && b) (stay_alike told a c qs)
+stay_alike told a c (unbroken ∷ qs) = stay_alike told a c qs
+stay_alike told a c (no_operand ∷ qs) = stay_alike told a c qs
+stay_alike told a c (ending e ∷ qs) = stay_alike told a c qs
+stay_alike told a c (open_parameters ∷ qs) = stay_alike told a c qs
+stay_alike told a c (close_parameters ∷ qs) = stay_alike told a c qs
+stay_alike told a c (sub s ∷ qs) = stay_alike told a c qs
+stay_alike told a c (absent ∷ qs) = stay_alike told a c qs
+stay_alike told a c (never ∷ qs) = stay_alike told a c qs
+stay_alike told a c (lay x ∷ qs) = stay_alike told a c qs
+
 -- pieces that name the same parts, at positions of one sort; the tokens of either are words where those of the other are
 pub record NamesAlike (b : Bool) (qs rs : List (PieceOf Role)) : Type 0 where
   pub roles : AllLike b (Rattle.language.specs.RowPositions.roles qs) (Rattle.language.specs.RowPositions.roles rs)
   pub lines : (ps : Parts) → lines_up qs ps ≡ lines_up rs ps
   pub words : PieceWords qs → PieceWords rs
   pub words_back : PieceWords rs → PieceWords qs
+  pub stay : (told : Bool) → names_stay told qs ≡ names_stay told rs
 
 pub names_back : {b : Bool} {qs rs : List (PieceOf Role)} → NamesAlike b qs rs → NamesAlike b rs qs
-names_back h = record { roles = all_back h.roles; lines = λ ps. sym (h.lines ps); words = h.words_back; words_back = h.words }
+names_back h = record { roles = all_back h.roles; lines = λ ps. sym (h.lines ps); words = h.words_back; words_back = h.words; stay = λ t. sym (h.stay t) }
 
 pub itself_alike : (b : Bool) (a c : Role) (qs : List Piece) → (b ≡ true → own_start a ≡ own_start c) → NamesAlike b (standing_at a qs) (standing_at c qs)
-itself_alike b a c qs h = record { roles = roles_like b a c qs h; lines = lines_alike a c qs; words = words_alike a c qs; words_back = words_alike c a qs }
+itself_alike b a c qs h = record { roles = roles_like b a c qs h; lines = lines_alike a c qs; words = words_alike a c qs; words_back = words_alike c a qs; stay = λ t. stay_alike t a c qs }
 
 -- the pieces of both spellings do, wherever they stand
 abbrev pub AlikeAnywhere : Spelling → Spelling → Type 0

@@ -2,12 +2,12 @@
 use Rattle.std.proofs.Common.{◌≡◌, false, cond, refl, ap}
 use Rattle.language.specs.declared.Edge.TheVariants.{Arrow, Postfix, Other}
 use Rattle.tree.specs.Tree.{Tree, node, Parts, none, part, gap, bare, bare_parts}
-use Rattle.language.specs.Edges.{edge, last_edge, goes_right, is_arrow, is_update, trails, ends_in_if, last_ends_in_if}
+use Rattle.language.specs.Edges.{edge, last_edge, goes_right, is_arrow, is_update, is_yield, operand_edge, trails, ends_in_if, last_ends_in_if}
 
 mutual
   -- of a node
   pub edge_bare : (n : Tree) → edge (bare n) ≡ edge n
-  edge_bare (node k w g s e ps) = ap (λ x. cond (goes_right k) x (cond (is_arrow k) (cond g.expression x Arrow) (cond (is_update k) (cond g.prefix Other Postfix) Other))) (last_edge_bare ps)
+  edge_bare (node k w g s e ps) = ap (λ x. cond (goes_right k) x (cond (is_arrow k) (cond g.expression x Arrow) (cond (is_update k) (cond g.prefix Other Postfix) (cond (is_yield k) (operand_edge x) Other)))) (last_edge_bare ps)
 
   -- of the last part
   pub last_edge_bare : (ps : Parts) → last_edge (bare_parts ps) ≡ last_edge ps

@@ -9,11 +9,11 @@ use Rattle.tokens.specs.declared.token.TokenClass.TheVariants.{IdentifierName, P
 use Rattle.tokens.specs.declared.token.Goal.{Goal}
 use Rattle.tokens.specs.Goals.{allows}
 use Rattle.tree.specs.declared.kind.Kind.{Kind}
-use Rattle.tree.specs.declared.kind.Kind.TheVariants.{Literal, ExpressionStatement, BlockStatement, LabeledStatement, VariableDeclaration, ObjectPattern}
+use Rattle.tree.specs.declared.kind.Kind.TheVariants.{Literal, ExpressionStatement, BlockStatement, LabeledStatement, VariableDeclaration, ObjectPattern, ForOfStatement, FunctionDeclaration}
 use Rattle.tree.specs.declared.kind.Flags.{Flags}
 use Rattle.tree.specs.declared.kind.Pair.{Pair}
 use Rattle.tree.specs.Tree.{Tree, node, Parts, part, kind_of, bare, bare_parts, plain}
-use Rattle.tree.specs.Uses.{is_lean, used_flags, has_text}
+use Rattle.tree.specs.Uses.{is_lean, used_flags, has_text, is_init, is_async}
 use Rattle.tree.proofs.Lean.{lean_flags, lean_text}
 use Rattle.language.specs.declared.Rank.{Rank}
 use Rattle.language.specs.declared.Rank.TheVariants.{Expression, Grouped}
@@ -26,22 +26,25 @@ use Rattle.language.specs.Pieces.{Role, expr, chain_part, name, directive_string
 use Rattle.language.specs.Statements.{first_is_string}
 use Rattle.language.specs.Token.{Token}
 use Rattle.language.specs.ExpressionStart.{ExpressionStart, with_brace, with_function, with_class, no_start, expression_start_by, expression_start}
-use Rattle.language.specs.StatementStart.{StatementStart, a_block, an_empty, a_variable, a_return, a_function, a_class, an_expression, is_own, statement_words, declaration_words, statement_signs, statement_start_among, statement_start_by, statement_start}
+use Rattle.language.specs.StatementStart.{StatementStart, a_block, an_empty, a_variable, a_return, a_function, a_class, an_expression, is_own, statement_words, declaration_words, statement_signs, statement_start_among, statement_start_by, statement_start, a_for}
 use Rattle.language.specs.Promises.{is_free, IsDetermined, ReadBy}
 use Rattle.language.specs.Grammar.{ways, spellings, starts}
-use Rattle.language.specs.Derivation.{Spells, direct, grouped, Runs, Placed}
+use Rattle.language.specs.Derivation.{Spells, direct, grouped, Runs, Placed, reserved_key, reserved_word, Reads}
 use Rattle.language.proofs.lower_bound.Domination.{settled, fits}
 use Rattle.language.proofs.table.ViewIsComplete.{way_of, made, one, cases}
 use Rattle.language.proofs.climbing.Spine.{Core, on_spine, grows_on_spine, spine_of}
 use Rattle.language.proofs.climbing.FirstTurn.{grows_start}
-use Rattle.language.proofs.table.Begins.{Each, among_by, first_of, goes_to, retell, Taken, taken, taken_free}
-use Rattle.language.proofs.table.TokenFirstWays.{identifier_opens, head_object, head_function, head_class, head_object_pattern}
+use Rattle.language.proofs.table.Begins.{Each, among_by, first_of, goes_to, retell, Taken, taken, taken_free, behind_first}
+use Rattle.language.proofs.table.TokenFirstWays.{identifier_opens, head_object, head_function, head_class, head_object_pattern, async_free}
 use Rattle.language.proofs.climbing.LeftmostParts.{Cored, in_group, in_way, core_by, no_spine_core}
 use Rattle.language.proofs.climbing.Leaves.{name_form}
 pub use Rattle.language.proofs.climbing.Leaves.{made_rank}
 use Rattle.language.proofs.climbing.BinaryTurns.{same_node}
-use Rattle.language.proofs.list_loops.FirstPieces.{run_part}
-use Rattle.language.proofs.table.StatementWays.{begins_as, own_class, own_text, may_stand, behind_own, own_pieces, Stands, as_statement, as_item, as_opening, Stated, by_own, by_label, by_expression, by_directive, by_group, stated}
+use Rattle.language.proofs.list_loops.FirstPieces.{run_part, run_never, run_unbroken, run_laid, run_token}
+use Rattle.language.proofs.table.StatementWays.{begins_as, own_class, own_text, may_stand, behind_own, own_pieces, Stands, as_statement, as_item, as_opening, Stated, by_own, by_for, by_function, is_plainly, for_of_pieces, by_label, by_expression, by_directive, by_group, stated}
+use Rattle.tree.specs.declared.kind.Form.{Form}
+use Rattle.tree.specs.declared.kind.Form.TheVariants.{Init, Generator, Async, AsyncGenerator}
+use Rattle.language.specs.Expressions.{function_pieces}
 
 -- the first token of such a statement begins it
 pub own_begins : (d r : Bool) (b : StatementStart) (w : List ℕ) → is_own b ≡ true → may_stand d r b w ≡ true → statement_start_by d r (own_class b) (own_text b w) ≡ b
@@ -59,6 +62,10 @@ own_begins d r an_empty w h m = refl
 own_begins d r an_expression w h m = cc
 own_begins true r _ w h m = refl
 own_begins false r _ w h m = refl
+
+for_begins : (d r : Bool) → statement_start_by d r IdentifierName (codes "for") ≡ a_for
+for_begins true r = own_begins true r a_for [] refl refl
+for_begins false r = own_begins false r a_for [] refl refl
 
 -- and the goal for operands reads it
 pub own_allowed : (b : StatementStart) (w : List ℕ) → is_own b ≡ true → (is_free (own_class b) ≡ true) ⊎ IsTrue (allows Goal.RegExp (own_class b) (own_text b w))
@@ -87,9 +94,19 @@ own_node_text k g st en ps {v} {w} h l e = of (begins_as k) e (own_has_text k h)
     of a_variable e t = sym e
     of _ e t = lean_text (bare (node k w g st en ps)) l t
 
-own_flags : (k : Kind) (g : Flags) → is_own (begins_as k) ≡ true → used_flags k g ≡ plain
-own_flags BlockStatement g h = refl
-own_flags _ g h = cc
+-- the flags of a node that has a form alone
+abbrev pub form_flags : Form → Flags
+form_flags x = record plain { form = x }
+
+plain_form : (x : Form) → is_init x ≡ true → form_flags x ≡ plain
+plain_form Init h = refl
+plain_form _ h = cc
+
+own_flags : (k : Kind) (g : Flags) → is_own (begins_as k) ≡ true → is_plainly k g ≡ true → used_flags k g ≡ plain
+own_flags BlockStatement g h f = refl
+own_flags ForOfStatement g h f = plain_form g.form f
+own_flags FunctionDeclaration g h f = plain_form g.form f
+own_flags _ g h f = cc
 
 -- the flags of a directive
 abbrev pub directive_flags : Flags
@@ -131,6 +148,8 @@ opening_begins d r NumericLiteral w h = refl
 opening_begins d r StringLiteral w h = refl
 opening_begins d r Template w h = refl
 opening_begins d r TokenClass.RegularExpressionLiteral w h = refl
+opening_begins d r TokenClass.PrivateName w h = refl
+opening_begins d r TokenClass.Keyword w h = refl
 opening_begins d r End w h = refl
 
 -- so nothing but a group stands at Grouped
@@ -161,7 +180,7 @@ module _ (S : Type 0) (Next : S → Token → S → Type 0) (behind : S → Toke
   cored_begins : {o : ℕ} {y : Rank} {i : Bool} {n : Tree} {s e : S} {P : List Pair} (x : ExpressionStart) → Cored S Next behind det o y i Statement n s e P x → begins_statement x ≡ true
   cored_begins x (in_group less p d q all) = refl
   cored_begins x (in_way is (head_object k b q) lean pl d) = cc
-  cored_begins x (in_way is (head_function k b q) lean pl d) = cc
+  cored_begins x (in_way is (head_function k z b q) lean pl d) = cc
   cored_begins x (in_way is (head_class k b q) lean pl d) = cc
   cored_begins x (in_way is (head_object_pattern k op e l tk q) lean pl d) =
       let u = run_part S Next behind (retell S Next behind q d) in
@@ -187,6 +206,30 @@ module _ (S : Type 0) (Next : S → Token → S → Type 0) (behind : S → Toke
     pub tree : n ≡ node kind (text_as b v) plain st en parts
     pub placed : Placed S Next behind a n s e
     pub runs : Runs ways S Next behind o (goes_to Expression true Any (behind_own r kind (bare_parts parts))) parts m e P
+
+  -- a `for await`, a generator, and an async function, whose first token other statements have too
+  pub data LaterWay (r : Bool) (o : ℕ) (a : Role) (t : Token) (m : S) (n : Tree) (s e : S) (P : List Pair) : StatementStart → Type 0 where
+    later_for : {z : Form} {st en : ℕ} {ps : Parts} → is_init z ≡ false → n ≡ node ForOfStatement [] (form_flags z) st en ps → Placed S Next behind a n s e →
+        Runs ways S Next behind o (behind_first (goes_to Expression true Any (for_of_pieces r z (bare_parts ps)))) ps m e P → LaterWay r o a t m n s e P a_for
+    later_generator : {st en : ℕ} {ps : Parts} → n ≡ node FunctionDeclaration [] (form_flags Generator) st en ps → Placed S Next behind a n s e →
+        Runs ways S Next behind o (behind_first (goes_to Expression true Any (function_pieces Generator (bare_parts ps)))) ps m e P → LaterWay r o a t m n s e P a_function
+    later_async : {z : Form} {st en : ℕ} {ps : Parts} → t.class ≡ IdentifierName → t.text ≡ codes "async" → is_async z ≡ true → n ≡ node FunctionDeclaration [] (form_flags z) st en ps → Placed S Next behind a n s e →
+        Runs ways S Next behind o (behind_first (goes_to Expression true Any (function_pieces z (bare_parts ps)))) ps m e P → LaterWay r o a t m n s e P an_expression
+
+  -- behind the word `async` of such a function its own word stands, on the same line
+  pub later_next : {r : Bool} {o : ℕ} {a : Role} {t : Token} {m : S} {n : Tree} {s e : S} {P : List Pair} → LaterWay r o a t m n s e P an_expression → (v : Token) × (k : S) × Reads S Next behind IdentifierName (codes "function") m v k × (v.after_break ≡ false)
+  later_next {o = o} {m = m} {e = e} {P = P} (later_async {z = z} {ps = ps} c w h tree pl d) = of z h d
+    where
+      of : (z : Form) → is_async z ≡ true → Runs ways S Next behind o (behind_first (goes_to Expression true Any (function_pieces z (bare_parts ps)))) ps m e P → (v : Token) × (k : S) × Reads S Next behind IdentifierName (codes "function") m v k × (v.after_break ≡ false)
+      of Async h d =
+          let a = run_unbroken S Next behind d in
+          let b = run_token S Next behind (run_laid S Next behind a.runs) in
+          (b.sign, b.mid, b.reads, det.break m b.sign a.sign b.mid a.mid b.reads.next a.next ∙ a.unbroken)
+      of AsyncGenerator h d =
+          let a = run_unbroken S Next behind d in
+          let b = run_token S Next behind (run_laid S Next behind a.runs) in
+          (b.sign, b.mid, b.reads, det.break m b.sign a.sign b.mid a.mid b.reads.next a.next ∙ a.unbroken)
+      of _ h d = cc
 
   -- any other statement: a label; an expression; in a prologue a directive, or a group with a string alone
   pub data OtherWay (p r : Bool) (o : ℕ) (a : Role) (n : Tree) (s e : S) (P : List Pair) : Type 0 where
@@ -233,18 +276,24 @@ module _ (S : Type 0) (Next : S → Token → S → Type 0) (behind : S → Toke
       ap (statement_start d r) same.0 ∙ ap (λ c. statement_start_by d r c u.0.sign.text) u.0.reads.class ∙ ap (statement_start_by d r IdentifierName) u.0.reads.text ∙ opening_begins d r IdentifierName u.0.text (ap begins_statement (identifier_opens u.0.text u.1))
 
   -- what a statement is, with its beginning
-  data Viewed (p r : Bool) (o : ℕ) (a : Role) (v : List ℕ) (m : S) (n : Tree) (s e : S) (P : List Pair) (b : StatementStart) : Type 0 where
-    its_own : is_own b ≡ true → OwnWay r o a b v m n s e P → Viewed p r o a v m n s e P b
-    another : b ≡ an_expression → OtherWay p r o a n s e P → Viewed p r o a v m n s e P b
+  pub data Viewed (p r : Bool) (o : ℕ) (a : Role) (t : Token) (m : S) (n : Tree) (s e : S) (P : List Pair) (b : StatementStart) : Type 0 where
+    its_own : is_own b ≡ true → OwnWay r o a b t.text m n s e P → Viewed p r o a t m n s e P b
+    another : b ≡ an_expression → OtherWay p r o a n s e P → Viewed p r o a t m n s e P b
+    later : LaterWay r o a t m n s e P b → Viewed p r o a t m n s e P b
 
-  viewed : {p d r : Bool} {o : ℕ} {a : Role} {n : Tree} {s e m : S} {P : List Pair} {t : Token} → Stands a p d r → ReadBy S Next behind Goal.RegExp s t m → Spells ways S Next behind o a n s e P → Viewed p r o a t.text m n s e P (statement_start d r t)
+  pub viewed : {p d r : Bool} {o : ℕ} {a : Role} {n : Tree} {s e m : S} {P : List Pair} {t : Token} → Stands a p d r → ReadBy S Next behind Goal.RegExp s t m → Spells ways S Next behind o a n s e P → Viewed p r o a t m n s e P (statement_start d r t)
   viewed st read (grouped x y z) = elim st [ ]
+  viewed st read (reserved_key x y z) = elim st [ ]
+  viewed st read (reserved_word x y z) = elim st [ ]
   viewed {p} {d} {r} {o} {a} {n = node k w g stt en ps} {s} {e} {m} {P} {t} st read (direct qs h pl run) =
       let v = way_of h in
       of (retell S Next behind (v.is ∙ settled_at st v.spelling) run) v.lean (stated k w g 0 0 (bare_parts ps) st v.listed)
     where
+      async_begins : t.class ≡ IdentifierName → t.text ≡ codes "async" → statement_start d r t ≡ an_expression
+      async_begins c v = opening_begins d r t.class t.text (ap (λ x. begins_statement (expression_start_by x t.text)) c ∙ ap (λ x. begins_statement (expression_start_by IdentifierName x)) v ∙ ap begins_statement (identifier_opens (codes "async") async_free))
+
       own_here : (b : StatementStart) → b ≡ begins_as k → is_own (begins_as k) ≡ true → w ≡ text_as (begins_as k) t.text → g ≡ plain → Runs ways S Next behind o (goes_to Expression true Any (behind_own r k (bare_parts ps))) ps m e P →
-          Viewed p r o a t.text m (node k w g stt en ps) s e P b
+          Viewed p r o a t m (node k w g stt en ps) s e P b
       own_here b begun own text flags run = its_own (ap is_own begun ∙ own) (record {
         kind = k;
         begins = sym begun;
@@ -256,11 +305,33 @@ module _ (S : Type 0) (Next : S → Token → S → Type 0) (behind : S → Toke
         runs = run;
       })
 
-      of : {ql : List Piece} → Runs ways S Next behind o (goes_to Expression true Any ql) ps s e P → is_lean (bare (node k w g stt en ps)) ≡ true → Stated p d r k w g (bare_parts ps) ql → Viewed p r o a t.text m (node k w g stt en ps) s e P (statement_start d r t)
-      of run lean (by_own own may q) =
+      -- a function of another form
+      of_function : (z : Form) → is_init z ≡ false → d ≡ true → node k w g stt en ps ≡ node FunctionDeclaration [] (form_flags z) stt en ps → Runs ways S Next behind o (goes_to Expression true Any (function_pieces z (bare_parts ps))) ps s e P → Viewed p r o a t m (node k w g stt en ps) s e P (statement_start d r t)
+      of_function Generator h all tree run =
+          let u = taken_free S Next behind det Goal.RegExp (goes_to Expression true Any (function_pieces Generator (bare_parts ps))) refl refl run read in
+          let begun : statement_start d r t ≡ a_function = ap (λ b. statement_start b r t) all ∙ ap (λ c. statement_start_by true r c t.text) u.class ∙ ap (statement_start_by true r IdentifierName) u.text ∙ own_begins true r a_function [] refl refl in
+          subst (Viewed p r o a t m (node k w g stt en ps) s e P) (sym begun) (later (later_generator tree pl u.runs))
+      of_function Async h all tree run =
+          let u = taken_free S Next behind det Goal.RegExp (goes_to Expression true Any (function_pieces Async (bare_parts ps))) refl refl run read in
+          subst (Viewed p r o a t m (node k w g stt en ps) s e P) (sym (async_begins u.class u.text)) (later (later_async u.class u.text refl tree pl u.runs))
+      of_function AsyncGenerator h all tree run =
+          let u = taken_free S Next behind det Goal.RegExp (goes_to Expression true Any (function_pieces AsyncGenerator (bare_parts ps))) refl refl run read in
+          subst (Viewed p r o a t m (node k w g stt en ps) s e P) (sym (async_begins u.class u.text)) (later (later_async u.class u.text refl tree pl u.runs))
+      of_function Init h all tree run = absurd (false≢true (sym h))
+      of_function _ h all tree run = absurd (run_never S Next behind run)
+
+      of : {ql : List Piece} → Runs ways S Next behind o (goes_to Expression true Any ql) ps s e P → is_lean (bare (node k w g stt en ps)) ≡ true → Stated p d r k w g (bare_parts ps) ql → Viewed p r o a t m (node k w g stt en ps) s e P (statement_start d r t)
+      of run lean (by_for kind z q) =
+          let u = taken_free S Next behind det Goal.RegExp (goes_to Expression true Any (for_of_pieces r g.form (bare_parts ps))) refl refl (retell S Next behind (ap (goes_to Expression true Any) q) run) read in
+          let begun : statement_start d r t ≡ a_for = ap (λ c. statement_start_by d r c t.text) u.class ∙ ap (statement_start_by d r IdentifierName) u.text ∙ for_begins d r in
+          let tree : node k w g stt en ps ≡ node ForOfStatement [] (form_flags g.form) stt en ps = same_node kind (lean_text (bare (node k w g stt en ps)) lean (ap has_text kind)) (lean_flags (bare (node k w g stt en ps)) lean ∙ ap (λ v. used_flags v g) kind) refl refl refl in
+          subst (Viewed p r o a t m (node k w g stt en ps) s e P) (sym begun) (later (later_for z tree pl u.runs))
+      of run lean (by_function kind all z q) =
+          of_function g.form z all (same_node kind (lean_text (bare (node k w g stt en ps)) lean (ap has_text kind)) (lean_flags (bare (node k w g stt en ps)) lean ∙ ap (λ v. used_flags v g) kind) refl refl refl) (retell S Next behind (ap (goes_to Expression true Any) q) run)
+      of run lean (by_own own may plainly q) =
           let u = own_taken r k w own read (retell S Next behind (ap (goes_to Expression true Any) q) run) in
           own_here (statement_start d r t) (ap (λ c. statement_start_by d r c t.text) u.class ∙ ap (statement_start_by d r (own_class (begins_as k))) u.text ∙ own_begins d r (begins_as k) w own may) own
-          (own_node_text k g stt en ps own lean u.text) (lean_flags (bare (node k w g stt en ps)) lean ∙ own_flags k g own) u.runs
+          (own_node_text k g stt en ps own lean u.text) (lean_flags (bare (node k w g stt en ps)) lean ∙ own_flags k g own plainly) u.runs
       of run lean (by_label kind q) =
           let run' = retell S Next behind (ap (goes_to Expression true Any) q) run in
           let tree : node k w g stt en ps ≡ node LabeledStatement [] plain stt en ps = same_node kind (lean_text (bare (node k w g stt en ps)) lean (ap has_text kind)) (lean_flags (bare (node k w g stt en ps)) lean ∙ ap (λ v. used_flags v g) kind) refl refl refl in
@@ -283,17 +354,19 @@ module _ (S : Type 0) (Next : S → Token → S → Type 0) (behind : S → Toke
 
   module _ {p d r : Bool} {o : ℕ} {a : Role} {s e m : S} {P : List Pair} {t : Token} (st : Stands a p d r) (read : ReadBy S Next behind Goal.RegExp s t m) where
     -- where the token is a statement's own, this statement is spelled
-    pub own_way : {n : Tree} {b : StatementStart} → statement_start d r t ≡ b → is_own b ≡ true → Spells ways S Next behind o a n s e P → OwnWay r o a b t.text m n s e P
-    own_way {n} {b} begun own run = of (viewed st read run)
+    pub own_way : {n : Tree} {b : StatementStart} → statement_start d r t ≡ b → is_own b ≡ true → (LaterWay r o a t m n s e P b → ⊥) → Spells ways S Next behind o a n s e P → OwnWay r o a b t.text m n s e P
+    own_way {n} {b} begun own no_later run = of (viewed st read run)
       where
-        of : Viewed p r o a t.text m n s e P (statement_start d r t) → OwnWay r o a b t.text m n s e P
+        of : Viewed p r o a t m n s e P (statement_start d r t) → OwnWay r o a b t.text m n s e P
         of (its_own h u) = subst (λ x. OwnWay r o a x t.text m n s e P) begun u
         of (another h u) = absurd (false≢true (sym (ap is_own h) ∙ ap is_own begun ∙ own))
+        of (later u) = absurd (no_later (subst (LaterWay r o a t m n s e P) begun u))
 
     -- where it is none's, another
-    pub other_way : {n : Tree} → statement_start d r t ≡ an_expression → Spells ways S Next behind o a n s e P → OtherWay p r o a n s e P
-    other_way {n} begun run = of (viewed st read run)
+    pub other_way : {n : Tree} → statement_start d r t ≡ an_expression → (LaterWay r o a t m n s e P an_expression → ⊥) → Spells ways S Next behind o a n s e P → OtherWay p r o a n s e P
+    other_way {n} begun no_later run = of (viewed st read run)
       where
-        of : Viewed p r o a t.text m n s e P (statement_start d r t) → OtherWay p r o a n s e P
+        of : Viewed p r o a t m n s e P (statement_start d r t) → OtherWay p r o a n s e P
         of (its_own h u) = absurd (false≢true (sym (ap is_own begun) ∙ h))
         of (another h u) = u
+        of (later u) = absurd (no_later (subst (LaterWay r o a t m n s e P) begun u))

@@ -1,6 +1,7 @@
 -- What a list of pieces begins with, and the token that is read there.
 use Rattle.std.proofs.Common.{◌≡◌, ℕ, Bool, true, false, cond, List, [], ◌∷◌, ◌++◌, refl, sym, ap, ◌∙◌, subst}
-use Rattle.std.specs.Prelude.{IsTrue, map, codes, ◌||◌}
+use Rattle.std.specs.Prelude.{IsTrue, map, codes, not, ◌||◌}
+use Rattle.std.proofs.lemmas.Bool.{true≢false}
 use Prim.Native.String.{String}
 use Rattle.std.proofs.lemmas.Slice.Eq.{bytes_eq-Decides}
 use Rattle.tokens.specs.declared.token.TokenClass.{TokenClass}
@@ -14,16 +15,17 @@ use Rattle.tokens.specs.Goals.{allows}
 use Rattle.tree.specs.declared.kind.Flags.{Flags}
 use Rattle.language.specs.declared.Rank.{Rank}
 use Rattle.language.specs.declared.Start.{Start}
+use Rattle.language.specs.declared.Start.TheVariants.{Any, NoBrace, Statement}
 use Rattle.tree.specs.declared.kind.Pair.{Pair}
 use Rattle.tree.specs.Tree.{Parts, none, part, gap}
 use Rattle.language.specs.Vocabulary.{is, among, is_word_operator, op_none, operator_of}
-use Rattle.language.specs.Pieces.{Role, PieceOf, Piece, Hint, tok, lay, unbroken, settle_piece}
+use Rattle.language.specs.Pieces.{Role, PieceOf, Piece, Hint, space, tok, lay, unbroken, no_operand, settle_piece}
 use Rattle.language.specs.Token.{Token}
 use Rattle.language.specs.Continuations.{of_class}
 use Rattle.language.specs.Promises.{is_free, IsDetermined, ReadBy}
-use Rattle.language.specs.Grammar.{ways}
+use Rattle.language.specs.Grammar.{ways, starts}
 use Rattle.language.specs.Expressions.{template_elements, after_number}
-use Rattle.language.specs.Derivation.{Runs, step, token, laid, same_line}
+use Rattle.language.specs.Derivation.{Runs, step, token, laid, same_line, left_bare}
 use Rattle.language.proofs.climbing.Spine.{is_led}
 
 -- what a list of pieces begins with
@@ -35,6 +37,7 @@ abbrev pub first_of : List (PieceOf Role) → First
 first_of (tok c w ∷ qs) = by c w
 first_of (lay h ∷ qs) = first_of qs
 first_of (unbroken ∷ qs) = first_of qs
+first_of (no_operand ∷ qs) = first_of qs
 first_of _ = another
 
 -- the pieces behind the first token
@@ -42,6 +45,7 @@ abbrev pub behind_first : List (PieceOf Role) → List (PieceOf Role)
 behind_first (tok c w ∷ qs) = qs
 behind_first (lay h ∷ qs) = behind_first qs
 behind_first (unbroken ∷ qs) = behind_first qs
+behind_first (no_operand ∷ qs) = behind_first qs
 behind_first qs = qs
 
 abbrev pub goes_to : Rank → Bool → Start → List Piece → List (PieceOf Role)
@@ -75,6 +79,44 @@ chunks_unled y i f b (gap ps) = refl
 chunks_unled y i f b (part q none) = refl
 chunks_unled y i f b (part q (gap ps)) = refl
 chunks_unled y i f b (part q (part e ps)) = refl
+
+-- the second piece asks for no line break
+abbrev pub joins_first : List Piece → Bool
+joins_first (unbroken ∷ qs) = true
+joins_first _ = false
+
+-- behind `async` on its line a function stands
+abbrev pub function_follows : List Piece → Bool
+function_follows (unbroken ∷ lay space ∷ tok IdentifierName v ∷ qs) = is v "function"
+function_follows _ = false
+
+-- but for these, the first word alone decides whether a start is met
+pub starts_term : (f : Start) (w : List ℕ) (qs : List Piece) → joins_first qs ≡ false → IsTrue (starts f (tok IdentifierName w ∷ qs)) → IsTrue (starts f (tok IdentifierName w ∷ []))
+starts_term Any w qs h k = refl
+starts_term NoBrace w qs h k = refl
+starts_term Statement w [] h k = k
+starts_term Statement w (unbroken ∷ qs) h k = absurd (true≢false h)
+starts_term Statement w (_ ∷ qs) h k = k
+
+pub starts_more : (f : Start) (w : List ℕ) (qs : List Piece) → joins_first qs ≡ false → IsTrue (starts f (tok IdentifierName w ∷ [])) → IsTrue (starts f (tok IdentifierName w ∷ qs))
+starts_more Any w qs h k = refl
+starts_more NoBrace w qs h k = refl
+starts_more Statement w [] h k = k
+starts_more Statement w (unbroken ∷ qs) h k = absurd (true≢false h)
+starts_more Statement w (_ ∷ qs) h k = k
+
+pub starts_plain : (f : Start) (w : List ℕ) (qs : List Piece) → among w ("function" ∷ "class" ∷ []) ≡ false → function_follows qs ≡ false → IsTrue (starts f (tok IdentifierName w ∷ qs))
+starts_plain Any w qs h k = refl
+starts_plain NoBrace w qs h k = refl
+starts_plain Statement w [] h k = ap not h
+starts_plain Statement w (unbroken ∷ []) h k = ap not h
+starts_plain Statement w (unbroken ∷ lay space ∷ []) h k = ap not h
+starts_plain Statement w (unbroken ∷ lay space ∷ tok IdentifierName v ∷ qs) h k = ap not k
+starts_plain Statement w (unbroken ∷ lay space ∷ tok _ v ∷ qs) h k = ap not h
+starts_plain Statement w (unbroken ∷ lay space ∷ _ ∷ qs) h k = ap not h
+starts_plain Statement w (unbroken ∷ lay _ ∷ qs) h k = ap not h
+starts_plain Statement w (unbroken ∷ _ ∷ qs) h k = ap not h
+starts_plain Statement w (_ ∷ qs) h k = ap not h
 
 abbrev pub Each : (List ℕ → Type 0) → List String → Type 0
 Each R [] = Unit {0}
@@ -126,6 +168,7 @@ module _ (S : Type 0) (Next : S → Token → S → Type 0) (behind : S → Toke
       record { token = t; mid = _; next = k.next; class = k.class ∙ p; text = k.text ∙ q; runs = d }
   begun (lay x ∷ qs) h (step laid d) = let u = begun qs h d in record { token = u.token; mid = u.mid; next = u.next; class = u.class; text = u.text; runs = u.runs }
   begun (unbroken ∷ qs) h (step (same_line nx k) d) = let u = begun qs h d in record { token = u.token; mid = u.mid; next = u.next; class = u.class; text = u.text; runs = u.runs }
+  begun (no_operand ∷ qs) h (step (left_bare nx k) d) = let u = begun qs h d in record { token = u.token; mid = u.mid; next = u.next; class = u.class; text = u.text; runs = u.runs }
   begun _ h d = cc
 
   -- the token that a goal reads is that with which the pieces begin

@@ -9,7 +9,7 @@ use Rattle.tree.specs.Uses.{is_lean}
 use Rattle.tree.specs.declared.kind.Kind.TheVariants as kind
 use Rattle.language.specs.declared.Rank.TheVariants.{Expression}
 use Rattle.language.specs.declared.Start.TheVariants.{Any}
-use Rattle.language.specs.Pieces.{Role, expr, shorthand_key, script, PieceOf, Piece, tok, may, many, ahead, unbroken, ending, open_parameters, close_parameters, sub, absent, never, lay, space, line, feed, deeper, shallower, apart, loose}
+use Rattle.language.specs.Pieces.{Role, expr, shorthand_key, script, PieceOf, Piece, tok, may, many, ahead, unbroken, no_operand, ending, open_parameters, close_parameters, sub, absent, never, lay, space, line, feed, deeper, shallower, apart, loose}
 use Rattle.language.specs.Grammar.{ways, ways_bare, spellings, can_run, own_rank, own_in, own_start}
 use Rattle.language.specs.RowPositions.{has_row, rows, roles, first_roles}
 use Rattle.language.specs.Layout.{some_way, inside, lead_depth, after_part, first_way, next_role}
@@ -53,6 +53,8 @@ lead_starts a (may v ∷ qs) d t b o is h k w go = lead_starts a qs d t b o is h
 lead_starts a (many v ∷ qs) d t b o is h k w go = lead_starts a qs d t b o is h k w (λ rs u x y z v. go rs (record { roles = u.roles; behind = u.behind; lines = u.lines }) x y z v)
 lead_starts a (ahead v ∷ qs) d t b o is h k w go = absurd (false≢true h)
 lead_starts a (unbroken ∷ qs) d t b o is h k w go = absurd (false≢true h)
+lead_starts a (no_operand ∷ []) d t b o is h k w go = absurd (false≢true h)
+lead_starts a (no_operand ∷ q ∷ qs) d t b o is h k w go = absurd (false≢true h)
 lead_starts a (ending e ∷ qs) d t b o is h k w go = sign_starts (codes ";") _ refl refl
 lead_starts a (open_parameters ∷ qs) d t b o is h k w go = sign_starts (codes "(") _ refl refl
 lead_starts a (close_parameters ∷ qs) d t b o is h k w go = sign_starts (codes ")") _ refl refl
@@ -103,6 +105,7 @@ none_left a b o (may w ∷ qs) t h l = false≢true t
 none_left a b o (many w ∷ qs) t h l = false≢true t
 none_left a b o (ahead w ∷ qs) t h l = false≢true t
 none_left a b o (unbroken ∷ qs) t h l = false≢true t
+none_left a b o (no_operand ∷ qs) t h l = false≢true t
 none_left a b o (ending w ∷ qs) t h l = false≢true t
 none_left a b o (open_parameters ∷ qs) t h l = false≢true t
 none_left a b o (close_parameters ∷ qs) t h l = false≢true t
@@ -169,6 +172,7 @@ module _ (W : ℕ → Bool) where
   after_echo n ps a (many w ∷ qs) r d t o go lead ok lines fit others named words = absurd (false≢true lead)
   after_echo n ps a (ahead w ∷ qs) r d t o go lead ok lines fit others named words = absurd (false≢true lead)
   after_echo n ps a (unbroken ∷ qs) r d t o go lead ok lines fit others named words = absurd (false≢true lead)
+  after_echo n ps a (no_operand ∷ qs) r d t o go lead ok lines fit others named words = absurd (false≢true lead)
   after_echo n ps a (ending w ∷ qs) r d t o go lead ok lines fit others named words = absurd (false≢true lead)
   after_echo n ps a (open_parameters ∷ qs) r d t o go lead ok lines fit others named words = absurd (false≢true lead)
   after_echo n ps a (close_parameters ∷ qs) r d t o go lead ok lines fit others named words = absurd (false≢true lead)
@@ -206,6 +210,7 @@ module _ (W : ℕ → Bool) where
   part_starts n ps a (many w ∷ qs) r d t b o node_start next tail ok lines fit words = absurd (false≢true tail)
   part_starts n ps a (ahead w ∷ qs) r d t b o node_start next tail ok lines fit words = absurd (false≢true tail)
   part_starts n ps a (unbroken ∷ qs) r d t b o node_start next tail ok lines fit words = absurd (false≢true tail)
+  part_starts n ps a (no_operand ∷ qs) r d t b o node_start next tail ok lines fit words = absurd (false≢true tail)
   part_starts n ps a (ending w ∷ qs) r d t b o node_start next tail ok lines fit words = absurd (false≢true tail)
   part_starts n ps a (open_parameters ∷ qs) r d t b o node_start next tail ok lines fit words = absurd (false≢true tail)
   part_starts n ps a (close_parameters ∷ qs) r d t b o node_start next tail ok lines fit words = absurd (false≢true tail)
@@ -223,6 +228,7 @@ module _ (W : ℕ → Bool) where
   gap_starts ps a (many w ∷ qs) r d b o go tail ok runs lines words fit parts = absurd (false≢true tail)
   gap_starts ps a (ahead w ∷ qs) r d b o go tail ok runs lines words fit parts = absurd (false≢true tail)
   gap_starts ps a (unbroken ∷ qs) r d b o go tail ok runs lines words fit parts = absurd (false≢true tail)
+  gap_starts ps a (no_operand ∷ qs) r d b o go tail ok runs lines words fit parts = absurd (false≢true tail)
   gap_starts ps a (ending w ∷ qs) r d b o go tail ok runs lines words fit parts = absurd (false≢true tail)
   gap_starts ps a (open_parameters ∷ qs) r d b o go tail ok runs lines words fit parts = absurd (false≢true tail)
   gap_starts ps a (close_parameters ∷ qs) r d b o go tail ok runs lines words fit parts = absurd (false≢true tail)

@@ -13,9 +13,9 @@ use Rattle.tree.specs.Uses.{is_lean}
 use Rattle.language.specs.FirstPart.{lead as lead_kind, others}
 use Rattle.language.specs.declared.Rank.TheVariants.{Expression, Member, New, Call, Assignment}
 use Rattle.language.specs.declared.Start.TheVariants.{Any, NoBrace}
-use Rattle.language.specs.Vocabulary.{precedence, takes_number, Operator, op_binary, op_power, operators, operator_of, is_reserved, is_super, is_rest, is_word_operator, is_update_operator, is_target, is_prefix, is_assignment, is_pattern, is_identifier, is}
-use Rattle.language.specs.Pieces.{Role, expr, chain_part, name, word, base, tagged_quasi, template_element, pattern, method, body, block, class_body, left, tail, callee, lead_chain, lead, PieceOf, Piece, tok, may, many, ahead, unbroken, ending, open_parameters, close_parameters, sub, absent, never, lay, put, sign, term, sp, Spelling, settle_piece, is_none, argument, listed, elements, parameters, pattern_element, put_at, with_default}
-use Rattle.language.specs.Expressions.{expressions, chain_parts, arguments, in_brackets, selector, after_number, member_link, call_link, chain_element, template_elements, function_pieces, class_pieces, binary_ways, logical_ways, first_has_optional, methods, infix_pieces, lead_is, object_part, object_pattern_part}
+use Rattle.language.specs.Vocabulary.{precedence, takes_number, Operator, op_binary, op_power, operators, operator_of, is_reserved, is_super, is_rest, is_word_operator, is_update_operator, is_target, is_prefix, is_assignment, is_pattern, is_identifier, is_private, is}
+use Rattle.language.specs.Pieces.{Role, expr, chain_part, name, word, private_name, base, tagged_quasi, template_element, pattern, method, body, block, class_body, left, tail, callee, lead_chain, lead, PieceOf, Piece, tok, may, many, ahead, unbroken, no_operand, ending, open_parameters, close_parameters, sub, absent, never, lay, put, sign, term, sp, Spelling, settle_piece, is_none, argument, listed, elements, parameters, pattern_element, put_at, with_default}
+use Rattle.language.specs.Expressions.{yields, expressions, chain_parts, arguments, in_brackets, selector, after_number, member_link, call_link, chain_element, template_elements, function_words, function_pieces, class_pieces, arrow_words, binary_ways, logical_ways, first_has_optional, methods, infix_pieces, lead_is, object_part, object_pattern_part, arrow_opening, arrow_closing}
 use Rattle.language.specs.Statements.{braced, lines, prologue, member_lines}
 use Rattle.language.specs.Grammar.{ways, ways_bare, spellings, can_run, fits_position, own_rank, own_in, own_start}
 use Rattle.language.specs.Layout.{some_way, first_way}
@@ -56,6 +56,7 @@ shut_settled a (may w) = refl
 shut_settled a (many w) = refl
 shut_settled a (ahead w) = refl
 shut_settled a unbroken = refl
+shut_settled a no_operand = refl
 shut_settled a (ending e) = refl
 shut_settled a open_parameters = refl
 shut_settled a close_parameters = refl
@@ -147,6 +148,7 @@ run_later (may w) qs h = h
 run_later (many w) qs h = h
 run_later (ahead w) qs h = h
 run_later unbroken qs h = h
+run_later no_operand qs h = h
 run_later (ending e) qs h = h
 run_later open_parameters qs h = h
 run_later close_parameters qs h = h
@@ -182,21 +184,22 @@ shut_chunks first (part q none) h = refl
 shut_chunks first (part q (gap ps)) h = absurd (false≢true h)
 shut_chunks first (part q (part e ps)) h = joined_end (put (template_element first false) ∷ put (expr Expression true Any) ∷ []) (template_elements false ps) (shut_chunks false ps h)
 
-shut_function : (ps : Parts) → can_run (function_pieces ps) ≡ true → ends_shut (function_pieces ps) ≡ true
-shut_function ps h =
-    let front = term "function" ∷ sp ∷ Rattle.language.specs.Expressions.named ps in
+shut_function : (x : Form) (ps : Parts) → can_run (function_pieces x ps) ≡ true → ends_shut (function_pieces x ps) ≡ true
+shut_function x ps h =
+    let front = function_words x ++ sp ∷ Rattle.language.specs.Expressions.named ps in
     joined_end front (sign "(" ∷ parameters body_pieces (others ps))
     (joined_end (sign "(" ∷ []) (parameters body_pieces (others ps)) (shut_parameters (others ps) (run_behind front (sign "(" ∷ parameters body_pieces (others ps)) h)))
 
 shut_arguments : (xs : List Piece) (ps : Parts) → ends_shut (xs ++ arguments ps) ≡ true
 shut_arguments xs ps = joined_end xs (arguments ps) (ends_last (sign "(" ∷ listed argument ps) (sign ")"))
 
-shut_selector : (xs : List Piece) (g : Flags) → ends_shut (xs ++ selector g) ≡ true
-shut_selector xs g = joined_end xs (selector g) (of g.computed)
+shut_selector : (xs : List Piece) (g : Flags) (k : Kind) → ends_shut (xs ++ selector g k) ≡ true
+shut_selector xs g k = joined_end xs (selector g k) (of g.computed (is_private k))
   where
-    of : (c : Bool) → ends_shut (cond c in_brackets (sign "." ∷ put word ∷ [])) ≡ true
-    of true = refl
-    of false = refl
+    of : (c p : Bool) → ends_shut (cond c in_brackets (sign "." ∷ put (cond p private_name word) ∷ [])) ≡ true
+    of true p = refl
+    of false true = refl
+    of false false = refl
 
 shut_class_pieces : (ps : Parts) → can_run (class_pieces ps) ≡ true → ends_shut (class_pieces ps) ≡ true
 shut_class_pieces none h = absurd (false≢true h)
@@ -237,7 +240,7 @@ shut_arrows g (part n (part m (part l ps))) = slack_one refl
 shut_arrows g (part n (part m (gap ps))) = slack_one refl
 shut_arrows g (part n (part m none)) = of (is_identifier (kind_of n))
   where
-    of : (t : Bool) → Shuts true (cond t (Rattle.language.specs.Pieces.at Assignment (put name ∷ Rattle.language.specs.Expressions.arrow_end g) ∷ []) [] ++ Rattle.language.specs.Pieces.at Assignment (open_parameters ∷ parameters (close_parameters ∷ Rattle.language.specs.Expressions.arrow_end g) (part n (part m none))) ∷ [])
+    of : (t : Bool) → Shuts true (cond t (Rattle.language.specs.Pieces.at Assignment (arrow_words g.form ++ put name ∷ Rattle.language.specs.Expressions.arrow_end g) ∷ []) [] ++ Rattle.language.specs.Pieces.at Assignment (arrow_words g.form ++ arrow_opening g.form ∷ parameters (arrow_closing g.form ∷ Rattle.language.specs.Expressions.arrow_end g) (part n (part m none))) ∷ [])
     of true = a_slack refl (slack_one refl)
     of false = slack_one refl
 
@@ -268,28 +271,36 @@ abbrev pub is_literal : Kind → Bool
 is_literal kind.Literal = true
 is_literal _ = false
 
-pub shut_expressions : (k : Kind) (w : List ℕ) (g : Flags) (ps : Parts) → is_literal k ≡ false → Shuts true (expressions k w g ps)
+pub shut_yields : (x : Form) (ps : Parts) → Shuts true (yields x ps)
+shut_yields form.Init (gap none) = slack_one refl
+shut_yields form.Init (part n none) = slack_one refl
+shut_yields form.Generator (part n none) = slack_one refl
+shut_yields _ ps = no_shuts
+
+shut_expressions : (k : Kind) (w : List ℕ) (g : Flags) (ps : Parts) → is_literal k ≡ false → Shuts true (expressions k w g ps)
 unfolding expressions
 shut_expressions kind.Literal w g ps h = absurd (true≢false h)
 shut_expressions kind.Identifier w g ps h = shut_cond (is_reserved w) (λ e. no_shuts) (λ e. shut_one refl)
 shut_expressions kind.ArrayExpression w g ps h = shut_one (ends_last (sign "[" ∷ elements argument ps) (sign "]"))
 shut_expressions kind.ObjectExpression w g ps h = shut_one (ends_last (sign "{" ∷ listed object_part ps) (sign "}"))
-shut_expressions kind.FunctionExpression w g ps h = a_shut (λ k. shut_function ps k) no_shuts
+shut_expressions kind.FunctionExpression w g ps h = a_shut (λ k. shut_function g.form ps k) no_shuts
 shut_expressions kind.ClassExpression w g ps h = a_shut (λ k. shut_class_pieces ps k) no_shuts
 shut_expressions kind.TemplateLiteral w g ps h = a_shut (λ k. shut_chunks true ps k) no_shuts
 shut_expressions kind.ArrowFunctionExpression w g ps h = shut_arrows g ps
-shut_expressions kind.MemberExpression w g ps h = shut_cond g.optional (λ e. no_shuts) (λ e. shut_cond (is_super (lead_kind ps)) (λ i. shut_one (shut_selector (put base ∷ []) g)) (λ i. shut_one (shut_selector (sub callee ∷ after_number ps g) g)))
+shut_expressions kind.MemberExpression w g ps h = shut_cond g.optional (λ e. no_shuts) (λ e. shut_cond (is_super (lead_kind ps)) (λ i. shut_one (shut_selector (put base ∷ []) g kind.Identifier)) (λ i. shut_one (shut_selector (sub callee ∷ after_number ps g) g (lead_kind (others ps)))))
 shut_expressions kind.CallExpression w g ps h = shut_cond g.optional (λ e. no_shuts) (λ e. shut_cond (is_super (lead_kind ps)) (λ i. shut_one (shut_arguments (put base ∷ []) (others ps))) (λ i. shut_one (shut_arguments (sub (lead Call) ∷ []) (others ps))))
 shut_expressions kind.NewExpression w g ps h = of (is_none (others ps)) refl
   where
     of : (t : Bool) → is_none (others ps) ≡ t → Shuts true (Rattle.language.specs.Pieces.at Member (term "new" ∷ sp ∷ put (expr Member true Any) ∷ arguments (others ps)) ∷ cond t (Rattle.language.specs.Pieces.at New (term "new" ∷ sp ∷ put (expr New true Any) ∷ []) ∷ []) [])
     of true e = covered (shut_arguments (term "new" ∷ sp ∷ put (expr Member true Any) ∷ []) (others ps)) (new_covers (others ps) e)
     of false e = shut_one (shut_arguments (term "new" ∷ sp ∷ put (expr Member true Any) ∷ []) (others ps))
-shut_expressions kind.MetaProperty w g ps h = shut_cond (lead_is ps "new" && lead_is (others ps) "target") (λ e. shut_one refl) (λ e. no_shuts)
+shut_expressions kind.MetaProperty w g ps h = shut_cond (lead_is ps "new" && lead_is (others ps) "target") (λ e. shut_one refl) (λ e. shut_cond (lead_is ps "import" && lead_is (others ps) "meta") (λ d. shut_one refl) (λ d. no_shuts))
 shut_expressions kind.ChainExpression w g ps h = shut_cond (first_has_optional ps) (λ e. shut_one refl) (λ e. no_shuts)
+shut_expressions kind.YieldExpression w g ps h = shut_yields g.form ps
 shut_expressions kind.UpdateExpression w g ps h = shut_cond (not (is_update_operator w && is_target (lead_kind ps))) (λ e. no_shuts) (λ e. shut_cond g.prefix (λ i. slack_one refl) (λ i. slack_one refl))
 shut_expressions kind.UnaryExpression w g ps h = shut_cond (not (is_prefix w)) (λ e. no_shuts) (λ e. shut_cond (is_word_operator w) (λ i. slack_one refl) (λ i. slack_one refl))
-shut_expressions kind.BinaryExpression w g ps h = shut_binary w (operator_of w) (operator_loose w)
+shut_expressions kind.AwaitExpression w g ps h = slack_one refl
+shut_expressions kind.BinaryExpression w g ps h = shut_cond (is_private (lead_kind ps)) (λ p. shut_cond (is w "in") (λ e. slack_one refl) (λ e. no_shuts)) (λ p. shut_binary w (operator_of w) (operator_loose w))
 shut_expressions kind.LogicalExpression w g ps h = shut_logical w (operator_of w) (operator_loose w)
 shut_expressions kind.AssignmentExpression w g ps h =
     shut_cond (not (is_assignment w)) (λ e. no_shuts) (λ e. shut_cond (is_target (lead_kind ps)) (λ i. slack_one refl) (λ i. shut_cond (is w "=" && is_pattern (lead_kind ps)) (λ j. slack_one refl) (λ j. no_shuts)))
@@ -301,17 +312,19 @@ shut_expressions k w g ps h = shut_sole (expressions k w g ps) refl
 shut_linked : (c : Bool) (ps : Parts) (qs : List Piece) → ((x : Piece) → ends_shut (x ∷ qs) ≡ true) → Shuts false (chain_element c ps qs)
 shut_linked c ps qs h = shut_cond (first_has_optional ps) (λ e. shut_one (h (sub lead_chain))) (λ e. shut_cond c (λ i. shut_one (h (sub (lead Call)))) (λ i. no_shuts))
 
-shut_member_link : (x : Piece) (g : Flags) → ends_shut (x ∷ member_link g) ≡ true
-shut_member_link x g = of g.optional g.computed
+shut_member_link : (x : Piece) (g : Flags) (k : Kind) → ends_shut (x ∷ member_link g k) ≡ true
+shut_member_link x g k = of g.optional g.computed (is_private k)
   where
-    of : (t c : Bool) → ends_shut (x ∷ cond t (sign "?." ∷ cond c in_brackets (put word ∷ [])) (cond c in_brackets (sign "." ∷ put word ∷ []))) ≡ true
-    of true true = refl
-    of true false = refl
-    of false true = refl
-    of false false = refl
+    of : (t c p : Bool) → ends_shut (x ∷ cond t (sign "?." ∷ cond c in_brackets (put (cond p private_name word) ∷ [])) (cond c in_brackets (sign "." ∷ put (cond p private_name word) ∷ []))) ≡ true
+    of true true p = refl
+    of true false true = refl
+    of true false false = refl
+    of false true p = refl
+    of false false true = refl
+    of false false false = refl
 
 shut_spines : (k : Kind) (g : Flags) (ps : Parts) → Shuts false (chain_parts k g ps)
-shut_spines kind.MemberExpression g ps = shut_linked g.optional ps (member_link g) (λ x. shut_member_link x g)
+shut_spines kind.MemberExpression g ps = shut_linked g.optional ps (member_link g (lead_kind (others ps))) (λ x. shut_member_link x g (lead_kind (others ps)))
 shut_spines kind.CallExpression g ps = shut_linked g.optional ps (call_link g ps) (λ x. shut_arguments (x ∷ cond g.optional (sign "?." ∷ []) []) (others ps))
 shut_spines _ g ps = no_shuts
 
@@ -337,6 +350,8 @@ table_shut name (node kind.Identifier w g s e ps) h = shut_cond (is_reserved w) 
 table_shut name (node _ w g s e ps) h = no_shuts
 table_shut word (node kind.Identifier w g s e ps) h = shut_one refl
 table_shut word (node _ w g s e ps) h = no_shuts
+table_shut private_name (node kind.PrivateIdentifier w g s e ps) h = shut_one refl
+table_shut private_name (node _ w g s e ps) h = no_shuts
 table_shut base (node kind.Super w g s e ps) h = shut_one refl
 table_shut base (node _ w g s e ps) h = no_shuts
 table_shut tagged_quasi (node kind.TemplateLiteral w g s e ps) h = a_shut (λ k. shut_chunks true ps k) no_shuts
@@ -346,7 +361,7 @@ table_shut (template_element x y) (node _ w g s e ps) h = no_shuts
 table_shut (pattern b f) (node kind.ArrayPattern w g s e ps) h = shut_one (ends_last (sign "[" ∷ elements (pattern_element b) ps) (sign "]"))
 table_shut (pattern b f) (node kind.ObjectPattern w g s e ps) h = shut_one (ends_last (sign "{" ∷ listed (object_pattern_part b) ps) (sign "}"))
 table_shut (pattern b f) (node _ w g s e ps) h = no_shuts
-table_shut (method x) (node kind.FunctionExpression w g s e ps) h = shut_methods x ps
+table_shut (method x) (node kind.FunctionExpression w g s e ps) h = shut_cond _ (λ i. shut_methods x ps) (λ i. no_shuts)
 table_shut (method x) (node _ w g s e ps) h = no_shuts
 table_shut body (node kind.BlockStatement w g s e ps) h = shut_one (shut_braced ps (prologue true true (lay Rattle.language.specs.Pieces.line ∷ []) [] ps))
 table_shut body (node _ w g s e ps) h = no_shuts

@@ -4,13 +4,13 @@ use Rattle.std.specs.Prelude.{codes}
 use Rattle.std.proofs.lemmas.Bool.{and_parts, false≢true}
 use Rattle.tokens.specs.declared.token.TokenClass.{TokenClass}
 use Rattle.tokens.specs.declared.token.TokenClass.TheVariants.{NumericLiteral}
-use Rattle.language.specs.Pieces.{Role, PieceOf, Piece, tok, may, many, ahead, unbroken, ending, open_parameters, close_parameters, sub, absent, never, lay, space, line, feed, deeper, shallower, apart, loose}
+use Rattle.language.specs.Pieces.{Role, PieceOf, Piece, tok, may, many, ahead, unbroken, no_operand, ending, open_parameters, close_parameters, sub, absent, never, lay, space, line, feed, deeper, shallower, apart, loose}
 use Rattle.language.specs.Grammar.{can_run}
 use Rattle.language.specs.Printed.{Item, items_text}
 use Rattle.language.proofs.layout.ReadItems.{Apart}
 use Rattle.language.proofs.layout.WordsApart.{closes, closes_word}
 use Rattle.language.proofs.table.Alike.{standing_at}
-use Rattle.language.proofs.table.NeatPieces.{Touch, fresh, apart_from, broken, solid, named, valued, closed, stated, dotted, signed, echoed, Sort, an_operand, a_tight, a_name, an_ended, a_quasi, a_method, a_chunk, an_echo, a_script, another, slot_sort, behind_part, takes_token, takes_part, takes_sign, takes_space, takes_line, takes_joined, takes_apart, takes_loose, is_loose, goes_on_here, loose_first, echo_followed, goes_behind, behind_token, is_item_touch, neat}
+use Rattle.language.proofs.table.NeatPieces.{Touch, fresh, apart_from, broken, solid, named, valued, closed, stated, dotted, starred, signed, echoed, Sort, an_operand, a_tight, a_name, an_ended, a_quasi, a_method, a_chunk, a_key, an_echo, a_script, another, slot_sort, behind_part, takes_token, takes_part, takes_sign, takes_space, takes_line, takes_joined, takes_apart, takes_loose, is_loose, goes_on_here, no_pieces, loose_first, echo_followed, goes_behind, behind_token, is_item_touch, neat}
 use Rattle.language.proofs.table.TreesOfWords.{PieceWords}
 use Rattle.language.proofs.layout.TextAfter.{Behind, closes_any, last_apart}
 
@@ -22,6 +22,7 @@ EndsOk s b (may w ∷ qs) is = EndsOk s b qs is
 EndsOk s b (many w ∷ qs) is = EndsOk s b qs is
 EndsOk s b (ahead w ∷ qs) is = EndsOk s b qs is
 EndsOk s b (unbroken ∷ qs) is = EndsOk s b qs is
+EndsOk s b (no_operand ∷ qs) is = EndsOk s b qs is
 EndsOk s b (ending e ∷ qs) is = EndsOk solid b qs is
 EndsOk s b (open_parameters ∷ qs) is = EndsOk solid b qs is
 EndsOk s b (close_parameters ∷ qs) is = EndsOk solid b qs is
@@ -45,6 +46,7 @@ end_closes stated is i h = h
 end_closes fresh is i h = absurd (false≢true i)
 end_closes broken is i h = absurd (false≢true i)
 end_closes dotted is i h = absurd (false≢true i)
+end_closes starred is i h = absurd (false≢true i)
 end_closes signed is i h = absurd (false≢true i)
 end_closes echoed is i h = absurd (false≢true i)
 
@@ -60,6 +62,7 @@ ends_closes a s b o (may v ∷ qs) is h k w c = ends_closes a s b o qs is h k w 
 ends_closes a s b o (many v ∷ qs) is h k w c = ends_closes a s b o qs is h k w c
 ends_closes a s b o (ahead v ∷ qs) is h k w c = absurd (false≢true h)
 ends_closes a s b o (unbroken ∷ qs) is h k w c = ends_closes a s b o qs is (and_parts (goes_on_here qs) _ (and_parts (takes_joined s) _ h).1).1 k w c
+ends_closes a s b o (no_operand ∷ qs) is h k w c = ends_closes a s b o qs is (and_parts (no_pieces qs) _ h).1 k w c
 ends_closes a s b o (ending e ∷ qs) is h k w c = ends_closes a solid b o qs is (and_parts (takes_sign s (codes ";")) _ h).1 k w c
 ends_closes a s b true (open_parameters ∷ qs) is h k w c = absurd (false≢true h)
 ends_closes a s b false (open_parameters ∷ qs) is h k w c = ends_closes a solid b true qs is (and_parts (is_loose s) _ h).1 k w c
@@ -109,6 +112,7 @@ shut_behind b a_method is h c = c
 shut_behind b a_chunk is h c = tt
 shut_behind b an_operand is h c = absurd (false≢true h)
 shut_behind b a_tight is h c = absurd (false≢true h)
+shut_behind b a_key is h c = absurd (false≢true h)
 shut_behind b an_echo is h c = absurd (false≢true h)
 shut_behind b a_script is h c = absurd (false≢true h)
 shut_behind b another is h c = absurd (false≢true h)
@@ -124,6 +128,7 @@ shut_closes a s b o (may v ∷ []) is h k w e c = absurd (false≢true e)
 shut_closes a s b o (many v ∷ []) is h k w e c = absurd (false≢true e)
 shut_closes a s b o (ahead v ∷ []) is h k w e c = absurd (false≢true e)
 shut_closes a s b o (unbroken ∷ []) is h k w e c = absurd (false≢true e)
+shut_closes a s b o (no_operand ∷ []) is h k w e c = absurd (false≢true e)
 shut_closes a s b o (ending v ∷ []) is h k w e c = absurd (false≢true e)
 shut_closes a s b o (open_parameters ∷ []) is h k w e c = absurd (false≢true e)
 shut_closes a s b o (close_parameters ∷ []) is h k w e c = absurd (false≢true e)
@@ -136,6 +141,7 @@ shut_closes a s b o (may v ∷ q ∷ qs) is h k w e c = shut_closes a s b o (q �
 shut_closes a s b o (many v ∷ q ∷ qs) is h k w e c = shut_closes a s b o (q ∷ qs) is h k w e c
 shut_closes a s b o (ahead v ∷ q ∷ qs) is h k w e c = absurd (false≢true h)
 shut_closes a s b o (unbroken ∷ q ∷ qs) is h k w e c = shut_closes a s b o (q ∷ qs) is (and_parts (goes_on_here (q ∷ qs)) _ (and_parts (takes_joined s) _ h).1).1 k w e c
+shut_closes a s b o (no_operand ∷ q ∷ qs) is h k w e c = absurd (false≢true h)
 shut_closes a s b o (ending z ∷ q ∷ qs) is h k w e c = shut_closes a solid b o (q ∷ qs) is (and_parts (takes_sign s (codes ";")) _ h).1 k w e c
 shut_closes a s b true (open_parameters ∷ q ∷ qs) is h k w e c = absurd (false≢true h)
 shut_closes a s b false (open_parameters ∷ q ∷ qs) is h k w e c = shut_closes a solid b true (q ∷ qs) is (and_parts (is_loose s) _ h).1 k w e c

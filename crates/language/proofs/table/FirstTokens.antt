@@ -1,10 +1,10 @@
 -- Cases, handlers, the functions of methods and the heads of `for` by their first token; patterns by theirs.
-use Rattle.std.proofs.Common.{◌≡◌, ℕ, List, [], ◌∷◌, sym, ap, ◌∙◌}
+use Rattle.std.proofs.Common.{◌≡◌, ℕ, List, sym, ap, ◌∙◌}
 use Rattle.tokens.specs.declared.token.TokenClass.TheVariants.{IdentifierName}
 use Rattle.tokens.specs.declared.token.Goal.TheVariants.{Div}
 use Rattle.language.specs.Token.{Token}
 use Rattle.language.specs.Promises.{is_free, IsDetermined}
-use Rattle.language.specs.Derivation.{Reads, token}
+use Rattle.language.specs.Derivation.{Reads}
 
 module _ (S : Type 0) (Next : S → Token → S → Type 0) (behind : S → Token) (det : IsDetermined S Next behind) where
   -- one name isn't another

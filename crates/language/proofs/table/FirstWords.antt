@@ -8,12 +8,14 @@ use Rattle.std.proofs.lemmas.Bool.Decides.{nat_tests}
 use Rattle.std.proofs.lemmas.Bool.{and_parts, false≢true, true≢false}
 use Rattle.tokens.specs.Alphabet.{one_of, begins_with, is_decimal_digit}
 use Rattle.tokens.specs.declared.token.TokenClass.{TokenClass}
-use Rattle.tokens.specs.declared.token.TokenClass.TheVariants.{IdentifierName, Punctuator, NumericLiteral, StringLiteral, Template, RegularExpressionLiteral, End}
+use Rattle.tokens.specs.declared.token.TokenClass.TheVariants.{IdentifierName, Punctuator, NumericLiteral, StringLiteral, Template, RegularExpressionLiteral, PrivateName, Keyword, End}
 use Rattle.tokens.specs.Lexical.{is_of}
 use Rattle.tokens.proofs.Beginnings.{true_false}
 use Rattle.tokens.proofs.Classes.{number_begins, start_plain, is_special, token_is}
+use Rattle.language.specs.Edges.{is_sign_class}
 use Rattle.language.specs.Readable.{on_this_line, joins_none}
 use Rattle.language.specs.Printed.{Item, word, name_ahead, items_text}
+use Rattle.language.specs.Readable.{scanned}
 use Rattle.language.proofs.layout.ReadItems.{Apart}
 use Rattle.language.proofs.layout.WordsApart.{Word}
 use Rattle.language.proofs.layout.PunctuatorsApart.{closed_sign_apart}
@@ -57,6 +59,12 @@ front_of Template (y ∷ ys) h n x xs e k = let same : y ≡ x = cc in subst (λ
   where
     plain : (c : ℕ) → IsTrue (one_of "`}" c) → (c == 61) ≡ false
     plain c h = grind (arith, nat_tests)
+front_of PrivateName [] h n x xs e k = absurd (true_false _ h refl)
+front_of PrivateName (y ∷ ys) h n x xs e k = let same : y ≡ x = cc in subst (λ z. (z == 61) ≡ false) same (plain y (and_parts _ _ h).0)
+  where
+    plain : (c : ℕ) → IsTrue (one_of "#" c) → (c == 61) ≡ false
+    plain c h = grind (arith, nat_tests)
+front_of Keyword w h n x xs e k = absurd (true_false _ h refl)
 front_of RegularExpressionLiteral [] h n x xs e k = absurd (true_false _ h refl)
 front_of RegularExpressionLiteral (y ∷ ys) h n x xs e k = let same : y ≡ x = cc in subst (λ z. (z == 61) ≡ false) same (plain y (and_parts _ _ h).0)
   where
@@ -65,6 +73,43 @@ front_of RegularExpressionLiteral (y ∷ ys) h n x xs e k = let same : y ≡ x =
 front_of Punctuator w h n x xs e k = k refl
 front_of End w h n x xs e k = absurd (n refl)
 
+-- no word but a sign begins with `*`
+pub no_star_first : (c : TokenClass) (w : List ℕ) → IsTrue (is_of c w) → is_sign_class c ≡ false → (x : ℕ) (xs : List ℕ) → w ≡ x ∷ xs → (x == 42) ≡ false
+no_star_first IdentifierName [] h n x xs e = absurd (true_false _ h refl)
+no_star_first IdentifierName (y ∷ ys) h n x xs e = let same : y ≡ x = cc in subst (λ z. (z == 42) ≡ false) same (plain y (start_plain y (and_parts _ _ h).0))
+  where
+    plain : (c : ℕ) → is_special c ≡ false → (c == 42) ≡ false
+    plain c h = grind (arith, nat_tests)
+no_star_first NumericLiteral [] h n x xs e = absurd (true_false _ h refl)
+no_star_first NumericLiteral (y ∷ ys) h n x xs e = let same : y ≡ x = cc in subst (λ z. (z == 42) ≡ false) same (plain y (begins_with is_decimal_digit ys) (number_begins y ys h))
+  where
+    plain : (c : ℕ) (b : Bool) → IsTrue (is_decimal_digit c || (one_of "." c && b)) → (c == 42) ≡ false
+    plain c b h = grind (arith, nat_tests)
+no_star_first StringLiteral [] h n x xs e = absurd (true_false _ h refl)
+no_star_first StringLiteral (y ∷ ys) h n x xs e = let same : y ≡ x = cc in subst (λ z. (z == 42) ≡ false) same (plain y (and_parts _ _ h).0)
+  where
+    plain : (c : ℕ) → IsTrue (one_of "'\"" c) → (c == 42) ≡ false
+    plain c h = grind (arith, nat_tests)
+no_star_first Template [] h n x xs e = absurd (true_false _ h refl)
+no_star_first Template (y ∷ ys) h n x xs e = let same : y ≡ x = cc in subst (λ z. (z == 42) ≡ false) same (plain y (and_parts _ _ h).0)
+  where
+    plain : (c : ℕ) → IsTrue (one_of "`}" c) → (c == 42) ≡ false
+    plain c h = grind (arith, nat_tests)
+no_star_first RegularExpressionLiteral [] h n x xs e = absurd (true_false _ h refl)
+no_star_first RegularExpressionLiteral (y ∷ ys) h n x xs e = let same : y ≡ x = cc in subst (λ z. (z == 42) ≡ false) same (plain y (and_parts _ _ h).0)
+  where
+    plain : (c : ℕ) → IsTrue (one_of "/" c) → (c == 42) ≡ false
+    plain c h = grind (arith, nat_tests)
+no_star_first PrivateName [] h n x xs e = absurd (true_false _ h refl)
+no_star_first PrivateName (y ∷ ys) h n x xs e = let same : y ≡ x = cc in subst (λ z. (z == 42) ≡ false) same (plain y (and_parts _ _ h).0)
+  where
+    plain : (c : ℕ) → IsTrue (one_of "#" c) → (c == 42) ≡ false
+    plain c h = grind (arith, nat_tests)
+no_star_first Keyword w h n x xs e = absurd (true_false _ h refl)
+no_star_first End [] h n x xs e = cc
+no_star_first End (y ∷ ys) h n x xs e = absurd (true_false _ h refl)
+no_star_first Punctuator w h n x xs e = absurd (true≢false n)
+
 has_front : (c : TokenClass) (w : List ℕ) → (c ≡ End → ⊥) → IsTrue (is_of c w) → w ≡ [] → ⊥
 has_front IdentifierName w n h e = true_false _ (subst (λ v. IsTrue (is_of IdentifierName v)) e h) refl
 has_front Punctuator w n h e = true_false _ (subst (λ v. IsTrue (is_of Punctuator v)) e h) refl
@@ -72,7 +117,18 @@ has_front NumericLiteral w n h e = true_false _ (subst (λ v. IsTrue (is_of Nume
 has_front StringLiteral w n h e = true_false _ (subst (λ v. IsTrue (is_of StringLiteral v)) e h) refl
 has_front Template w n h e = true_false _ (subst (λ v. IsTrue (is_of Template v)) e h) refl
 has_front RegularExpressionLiteral w n h e = true_false _ (subst (λ v. IsTrue (is_of RegularExpressionLiteral v)) e h) refl
+has_front PrivateName w n h e = true_false _ (subst (λ v. IsTrue (is_of PrivateName v)) e h) refl
+has_front Keyword w n h e = true_false _ (subst (λ v. IsTrue (is_of Keyword v)) e h) refl
 has_front End w n h e = n refl
+
+-- a keyword is scanned as a name
+scanned_end : (c : TokenClass) → scanned c ≡ End → c ≡ End
+scanned_end Keyword e = cc
+scanned_end _ e = e
+
+scanned_sign : (c : TokenClass) → scanned c ≡ Punctuator → c ≡ Punctuator
+scanned_sign Keyword e = cc
+scanned_sign _ e = e
 
 -- a word that isn't the end, and no sign that begins with `=`
 pub word_front : {c : TokenClass} {w : List ℕ} → Word c w → (c ≡ End → ⊥) → (c ≡ Punctuator → nat_eq (first_code w) 61 ≡ false) → FrontIs w
@@ -88,8 +144,8 @@ word_front {c} {w} h n k = go (chars w) refl
             absurd (false≢true (sym f ∙ ap (λ z. nat_eq z 61) (front_byte w 61 xs h.utf8 (e ∙ ap (λ z. z ∷ xs) is) (omega arith))))
 
     go : (cs : List ℕ) → chars w ≡ cs → FrontIs w
-    go [] e = absurd (has_front c (chars w) n h.is e)
-    go (x ∷ xs) e = record { code = x; rest = xs; is = e; plain = front_of c (chars w) h.is n x xs e (λ p. differs x xs e (k p)) }
+    go [] e = absurd (has_front (scanned c) (chars w) (λ z. n (scanned_end c z)) h.is e)
+    go (x ∷ xs) e = record { code = x; rest = xs; is = e; plain = front_of (scanned c) (chars w) h.is (λ z. n (scanned_end c z)) x xs e (λ p. differs x xs e (k (scanned_sign c p))) }
 
 -- What begins with a word
 
@@ -118,7 +174,7 @@ starts_front (a_name_seen h f) = front_on _ h.utf8 f
 
 -- an opening parenthesis
 pub apart_word : {c : TokenClass} {w rest : List ℕ} → Apart c w rest → Word c w
-apart_word {c} {w} {rest} h = record { utf8 = h.utf8; is = token_is c (chars w) (chars rest) h.longest; kept = h.kept }
+apart_word {c} {w} {rest} h = record { utf8 = h.utf8; is = token_is (scanned c) (chars w) (chars rest) h.longest; kept = h.kept }
 
 pub closed_word : (w : List ℕ) → Rattle.tokens.specs.Lexical.is_one_of_words Rattle.language.proofs.layout.PunctuatorsApart.closed_signs w ≡ true → Word Punctuator w
 closed_word w h = apart_word (closed_sign_apart w [] h)

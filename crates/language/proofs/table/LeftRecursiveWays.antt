@@ -10,15 +10,18 @@ use Rattle.language.specs.declared.Rank.TheVariants.{Expression, Assignment, Con
 use Rattle.language.specs.declared.Start.{Start}
 use Rattle.language.specs.declared.Start.TheVariants.{Any}
 use Rattle.tree.specs.declared.kind.Flags.{Flags}
+use Rattle.tree.specs.declared.kind.Form.{Form}
+use Rattle.tree.specs.declared.kind.Form.TheVariants.{Init, Generator, Async, AsyncGenerator}
 use Rattle.tree.specs.Tree.{Parts}
 use Rattle.language.specs.FirstPart.{lead as lead_kind, others}
-use Rattle.language.specs.Vocabulary.{is, takes, is_target, is_super, is_word_operator, Operator, op_binary, op_power, op_assign, op_update, op_comma, op_question, op_dot, op_call, op_index, op_optional, op_template, op_none, operator_of}
-use Rattle.language.specs.Pieces.{Role, expr, chain_part, tagged_quasi, word, PieceOf, Piece, tok, lay, sub, unbroken, space, is_tight, Spelling, is_none, sign, put}
-use Rattle.language.specs.Expressions.{arguments, after_number, in_brackets, first_has_optional, chain_parts, chain_element, member_link, call_link, sequence}
+use Rattle.language.specs.Vocabulary.{is, takes, is_target, is_super, is_private, is_word_operator, Operator, op_binary, op_power, op_assign, op_update, op_comma, op_question, op_dot, op_call, op_index, op_optional, op_template, op_none, operator_of}
+use Rattle.language.specs.Pieces.{Role, expr, chain_part, tagged_quasi, word, private_name, PieceOf, Piece, tok, lay, sub, unbroken, space, is_tight, Spelling, is_none, sign}
+use Rattle.language.specs.Expressions.{arguments, property_name, after_number, in_brackets, first_has_optional, chain_parts, chain_element, member_link, call_link, sequence}
 use Rattle.tree.specs.Uses.{implies}
 use Rattle.language.specs.Derivation.{Among}
 use Rattle.language.specs.Chosen as chosen
 use Rattle.language.specs.Chosen.{Chosen}
+use Rattle.language.specs.Forms as made
 use Rattle.language.specs.Forms.{Production, form, spelling_of}
 use Rattle.language.proofs.table.NodeForms.{Made, steps_target, assigns}
 use Rattle.language.proofs.lower_bound.Domination.{settled, fits}
@@ -37,8 +40,12 @@ callee_rank y = cond (is_tight y) Member Call
 abbrev pub bracketed : List (PieceOf Role)
 bracketed = tok Punctuator (codes "[") ∷ sub (expr Expression true Any) ∷ tok Punctuator (codes "]") ∷ []
 
-abbrev pub dotted : List (PieceOf Role)
-dotted = tok Punctuator (codes ".") ∷ sub word ∷ []
+-- where a property stands behind a dot: a private name, or any name
+abbrev pub property_role : Kind → Role
+property_role kind = cond (is_private kind) private_name word
+
+abbrev pub dotted : Kind → List (PieceOf Role)
+dotted kind = tok Punctuator (codes ".") ∷ sub (property_role kind) ∷ []
 
 -- The ways of a node that are led by an expression or by a part of a chain, at the position `expr y i f`: the head stands at b,
 -- the rest follows it; the last index is what the rest begins with.
@@ -57,7 +64,7 @@ pub data Led (y : Rank) (i : Bool) (f : Start) (k : Kind) (w : List ℕ) (g : Fl
       rest ≡ lay space ∷ tok Punctuator (codes "?") ∷ lay space ∷ sub (expr Assignment true Any) ∷ lay space ∷ tok Punctuator (codes ":") ∷ lay space ∷ sub (expr Assignment i Any) ∷ [] →
       Led y i f k w g ps b rest op_question
   led_dot : k ≡ MemberExpression → g.optional ≡ false → g.computed ≡ false → is_super (lead_kind ps) ≡ false → IsTrue (takes y Member) → b ≡ expr (callee_rank y) true f →
-      rest ≡ goes_to y i f (after_number ps g) ++ dotted → Led y i f k w g ps b rest op_dot
+      rest ≡ goes_to y i f (after_number ps g) ++ dotted (lead_kind (others ps)) → Led y i f k w g ps b rest op_dot
   led_index : k ≡ MemberExpression → g.optional ≡ false → g.computed ≡ true → is_super (lead_kind ps) ≡ false → IsTrue (takes y Member) → b ≡ expr (callee_rank y) true f →
       rest ≡ goes_to y i f (after_number ps g) ++ bracketed → Led y i f k w g ps b rest op_index
   led_call : k ≡ CallExpression → g.optional ≡ false → is_super (lead_kind ps) ≡ false → IsTrue (takes y Call) → b ≡ expr Call true f → rest ≡ goes_to y i f (arguments (others ps)) →
@@ -86,14 +93,32 @@ laid_apart y i f one_laid rs = refl
 
 module _ (y : Rank) (i : Bool) (f : Start) where
   by_selector : {w : List ℕ} {g : Flags} {ps : Parts} {b : Role} {rest : List (PieceOf Role)} (c : Bool) → g.computed ≡ c → g.optional ≡ false → is_super (lead_kind ps) ≡ false → IsTrue (takes y Member) → b ≡ expr (callee_rank y) true f →
-      rest ≡ goes_to y i f (after_number ps g ++ cond c in_brackets (sign "." ∷ put word ∷ [])) → LedWay y i f MemberExpression w g ps b rest
+      rest ≡ goes_to y i f (after_number ps g ++ cond c in_brackets (sign "." ∷ property_name (lead_kind (others ps)) ∷ [])) → LedWay y i f MemberExpression w g ps b rest
   by_selector {g = g} {ps = ps} true c o s t h e = record { operator = op_index; led = led_index refl o c s t h (e ∙ laid_apart y i f (number_laid ps g) in_brackets) }
-  by_selector {g = g} {ps = ps} false c o s t h e = record { operator = op_dot; led = led_dot refl o c s t h (e ∙ laid_apart y i f (number_laid ps g) (sign "." ∷ put word ∷ [])) }
+  by_selector {g = g} {ps = ps} false c o s t h e = record { operator = op_dot; led = led_dot refl o c s t h (e ∙ laid_apart y i f (number_laid ps g) (sign "." ∷ property_name (lead_kind (others ps)) ∷ [])) }
+
+  -- functions and arrows begin with their words
+  function_unled : {A : Type 0} (w : List ℕ) (g : Flags) (ps : Parts) {qs : List (PieceOf Role)} (x : Form) → qs ≡ settled (expr y i f) (spelling_of (form (made.function x)) w g ps) → is_led qs ≡ true → A
+  function_unled w g ps Init eq led = not_led eq refl led
+  function_unled w g ps Generator eq led = not_led eq refl led
+  function_unled w g ps Async eq led = not_led eq refl led
+  function_unled w g ps AsyncGenerator eq led = not_led eq refl led
+  function_unled w g ps _ eq led = not_led eq refl led
+
+  arrow_unled : {A : Type 0} (w : List ℕ) (g : Flags) (ps : Parts) {qs : List (PieceOf Role)} (x : Form) → qs ≡ settled (expr y i f) (spelling_of (form (made.arrow x)) w g ps) → is_led qs ≡ true → A
+  arrow_unled w g ps Init eq led = not_led eq refl led
+  arrow_unled w g ps Async eq led = not_led eq refl led
+  arrow_unled w g ps _ eq led = not_led eq refl led
+
+  short_unled : {A : Type 0} (w : List ℕ) (g : Flags) (ps : Parts) {qs : List (PieceOf Role)} (x : Form) → qs ≡ settled (expr y i f) (spelling_of (form (made.short_arrow x)) w g ps) → is_led qs ≡ true → A
+  short_unled w g ps Init eq led = not_led eq refl led
+  short_unled w g ps Async eq led = not_led eq refl led
+  short_unled w g ps _ eq led = not_led eq refl led
 
   form_led : {k : Kind} {w : List ℕ} {g : Flags} {ps : Parts} {b : Role} {rest : List (PieceOf Role)} {p : Production} → Chosen w g ps (expr Expression true Any) k p → IsTrue (fits (expr y i f) (spelling_of (form p) w g ps)) → sub b ∷ rest ≡ settled (expr y i f) (spelling_of (form p) w g ps) → is_led (sub b ∷ rest) ≡ true → LedWay y i f k w g ps b rest
-  form_led (chosen.binary h) fit eq led = record { operator = _; led = led_binary refl h (and_parts _ _ (and_parts _ _ fit).0).0 (and_parts _ _ (and_parts _ _ (and_parts _ _ fit).0).1).0 (head_is eq) (tail_is eq) }
+  form_led (chosen.binary p h) fit eq led = record { operator = _; led = led_binary refl h (and_parts _ _ (and_parts _ _ fit).0).0 (and_parts _ _ (and_parts _ _ (and_parts _ _ fit).0).1).0 (head_is eq) (tail_is eq) }
   form_led (chosen.logical h) fit eq led = record { operator = _; led = led_binary refl h (and_parts _ _ (and_parts _ _ fit).0).0 (and_parts _ _ (and_parts _ _ (and_parts _ _ fit).0).1).0 (head_is eq) (tail_is eq) }
-  form_led (chosen.power h) fit eq led = record { operator = _; led = led_power refl h (and_parts _ _ (and_parts _ _ fit).0).0 (head_is eq) (tail_is eq) }
+  form_led (chosen.power p h) fit eq led = record { operator = _; led = led_power refl h (and_parts _ _ (and_parts _ _ fit).0).0 (head_is eq) (tail_is eq) }
   form_led {w = w} (chosen.assign h t) fit eq led = record { operator = _; led = led_assign refl (assigns w h) t (and_parts _ _ (and_parts _ _ fit).0).0 (head_is eq) (tail_is eq) }
   form_led {w = w} {ps = ps} (chosen.postfix h p) fit eq led = let u = steps_target w (lead_kind ps) h in record { operator = _; led = led_postfix refl u.0 u.1 p (and_parts _ _ (and_parts _ _ fit).0).0 (head_is eq) (tail_is eq) }
   form_led (chosen.several h) fit eq led = record { operator = _; led = led_sequence refl h (and_parts _ _ (and_parts _ _ fit).0).0 (head_is eq) (tail_is eq) }
@@ -103,10 +128,14 @@ module _ (y : Rank) (i : Bool) (f : Start) where
   form_led chosen.tagged fit eq led = record { operator = _; led = led_tag refl (and_parts _ _ (and_parts _ _ fit).0).0 (head_is eq) (tail_is eq) }
   form_led (chosen.chain c) fit eq led = record { operator = _; led = led_chain refl c (and_parts _ _ (and_parts _ _ fit).0).0 (head_is eq) (tail_is eq) }
   form_led {ps = ps} chosen.template fit eq led = not_led eq (chunks_unled y i f true ps) led
-  form_led (chosen.short_arrow e h) fit eq led = not_led eq refl led
+  form_led {w = w} {g = g} {ps = ps} (chosen.short_arrow e h) fit eq led = short_unled w g ps g.form eq led
   form_led (chosen.super_member o s) fit eq led = not_led eq refl led
   form_led (chosen.super_call o s) fit eq led = not_led eq refl led
   form_led (chosen.new_target h) fit eq led = not_led eq refl led
+  form_led (chosen.import_meta h) fit eq led = not_led eq refl led
+  form_led (chosen.private_left p h) fit eq led = not_led eq refl led
+  form_led {w = w} {g = g} {ps = ps} chosen.function fit eq led = function_unled w g ps g.form eq led
+  form_led {w = w} {g = g} {ps = ps} chosen.arrow fit eq led = arrow_unled w g ps g.form eq led
   form_led (chosen.assign_pattern h p q) fit eq led = not_led eq refl led
   form_led (chosen.of_statement s c) fit eq led = elim s [ ]
   form_led (chosen.of_declaration s c) fit eq led = elim s [ ]
@@ -122,10 +151,10 @@ pub data Below (f : Start) (o : Bool) (ps : Parts) (b : Role) : Type 0 where
   on_base : first_has_optional ps ≡ false → o ≡ true → b ≡ expr Call true f → Below f o ps b
 
 pub data Linked (f : Start) (k : Kind) (g : Flags) (ps : Parts) (b : Role) (rest : List (PieceOf Role)) : Operator → Type 0 where
-  link_dot : k ≡ MemberExpression → g.optional ≡ false → g.computed ≡ false → first_has_optional ps ≡ true → b ≡ chain_part f → rest ≡ dotted → Linked f k g ps b rest op_dot
+  link_dot : k ≡ MemberExpression → g.optional ≡ false → g.computed ≡ false → first_has_optional ps ≡ true → b ≡ chain_part f → rest ≡ dotted (lead_kind (others ps)) → Linked f k g ps b rest op_dot
   link_index : k ≡ MemberExpression → g.optional ≡ false → g.computed ≡ true → first_has_optional ps ≡ true → b ≡ chain_part f → rest ≡ bracketed → Linked f k g ps b rest op_index
   link_call : k ≡ CallExpression → g.optional ≡ false → first_has_optional ps ≡ true → b ≡ chain_part f → rest ≡ goes_to Expression true f (arguments (others ps)) → Linked f k g ps b rest op_call
-  link_chained_name : k ≡ MemberExpression → g.optional ≡ true → g.computed ≡ false → Below f true ps b → rest ≡ tok Punctuator (codes "?.") ∷ sub word ∷ [] → Linked f k g ps b rest op_optional
+  link_chained_name : k ≡ MemberExpression → g.optional ≡ true → g.computed ≡ false → Below f true ps b → rest ≡ tok Punctuator (codes "?.") ∷ sub (property_role (lead_kind (others ps))) ∷ [] → Linked f k g ps b rest op_optional
   link_chained_index : k ≡ MemberExpression → g.optional ≡ true → g.computed ≡ true → Below f true ps b → rest ≡ tok Punctuator (codes "?.") ∷ bracketed → Linked f k g ps b rest op_optional
   link_chained_call : k ≡ CallExpression → g.optional ≡ true → Below f true ps b → rest ≡ tok Punctuator (codes "?.") ∷ goes_to Expression true f (arguments (others ps)) → Linked f k g ps b rest op_optional
 
@@ -139,7 +168,7 @@ module _ (f : Start) where
   below {ps = ps} o qs h eq = cases (first_has_optional ps) h (λ c k. let u = eq ∙ ap (settled (chain_part f)) (one k) in (on_part c (head_is u), tail_is u)) (λ c k. cases o k (λ d j. let u = eq ∙ ap (settled (chain_part f)) (one j) in (on_base c d (head_is u), tail_is u)) (λ d j. elim j [ ]))
 
   member_linked : {g : Flags} {ps : Parts} {b : Role} {rest : List (PieceOf Role)} (o c : Bool) → g.optional ≡ o → g.computed ≡ c → Below f o ps b →
-      rest ≡ goes_to Expression true f (cond o (sign "?." ∷ cond c in_brackets (put word ∷ [])) (cond c in_brackets (sign "." ∷ put word ∷ []))) → LinkedWay f MemberExpression g ps b rest
+      rest ≡ goes_to Expression true f (cond o (sign "?." ∷ cond c in_brackets (property_name (lead_kind (others ps)) ∷ [])) (cond c in_brackets (sign "." ∷ property_name (lead_kind (others ps)) ∷ []))) → LinkedWay f MemberExpression g ps b rest
   member_linked true true o c h e = record { operator = op_optional; linked = link_chained_index refl o c h e }
   member_linked true false o c h e = record { operator = op_optional; linked = link_chained_name refl o c h e }
   member_linked false true o c (on_part t h) e = record { operator = op_index; linked = link_index refl o c t h e }
@@ -153,6 +182,6 @@ module _ (f : Start) where
 
   -- each way of a part of a chain that is led is one of these
   pub linked_of : {x : Spelling} (k : Kind) {g : Flags} {ps : Parts} {b : Role} {rest : List (PieceOf Role)} → Among x (chain_parts k g ps) → sub b ∷ rest ≡ settled (chain_part f) x → LinkedWay f k g ps b rest
-  linked_of MemberExpression {g = g} h eq = let u = below g.optional (member_link g) h eq in member_linked g.optional g.computed refl refl u.0 u.1
+  linked_of MemberExpression {g = g} {ps = ps} h eq = let u = below g.optional (member_link g (lead_kind (others ps))) h eq in member_linked g.optional g.computed refl refl u.0 u.1
   linked_of CallExpression {g = g} {ps = ps} h eq = let u = below g.optional (call_link g ps) h eq in call_linked g.optional refl u.0 u.1
   linked_of _ h eq = elim h [ ]

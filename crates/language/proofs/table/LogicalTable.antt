@@ -10,13 +10,15 @@ use Rattle.language.specs.Vocabulary.{among, is_update_operator}
 use Rattle.language.specs.Pieces.{Role, PieceOf, Piece, tok, may, many, sub, lay}
 use Rattle.language.specs.Grammar.{ways}
 use Rattle.language.specs.Derivation.{Among}
+use Rattle.language.specs.Forms as made
 use Rattle.language.specs.Forms.{Production, postfix, form, pieces_of, OwnText, a_literal, a_sign, an_infix, a_step_space, own_piece}
 use Rattle.language.specs.Chosen.{Chosen}
 use Rattle.language.specs.Chosen as chosen
 use Rattle.language.proofs.table.ViewIsComplete.{way_of, absent_is_false}
 use Rattle.language.proofs.table.Begins.{among_by}
 use Rattle.language.proofs.table.EveryWay.{every_way}
-use Rattle.language.proofs.table.BeforeIt.{Before, SuffixTest, good_form}
+use Rattle.language.proofs.table.BeforeIt.{Before, SuffixTest, allows_of, good_form}
+use Rattle.language.proofs.table.Shapes.{shape_of, of_form}
 use Rattle.language.proofs.table.LogicalPieces.{is_mark, is_operand_slot, ready, guarded, guarded_here, guarded_settled}
 
 -- whether a piece may stand where an operand follows, or anything
@@ -106,6 +108,12 @@ form_guarded : {a : Role} {k : Kind} (p : Production) (w : List ℕ) (g : Flags)
 form_guarded postfix w g ps (chosen.postfix e d) = good_form (guards w true (λ h. step_differs w ((and_parts _ _ (absent_is_false _ e)).0))) (form postfix).items g ps refl
 form_guarded postfix w g ps (chosen.of_statement s c) = elim c [ ]
 form_guarded postfix w g ps (chosen.of_declaration s c) = elim c [ ]
+form_guarded (made.function x) w g ps c = good_form (guards w false (λ h. cc)) (form (made.function x)).items g ps (of_form (λ z. allows_of (guards w false (λ h. cc)) (shape_of (form (made.function z)).items) false) refl x)
+form_guarded (made.short_arrow x) w g ps c = good_form (guards w false (λ h. cc)) (form (made.short_arrow x)).items g ps (of_form (λ z. allows_of (guards w false (λ h. cc)) (shape_of (form (made.short_arrow z)).items) false) refl x)
+form_guarded (made.arrow x) w g ps c = good_form (guards w false (λ h. cc)) (form (made.arrow x)).items g ps (of_form (λ z. allows_of (guards w false (λ h. cc)) (shape_of (form (made.arrow z)).items) false) refl x)
+form_guarded (made.property_method x) w g ps c = good_form (guards w false (λ h. cc)) (form (made.property_method x)).items g ps (of_form (λ z. allows_of (guards w false (λ h. cc)) (shape_of (form (made.property_method z)).items) false) refl x)
+form_guarded (made.member_method x) w g ps c = good_form (guards w false (λ h. cc)) (form (made.member_method x)).items g ps (of_form (λ z. allows_of (guards w false (λ h. cc)) (shape_of (form (made.member_method z)).items) false) refl x)
+form_guarded (made.for_of x r) w g ps c = good_form (guards w false (λ h. cc)) (form (made.for_of x r)).items g ps (of_form (λ z. allows_of (guards w false (λ h. cc)) (shape_of (form (made.for_of z r)).items) false) refl x)
 form_guarded p w g ps c = good_form (guards w false (λ h. cc)) (form p).items g ps refl
 
 -- so each way is

@@ -9,10 +9,10 @@ use Rattle.tree.specs.Tree.{Tree, node, Parts, none, part, gap, kind_of}
 use Rattle.language.specs.declared.Rank.TheVariants.{Expression, Assignment}
 use Rattle.language.specs.declared.Start.TheVariants.{Any}
 use Rattle.language.specs.Vocabulary.{is_rest, is_spread, is_pattern, is_identifier, is_target}
-use Rattle.language.specs.Pieces.{Role, expr, opening, item, member, Piece, tok, may, many, absent, never, lay, line, deeper, shallower, put, put_at, sign, sp, is_none, separator, listed, elements, argument, bound, with_default, pattern_element, parameters, rest, spread, pattern, name}
-use Rattle.language.specs.Expressions.{object_part, object_pattern_part, template_elements, sequence}
-use Rattle.language.specs.Statements.{lines, prologue, declarators, member_lines, is_directive, braced}
-use Rattle.language.proofs.table.NeatPieces.{Touch, fresh, apart_from, broken, solid, named, valued, closed, stated, dotted, signed, echoed, a_chunk, sort_of, takes_part, is_loose, takes_line, neat, is_item_touch, NeatBehind, is_free, is_item_sort, is_item_piece, neat_item, line_item, nothing_behind, token_comma}
+use Rattle.language.specs.Pieces.{Role, expr, opening, item, member, Piece, tok, may, many, absent, never, lay, line, deeper, shallower, put, put_at, sign, sp, is_none, separator, listed, elements, argument, bound, with_default, pattern_element, parameters, rest, spread, pattern, name, word, directive_string, ending, of_export, listed_before}
+use Rattle.language.specs.Expressions.{module_name, object_part, object_pattern_part, template_elements, sequence}
+use Rattle.language.specs.Statements.{lines, prologue, declarators, member_lines, is_directive, braced, imported, exported, from_source, named_imports, export_list}
+use Rattle.language.proofs.table.NeatPieces.{Touch, fresh, apart_from, broken, solid, named, valued, closed, stated, dotted, starred, signed, echoed, a_chunk, sort_of, takes_part, is_loose, takes_line, neat, is_item_touch, NeatBehind, is_free, is_item_sort, is_item_piece, neat_item, line_item, nothing_behind, token_comma}
 
 free_touch : (s : Touch) → is_free s ≡ true → is_item_touch s ≡ true
 free_touch apart_from h = refl
@@ -23,6 +23,7 @@ free_touch valued h = refl
 free_touch stated h = refl
 free_touch closed h = refl
 free_touch dotted h = absurd (false≢true h)
+free_touch starred h = absurd (false≢true h)
 free_touch signed h = absurd (false≢true h)
 free_touch echoed h = absurd (false≢true h)
 free_touch broken h = absurd (false≢true h)
@@ -143,6 +144,93 @@ neat_parameters (part n (part m (part l ps))) b o s after h k =
 neat_parameters (part n (part m (gap ps))) b o s after h k =
     neat_item b o s (pattern_element true n) _ h (neat_pattern_element true n) (comma_between o (kind_of n) (parameters after (part m (gap ps))) (λ c. refl))
 
+-- the names of imports and exports
+
+pub neat_module_name : NeatItems module_name
+neat_module_name n = of (is_identifier (kind_of n))
+  where
+    of : (c : Bool) → is_item_piece (put (cond c word directive_string)) ≡ true
+    of true = refl
+    of false = refl
+
+neat_imported : NeatItems imported
+neat_imported (node kind.ImportSpecifier w g s e ps) = refl
+neat_imported (node _ w g s e ps) = refl
+
+neat_exported : NeatItems exported
+neat_exported (node kind.ExportSpecifier w g s e ps) = refl
+neat_exported (node _ w g s e ps) = refl
+
+neat_before : (f : Tree → Piece) → NeatItems f → (ps : Parts) (b o : Bool) (s : Touch) (after : List Piece) → is_free s ≡ true → NeatBehind o after → neat b o s (listed_before f after ps) ≡ true
+neat_before f g none b o s after h k = refl
+neat_before f g (gap ps) b o s after h k = refl
+neat_before f g (part n none) b o s after h k = k b s (free_touch s h)
+neat_before f g (part n (gap ps)) b o s after h k = refl
+neat_before f g (part n (part m none)) b o s after h k = neat_item b o s (f n) _ h (g n) (comma_behind o (kind_of n) after k)
+neat_before f g (part n (part m (part l ps))) b o s after h k =
+    neat_item b o s (f n) _ h (g n) (comma_between o (kind_of n) (listed_before f after (part m (part l ps))) (λ c. neat_before f g (part m (part l ps)) c o apart_from after refl k))
+neat_before f g (part n (part m (gap ps))) b o s after h k = neat_item b o s (f n) _ h (g n) (comma_between o (kind_of n) (listed_before f after (part m (gap ps))) (λ c. refl))
+
+pub source_end : NeatBehind false (from_source)
+source_end b apart_from h = refl
+source_end b solid h = refl
+source_end b named h = refl
+source_end b valued h = refl
+source_end b stated h = refl
+source_end b closed h = refl
+source_end b fresh h = absurd (false≢true h)
+source_end b dotted h = absurd (false≢true h)
+source_end b starred h = absurd (false≢true h)
+source_end b signed h = absurd (false≢true h)
+source_end b echoed h = absurd (false≢true h)
+source_end b broken h = absurd (false≢true h)
+
+names_end : NeatBehind false (sign "}" ∷ from_source)
+names_end b apart_from h = refl
+names_end b solid h = refl
+names_end b named h = refl
+names_end b valued h = refl
+names_end b stated h = refl
+names_end b closed h = refl
+names_end b fresh h = absurd (false≢true h)
+names_end b dotted h = absurd (false≢true h)
+names_end b starred h = absurd (false≢true h)
+names_end b signed h = absurd (false≢true h)
+names_end b echoed h = absurd (false≢true h)
+names_end b broken h = absurd (false≢true h)
+
+export_end : NeatBehind false (sign "}" ∷ absent ∷ ending of_export ∷ [])
+export_end b apart_from h = refl
+export_end b solid h = refl
+export_end b named h = refl
+export_end b valued h = refl
+export_end b stated h = refl
+export_end b closed h = refl
+export_end b fresh h = absurd (false≢true h)
+export_end b dotted h = absurd (false≢true h)
+export_end b starred h = absurd (false≢true h)
+export_end b signed h = absurd (false≢true h)
+export_end b echoed h = absurd (false≢true h)
+export_end b broken h = absurd (false≢true h)
+
+pub neat_named_imports : (ps : Parts) (b : Bool) → neat b false apart_from (named_imports ps) ≡ true
+neat_named_imports ps b = neat_before imported neat_imported ps b false solid (sign "}" ∷ from_source) refl names_end
+
+pub neat_export_list : (ps : Parts) (b : Bool) (s : Touch) → is_free s ≡ true → neat b false s (export_list ps) ≡ true
+neat_export_list none b s h = refl
+neat_export_list (gap none) b s h = export_end b s (free_touch s h)
+neat_export_list (gap (part n ps)) b s h = refl
+neat_export_list (gap (gap ps)) b s h = refl
+neat_export_list (part q none) b s h = names_end b s (free_touch s h)
+neat_export_list (part q (gap none)) b s h = neat_item b false s (exported q) _ h (neat_exported q) (comma_behind false (kind_of q) (export_list (gap none)) export_end)
+neat_export_list (part q (gap (part n ps))) b s h = neat_item b false s (exported q) _ h (neat_exported q) (comma_between false (kind_of q) (export_list (gap (part n ps))) (λ c. refl))
+neat_export_list (part q (gap (gap ps))) b s h = neat_item b false s (exported q) _ h (neat_exported q) (comma_between false (kind_of q) (export_list (gap (gap ps))) (λ c. refl))
+neat_export_list (part q (part m none)) b s h = neat_item b false s (exported q) _ h (neat_exported q) (comma_behind false (kind_of q) (export_list (part m none)) names_end)
+neat_export_list (part q (part m (part l ps))) b s h =
+    neat_item b false s (exported q) _ h (neat_exported q) (comma_between false (kind_of q) (export_list (part m (part l ps))) (λ c. neat_export_list (part m (part l ps)) c apart_from refl))
+neat_export_list (part q (part m (gap ps))) b s h =
+    neat_item b false s (exported q) _ h (neat_exported q) (comma_between false (kind_of q) (export_list (part m (gap ps))) (λ c. neat_export_list (part m (gap ps)) c apart_from refl))
+
 -- the second and later parts of a sequence
 pub neat_sequence : (ps : Parts) → NeatBehind false (sequence ps)
 neat_sequence none b s h = nothing_behind b s h
@@ -167,6 +255,7 @@ touch_line valued h = refl
 touch_line stated h = refl
 touch_line closed h = refl
 touch_line dotted h = refl
+touch_line starred h = h
 touch_line fresh h = h
 touch_line signed h = h
 touch_line echoed h = h
@@ -222,6 +311,7 @@ brace_end b stated h = refl
 brace_end b closed h = refl
 brace_end b fresh h = absurd (false≢true h)
 brace_end b dotted h = absurd (false≢true h)
+brace_end b starred h = absurd (false≢true h)
 brace_end b signed h = absurd (false≢true h)
 brace_end b echoed h = absurd (false≢true h)
 brace_end b broken h = absurd (false≢true h)
@@ -244,6 +334,7 @@ neat_braced ps qs f b s h = of (is_none ps) s h
     of t stated h = absurd (false≢true h)
     of t closed h = absurd (false≢true h)
     of t dotted h = absurd (false≢true h)
+    of t starred h = absurd (false≢true h)
     of t signed h = absurd (false≢true h)
     of t echoed h = absurd (false≢true h)
     of t broken h = absurd (false≢true h)

@@ -7,7 +7,7 @@ use Rattle.tokens.specs.declared.token.TokenClass.TheVariants.{IdentifierName, P
 use Rattle.tokens.specs.Lexical.{is_one_of_words}
 use Rattle.language.specs.declared.Rank.{Rank}
 use Rattle.language.specs.Vocabulary.{precedence}
-use Rattle.language.specs.Pieces.{Role, expr, chain_part, name, word, shorthand_key, base, tagged_quasi, template_element, pattern, method, body, block, class_body, script, Slot, fixed, left, lead, tail, callee, lead_chain, lead_pattern, Piece, PieceOf, tok, may, many, ahead, unbroken, ending, open_parameters, close_parameters, sub, absent, never, lay, space, line, feed, deeper, shallower, apart, loose}
+use Rattle.language.specs.Pieces.{Role, expr, chain_part, name, word, private_name, key, shorthand_key, base, tagged_quasi, template_element, pattern, method, body, block, class_body, script, Slot, fixed, left, lead, tail, callee, lead_chain, lead_pattern, Piece, PieceOf, tok, may, many, ahead, unbroken, ending, open_parameters, close_parameters, sub, absent, never, lay, space, line, feed, deeper, shallower, apart, loose, no_operand}
 use Rattle.language.proofs.layout.PunctuatorsApart.{closed_signs}
 use Rattle.language.proofs.layout.WordsApart.{is_closer, is_sign_closer}
 
@@ -17,8 +17,8 @@ pub data Touch : Type 0 where
   fresh apart_from broken : Touch
   -- what nothing goes on from; a name; an expression that may end in a number; a part that ends in none; any other part
   solid named valued closed stated : Touch
-  -- `.` or `?.`; another sign
-  dotted signed : Touch
+  -- `.` or `?.`; `*`; another sign
+  dotted starred signed : Touch
   -- a shorthand key
   echoed : Touch
 
@@ -26,14 +26,16 @@ pub data Touch : Type 0 where
 pub data Sort : Type 0 where
   -- an expression; one at LeftHandSide or tighter; a name; what ends in a bracket or a name
   an_operand a_tight a_name an_ended : Sort
-  -- a template behind a tag, a method's function, a template's part, a shorthand key, a script, anything else
-  a_quasi a_method a_chunk an_echo a_script another : Sort
+  -- a template behind a tag, a method's function, a template's part, a key, a shorthand key, a script, anything else
+  a_quasi a_method a_chunk a_key an_echo a_script another : Sort
 
 abbrev pub sort_of : Role → Sort
 sort_of (expr y i f) = cond (nat_le 18 (precedence y)) a_tight an_operand
 sort_of (chain_part f) = an_ended
 sort_of name = a_name
 sort_of word = a_name
+sort_of private_name = a_name
+sort_of key = a_key
 sort_of base = a_name
 sort_of tagged_quasi = a_quasi
 sort_of (method x) = a_method
@@ -69,6 +71,9 @@ takes_part signed a_tight = true
 takes_part signed x = false
 takes_part dotted a_name = true
 takes_part dotted x = false
+takes_part starred a_name = true
+takes_part starred a_key = true
+takes_part starred x = false
 takes_part echoed a_name = true
 takes_part echoed another = true
 takes_part echoed x = false
@@ -86,6 +91,7 @@ behind_part b an_ended = closed
 behind_part b a_quasi = closed
 behind_part b a_method = closed
 behind_part b a_chunk = solid
+behind_part b a_key = stated
 behind_part b an_echo = echoed
 behind_part b a_script = stated
 behind_part b another = stated
@@ -103,10 +109,11 @@ takes_sign closed w = is_closer (first_code w) || is_sign_closer (first_code w)
 takes_sign valued w = is_closer (first_code w)
 takes_sign stated w = is_closer (first_code w)
 takes_sign dotted w = is_one_of_words ("[" ∷ "(" ∷ []) w
+takes_sign starred w = is_one_of_words ("[" ∷ []) w
 takes_sign _ w = false
 
 abbrev pub behind_sign : List ℕ → Touch
-behind_sign w = cond (is_one_of_words closed_signs w) solid (cond (is_one_of_words ("." ∷ "?." ∷ []) w) dotted signed)
+behind_sign w = cond (is_one_of_words closed_signs w) solid (cond (is_one_of_words ("." ∷ "?." ∷ []) w) dotted (cond (is_one_of_words ("*" ∷ []) w) starred signed))
 
 abbrev pub is_loose : Touch → Bool
 is_loose fresh = true
@@ -125,12 +132,15 @@ takes_token s c w = false
 abbrev pub behind_token : TokenClass → List ℕ → Touch
 behind_token Punctuator w = behind_sign w
 behind_token IdentifierName w = named
+behind_token TokenClass.Keyword w = named
+behind_token TokenClass.PrivateName w = named
 behind_token Template w = solid
 behind_token _ w = valued
 
 -- a line break may stand behind it
 abbrev pub takes_line : Touch → Bool
 takes_line fresh = false
+takes_line starred = false
 takes_line signed = false
 takes_line echoed = false
 takes_line broken = false
@@ -168,6 +178,7 @@ is_valued _ = false
 abbrev pub goes_on_here : {R : Type 0} → List (PieceOf R) → Bool
 goes_on_here (tok c w ∷ qs) = true
 goes_on_here (sub s ∷ qs) = true
+goes_on_here (open_parameters ∷ qs) = true
 goes_on_here (lay space ∷ qs) = goes_on_here qs
 goes_on_here _ = false
 
@@ -188,6 +199,7 @@ loose_first (lay shallower ∷ qs) = loose_first qs
 loose_first (may w ∷ qs) = loose_first qs
 loose_first (many w ∷ qs) = loose_first qs
 loose_first (unbroken ∷ qs) = loose_first qs
+loose_first (no_operand ∷ qs) = loose_first qs
 loose_first _ = false
 
 -- what may follow a sign that could go on: a space; behind `!` an operand; behind `+` and `-` one kept apart from another such sign
@@ -205,6 +217,7 @@ is_signed _ = false
 abbrev pub goes_behind : {R : Type 0} → TokenClass → List ℕ → List (PieceOf R) → Bool
 goes_behind Punctuator w qs = not (is_signed (behind_sign w)) || goes_behind_sign w qs
 goes_behind IdentifierName w qs = true
+goes_behind TokenClass.Keyword w qs = true
 goes_behind Template w qs = true
 goes_behind TokenClass.End w qs = false
 goes_behind c w qs = no_pieces qs
@@ -233,6 +246,7 @@ neat b o s (may w ∷ qs) = neat b o s qs
 neat b o s (many w ∷ qs) = neat b o s qs
 neat b o s (ahead w ∷ qs) = false
 neat b o s (unbroken ∷ qs) = takes_joined s && (goes_on_here qs && neat b o s qs)
+neat b o s (no_operand ∷ qs) = no_pieces qs && neat b o s qs
 neat b o s (ending e ∷ qs) = takes_sign s (codes ";") && neat b o solid qs
 neat b o s (open_parameters ∷ qs) = not o && (is_loose s && neat b true solid qs)
 neat b o s (close_parameters ∷ qs) = o && (takes_sign s (codes ")") && neat b false solid qs)
@@ -280,6 +294,7 @@ behind_item b an_ended h = refl
 behind_item b a_quasi h = refl
 behind_item b a_method h = refl
 behind_item b a_chunk h = refl
+behind_item b a_key h = refl
 behind_item b an_echo h = h
 behind_item b a_script h = refl
 behind_item b another h = refl
@@ -293,6 +308,7 @@ free_takes valued x h = absurd (false≢true h)
 free_takes stated x h = absurd (false≢true h)
 free_takes closed x h = absurd (false≢true h)
 free_takes dotted x h = absurd (false≢true h)
+free_takes starred x h = absurd (false≢true h)
 free_takes signed x h = absurd (false≢true h)
 free_takes echoed x h = absurd (false≢true h)
 free_takes broken x h = absurd (false≢true h)
@@ -307,6 +323,7 @@ item_followed an_ended ys h = refl
 item_followed a_quasi ys h = refl
 item_followed a_method ys h = refl
 item_followed a_chunk ys h = refl
+item_followed a_key ys h = refl
 item_followed another ys h = refl
 
 -- an item, before what is neat behind it
@@ -319,6 +336,7 @@ neat_item b o s (may w) ys h k f = absurd (false≢true k)
 neat_item b o s (many w) ys h k f = absurd (false≢true k)
 neat_item b o s (ahead w) ys h k f = absurd (false≢true k)
 neat_item b o s unbroken ys h k f = absurd (false≢true k)
+neat_item b o s no_operand ys h k f = absurd (false≢true k)
 neat_item b o s (ending e) ys h k f = absurd (false≢true k)
 neat_item b o s open_parameters ys h k f = absurd (false≢true k)
 neat_item b o s close_parameters ys h k f = absurd (false≢true k)
@@ -334,6 +352,7 @@ token_comma valued h = refl
 token_comma stated h = refl
 token_comma closed h = refl
 token_comma dotted h = absurd (false≢true h)
+token_comma starred h = absurd (false≢true h)
 token_comma signed h = absurd (false≢true h)
 token_comma echoed h = absurd (false≢true h)
 token_comma broken h = absurd (false≢true h)
@@ -347,6 +366,7 @@ line_item b o (may w) ys k f = absurd (false≢true k)
 line_item b o (many w) ys k f = absurd (false≢true k)
 line_item b o (ahead w) ys k f = absurd (false≢true k)
 line_item b o unbroken ys k f = absurd (false≢true k)
+line_item b o no_operand ys k f = absurd (false≢true k)
 line_item b o (ending e) ys k f = absurd (false≢true k)
 line_item b o open_parameters ys k f = absurd (false≢true k)
 line_item b o close_parameters ys k f = absurd (false≢true k)

@@ -12,15 +12,15 @@ use Rattle.tree.specs.Tree.{Tree, node, Parts, none, part, gap, kind_of, parts_o
 use Rattle.language.specs.FirstPart.{lead as lead_kind, others}
 use Rattle.language.specs.declared.Rank.TheVariants.{Expression, Assignment, Grouped}
 use Rattle.language.specs.declared.Start.TheVariants.{Any}
-use Rattle.language.specs.Vocabulary.{is, among, is_reserved, is_rest, is_pattern, literal_class, is_string}
-use Rattle.language.specs.Pieces.{Role, expr, chain_part, name, word, key, shorthand_key, base, directive_string, tagged_quasi, template_element, spread, property, pattern, pattern_property, element, rest, method, body, statement, item, opening, block, head, declarator, switch_case, handler, class_body, member, script, Piece, tok, many, unbroken, ending, behind, sub, absent, never, lay, line, feed, deeper, shallower, put, put_at, only, only_at, sign, term, sp, Spelling, is_none, listed, elements, parameters, bound, with_default, pattern_element}
-use Rattle.language.specs.Expressions.{keyed, properties, pattern_properties, shorthand_pattern, object_pattern_part, methods, assignment, given}
-use Rattle.language.specs.Statements.{statements, items, openings, cases, handlers, members, lines, prologue, member_lines, declarators, declaration, end_of, after_word, whole, for_left, is_declaration, first_is_string, is_one, defaults}
-use Rattle.language.specs.Edges.{last_edge, ends_in_if}
+use Rattle.language.specs.Vocabulary.{is, among, is_reserved, is_rest, is_pattern, is_identifier, is_private, literal_class, is_string}
+use Rattle.language.specs.Pieces.{Role, expr, chain_part, name, word, private_name, key, shorthand_key, base, directive_string, tagged_quasi, template_element, spread, property, pattern, pattern_property, element, rest, method, body, statement, item, opening, block, head, declarator, switch_case, handler, class_body, member, module_item, specifier, default_item, script, Ending, Piece, tok, many, unbroken, no_operand, ending, behind, behind_value, behind_key, nothing, sub, absent, never, lay, line, feed, deeper, shallower, put, put_at, only, only_at, sign, term, sp, Spelling, is_none, listed, elements, parameters, bound, with_default, pattern_element}
+use Rattle.language.specs.Expressions.{keyed, method_words, value_form, module_name, properties, pattern_properties, shorthand_pattern, object_pattern_part, methods, assignment, given, method_of}
+use Rattle.language.specs.Statements.{statements, items, openings, cases, handlers, class_keyed, members, static_word, key_word, fields, from_source, imports, exported_declaration, exported_default, module_items, specifiers, default_items, lines, prologue, for_words, member_lines, declarators, declaration, end_of, after_word, whole, for_left, is_declaration, first_is_string, is_one, defaults}
+use Rattle.language.specs.Edges.{edge, last_edge, ends_in_if}
 use Rattle.language.specs.Grammar.{spellings}
-use Rattle.language.proofs.table.NeatPieces.{Touch, fresh, apart_from, broken, solid, named, valued, closed, stated, dotted, signed, echoed, Sort, an_operand, sort_of, neat, is_item_touch, NeatBehind, is_item_sort, is_item_piece, neat_item, nothing_behind, behind_part, slot_sort, loose_first, echo_followed, item_followed}
-use Rattle.language.proofs.table.NeatLists.{neat_listed, neat_elements, neat_parameters, neat_pattern_element, neat_pattern_part, neat_bound, neat_default, neat_lines, neat_body, neat_members, neat_declarators, neat_braced, neat_chunks}
-use Rattle.language.proofs.table.NeatExpressions.{Neat, no_spelling, one, neat_sole, neat_cond, bracket_end, list_brace_end, body_end, neat_function, neat_class, first_is_open, neat_literal, neat_expressions, neat_spines}
+use Rattle.language.proofs.table.NeatPieces.{Touch, fresh, apart_from, broken, solid, named, valued, closed, stated, dotted, starred, signed, echoed, Sort, an_operand, sort_of, neat, is_item_touch, NeatBehind, is_item_sort, is_item_piece, neat_item, nothing_behind, behind_part, slot_sort, loose_first, echo_followed, item_followed}
+use Rattle.language.proofs.table.NeatLists.{neat_listed, neat_elements, neat_parameters, neat_pattern_element, neat_pattern_part, neat_bound, neat_default, neat_lines, neat_body, neat_members, neat_declarators, neat_braced, neat_chunks, neat_module_name, source_end, neat_named_imports, neat_export_list}
+use Rattle.language.proofs.table.NeatExpressions.{Neat, no_spelling, a_spelling, one, neat_sole, neat_cond, bracket_end, list_brace_end, body_end, neat_function, neat_class, first_is_open, neat_literal, neat_expressions, neat_spines}
 
 neat_unless : {b : Bool} (c : Bool) (qs : List Piece) → neat b false fresh qs ≡ true → Neat b (cond c [] (only qs))
 neat_unless true qs h = no_spelling
@@ -36,6 +36,7 @@ statement_end e b stated h = refl
 statement_end e b closed h = refl
 statement_end e b fresh h = absurd (false≢true h)
 statement_end e b dotted h = absurd (false≢true h)
+statement_end e b starred h = absurd (false≢true h)
 statement_end e b signed h = absurd (false≢true h)
 statement_end e b echoed h = absurd (false≢true h)
 statement_end e b broken h = absurd (false≢true h)
@@ -77,6 +78,7 @@ semicolon_then qs k b stated h = k b
 semicolon_then qs k b closed h = k b
 semicolon_then qs k b fresh h = absurd (false≢true h)
 semicolon_then qs k b dotted h = absurd (false≢true h)
+semicolon_then qs k b starred h = absurd (false≢true h)
 semicolon_then qs k b signed h = absurd (false≢true h)
 semicolon_then qs k b echoed h = absurd (false≢true h)
 semicolon_then qs k b broken h = absurd (false≢true h)
@@ -90,6 +92,7 @@ for_end r b stated h = refl
 for_end r b closed h = refl
 for_end r b fresh h = absurd (false≢true h)
 for_end r b dotted h = absurd (false≢true h)
+for_end r b starred h = absurd (false≢true h)
 for_end r b signed h = absurd (false≢true h)
 for_end r b echoed h = absurd (false≢true h)
 for_end r b broken h = absurd (false≢true h)
@@ -128,9 +131,15 @@ for_word w a r i b stated h = neat_item b false apart_from (put a) (sign ")" ∷
 for_word w a r i b closed h = neat_item b false apart_from (put a) (sign ")" ∷ sp ∷ put (statement r) ∷ []) refl i (for_end r)
 for_word w a r i b fresh h = absurd (false≢true h)
 for_word w a r i b dotted h = absurd (false≢true h)
+for_word w a r i b starred h = absurd (false≢true h)
 for_word w a r i b signed h = absurd (false≢true h)
 for_word w a r i b echoed h = absurd (false≢true h)
 for_word w a r i b broken h = absurd (false≢true h)
+
+neat_for_of : (b r : Bool) (x : Form) (ps : Parts) → neat b false fresh (term "for" ∷ sp ∷ for_words x ++ sign "(" ∷ for_left ps ∷ sp ∷ term "of" ∷ sp ∷ put (expr Assignment true Any) ∷ sign ")" ∷ sp ∷ put (statement r) ∷ []) ≡ true
+neat_for_of b r form.Init ps = neat_item b false solid (for_left ps) (sp ∷ term "of" ∷ sp ∷ put (expr Assignment true Any) ∷ sign ")" ∷ sp ∷ put (statement r) ∷ []) refl (for_left_item ps) (for_word (codes "of") (expr Assignment true Any) r refl)
+neat_for_of b r form.Async ps = neat_item b false solid (for_left ps) (sp ∷ term "of" ∷ sp ∷ put (expr Assignment true Any) ∷ sign ")" ∷ sp ∷ put (statement r) ∷ []) refl (for_left_item ps) (for_word (codes "of") (expr Assignment true Any) r refl)
+neat_for_of b r _ ps = refl
 
 -- statements
 
@@ -152,7 +161,7 @@ neat_statements b r kind.IfStatement w g (part t (part c (part a (part n ps)))) 
 neat_statements b r kind.IfStatement w g (part t (part c (part a (gap ps)))) = no_spelling
 neat_statements b r kind.ForStatement w g ps = one (neat_for_pieces b r ps)
 neat_statements b r kind.ForInStatement w g ps = one (neat_item b false solid (for_left ps) (sp ∷ term "in" ∷ sp ∷ whole ∷ sign ")" ∷ sp ∷ put (statement r) ∷ []) refl (for_left_item ps) (for_word (codes "in") (expr Expression true Any) r refl))
-neat_statements b r kind.ForOfStatement w g ps = one (neat_item b false solid (for_left ps) (sp ∷ term "of" ∷ sp ∷ put (expr Assignment true Any) ∷ sign ")" ∷ sp ∷ put (statement r) ∷ []) refl (for_left_item ps) (for_word (codes "of") (expr Assignment true Any) r refl))
+neat_statements b r kind.ForOfStatement w g ps = one (neat_for_of b r g.form ps)
 neat_statements b r kind.ContinueStatement w g ps = one (neat_word_end b (codes "continue") ps name (behind Rattle.language.specs.declared.Edge.TheVariants.Closed) refl)
 neat_statements b r kind.BreakStatement w g ps = one (neat_word_end b (codes "break") ps name (behind Rattle.language.specs.declared.Edge.TheVariants.Closed) refl)
 neat_statements b r kind.ReturnStatement w g ps = neat_cond r (λ e. one (neat_word_end b (codes "return") ps (expr Expression true Any) (behind (last_edge ps)) refl)) (λ e. no_spelling)
@@ -166,7 +175,7 @@ neat_statements b r k w g ps = neat_sole (statements r k w g ps) refl
 
 pub neat_items : (b r : Bool) (k : Kind) (w : List ℕ) (g : Flags) (ps : Parts) → Neat b (items r k w g ps)
 unfolding items
-neat_items b r kind.FunctionDeclaration w g (part n ps) = one (neat_function b (part n ps))
+neat_items b r kind.FunctionDeclaration w g (part n ps) = one (neat_function b g.form (part n ps))
 neat_items b r kind.FunctionDeclaration w g _ = no_spelling
 neat_items b r kind.ClassDeclaration w g (part n ps) = one (neat_class b (part n ps))
 neat_items b r kind.ClassDeclaration w g _ = no_spelling
@@ -190,23 +199,148 @@ neat_openings b r k w g ps = neat_items b r k w g ps
 neat_keyed : (b : Bool) (before : List Piece) (c : Bool) (after : List Piece) → neat b false fresh (before ++ sign "[" ∷ assignment ∷ sign "]" ∷ after) ≡ true → neat b false fresh (before ++ put key ∷ after) ≡ true → Neat b (keyed before c after)
 neat_keyed b before c after h k = neat_cond c (λ e. one h) (λ e. one k)
 
-neat_properties : (b c : Bool) (x : Form) → Neat b (properties c x)
-neat_properties b c form.Init = neat_keyed b [] c (sign ":" ∷ sp ∷ assignment ∷ []) refl refl
-neat_properties b c form.Method = neat_keyed b [] c (put (method form.Method) ∷ []) refl refl
-neat_properties b c form.Get = neat_keyed b (term "get" ∷ sp ∷ []) c (put (method form.Get) ∷ []) refl refl
-neat_properties b c form.Set = neat_keyed b (term "set" ∷ sp ∷ []) c (put (method form.Set) ∷ []) refl refl
-neat_properties b c form.Shorthand = neat_cond c (λ e. no_spelling) (λ e. one refl)
-neat_properties b c form.Constructor = no_spelling
+-- a method, by the form of its function
+neat_method : (b c : Bool) (y : Form) → Neat b (keyed (method_words y) c (put (method (method_of y)) ∷ []))
+neat_method b c form.Init = neat_keyed b (method_words form.Init) c (put (method (method_of form.Init)) ∷ []) refl refl
+neat_method b c form.Generator = neat_keyed b (method_words form.Generator) c (put (method (method_of form.Generator)) ∷ []) refl refl
+neat_method b c form.Async = neat_keyed b (method_words form.Async) c (put (method (method_of form.Async)) ∷ []) refl refl
+neat_method b c form.AsyncGenerator = neat_keyed b (method_words form.AsyncGenerator) c (put (method (method_of form.AsyncGenerator)) ∷ []) refl refl
+neat_method b c y = neat_keyed b nothing c (put (method (method_of y)) ∷ []) refl refl
 
-neat_members_by : (b c : Bool) (x : Form) → Neat b (members [] c x)
-neat_members_by b c form.Get = neat_keyed b (term "get" ∷ sp ∷ []) c (put (method form.Get) ∷ []) refl refl
-neat_members_by b c form.Set = neat_keyed b (term "set" ∷ sp ∷ []) c (put (method form.Set) ∷ []) refl refl
-neat_members_by b c _ = neat_keyed b [] c (put (method form.Method) ∷ []) refl refl
+neat_properties : (b c : Bool) (x y : Form) → Neat b (properties c x y)
+neat_properties b c form.Init y = neat_keyed b [] c (sign ":" ∷ sp ∷ assignment ∷ []) refl refl
+neat_properties b c form.Method y = neat_method b c y
+neat_properties b c form.Get y = neat_keyed b (term "get" ∷ sp ∷ []) c (put (method form.Get) ∷ []) refl refl
+neat_properties b c form.Set y = neat_keyed b (term "set" ∷ sp ∷ []) c (put (method form.Set) ∷ []) refl refl
+neat_properties b c form.Shorthand y = neat_cond c (λ e. no_spelling) (λ e. one refl)
+neat_properties b c _ y = no_spelling
 
-neat_statics : (b c : Bool) (x : Form) → Neat b (members (term "static" ∷ sp ∷ []) c x)
-neat_statics b c form.Get = neat_keyed b (term "static" ∷ sp ∷ term "get" ∷ sp ∷ []) c (put (method form.Get) ∷ []) refl refl
-neat_statics b c form.Set = neat_keyed b (term "static" ∷ sp ∷ term "set" ∷ sp ∷ []) c (put (method form.Set) ∷ []) refl refl
-neat_statics b c _ = neat_keyed b (term "static" ∷ sp ∷ []) c (put (method form.Method) ∷ []) refl refl
+neat_class_keyed : (b : Bool) (before : List Piece) (c : Bool) (k : Kind) (after : List Piece) → neat b false fresh (before ++ sign "[" ∷ assignment ∷ sign "]" ∷ after) ≡ true →
+    neat b false fresh (before ++ put private_name ∷ after) ≡ true → neat b false fresh (before ++ put key ∷ after) ≡ true → Neat b (class_keyed before c k after)
+neat_class_keyed b before c k after h p q = neat_cond c (λ e. one h) (λ e. one (of (is_private k)))
+  where
+    of : (t : Bool) → neat b false fresh (before ++ put (cond t private_name key) ∷ after) ≡ true
+    of true = p
+    of false = q
+
+neat_class_method : (b s c : Bool) (y : Form) (k : Kind) → Neat b (class_keyed (static_word s ++ method_words y) c k (put (method (method_of y)) ∷ []))
+neat_class_method b true c form.Init k = neat_class_keyed b (static_word true ++ method_words form.Init) c k (put (method (method_of form.Init)) ∷ []) refl refl refl
+neat_class_method b true c form.Generator k = neat_class_keyed b (static_word true ++ method_words form.Generator) c k (put (method (method_of form.Generator)) ∷ []) refl refl refl
+neat_class_method b true c form.Async k = neat_class_keyed b (static_word true ++ method_words form.Async) c k (put (method (method_of form.Async)) ∷ []) refl refl refl
+neat_class_method b true c form.AsyncGenerator k = neat_class_keyed b (static_word true ++ method_words form.AsyncGenerator) c k (put (method (method_of form.AsyncGenerator)) ∷ []) refl refl refl
+neat_class_method b true c y k = neat_class_keyed b (static_word true ++ nothing) c k (put (method (method_of y)) ∷ []) refl refl refl
+neat_class_method b false c form.Init k = neat_class_keyed b (static_word false ++ method_words form.Init) c k (put (method (method_of form.Init)) ∷ []) refl refl refl
+neat_class_method b false c form.Generator k = neat_class_keyed b (static_word false ++ method_words form.Generator) c k (put (method (method_of form.Generator)) ∷ []) refl refl refl
+neat_class_method b false c form.Async k = neat_class_keyed b (static_word false ++ method_words form.Async) c k (put (method (method_of form.Async)) ∷ []) refl refl refl
+neat_class_method b false c form.AsyncGenerator k = neat_class_keyed b (static_word false ++ method_words form.AsyncGenerator) c k (put (method (method_of form.AsyncGenerator)) ∷ []) refl refl refl
+neat_class_method b false c y k = neat_class_keyed b (static_word false ++ nothing) c k (put (method (method_of y)) ∷ []) refl refl refl
+
+neat_members_by : (b s c : Bool) (x y : Form) (k : Kind) → Neat b (members (static_word s) c x y k)
+neat_members_by b true c form.Get y k = neat_class_keyed b (term "static" ∷ sp ∷ term "get" ∷ sp ∷ []) c k (put (method form.Get) ∷ []) refl refl refl
+neat_members_by b false c form.Get y k = neat_class_keyed b (term "get" ∷ sp ∷ []) c k (put (method form.Get) ∷ []) refl refl refl
+neat_members_by b true c form.Set y k = neat_class_keyed b (term "static" ∷ sp ∷ term "set" ∷ sp ∷ []) c k (put (method form.Set) ∷ []) refl refl refl
+neat_members_by b false c form.Set y k = neat_class_keyed b (term "set" ∷ sp ∷ []) c k (put (method form.Set) ∷ []) refl refl refl
+neat_members_by b s c _ y k = neat_class_method b s c y k
+
+neat_fields : (b : Bool) (g : Flags) (ps : Parts) → Neat b (fields g ps)
+neat_fields b g (part n (gap none)) = of g.is_static (behind_key (key_word g.computed n) g.is_static)
+  where
+    of : (s : Bool) (e : Ending) → Neat b (class_keyed (static_word s) g.computed (kind_of n) (absent ∷ ending e ∷ []))
+    of true e = neat_class_keyed b (term "static" ∷ sp ∷ []) g.computed (kind_of n) (absent ∷ ending e ∷ []) refl refl refl
+    of false e = neat_class_keyed b [] g.computed (kind_of n) (absent ∷ ending e ∷ []) refl refl refl
+neat_fields b g (part n (part v none)) = of g.is_static (behind_value (edge v))
+  where
+    of : (s : Bool) (e : Ending) → Neat b (class_keyed (static_word s) g.computed (kind_of n) (sp ∷ sign "=" ∷ sp ∷ assignment ∷ ending e ∷ []))
+    of true e = neat_class_keyed b (term "static" ∷ sp ∷ []) g.computed (kind_of n) (sp ∷ sign "=" ∷ sp ∷ assignment ∷ ending e ∷ []) refl refl refl
+    of false e = neat_class_keyed b [] g.computed (kind_of n) (sp ∷ sign "=" ∷ sp ∷ assignment ∷ ending e ∷ []) refl refl refl
+neat_fields b g _ = no_spelling
+
+-- imports and exports
+
+neat_default_import : (b : Bool) (n : Tree) (ps : Parts) → Neat b (imports kind.ImportDefaultSpecifier (part n ps))
+neat_default_import b n (part (node kind.ImportNamespaceSpecifier w g s e qs) (part m none)) = one refl
+neat_default_import b n (part (node kind.ImportNamespaceSpecifier w g s e qs) _) = no_spelling
+neat_default_import b n (part (node kind.ImportSpecifier w g s e qs) ps) = one (neat_named_imports (part (node kind.ImportSpecifier w g s e qs) ps) true)
+neat_default_import b n (part (node kind.Literal w g s e qs) none) = a_spelling refl (one refl)
+neat_default_import b n (part (node kind.Literal w g s e qs) _) = no_spelling
+neat_default_import b n (part (node _ w g s e qs) ps) = no_spelling
+neat_default_import b n none = no_spelling
+neat_default_import b n (gap ps) = no_spelling
+
+neat_imports : (b : Bool) (k : Kind) (ps : Parts) → Neat b (imports k ps)
+neat_imports b kind.Literal (part s none) = a_spelling refl (one refl)
+neat_imports b kind.Literal _ = no_spelling
+neat_imports b kind.ImportNamespaceSpecifier (part n (part s none)) = one refl
+neat_imports b kind.ImportNamespaceSpecifier _ = no_spelling
+neat_imports b kind.ImportSpecifier ps = one (neat_named_imports ps b)
+neat_imports b kind.ImportDefaultSpecifier (part n ps) = neat_default_import b n ps
+neat_imports b kind.ImportDefaultSpecifier _ = no_spelling
+neat_imports b _ ps = no_spelling
+
+neat_exported_declaration : (b : Bool) (k : Kind) → neat b false apart_from (exported_declaration k ∷ absent ∷ []) ≡ true
+neat_exported_declaration b kind.FunctionDeclaration = refl
+neat_exported_declaration b kind.ClassDeclaration = refl
+neat_exported_declaration b kind.VariableDeclaration = refl
+neat_exported_declaration b _ = refl
+
+neat_exported_default : (b : Bool) (n : Tree) → neat b false apart_from (exported_default n) ≡ true
+neat_exported_default b (node kind.FunctionDeclaration w g s e ps) = refl
+neat_exported_default b (node kind.ClassDeclaration w g s e ps) = refl
+neat_exported_default b (node _ w g s e ps) = refl
+
+neat_module_items : (b : Bool) (k : Kind) (ps : Parts) → Neat b (module_items k ps)
+neat_module_items b kind.ImportDeclaration ps = neat_imports b (lead_kind ps) ps
+neat_module_items b kind.ExportNamedDeclaration (part d (gap none)) = one (neat_exported_declaration b (kind_of d))
+neat_module_items b kind.ExportNamedDeclaration (gap ps) = one (neat_export_list ps true solid refl)
+neat_module_items b kind.ExportNamedDeclaration _ = no_spelling
+neat_module_items b kind.ExportDefaultDeclaration (part d none) = one (neat_exported_default b d)
+neat_module_items b kind.ExportDefaultDeclaration _ = no_spelling
+neat_module_items b kind.ExportAllDeclaration (gap (part s none)) = one refl
+neat_module_items b kind.ExportAllDeclaration (part n (part s none)) = one (neat_item b false apart_from (module_name n) from_source refl (neat_module_name n) source_end)
+neat_module_items b kind.ExportAllDeclaration _ = no_spelling
+neat_module_items b _ ps = no_spelling
+
+-- a name before a further one, and the last
+name_then : (b : Bool) (m n : Tree) → neat b false fresh (module_name m ∷ sp ∷ term "as" ∷ sp ∷ module_name n ∷ []) ≡ true
+name_then b m n = of (is_identifier (kind_of m)) (is_identifier (kind_of n))
+  where
+    of : (c d : Bool) → neat b false fresh (put (cond c word directive_string) ∷ sp ∷ term "as" ∷ sp ∷ put (cond d word directive_string) ∷ []) ≡ true
+    of true true = refl
+    of true false = refl
+    of false true = refl
+    of false false = refl
+
+name_as : (b : Bool) (m : Tree) → neat b false fresh (module_name m ∷ sp ∷ term "as" ∷ sp ∷ put name ∷ []) ≡ true
+name_as b m = of (is_identifier (kind_of m))
+  where
+    of : (c : Bool) → neat b false fresh (put (cond c word directive_string) ∷ sp ∷ term "as" ∷ sp ∷ put name ∷ []) ≡ true
+    of true = refl
+    of false = refl
+
+one_name : (b : Bool) (m : Tree) → neat b false fresh (module_name m ∷ []) ≡ true
+one_name b m = of (is_identifier (kind_of m))
+  where
+    of : (c : Bool) → neat b false fresh (put (cond c word directive_string) ∷ []) ≡ true
+    of true = refl
+    of false = refl
+
+neat_specifiers : (b : Bool) (k : Kind) (x : Form) (ps : Parts) → Neat b (specifiers k x ps)
+neat_specifiers b kind.ImportDefaultSpecifier x (part n none) = one refl
+neat_specifiers b kind.ImportDefaultSpecifier x _ = no_spelling
+neat_specifiers b kind.ImportNamespaceSpecifier x (part n none) = one refl
+neat_specifiers b kind.ImportNamespaceSpecifier x _ = no_spelling
+neat_specifiers b kind.ImportSpecifier form.Shorthand (part n none) = one refl
+neat_specifiers b kind.ImportSpecifier form.Init (part m (part n none)) = one (name_as b m)
+neat_specifiers b kind.ImportSpecifier _ _ = no_spelling
+neat_specifiers b kind.ExportSpecifier form.Shorthand (part n none) = one (one_name b n)
+neat_specifiers b kind.ExportSpecifier form.Init (part m (part n none)) = one (name_then b m n)
+neat_specifiers b kind.ExportSpecifier _ _ = no_spelling
+neat_specifiers b _ x ps = no_spelling
+
+neat_default_items : (b : Bool) (k : Kind) (x : Form) (ps : Parts) → Neat b (default_items k x ps)
+neat_default_items b kind.FunctionDeclaration x ps = one (neat_function b x ps)
+neat_default_items b kind.ClassDeclaration x ps = one (neat_class b ps)
+neat_default_items b _ x ps = no_spelling
 
 neat_shorthand : (b : Bool) (k : Kind) → Neat b (shorthand_pattern k)
 neat_shorthand b kind.Identifier = one refl
@@ -232,6 +366,7 @@ before_default b stated h = refl
 before_default b closed h = refl
 before_default b fresh h = absurd (false≢true h)
 before_default b dotted h = absurd (false≢true h)
+before_default b starred h = absurd (false≢true h)
 before_default b signed h = absurd (false≢true h)
 before_default b echoed h = absurd (false≢true h)
 before_default b broken h = absurd (false≢true h)
@@ -245,6 +380,7 @@ before_value i b stated h = refl
 before_value i b closed h = refl
 before_value i b fresh h = absurd (false≢true h)
 before_value i b dotted h = absurd (false≢true h)
+before_value i b starred h = absurd (false≢true h)
 before_value i b signed h = absurd (false≢true h)
 before_value i b echoed h = absurd (false≢true h)
 before_value i b broken h = absurd (false≢true h)
@@ -281,6 +417,7 @@ neat_handlers b r kind.CatchClause (part p ps) = one (neat_item b false solid (p
     block_end r b closed h = refl
     block_end r b fresh h = absurd (false≢true h)
     block_end r b dotted h = absurd (false≢true h)
+    block_end r b starred h = absurd (false≢true h)
     block_end r b signed h = absurd (false≢true h)
     block_end r b echoed h = absurd (false≢true h)
     block_end r b broken h = absurd (false≢true h)
@@ -301,6 +438,8 @@ table_neat name (node kind.Identifier w g s e ps) pl = neat_cond (is_reserved w)
 table_neat name (node _ w g s e ps) pl = no_spelling
 table_neat word (node kind.Identifier w g s e ps) pl = one refl
 table_neat word (node _ w g s e ps) pl = no_spelling
+table_neat private_name (node kind.PrivateIdentifier w g s e ps) pl = one refl
+table_neat private_name (node _ w g s e ps) pl = no_spelling
 table_neat key (node kind.Identifier w g s e ps) pl = one refl
 table_neat key (node kind.Literal w g s e ps) pl = neat_unless _ (tok (literal_class w) w ∷ []) (neat_literal (first_is_open ps) w)
 table_neat key (node _ w g s e ps) pl = no_spelling
@@ -314,7 +453,7 @@ table_neat (template_element x y) (node kind.TemplateElement w g s e ps) pl = on
 table_neat (template_element x y) (node _ w g s e ps) pl = no_spelling
 table_neat spread (node kind.SpreadElement w g s e ps) pl = one refl
 table_neat spread (node _ w g s e ps) pl = no_spelling
-table_neat property (node kind.Property w g s e ps) pl = neat_properties (first_is_open ps) g.computed g.form
+table_neat property (node kind.Property w g s e ps) pl = neat_properties (first_is_open ps) g.computed g.form (value_form ps)
 table_neat property (node _ w g s e ps) pl = no_spelling
 table_neat (pattern b f) (node kind.ArrayPattern w g s e ps) pl = one (neat_elements (pattern_element b) (neat_pattern_element b) ps (first_is_open ps) false solid (sign "]" ∷ []) refl bracket_end)
 table_neat (pattern b f) (node kind.ObjectPattern w g s e ps) pl = one (neat_listed (object_pattern_part b) (neat_pattern_part b) ps (first_is_open ps) false solid (sign "}" ∷ []) refl list_brace_end)
@@ -325,7 +464,7 @@ table_neat (element b) (node kind.AssignmentPattern w g s e ps) pl = neat_only_a
 table_neat (element b) (node _ w g s e ps) pl = no_spelling
 table_neat (rest b o) (node kind.RestElement w g s e ps) pl = neat_unless _ (sign "..." ∷ put_at (bound b (lead_kind ps)) ∷ []) (neat_item (first_is_open ps) false solid (put_at (bound b (lead_kind ps))) [] refl (neat_bound b (lead_kind ps)) nothing_behind)
 table_neat (rest b o) (node _ w g s e ps) pl = no_spelling
-table_neat (method x) (node kind.FunctionExpression w g s e ps) pl = neat_methods (first_is_open ps) x ps
+table_neat (method x) (node kind.FunctionExpression w g s e ps) pl = neat_cond _ (λ e. neat_methods (first_is_open ps) x ps) (λ e. no_spelling)
 table_neat (method x) (node _ w g s e ps) pl = no_spelling
 table_neat body (node kind.BlockStatement w g s e ps) pl = one (neat_braced ps (prologue true true (lay line ∷ []) [] ps) (λ ys k c s t. neat_body false true true ps ys k c s t) (first_is_open ps) fresh refl)
 table_neat body (node _ w g s e ps) pl = no_spelling
@@ -343,7 +482,12 @@ table_neat (switch_case r) (node k w g s e ps) pl = neat_cases (first_is_open ps
 table_neat (handler r) (node k w g s e ps) pl = neat_handlers (first_is_open ps) r k ps
 table_neat class_body (node kind.ClassBody w g s e ps) pl = one (neat_braced ps (many (codes ";") ∷ member_lines ps) (λ ys k c s t. neat_members false ps ys k c s t) (first_is_open ps) fresh refl)
 table_neat class_body (node _ w g s e ps) pl = no_spelling
-table_neat member (node kind.MethodDefinition w g s e ps) pl = neat_cond _ (λ e. neat_cond g.is_static (λ h. neat_statics (first_is_open ps) g.computed g.form) (λ h. neat_members_by (first_is_open ps) g.computed g.form)) (λ e. no_spelling)
+table_neat member (node kind.MethodDefinition w g s e ps) pl = neat_cond _ (λ e. neat_members_by (first_is_open ps) g.is_static g.computed g.form (value_form ps) (lead_kind ps)) (λ e. no_spelling)
+table_neat member (node kind.PropertyDefinition w g s e ps) pl = neat_fields (first_is_open ps) g ps
+table_neat member (node kind.StaticBlock w g s e ps) pl = one (neat_braced ps (lines (item false) ps) (λ ys k c s t. neat_lines false (item false) refl ps ys k c s t) (first_is_open ps) apart_from refl)
 table_neat member (node _ w g s e ps) pl = no_spelling
+table_neat module_item (node k w g s e ps) pl = neat_module_items (first_is_open ps) k ps
+table_neat specifier (node k w g s e ps) pl = neat_specifiers (first_is_open ps) k g.form ps
+table_neat default_item (node k w g s e ps) pl = neat_default_items (first_is_open ps) k g.form ps
 table_neat shorthand_key n pl = absurd (false≢true pl)
 table_neat script n pl = absurd (false≢true pl)

@@ -3,12 +3,12 @@ use Rattle.std.proofs.Common.{◌≡◌, ℕ, Bool, true, false, cond, List, [],
 use Rattle.std.specs.Prelude.{nat_le}
 use Rattle.std.proofs.lemmas.Bool.{and_parts, false≢true, true≢false}
 use Rattle.tokens.specs.declared.token.TokenClass.{TokenClass}
-use Rattle.tokens.specs.declared.token.TokenClass.TheVariants.{IdentifierName, Punctuator, NumericLiteral, StringLiteral, Template, RegularExpressionLiteral, End}
+use Rattle.tokens.specs.declared.token.TokenClass.TheVariants.{IdentifierName, Punctuator, NumericLiteral, StringLiteral, Template, RegularExpressionLiteral, PrivateName, Keyword, End}
 use Rattle.tree.specs.declared.kind.Kind.{Kind}
 use Rattle.tree.specs.declared.kind.Kind.TheVariants as kind
 use Rattle.tree.specs.Tree.{Tree, node, parts_of}
 use Rattle.language.specs.Vocabulary.{precedence, is_open_number, literal_class}
-use Rattle.language.specs.Pieces.{Role, expr, template_element, chain_part, name, word, base, tagged_quasi, method, pattern, body, class_body, block, shorthand_key, script, Slot, Piece, tok, Spelling}
+use Rattle.language.specs.Pieces.{Role, expr, template_element, chain_part, name, word, private_name, base, tagged_quasi, method, pattern, body, class_body, block, shorthand_key, script, Slot, Piece, tok, Spelling}
 use Rattle.language.specs.Grammar.{ways, spellings, template_parts}
 use Rattle.language.specs.Expressions.{expressions}
 use Rattle.language.specs.Derivation.{Among, first}
@@ -36,6 +36,8 @@ literal_apart Punctuator w t x g i o h = last_apart Punctuator w t x g i h (λ e
 literal_apart StringLiteral w t x g i o h = last_apart StringLiteral w t x g i h (λ e. absurd (true≢false (ap shut_class e)))
 literal_apart Template w t x g i o h = last_apart Template w t x g i h (λ e. absurd (true≢false (ap shut_class e)))
 literal_apart RegularExpressionLiteral w t x g i o h = last_apart RegularExpressionLiteral w t x g i h (λ e. absurd (true≢false (ap shut_class e)))
+literal_apart PrivateName w t x g i o h = last_apart PrivateName w t x g i h (λ e. absurd (true≢false (ap shut_class e)))
+literal_apart Keyword w t x g i o h = last_apart Keyword w t x g i h (λ e. absurd (true≢false (ap shut_class e)))
 literal_apart End w t x g i o h = last_apart End w t x g i h (λ e. absurd (true≢false (ap shut_class e)))
 
 one_token : (a : Role) (b : Bool) (c : TokenClass) (w : List ℕ) (is : List Item) → neat b false fresh (tok c w ∷ []) ≡ true → PieceWords (standing_at a (tok c w ∷ [])) → is_open_number c w ≡ false → closes_word (items_text is) ≡ true → EndsOk fresh b (tok c w ∷ []) is
@@ -78,6 +80,7 @@ node_ends (expr y i f) n x p w is h = of (nat_le 18 (precedence y)) (is_open_nod
 node_ends (chain_part f) n x p w is h = shut_way (chain_part f) n x (way_shut (chain_part f) n refl x.some) w is h
 node_ends name n x p w is h = shut_way name n x (way_shut name n refl x.some) w is h
 node_ends word n x p w is h = shut_way word n x (way_shut word n refl x.some) w is h
+node_ends private_name n x p w is h = shut_way private_name n x (way_shut private_name n refl x.some) w is h
 node_ends base n x p w is h = shut_way base n x (way_shut base n refl x.some) w is h
 node_ends tagged_quasi n x p w is h = shut_way tagged_quasi n x (way_shut tagged_quasi n refl x.some) w is h
 node_ends (method f) n x p w is h = shut_way (method f) n x (way_shut (method f) n refl x.some) w is h

@@ -1,5 +1,5 @@
 -- How an expression is spelled, as the form of a production.
-use Rattle.std.proofs.Common.{◌≡◌, ℕ, Bool, true, false, cond, List, [], ◌∷◌, ◌++◌, refl, ap}
+use Rattle.std.proofs.Common.{◌≡◌, ℕ, Bool, true, false, cond, List, [], ◌∷◌, ◌++◌, refl, ap, codes}
 use Rattle.std.specs.Prelude.{not, ◌&&◌}
 use Rattle.std.proofs.lemmas.Bool.{and_parts, and_from}
 use Rattle.tree.specs.declared.kind.Kind.{Kind}
@@ -7,18 +7,18 @@ use Rattle.tree.specs.declared.kind.Kind.TheVariants as kind
 use Rattle.language.specs.declared.Rank.{Rank}
 use Rattle.language.specs.declared.Rank.TheVariants.{Expression, Assignment, Conditional, ShortCircuit, Exponentiation, Unary, Update, LeftHandSide, New, Call, Member, Primary}
 use Rattle.language.specs.declared.Start.TheVariants.{Any}
-use Rattle.tokens.specs.declared.token.TokenClass.TheVariants.{IdentifierName, Punctuator}
+use Rattle.tokens.specs.declared.token.TokenClass.TheVariants.{IdentifierName, Keyword, Punctuator}
 use Rattle.tree.specs.declared.kind.Flags.{Flags}
 use Rattle.tree.specs.Tree.{Tree, Parts, none, part, kind_of}
 use Rattle.language.specs.FirstPart.{lead as lead_kind, others}
-use Rattle.language.specs.Vocabulary.{is, among, Operator, op_binary, op_power, op_assign, op_update, operator_of, is_update_op, is_assign_op, is_update_operator, is_assignment, is_word_operator, is_prefix, is_reserved, literal_class, is_name, is_target, is_pattern, is_identifier, is_super}
-use Rattle.language.specs.Pieces.{expr, name, word, base, tagged_quasi, apart, left, lead, tail, callee, lead_chain, lead_pattern, put, tok, unbroken, open_parameters, close_parameters, sub, lay, Spelling, at, sign, term, sp, is_none, listed, elements, argument, parameters}
-use Rattle.language.specs.Expressions.{expressions, assignment, arguments, after_number, selector, first_has_optional, template_elements, object_part, function_pieces, class_pieces, arrow_end, infix_pieces, joined, sequence, lead_is}
+use Rattle.language.specs.Vocabulary.{is, among, Operator, op_binary, op_power, op_assign, op_update, operator_of, is_update_op, is_assign_op, is_update_operator, is_assignment, is_word_operator, is_prefix, is_reserved, literal_class, is_name, is_target, is_pattern, is_identifier, is_private, is_super}
+use Rattle.language.specs.Pieces.{expr, name, word, base, tagged_quasi, apart, left, lead, tail, callee, lead_chain, lead_pattern, put, tok, unbroken, sub, lay, Spelling, at, sign, term, sp, is_none, listed, elements, argument, parameters}
+use Rattle.language.specs.Expressions.{expressions, assignment, arguments, after_number, selector, first_has_optional, template_elements, object_part, function_pieces, class_pieces, arrow_words, arrow_end, infix_pieces, joined, private_in, sequence, lead_is, arrow_opening, arrow_closing}
 use Rattle.language.specs.Derivation.{Among}
 use Rattle.language.specs.Chosen as chosen
 use Rattle.language.specs.Chosen.{Chosen}
 use Rattle.language.specs.Forms.{Production, form, spelling_of}
-use Rattle.language.proofs.table.EveryWay.{formed_expression, formed_class, formed_short_arrow}
+use Rattle.language.proofs.table.EveryWay.{formed_expression, formed_function, formed_class, formed_short_arrow, formed_private}
 
 -- a spelling of an expression, and the production whose form it is
 pub record Made (k : Kind) (w : List ℕ) (g : Flags) (ps : Parts) (x : Spelling) : Type 0 where
@@ -82,8 +82,8 @@ module _ {w : List ℕ} {g : Flags} {ps : Parts} where
   pub object : Made kind.ObjectExpression w g ps (at Primary ((sign "{" ∷ listed object_part ps) ++ sign "}" ∷ []))
   object = by_form chosen.object
 
-  pub function : Made kind.FunctionExpression w g ps (at Primary (function_pieces ps))
-  function = by_form chosen.function
+  pub function : Made kind.FunctionExpression w g ps (at Primary (function_pieces g.form ps))
+  function = record { production = _; chosen = chosen.function; is = formed_function g.form w g ps }
 
   pub class : Made kind.ClassExpression w g ps (at Primary (class_pieces ps))
   class = record { production = _; chosen = chosen.class; is = formed_class w g ps }
@@ -91,16 +91,16 @@ module _ {w : List ℕ} {g : Flags} {ps : Parts} where
   pub template : Made kind.TemplateLiteral w g ps (at Primary (template_elements true ps))
   template = by_form chosen.template
 
-  pub arrow : Made kind.ArrowFunctionExpression w g ps (at Assignment (open_parameters ∷ parameters (close_parameters ∷ arrow_end g) ps))
+  pub arrow : Made kind.ArrowFunctionExpression w g ps (at Assignment (arrow_words g.form ++ arrow_opening g.form ∷ parameters (arrow_closing g.form ∷ arrow_end g) ps))
   arrow = by_form chosen.arrow
 
   pub tagged : Made kind.TaggedTemplateExpression w g ps (at Member (sub callee ∷ put tagged_quasi ∷ []))
   tagged = by_form chosen.tagged
 
-  pub super_member : g.optional ≡ false → is_super (lead_kind ps) ≡ true → Made kind.MemberExpression w g ps (at Member (put base ∷ selector g))
+  pub super_member : g.optional ≡ false → is_super (lead_kind ps) ≡ true → Made kind.MemberExpression w g ps (at Member (put base ∷ selector g kind.Identifier))
   super_member o s = by_form (chosen.super_member o s)
 
-  pub member : g.optional ≡ false → is_super (lead_kind ps) ≡ false → Made kind.MemberExpression w g ps (at Member (sub callee ∷ after_number ps g ++ selector g))
+  pub member : g.optional ≡ false → is_super (lead_kind ps) ≡ false → Made kind.MemberExpression w g ps (at Member (sub callee ∷ after_number ps g ++ selector g (lead_kind (others ps))))
   member o s = by_form (chosen.member_access o s)
 
   pub super_call : g.optional ≡ false → is_super (lead_kind ps) ≡ true → Made kind.CallExpression w g ps (at Call (put base ∷ arguments (others ps)))
@@ -118,6 +118,9 @@ module _ {w : List ℕ} {g : Flags} {ps : Parts} where
   pub new_target : (lead_is ps "new" && lead_is (others ps) "target") ≡ true → Made kind.MetaProperty w g ps (at Member (put word ∷ sign "." ∷ put word ∷ []))
   new_target h = by_form (chosen.new_target h)
 
+  pub import_meta : (lead_is ps "import" && lead_is (others ps) "meta") ≡ true → Made kind.MetaProperty w g ps (at Member (put word ∷ sign "." ∷ put word ∷ []))
+  import_meta h = by_form (chosen.import_meta h)
+
   pub chain : first_has_optional ps ≡ true → Made kind.ChainExpression w g ps (at LeftHandSide (sub lead_chain ∷ []))
   chain h = by_form (chosen.chain h)
 
@@ -133,11 +136,17 @@ module _ {w : List ℕ} {g : Flags} {ps : Parts} where
   pub unary_sign : is_prefix w ≡ true → is_word_operator w ≡ false → Made kind.UnaryExpression w g ps (at Unary (tok Punctuator w ∷ cond (is w "+") (lay (apart 43) ∷ []) (cond (is w "-") (lay (apart 45) ∷ []) []) ++ put (expr Unary true Any) ∷ []))
   unary_sign h v = by_form (chosen.unary_sign (present_is_true _ h) v)
 
-  pub power : operator_of w ≡ op_power → Made kind.BinaryExpression w g ps (at Exponentiation (sub (lead Update) ∷ infix_pieces w ++ put (expr Exponentiation true Any) ∷ []))
-  power h = by_form (chosen.power h)
+  pub await : Made kind.AwaitExpression w g ps (at Unary (tok Keyword (codes "await") ∷ sp ∷ put (expr Unary true Any) ∷ []))
+  await = by_form chosen.await
 
-  pub binary : {z q : Rank} → operator_of w ≡ op_binary false z q → Made kind.BinaryExpression w g ps (joined w z q)
-  binary h = by_form (chosen.binary h)
+  pub private_left : is_private (lead_kind ps) ≡ true → is w "in" ≡ true → Made kind.BinaryExpression w g ps private_in
+  private_left p h = record { production = _; chosen = chosen.private_left p h; is = formed_private w g ps h }
+
+  pub power : is_private (lead_kind ps) ≡ false → operator_of w ≡ op_power → Made kind.BinaryExpression w g ps (at Exponentiation (sub (lead Update) ∷ infix_pieces w ++ put (expr Exponentiation true Any) ∷ []))
+  power p h = by_form (chosen.power p h)
+
+  pub binary : {z q : Rank} → is_private (lead_kind ps) ≡ false → operator_of w ≡ op_binary false z q → Made kind.BinaryExpression w g ps (joined w z q)
+  binary p h = by_form (chosen.binary p h)
 
   pub logical : {z q : Rank} → operator_of w ≡ op_binary true z q → Made kind.LogicalExpression w g ps (joined w z q)
   logical h = by_form (chosen.logical h)
@@ -154,5 +163,5 @@ module _ {w : List ℕ} {g : Flags} {ps : Parts} where
   pub several : is_none (others ps) ≡ false → Made kind.SequenceExpression w g ps (at Expression (sub (left Assignment) ∷ sequence (others ps)))
   several h = by_form (chosen.several h)
 
-pub short_arrow : {w : List ℕ} {g : Flags} {n b : Tree} → is_identifier (kind_of n) ≡ true → Made kind.ArrowFunctionExpression w g (part n (part b none)) (at Assignment (put name ∷ arrow_end g))
+pub short_arrow : {w : List ℕ} {g : Flags} {n b : Tree} → is_identifier (kind_of n) ≡ true → Made kind.ArrowFunctionExpression w g (part n (part b none)) (at Assignment (arrow_words g.form ++ put name ∷ arrow_end g))
 short_arrow {w} {g} {n} {b} h = record { production = _; chosen = chosen.short_arrow refl h; is = formed_short_arrow w g (part n (part b none)) }

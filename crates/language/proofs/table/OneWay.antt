@@ -1,7 +1,7 @@
 -- A node has at most one way at a position, but for the two kinds that have two.
 use Rattle.std.proofs.Common.{◌≡◌, Bool, true, false, cond, List, [], refl, sym, ◌∙◌}
 use Rattle.tree.specs.declared.kind.Kind.{Kind}
-use Rattle.tree.specs.declared.kind.Kind.TheVariants.{ArrowFunctionExpression, NewExpression}
+use Rattle.tree.specs.declared.kind.Kind.TheVariants.{ArrowFunctionExpression, NewExpression, ImportDeclaration}
 use Rattle.tree.specs.Tree.{Tree, node, Parts, none, part, gap, bare, bare_parts}
 use Rattle.language.specs.Pieces.{Role, PieceOf, Spelling}
 use Rattle.tree.specs.Uses.{is_lean}
@@ -31,6 +31,13 @@ two_ways_parts NewExpression (gap (part n ps)) = refl
 two_ways_parts NewExpression (part n none) = refl
 two_ways_parts NewExpression (part n (gap ps)) = refl
 two_ways_parts NewExpression (part n (part m ps)) = refl
+two_ways_parts ImportDeclaration none = refl
+two_ways_parts ImportDeclaration (gap ps) = refl
+two_ways_parts ImportDeclaration (part (node k w g s e qs) none) = refl
+two_ways_parts ImportDeclaration (part n (gap ps)) = refl
+two_ways_parts ImportDeclaration (part (node k w g s e qs) (part (node l v f x y rs) none)) = refl
+two_ways_parts ImportDeclaration (part n (part m (part l ps))) = refl
+two_ways_parts ImportDeclaration (part n (part m (gap ps))) = refl
 two_ways_parts _ ps = refl
 
 two_ways_bare : (n : Tree) → has_two_ways (bare n) ≡ has_two_ways n

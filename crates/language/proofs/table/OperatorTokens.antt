@@ -4,7 +4,7 @@ use Rattle.std.specs.Prelude.{codes, ◌||◌, nat_eq, slice_index_or}
 use Prim.Native.String.{String}
 use Rattle.std.proofs.lemmas.Slice.Eq.{bytes_eq-Decides}
 use Rattle.tokens.specs.declared.token.TokenClass.{TokenClass}
-use Rattle.tokens.specs.declared.token.TokenClass.TheVariants.{IdentifierName, Punctuator, NumericLiteral, StringLiteral, Template, RegularExpressionLiteral, End}
+use Rattle.tokens.specs.declared.token.TokenClass.TheVariants.{IdentifierName, Punctuator, NumericLiteral, StringLiteral, Template, RegularExpressionLiteral, PrivateName, Keyword, End}
 use Rattle.language.specs.Vocabulary.{is, among, is_word_operator, Operator, op_update, op_comma, op_question, op_dot, op_call, op_index, op_optional, op_template, op_none, operators, operator_of}
 use Rattle.language.specs.Token.{Token}
 use Rattle.language.specs.Continuations.{of_class, operation}
@@ -35,6 +35,8 @@ op_reads t {x} h n m = go t.class refl h
     go NumericLiteral e k = absurd (n (sym k))
     go StringLiteral e k = absurd (n (sym k))
     go RegularExpressionLiteral e k = absurd (n (sym k))
+    go PrivateName e k = absurd (n (sym k))
+    go Keyword e k = absurd (n (sym k))
     go End e k = absurd (n (sym k))
 
 abbrev pub is_comma : Operator → Bool

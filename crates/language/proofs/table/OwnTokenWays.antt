@@ -22,9 +22,9 @@ use Rattle.language.specs.Derivation.{Spells, direct, Runs, step, token, Placed,
 use Rattle.language.proofs.lower_bound.Domination.{settled, fits}
 use Rattle.language.proofs.table.Begins.{Each, among_by, goes_to, retell}
 use Rattle.language.proofs.table.Productions.{way_from, runs_can}
-use Rattle.language.proofs.table.StatementWays.{begins_as, kind_as, own_class, own_text, may_stand, behind_own, own_pieces, Stands, as_statement, as_item, as_opening, own_listed}
+use Rattle.language.proofs.table.StatementWays.{begins_as, kind_as, own_class, own_text, may_stand, behind_own, own_pieces, Stands, as_statement, as_item, as_opening, own_listed, plain_is_plainly}
 use Rattle.language.proofs.table.LoopKinds.{LoopKind, a_loop, a_loop_in, a_loop_of, loop_kind}
-use Rattle.language.proofs.table.Beginnings.{text_as, settled_at, OwnWay, own_way}
+use Rattle.language.proofs.table.Beginnings.{text_as, settled_at, OwnWay, own_way, LaterWay}
 use Rattle.language.proofs.table.SoleWays.{Sole}
 
 only_kind : (k : Kind) → is_own (begins_as k) ≡ true → (begins_as k ≡ a_for → ⊥) → k ≡ kind_as (begins_as k)
@@ -209,19 +209,19 @@ module _ (S : Type 0) (Next : S → Token → S → Type 0) (behind : S → Toke
       let x : Spelling = at Primary (own_pieces r k w (bare_parts ps)) in
       let run : Runs ways S Next behind o (goes_to Expression true Any x.pieces) ps s e P = step (token (record { next = read.next; class = u.class; text = u.text })) d1 in
       let can = runs_can S Next behind Expression true Any x.pieces run in
-      direct (settled a x) (way_from a (node k w plain st en ps) x (own_lean k t.text st en ps own) (own_listed k w plain 0 0 (bare_parts ps) stands own u.stands can) (statement_fits stands x ∙ can)) pl
+      direct (settled a x) (way_from a (node k w plain st en ps) x (own_lean k t.text st en ps own) (own_listed k w plain 0 0 (bare_parts ps) stands own (plain_is_plainly k) u.stands can) (statement_fits stands x ∙ can)) pl
       (retell S Next behind (sym (settled_at stands x)) run)
 
   module _ {p d r : Bool} {a : Role} {s m : S} {t : Token} {Fine : Tree → S → Type 0} (stands : Stands a p d r) (read : ReadBy S Next behind Goal.RegExp s t m) where
     -- the only way whose first token this is, but for `for`
-    pub own_sole : (b : StatementStart) → statement_start d r t ≡ b → is_own b ≡ true → (b ≡ a_for → ⊥) →
+    pub own_sole : (b : StatementStart) → statement_start d r t ≡ b → is_own b ≡ true → (b ≡ a_for → ⊥) → ((o : ℕ) (n : Tree) (e : S) (P : List Pair) → LaterWay S Next behind det r o a t m n s e P b → ⊥) →
         Sole S Next behind det Fine a (kind_as b) (text_as b t.text) plain s m (λ ps. goes_to Expression true Any (behind_own r (kind_as b) (bare_parts ps)))
-    own_sole b begun own no_loop =
+    own_sole b begun own no_loop no_later =
         let again = kind_again b own in
         record {
           spans = statement_spans stands;
           told = λ d1 fine.
-              let u = own_way S Next behind det stands read begun own d1 in
+              let u = own_way S Next behind det stands read begun own (no_later _ _ _ _) d1 in
               let kind : u.kind ≡ kind_as b = only_kind u.kind (ap is_own u.begins ∙ own) (λ h. no_loop (sym u.begins ∙ h)) ∙ ap kind_as u.begins in
               record {
                 st = u.st;
@@ -237,14 +237,14 @@ module _ (S : Type 0) (Next : S → Token → S → Type 0) (behind : S → Toke
         }
 
     -- of a `for`, where the parts of the other two kinds are absent
-    pub for_sole : (k : Kind) → statement_start d r t ≡ a_for → begins_as k ≡ a_for →
+    pub for_sole : (k : Kind) → statement_start d r t ≡ a_for → begins_as k ≡ a_for → ((o : ℕ) (n : Tree) (e : S) (P : List Pair) → LaterWay S Next behind det r o a t m n s e P a_for → ⊥) →
         ((k' : Kind) → begins_as k' ≡ a_for → (k' ≡ k → ⊥) → AbsentPartsWhere S Next behind (λ ps e. Fine (node k' [] plain 0 0 ps) e) (λ ps. goes_to Expression true Any (behind_own r k' (bare_parts ps))) m) →
         ((k' : Kind) (st en : ℕ) (ps : Parts) (e : S) → Fine (node k' [] plain st en ps) e → Fine (node k' [] plain 0 0 ps) e) →
         Sole S Next behind det Fine a k [] plain s m (λ ps. goes_to Expression true Any (behind_own r k (bare_parts ps)))
-    for_sole k begun loop others placeless = record {
+    for_sole k begun loop no_later others placeless = record {
       spans = statement_spans stands;
       told = λ {o} {n} {e} {P} d1 fine.
-          let u = own_way S Next behind det stands read begun refl d1 in
+          let u = own_way S Next behind det stands read begun refl (no_later _ _ _ _) d1 in
           let this : u.kind ≡ k = of u (same_loop u.kind k u.begins loop) fine in
           record {
             st = u.st;

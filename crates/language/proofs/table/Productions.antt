@@ -11,7 +11,7 @@ use Rattle.tree.specs.declared.kind.Pair.{Pair}
 use Rattle.tree.specs.Tree.{Tree, node, Parts, bare, bare_parts}
 use Rattle.tree.specs.Uses.{is_lean, implies}
 use Rattle.language.specs.Vocabulary.{takes}
-use Rattle.language.specs.Pieces.{Role, expr, Slot, Piece, tok, may, many, ahead, unbroken, ending, open_parameters, close_parameters, sub, absent, never, lay, Spelling}
+use Rattle.language.specs.Pieces.{Role, expr, Slot, Piece, tok, may, many, ahead, unbroken, ending, open_parameters, close_parameters, sub, absent, never, lay, Spelling, no_operand}
 use Rattle.language.specs.Token.{Token}
 use Rattle.language.specs.Grammar.{spellings, ways, ways_bare, can_run, starts}
 use Rattle.language.specs.Expressions.{expressions}
@@ -59,6 +59,7 @@ module _ (S : Type 0) (Next : S → Token → S → Type 0) (behind : S → Toke
   runs_can y i f (many w ∷ qs) (step p d) = runs_can y i f qs d
   runs_can y i f (ahead w ∷ qs) (step p d) = runs_can y i f qs d
   runs_can y i f (unbroken ∷ qs) (step p d) = runs_can y i f qs d
+  runs_can y i f (no_operand ∷ qs) (step p d) = runs_can y i f qs d
   runs_can y i f (ending x ∷ qs) (step p d) = runs_can y i f qs d
   runs_can y i f (open_parameters ∷ qs) (step p d) = runs_can y i f qs d
   runs_can y i f (open_parameters ∷ qs) (opened p d) = runs_can y i f qs d

@@ -9,7 +9,7 @@ use Rattle.tokens.specs.declared.token.Goal.TheVariants.{Div}
 use Rattle.tree.specs.declared.kind.Kind.{Kind}
 use Rattle.tree.specs.declared.kind.Kind.TheVariants.{Identifier, Literal}
 use Rattle.tree.specs.declared.kind.Form.{Form}
-use Rattle.tree.specs.declared.kind.Form.TheVariants.{Init, Get, Set, Method, Shorthand, Constructor}
+use Rattle.tree.specs.declared.kind.Form.TheVariants.{Get, Set}
 use Rattle.tree.specs.declared.kind.Flags.{Flags}
 use Rattle.tree.specs.declared.kind.Pair.{Pair}
 use Rattle.tree.specs.Tree.{Tree, node, Parts, none, bare, plain}
@@ -21,7 +21,7 @@ use Rattle.language.specs.Pieces.{Role, key, PieceOf, tok, sub, Spelling, at, te
 use Rattle.language.specs.Token.{Token}
 use Rattle.language.specs.Promises.{is_free, IsDetermined, ReadBy, FoundAt}
 use Rattle.language.specs.Grammar.{ways, spellings, keys}
-use Rattle.language.specs.Derivation.{Among, first, Reads, Spells, direct, Runs, done, step, token, Placed, placed}
+use Rattle.language.specs.Derivation.{Among, first, Reads, Spells, direct, Runs, done, step, token, Placed, placed, reserved_key}
 use Rattle.language.proofs.lower_bound.Domination.{settled}
 use Rattle.language.proofs.table.ViewIsComplete.{way_of, one, unless}
 use Rattle.language.proofs.table.Productions.{way_from, in_false}
@@ -39,6 +39,7 @@ abbrev pub is_key_class : TokenClass → Bool
 is_key_class IdentifierName = true
 is_key_class NumericLiteral = true
 is_key_class StringLiteral = true
+is_key_class TokenClass.Keyword = true
 is_key_class _ = false
 
 -- a getter or a setter
@@ -50,6 +51,7 @@ is_accessor _ = false
 -- what the key of such a token is
 abbrev pub key_kind : TokenClass → Kind
 key_kind IdentifierName = Identifier
+key_kind TokenClass.Keyword = Identifier
 key_kind _ = Literal
 
 or_left : (a b : Bool) → (a || b) ≡ false → a ≡ false
@@ -97,18 +99,43 @@ pub key_free : (c : TokenClass) → is_key_class c ≡ true → is_free c ≡ tr
 key_free IdentifierName h = refl
 key_free NumericLiteral h = refl
 key_free StringLiteral h = refl
+key_free TokenClass.Keyword h = refl
 key_free _ h = cc
 
-literal_kind : (c : TokenClass) → is_key_class c ≡ true → is_name c ≡ false → key_kind c ≡ Literal
-literal_kind NumericLiteral h k = refl
-literal_kind StringLiteral h k = refl
-literal_kind IdentifierName h k = cc
-literal_kind _ h k = cc
+-- no literal has the class of a keyword
+no_keyword : (w : List ℕ) → literal_class w ≡ TokenClass.Keyword → ⊥
+no_keyword w p = of (literal_classes w)
+  where
+    of : (literal_class w ≡ StringLiteral) ⊎ ((literal_class w ≡ TokenClass.RegularExpressionLiteral) ⊎ ((literal_class w ≡ NumericLiteral) ⊎ (literal_class w ≡ IdentifierName))) → ⊥
+    of (inl q) = string (sym q ∙ p)
+      where
+        string : StringLiteral ≡ TokenClass.Keyword → ⊥
+        string e = cc
+    of (inr (inl q)) = regexp (sym q ∙ p)
+      where
+        regexp : TokenClass.RegularExpressionLiteral ≡ TokenClass.Keyword → ⊥
+        regexp e = cc
+    of (inr (inr (inl q))) = number (sym q ∙ p)
+      where
+        number : NumericLiteral ≡ TokenClass.Keyword → ⊥
+        number e = cc
+    of (inr (inr (inr q))) = name (sym q ∙ p)
+      where
+        name : IdentifierName ≡ TokenClass.Keyword → ⊥
+        name e = cc
+
+literal_kind : (w : List ℕ) (c : TokenClass) → literal_class w ≡ c → is_key_class c ≡ true → is_name c ≡ false → key_kind c ≡ Literal
+literal_kind w NumericLiteral p h k = refl
+literal_kind w StringLiteral p h k = refl
+literal_kind w TokenClass.Keyword p h k = absurd (no_keyword w p)
+literal_kind w IdentifierName p h k = cc
+literal_kind w _ p h k = cc
 
 literal_there : (w : List ℕ) (c : TokenClass) → is_key_class c ≡ true → is_name c ≡ false → literal_class w ≡ c → Among (at Primary (tok (literal_class w) w ∷ [])) (keys Literal w)
 literal_there w NumericLiteral h k p = in_false [] _ (cc) first
 literal_there w StringLiteral h k p = in_false [] _ (cc) first
 literal_there w IdentifierName h k p = cc
+literal_there w TokenClass.Keyword h k p = absurd (no_keyword w p)
 literal_there w _ h k p = cc
 
 -- a word is a key
@@ -142,6 +169,7 @@ module _ (S : Type 0) (Next : S → Token → S → Type 0) (behind : S → Toke
   unfolding spellings
   key_form {n = node Identifier w g st en ps} (direct qs h pl d) = let v = way_of h in
       record { class = IdentifierName; is_key = refl; leaf = key_token (retell S Next behind (v.is ∙ ap (settled key) (one v.listed)) d) (lean_flags (bare (node Identifier w g st en ps)) v.lean) pl }
+  key_form (reserved_key r k e) = record { class = TokenClass.Keyword; is_key = refl; leaf = record { text = _; sign = _; reads = r; tree = e; pairs = refl } }
   key_form {o} {n = node Literal w g st en ps} {s} {e} {P} (direct qs h pl d) =
       let v = way_of h in
       let u = literal_key w v.listed in
@@ -173,7 +201,7 @@ module _ (S : Type 0) (Next : S → Token → S → Type 0) (behind : S → Toke
       let x : Spelling = at Primary (tok (literal_class t.text) t.text ∷ []) in
       record {
         spelled = direct (settled key x) (way_from key n x refl (literal_there t.text c is_key no_name class) refl) (placed read.next refl) (step (token (record { next = read.next; class = read.class ∙ sym class; text = refl })) done);
-        only = λ o' e' n' P' d. let u = key_same c is_key read (key_form d) in (u.0, u.1 ∙ ap (λ k. node k t.text plain t.start (behind e).stop none) (literal_kind c is_key no_name), u.2);
+        only = λ o' e' n' P' d. let u = key_same c is_key read (key_form d) in (u.0, u.1 ∙ ap (λ k. node k t.text plain t.start (behind e).stop none) (literal_kind t.text c class is_key no_name), u.2);
       }
 
 -- What a property or a member that isn't static begins with, by its flags.
@@ -184,13 +212,13 @@ pub data FirstOf (t : Token) : Bool → Form → Type 0 where
   first_key : {f : Form} → is_accessor f ≡ false → is_key_class t.class ≡ true → FirstOf t false f
 
 module _ (S : Type 0) (Next : S → Token → S → Type 0) (behind : S → Token) (det : IsDetermined S Next behind) {s m : S} {t : Token} (read : ReadBy S Next behind Div s t m) where
-  sign_read : {o : ℕ} {w : List ℕ} {qs : List (PieceOf Role)} {ps : Parts} {e : S} {P : List Pair} → IsTrue (allows Div Punctuator w) → Runs ways S Next behind o (tok Punctuator w ∷ qs) ps s e P → (t.class ≡ Punctuator) × (t.text ≡ w)
+  pub sign_read : {o : ℕ} {w : List ℕ} {qs : List (PieceOf Role)} {ps : Parts} {e : S} {P : List Pair} → IsTrue (allows Div Punctuator w) → Runs ways S Next behind o (tok Punctuator w ∷ qs) ps s e P → (t.class ≡ Punctuator) × (t.text ≡ w)
   sign_read al d = let u = run_token S Next behind d in let same = (read_there S Next behind det u.reads al read).0 in (ap (λ (x : Token). x.class) same ∙ u.reads.class, ap (λ (x : Token). x.text) same ∙ u.reads.text)
 
-  word_read : {o : ℕ} {w : List ℕ} {qs : List (PieceOf Role)} {ps : Parts} {e : S} {P : List Pair} → IsTrue (allows Div IdentifierName w) → Runs ways S Next behind o (tok IdentifierName w ∷ qs) ps s e P → (t.class ≡ IdentifierName) × (t.text ≡ w)
+  pub word_read : {o : ℕ} {w : List ℕ} {qs : List (PieceOf Role)} {ps : Parts} {e : S} {P : List Pair} → IsTrue (allows Div IdentifierName w) → Runs ways S Next behind o (tok IdentifierName w ∷ qs) ps s e P → (t.class ≡ IdentifierName) × (t.text ≡ w)
   word_read al d = let u = run_token S Next behind d in let same = (read_there S Next behind det u.reads al read).0 in (ap (λ (x : Token). x.class) same ∙ u.reads.class, ap (λ (x : Token). x.text) same ∙ u.reads.text)
 
-  key_read : {o : ℕ} {qs : List (PieceOf Role)} {ps : Parts} {e : S} {P : List Pair} → Runs ways S Next behind o (sub key ∷ qs) ps s e P → is_key_class t.class ≡ true
+  pub key_read : {o : ℕ} {qs : List (PieceOf Role)} {ps : Parts} {e : S} {P : List Pair} → Runs ways S Next behind o (sub key ∷ qs) ps s e P → is_key_class t.class ≡ true
   key_read d =
       let p = run_part S Next behind d in
       let u = key_form S Next behind det p.spelled in
@@ -199,18 +227,12 @@ module _ (S : Type 0) (Next : S → Token → S → Type 0) (behind : S → Toke
       ap is_key_class (ap (λ (x : Token). x.class) same ∙ v.reads.class) ∙ u.is_key
 
   form_first : {o : ℕ} {ps : Parts} {e : S} {P : List Pair} (c : Bool) (f : Form) → Runs ways S Next behind o (goes_to Expression true Any (form_pieces [] c f)) ps s e P → FirstOf t c f
-  form_first true Init d = let u = sign_read refl d in first_bracket refl u.0 u.1
-  form_first false Init d = first_key refl (key_read d)
-  form_first true Method d = let u = sign_read refl d in first_bracket refl u.0 u.1
-  form_first false Method d = first_key refl (key_read d)
   form_first true Get d = let u = word_read refl d in first_get u.0 u.1
   form_first false Get d = let u = word_read refl d in first_get u.0 u.1
   form_first true Set d = let u = word_read refl d in first_set u.0 u.1
   form_first false Set d = let u = word_read refl d in first_set u.0 u.1
-  form_first true Shorthand d = let u = sign_read refl d in first_bracket refl u.0 u.1
-  form_first false Shorthand d = first_key refl (key_read d)
-  form_first true Constructor d = let u = sign_read refl d in first_bracket refl u.0 u.1
-  form_first false Constructor d = first_key refl (key_read d)
+  form_first true _ d = let u = sign_read refl d in first_bracket refl u.0 u.1
+  form_first false _ d = first_key refl (key_read d)
 
   -- a member begins with `static`, or it isn't static
   pub member_first : {o : ℕ} {n : Tree} {e : S} {P : List Pair} (u : MemberForm S Next behind det o n s e P) → ((u.is_static ≡ true) × (t.class ≡ IdentifierName) × (t.text ≡ codes "static")) ⊎ ((u.is_static ≡ false) × FirstOf t u.computed u.form)

@@ -5,7 +5,7 @@ use Rattle.std.proofs.lemmas.Bool.{and_parts}
 use Rattle.std.proofs.lemmas.Bool.Decides.{nat_tests}
 use Rattle.tree.specs.declared.kind.Kind.{Kind}
 use Rattle.language.specs.declared.Rank.{Rank}
-use Rattle.language.specs.declared.Rank.TheVariants.{Expression, Assignment, Conditional, ShortCircuit, Exponentiation, Unary, Update, LeftHandSide, Call, Member}
+use Rattle.language.specs.declared.Rank.TheVariants.{Expression, Assignment, Conditional, ShortCircuit, Relational, Shift, Exponentiation, Unary, Update, LeftHandSide, Call, Member}
 use Rattle.language.specs.declared.Start.{Start}
 use Rattle.language.specs.declared.Start.TheVariants.{Any, NoBrace}
 use Rattle.language.specs.declared.Edge.{Edge}
@@ -15,12 +15,12 @@ use Rattle.tree.specs.declared.kind.Pair.{Pair}
 use Rattle.tree.specs.Tree.{Tree, node, Parts, none, part, gap, kind_of, bare_parts}
 use Rattle.language.specs.FirstPart.{others}
 use Rattle.language.specs.Vocabulary.{is, takes, takes_number, precedence, Operator}
-use Rattle.language.specs.Pieces.{Role, expr, body, Piece, PieceOf, Spelling, never, is_tight, sub, tail, put, is_none, separator, parameters, close_parameters, lay, apart}
+use Rattle.language.specs.Pieces.{Role, expr, body, Piece, PieceOf, Spelling, never, is_tight, sub, tail, put, is_none, separator, parameters, lay, apart}
 use Rattle.language.specs.Token.{Token}
-use Rattle.language.specs.Edges.{edge, last_edge, edge_as_written}
-use Rattle.language.specs.Expressions.{arrow_end, sequence, joined}
+use Rattle.language.specs.Edges.{operand_edge, edge, last_edge, edge_as_written}
+use Rattle.language.specs.Expressions.{arrow_words, arrow_end, sequence, joined, arrow_closing}
 use Rattle.language.specs.Grammar.{ways, spellings}
-use Rattle.language.specs.Derivation.{Among, Spells, direct, grouped, Runs, done, step, opened, closed, within, missing}
+use Rattle.language.specs.Derivation.{Among, Spells, direct, grouped, Runs, done, step, opened, closed, within, missing, reserved_key, reserved_word}
 use Rattle.language.specs.Chosen as chosen
 use Rattle.language.specs.Chosen.{Chosen}
 use Rattle.language.specs.Forms.{Production, form, spelling_of}
@@ -96,6 +96,13 @@ part_last n none u = let c = u.0 in cc
 part_last n (part m ps) u = (refl, u.1)
 part_last n (gap ps) u = (refl, u.1)
 
+-- an edge that ends something is that of its `yield`
+pub operand_same : (x : Edge) → (x ≡ Closed → ⊥) → operand_edge x ≡ x
+operand_same Closed c = absurd (c refl)
+operand_same Arrow c = refl
+operand_same Postfix c = refl
+operand_same Other c = refl
+
 module _ (y : Rank) (i : Bool) (f : Start) (last : Token) where
   -- a node at the symbol z, whose edge is that of its last part, at q
   right : (z q : Rank) (ps : Parts) → IsTrue (takes y z) → (precedence q ≤ 2 → precedence z ≤ 2) → precedence z ≤ 17 → LastEdged q ps last → Edged y (last_edge ps) last
@@ -134,32 +141,49 @@ module _ (y : Rank) (i : Bool) (f : Start) (last : Token) where
   short_ends true e = at_last
   short_ends false e = cc
 
-  form_edged : {k : Kind} {w : List ℕ} {g : Flags} (st en : ℕ) (ps : Parts) {qs : Parts} {p : Production} → Chosen w g qs (expr Expression true Any) k p → IsTrue (fits (expr y i f) (spelling_of (form p) w g qs)) →
+  -- a `yield` with an operand has the operand's edge
+  yield_edged : (ps : Parts) → IsTrue (takes y Assignment) → LastEdged Assignment ps last → Edged y (operand_edge (last_edge ps)) last
+  yield_edged ps tk v = subst (λ e. Edged y e last) (sym (operand_same (last_edge ps) v.1.ends)) (right Assignment Assignment ps tk (λ h. omega arith) (omega arith) v)
+
+  -- one without goes on with nothing
+  bare_edged : (ps : Parts) → IsTrue (takes y Assignment) → bare_parts ps ≡ gap none → Edged y (operand_edge (last_edge ps)) last
+  bare_edged (gap none) tk e = let less = takes_less y Assignment tk in record { ends = λ e. cc; arrow = λ e. omega arith; postfix = λ e. omega arith }
+  bare_edged none tk e = cc
+  bare_edged (part n ps) tk e = cc
+  bare_edged (gap (part n ps)) tk e = cc
+  bare_edged (gap (gap ps)) tk e = cc
+
+  form_edged : {k : Kind} {w : List ℕ} {g : Flags} (st en : ℕ) (ps : Parts) {qs : Parts} {p : Production} → bare_parts ps ≡ qs → Chosen w g qs (expr Expression true Any) k p → IsTrue (fits (expr y i f) (spelling_of (form p) w g qs)) →
       ((q : Rank) → Ends q (settled (expr y i f) (spelling_of (form p) w g qs)) → LastEdged q ps last) → Edged y (edge (node k w g st en ps)) last
-  form_edged {g = g} st en ps (chosen.short_arrow e a) fit u = arrow_edged ps g.expression (and_parts _ _ (and_parts _ _ fit).0).0 (λ e. u Assignment (more (more (more (more (more (short_ends g.expression e)))))))
-  form_edged {g = g} st en ps {qs} chosen.arrow fit u = arrow_edged ps g.expression (and_parts _ _ (and_parts _ _ fit).0).0 (λ e. u Assignment (more (parameters_end y i f (close_parameters ∷ arrow_end g) qs (more (arrow_ends g e)))))
-  form_edged {g = g} st en ps (chosen.prefix a c) fit u = update_edged g.prefix (and_parts _ _ (and_parts _ _ fit).0).0
-  form_edged {g = g} st en ps (chosen.postfix a c) fit u = update_edged g.prefix (and_parts _ _ (and_parts _ _ fit).0).0
-  form_edged st en ps (chosen.unary_word a b) fit u = right Unary Unary ps (and_parts _ _ (and_parts _ _ fit).0).0 (λ h. omega arith) (omega arith) (u Unary (more (more at_last)))
-  form_edged {w = w} st en ps (chosen.unary_sign a b) fit u = right Unary Unary ps (and_parts _ _ (and_parts _ _ fit).0).0 (λ h. omega arith) (omega arith)
+  form_edged {g = g} st en ps same (chosen.short_arrow e a) fit u = arrow_edged ps g.expression (and_parts _ _ (and_parts _ _ fit).0).0 (λ e. u Assignment (ends_behind y i f (arrow_words g.form) _ (more (more (more (more (more (short_ends g.expression e))))))))
+  form_edged {g = g} st en ps {qs} same chosen.arrow fit u = arrow_edged ps g.expression (and_parts _ _ (and_parts _ _ fit).0).0 (λ e. u Assignment (ends_behind y i f (arrow_words g.form) _ (more (parameters_end y i f (arrow_closing g.form ∷ arrow_end g) qs (more (arrow_ends g e))))))
+  form_edged {g = g} st en ps same (chosen.prefix a c) fit u = update_edged g.prefix (and_parts _ _ (and_parts _ _ fit).0).0
+  form_edged {g = g} st en ps same (chosen.postfix a c) fit u = update_edged g.prefix (and_parts _ _ (and_parts _ _ fit).0).0
+  form_edged st en ps same (chosen.unary_word a b) fit u = right Unary Unary ps (and_parts _ _ (and_parts _ _ fit).0).0 (λ h. omega arith) (omega arith) (u Unary (more (more at_last)))
+  form_edged {w = w} st en ps same (chosen.unary_sign a b) fit u = right Unary Unary ps (and_parts _ _ (and_parts _ _ fit).0).0 (λ h. omega arith) (omega arith)
       (u Unary (more (ends_behind y i f (cond (is w "+") (lay (apart 43) ∷ []) (cond (is w "-") (lay (apart 45) ∷ []) [])) (put (expr Unary true Any) ∷ []) at_last)))
-  form_edged st en ps (chosen.power a) fit u = right Exponentiation Exponentiation ps (and_parts _ _ (and_parts _ _ fit).0).0 (λ h. omega arith) (omega arith) (u Exponentiation (more (more (more (more at_last)))))
-  form_edged {w = w} st en ps (chosen.binary {z = z} {q = q} op) fit u = let b = binding w op in let least = b.least in let most = b.most in let up = b.rises.0 in
+  form_edged st en ps same chosen.await fit u = right Unary Unary ps (and_parts _ _ (and_parts _ _ fit).0).0 (λ h. omega arith) (omega arith) (u Unary (more (more at_last)))
+  form_edged st en ps same (chosen.private_left p a) fit u = right Relational Shift ps (and_parts _ _ (and_parts _ _ fit).0).0 (λ h. omega arith) (omega arith) (u Shift (more (more (more (more at_last)))))
+  form_edged st en ps same (chosen.yield_alone a d) fit u = bare_edged ps (and_parts _ _ (and_parts _ _ fit).0).0 (same ∙ d)
+  form_edged st en ps same (chosen.yield_operand a d) fit u = yield_edged ps (and_parts _ _ (and_parts _ _ fit).0).0 (u Assignment (more (more (more at_last))))
+  form_edged st en ps same (chosen.yield_from a d) fit u = yield_edged ps (and_parts _ _ (and_parts _ _ fit).0).0 (u Assignment (more (more (more (more at_last)))))
+  form_edged st en ps same (chosen.power p a) fit u = right Exponentiation Exponentiation ps (and_parts _ _ (and_parts _ _ fit).0).0 (λ h. omega arith) (omega arith) (u Exponentiation (more (more (more (more at_last)))))
+  form_edged {w = w} st en ps same (chosen.binary {z = z} {q = q} p op) fit u = let b = binding w op in let least = b.least in let most = b.most in let up = b.rises.0 in
       right z q ps (stands_at (joined w z q) fit) (λ h. omega arith) (omega arith) (u q (more (more (more (more at_last)))))
-  form_edged {w = w} st en ps (chosen.logical {z = z} {q = q} op) fit u = let b = binding w op in let least = b.least in let most = b.most in let up = b.rises.0 in
+  form_edged {w = w} st en ps same (chosen.logical {z = z} {q = q} op) fit u = let b = binding w op in let least = b.least in let most = b.most in let up = b.rises.0 in
       right z q ps (stands_at (joined w z q) fit) (λ h. omega arith) (omega arith) (u q (more (more (more (more at_last)))))
-  form_edged st en ps chosen.conditional fit u = right Conditional Assignment ps (and_parts _ _ (and_parts _ _ fit).0).0 (λ h. omega arith) (omega arith) (u Assignment (more (more (more (more (more (more (more (more at_last)))))))))
-  form_edged st en ps (chosen.assign a b) fit u = right Assignment Assignment ps (and_parts _ _ (and_parts _ _ fit).0).0 (λ h. omega arith) (omega arith) (u Assignment (more (more (more (more at_last)))))
-  form_edged st en ps (chosen.assign_pattern a b c) fit u = right Assignment Assignment ps (and_parts _ _ (and_parts _ _ fit).0).0 (λ h. omega arith) (omega arith) (u Assignment (more (more (more (more at_last)))))
-  form_edged st en ps {qs} (chosen.several a) fit u = right Expression Assignment ps (and_parts _ _ (and_parts _ _ fit).0).0 (λ h. omega arith) (omega arith) (u Assignment (more (sequence_ends y i f (others qs) a)))
-  form_edged st en ps (chosen.of_statement s c) fit u = elim s [ ]
-  form_edged st en ps (chosen.of_declaration s c) fit u = elim s [ ]
-  form_edged st en ps _ fit u = other_edged
+  form_edged st en ps same chosen.conditional fit u = right Conditional Assignment ps (and_parts _ _ (and_parts _ _ fit).0).0 (λ h. omega arith) (omega arith) (u Assignment (more (more (more (more (more (more (more (more at_last)))))))))
+  form_edged st en ps same (chosen.assign a b) fit u = right Assignment Assignment ps (and_parts _ _ (and_parts _ _ fit).0).0 (λ h. omega arith) (omega arith) (u Assignment (more (more (more (more at_last)))))
+  form_edged st en ps same (chosen.assign_pattern a b c) fit u = right Assignment Assignment ps (and_parts _ _ (and_parts _ _ fit).0).0 (λ h. omega arith) (omega arith) (u Assignment (more (more (more (more at_last)))))
+  form_edged st en ps {qs} same (chosen.several a) fit u = right Expression Assignment ps (and_parts _ _ (and_parts _ _ fit).0).0 (λ h. omega arith) (omega arith) (u Assignment (more (sequence_ends y i f (others qs) a)))
+  form_edged st en ps same (chosen.of_statement s c) fit u = elim s [ ]
+  form_edged st en ps same (chosen.of_declaration s c) fit u = elim s [ ]
+  form_edged st en ps same _ fit u = other_edged
 
   -- the edge of a node, by the production that spells it
-  way_edged : {k : Kind} {w : List ℕ} {g : Flags} (st en : ℕ) (ps : Parts) {qs : Parts} {x : Spelling} → Made k w g qs x → IsTrue (fits (expr y i f) x) →
+  way_edged : {k : Kind} {w : List ℕ} {g : Flags} (st en : ℕ) (ps : Parts) {qs : Parts} {x : Spelling} → bare_parts ps ≡ qs → Made k w g qs x → IsTrue (fits (expr y i f) x) →
       ((q : Rank) → Ends q (settled (expr y i f) x) → LastEdged q ps last) → Edged y (edge (node k w g st en ps)) last
-  way_edged st en ps m fit u = form_edged st en ps m.chosen (subst (λ x. IsTrue (fits (expr y i f) x)) m.is fit) (λ q e. u q (subst (λ x. Ends q (settled (expr y i f) x)) (sym m.is) e))
+  way_edged st en ps same m fit u = form_edged st en ps same m.chosen (subst (λ x. IsTrue (fits (expr y i f) x)) m.is fit) (λ q e. u q (subst (λ x. Ends q (settled (expr y i f) x)) (sym m.is) e))
 
 -- a way of an expression, as a production
 pub record ViewOf (y : Rank) (i : Bool) (f : Start) (k : Kind) (w : List ℕ) (g : Flags) (ps : Parts) (qs : List (PieceOf Role)) : Type 0 where
@@ -240,8 +264,10 @@ module _ (S : Type 0) (Next : S → Token → S → Type 0) (behind : S → Toke
     pub edged : {o : ℕ} {a : Role} {n : Tree} {s e : S} {P : List Pair} → Spells ways S Next behind o a n s e P → EdgedAt a (edge n) (behind e)
     edged {n = n} {e = e} (grouped {right = t} {l = l} p d q) = grouped_edged (edge n) (behind e) (ap (λ (x : Token). is x.text ")") (det.last l t e q.next) ∙ ap (λ w. is w ")") q.text) (edged d).ends
     edged {a = expr y i f} {n = node k w g st en ps} {e = e} (direct qs h pl d) = let v = view_of st en h in
-        way_edged y i f (behind e) st en ps v.made v.fit (λ q u. last_edged (subst (Ends q) (sym v.is) u) d)
+        way_edged y i f (behind e) st en ps refl v.made v.fit (λ q u. last_edged (subst (Ends q) (sym v.is) u) d)
     edged {a = _} (direct qs h pl d) = tt
+    edged (reserved_key r k p) = tt
+    edged (reserved_word r k p) = tt
 
     last_edged : {o : ℕ} {q : Rank} {qs : List (PieceOf Role)} {ps : Parts} {s e : S} {P : List Pair} → Ends q qs → Runs ways S Next behind o qs ps s e P → LastEdged q ps (behind e)
     last_edged at_last (within p done) = (refl, edged p)

@@ -1,22 +1,24 @@
 -- The search finds all that is spelled.
+use Rattle.language.specs.Vocabulary.{is_keyword}
+use Rattle.tree.specs.declared.kind.Kind.TheVariants.{Identifier}
 use Rattle.std.proofs.Common.{◌≡◌, ℕ, Bool, true, false, cond, List, [], ◌∷◌, ◌++◌, refl, sym, ap, subst, arith}
 use Rattle.std.specs.Prelude.{IsTrue, not, nat_eq, codes, map, filter}
 use Rattle.std.proofs.lemmas.Bool.{and_from}
 use Rattle.std.proofs.lemmas.Bool.Decides.{nat_tests}
 use Rattle.std.proofs.lemmas.Slice.Eq.{bytes_eq-Decides}
 use Rattle.tokens.specs.declared.token.TokenClass.{TokenClass}
-use Rattle.tokens.specs.declared.token.TokenClass.TheVariants.{IdentifierName, Punctuator, NumericLiteral, StringLiteral, Template, RegularExpressionLiteral, End}
+use Rattle.tokens.specs.declared.token.TokenClass.TheVariants.{IdentifierName, Punctuator, NumericLiteral, StringLiteral, Template, RegularExpressionLiteral, PrivateName, Keyword, End}
 use Rattle.language.specs.declared.Rank.TheVariants.{Expression}
 use Rattle.language.specs.declared.Start.TheVariants.{Any}
 use Rattle.tree.specs.declared.kind.Pair.{Pair}
-use Rattle.tree.specs.Tree.{Tree, node, Parts, none, part, gap, start_of, stop_of}
-use Rattle.language.specs.Pieces.{Role, expr, PieceOf, open_parameters, close_parameters, sub, absent}
+use Rattle.tree.specs.Tree.{plain, Tree, node, Parts, none, part, gap, start_of, stop_of}
+use Rattle.language.specs.Pieces.{key, word, Role, expr, PieceOf, open_parameters, close_parameters, sub, absent}
 use Rattle.language.specs.Token.{Token, same_class, is_token, is_mark}
-use Rattle.language.specs.Edges.{may_omit_semicolon, is_sign_class, is_semicolon}
+use Rattle.language.specs.Edges.{begins_no_operand, may_omit_semicolon, is_sign_class, is_semicolon}
 use Rattle.language.specs.Cursor.{Next, next, behind}
 use Rattle.language.specs.Grammar.{ways}
-use Rattle.language.specs.Derivation.{Among, first, later, Reads, Step, token, with_mark, without_mark, one_more, no_more, seen, same_line, explicit, implicit, laid, Placed, placed, place, pair_of, Spells, direct, grouped, Runs, done, step, opened, closed, within, missing}
-use Rattle.language.specs.Search.{Result, each, over, if_next, over_many, steps_of, lead_steps, tail_pieces, in_place, close, groups, directly, everywhere, at_end, at_gap, at_part, spelled, parts_spelled}
+use Rattle.language.specs.Derivation.{Among, first, later, Reads, Step, token, with_mark, without_mark, one_more, no_more, seen, same_line, left_bare, explicit, implicit, laid, Placed, placed, place, pair_of, Spells, direct, grouped, Runs, done, step, opened, closed, within, missing, reserved_key, reserved_word}
+use Rattle.language.specs.Search.{Result, each, over, if_next, over_many, steps_of, lead_steps, tail_pieces, in_place, close, groups, directly, everywhere, at_end, at_gap, at_part, spelled, parts_spelled, reserved}
 use Rattle.language.proofs.table.ViewIsComplete.{from_map}
 use Rattle.language.proofs.table.SearchIsSound.{from_each}
 
@@ -45,7 +47,7 @@ in_both : {X : Type 0} {x : X} {xs : List X} (b : Bool) (y : X) → Among x xs �
 in_both true y h = later h
 in_both false y h = h
 
-in_filter : {X : Type 0} {x : X} (f : X → Bool) {xs : List X} → Among x xs → f x ≡ true → Among x (filter f xs)
+pub in_filter : {X : Type 0} {x : X} (f : X → Bool) {xs : List X} → Among x xs → f x ≡ true → Among x (filter f xs)
 in_filter {x = x} f first e = in_cond (f x) _ e first
 in_filter f {xs = y ∷ ys} (later h) e = in_both (f y) y (in_filter f h e)
 
@@ -56,6 +58,8 @@ same_class_refl NumericLiteral = refl
 same_class_refl StringLiteral = refl
 same_class_refl Template = refl
 same_class_refl RegularExpressionLiteral = refl
+same_class_refl PrivateName = refl
+same_class_refl Keyword = refl
 same_class_refl End = refl
 
 token_true : {c : TokenClass} {w : List ℕ} {s e : List Token} {t : Token} → Reads (List Token) Next behind c w s t e → is_token c w t ≡ true
@@ -90,6 +94,7 @@ step_found (one_more {w = w} r d) = in_more w r.next (token_true r) (step_found 
 step_found (no_more {w = w} {s = s}) = in_many w s
 step_found (seen {w = w} r) = in_next (λ b t. is_token IdentifierName w t) r.next (token_true r)
 step_found (same_line {t = t} n h) = in_next (λ b t. not t.after_break) n (not_false t.after_break h)
+step_found (left_bare {t = t} n h) = in_next (λ b t. begins_no_operand t) n h
 step_found (explicit {x = x} {s = s} r) = in_left (if_next (may_omit_semicolon x) s) (in_over is_semicolon r.next (semicolon_true r))
 step_found (implicit {x = x} {s = s} n h) = in_right (over is_semicolon s) (in_next (may_omit_semicolon x) n h)
 step_found laid = first
@@ -113,6 +118,7 @@ step_some (one_more r d) h = step_some d (next_some r.next)
 step_some no_more h = h
 step_some (seen r) h = h
 step_some (same_line n k) h = h
+step_some (left_bare n k) h = h
 step_some (explicit r) h = next_some r.next
 step_some (implicit n k) h = h
 step_some laid h = h
@@ -121,6 +127,8 @@ mutual
   spells_some : {o : ℕ} {a : Role} {n : Tree} {s e : List Token} {P : List Pair} → Spells ways (List Token) Next behind o a n s e P → some_behind s ≡ true → some_behind e ≡ true
   spells_some (direct qs h p d) k = runs_some d k
   spells_some (grouped p d q) k = next_some q.next
+  spells_some (reserved_key r k p) h = next_some r.next
+  spells_some (reserved_word r k p) h = next_some r.next
 
   runs_some : {o : ℕ} {qs : List (PieceOf Role)} {ps : Parts} {s e : List Token} {P : List Pair} → Runs ways (List Token) Next behind o qs ps s e P → some_behind s ≡ true → some_behind e ≡ true
   runs_some done h = h
@@ -180,7 +188,19 @@ parts_pass (part n ps) q qs ts {vs} {x} k h =
 
 in_everywhere : (inner : List (PieceOf Role) → List Token → List Result) (n : Tree) (a : Role) (ts : List Token) {x : Result} → Among x (directly inner n a ts) → Among x (everywhere inner n a ts)
 in_everywhere inner n (expr y i f) ts h = in_left (groups (directly inner n (expr Expression true Any)) ts) h
+in_everywhere inner n key ts h = in_left (reserved n ts) h
+in_everywhere inner n word ts h = in_left (reserved n ts) h
 in_everywhere inner n _ ts h = h
+
+-- a reserved word that is read is found
+reserved_found : {w : List ℕ} {n : Tree} {t : Token} {ts us : List Token} → Reads (List Token) Next behind TokenClass.Keyword w ts t us → is_keyword w ≡ true → n ≡ node Identifier w plain t.start (behind us).stop none → Among (us, []) (reserved n ts)
+reserved_found {w} {n} {t} {ts} {us} r h p = subst (λ v. Among (us, []) (reserved v ts)) (sym p) (of r.next (token_true r))
+  where
+    same : (m : ℕ) → nat_eq m m ≡ true
+    same m = grind (arith, nat_tests)
+
+    of : {ts us : List Token} → Next ts t us → is_token TokenClass.Keyword w t ≡ true → Among (us, []) (reserved (node Identifier w plain t.start (behind us).stop none) ts)
+    of next e = in_cond _ _ (and_from _ _ (and_from _ _ e h) (and_from _ _ (and_from _ _ (same t.start) (same t.stop)) refl)) first
 
 in_close : (left : Token) {s e : List Token} {right : Token} {P : List Pair} → Next s right e → is_mark (codes ")") right ≡ true → Among (e, pair_of left right ∷ P) (close left s P)
 in_close left {right = right} next h = in_cond (is_mark (codes ")") right) _ h first
@@ -198,6 +218,8 @@ mutual
   spells_found {a = expr y i f} {n = node k w g b c ps} {ts = ts} (grouped {left = left} p d q) =
       in_right (directly (λ qs us. parts_spelled ps qs us) (node k w g b c ps) (expr y i f) ts)
       (in_groups (directly (λ qs us. parts_spelled ps qs us) (node k w g b c ps) (expr Expression true Any)) p.next (token_true p) (spells_found d) (in_close left q.next (token_true q)))
+  spells_found {n = node k w g b c ps} {ts = ts} (reserved_key r h p) = in_right (directly (λ qs us. parts_spelled ps qs us) (node k w g b c ps) key ts) (reserved_found r h p)
+  spells_found {n = node k w g b c ps} {ts = ts} (reserved_word r h p) = in_right (directly (λ qs us. parts_spelled ps qs us) (node k w g b c ps) word ts) (reserved_found r h p)
 
   pub runs_found : {o : ℕ} {qs : List (PieceOf Role)} {ps : Parts} {ts us : List Token} {P : List Pair} → Runs ways (List Token) Next behind o qs ps ts us P → Among (us, P) (parts_spelled ps qs ts)
   runs_found done = first

@@ -1,24 +1,28 @@
 -- What the search finds is spelled.
+use Rattle.language.specs.Vocabulary.{is_keyword}
+use Rattle.tree.proofs.Lean.{lean_flags}
+use Rattle.tree.specs.Uses.{is_lean}
+use Rattle.tree.specs.declared.kind.Kind.TheVariants.{Identifier}
 use Rattle.std.proofs.Common.{◌≡◌, ℕ, zero, suc, ◌+◌, Bool, true, false, cond, List, [], ◌∷◌, ◌++◌, refl, sym, subst, arith, inl, inr}
-use Rattle.std.specs.Prelude.{IsTrue, ◌⊎◌, not, nat_eq, codes, map}
+use Rattle.std.specs.Prelude.{◌&&◌, IsTrue, ◌⊎◌, not, nat_eq, codes, map}
 use Rattle.std.proofs.lemmas.Bool.{and_parts}
 use Rattle.std.proofs.lemmas.Bool.Decides.{nat_tests}
 use Rattle.std.proofs.lemmas.Slice.Eq.{bytes_eq-Decides}
 use Rattle.tokens.specs.declared.token.TokenClass.{TokenClass}
-use Rattle.tokens.specs.declared.token.TokenClass.TheVariants.{IdentifierName, Punctuator, NumericLiteral, StringLiteral, Template, RegularExpressionLiteral, End}
+use Rattle.tokens.specs.declared.token.TokenClass.TheVariants.{IdentifierName, Punctuator, NumericLiteral, StringLiteral, Template, RegularExpressionLiteral, PrivateName, Keyword, End}
 use Rattle.language.specs.declared.Rank.{Rank}
 use Rattle.language.specs.declared.Rank.TheVariants.{Expression}
 use Rattle.language.specs.declared.Start.{Start}
 use Rattle.language.specs.declared.Start.TheVariants.{Any}
 use Rattle.tree.specs.declared.kind.Pair.{Pair}
-use Rattle.tree.specs.Tree.{Tree, node, Parts, none, part, gap, parts_of, start_of, stop_of}
-use Rattle.language.specs.Pieces.{Role, expr, PieceOf, tok, may, many, ahead, unbroken, ending, open_parameters, close_parameters, sub, absent, lay, Hint, Ending}
+use Rattle.tree.specs.Tree.{Tree, node, Parts, none, part, gap, parts_of, start_of, stop_of, plain}
+use Rattle.language.specs.Pieces.{Role, expr, PieceOf, tok, may, many, ahead, unbroken, no_operand, ending, open_parameters, close_parameters, sub, absent, lay, Hint, Ending, key, word}
 use Rattle.language.specs.Token.{Token, same_class, is_token, is_mark}
-use Rattle.language.specs.Edges.{may_omit_semicolon, is_sign_class, is_semicolon}
+use Rattle.language.specs.Edges.{begins_no_operand, may_omit_semicolon, is_sign_class, is_semicolon}
 use Rattle.language.specs.Grammar.{ways}
 use Rattle.language.specs.Cursor.{Next, next, behind}
-use Rattle.language.specs.Derivation.{Among, first, later, Reads, Step, token, with_mark, without_mark, one_more, no_more, seen, same_line, explicit, implicit, laid, Placed, placed, place, pair_of, Spells, direct, grouped, Runs, done, step, opened, closed, within, missing}
-use Rattle.language.specs.Search.{Result, each, over, if_next, over_many, steps_of, lead_steps, tail_pieces, in_place, close, groups, directly, everywhere, at_end, at_gap, at_part, spelled, parts_spelled}
+use Rattle.language.specs.Derivation.{Among, first, later, Reads, Step, token, with_mark, without_mark, one_more, no_more, seen, same_line, left_bare, explicit, implicit, laid, Placed, placed, place, pair_of, Spells, direct, grouped, Runs, done, step, opened, closed, within, missing, reserved_key, reserved_word}
+use Rattle.language.specs.Search.{Result, each, over, if_next, over_many, steps_of, lead_steps, tail_pieces, in_place, close, groups, directly, everywhere, at_end, at_gap, at_part, spelled, parts_spelled, reserved}
 use Rattle.language.proofs.table.ViewIsComplete.{cases, from_map, from_filter}
 
 -- classes that are the same
@@ -29,6 +33,8 @@ same_class_is NumericLiteral NumericLiteral h = refl
 same_class_is StringLiteral StringLiteral h = refl
 same_class_is Template Template h = refl
 same_class_is RegularExpressionLiteral RegularExpressionLiteral h = refl
+same_class_is PrivateName PrivateName h = refl
+same_class_is Keyword Keyword h = refl
 same_class_is End End h = refl
 same_class_is _ _ h = cc
 
@@ -38,6 +44,8 @@ module _ (S : Type 0) (N : S → Token → S → Type 0) (B : S → Token) where
     spells_more : {o : ℕ} {a : Role} {n : Tree} {s e : S} {P : List Pair} → Spells ways S N B o a n s e P → Spells ways S N B (suc o) a n s e P
     spells_more (direct qs h p d) = direct qs h p (runs_more d)
     spells_more (grouped p d q) = grouped p (spells_more d) q
+    spells_more (reserved_key r k p) = reserved_key r k p
+    spells_more (reserved_word r k p) = reserved_word r k p
 
     runs_more : {o : ℕ} {qs : List (PieceOf Role)} {ps : Parts} {s e : S} {P : List Pair} → Runs ways S N B o qs ps s e P → Runs ways S N B (suc o) qs ps s e P
     runs_more done = done
@@ -161,6 +169,9 @@ not_true true e = cc
 line_walk : {ts vs : List Token} → Here (λ b t. not t.after_break) ts vs → Walk unbroken ts vs
 line_walk (here {t = t} e) = stepped (same_line next (not_true t.after_break e))
 
+bare_walk : {ts vs : List Token} → Here (λ b t. begins_no_operand t) ts vs → Walk no_operand ts vs
+bare_walk (here e) = stepped (left_bare next e)
+
 ending_walk : {x : Ending} {ts vs : List Token} → Over is_semicolon ts vs ⊎ Here (may_omit_semicolon x) ts vs → Walk (ending x) ts vs
 ending_walk (inl (over_one e)) = stepped (explicit (semicolon e))
 ending_walk (inr (here e)) = stepped (implicit next e)
@@ -183,6 +194,7 @@ walk (may w) ts h = may_walk (on_left (over_sound (is_mark w) ts) (from_append (
 walk (many w) ts h = stepped (many_sound w ts h)
 walk (ahead w) ts h = ahead_walk (here_sound (λ b t. is_token IdentifierName w t) ts h)
 walk unbroken ts h = line_walk (here_sound (λ b t. not t.after_break) ts h)
+walk no_operand ts h = bare_walk (here_sound (λ b t. begins_no_operand t) ts h)
 walk (ending x) ts h = ending_walk (on_both (over_sound is_semicolon ts) (here_sound (may_omit_semicolon x) ts) (from_append (over is_semicolon ts) (if_next (may_omit_semicolon x) ts) h))
 walk open_parameters ts h = walked_open (over_sound (is_mark (codes "(")) ts h)
 walk close_parameters ts h = walked_close (over_sound (is_mark (codes ")")) ts h)
@@ -241,6 +253,43 @@ placed_sound a n (b ∷ t ∷ ts) (l ∷ us) h = let u = and_parts _ _ h in plac
     same : (x y : ℕ) → nat_eq x y ≡ true → x ≡ y
     same x y h = grind (arith, nat_tests)
 
+-- a reserved word that is found is read
+record Reserved (n : Tree) (ts : List Token) (x : Result) : Type 0 where
+  text : List ℕ
+  sign : Token
+  reads : Reads (List Token) Next behind TokenClass.Keyword text ts sign x.0
+  keyword : is_keyword text ≡ true
+  tree : n ≡ node Identifier text plain sign.start (behind x.0).stop none
+  pairs : x.1 ≡ []
+
+reserved_read : (n : Tree) (ts : List Token) (x : Result) → Among x (reserved n ts) → Reserved n ts x
+reserved_read (node Identifier w g a b none) [] x h = elim h [ ]
+reserved_read (node Identifier w g a b none) (c ∷ []) x h = elim h [ ]
+reserved_read (node Identifier w g a b none) (c ∷ t ∷ ts) x h = cases _ h (λ e k. of x e k) (λ e k. elim k [ ])
+  where
+    equal : (m k : ℕ) → nat_eq m k ≡ true → m ≡ k
+    equal m k h = grind (arith, nat_tests)
+
+    of : (x : Result) → ((is_token TokenClass.Keyword w t && is_keyword w) && ((nat_eq t.start a && nat_eq t.stop b) && is_lean (node Identifier w g 0 0 none))) ≡ true → Among x ((t ∷ ts, []) ∷ []) → Reserved (node Identifier w g a b none) (c ∷ t ∷ ts) x
+    of x e first =
+        let u = and_parts _ _ e in
+        let v = and_parts _ _ u.0 in
+        let z = and_parts _ _ u.1 in
+        let p = and_parts _ _ z.0 in
+        let flags : g ≡ plain = lean_flags (node Identifier w g 0 0 none) z.1 in
+        record {
+          text = w;
+          sign = t;
+          reads = reads TokenClass.Keyword w v.0;
+          keyword = v.1;
+          tree = λ i. node Identifier w (flags i) (sym (equal t.start a p.0) i) (sym (equal t.stop b p.1) i) none;
+          pairs = refl;
+        }
+    of x e (later k) = elim k [ ]
+reserved_read (node Identifier w g a b (part m ps)) ts x h = elim h [ ]
+reserved_read (node Identifier w g a b (gap ps)) ts x h = elim h [ ]
+reserved_read (node _ w g a b ps) ts x h = elim h [ ]
+
 module _ (inner : List (PieceOf Role) → List Token → List Result) (n : Tree) (sound : (qs : List (PieceOf Role)) (vs : List Token) (y : Result) → Among y (inner qs vs) → RunsTo qs (parts_of n) vs y) where
   directly_sound : (a : Role) (ts : List Token) (x : Result) → Among x (directly inner n a ts) → SpellsTo n a ts x
   directly_sound a ts x h =
@@ -283,6 +332,16 @@ module _ (inner : List (PieceOf Role) → List Token → List Result) (n : Tree)
       either : Among x (directly inner n (expr y i f) ts) ⊎ Among x (groups inside ts) → SpellsTo n (expr y i f) ts x
       either (inl k) = directly_sound (expr y i f) ts x k
       either (inr k) = groups_sound y i f ts x k
+  everywhere_sound key ts x h = either (from_append (directly inner n key ts) (reserved n ts) h)
+    where
+      either : Among x (directly inner n key ts) ⊎ Among x (reserved n ts) → SpellsTo n key ts x
+      either (inl k) = directly_sound key ts x k
+      either (inr k) = let u = reserved_read n ts x k in (0, subst (λ P. Spells ways (List Token) Next behind 0 key n ts x.0 P) (sym u.pairs) (reserved_key u.reads u.keyword u.tree))
+  everywhere_sound word ts x h = either (from_append (directly inner n word ts) (reserved n ts) h)
+    where
+      either : Among x (directly inner n word ts) ⊎ Among x (reserved n ts) → SpellsTo n word ts x
+      either (inl k) = directly_sound word ts x k
+      either (inr k) = let u = reserved_read n ts x k in (0, subst (λ P. Spells ways (List Token) Next behind 0 word n ts x.0 P) (sym u.pairs) (reserved_word u.reads u.keyword u.tree))
   everywhere_sound a ts x h = directly_sound a ts x h
 
 mutual

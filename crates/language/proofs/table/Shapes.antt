@@ -2,19 +2,53 @@
 -- test of pieces that a shape passes, so passes each node of that form.
 use Rattle.std.proofs.Common.{◌≡◌, ℕ, Bool, true, false, cond, List, [], ◌∷◌, ◌++◌, refl, sym, subst, append_assoc}
 use Rattle.std.specs.Prelude.{Some, None, ◌&&◌, codes}
+use Rattle.std.proofs.lemmas.Bool.{and_parts}
+use Rattle.tree.specs.declared.kind.Form.{Form as MethodForm}
+use Rattle.tree.specs.declared.kind.Form.TheVariants as method_form
 use Rattle.tree.specs.declared.kind.Kind.{Kind}
 use Rattle.tree.specs.declared.kind.Kind.TheVariants as kind
 use Rattle.tree.specs.declared.kind.Flags.{Flags}
 use Rattle.tree.specs.Tree.{Tree, node, Parts, none, part, gap, kind_of}
 use Rattle.language.specs.declared.Rank.TheVariants.{Expression, Assignment, LeftHandSide}
-use Rattle.language.specs.declared.Start.TheVariants.{Any, NoBrace}
-use Rattle.language.specs.FirstPart.{lead as lead_kind, others}
-use Rattle.language.specs.Vocabulary.{is, is_rest, is_spread, is_pattern, is_identifier, is_target}
-use Rattle.language.specs.Pieces.{Role, expr, name, word, spread, property, pattern, pattern_property, element, rest, body, item, opening, head, member, template_element, bound, with_default, apart, loose, line, Ending, Piece, may, many, unbroken, ending, close_parameters, sub, tail, absent, never, lay, put, put_at, sign, sp, is_none, separator, listed, elements, parameters}
-use Rattle.language.specs.Expressions.{assignment, in_brackets, given, after_number, member_link, template_elements, arrow_end, sequence}
-use Rattle.language.specs.Statements.{lines, prologue, declarators, is_declaration, for_left, member_lines, is_directive}
+use Rattle.language.specs.declared.Start.TheVariants.{Any, NoBrace, Statement}
+use Rattle.language.specs.FirstPart.{lead as lead_kind, others, begins_with_brace}
+use Rattle.language.specs.Edges.{edge}
+use Rattle.language.specs.Vocabulary.{is, is_private, is_rest, is_spread, is_pattern, is_identifier, is_target}
+use Rattle.language.specs.Pieces.{Role, expr, name, word, private_name, key, directive_string, module_item, specifier, default_item, spread, property, pattern, pattern_property, element, rest, body, item, opening, head, member, template_element, bound, with_default, apart, loose, line, feed, Ending, of_export, behind_value, behind_key, Piece, may, many, unbroken, ending, close_parameters, sub, tail, absent, never, lay, put, put_at, sign, sp, is_none, separator, listed, listed_before, elements, parameters}
+use Rattle.language.specs.Expressions.{assignment, in_brackets, module_name, given, after_number, selector, member_link, template_elements, arrow_end, sequence, arrow_closing}
+use Rattle.language.specs.Statements.{lines, prologue, declarators, is_declaration, for_left, member_lines, is_directive, key_word, from_source, imported, exported, named_imports, export_list, exported_declaration, exported_default, is_module_item, module_prologue}
 use Rattle.language.specs.Forms as made
-use Rattle.language.specs.Forms.{Item, OwnText, own_piece, PartSort, an_argument, a_property, a_pattern_property, a_pattern_element, part_piece, Production, form, item_pieces, pieces_of, holds, parts_from}
+use Rattle.language.specs.Forms.{Item, OwnText, own_piece, PartSort, an_argument, a_property, a_pattern_property, a_pattern_element, part_piece, of_first, key_pieces, Production, form, item_pieces, pieces_of, holds, parts_from}
+
+-- a test of all forms that a function may have, for what is shown of a production with one
+abbrev pub all_forms : (MethodForm → Bool) → Bool
+all_forms test =
+    test method_form.Init && (test method_form.Get && (test method_form.Set && (test method_form.Method && (test method_form.Shorthand && (test method_form.Constructor
+    && (test method_form.Generator && (test method_form.Async && test method_form.AsyncGenerator)))))))
+
+pub of_form : (test : MethodForm → Bool) → all_forms test ≡ true → (x : MethodForm) → test x ≡ true
+of_form test h x =
+    let a = and_parts (test method_form.Init) _ h in
+    let b = and_parts (test method_form.Get) _ a.1 in
+    let c = and_parts (test method_form.Set) _ b.1 in
+    let d = and_parts (test method_form.Method) _ c.1 in
+    let e = and_parts (test method_form.Shorthand) _ d.1 in
+    let i = and_parts (test method_form.Constructor) _ e.1 in
+    let j = and_parts (test method_form.Generator) _ i.1 in
+    let k = and_parts (test method_form.Async) _ j.1 in
+    of x a.0 b.0 c.0 d.0 e.0 i.0 j.0 k.0 k.1
+  where
+    of : (y : MethodForm) → test method_form.Init ≡ true → test method_form.Get ≡ true → test method_form.Set ≡ true → test method_form.Method ≡ true → test method_form.Shorthand ≡ true →
+        test method_form.Constructor ≡ true → test method_form.Generator ≡ true → test method_form.Async ≡ true → test method_form.AsyncGenerator ≡ true → test y ≡ true
+    of method_form.Init a b c d e i j k l = a
+    of method_form.Get a b c d e i j k l = b
+    of method_form.Set a b c d e i j k l = c
+    of method_form.Method a b c d e i j k l = d
+    of method_form.Shorthand a b c d e i j k l = e
+    of method_form.Constructor a b c d e i j k l = i
+    of method_form.Generator a b c d e i j k l = j
+    of method_form.Async a b c d e i j k l = k
+    of method_form.AsyncGenerator a b c d e i j k l = l
 
 pub data Shape : Type 0 where
   empty : Shape
@@ -68,33 +102,65 @@ elements_shape s = many_of (or (then (part_shape s) separator_shape) (then (exac
 abbrev pub parameter_shape : Shape
 parameter_shape = then (part_shape (a_pattern_element true)) separator_shape
 
+-- the parenthesis behind an arrow's parameters, and what follows it
+abbrev pub arrow_closing_shape : Shape
+arrow_closing_shape = or (piece (sign ")")) (piece close_parameters)
+
+abbrev pub arrow_end_shape : Shape
+arrow_end_shape = then arrow_closing_shape (then (exactly (unbroken ∷ sp ∷ sign "=>" ∷ sp ∷ [])) (or (piece (sub (tail Assignment NoBrace))) (piece (put body))))
+
 -- the parts of a template behind the first substitution
 abbrev pub later_elements : Shape
 later_elements = then (many_of (exactly (put (template_element false false) ∷ put (expr Expression true Any) ∷ []))) (or (piece (put (template_element false true))) (piece never))
 
+-- behind a dot: a private name, or any name
+abbrev pub property_shape : Shape
+property_shape = or (piece (put private_name)) (piece (put word))
+
+abbrev pub module_name_shape : Shape
+module_name_shape = or (piece (put word)) (piece (put directive_string))
+
+abbrev pub specifier_shape : Shape
+specifier_shape = or (piece (put specifier)) (piece never)
+
+-- names between braces, up to the last
+abbrev pub specifiers_shape : Shape
+specifiers_shape = many_of (then specifier_shape separator_shape)
+
 abbrev pub item_shape : Item → Shape
 item_shape (made.one q) = piece q
 item_shape (made.own o) = own o
+item_shape (made.these qs) = exactly qs
 item_shape (made.choose t first second) = or (exactly first) (exactly second)
 item_shape (made.if_part n qs) = or (exactly qs) (or (piece absent) (piece never))
 item_shape made.number_space = or empty (piece (lay loose))
 item_shape made.sign_space = or (piece (lay (apart 43))) (or (piece (lay (apart 45))) empty)
-item_shape made.link = or (exactly (sign "?." ∷ in_brackets)) (or (exactly (sign "?." ∷ put word ∷ [])) (or (exactly in_brackets) (exactly (sign "." ∷ put word ∷ []))))
+item_shape made.link = or (exactly (sign "?." ∷ in_brackets)) (or (then (piece (sign "?.")) property_shape) (or (exactly in_brackets) (then (piece (sign ".")) property_shape)))
 item_shape made.edge_ending = an_ending
 item_shape (made.bound_part b n) = bound_shape b
 item_shape (made.default_part b n) = default_shape b
 item_shape made.for_left_part = or (piece (put (head false))) (bound_shape false)
 item_shape made.for_first_part = or (or (piece (put (head true))) (piece (put (expr Expression false Any)))) (or (piece absent) (piece never))
+item_shape made.selector_part = or (exactly in_brackets) (then (piece (sign ".")) property_shape)
+item_shape made.class_key = or (exactly (sign "[" ∷ assignment ∷ sign "]" ∷ [])) (or (piece (put private_name)) (piece (put key)))
+item_shape made.value_ending = or an_ending (piece never)
+item_shape made.key_ending = or an_ending (piece never)
+item_shape (made.module_name_part n) = or module_name_shape (piece never)
+item_shape made.exported_part = or (piece (put (item false))) (piece never)
+item_shape made.default_export = or (piece (put default_item)) (or (then (or (piece (put (expr Assignment true Any))) (piece (put (expr Assignment true Statement)))) an_ending) (piece never))
+item_shape (made.import_list n) = then (piece (sign "{")) (then specifiers_shape (or (exactly (sign "}" ∷ from_source)) (piece never)))
+item_shape (made.export_list_from n) = then specifiers_shape (or (exactly (sign "}" ∷ absent ∷ ending of_export ∷ [])) (or (exactly (sign "}" ∷ from_source)) (piece never)))
 item_shape (made.list s n) = listed_shape s
 item_shape (made.list_with_holes s n) = elements_shape s
 item_shape (made.parameter_list after n) = then (many_of parameter_shape) (or (exactly after) (piece never))
-item_shape made.arrow_parameters = then (many_of parameter_shape) (or (then (exactly (close_parameters ∷ unbroken ∷ sp ∷ sign "=>" ∷ sp ∷ [])) (or (piece (sub (tail Assignment NoBrace))) (piece (put body)))) (piece never))
+item_shape made.arrow_parameters = then (many_of parameter_shape) (or arrow_end_shape (piece never))
 item_shape made.template_list = or (piece (put (template_element true true))) (or (piece never) (then (exactly (put (template_element true false) ∷ put (expr Expression true Any) ∷ [])) later_elements))
 item_shape made.sequence_list = many_of (or (exactly (sign "," ∷ sp ∷ sub (tail Assignment Any) ∷ [])) (piece never))
 item_shape made.member_list = many_of (or (exactly (lay line ∷ put member ∷ many (codes ";") ∷ [])) (piece never))
 item_shape (made.line_list a n) = many_of (or (exactly (lay line ∷ put a ∷ [])) (piece never))
 item_shape (made.declarator_list a) = then (many_of (exactly (put a ∷ sign "," ∷ sp ∷ []))) (or (piece (put a)) (piece never))
 item_shape (made.item_list r b before after) = many_of (or (then (exactly before) (then (or (piece (put (opening r))) (piece (put (item r)))) (exactly after))) (piece never))
+item_shape made.module_item_list = many_of (or (then (or (piece (put module_item)) (or (piece (put (opening false))) (piece (put (item false))))) (exactly (lay feed ∷ []))) (piece never))
 
 abbrev pub shape_of : List Item → Shape
 shape_of [] = empty
@@ -249,21 +315,96 @@ module _ {w : List ℕ} where
   given_spelled h (part n ps) = at_first h
   given_spelled h (gap ps) = at_second (at_first (single absent))
 
-  link_spelled : (g : Flags) → Spelled w (item_shape made.link) (member_link g)
-  link_spelled g = of g.optional g.computed
+  link_spelled : (g : Flags) (k : Kind) → Spelled w (item_shape made.link) (member_link g k)
+  link_spelled g k = of g.optional g.computed
     where
-      of : (x y : Bool) → Spelled w (item_shape made.link) (cond x (sign "?." ∷ cond y in_brackets (put word ∷ [])) (cond y in_brackets (sign "." ∷ put word ∷ [])))
-      of true true = at_first (just _)
-      of true false = at_second (at_first (just _))
-      of false true = at_second (at_second (at_first (just _)))
-      of false false = at_second (at_second (at_second (just _)))
+      of : (x y : Bool) → Spelled w (item_shape made.link) (cond x (sign "?." ∷ cond y in_brackets (put (cond (is_private k) private_name word) ∷ [])) (cond y in_brackets (sign "." ∷ put (cond (is_private k) private_name word) ∷ [])))
+      of true true = at_first (just (sign "?." ∷ in_brackets))
+      of true false = at_second (at_first (behind (single (sign "?.")) (of_roles (is_private k) private_name word)))
+      of false true = at_second (at_second (at_first (just in_brackets)))
+      of false false = at_second (at_second (at_second (behind (single (sign ".")) (of_roles (is_private k) private_name word))))
 
-  arrow_end_spelled : (g : Flags) → Spelled w (then (exactly (close_parameters ∷ unbroken ∷ sp ∷ sign "=>" ∷ sp ∷ [])) (or (piece (sub (tail Assignment NoBrace))) (piece (put body)))) (close_parameters ∷ arrow_end g)
-  arrow_end_spelled g = behind (just (close_parameters ∷ unbroken ∷ sp ∷ sign "=>" ∷ sp ∷ [])) (of g.expression)
+  selector_spelled : (g : Flags) (k : Kind) → Spelled w (item_shape made.selector_part) (selector g k)
+  selector_spelled g k = by_test g.computed (just in_brackets) (behind (single (sign ".")) (of_roles (is_private k) private_name word))
+
+  -- the end of a field
+  ended_first : (f : Tree → Ending) (ps : Parts) → Spelled w (or an_ending (piece never)) (of_first (λ n. ending (f n)) ps ∷ [])
+  ended_first f none = at_second (single never)
+  ended_first f (part n ps) = at_first (record { fits = λ ys. ended })
+  ended_first f (gap ps) = at_second (single never)
+
+  -- imports and exports
+  module_name_spelled : (ps : Parts) → Spelled w (or module_name_shape (piece never)) (of_first module_name ps ∷ [])
+  module_name_spelled none = at_second (single never)
+  module_name_spelled (part n ps) = at_first (of_roles (is_identifier (kind_of n)) word directive_string)
+  module_name_spelled (gap ps) = at_second (single never)
+
+  exported_part_spelled : (k : Kind) → Spelled w (item_shape made.exported_part) (exported_declaration k ∷ [])
+  exported_part_spelled kind.FunctionDeclaration = at_first (single _)
+  exported_part_spelled kind.ClassDeclaration = at_first (single _)
+  exported_part_spelled kind.VariableDeclaration = at_first (single _)
+  exported_part_spelled _ = at_second (single _)
+
+  default_export_spelled : (n : Tree) → Spelled w (item_shape made.default_export) (exported_default n)
+  default_export_spelled (node kind.FunctionDeclaration x g st e ps) = at_first (single _)
+  default_export_spelled (node kind.ClassDeclaration x g st e ps) = at_first (single _)
+  default_export_spelled (node k x g st e ps) = at_second (at_first (behind (of (begins_with_brace (node k x g st e ps))) (record { fits = λ ys. ended })))
+    where
+      of : (c : Bool) → Spelled w (or (piece (put (expr Assignment true Any))) (piece (put (expr Assignment true Statement)))) (put (expr Assignment true (cond c Any Statement)) ∷ [])
+      of true = at_first (single _)
+      of false = at_second (single _)
+
+  imported_spelled : (n : Tree) → Spelled w specifier_shape (imported n ∷ [])
+  imported_spelled (node kind.ImportSpecifier x g st e ps) = at_first (single _)
+  imported_spelled (node _ x g st e ps) = at_second (single _)
+
+  exported_spelled : (n : Tree) → Spelled w specifier_shape (exported n ∷ [])
+  exported_spelled (node kind.ExportSpecifier x g st e ps) = at_first (single _)
+  exported_spelled (node _ x g st e ps) = at_second (single _)
+
+  before_spelled : {r : Shape} {after : List Piece} → Spelled w r after → (ps : Parts) → Spelled w (then specifiers_shape (or r (piece never))) (listed_before imported after ps)
+  before_spelled h none = last (at_second (single never))
+  before_spelled h (part n none) = last (at_first h)
+  before_spelled h (part n (part m ps)) = once_more (behind (imported_spelled n) (separator_spelled (kind_of n) (is_none ps))) (before_spelled h (part m ps))
+  before_spelled h (part n (gap ps)) = last (at_second (single never))
+  before_spelled h (gap ps) = last (at_second (single never))
+
+  imports_spelled : (n : ℕ) (ps : Parts) → Spelled w (item_shape (made.import_list n)) (named_imports ps)
+  imports_spelled n ps = behind (single (sign "{")) (before_spelled (just (sign "}" ∷ from_source)) ps)
+
+  exports_spelled : (n : ℕ) (ps : Parts) → Spelled w (item_shape (made.export_list_from n)) (export_list ps)
+  exports_spelled n none = last (at_second (at_second (single never)))
+  exports_spelled n (gap none) = last (at_first (just (sign "}" ∷ absent ∷ ending of_export ∷ [])))
+  exports_spelled n (gap (part m ps)) = last (at_second (at_second (single never)))
+  exports_spelled n (gap (gap ps)) = last (at_second (at_second (single never)))
+  exports_spelled n (part m none) = last (at_second (at_first (just (sign "}" ∷ from_source))))
+  exports_spelled n (part m (part l none)) = once_more (behind (exported_spelled m) (separator_spelled (kind_of m) true)) (exports_spelled n (part l none))
+  exports_spelled n (part m (part l (part k ps))) = once_more (behind (exported_spelled m) (separator_spelled (kind_of m) false)) (exports_spelled n (part l (part k ps)))
+  exports_spelled n (part m (part l (gap ps))) = once_more (behind (exported_spelled m) (separator_spelled (kind_of m) false)) (exports_spelled n (part l (gap ps)))
+  exports_spelled n (part m (gap none)) = once_more (behind (exported_spelled m) (separator_spelled (kind_of m) true)) (exports_spelled n (gap none))
+  exports_spelled n (part m (gap (part k ps))) = once_more (behind (exported_spelled m) (separator_spelled (kind_of m) false)) (exports_spelled n (gap (part k ps)))
+  exports_spelled n (part m (gap (gap ps))) = once_more (behind (exported_spelled m) (separator_spelled (kind_of m) false)) (exports_spelled n (gap (gap ps)))
+
+  module_items_spelled : (b : Bool) (ps : Parts) → Spelled w (item_shape made.module_item_list) (module_prologue b ps)
+  module_items_spelled b none = done
+  module_items_spelled b (part n ps) = again (at_first (behind (of (is_module_item (kind_of n)) b) (just (lay feed ∷ [])))) (module_items_spelled (b && is_directive n) ps)
+    where
+      of : (c b : Bool) → Spelled w (or (piece (put module_item)) (or (piece (put (opening false))) (piece (put (item false))))) (put (cond c module_item (cond b (opening false) (item false))) ∷ [])
+      of true b = at_first (single _)
+      of false true = at_second (at_first (single _))
+      of false false = at_second (at_second (single _))
+  module_items_spelled b (gap ps) = none_of
+
+  arrow_end_spelled : (g : Flags) → Spelled w arrow_end_shape (arrow_closing g.form ∷ arrow_end g)
+  arrow_end_spelled g = behind (closing g.form) (behind (just (unbroken ∷ sp ∷ sign "=>" ∷ sp ∷ [])) (of g.expression))
     where
       of : (c : Bool) → Spelled w (or (piece (sub (tail Assignment NoBrace))) (piece (put body))) (cond c (sub (tail Assignment NoBrace)) (put body) ∷ [])
       of true = at_first (single _)
       of false = at_second (single _)
+
+      closing : (x : MethodForm) → Spelled w arrow_closing_shape (arrow_closing x ∷ [])
+      closing method_form.Async = at_first (single _)
+      closing _ = at_second (single _)
 
   number_space_spelled : (ps : Parts) (g : Flags) → Spelled w (or empty (piece (lay loose))) (after_number ps g)
   number_space_spelled none g = at_first (just [])
@@ -287,16 +428,28 @@ module _ {w : List ℕ} where
   item_spelled : (i : Item) (g : Flags) (ps : Parts) → Spelled w (item_shape i) (item_pieces i w g ps)
   item_spelled (made.one q) g ps = single q
   item_spelled (made.own o) g ps = record { fits = λ ys. an_own refl }
+  item_spelled (made.these qs) g ps = just qs
   item_spelled (made.choose t first second) g ps = by_test (holds t w g ps) (just first) (just second)
   item_spelled (made.if_part n qs) g ps = given_spelled (just qs) (parts_from n ps)
   item_spelled made.number_space g ps = number_space_spelled ps g
   item_spelled made.sign_space g ps = sign_space_spelled (is w "+") (is w "-")
-  item_spelled made.link g ps = link_spelled g
+  item_spelled made.link g ps = link_spelled g (lead_kind (others ps))
   item_spelled made.edge_ending g ps = record { fits = λ ys. ended }
   item_spelled (made.bound_part b n) g ps = bound_spelled b (lead_kind (parts_from n ps))
   item_spelled (made.default_part b n) g ps = default_spelled b (lead_kind (parts_from n ps))
   item_spelled made.for_left_part g ps = for_left_spelled ps
   item_spelled made.for_first_part g ps = given_spelled (of_roles (is_declaration (lead_kind ps)) (head true) (expr Expression false Any)) ps
+  item_spelled made.selector_part g ps = selector_spelled g (lead_kind (others ps))
+  item_spelled made.class_key g ps = by_test g.computed (just (sign "[" ∷ assignment ∷ sign "]" ∷ [])) (of_roles (is_private (lead_kind ps)) private_name key)
+  item_spelled made.value_ending g ps = ended_first (λ n. behind_value (edge n)) (others ps)
+  item_spelled made.key_ending g ps = ended_first (λ n. behind_key (key_word g.computed n) g.is_static) ps
+  item_spelled (made.module_name_part n) g ps = module_name_spelled (parts_from n ps)
+  item_spelled made.exported_part g ps = exported_part_spelled (lead_kind ps)
+  item_spelled made.default_export g none = at_second (at_second (single never))
+  item_spelled made.default_export g (part n ps) = default_export_spelled n
+  item_spelled made.default_export g (gap ps) = at_second (at_second (single never))
+  item_spelled (made.import_list n) g ps = imports_spelled n (parts_from n ps)
+  item_spelled (made.export_list_from n) g ps = exports_spelled n (parts_from n ps)
   item_spelled (made.list s n) g ps = listed_spelled s (parts_from n ps)
   item_spelled (made.list_with_holes s n) g ps = elements_spelled s (parts_from n ps)
   item_spelled (made.parameter_list after n) g ps = parameters_spelled (just after) (parts_from n ps)
@@ -307,6 +460,7 @@ module _ {w : List ℕ} where
   item_spelled (made.line_list a n) g ps = lines_spelled a (parts_from n ps)
   item_spelled (made.declarator_list a) g ps = declarators_spelled a ps
   item_spelled (made.item_list r b before after) g ps = prologue_spelled r b before after ps
+  item_spelled made.module_item_list g ps = module_items_spelled true ps
 
   -- what a form makes of a node is of its shape
   pub items_spelled : (xs : List Item) (g : Flags) (ps : Parts) → Spelled w (shape_of xs) (pieces_of xs w g ps)

@@ -20,7 +20,7 @@ use Rattle.language.proofs.layout.WordsApart.{Word}
 use Rattle.language.proofs.layout.RawTemplateValues.{raw_word}
 use Rattle.std.specs.Prelude.{◌++◌, ◌∷◌, drop}
 use Rattle.std.specs.Str.{all_scalars}
-use Rattle.std.proofs.lemmas.Bool.{and_parts, and_from}
+use Rattle.std.proofs.lemmas.Bool.{and_parts, and_from, false≢true}
 use Rattle.std.proofs.lemmas.Str.{scalars-chars, IsUtf8-drop}
 
 front_scalars : (xs ys : List ℕ) → all_scalars (xs ++ ys) ≡ true → all_scalars xs ≡ true
@@ -47,6 +47,7 @@ raw_token text goal at t u p h =
 
 table_word : (c : TokenClass) (w : List ℕ) → Raw c w → Word c (table_text c w)
 table_word Template w r = raw_word w r.utf8 r.is
+table_word TokenClass.Keyword w r = absurd (false≢true r.is)
 table_word _ w r = record { utf8 = r.utf8; is = r.is; kept = refl }
 
 pub read_place : {text : List ℕ} {s t e : Token} → IsUtf8 text → IsPlace text s.stop → NextIn text any_goal s t e → IsPlace text e.stop

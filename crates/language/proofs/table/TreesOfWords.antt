@@ -1,9 +1,11 @@
 -- Trees whose first ways have words as their tokens, each shorthand key before a name of its text.
-use Rattle.std.proofs.Common.{ℕ, ◌+◌, Bool, ◌&&◌, nat_eq, List, [], ◌∷◌}
-use Rattle.tokens.specs.declared.token.TokenClass.TheVariants.{IdentifierName}
+use Rattle.std.proofs.Common.{ℕ, ◌+◌, Bool, true, not, ◌&&◌, nat_eq, List, [], ◌∷◌}
+use Rattle.tokens.specs.declared.token.TokenClass.{TokenClass}
+use Rattle.tokens.specs.declared.token.TokenClass.TheVariants.{IdentifierName, Keyword}
 use Rattle.tree.specs.Tree.{Tree, node, Parts, none, part, gap, text_of}
-use Rattle.language.specs.Pieces.{Role, shorthand_key, PieceOf, tok}
+use Rattle.language.specs.Pieces.{Role, shorthand_key, PieceOf, tok, ahead}
 use Rattle.language.specs.Grammar.{ways}
+use Rattle.language.specs.Vocabulary.{is_keyword}
 use Rattle.language.specs.RowPositions.{has_row, rows, first_roles}
 use Rattle.language.specs.Layout.{inside, first_way}
 use Rattle.language.specs.Printed.{Item, word, printed}
@@ -14,6 +16,18 @@ abbrev pub PieceWords : List (PieceOf Role) → Type 0
 PieceWords [] = Unit {0}
 PieceWords (tok c w ∷ qs) = Word c w × PieceWords qs
 PieceWords (_ ∷ qs) = PieceWords qs
+
+-- where keywords are told apart, none of these is a name; elsewhere none is a keyword
+abbrev pub name_stays : Bool → TokenClass → List ℕ → Bool
+name_stays told IdentifierName w = not (told && is_keyword w)
+name_stays told Keyword w = told
+name_stays told _ w = true
+
+abbrev pub names_stay : Bool → List (PieceOf Role) → Bool
+names_stay told [] = true
+names_stay told (tok c w ∷ qs) = name_stays told c w && names_stay told qs
+names_stay told (ahead w ∷ qs) = name_stays told IdentifierName w && names_stay told qs
+names_stay told (_ ∷ qs) = names_stay told qs
 
 -- the first item is a name of this text
 pub data NameFirst (w : List ℕ) : List Item → Type 0 where

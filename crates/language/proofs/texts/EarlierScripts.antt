@@ -34,12 +34,12 @@ use Rattle.language.specs.Vocabulary.{is, among}
 use Rattle.language.specs.Pieces.{Role, expr, chain_part, shorthand_key, template_element, script, Ending, of_do, PieceOf, tok, may, many, ahead, unbroken, ending, open_parameters, close_parameters, sub, absent, never, lay}
 use Rattle.language.specs.Pieces as pieces
 use Rattle.language.specs.Token.{Token, as_read, table_text}
-use Rattle.language.specs.Edges.{goes_on, may_omit_semicolon, edge_as_written, is_semicolon, is_end, is_sign}
+use Rattle.language.specs.Edges.{begins_no_operand, goes_on, may_omit_semicolon, edge_as_written, is_semicolon, is_end, is_sign, value_goes_on, key_goes_on, begins_key}
 use Rattle.language.specs.ExpressionStart.{ExpressionStart, no_start, expression_start, expression_start_by}
 use Rattle.language.specs.Grammar.{ways, spellings}
 use Rattle.language.specs.Places.{NextIn, next_in, itself}
 use Rattle.language.specs.Promises.{is_free, IsDetermined}
-use Rattle.language.specs.Derivation.{Among, Reads, Step, token, with_mark, without_mark, one_more, no_more, seen, same_line, explicit, implicit, laid, Placed, placed, place, Spells, direct, grouped, Runs, done, step, opened, closed, within, missing}
+use Rattle.language.specs.Derivation.{Among, Reads, Step, token, with_mark, without_mark, one_more, no_more, seen, same_line, explicit, implicit, laid, Placed, placed, place, Spells, direct, grouped, Runs, done, step, opened, closed, within, missing, left_bare, reserved_key, reserved_word}
 use Rattle.language.specs.Claims.{DerivesOpen}
 use Rattle.language.specs.Earlier.{EarlierNextIn, earlier_next_in, is_new_node, earlier_ways, EarlierDerivesOpen}
 use Rattle.language.proofs.table.Begins.{among_by, div_allows}
@@ -57,7 +57,7 @@ use Rattle.language.proofs.table.ViewIsComplete.{way_of, one}
 
 -- What an operand begins with
 
-abbrev opens_any : ExpressionStart → Bool
+abbrev pub opens_any : ExpressionStart → Bool
 opens_any no_start = false
 opens_any _ = true
 
@@ -76,7 +76,7 @@ module _ (S : Type 0) (Next : S → Token → S → Type 0) (before : S → Toke
     pub any : opens_any opening ≡ true
     pub begins : Opens S Next before det opening s
 
-  operand : {o : ℕ} {y : Rank} {i : Bool} {f : Start} {n : Tree} {s e : S} {P : List Pair} → Spells ways S Next before o (expr y i f) n s e P → Operand s
+  pub operand : {o : ℕ} {y : Rank} {i : Bool} {f : Start} {n : Tree} {s e : S} {P : List Pair} → Spells ways S Next before o (expr y i f) n s e P → Operand s
   operand {o} {s = s} d = let u = spine_of S Next before d in of u.role (grows_on_spine S Next before refl u.grows) u.core
     where
       of : {m : Tree} {e : S} {P : List Pair} (a : Role) → on_spine a ≡ true → Core S Next before o a m s e P → Operand s
@@ -99,6 +99,7 @@ module _ (S : Type 0) (Next : S → Token → S → Type 0) (before : S → Toke
   operand_next (many w ∷ qs) k d = absurd (false≢true k)
   operand_next (ahead w ∷ qs) k d = absurd (false≢true k)
   operand_next (unbroken ∷ qs) k d = absurd (false≢true k)
+  operand_next (pieces.no_operand ∷ qs) k d = absurd (false≢true k)
   operand_next (ending x ∷ qs) k d = absurd (false≢true k)
   operand_next (open_parameters ∷ qs) k d = absurd (false≢true k)
   operand_next (close_parameters ∷ qs) k d = absurd (false≢true k)
@@ -140,6 +141,22 @@ joined_ending Closed t h = refl
 joined_ending Postfix t h = longer_codes t.text h (λ v. goes_on Postfix (joined (record t { text = v })) ≡ false) refl refl refl
 joined_ending Other t h = longer_codes t.text h (λ v. goes_on Other (joined (record t { text = v })) ≡ false) refl refl refl
 
+joined_value : (x : Edge) (t : Token) → among t.text longer_today ≡ true → value_goes_on x (joined t) ≡ false
+joined_value Arrow t h = refl
+joined_value Closed t h = refl
+joined_value Postfix t h = longer_codes t.text h (λ v. value_goes_on Postfix (joined (record t { text = v })) ≡ false) refl refl refl
+joined_value Other t h = longer_codes t.text h (λ v. value_goes_on Other (joined (record t { text = v })) ≡ false) refl refl refl
+
+joined_key : (w : List ℕ) (s : Bool) (t : Token) → among t.text longer_today ≡ true → key_goes_on w s (joined t) ≡ false
+joined_key w s t h = neither (among w ("get" ∷ "set" ∷ [])) (is w "static" && not s) (begins_key (joined t)) (is_sign (joined t) && is (joined t).text "*")
+    (longer_codes t.text h (λ v. begins_key (joined (record t { text = v })) ≡ false) refl refl refl) (longer_codes t.text h (λ v. is (v ++ 61 ∷ []) "*" ≡ false) refl refl refl)
+  where
+    neither : (a c b d : Bool) → b ≡ false → d ≡ false → ((a && b) || (c && (b || d))) ≡ false
+    neither true true b d h k = ap (λ z. z || (z || d)) h ∙ k
+    neither true false b d h k = ap (λ z. z || false) h
+    neither false true b d h k = ap (λ z. z || d) h ∙ k
+    neither false false b d h k = refl
+
 joined_misses : (x : Ending) (last t : Token) → among t.text longer_today ≡ true → t.class ≡ Punctuator → IsTrue (may_omit_semicolon x last t) → IsTrue (may_omit_semicolon x last (joined t))
 joined_misses x last t h c k = of x k
   where
@@ -152,6 +169,9 @@ joined_misses x last t h c k = of x k
         by_class : (k : TokenClass) (w : List ℕ) → k ≡ Punctuator → among w longer_today ≡ true → (is_end (record t { class = k; text = w }) || (is_sign (record t { class = k; text = w }) && is w "}")) ≡ false
         by_class k w c h = ap (λ z. is_end (record t { class = z; text = w }) || (is_sign (record t { class = z; text = w }) && is w "}")) c ∙ longer_codes w h (λ v. is v "}" ≡ false) refl refl refl
 
+    move : (a b d g a' b' g' : Bool) → IsTrue (not a && (b || (d && not g))) → b ≡ false → a' ≡ false → g' ≡ false → IsTrue (not a' && (b' || (d && not g')))
+    move a b d g a' b' g' h k l m = grind (arith, nat_tests)
+
     of : (x : Ending) → IsTrue (may_omit_semicolon x last t) → IsTrue (may_omit_semicolon x last (joined t))
     of of_do k = yes _ _ semicolon
       where
@@ -160,9 +180,14 @@ joined_misses x last t h c k = of x k
         yes false true e = refl
         yes false false e = refl
     of (pieces.behind y) k = move _ _ _ _ _ _ _ k this_ends semicolon (joined_ending (edge_as_written y last) t h)
-      where
-        move : (a b d g a' b' g' : Bool) → IsTrue (not a && (b || (d && not g))) → b ≡ false → a' ≡ false → g' ≡ false → IsTrue (not a' && (b' || (d && not g')))
-        move a b d g a' b' g' h k l m = grind (arith, nat_tests)
+    of (pieces.behind_value y) k = move _ _ _ _ _ _ _ k this_ends semicolon (joined_value (edge_as_written y last) t h)
+    of (pieces.behind_key w s) k = move _ _ _ _ _ _ _ k this_ends semicolon (joined_key w s t h)
+    of pieces.of_export k = move _ _ _ _ _ _ _ k this_ends semicolon refl
+
+-- nor does a bare `yield` end before it that did not before
+joined_bare : (t : Token) → among t.text longer_today ≡ true → t.class ≡ Punctuator → IsTrue (begins_no_operand t) → IsTrue (begins_no_operand (joined t))
+joined_bare t h c k = longer_codes t.text h (λ v. IsTrue (begins_no_operand (record t { class = Punctuator; text = v })) → IsTrue (begins_no_operand (joined (record t { text = v })))) (λ z. z) (λ z. z) (λ z. z)
+    (subst (λ y. IsTrue (begins_no_operand (record t { class = y }))) c k)
 
 -- a node's place looks at the start of its first token, that of a shorthand key aside
 place_same : (a : Role) (t v l : Token) → (a ≡ shorthand_key → ⊥) → v.start ≡ t.start → place a v l ≡ place a t l
@@ -233,6 +258,13 @@ module _ (text : List ℕ) (u : IsUtf8 text) where
       of (as_it_is n) = same_line n h
       of (goes_further y) = same_line y.next h
 
+  left_bare_now : {s t e : Token} → Good text u s → Before s t e → IsTrue (begins_no_operand t) → Step Token After itself pieces.no_operand s s
+  left_bare_now {s} {t} {e} g x h = of (read_today text u s t e g x)
+    where
+      of : Today text s t → Step Token After itself pieces.no_operand s s
+      of (as_it_is n) = left_bare n h
+      of (goes_further y) = left_bare y.next (joined_bare t y.word y.class h)
+
   implicit_now : {x : Ending} {s t e : Token} → Good text u s → Before s t e → IsTrue (may_omit_semicolon x s t) → Step Token After itself (ending x) s s
   implicit_now {x} {s} {t} {e} g y h = of (read_today text u s t e g y)
     where
@@ -277,6 +309,8 @@ module _ (text : List ℕ) (u : IsUtf8 text) where
         let k = was_way a n h in let d' = Runs-now (way_guarded a n k) g d in direct qs k (placed_now n a qs k g p d') d'
     Spells-now g (grouped p d q) =
         let k = stays_good text u _ _ _ g p.next in grouped (as_now refl g p) (Spells-now k d) (as_now refl (good_behind k d) q)
+    Spells-now g (reserved_key r b p) = reserved_key (as_now refl g r) b p
+    Spells-now g (reserved_word r b p) = reserved_word (as_now refl g r) b p
 
     Runs-now : {o : ℕ} {qs : List (PieceOf Role)} {ps : Parts} {s e : Token} {P : List Pair} → guarded_here qs ≡ true → Good text u s → Runs earlier_ways Token Before itself o qs ps s e P → Runs ways Token After itself o qs ps s e P
     Runs-now h g done = done
@@ -287,6 +321,7 @@ module _ (text : List ℕ) (u : IsUtf8 text) where
     Runs-now h g (step no_more d) = let k = and_parts _ _ h in step no_more (Runs-now k.1 g d)
     Runs-now h g (step (seen r) d) = step (seen (as_now refl g r)) (Runs-now h g d)
     Runs-now h g (step (same_line x k) d) = step (same_line_now g x k) (Runs-now h g d)
+    Runs-now h g (step (left_bare x k) d) = step (left_bare_now g x k) (Runs-now h g d)
     Runs-now h g (step (explicit r) d) = step (explicit (as_now refl g r)) (Runs-now h (stays_good text u _ _ _ g r.next) d)
     Runs-now h g (step (implicit x k) d) = step (implicit_now g x k) (Runs-now h g d)
     Runs-now h g (step laid d) = step laid (Runs-now h g d)

@@ -8,7 +8,7 @@ use Rattle.std.proofs.lemmas.Bool.{false≢true, and_parts}
 use Rattle.tokens.specs.Alphabet.{one_of, begins_with}
 use Rattle.tokens.specs.Comments.{begins_comment, Separators}
 use Rattle.tokens.specs.declared.token.TokenClass.{TokenClass}
-use Rattle.tokens.specs.declared.token.TokenClass.TheVariants.{IdentifierName, Punctuator, NumericLiteral, StringLiteral, Template, RegularExpressionLiteral, End}
+use Rattle.tokens.specs.declared.token.TokenClass.TheVariants.{IdentifierName, Punctuator, NumericLiteral, StringLiteral, Template, RegularExpressionLiteral, PrivateName, Keyword, End}
 use Rattle.tokens.specs.declared.token.Goal.{Goal}
 use Rattle.tokens.specs.Goals.{allows}
 use Rattle.tokens.specs.Lexical.{is_one_of_words, is_at, is_token}
@@ -113,6 +113,8 @@ module _ (text : List ℕ) (u : IsUtf8 text) where
       is_mark StringLiteral w r h = absurd (false≢true h)
       is_mark Template w r h = absurd (false≢true h)
       is_mark RegularExpressionLiteral w r h = absurd (false≢true h)
+      is_mark PrivateName w r h = absurd (false≢true h)
+      is_mark Keyword w r h = absurd (false≢true h)
       is_mark End w r h = absurd (false≢true h)
 
       by_meeting : (m : Bool) → meets_equals k.class x.word (behind text k.stop) ≡ m → Today text s (as_read k)

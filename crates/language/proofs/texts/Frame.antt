@@ -4,12 +4,13 @@ use Rattle.std.proofs.Common.{◌≡◌, ℕ, List, ◌++◌, refl, sym, subst}
 use Rattle.std.specs.Prelude.{IsTrue}
 use Rattle.tokens.specs.declared.token.TokenClass.{TokenClass}
 use Rattle.tree.specs.declared.kind.Pair.{Pair}
-use Rattle.tree.specs.Tree.{Tree, Parts, start_of, stop_of}
+use Rattle.tree.specs.declared.kind.Kind.TheVariants.{Identifier}
+use Rattle.tree.specs.Tree.{Tree, node, plain, none, Parts, start_of, stop_of}
 use Rattle.language.specs.Pieces.{Role, PieceOf}
 use Rattle.language.specs.Edges.{may_omit_semicolon}
 use Rattle.language.specs.Token.{Token}
 use Rattle.language.specs.Cursor as Cursor
-use Rattle.language.specs.Derivation.{Reads, Spells, direct, grouped, Runs, done, step, opened, closed, within, missing, Step, token, with_mark, without_mark, one_more, no_more, seen, same_line, explicit, implicit, laid, Placed, placed, place}
+use Rattle.language.specs.Derivation.{Reads, Spells, direct, grouped, Runs, done, step, opened, closed, within, missing, Step, token, with_mark, without_mark, one_more, no_more, seen, same_line, left_bare, explicit, implicit, laid, Placed, placed, place, reserved_key, reserved_word}
 
 module _ (S : Type 0) (Next : S → Token → S → Type 0) (behind : S → Token) (T : Type 0) (NextT : T → Token → T → Type 0) (behindT : T → Token) (to : S → T) (Good : S → Type 0) where
   pub record Carries : Type 0 where
@@ -36,6 +37,7 @@ module _ (Ways : Role → Tree → List (List (PieceOf Role))) (S : Type 0) (Nex
   Step-kept no_more h = h
   Step-kept (seen r) h = h
   Step-kept (same_line n k) h = h
+  Step-kept (left_bare n k) h = h
   Step-kept (explicit r) h = c.after _ _ _ r.next
   Step-kept (implicit n k) h = h
   Step-kept laid h = h
@@ -48,6 +50,7 @@ module _ (Ways : Role → Tree → List (List (PieceOf Role))) (S : Type 0) (Nex
   Step-good g no_more = g
   Step-good g (seen r) = g
   Step-good g (same_line n k) = g
+  Step-good g (left_bare n k) = g
   Step-good g (explicit r) = Reads-good g r
   Step-good g (implicit n k) = g
   Step-good g laid = g
@@ -56,6 +59,8 @@ module _ (Ways : Role → Tree → List (List (PieceOf Role))) (S : Type 0) (Nex
     Spells-kept : {o : ℕ} {a : Role} {n : Tree} {s e : S} {P : List Pair} → Spells Ways S Next behind o a n s e P → Kept s → Kept e
     Spells-kept (direct qs h p d) k = Runs-kept d k
     Spells-kept (grouped p d q) k = c.after _ _ _ q.next
+    Spells-kept (reserved_key r b p) k = c.after _ _ _ r.next
+    Spells-kept (reserved_word r b p) k = c.after _ _ _ r.next
 
     Runs-kept : {o : ℕ} {qs : List (PieceOf Role)} {ps : Parts} {s e : S} {P : List Pair} → Runs Ways S Next behind o qs ps s e P → Kept s → Kept e
     Runs-kept done h = h
@@ -69,6 +74,8 @@ module _ (Ways : Role → Tree → List (List (PieceOf Role))) (S : Type 0) (Nex
     pub Spells-good : {o : ℕ} {a : Role} {n : Tree} {s e : S} {P : List Pair} → Good s → Spells Ways S Next behind o a n s e P → Good e
     Spells-good g (direct qs h p d) = Runs-good g d
     Spells-good g (grouped p d q) = Reads-good (Spells-good (Reads-good g p) d) q
+    Spells-good g (reserved_key r b p) = Reads-good g r
+    Spells-good g (reserved_word r b p) = Reads-good g r
 
     Runs-good : {o : ℕ} {qs : List (PieceOf Role)} {ps : Parts} {s e : S} {P : List Pair} → Good s → Runs Ways S Next behind o qs ps s e P → Good e
     Runs-good g done = g
@@ -86,6 +93,7 @@ module _ (Ways : Role → Tree → List (List (PieceOf Role))) (S : Type 0) (Nex
   Step-to g no_more = no_more
   Step-to g (seen r) = seen (Reads-to g r)
   Step-to g (same_line n h) = same_line (c.next _ _ _ g n) h
+  Step-to g (left_bare n h) = left_bare (c.next _ _ _ g n) h
   Step-to g (explicit r) = explicit (Reads-to g r)
   Step-to g (implicit {x = x} {t = t} n h) = implicit (c.next _ _ _ g n) (subst (λ b. IsTrue (may_omit_semicolon x b t)) (sym (c.before _ _ _ n)) h)
   Step-to g laid = laid
@@ -100,6 +108,8 @@ module _ (Ways : Role → Tree → List (List (PieceOf Role))) (S : Type 0) (Nex
     pub Spells-to : {o : ℕ} {a : Role} {n : Tree} {s e : S} {P : List Pair} → Good s → Spells Ways S Next behind o a n s e P → Spells Ways T NextT behindT o a n (to s) (to e) P
     Spells-to g (direct qs h p d) = direct qs h (Placed-to g (Runs-kept d (before_placed p)) p) (Runs-to g d)
     Spells-to g (grouped p d q) = let k = Reads-good g p in grouped (Reads-to g p) (Spells-to k d) (Reads-to (Spells-good k d) q)
+    Spells-to g (reserved_key {n = n} {w = w} {t = t} r b p) = reserved_key (Reads-to g r) b (subst (λ (x : Token). n ≡ node Identifier w plain t.start x.stop none) (sym (c.after _ _ _ r.next)) p)
+    Spells-to g (reserved_word {n = n} {w = w} {t = t} r b p) = reserved_word (Reads-to g r) b (subst (λ (x : Token). n ≡ node Identifier w plain t.start x.stop none) (sym (c.after _ _ _ r.next)) p)
 
     pub Runs-to : {o : ℕ} {qs : List (PieceOf Role)} {ps : Parts} {s e : S} {P : List Pair} → Good s → Runs Ways S Next behind o qs ps s e P → Runs Ways T NextT behindT o qs ps (to s) (to e) P
     Runs-to g done = done

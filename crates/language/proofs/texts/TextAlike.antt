@@ -1,14 +1,18 @@
 -- At a text's own places what one goal reads begins with `}` where what another reads does.
-use Rattle.std.proofs.Common.{◌≡◌, ℕ, Bool, List, [], ◌∷◌, ◌++◌, refl, sym, ap, ◌∙◌, arith, append_assoc}
-use Rattle.std.specs.Prelude.{IsTrue}
+use Rattle.std.proofs.Common.{◌≡◌, inl, inr, ℕ, Bool, true, subst, List, [], ◌∷◌, ◌++◌, refl, sym, ap, ◌∙◌, arith, append_assoc}
+use Rattle.std.specs.Prelude.{IsTrue, ◌⊎◌}
+use Rattle.std.proofs.lemmas.Bool.{false≢true}
+use Rattle.std.proofs.lemmas.Bool.Decides.{nat_tests}
 use Rattle.tokens.specs.declared.token.TokenClass.{TokenClass}
-use Rattle.tokens.specs.declared.token.TokenClass.TheVariants.{IdentifierName, Punctuator, NumericLiteral, StringLiteral, Template, RegularExpressionLiteral, End}
+use Rattle.tokens.specs.declared.token.TokenClass.TheVariants.{IdentifierName, Punctuator, NumericLiteral, StringLiteral, Template, RegularExpressionLiteral, PrivateName, Keyword, End}
 use Rattle.tokens.specs.declared.token.Goal.{Goal}
 use Rattle.tokens.specs.Alphabet.{one_of, begins_with}
 use Rattle.tokens.specs.Lexical.{is_token}
 use Rattle.tokens.specs.Tokens.{LexicalToken, IsTokenAt}
 use Rattle.tokens.specs.Reading.{any_goal}
-use Rattle.tokens.proofs.Classes.{token_is, token_may}
+use Rattle.tokens.specs.TokenStarts.{class_of}
+use Rattle.tokens.specs.Reading.{behind}
+use Rattle.tokens.proofs.Classes.{token_is, token_may, class_fits}
 use Rattle.language.specs.Token.{Token, table_text, as_read}
 use Rattle.language.specs.Places.{NextIn, next_in, itself}
 use Rattle.language.specs.Following.{IsAlike}
@@ -29,6 +33,8 @@ word_begins test NumericLiteral [] rest h = let u = token_is NumericLiteral [] r
 word_begins test StringLiteral [] rest h = let u = token_is StringLiteral [] rest h in cc
 word_begins test Template [] rest h = let u = token_is Template [] rest h in cc
 word_begins test RegularExpressionLiteral [] rest h = let u = token_is RegularExpressionLiteral [] rest h in cc
+word_begins test PrivateName [] rest h = let u = token_is PrivateName [] rest h in cc
+word_begins test Keyword [] rest h = let u = token_is Keyword [] rest h in cc
 
 -- and as it is read
 table_begins : (c : TokenClass) (w : List ℕ) → begins_with (one_of "}") (table_text c w) ≡ begins_with (one_of "}") w
@@ -45,6 +51,27 @@ same_rest {ra = ra} {rb = rb} x y = cancel x.gap (x.word ++ ra) (y.word ++ rb) (
 same_brace : (text : List ℕ) (s a b e f : Token) → NextIn text any_goal s a e → NextIn text any_goal s b f → begins_with (one_of "}") a.text ≡ begins_with (one_of "}") b.text
 same_brace text s a b e f (next_in goal any x) (next_in other any' y) = read_begins x ∙ ap (begins_with (one_of "}")) (same_rest x y) ∙ sym (read_begins y)
 
+is_brace : (c : ℕ) → one_of "}" c ≡ true → c ≡ 125
+is_brace c h = grind (arith, nat_tests)
+
+-- the class of what begins with `}`, by a goal
+goal_class : (g : Goal) (cs : List ℕ) → (class_of g (125 ∷ cs) ≡ Punctuator) ⊎ (class_of g (125 ∷ cs) ≡ Template)
+goal_class Goal.Div cs = inl refl
+goal_class Goal.RegExp cs = inl refl
+goal_class Goal.TemplateTail cs = inr refl
+
+brace_class : (g : Goal) (cs : List ℕ) → begins_with (one_of "}") cs ≡ true → (class_of g cs ≡ Punctuator) ⊎ (class_of g cs ≡ Template)
+brace_class g [] h = absurd (false≢true h)
+brace_class g (c ∷ cs) h = subst (λ z. (class_of g (z ∷ cs) ≡ Punctuator) ⊎ (class_of g (z ∷ cs) ≡ Template)) (sym (is_brace c h)) (goal_class g cs)
+
+as_either : {k l : TokenClass} → k ≡ l → (l ≡ Punctuator) ⊎ (l ≡ Template) → (k ≡ Punctuator) ⊎ (k ≡ Template)
+as_either e (inl h) = inl (e ∙ h)
+as_either e (inr h) = inr (e ∙ h)
+
+brace_sort : (text : List ℕ) (s a e : Token) → NextIn text any_goal s a e → begins_with (one_of "}") a.text ≡ true → (a.class ≡ Punctuator) ⊎ (a.class ≡ Template)
+brace_sort text s a e (next_in {t = t} goal any x) h =
+    as_either (class_fits goal t.class x.word (behind text t.stop) x.longest x.allowed) (brace_class goal (x.word ++ behind text t.stop) (sym (read_begins x) ∙ h))
+
 -- so they begin alike
 pub text_alike : (text : List ℕ) → IsAlike Token (NextIn text any_goal) itself
-text_alike text = record { brace = same_brace text }
+text_alike text = record { brace = same_brace text; sort = brace_sort text }

@@ -7,11 +7,11 @@ use Rattle.std.specs.List.{list_all, list_any}
 use Rattle.std.proofs.lemmas.Bool.Decides.{nat_tests}
 use Rattle.std.proofs.lemmas.Str.{byte_from_char, char_from_byte, length-encode, len_utf8_bounds}
 use Rattle.tokens.specs.declared.token.TokenClass.{TokenClass}
-use Rattle.tokens.specs.declared.token.TokenClass.TheVariants.{IdentifierName, Punctuator, NumericLiteral, StringLiteral, Template, RegularExpressionLiteral, End}
+use Rattle.tokens.specs.declared.token.TokenClass.TheVariants.{IdentifierName, Punctuator, NumericLiteral, StringLiteral, Template, RegularExpressionLiteral, PrivateName, Keyword, End}
 use Rattle.tokens.specs.Alphabet.{one_of, begins_with, is_decimal_digit, is_identifier_start, is_identifier_part, carriage_return, line_feed}
 use Rattle.tokens.specs.Strings.{closes_string}
 use Rattle.tokens.specs.Templates.{raw_value, raw_after}
-use Rattle.tokens.specs.Lexical.{is_of}
+use Rattle.tokens.specs.Lexical.{is_of, is_name}
 use Rattle.tokens.specs.declared.token.Goal.{Goal}
 use Rattle.tokens.specs.Goals.{allows, is_regexp, is_template_part, reads_regexps, reads_template_parts}
 use Rattle.tokens.specs.Tokens.{LexicalToken, IsTokenAt, size}
@@ -72,6 +72,8 @@ table_allows g Punctuator w = refl
 table_allows g NumericLiteral w = refl
 table_allows g StringLiteral w = refl
 table_allows g RegularExpressionLiteral w = refl
+table_allows g PrivateName w = refl
+table_allows g Keyword w = refl
 table_allows g End w = refl
 
 read_allows : (g : Goal) (t : LexicalToken) (w : List ℕ) → t.text ≡ encode_utf8_all w → allows g (as_read t).class (as_read t).text ≡ allows g t.class w
@@ -105,6 +107,15 @@ plain_begins End (c ∷ cs) f h = cc
 plain_begins Punctuator w f h = cc
 plain_begins Template w f h = cc
 plain_begins RegularExpressionLiteral w f h = cc
+plain_begins PrivateName [] f h = cc
+plain_begins PrivateName (c ∷ cs) f h = start c (first_true (one_of "#" c) (is_name cs) h)
+  where
+    first_true : (a b : Bool) → IsTrue (a && b) → IsTrue a
+    first_true a b h = grind (arith, nat_tests)
+
+    start : (c : ℕ) → IsTrue (one_of "#" c) → (one_of "/" c ≡ false) × (one_of "}" c ≡ false)
+    start c h = (grind (arith, nat_tests), grind (arith, nat_tests))
+plain_begins Keyword w f h = cc
 
 free_allows : (g : Goal) (c : TokenClass) (w : List ℕ) → is_free c ≡ true → is_of c w ≡ true → allows g c w ≡ true
 free_allows g c w f h = let u = plain_begins c w f h in

@@ -9,13 +9,14 @@ use Rattle.language.specs.declared.Start.{Start}
 use Rattle.language.specs.Covers.{Reading, as_expression}
 use Rattle.language.specs.Pieces.{expr}
 use Rattle.language.specs.Token.{Token}
-use Rattle.language.specs.Places.{SpellsIn}
 use Rattle.parser_tables.specs.declared.operand.Operand.{Operand}
 use Rattle.parser_tables.specs.declared.expression_context.ExpressionContext.{ExpressionContext}
 use Rattle.recursive_descent.specs.Completeness.{Agrees, EndsWith, IsFirst, StopsIn, GivenAs, an_expression}
 use Rattle.parser_tables.specs.Outcomes.{MakesAs, YieldsWhere}
 use Rattle.recursive_descent.proofs.complete_expressions.Agreement.{refuses_where, refuses_made_as}
 use Rattle.token_cursor.specs.CursorState.{CursorState}
+use Rattle.recursive_descent.specs.Spelled.{SpellsIn}
+use Rattle.token_cursor.specs.SourceText.{SourceText}
 
 -- this where it fits, which it does
 pub agrees_where : {X : Type 0} (W : Type 0) (Same : X → Type 0) (x : X) (At : ℕ → Type 0) (fits : Bool) (levels high : ℕ) (r : Result X Fault) → YieldsWhere x At fits levels high r → fits ≡ true → (W → levels ≤ high) → Same x → Agrees W Same r
@@ -34,7 +35,7 @@ agrees_more V W Same More (Err Rattle.source_text.specs.declared.fault.Fault.The
 agrees_more V W Same More (Err _) h f g = absurd h
 
 -- an expression that is given at a position by its parts
-pub expression_given : {text text' : List ℕ} {y : Rank} {i : Bool} {f : Start} {p : ExpressionContext} {o : ℕ} {n : Tree} {s s' e : Token} {P : List Pair} → text' ≡ text → s' ≡ s → p ≡ record { rank = y; has_in = i; start = f } → (y ≡ Conditional → ⊥) → (y ≡ New → ⊥) → SpellsIn text o (expr y i f) n s e P → StopsIn text y i n e → GivenAs text' p o n s' e P as_expression
+pub expression_given : {text text' : SourceText} {y : Rank} {i : Bool} {f : Start} {p : ExpressionContext} {o : ℕ} {n : Tree} {s s' e : Token} {P : List Pair} → text' ≡ text → s' ≡ s → p ≡ record { rank = y; has_in = i; start = f } → (y ≡ Conditional → ⊥) → (y ≡ New → ⊥) → SpellsIn text o (expr y i f) n s e P → StopsIn text y i n e → GivenAs text' p o n s' e P as_expression
 expression_given {text} {y = y} {i} {f} {p} {o} {n} {s} {s'} {e} {P} texts places is no_test no_new d stopped =
     subst (λ x. GivenAs x p o n s' e P as_expression) (sym texts) (subst (λ x. GivenAs text p o n x e P as_expression) (sym places) (subst (λ (x : ExpressionContext). GivenAs text x o n s e P as_expression) (sym is) (an_expression no_test no_new d stopped)))
 

@@ -1,11 +1,10 @@
 -- How what was answered, or refused, agrees with a derivation that is given, from how its parts do.
 use Rattle.std.proofs.Common.{◌≡◌, ℕ, suc, ◌≤◌, ◌<◌, ◌-◌, Bool, true, List, [], ◌++◌, Result, Ok, Err, refl, sym, ap, ◌∙◌, subst, arith, append_assoc}
-use Rattle.std.specs.Result.{IsErrAnd, IsOkAnd}
+use Rattle.std.specs.Result.{IfOk, IsErrAnd}
 use Rattle.std.proofs.lemmas.Bool.{false≢true}
 use Rattle.std.proofs.lemmas.List.{append-nil}
 use Rattle.source_text.specs.declared.fault.Fault.{Fault}
 use Rattle.source_text.specs.declared.fault.Fault.TheVariants.{Syntax, TooDeep, OutOfMemory}
-use Rattle.tokens.specs.Reading.{any_goal}
 use Rattle.tokens.specs.declared.token.TokenClass.{TokenClass}
 use Rattle.tokens.specs.declared.token.TokenClass.TheVariants.{IdentifierName, Punctuator}
 use Rattle.tokens.specs.declared.token.Goal.TheVariants.{Div}
@@ -14,9 +13,8 @@ use Rattle.tree.specs.declared.kind.Pair.{Pair}
 use Rattle.tree.specs.Tree.{Tree, height}
 use Rattle.language.specs.Token.{Token}
 use Rattle.language.specs.Derivation.{Reads}
-use Rattle.language.specs.Places.{NextIn, itself}
 use Rattle.language.specs.Claims.{max_open}
-use Rattle.language.proofs.texts.TextOffsets.{text_determined}
+use Rattle.token_cursor.proofs.SeenTokens.{seen_determined}
 use Rattle.productions.specs.Made.{Makes}
 use Rattle.recursive_descent.specs.Completeness.{Agrees, Room, EndsWith}
 use Rattle.token_cursor.specs.CursorState.{IsSyntaxHere}
@@ -24,6 +22,7 @@ use Rattle.parser_tables.specs.Outcomes.{BecomesHere, MakesAs, RefusedAbove, Ref
 use Rattle.token_cursor.specs.Seen.{ReadsHere, Misses}
 use Rattle.recursive_descent.proofs.reading.AddedPairs.{grouping_both}
 use Rattle.token_cursor.proofs.TokensAhead.{mark_by, name_by}
+use Rattle.token_cursor.specs.SourceText.{SourceText, SeenNext, behind_in}
 
 -- how this fault agrees with what is given: what is left of `Agrees W Same (Err fault)`
 abbrev pub Refuses : Type 0 → Fault → Type 0
@@ -45,10 +44,14 @@ agrees_err W Same (Err other) fault is h = subst (λ (x : Fault). Refuses W x) (
 pub agrees_on : {X : Type 0} (Inner W : Type 0) (Same : X → Type 0) (answer : Result X Fault) (fault : Fault) → IsErrAnd answer (λ e. e ≡ fault) → Refuses Inner fault → (W → Inner) → Agrees W Same answer
 agrees_on Inner W Same answer fault is h f = agrees_err W Same answer fault is (refuses_on Inner W fault h f)
 
--- an answer
-pub agrees_ok : {X : Type 0} (W : Type 0) (Same : X → Type 0) (answer : Result X Fault) (x : X) → IsOkAnd answer (λ y. y ≡ x) → Same x → Agrees W Same answer
-agrees_ok W Same (Ok y) x is h = subst Same (sym is) h
-agrees_ok W Same (Err fault) x is h = absurd is
+-- an answer to what is given, as one to more; with what else is known of it
+pub agrees_map : {X : Type 0} (W V : Type 0) (Same Also : X → Type 0) (result : Result X Fault) → Agrees W Same result → (V → W) → ((x : X) → Same x → Also x) → Agrees V Also result
+agrees_map W V Same Also (Ok x) h g f = f x h
+agrees_map W V Same Also (Err fault) h g f = refuses_on W V fault h g
+
+pub agrees_as : {X : Type 0} (Inner W : Type 0) (D SameInner Same : X → Type 0) (result : Result X Fault) → IfOk result D → Agrees Inner SameInner result → (W → Inner) → ((x : X) → D x → SameInner x → Same x) → Agrees W Same result
+agrees_as Inner W D SameInner Same (Ok x) d h room f = f x d h
+agrees_as Inner W D SameInner Same (Err fault) d h room f = refuses_on Inner W fault h room
 
 -- memory is refused
 pub refuses_memory : (W : Type 0) (fault : Fault) → fault ≡ OutOfMemory → Refuses W fault
@@ -101,20 +104,20 @@ pub room_part : (s m : CursorState) {o levels high less lower : ℕ} → m.opene
 room_part s m {o} same f room = (subst (λ k. o ≤ max_open - k) (sym same) room.0, f room.1)
 
 -- where a token is read that another doesn't miss
-pub not_missed : {text : List ℕ} {c : TokenClass} {w : List ℕ} {s t e : Token} → Misses text c w s → Reads Token (NextIn text any_goal) itself c w s t e → ⊥
+pub not_missed : {text : SourceText} {c : TokenClass} {w : List ℕ} {s t e : Token} → Misses text c w s → Reads Token (SeenNext text) (behind_in text) c w s t e → ⊥
 not_missed {t = t} {e = e} misses read = misses t e read
 
 -- two signs, and two words, that are read at one place are one token, behind which reading goes on at one place
-module _ (text : List ℕ) where
-  pub marks_same : {v w : List ℕ} {s t e u k : Token} → Reads Token (NextIn text any_goal) itself Punctuator v s t e → Reads Token (NextIn text any_goal) itself Punctuator w s u k → (t ≡ u) × (e ≡ k)
-  marks_same {s = s} {t = t} {e = e} {u = u} {k = k} a b = (text_determined text).same Div s t u e k a.next b.next (mark_by text a).allowed (mark_by text b).allowed
+module _ (text : SourceText) where
+  pub marks_same : {v w : List ℕ} {s t e u k : Token} → Reads Token (SeenNext text) (behind_in text) Punctuator v s t e → Reads Token (SeenNext text) (behind_in text) Punctuator w s u k → (t ≡ u) × (e ≡ k)
+  marks_same {s = s} {t = t} {e = e} {u = u} {k = k} a b = (seen_determined text).same Div s t u e k a.next b.next (mark_by text a).allowed (mark_by text b).allowed
 
-  pub words_same : {v w : List ℕ} {s t e u k : Token} → Reads Token (NextIn text any_goal) itself IdentifierName v s t e → Reads Token (NextIn text any_goal) itself IdentifierName w s u k → (t ≡ u) × (e ≡ k)
-  words_same {s = s} {t = t} {e = e} {u = u} {k = k} a b = (text_determined text).same Div s t u e k a.next b.next (name_by text a).allowed (name_by text b).allowed
+  pub words_same : {v w : List ℕ} {s t e u k : Token} → Reads Token (SeenNext text) (behind_in text) IdentifierName v s t e → Reads Token (SeenNext text) (behind_in text) IdentifierName w s u k → (t ≡ u) × (e ≡ k)
+  words_same {s = s} {t = t} {e = e} {u = u} {k = k} a b = (seen_determined text).same Div s t u e k a.next b.next (name_by text a).allowed (name_by text b).allowed
 
   -- the place behind a token that is read is the token
-  pub read_here : {c : TokenClass} {w : List ℕ} {s t e : Token} → Reads Token (NextIn text any_goal) itself c w s t e → ReadsHere text c w s e
-  read_here {c} {w} {s} {t} {e} r = subst (λ x. Reads Token (NextIn text any_goal) itself c w s x e) (sym ((text_determined text).last s t e r.next)) r
+  pub read_here : {c : TokenClass} {w : List ℕ} {s t e : Token} → Reads Token (SeenNext text) (behind_in text) c w s t e → ReadsHere text c w s e
+  read_here {c} {w} {s} {t} {e} r = subst (λ x. Reads Token (SeenNext text) (behind_in text) c w s x e) (sym ((seen_determined text).last s t e r.next)) r
 
 -- the same pairs
 pub ends_same : {s e : CursorState} {old new : List Pair} {to : Token} {P Q : List Pair} → P ≡ Q → EndsWith s e old new to P → EndsWith s e old new to Q

@@ -1,6 +1,6 @@
 -- The node with an operator with two sides on the spine of a whole that can't go on.
 use Rattle.std.proofs.Common.{◌≡◌, ℕ, Bool, true, false, cond, List, ◌++◌, refl, sym, ap, ◌∙◌, subst, arith}
-use Rattle.std.specs.Prelude.{IsTrue, Some}
+use Rattle.std.specs.Prelude.{IsTrue}
 use Rattle.std.proofs.lemmas.Bool.{false≢true}
 use Rattle.tokens.specs.declared.token.TokenClass.TheVariants.{IdentifierName, Punctuator}
 use Rattle.tokens.specs.declared.token.Goal.TheVariants.{Div}
@@ -20,7 +20,7 @@ use Rattle.language.specs.Vocabulary.{takes, precedence, is_word_operator, is_ta
 use Rattle.language.specs.Pieces.{Role, expr, PieceOf}
 use Rattle.language.specs.Token.{Token}
 use Rattle.language.specs.Edges.{edge, edge_as_written}
-use Rattle.language.specs.Continuations.{operation, rank_made_by, stops}
+use Rattle.language.specs.Continuations.{operation, stops}
 use Rattle.language.specs.Promises.{IsDetermined, ReadBy, Stops}
 use Rattle.language.specs.Grammar.{ways}
 use Rattle.language.specs.Derivation.{Spells, Placed}
@@ -56,11 +56,6 @@ two_led : {y : Rank} {i : Bool} {f : Start} {k : Kind} {w : List ℕ} {g : Flags
 two_led two_binds (led_binary k op tk im b e) = record { kind = k; head = rank_is b; stands = tk; target = λ c. cc; rest_is = e }
 two_led two_powers (led_power k op tk b e) = record { kind = k; head = rank_is b; stands = tk; target = λ c. cc; rest_is = e }
 two_led two_assigns (led_assign k op ta tk b e) = record { kind = k; head = rank_is b; stands = tk; target = λ c. ta; rest_is = e }
-
-pub two_symbol : {x : Operator} {K : Kind} {a z q : Rank} {b : Bool} → (n : Bool) → TwoSided x K a z q b → rank_made_by x n ≡ Some z
-two_symbol n two_binds = refl
-two_symbol n two_powers = refl
-two_symbol n two_assigns = refl
 
 two_tails : {x : Operator} {K : Kind} {a z q : Rank} {b : Bool} → (w : List ℕ) → operator_of w ≡ x → TwoSided x K a z q b → Tails z q
 two_tails w op (two_binds {z = z} {q = q}) = tails_binary z q (binding w op)

@@ -3,7 +3,6 @@ use Rattle.std.proofs.Common.{◌≡◌, ℕ, ◌-◌, Bool, false, List, refl, 
 use Rattle.std.specs.Prelude.{Some}
 use Rattle.tokens.specs.declared.token.Goal.TheVariants.{Div}
 use Rattle.tokens.specs.Tokens.{LexicalToken}
-use Rattle.tokens.specs.Reading.{any_goal}
 use Rattle.token_cursor.specs.CursorState.{CursorState, IsAhead}
 use Rattle.tree.specs.declared.kind.Kind.{Kind}
 use Rattle.tree.specs.declared.kind.Flags.{Flags}
@@ -17,9 +16,8 @@ use Rattle.language.specs.Pieces.{Role, PieceOf}
 use Rattle.language.specs.Continuations.{operation}
 use Rattle.language.specs.Promises.{ReadBy}
 use Rattle.language.specs.Covers.{Reading}
-use Rattle.language.specs.Places.{NextIn, itself}
 use Rattle.language.specs.Claims.{max_open}
-use Rattle.language.proofs.texts.TextOffsets.{text_determined}
+use Rattle.token_cursor.proofs.SeenTokens.{seen_determined}
 use Rattle.language.proofs.table.LeftRecursiveWays.{Led}
 use Rattle.language.proofs.climbing.NoContinuation.{goes_where_not}
 use Rattle.language.proofs.climbing.OperatorLoop.{led_on}
@@ -34,6 +32,7 @@ use Rattle.recursive_descent.specs.Stages.{StageAs}
 use Rattle.token_cursor.proofs.TokensAhead.{ahead_read}
 use Rattle.recursive_descent.proofs.complete_expressions.SpineTurns.{goes_there}
 use Rattle.recursive_descent.proofs.complete_expressions.StageTurns.{OnSpine, spined, spine_only}
+use Rattle.token_cursor.specs.SourceText.{SeenNext, behind_in, unseen}
 
 arrows_by : (x : Operator) (w : List ℕ) → coded_operator x w ≡ Some code.FatArrow → x ≡ op_arrow
 arrows_by op_arrow w h = refl
@@ -47,7 +46,7 @@ pub no_arrow : (s : CursorState) (p : ExpressionContext) (l : Operand) (v : Lexi
     (a : Reading) (o : ℕ) (n : Tree) (from to : Token) (P Q R : List Pair) → ReadAt s.text p l (max_open - s.opened) from s.last R → StageAs s.text p o from to P l s.last Q a n → ⊥
 no_arrow s p l v ahead coded is goes a o n from to P Q R read stage = of (spine_only s.text p o from to P l s.last Q a n read.part.begins read.part.edge r goes (λ h. let k : op_arrow ≡ op_assign = sym op ∙ h in cc) stage)
   where
-    r : ReadBy Token (NextIn s.text any_goal) itself Div s.last (as_read v) (as_read v)
+    r : ReadBy Token (SeenNext s.text) (behind_in s.text) Div s.last (as_read v) (unseen (as_read v))
     r = ahead_read s.text Div s.last v ahead
 
     op : operation (as_read v) ≡ op_arrow
@@ -55,5 +54,5 @@ no_arrow s p l v ahead coded is goes a o n from to P Q R read stage = of (spine_
 
     of : OnSpine s.text p o from to P l s.last Q a n read.part.begins read.part.edge r goes → ⊥
     of (spined serves high u) =
-        let on = led_on Token (NextIn s.text any_goal) itself (text_determined s.text) r op (λ q. cc) (goes_where_not Token (NextIn s.text any_goal) itself (text_determined s.text) p.rank p.has_in r u.stopped (goes_there s.text p l s.last (as_read v) read.part.edge goes)) u.leads.spelled u.leads.grows in
+        let on = led_on Token (SeenNext s.text) (behind_in s.text) (seen_determined s.text) r op (λ q. cc) (goes_where_not Token (SeenNext s.text) (behind_in s.text) (seen_determined s.text) p.rank p.has_in r u.stopped (goes_there s.text p l s.last (as_read v) read.part.edge goes)) u.leads.spelled u.leads.grows in
         arrows_led on.led

@@ -8,7 +8,6 @@ use Rattle.tokens.specs.declared.token.Goal.TheVariants.{Div}
 use Rattle.tokens.specs.declared.token.Token.{Token as Scanned}
 use Rattle.tokens.specs.Scanned.{token_of}
 use Rattle.tokens.specs.Tokens.{LexicalToken}
-use Rattle.tokens.specs.Reading.{any_goal}
 use Rattle.token_cursor.specs.CursorState.{CursorState, IsAhead}
 use Rattle.tree.specs.declared.kind.Pair.{Pair}
 use Rattle.tree.specs.Tree.{Tree, node, plain, part, height}
@@ -21,8 +20,7 @@ use Rattle.language.specs.Edges.{edge, edge_as_written}
 use Rattle.language.specs.Continuations.{operation, rank_made_by}
 use Rattle.language.specs.Promises.{ReadBy}
 use Rattle.language.specs.Covers.{Reading}
-use Rattle.language.specs.Places.{NextIn, itself}
-use Rattle.language.proofs.texts.TextOffsets.{text_determined}
+use Rattle.token_cursor.proofs.SeenTokens.{seen_determined}
 use Rattle.language.proofs.climbing.SpineContinuations.{makes}
 use Rattle.language.proofs.climbing.Conditionals.{read_there}
 use Rattle.parser_tables.specs.declared.operand.Operand.{Operand}
@@ -45,6 +43,7 @@ use Rattle.recursive_descent.proofs.reading.PatternEnds.{over_stops_at, each_sto
 use Rattle.recursive_descent.proofs.complete_expressions.SpineTurns.{goes_there}
 use Rattle.recursive_descent.proofs.complete_expressions.RightOperandStages.{SidesOn, binary_on, power_on, assign_on, ask_sides, pattern_on, default_on}
 use Rattle.recursive_descent.proofs.complete_subscripts.SubscriptsOnSpine.{LinkOn, dot_link, index_link, call_link, tag_link}
+use Rattle.token_cursor.specs.SourceText.{SourceText, SeenNext, behind_in, unseen}
 
 coded_same : {a b : Coded} → Some a ≡ Some b → a ≡ b
 coded_same h = cc
@@ -94,28 +93,28 @@ agrees_through Inner W SameInner Same (Err fault) h f g = refuses_on Inner W fau
 ok_then : {X : Type 0} (B : X → Type 0) (result : Result X Fault) {x : X} → IfOk result B → result ≡ Ok x → B x
 ok_then B result {x} h e = subst (λ r. IfOk r B) e h
 
-pub staged : {text : List ℕ} {p : ExpressionContext} {o : ℕ} {s to at : Token} {P Q M : List Pair} {r : Operand} {a : Reading} {n : Tree} (m e : CursorState) {old new : List Pair} → EndsWith m e old new at M → StageAs text p o s to P r at (Q ++ M) a n → Staged text p o s to P r e.last Q old new a n
+pub staged : {text : SourceText} {p : ExpressionContext} {o : ℕ} {s to at : Token} {P Q M : List Pair} {r : Operand} {a : Reading} {n : Tree} (m e : CursorState) {old new : List Pair} → EndsWith m e old new at M → StageAs text p o s to P r at (Q ++ M) a n → Staged text p o s to P r e.last Q old new a n
 staged {text} {p} {o} {s} {to} {at} {P} {Q} {M} {r} {a} {n} m e ends stage = record {
   more = ends.more;
   added = ends.added;
   stage = subst (λ v. StageAs text p o s to P r v (Q ++ grouping ends.more) a n) (sym ends.place) (subst (λ v. StageAs text p o s to P r at (Q ++ v) a n) (sym ends.pairs) stage);
 }
 
-module _ (text : List ℕ) where
+module _ (text : SourceText) where
   -- where it has ended nothing goes on
-  pub no_end : {p : ExpressionContext} {e m t x : Token} (c : Edge) → EndsOver text p e → m ≡ e → ReadBy Token (NextIn text any_goal) itself Div m t x → stops_by p c t ≡ false → ⊥
+  pub no_end : {p : ExpressionContext} {e m t x : Token} (c : Edge) → EndsOver text p e → m ≡ e → ReadBy Token (SeenNext text) (behind_in text) Div m t x → stops_by p c t ≡ false → ⊥
   no_end {p} {e} {m} {t} {x} c (an_element is over) place r goes =
-      let r' = subst (λ v. ReadBy Token (NextIn text any_goal) itself Div v t x) place r in
-      false≢true (sym (subst (λ q. stops_by q c t ≡ false) is goes) ∙ over_stops_at Rattle.language.specs.declared.Rank.TheVariants.Assignment true c t (rank_made_by (operation t) t.after_break) refl (over t x r'))
-  no_end {p} {e} {m} {t} {x} c (a_target is each) place r goes =
-      let r' = subst (λ v. ReadBy Token (NextIn text any_goal) itself Div v t x) place r in
+      let r' = subst (λ v. ReadBy Token (SeenNext text) (behind_in text) Div v t x) place r in
+      false≢true (sym (subst (λ q. stops_by q c t ≡ false) is goes) ∙ over_stops_at Rattle.language.specs.declared.Rank.TheVariants.Assignment true c t (rank_made_by (operation t) t.after_break) refl (over.before t x r'))
+  no_end {p} {e} {m} {t} {x} c (a_target is each apart) place r goes =
+      let r' = subst (λ v. ReadBy Token (SeenNext text) (behind_in text) Div v t x) place r in
       false≢true (sym (subst (λ q. stops_by q c t ≡ false) is goes) ∙ each_stops c t (each_there text each r'))
 
   -- behind a pattern an assignment goes on
-  pub left_op : {p : ExpressionContext} {o : ℕ} {s e : Token} {P : List Pair} {l : Operand} {m : Token} {Q : List Pair} {b : Bool} {left : Tree} {y t x : Token} → IsLeft text p o s e P l m Q b left y → ReadBy Token (NextIn text any_goal) itself Div m t x → (operation t ≡ op_assign) × (t.text ≡ codes "=")
-  left_op {y = y} v r = let same = read_there Token (NextIn text any_goal) itself (text_determined text) v.sign refl r in (ap operation same.0 ∙ makes y v.sign.class v.sign.text refl, ap (λ k. k.text) same.0 ∙ v.sign.text)
+  pub left_op : {p : ExpressionContext} {o : ℕ} {s e : Token} {P : List Pair} {l : Operand} {m : Token} {Q : List Pair} {b : Bool} {left : Tree} {y t x : Token} → IsLeft text p o s e P l m Q b left y → ReadBy Token (SeenNext text) (behind_in text) Div m t x → (operation t ≡ op_assign) × (t.text ≡ codes "=")
+  left_op {y = y} v r = let same = read_there Token (SeenNext text) (behind_in text) (seen_determined text) v.sign refl r in (ap operation same.0 ∙ makes (behind_in text y) v.sign.class v.sign.text refl, ap (λ k. k.text) same.0 ∙ v.sign.text)
 
-  module _ (p : ExpressionContext) (o : ℕ) (s e : Token) (P : List Pair) (l : Operand) (m : Token) (Q : List Pair) (a : Reading) (n : Tree) (begins : Begins text l.start s) (at : l.edge ≡ edge_as_written (edge l.cover.node) m) {t x : Token} (r : ReadBy Token (NextIn text any_goal) itself Div m t x) (goes : stops_by p l.edge t ≡ false) where
+  module _ (p : ExpressionContext) (o : ℕ) (s e : Token) (P : List Pair) (l : Operand) (m : Token) (Q : List Pair) (a : Reading) (n : Tree) (begins : Begins text l.start s) (at : l.edge ≡ edge_as_written (edge l.cover.node) m) {t x : Token} (r : ReadBy Token (SeenNext text) (behind_in text) Div m t x) (goes : stops_by p l.edge t ≡ false) where
     told : {c d : Coded} {w v : List ℕ} {z y : Option Rank} → c ≡ d → w ≡ v → z ≡ y → SidesOn text p o s e P l m Q a n c w x z → SidesOn text p o s e P l m Q a n d v x y
     told {c} {d} {w} {v} {z} {y} h k j u = subst (λ i. SidesOn text p o s e P l m Q a n d v x i) j (subst (λ i. SidesOn text p o s e P l m Q a n d i x z) k (subst (λ i. SidesOn text p o s e P l m Q a n i w x z) h u))
 
@@ -184,21 +183,21 @@ module _ (text : List ℕ) where
 -- an operator with right sides
 pub turn_sided : (s e : CursorState) (old new : List Pair) (high : ℕ) (p : ExpressionContext) (l : Operand) (t : Scanned) (c : Coded) (result : Result Operand Fault) → IsAhead Div s.text s.last.stop (token_of t) → (as_read (token_of t)).text ≡ t.text.now → coded_operator (operation (as_read (token_of t))) t.text.now ≡ Some c → IsSided c →
     stops_by p l.edge (as_read (token_of t)) ≡ false → BinaryRestComplete s e old new high l t c p.has_in result → IfOk result (λ q. rank_made_by (meant c) t.after_break ≡ Some q.rank) → rank_made_by (meant c) t.after_break ≡ rank_made_by (operation (as_read (token_of t))) t.after_break → InfixComplete s e old new high p l result
-turn_sided s e old new high p l t c result ahead texts coded sided goes complete rank symbol a o n from to P Q R read stage =
+turn_sided s e old new high p l t c result ahead texts coded sided goes complete rank symbol a o n from to P Q R read stage own =
     let r = ahead_read s.text Div s.last (token_of t) ahead in
     let u = sides_on s.text p o from to P l s.last Q a n read.part.begins read.part.edge r goes c t.text.now texts coded (sided_is sided) stage in
     let low = u.low in
     let made = node (left_of c l).kind (operator_text_of (left_of c l).kind t.text.now) plain l.start u.to.stop (part (left_of c l).node u.sides) in
-    agrees_through (Room s o (height made) high) (Room s o (height n) high) (λ r. (r.cover.node ≡ made) × (r.cover.shape ≡ (left_of c l).shape) × EndsWith s e old new u.to u.more) (λ r. Staged s.text p o from to P r e.last Q old new a n) result (complete u.sides o (as_read (token_of t)) u.to u.more r.next refl u.given u.fits) (λ room. (room.0, let high = room.1 in omega arith))
+    agrees_through (Room s o (height made) high) (Room s o (height n) high) (λ r. (r.cover.node ≡ made) × (r.cover.shape ≡ (left_of c l).shape) × EndsWith s e old new u.to u.more) (λ r. Staged s.text p o from to P r e.last Q old new a n) result (complete u.sides o (unseen (as_read (token_of t))) u.to u.more r.next u.given u.fits (u.of_language own)) (λ room. (room.0, let high = room.1 in omega arith))
     (λ q ok h. staged s e h.2 (u.next q h.0 h.1 (sym symbol ∙ ok_then (λ (d : Operand). rank_made_by (meant c) t.after_break ≡ Some d.rank) result rank ok)))
 
 -- a member, arguments or a template
 pub turn_linked : (s e : CursorState) (old new : List Pair) (high : ℕ) (p : ExpressionContext) (l : Operand) (v : LexicalToken) (c : Coded) (result : Result Operand Fault) → IsAhead Div s.text s.last.stop v → coded_operator (operation (as_read v)) v.text ≡ Some c → IsLinked c →
     stops_by p l.edge (as_read v) ≡ false → SubscriptComplete s e old new high l result → InfixComplete s e old new high p l result
-turn_linked s e old new high p l v c result ahead coded linked goes complete a o n from to P Q R read stage =
+turn_linked s e old new high p l v c result ahead coded linked goes complete a o n from to P Q R read stage own =
     let r = ahead_read s.text Div s.last v ahead in
     let u = link_on s.text p o from to P l s.last Q a n read.part.begins read.part.edge r goes c v.text coded (linked_is linked) stage in
     let low = u.low in
     let made = node (link_kind u.linked) [] (link_flags u.linked false) l.start u.to.stop (part l.cover.node u.parts) in
-    agrees_through (Room s o (height made) high) (Room s o (height n) high) (λ r. (r ≡ plain_part made (link_rank u.linked (is_calling l.rank)) Other) × EndsWith s e old new u.to u.more) (λ r. Staged s.text p o from to P r e.last Q old new a n) result (complete u.linked false u.parts o u.to u.more u.runs u.fits u.value) (λ room. (room.0, let high = room.1 in omega arith))
+    agrees_through (Room s o (height made) high) (Room s o (height n) high) (λ r. (r ≡ plain_part made (link_rank u.linked (is_calling l.rank)) Other) × EndsWith s e old new u.to u.more) (λ r. Staged s.text p o from to P r e.last Q old new a n) result (complete u.linked false u.parts o u.to u.more u.runs u.fits u.value (u.of_language own)) (λ room. (room.0, let high = room.1 in omega arith))
     (λ q ok h. staged s e h.1 (u.next q h.0))

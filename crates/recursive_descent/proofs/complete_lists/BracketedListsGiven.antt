@@ -37,10 +37,13 @@ use Rattle.recursive_descent.specs.CompletenessOfLists.{ListGiven}
 use Rattle.parser_tables.specs.Items.{list_from, listed_kind, listed_shape, listed_part}
 use Rattle.parser_tables.specs.ExpressionStarts.{coded_start}
 use Rattle.token_cursor.specs.Seen.{ReadsHere}
-use Rattle.recursive_descent.proofs.complete_expressions.Agreement.{Refuses, marks_same}
+use Rattle.recursive_descent.proofs.complete_expressions.Agreement.{Refuses, marks_same, not_missed}
 use Rattle.recursive_descent.proofs.reading.Forward.{place_mark}
 use Rattle.recursive_descent.proofs.complete_lists.BracketsGiven.{BracketsGiven, bracket_kind, left_sign, right_sign, array_given, object_given}
 use Rattle.token_cursor.proofs.TokensAhead.{ahead_read}
+use Rattle.token_cursor.specs.SourceText.{SourceText}
+use Rattle.recursive_descent.specs.Spelled.{OfLanguage, AllOfLanguage}
+use Rattle.recursive_descent.proofs.reading.LanguageTrees.{parts_of_language}
 
 -- a list between brackets, by its opening
 pub data Bracketed : ListKind → ExpressionStart → Type 0 where
@@ -51,11 +54,11 @@ opening_is : {what : ListKind} {x : ExpressionStart} → Bracketed what x → op
 opening_is an_array = refl
 opening_is an_object = refl
 
-pub brackets_given : {text : List ℕ} {p : ExpressionContext} {o : ℕ} {n : Tree} {s to : Token} {Q : List Pair} {a : Reading} {h : Rank} {what : ListKind} {z : ExpressionStart} (u : LexicalToken) → Bracketed what z → IsAhead RegExp text s.stop u → expression_start (as_read u) ≡ z → FirstAs text p o n s to Q a h → BracketsGiven text o what a h n s to Q
+pub brackets_given : {text : SourceText} {p : ExpressionContext} {o : ℕ} {n : Tree} {s to : Token} {Q : List Pair} {a : Reading} {h : Rank} {what : ListKind} {z : ExpressionStart} (u : LexicalToken) → Bracketed what z → IsAhead RegExp text s.stop u → expression_start (as_read u) ≡ z → FirstAs text p o n s to Q a h → BracketsGiven text o what a h n s to Q
 brackets_given {text} {s = s} u an_array ahead opens g = array_given text (ahead_read text RegExp s u ahead) opens g
 brackets_given {text} {s = s} u an_object ahead opens g = object_given text (ahead_read text RegExp s u ahead) opens g
 
-begun_list : {what : ListKind} {z : ExpressionStart} (a : Reading) (text : List ℕ) (at o : ℕ) (ps : Parts) (s mid to : Token) (P : List Pair) → Bracketed what z → RunsIn text o (anywhere (item_pieces what a ps)) ps s mid P → ReadsHere text Punctuator (right_sign what) mid to → ListGiven text (list_from what at) a o ps s to P
+begun_list : {what : ListKind} {z : ExpressionStart} (a : Reading) (text : SourceText) (at o : ℕ) (ps : Parts) (s mid to : Token) (P : List Pair) → Bracketed what z → RunsIn text o (anywhere (item_pieces what a ps)) ps s mid P → ReadsHere text Punctuator (right_sign what) mid to → ListGiven text (list_from what at) a o ps s to P
 begun_list as_expression text at o ps s mid to P an_array runs right = record { left = refl; mid = mid; runs = runs; closes = right; last = tt; no_rest = refl; lone = refl; one_default = refl }
 begun_list (as_pattern true) text at o ps s mid to P an_array runs right = record { left = refl; mid = mid; runs = runs; closes = right; last = tt; no_rest = refl; lone = refl; one_default = refl }
 begun_list (as_pattern false) text at o ps s mid to P an_array runs right = record { left = refl; mid = mid; runs = runs; closes = right; last = tt; no_rest = refl; lone = refl; one_default = refl }
@@ -135,7 +138,7 @@ shape_same l an_array = refl
 shape_same l an_object = refl
 
 -- the whole list is what is given
-pub list_first : {text : List ℕ} {o : ℕ} {what : ListKind} {z : ExpressionStart} {a : Reading} {h : Rank} {n : Tree} {s to : Token} {Q : List Pair} (v : BracketsGiven text o what a h n s to Q) (l : ListOf) → Bracketed what z → l.listed ≡ what → is_whole l a ≡ true → all_read_as a l.nodes ≡ v.parts → l.span.start ≡ v.first.start → l.span.end ≡ to.stop →
+pub list_first : {text : SourceText} {o : ℕ} {what : ListKind} {z : ExpressionStart} {a : Reading} {h : Rank} {n : Tree} {s to : Token} {Q : List Pair} (v : BracketsGiven text o what a h n s to Q) (l : ListOf) → Bracketed what z → l.listed ≡ what → is_whole l a ≡ true → all_read_as a l.nodes ≡ v.parts → l.span.start ≡ v.first.start → l.span.end ≡ to.stop →
     is_list_shape l.seen.shape.assigned ≡ true → IsFirst a h (listed_part l) n
 list_first {what = what} {a = a} {h = h} {n = n} {to = to} v l by is whole nodes from end right =
     let fits = fits_whole a l by (subst (λ x. whole_of x l a ≡ true) is whole) in
@@ -156,6 +159,7 @@ list_first {what = what} {a = a} {h = h} {n = n} {to = to} v l by is whole nodes
 pub record ListRest (s m : CursorState) (l : ListOf) (a : Reading) (o : ℕ) (h : Rank) (n : Tree) (to : Token) (Q : List Pair) : Type 0 where
   pub ps : Parts
   pub given : ListGiven m.text l a o ps m.last to Q
+  pub own : OfLanguage s.text n → AllOfLanguage m.text ps
   pub low : suc (parts_height ps) ≤ height n
   pub start_low : suc (parts_height l.nodes) ≤ height n
   pub first : (e : CursorState) (old new : List Pair) (whole : ListOf) → Adds m e old new (λ o' x y R. (f : Start) (z : Token) (P : List Pair) → SoFarAt m.text f l o' z x P → ListAt m.text f whole o' z y (P ++ R)) → (SeenRight l → SeenRight whole) → (whole.listed ≡ l.listed) × (whole.span.start ≡ l.span.start) →
@@ -168,6 +172,7 @@ brackets_rest s m {what} {z} l text by is begun {o} {n} {to} {Q} {a} {h} v =
     record {
       ps = v.parts;
       given = rest_given s m l text by is begun v;
+      own = λ whole. subst (λ x. AllOfLanguage x v.parts) (sym text) (parts_of_language {text = s.text} {k = bracket_kind what a} {w = []} {g = plain} {st = v.first.start} {en = to.stop} (subst (λ x. OfLanguage s.text x) v.tree whole));
       low = omega arith;
       start_low = omega arith;
       first = λ e old new whole d seen same whole_is nodes place.
@@ -188,7 +193,7 @@ list_case _ what h = cc
 
 -- a sign that is given is not missed
 pub begun_refuses : (W : Type 0) {what : ListKind} {z : ExpressionStart} (s : CursorState) (high : ℕ) (fault : Fault) {x : Token} → Bracketed what z → NotBegun what s high fault → ReadsHere s.text Punctuator (left_sign what) s.last x → Refuses W fault
-begun_refuses W s high (Syntax at) {x} by h left = absurd (h _ (opening_is by) x x left)
+begun_refuses W s high (Syntax at) {x} by h left = absurd (not_missed (h _ (opening_is by)) left)
 begun_refuses W s high TooDeep an_array h left = let z = h.0 in cc
 begun_refuses W s high TooDeep an_object h left = let z = h.0 in cc
 begun_refuses W s high OutOfMemory by h left = tt

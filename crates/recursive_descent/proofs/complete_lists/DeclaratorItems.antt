@@ -4,7 +4,6 @@ use Rattle.std.specs.Prelude.{IfOk, ◌||◌, nat_le, Some}
 use Rattle.std.specs.Result.{IsErrAnd}
 use Rattle.std.proofs.lemmas.Bool.{false≢true, true≢false}
 use Rattle.source_text.specs.declared.fault.Fault.{Fault}
-use Rattle.tokens.specs.Reading.{any_goal}
 use Rattle.token_cursor.specs.CursorState.{CursorState}
 use Rattle.tree.specs.declared.kind.Kind.{Kind}
 use Rattle.tree.specs.declared.kind.Pair.{Pair}
@@ -15,11 +14,10 @@ use Rattle.language.specs.Covers.{Reading, as_expression, as_pattern}
 use Rattle.language.specs.Pieces.{Role}
 use Rattle.language.specs.Vocabulary.{is_target as is_simple}
 use Rattle.language.specs.Token.{Token}
-use Rattle.language.specs.Places.{NextIn, itself, SpellsIn}
 use Rattle.language.proofs.statements.Blocks.{one_declarator}
 use Rattle.language.proofs.table.OneKind.{one_kind}
 use Rattle.language.proofs.table.SoleWays.{Anyhow}
-use Rattle.language.proofs.texts.TextOffsets.{text_determined}
+use Rattle.token_cursor.proofs.SeenTokens.{seen_determined}
 use Rattle.covers.specs.declared.list.ListItem.{ListItem}
 use Rattle.covers.specs.declared.list.ListKind.{ListKind}
 use Rattle.covers.specs.declared.list.ListKind.TheVariants as listed
@@ -38,7 +36,9 @@ use Rattle.recursive_descent.specs.CompletenessOfLists.{ItemGiven, ItemRead, dec
 use Rattle.parser_tables.specs.Items.{with_item, element_item}
 use Rattle.recursive_descent.proofs.complete_expressions.Agreement.{agrees_on}
 use Rattle.recursive_descent.proofs.complete_lists.ItemFits.{PlainItem, plain_item, is_plainly}
-use Rattle.recursive_descent.proofs.complete_lists.ItemAnswers.{Fitting, item_taken, left_reads, one_high}
+use Rattle.recursive_descent.proofs.complete_lists.ItemAnswers.{Fitting, item_taken, left_reads, one_high, own_tree}
+use Rattle.token_cursor.specs.SourceText.{SourceText, SeenNext, behind_in}
+use Rattle.recursive_descent.specs.Spelled.{SpellsIn}
 
 -- one position
 some_same : {a b : Role} → Some a ≡ Some b → a ≡ b
@@ -77,10 +77,10 @@ declarator_role i as_expression k h = sym (some_same h)
 declarator_role i (as_pattern b) k h = sym (some_same h)
 
 -- a declarator is the same in each reading
-declarator_same : (text : List ℕ) (i : Bool) (a : Reading) (o : ℕ) (n : Tree) (s e : Token) (P : List Pair) → SpellsIn text o (declarator_as i a) n s e P → read_as a n ≡ n
+declarator_same : (text : SourceText) (i : Bool) (a : Reading) (o : ℕ) (n : Tree) (s e : Token) (P : List Pair) → SpellsIn text o (declarator_as i a) n s e P → read_as a n ≡ n
 declarator_same text i as_expression o n s e P d = refl
 declarator_same text i (as_pattern b) o n s e P d =
-    let w = (one_kind Token (NextIn text any_goal) itself (text_determined text) {Fine = Anyhow} (one_declarator i false)).told d tt in
+    let w = (one_kind Token (SeenNext text) (behind_in text) (seen_determined text) {Fine = Anyhow} (one_declarator i false)).told d tt in
     ap pattern_tree w.tree ∙ sym w.tree
 
 -- declarators are no elements
@@ -89,18 +89,18 @@ no_elements i h = absurd (false≢true (sym (ap is_plainly h)))
 
 -- a declarator that is refused
 pub declarator_refused : (s e : CursorState) (old new : List Pair) (l k : ListOf) (high : ℕ) (i : Bool) (answer : Result (Unit {0}) Fault) (fault : Fault) → l.listed ≡ listed.Declarators i → IsErrAnd answer (λ x. x ≡ fault) → DeclaratorComplete s e old new high i (Err fault) → ItemComplete s e old new high l k answer
-declarator_refused s e old new l k high i answer fault is err h = λ a o last one to P some left lone once g.
+declarator_refused s e old new l k high i answer fault is err h = λ a o last one to P some left lone once g own.
     let v = plain_item refl (λ q. no_elements i q) (subst (λ x. ItemGiven s.text x a o s.last to P last one) is g) in
     agrees_on (Room s o (height v.tree) high) (Room s o (parts_height one) high) (λ u. ItemRead a l k last one × EndsWith s e old new to P) answer fault err
-    (h a o v.tree to P (subst (λ r. SpellsIn s.text o r v.tree s.last to P) (declarator_role i a (kind_of v.tree) v.it_is) v.spelled) v.ends) (λ room. (room.0, one_high v.tree v.parts room.1))
+    (h a o v.tree to P (subst (λ r. SpellsIn s.text o r v.tree s.last to P) (declarator_role i a (kind_of v.tree) v.it_is) v.spelled) v.ends (own_tree v.tree v.parts own)) (λ room. (room.0, one_high v.tree v.parts room.1))
 
 -- a declarator that is read
 pub declarator_taken : (s e : CursorState) (old new : List Pair) (l k : ListOf) (high : ℕ) (i : Bool) (it : ListItem) (at : ℕ) (answer : Result (Unit {0}) Fault) → l.listed ≡ listed.Declarators i → IfOk answer (λ u. k ≡ with_item l it) → IsTaken (takes l.listed l.seen it) at answer →
     DeclaratorComplete s e old new high i (Ok it) → ItemComplete s e old new high l k answer
-declarator_taken s e old new l k high i it at answer is put taken h = item_taken s e old new l k high it at answer (ap is_chunked is) put taken (λ a o last one to P some reads once g.
+declarator_taken s e old new l k high i it at answer is put taken h = item_taken s e old new l k high it at answer (ap is_chunked is) put taken (λ a o last one to P some reads once g own.
     let v = plain_item refl (λ q. no_elements i q) (subst (λ x. ItemGiven s.text x a o s.last to P last one) is g) in
     let d = subst (λ r. SpellsIn s.text o r v.tree s.last to P) (declarator_role i a (kind_of v.tree) v.it_is) v.spelled in
-    let u = h a o v.tree to P d v.ends in
+    let u = h a o v.tree to P d v.ends (own_tree v.tree v.parts own) in
     record {
       tree = v.tree;
       parts = v.parts;
@@ -111,7 +111,7 @@ declarator_taken s e old new l k high i it at answer is put taken h = item_taken
     })
 
 -- a part of a sequence is an expression that can't go on
-sequence_given : (text : List ℕ) (i : Bool) (a : Reading) (p : ExpressionContext) (o : ℕ) (s e : Token) (P : List Pair) (last : Bool) (one : Parts) → p ≡ record { rank = Assignment; has_in = i; start = Any } → has_reading (listed.Sequence i) a ≡ true → (v : PlainItem text (listed.Sequence i) a o s e P last one) → GivenAs text p o v.tree s e P a
+sequence_given : (text : SourceText) (i : Bool) (a : Reading) (p : ExpressionContext) (o : ℕ) (s e : Token) (P : List Pair) (last : Bool) (one : Parts) → p ≡ record { rank = Assignment; has_in = i; start = Any } → has_reading (listed.Sequence i) a ≡ true → (v : PlainItem text (listed.Sequence i) a o s e P last one) → GivenAs text p o v.tree s e P a
 sequence_given text i as_expression p o s e P last one is has v =
     subst (λ (x : ExpressionContext). GivenAs text x o v.tree s e P as_expression) (sym is) (an_expression (λ q. cc) (λ q. cc) (subst (λ r. SpellsIn text o r v.tree s e P) (sym (some_same v.it_is)) v.spelled) v.ends)
 sequence_given text i (as_pattern b) p o s e P last one is has v = absurd (false≢true has)
@@ -127,18 +127,18 @@ no_elements_there i h = absurd (false≢true (ap is_sequence (sym h)))
 -- a part of a sequence that is refused
 pub sequence_item_refused : (s e : CursorState) (old new : List Pair) (l k : ListOf) (high : ℕ) (i : Bool) (p : ExpressionContext) (answer : Result (Unit {0}) Fault) (fault : Fault) → p ≡ record { rank = Assignment; has_in = i; start = Any } → l.listed ≡ listed.Sequence i → IsErrAnd answer (λ x. x ≡ fault) →
     ExpressionComplete s e old new high p (Err fault) → ItemComplete s e old new high l k answer
-sequence_item_refused s e old new l k high i p answer fault p_is is err h = λ a o last one to P some left lone once g.
+sequence_item_refused s e old new l k high i p answer fault p_is is err h = λ a o last one to P some left lone once g own.
     let v = plain_item refl (λ q. no_elements_there i q) (subst (λ x. ItemGiven s.text x a o s.last to P last one) is g) in
     let reads : has_reading (listed.Sequence i) a ≡ true = ap (λ x. has_reading x a) (sym is) ∙ (left_reads l a left) in
     agrees_on (Room s o (height v.tree) high) (Room s o (parts_height one) high) (λ u. ItemRead a l k last one × EndsWith s e old new to P) answer fault err
-    (h a o v.tree to P (sequence_given s.text i a p o s.last to P last one p_is reads v)) (λ room. (room.0, one_high v.tree v.parts room.1))
+    (h a o v.tree to P (sequence_given s.text i a p o s.last to P last one p_is reads v) (own_tree v.tree v.parts own)) (λ room. (room.0, one_high v.tree v.parts room.1))
 
 -- a part of a sequence that is read
 pub sequence_item_taken : (s e : CursorState) (old new : List Pair) (l k : ListOf) (high : ℕ) (i : Bool) (p : ExpressionContext) (r : Operand) (it : ListItem) (start stop at : ℕ) (answer : Result (Unit {0}) Fault) → p ≡ record { rank = Assignment; has_in = i; start = Any } → l.listed ≡ listed.Sequence i → it ≡ element_item false start stop r →
     IfOk answer (λ u. k ≡ with_item l it) → IsTaken (takes l.listed l.seen it) at answer → ExpressionComplete s e old new high p (Ok r) → ItemComplete s e old new high l k answer
-sequence_item_taken s e old new l k high i p r it start stop at answer p_is is made put taken h = item_taken s e old new l k high it at answer (ap is_chunked is) put taken (λ a o last one to P some reads once g.
+sequence_item_taken s e old new l k high i p r it start stop at answer p_is is made put taken h = item_taken s e old new l k high it at answer (ap is_chunked is) put taken (λ a o last one to P some reads once g own.
     let v = plain_item refl (λ q. no_elements_there i q) (subst (λ x. ItemGiven s.text x a o s.last to P last one) is g) in
-    let u = h a o v.tree to P (sequence_given s.text i a p o s.last to P last one p_is (ap (λ x. has_reading x a) (sym is) ∙ reads) v) in
+    let u = h a o v.tree to P (sequence_given s.text i a p o s.last to P last one p_is (ap (λ x. has_reading x a) (sym is) ∙ reads) v) (own_tree v.tree v.parts own) in
     record {
       tree = v.tree;
       parts = v.parts;

@@ -6,25 +6,25 @@ use Rattle.std.proofs.lemmas.Bool.{false≢true, and_parts}
 use Rattle.std.proofs.lemmas.Option.{none-some}
 use Rattle.source_text.specs.declared.fault.Fault.{Fault}
 use Rattle.source_text.specs.declared.fault.Fault.TheVariants.{OutOfMemory}
-use Rattle.tokens.specs.Reading.{Reads, any_goal}
+use Rattle.tokens.specs.Reading.{Reads}
 use Rattle.tokens.specs.Tokens.{LexicalToken}
 use Rattle.tokens.specs.declared.token.TokenClass.TheVariants.{Punctuator}
 use Rattle.tokens.specs.declared.token.Goal.TheVariants.{Div}
 use Rattle.token_cursor.specs.CursorState.{CursorState}
 use Rattle.tree.specs.declared.kind.Kind.{Kind}
 use Rattle.tree.specs.declared.kind.Pair.{Pair}
-use Rattle.tree.specs.Tree.{Tree, Parts, none, part, gap, push_gap, kind_of, part_count, height, parts_height}
+use Rattle.tree.specs.declared.kind.Kind.TheVariants.{SpreadElement, RestElement}
+use Rattle.tree.specs.Tree.{Tree, plain, Parts, none, part, gap, push_gap, kind_of, part_count, height, parts_height}
 use Rattle.language.specs.declared.Rank.TheVariants.{Assignment, LeftHandSide}
 use Rattle.language.specs.declared.Start.TheVariants.{Any}
 use Rattle.language.specs.Covers.{Reading, as_expression, as_pattern}
 use Rattle.language.specs.Pieces.{Role, expr, name, pattern, bound}
-use Rattle.language.specs.Places.{NextIn, itself, SpellsIn}
 use Rattle.language.specs.Token.{Token}
 use Rattle.language.specs.Vocabulary.{is, is_target as is_simple, is_pattern as is_pattern_kind, is_identifier}
 use Rattle.language.specs.Claims.{max_open}
 use Rattle.language.proofs.covers.CoverElements.{simple_target}
 use Rattle.language.proofs.covers.CoverPunctuators.{comma_separates, no_element_begins}
-use Rattle.language.proofs.texts.TextOffsets.{text_determined}
+use Rattle.token_cursor.proofs.SeenTokens.{seen_determined}
 use Rattle.covers.specs.declared.shape.TargetForm.{TargetForm}
 use Rattle.covers.specs.declared.shape.TargetForm.TheVariants as assigned
 use Rattle.covers.specs.declared.shape.CoverShape.{CoverShape}
@@ -50,10 +50,13 @@ use Rattle.recursive_descent.proofs.sound_lists.OneMoreItem.{join_none, read_gap
 use Rattle.recursive_descent.proofs.complete_lists.DeclaratorItems.{is_cases, is_covers, fitting_of}
 use Rattle.recursive_descent.proofs.complete_lists.ElementItems.{is_elements, elements_plain, is_dotted, closing_sign, closing_of, element_ends, dotted_node, dotted_high, BoundAs, dotted_trails, Dotted, Element, element_given, dotted_there, alone_there, value_given}
 use Rattle.recursive_descent.proofs.complete_lists.ItemFits.{plain_item, is_plainly}
-use Rattle.recursive_descent.proofs.complete_lists.ItemAnswers.{item_taken, left_reads, one_high}
+use Rattle.recursive_descent.proofs.complete_lists.ItemAnswers.{item_taken, left_reads, one_high, own_tree}
 use Rattle.recursive_descent.proofs.sound_lists.ReadItems.{lists_elements}
-use Rattle.recursive_descent.proofs.sound_lists.Declarators.{place_of}
 use Rattle.token_cursor.proofs.TokensAhead.{mark_by}
+use Rattle.token_cursor.specs.SourceText.{SourceText, SeenNext, behind_in}
+use Rattle.recursive_descent.specs.Spelled.{SpellsIn, OfLanguage, AllOfLanguage}
+use Rattle.recursive_descent.proofs.reading.LanguageTrees.{first_of_language, parts_of_language}
+use Rattle.recursive_descent.proofs.reading.Forward.{place_by}
 
 -- what is bound or assigned to without a default is a target or a pattern
 bound_kind : (b : Bool) (k : Kind) {r : Role} → bound b k ≡ Some r → (is_pattern_kind k || is_simple k) ≡ true
@@ -103,6 +106,7 @@ rest_item_fits listed.OneParameter a it k dots s h = absurd (false≢true dots)
 rest_item_fits listed.Arguments a it k dots s h = ap (λ z. cond z (fits_rest listed.Arguments it.shape a) (fits_as it.shape a)) s ∙ h
 rest_item_fits listed.Elements a it k dots s h = ap (λ z. cond z (fits_rest listed.Elements it.shape a) (fits_as it.shape a)) s ∙ h
 rest_item_fits listed.ParenthesizedItems a it k dots s h = ap (λ z. cond z (fits_rest listed.ParenthesizedItems it.shape a) (fits_as it.shape a)) s ∙ h
+rest_item_fits listed.AsyncArguments a it k dots s h = ap (λ z. cond z (fits_rest listed.AsyncArguments it.shape a) (fits_as it.shape a)) s ∙ h
 rest_item_fits listed.Parameters a it k dots s h = ap (λ z. cond z (fits_rest listed.Parameters it.shape a) (fits_as it.shape a)) s ∙ h
 rest_item_fits _ a it k dots s h = absurd (false≢true k)
 
@@ -111,6 +115,7 @@ alone_item_fits listed.OneParameter a it k s h = ap (λ z. cond z false (fits_as
 alone_item_fits listed.Arguments a it k s h = ap (λ z. cond z (fits_rest listed.Arguments it.shape a) (fits_as it.shape a)) s ∙ h
 alone_item_fits listed.Elements a it k s h = ap (λ z. cond z (fits_rest listed.Elements it.shape a) (fits_as it.shape a)) s ∙ h
 alone_item_fits listed.ParenthesizedItems a it k s h = ap (λ z. cond z (fits_rest listed.ParenthesizedItems it.shape a) (fits_as it.shape a)) s ∙ h
+alone_item_fits listed.AsyncArguments a it k s h = ap (λ z. cond z (fits_rest listed.AsyncArguments it.shape a) (fits_as it.shape a)) s ∙ h
 alone_item_fits listed.Parameters a it k s h = ap (λ z. cond z (fits_rest listed.Parameters it.shape a) (fits_as it.shape a)) s ∙ h
 alone_item_fits _ a it k s h = absurd (false≢true k)
 
@@ -128,6 +133,10 @@ elements_no_values : (x : ListKind) → is_elements x ≡ true → is_plainly x 
 elements_no_values (listed.Cases r) h = absurd (false≢true h)
 elements_no_values (listed.Declarators i) h = absurd (false≢true h)
 elements_no_values _ h = refl
+
+dotted_own : (text : SourceText) (a : Reading) (s e : ℕ) (n : Tree) → OfLanguage text (dotted_node a s e n) → OfLanguage text n
+dotted_own text as_expression s e n own = first_of_language {text = text} {n = n} {ps = none} (parts_of_language {text = text} {k = SpreadElement} {w = []} {g = plain} {st = s} {en = e} own)
+dotted_own text (as_pattern b) s e n own = first_of_language {text = text} {n = n} {ps = none} (parts_of_language {text = text} {k = RestElement} {w = []} {g = plain} {st = s} {en = e} own)
 
 covers_dotless : (x : ListKind) (a : Reading) → x ≡ listed.ParenthesizedItems → a ≡ as_expression → is_dotted x a ≡ true → ⊥
 covers_dotless x a h k d = false≢true (ap (λ z. is_dotted z as_expression) (sym h) ∙ ap (is_dotted x) (sym k) ∙ d)
@@ -156,6 +165,7 @@ module _ (s e : CursorState) (old new : List Pair) (l k : ListOf) (high : ℕ) (
       value : Dotted s.text l.listed a o given.tree x.last to P
       expression : GivenAs x.text q o value.value x.last to P a
       low : suc (height value.value) ≤ height given.tree
+      own : AllOfLanguage s.text one → OfLanguage x.text value.value
 
     behind_given : (a : Reading) (o : ℕ) (last : Bool) (one : Parts) (to : Token) (P : List Pair) → has_reading l.listed a ≡ true → ItemGiven s.text l.listed a o s.last to P last one → Behind a o last one to P
     behind_given a o last one to P reads g =
@@ -168,22 +178,23 @@ module _ (s e : CursorState) (old new : List Pair) (l k : ListOf) (high : ℕ) (
           value = w;
           expression = subst (λ z. GivenAs z q o w.value x.last to P a) (sym there) (value_given s.text a (closing_of l.listed) q_is w.it_is w.spelled v.ends);
           low = omega arith;
+          own = λ whole. subst (λ z. OfLanguage z w.value) (sym there) (dotted_own s.text a x.last.start to.stop w.value (subst (λ z. OfLanguage s.text z) w.tree (own_tree v.tree v.parts whole)));
         }
 
     pub dotted_refused : (answer : Result (Unit {0}) Fault) (fault : Fault) → IsErrAnd answer (λ z. z ≡ fault) → ExpressionComplete x e mid new inner q (Err fault) → ItemComplete s e old new high l k answer
-    dotted_refused answer fault err h = λ a o last one to P some left lone once g.
+    dotted_refused answer fault err h = λ a o last one to P some left lone once g own.
         let v = behind_given a o last one to P (left_reads l a left) g in
         let low = v.low in
-        agrees_on (Room x o (height v.value.value) inner) (Room s o (parts_height one) high) (λ u. ItemRead a l k last one × EndsWith s e old new to P) answer fault err (h a o v.value.value to P v.expression)
+        agrees_on (Room x o (height v.value.value) inner) (Room s o (parts_height one) high) (λ u. ItemRead a l k last one × EndsWith s e old new to P) answer fault err (h a o v.value.value to P v.expression (v.own own))
         (λ room. (subst (λ z. o ≤ max_open - z) (sym opened) room.0, (let within : height v.given.tree ≤ high = one_high v.given.tree v.given.parts room.1 in omega arith)))
 
-    pub dotted_taken : (r : Operand) (it : ListItem) (start at : ℕ) (answer : Result (Unit {0}) Fault) → ((u : LexicalToken) → Reads s.text Div s.last.stop u → start ≡ u.start) → it ≡ element_item true start e.last.stop r → mid ≡ old →
+    pub dotted_taken : (r : Operand) (it : ListItem) (start at : ℕ) (answer : Result (Unit {0}) Fault) → ((u : LexicalToken) → Reads s.text.bytes Div s.last.stop u → start ≡ u.start) → it ≡ element_item true start e.last.stop r → mid ≡ old →
         IfOk answer (λ u. k ≡ with_item l it) → IsTaken (takes l.listed l.seen it) at answer → ExpressionComplete x e mid new inner q (Ok r) → ItemComplete s e old new high l k answer
-    dotted_taken r it start at answer starts made same put taken h = item_taken s e old new l k high it at answer (elements_plain l.listed kind) put taken (λ a o last one to P some reads once g.
+    dotted_taken r it start at answer starts made same put taken h = item_taken s e old new l k high it at answer (elements_plain l.listed kind) put taken (λ a o last one to P some reads once g own.
         let v = behind_given a o last one to P reads g in
-        let u = h a o v.value.value to P v.expression in
+        let u = h a o v.value.value to P v.expression (v.own own) in
         let w = v.value in
-        let first : start ≡ x.last.start = place_of s.text starts (mark_by s.text dots) in
+        let first : start ≡ x.last.start = place_by s.text starts (mark_by s.text dots) in
         let tree : read_as a it.node ≡ v.given.tree = ap (λ (z : ListItem). read_as a z.node) made ∙ dotted_read a start e.last.stop r.cover.node ∙ (λ i. dotted_node a (first i) ((u.1.place i).stop) (u.0.tree i)) ∙ sym w.tree in
         let spreads : it.spreads ≡ true = ap (λ (z : ListItem). z.spreads) made in
         let shape : it.shape ≡ r.cover.shape = ap (λ (z : ListItem). z.shape) made in
@@ -213,16 +224,16 @@ module _ (s e : CursorState) (old new : List Pair) (l k : ListOf) (high : ℕ) (
         }
 
     pub alone_refused : (answer : Result (Unit {0}) Fault) (fault : Fault) → x.opened ≡ s.opened → IsErrAnd answer (λ z. z ≡ fault) → ExpressionComplete x e mid new high q (Err fault) → ItemComplete s e old new high l k answer
-    alone_refused answer fault opened err h = λ a o last one to P some left lone once g.
+    alone_refused answer fault opened err h = λ a o last one to P some left lone once g own.
         let v = here_given a o last one to P (left_reads l a left) g in
-        agrees_on (Room x o (height v.given.tree) high) (Room s o (parts_height one) high) (λ u. ItemRead a l k last one × EndsWith s e old new to P) answer fault err (h a o v.given.tree to P v.expression)
+        agrees_on (Room x o (height v.given.tree) high) (Room s o (parts_height one) high) (λ u. ItemRead a l k last one × EndsWith s e old new to P) answer fault err (h a o v.given.tree to P v.expression (subst (λ z. OfLanguage z v.given.tree) (sym there) (own_tree v.given.tree v.given.parts own)))
         (λ room. (subst (λ z. o ≤ max_open - z) (sym opened) room.0, one_high v.given.tree v.given.parts room.1))
 
     pub alone_taken : (r : Operand) (it : ListItem) (start stop at : ℕ) (answer : Result (Unit {0}) Fault) → it ≡ element_item false start stop r → mid ≡ old →
         IfOk answer (λ u. k ≡ with_item l it) → IsTaken (takes l.listed l.seen it) at answer → ExpressionComplete x e mid new high q (Ok r) → ItemComplete s e old new high l k answer
-    alone_taken r it start stop at answer made same put taken h = item_taken s e old new l k high it at answer (elements_plain l.listed kind) put taken (λ a o last one to P some reads once g.
+    alone_taken r it start stop at answer made same put taken h = item_taken s e old new l k high it at answer (elements_plain l.listed kind) put taken (λ a o last one to P some reads once g own.
         let v = here_given a o last one to P reads g in
-        let u = h a o v.given.tree to P v.expression in
+        let u = h a o v.given.tree to P v.expression (subst (λ z. OfLanguage z v.given.tree) (sym there) (own_tree v.given.tree v.given.parts own)) in
         let spreads : it.spreads ≡ false = ap (λ (z : ListItem). z.spreads) made in
         let shape : it.shape ≡ r.cover.shape = ap (λ (z : ListItem). z.shape) made in
         let tree : read_as a it.node ≡ v.given.tree = ap (λ (z : ListItem). read_as a z.node) made ∙ u.0.tree in
@@ -247,7 +258,7 @@ hole_left _ l a is h = cc
 -- it is taken where a comma stands
 pub hole_taken : (s e : CursorState) (old new : List Pair) (l k : ListOf) (high : ℕ) (answer : Result (Unit {0}) Fault) → l.listed ≡ listed.Elements → Sees s.text Punctuator (codes ",") s.last → e.last ≡ s.last → new ≡ old →
     IfOk answer (λ u. k ≡ record l { nodes = push_gap l.nodes; seen = with_hole l.seen }) → IfErr answer IsMemory → ItemComplete s e old new high l k answer
-hole_taken s e old new l k high answer is comma stays same put held a o last one to P some left lone once g = of g answer put held
+hole_taken s e old new l k high answer is comma stays same put held a o last one to P some left lone once g own = of g answer put held
   where
     whole : ListOf
     whole = record l { nodes = push_gap l.nodes; seen = with_hole l.seen }
@@ -269,7 +280,7 @@ hole_taken s e old new l k high answer is comma stays same put held a o last one
     pushed at pairs (Err _) put held = absurd held
 
     no_item : (n : Tree) {r : Role} → item_role l.listed a (kind_of n) ≡ Some r → SpellsIn s.text o r n s.last to P → ⊥
-    no_item n {r} it d = no_element_begins Token (NextIn s.text any_goal) itself (text_determined s.text) comma_separates comma.1 a o r to n P (ap (λ x. item_role x a (kind_of n)) (sym is) ∙ it) d
+    no_item n {r} it d = no_element_begins Token (SeenNext s.text) (behind_in s.text) (seen_determined s.text) comma_separates comma.1 a o r to n P (ap (λ x. item_role x a (kind_of n)) (sym is) ∙ it) d
 
     of : {last : Bool} {one : Parts} → ItemGiven s.text l.listed a o s.last to P last one → (r : Result (Unit {0}) Fault) → IfOk r (λ u. k ≡ whole) → IfErr r IsMemory → Agrees (Room s o (parts_height one) high) (λ u. ItemRead a l k last one × EndsWith s e old new to P) r
     of (an_item {n = n} ch it d en) r put held = absurd (no_item n it d)
@@ -282,10 +293,11 @@ elements_kind listed.NoParameter s n h open_list = cc
 elements_kind listed.Arguments s n h open_list = refl
 elements_kind listed.Elements s n h open_list = refl
 elements_kind listed.ParenthesizedItems s n h open_list = refl
+elements_kind listed.AsyncArguments s n h open_list = refl
 elements_kind listed.Parameters s n h open_list = refl
 elements_kind listed.OneParameter s n h open_list = refl
 elements_kind _ s n h open_list = absurd (false≢true h)
 
 -- so what is shown of these lists is shown of it
 pub of_kind : (s e : CursorState) (old new : List Pair) (l k : ListOf) (high : ℕ) (answer : Result (Unit {0}) Fault) → (lists_elements l.listed && not (asks_edge l.listed)) ≡ true → (is_elements l.listed ≡ true → ItemComplete s e old new high l k answer) → ItemComplete s e old new high l k answer
-of_kind s e old new l k high answer kind f = λ a o last one to P some left lone once g. f (elements_kind l.listed l.seen (part_count l.nodes) kind some) a o last one to P some left lone once g
+of_kind s e old new l k high answer kind f = λ a o last one to P some left lone once g own. f (elements_kind l.listed l.seen (part_count l.nodes) kind some) a o last one to P some left lone once g own

@@ -2,7 +2,6 @@
 use Rattle.std.proofs.Common.{◌≡◌, ◌≤◌, ℕ, suc, inl, inr, Bool, true, false, cond, List, [], refl, sym, ap, ◌∙◌, subst, arith}
 use Rattle.std.specs.Prelude.{Option, Some, codes}
 use Rattle.std.proofs.lemmas.Bool.{false≢true}
-use Rattle.tokens.specs.Reading.{any_goal}
 use Rattle.tokens.specs.declared.token.TokenClass.TheVariants.{Punctuator}
 use Rattle.tokens.specs.declared.token.Goal.TheVariants.{Div}
 use Rattle.tree.specs.declared.kind.Kind.{Kind}
@@ -15,7 +14,6 @@ use Rattle.language.specs.Covers.{Reading, as_expression, as_pattern, element_as
 use Rattle.language.specs.Derivation.{Reads}
 use Rattle.language.specs.Continuations.{of_class, rank_made_by}
 use Rattle.language.specs.Pieces.{Role, expr, spread, rest, bound, with_default}
-use Rattle.language.specs.Places.{NextIn, itself, SpellsIn}
 use Rattle.language.specs.Promises.{ReadBy}
 use Rattle.language.specs.Token.{Token}
 use Rattle.language.specs.Vocabulary.{is_rest, is_spread}
@@ -23,7 +21,7 @@ use Rattle.language.proofs.list_loops.CommaLists.{Separated, by_comma, by_closin
 use Rattle.language.proofs.covers.CoverElements.{bound_defaults, element_form}
 use Rattle.language.proofs.covers.CoverEnds.{Closing, a_bracket, a_parenthesis, a_brace, item_stops}
 use Rattle.language.proofs.covers.CoverSpreads.{spread_form, rest_form, no_element, no_plain_expression}
-use Rattle.language.proofs.texts.TextOffsets.{text_determined}
+use Rattle.token_cursor.proofs.SeenTokens.{seen_determined}
 use Rattle.covers.specs.declared.list.ListKind.{ListKind}
 use Rattle.covers.specs.declared.list.ListKind.TheVariants as listed
 use Rattle.parser_tables.specs.declared.expression_context.ExpressionContext.{ExpressionContext}
@@ -33,8 +31,12 @@ use Rattle.recursive_descent.specs.CompletenessOfLists.{CommaOr, ItemEnds, is_la
 use Rattle.recursive_descent.specs.CompletenessOfProperties.{value_as}
 use Rattle.token_cursor.specs.Seen.{ReadsHere, Misses}
 use Rattle.recursive_descent.proofs.reading.FreeRanks.{no_conditional, no_new}
-use Rattle.recursive_descent.proofs.complete_expressions.Agreement.{read_here, marks_same}
+use Rattle.recursive_descent.proofs.complete_expressions.Agreement.{read_here, marks_same, not_missed}
 use Rattle.token_cursor.proofs.TokensAhead.{mark_by}
+use Rattle.language.proofs.table.Begins.{div_allows}
+use Rattle.language.proofs.climbing.NamesBehind.{apart_sign}
+use Rattle.token_cursor.specs.SourceText.{SourceText, SeenNext, behind_in}
+use Rattle.recursive_descent.specs.Spelled.{SpellsIn}
 
 -- one position
 some_same : {a b : Role} → Some a ≡ Some b → a ≡ b
@@ -45,6 +47,7 @@ abbrev pub is_elements : ListKind → Bool
 is_elements listed.Arguments = true
 is_elements listed.Elements = true
 is_elements listed.ParenthesizedItems = true
+is_elements listed.AsyncArguments = true
 is_elements listed.Parameters = true
 is_elements listed.OneParameter = true
 is_elements _ = false
@@ -71,10 +74,11 @@ closing_of listed.Elements = a_bracket
 closing_of _ = a_parenthesis
 
 -- an item ends before it or before a comma
-pub element_ends : (text : List ℕ) (x : ListKind) (n : Tree) (e : Token) → is_elements x ≡ true → ItemEnds text x n e → CommaOr text (closing_sign x) e
+pub element_ends : (text : SourceText) (x : ListKind) (n : Tree) (e : Token) → is_elements x ≡ true → ItemEnds text x n e → CommaOr text (closing_sign x) e
 element_ends text listed.Arguments n e h d = d
 element_ends text listed.Elements n e h d = d
 element_ends text listed.ParenthesizedItems n e h d = d
+element_ends text listed.AsyncArguments n e h d = d
 element_ends text listed.Parameters n e h d = d
 element_ends text listed.OneParameter n e h d = d
 element_ends text _ n e h d = absurd (false≢true h)
@@ -102,12 +106,14 @@ dotted_trails listed.Elements as_expression n s e u k has dots tree h m = absurd
 dotted_trails listed.Elements (as_pattern b) n s e u k has dots tree h m = absurd (false≢true (sym h ∙ ap (λ z. is_rest (kind_of z)) tree))
 dotted_trails listed.ParenthesizedItems as_expression n s e u k has dots tree h m = absurd (false≢true dots)
 dotted_trails listed.ParenthesizedItems (as_pattern b) n s e u k has dots tree h m = absurd (false≢true (sym h ∙ ap (λ z. is_rest (kind_of z)) tree))
+dotted_trails listed.AsyncArguments as_expression n s e u k has dots tree h m = absurd (false≢true m)
+dotted_trails listed.AsyncArguments (as_pattern b) n s e u k has dots tree h m = absurd (false≢true (sym h ∙ ap (λ z. is_rest (kind_of z)) tree))
 dotted_trails listed.Parameters as_expression n s e u k has dots tree h m = absurd (false≢true has)
 dotted_trails listed.Parameters (as_pattern b) n s e u k has dots tree h m = absurd (false≢true (sym h ∙ ap (λ z. is_rest (kind_of z)) tree))
 dotted_trails listed.OneParameter a n s e u k has dots tree h m = absurd (false≢true dots)
 dotted_trails _ a n s e u k has dots tree h m = absurd (false≢true k)
 
-module _ (text : List ℕ) where
+module _ (text : SourceText) where
   -- behind `...` a node from its start to its end
   pub record Dotted (x : ListKind) (a : Reading) (o : ℕ) (n : Tree) (m e : Token) (P : List Pair) : Type 0 where
     pub role : Role
@@ -125,16 +131,16 @@ module _ (text : List ℕ) where
 
   -- before an expression, and before an element of a pattern, no `...` stands
   expression_alone : (x : ListKind) {o : ℕ} (n : Tree) {s e : Token} {P : List Pair} → SpellsIn text o (expr Assignment true Any) n s e P → Element x as_expression o n s e P
-  expression_alone x n d = alone (λ t m r. no_plain_expression Token (NextIn text any_goal) itself (text_determined text) r d) refl d
+  expression_alone x n d = alone (λ t m r. no_plain_expression Token (SeenNext text) (behind_in text) (seen_determined text) r d) refl d
 
   pattern_alone : (x : ListKind) (b : Bool) {r : Role} {o : ℕ} (n : Tree) {s e : Token} {P : List Pair} → with_default b (kind_of n) ≡ Some r → SpellsIn text o r n s e P → Element x (as_pattern b) o n s e P
-  pattern_alone x b n it d = alone (λ t m r. no_element Token (NextIn text any_goal) itself (text_determined text) r b (element_form Token (NextIn text any_goal) itself (text_determined text) b n it d)) it d
+  pattern_alone x b n it d = alone (λ t m r. no_element Token (SeenNext text) (behind_in text) (seen_determined text) r b (element_form Token (SeenNext text) (behind_in text) (seen_determined text) b n it d)) it d
 
   -- a spread, and a rest, by their tokens and their part
   spread_there : (x : ListKind) {o : ℕ} (n : Tree) {s e : Token} {P : List Pair} → is_dotted x as_expression ≡ true → SpellsIn text o spread n s e P → Element x as_expression o n s e P
   spread_there x {o} n {s} {e} {P} ok d =
-      let v = spread_form Token (NextIn text any_goal) itself (text_determined text) d in
-      let at : v.0.x ≡ v.0.sign = (text_determined text).last s v.0.sign v.0.x v.0.reads.next in
+      let v = spread_form Token (SeenNext text) (behind_in text) (seen_determined text) d in
+      let at : behind_in text v.0.x ≡ v.0.sign = (seen_determined text).last s v.0.sign v.0.x v.0.reads.next in
       let start : v.0.st ≡ v.0.x.start = sym (ap (λ (t : Token). t.start) at ∙ v.0.starts) in
       dotted (read_here text v.0.reads) (record {
         role = expr Assignment true Any;
@@ -148,9 +154,9 @@ module _ (text : List ℕ) where
 
   rest_there : (x : ListKind) (b : Bool) {o : ℕ} (n : Tree) {s e : Token} {P : List Pair} → is_dotted x (as_pattern b) ≡ true → SpellsIn text o (rest b false) n s e P → Element x (as_pattern b) o n s e P
   rest_there x b {o} n {s} {e} {P} ok d =
-      let w = rest_form Token (NextIn text any_goal) itself (text_determined text) d in
+      let w = rest_form Token (SeenNext text) (behind_in text) (seen_determined text) d in
       let v = w.dotted in
-      let at : v.x ≡ v.sign = (text_determined text).last s v.sign v.x v.reads.next in
+      let at : behind_in text v.x ≡ v.sign = (seen_determined text).last s v.sign v.x v.reads.next in
       let start : v.st ≡ v.x.start = sym (ap (λ (t : Token). t.start) at ∙ v.starts) in
       dotted (read_here text v.reads) (record {
         role = v.role;
@@ -182,6 +188,7 @@ module _ (text : List ℕ) where
   element_given listed.Elements a n k has it d = of_element listed.Elements a n refl it d
   element_given listed.ParenthesizedItems as_expression {o = o} n {s} {e} {P} k has it d = expression_alone listed.ParenthesizedItems n (subst (λ z. SpellsIn text o z n s e P) (sym (some_same it)) d)
   element_given listed.ParenthesizedItems (as_pattern b) n k has it d = of_element listed.ParenthesizedItems (as_pattern b) n refl it d
+  element_given listed.AsyncArguments a n k has it d = of_element listed.AsyncArguments a n refl it d
   element_given listed.Parameters as_expression n k has it d = absurd (false≢true has)
   element_given listed.Parameters (as_pattern b) n k has it d = of_element listed.Parameters (as_pattern b) n refl it d
   element_given listed.OneParameter as_expression n k has it d = absurd (false≢true has)
@@ -190,8 +197,8 @@ module _ (text : List ℕ) where
 
   -- it stands behind `...` where that was read, and alone where it is missed
   pub dotted_there : {x : ListKind} {a : Reading} {o : ℕ} {n : Tree} {s m e : Token} {P : List Pair} → ReadsHere text Punctuator (codes "...") s m → Element x a o n s e P → Dotted x a o n m e P
-  dotted_there r (alone h it d) = absurd (h _ _ r)
-  dotted_there {x} {a} {o} {n} {s} {m} {e} {P} r (dotted q v) = subst (λ z. Dotted x a o n z e P) (marks_same text q r).0 v
+  dotted_there r (alone h it d) = absurd (not_missed h r)
+  dotted_there {x} {a} {o} {n} {s} {m} {e} {P} r (dotted q v) = subst (λ z. Dotted x a o n z e P) (marks_same text q r).1 v
 
   pub record Alone (a : Reading) (o : ℕ) (n : Tree) (s e : Token) (P : List Pair) : Type 0 where
     pub role : Role
@@ -201,19 +208,22 @@ module _ (text : List ℕ) where
   -- and so alone
   pub alone_there : {x : ListKind} {a : Reading} {o : ℕ} {n : Tree} {s e : Token} {P : List Pair} → Misses text Punctuator (codes "...") s → Element x a o n s e P → Alone a o n s e P
   alone_there misses (alone {r} h it d) = record { role = r; it_is = it; spelled = d }
-  alone_there misses (dotted r v) = absurd (misses _ _ r)
+  alone_there misses (dotted r v) = absurd (not_missed misses r)
 
   -- nothing but a comma goes on where an item ends
-  separated : {w : List ℕ} {e : Token} → CommaOr text w e → Separated Token (NextIn text any_goal) itself (text_determined text) w e
+  separated : {w : List ℕ} {e : Token} → CommaOr text w e → Separated Token (SeenNext text) (behind_in text) (seen_determined text) w e
   separated (inl r) = by_comma r.1
   separated (inr r) = by_closing r.1
 
   -- the token that is read there is the comma or the closing sign
-  same_token : {w : List ℕ} {e t k u m : Token} → Reads Token (NextIn text any_goal) itself Punctuator w e t k → ReadBy Token (NextIn text any_goal) itself Div e u m → u ≡ t
-  same_token {e = e} {t} {k} {u} {m} r b = let a = mark_by text r in ((text_determined text).same Div e u t m k b.next a.next b.allowed a.allowed).0
+  same_token : {w : List ℕ} {e t k u m : Token} → Reads Token (SeenNext text) (behind_in text) Punctuator w e t k → ReadBy Token (SeenNext text) (behind_in text) Div e u m → u ≡ t
+  same_token {e = e} {t} {k} {u} {m} r b = let a = mark_by text r in ((seen_determined text).same Div e u t m k b.next a.next b.allowed a.allowed).0
 
-  over_sign : {w : List ℕ} {e t k : Token} → ((x : Bool) → is_over (rank_made_by (of_class Punctuator w) x) ≡ true) → Reads Token (NextIn text any_goal) itself Punctuator w e t k → Over text e
-  over_sign {t = t} h r u m b = let same = same_token r b in (λ i. is_over (rank_made_by (of_class (same i).class (same i).text) (same i).after_break)) ∙ (λ i. is_over (rank_made_by (of_class (r.class i) (r.text i)) t.after_break)) ∙ h t.after_break
+  over_sign : {w : List ℕ} {e t k : Token} → ((x : Bool) → is_over (rank_made_by (of_class Punctuator w) x) ≡ true) → Reads Token (SeenNext text) (behind_in text) Punctuator w e t k → Over text e
+  over_sign {w} {t = t} h r = record {
+    before = λ u m b. let same = same_token r b in (λ i. is_over (rank_made_by (of_class (same i).class (same i).text) (same i).after_break)) ∙ (λ i. is_over (rank_made_by (of_class (r.class i) (r.text i)) t.after_break)) ∙ h t.after_break;
+    apart = apart_sign Token (SeenNext text) (behind_in text) (seen_determined text) r (div_allows false w);
+  }
 
   -- so nothing goes on there
   over_there : {w : List ℕ} {e : Token} → Closing w → CommaOr text w e → Over text e
@@ -226,5 +236,5 @@ module _ (text : List ℕ) where
   pub value_given : (a : Reading) {q : ExpressionContext} {r : Role} {w : List ℕ} {o : ℕ} {n : Tree} {s e : Token} {P : List Pair} → Closing w → q ≡ record { rank = Assignment; has_in = true; start = Any } → value_as a n ≡ Some r → SpellsIn text o r n s e P → CommaOr text w e → GivenAs text q o n s e P a
   value_given as_expression {q} {r} {w} {o} {n} {s} {e} {P} c q_is it d ends =
       subst (λ (z : ExpressionContext). GivenAs text z o n s e P as_expression) (sym q_is)
-      (an_expression (no_conditional refl) (no_new refl) (subst (λ z. SpellsIn text o z n s e P) (sym (some_same it)) d) (item_stops Token (NextIn text any_goal) itself (text_determined text) c Assignment n e refl (separated ends)))
+      (an_expression (no_conditional refl) (no_new refl) (subst (λ z. SpellsIn text o z n s e P) (sym (some_same it)) d) (item_stops Token (SeenNext text) (behind_in text) (seen_determined text) c Assignment n e refl (separated ends)))
   value_given (as_pattern b) c q_is it d ends = an_element q_is it d (over_there c ends)

@@ -28,6 +28,9 @@ use Rattle.parser_tables.specs.Items.{with_item}
 use Rattle.recursive_descent.proofs.complete_expressions.Agreement.{agrees_on}
 use Rattle.recursive_descent.proofs.sound_lists.OneMoreItem.{join_none, read_push}
 use Rattle.recursive_descent.proofs.complete_lists.ItemFits.{plain_item, agrees_pushed, fits_at, takes_at, is_plainly}
+use Rattle.token_cursor.specs.SourceText.{SourceText}
+use Rattle.recursive_descent.specs.Spelled.{OfLanguage, AllOfLanguage}
+use Rattle.recursive_descent.proofs.reading.LanguageTrees.{first_of_language}
 
 -- how many parts there are with one more, and which the only one is
 pub pushed_count : (ps : Parts) (n : Tree) → part_count (push ps n) ≡ part_count ps + 1
@@ -84,11 +87,11 @@ fitting_read l it a n plain some left lone f = record {
 
 -- such an item is taken
 pub item_taken : (s e : CursorState) (old new : List Pair) (l k : ListOf) (high : ℕ) (it : ListItem) (at : ℕ) (answer : Result (Unit {0}) Fault) → is_chunked l.listed ≡ false → IfOk answer (λ u. k ≡ with_item l it) → IsTaken (takes l.listed l.seen it) at answer →
-    ((a : Reading) (o : ℕ) (last : Bool) (one : Parts) (to : Token) (P : List Pair) → is_ended l.listed l.seen (part_count l.nodes) ≡ false → has_reading l.listed a ≡ true → nat_le (case_count l.listed one + default_seen l.listed l.seen.is_flagged) 1 ≡ true → ItemGiven s.text l.listed a o s.last to P last one → Taken s e old new l it a last one to P) →
+    ((a : Reading) (o : ℕ) (last : Bool) (one : Parts) (to : Token) (P : List Pair) → is_ended l.listed l.seen (part_count l.nodes) ≡ false → has_reading l.listed a ≡ true → nat_le (case_count l.listed one + default_seen l.listed l.seen.is_flagged) 1 ≡ true → ItemGiven s.text l.listed a o s.last to P last one → AllOfLanguage s.text one → Taken s e old new l it a last one to P) →
     ItemComplete s e old new high l k answer
-item_taken s e old new l k high it at answer plain put taken make = λ a o last one to P some left lone once g.
+item_taken s e old new l k high it at answer plain put taken make = λ a o last one to P some left lone once g own.
     let reads : has_reading l.listed a ≡ true = (and_parts _ _ (and_parts _ _ left).0).0 in
-    let v = make a o last one to P some reads once g in
+    let v = make a o last one to P some reads once g own in
     let alone : is_lone l.listed a (part_count l.nodes + 1) ≡ true = ap (λ x. is_lone l.listed a (part_count l.nodes + part_count x)) (sym v.parts) ∙ lone in
     let read : ItemRead a l (with_item l it) false (part v.tree none) = fitting_read l it a v.tree plain some left alone v.fitting in
     let took : takes l.listed l.seen it ≡ true = takes_at l.listed l it a reads v.fitting.fits read.left v.fitting.once in
@@ -99,10 +102,9 @@ item_taken s e old new l k high it at answer plain put taken make = λ a o last 
 pub one_high : (n : Tree) {one : Parts} {high : ℕ} → one ≡ part n none → parts_height one ≤ high → height n ≤ high
 one_high n {one} {high} is h = let u : parts_height (part n none) ≤ high = subst (λ x. parts_height x ≤ high) is h in omega arith
 
--- a property or a member that is refused
-definition_role : (c : Bool) (l : ListOf) → l.listed ≡ defined c → is_chunked l.listed ≡ false
-definition_role true l h = ap is_chunked h
-definition_role false l h = ap is_chunked h
+-- it is of the language
+pub own_tree : {text : SourceText} (n : Tree) {one : Parts} → one ≡ part n none → AllOfLanguage text one → OfLanguage text n
+own_tree {text} n is own = first_of_language {text = text} {n = n} {ps = none} (subst (λ x. AllOfLanguage text x) is own)
 
 -- members and properties are neither parts of a template nor elements, and end so
 defined_plain : (c : Bool) → is_chunked (defined c) ≡ false
@@ -113,7 +115,7 @@ no_elements : {X : Type 0} (c : Bool) → defined c ≡ listed.Elements → X
 no_elements true h = cc
 no_elements false h = cc
 
-defined_ends : (text : List ℕ) (c : Bool) (n : Tree) (e : Token) → ItemEnds text (defined c) n e → DefinitionEnds text c e
+defined_ends : (text : SourceText) (c : Bool) (n : Tree) (e : Token) → ItemEnds text (defined c) n e → DefinitionEnds text c e
 defined_ends text true n e h = h
 defined_ends text false n e h = h
 
@@ -122,10 +124,10 @@ pub left_reads : (l : ListOf) (a : Reading) → is_left l a ≡ true → has_rea
 left_reads l a h = (and_parts _ _ (and_parts _ _ h).0).0
 
 pub definition_refused : (s e : CursorState) (old new : List Pair) (l k : ListOf) (high : ℕ) (c : Bool) (answer : Result (Unit {0}) Fault) (fault : Fault) → l.listed ≡ defined c → IsErrAnd answer (λ x. x ≡ fault) → PropertyOrMemberComplete s e old new high c (Err fault) → ItemComplete s e old new high l k answer
-definition_refused s e old new l k high c answer fault is err h = λ a o last one to P some left lone once g.
+definition_refused s e old new l k high c answer fault is err h = λ a o last one to P some left lone once g own.
     let v = plain_item (defined_plain c) (λ q. no_elements c q) (subst (λ x. ItemGiven s.text x a o s.last to P last one) is g) in
     agrees_on (Room s o (height v.tree) high) (Room s o (parts_height one) high) (λ u. ItemRead a l k last one × EndsWith s e old new to P) answer fault err
-    (h a o v.role v.tree to P (ap (λ x. has_reading x a) (sym is) ∙ left_reads l a left) v.it_is v.spelled (defined_ends s.text c v.tree to v.ends)) (λ room. (room.0, one_high v.tree v.parts room.1))
+    (h a o v.role v.tree to P (ap (λ x. has_reading x a) (sym is) ∙ left_reads l a left) v.it_is v.spelled (defined_ends s.text c v.tree to v.ends) (own_tree v.tree v.parts own)) (λ room. (room.0, one_high v.tree v.parts room.1))
 
 -- one that is read
 definition_trails : (c : Bool) (a : Reading) (it : ListItem) (n : Tree) → (is_rest (kind_of n) ≡ false → may_trail it a ≡ true) → is_last_rest (defined c) a (part n none) ≡ false → minds_rest (defined c) a ≡ true → it.spreads ≡ false
@@ -147,9 +149,9 @@ defined_counts true x b d = grind (arith, nat_tests)
 defined_counts false x b d = grind (arith, nat_tests)
 
 pub definition_taken : (s e : CursorState) (old new : List Pair) (l k : ListOf) (high : ℕ) (c : Bool) (it : ListItem) (at : ℕ) (answer : Result (Unit {0}) Fault) → l.listed ≡ defined c → IfOk answer (λ u. k ≡ with_item l it) → IsTaken (takes l.listed l.seen it) at answer → PropertyOrMemberComplete s e old new high c (Ok it) → ItemComplete s e old new high l k answer
-definition_taken s e old new l k high c it at answer is put taken h = item_taken s e old new l k high it at answer (ap is_chunked is ∙ defined_plain c) put taken (λ a o last one to P some reads once g.
+definition_taken s e old new l k high c it at answer is put taken h = item_taken s e old new l k high it at answer (ap is_chunked is ∙ defined_plain c) put taken (λ a o last one to P some reads once g own.
     let v = plain_item (defined_plain c) (λ q. no_elements c q) (subst (λ x. ItemGiven s.text x a o s.last to P last one) is g) in
-    let u = h a o v.role v.tree to P (ap (λ x. has_reading x a) (sym is) ∙ reads) v.it_is v.spelled (defined_ends s.text c v.tree to v.ends) in
+    let u = h a o v.role v.tree to P (ap (λ x. has_reading x a) (sym is) ∙ reads) v.it_is v.spelled (defined_ends s.text c v.tree to v.ends) (own_tree v.tree v.parts own) in
     record {
       tree = v.tree;
       parts = v.parts;

@@ -11,7 +11,6 @@ use Rattle.tree.specs.Tree.{Tree, Parts, none, part, push, part_count, kind_of}
 use Rattle.language.specs.Covers.{Reading, as_expression, as_pattern}
 use Rattle.language.specs.Pieces.{Role}
 use Rattle.language.specs.Token.{Token}
-use Rattle.language.specs.Places.{SpellsIn}
 use Rattle.covers.specs.declared.shape.TargetForm.{TargetForm}
 use Rattle.covers.specs.declared.shape.TargetForm.TheVariants as assigned
 use Rattle.covers.specs.declared.shape.CoverShape.{CoverShape}
@@ -27,9 +26,12 @@ use Rattle.recursive_descent.specs.SoundnessOfLists.{has_reading, seen_fits, ite
 use Rattle.recursive_descent.specs.Completeness.{Agrees}
 use Rattle.recursive_descent.specs.CompletenessOfLists.{ItemGiven, an_item, a_hole, a_chunk, ItemEnds, is_lone}
 use Rattle.token_cursor.specs.Seen.{Misses}
+use Rattle.token_cursor.specs.SourceText.{SourceText}
+use Rattle.recursive_descent.specs.Spelled.{SpellsIn}
+use Rattle.recursive_descent.proofs.complete_expressions.Agreement.{not_missed}
 
 -- an item that is no hole and no part of a template
-pub record PlainItem (text : List ℕ) (x : ListKind) (a : Reading) (o : ℕ) (s e : Token) (P : List Pair) (last : Bool) (one : Parts) : Type 0 where
+pub record PlainItem (text : SourceText) (x : ListKind) (a : Reading) (o : ℕ) (s e : Token) (P : List Pair) (last : Bool) (one : Parts) : Type 0 where
   pub role : Role
   pub tree : Tree
   pub parts : one ≡ part tree none
@@ -39,9 +41,9 @@ pub record PlainItem (text : List ℕ) (x : ListKind) (a : Reading) (o : ℕ) (s
   pub ends : ItemEnds text x tree e
 
 -- so is what is given, where no hole is
-pub plain_item : {text : List ℕ} {x : ListKind} {a : Reading} {o : ℕ} {s e : Token} {P : List Pair} {last : Bool} {one : Parts} → is_chunked x ≡ false → (x ≡ listed.Elements → Misses text Punctuator (codes ",") s) → ItemGiven text x a o s e P last one → PlainItem text x a o s e P last one
+pub plain_item : {text : SourceText} {x : ListKind} {a : Reading} {o : ℕ} {s e : Token} {P : List Pair} {last : Bool} {one : Parts} → is_chunked x ≡ false → (x ≡ listed.Elements → Misses text Punctuator (codes ",") s) → ItemGiven text x a o s e P last one → PlainItem text x a o s e P last one
 plain_item c miss (an_item {r = r} {n = n} h it d e) = record { role = r; tree = n; parts = refl; unmarked = refl; it_is = it; spelled = d; ends = e }
-plain_item c miss (a_hole is comma z q) = absurd (miss is comma.0 comma.0 comma.1)
+plain_item c miss (a_hole is comma z q) = absurd (not_missed (miss is) comma.1)
 plain_item c miss (a_chunk is d st ch) = absurd (false≢true (sym c ∙ ap is_chunked is))
 
 -- the shape of the items with one more
@@ -143,6 +145,15 @@ fits_at listed.ParenthesizedItems l it (as_pattern true) c some h k plain lone =
     let v = shaped_fits listed.ParenthesizedItems it.spreads l.seen.shape it.shape (as_pattern true) u.0 k in
     and_both v (or_right (shape_with it.spreads listed.ParenthesizedItems l.seen.shape it.shape).is_expression _ v)
 fits_at listed.ParenthesizedItems l it (as_pattern false) c some h k plain lone = cc
+fits_at listed.AsyncArguments l it as_expression c some h k plain lone =
+    let u = and_parts (true && fits_as l.seen.shape as_expression) _ h in
+    let v = shaped_fits listed.AsyncArguments it.spreads l.seen.shape it.shape as_expression u.0 k in
+    and_both v (or_left _ _ v)
+fits_at listed.AsyncArguments l it (as_pattern true) c some h k plain lone =
+    let u = and_parts (true && fits_as l.seen.shape (as_pattern true)) _ h in
+    let v = shaped_fits listed.AsyncArguments it.spreads l.seen.shape it.shape (as_pattern true) u.0 k in
+    and_both v (or_right (shape_with it.spreads listed.AsyncArguments l.seen.shape it.shape).is_expression _ v)
+fits_at listed.AsyncArguments l it (as_pattern false) c some h k plain lone = cc
 fits_at listed.Parameters l it (as_pattern true) c some h k plain lone =
     let u = and_parts (true && fits_as l.seen.shape (as_pattern true)) _ h in
     let v = shaped_fits listed.Parameters it.spreads l.seen.shape it.shape (as_pattern true) u.0 k in

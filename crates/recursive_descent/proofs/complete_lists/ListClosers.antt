@@ -24,14 +24,16 @@ use Rattle.recursive_descent.specs.Follows.{PassedBefore, FirstMisses, MissesEnd
 use Rattle.recursive_descent.specs.CompletenessOfLists.{ListGiven, ItemGiven, an_item, a_hole, a_chunk, is_left}
 use Rattle.parser_tables.specs.Items.{after_item, is_unseparated, are_some}
 use Rattle.token_cursor.specs.Seen.{Misses}
-use Rattle.recursive_descent.proofs.complete_expressions.Agreement.{ends_behind, ends_before, ends_both, ends_same}
+use Rattle.recursive_descent.proofs.complete_expressions.Agreement.{ends_behind, ends_before, ends_both, ends_same, not_missed}
 use Rattle.recursive_descent.proofs.sound_lists.OneMoreItem.{join_none}
 use Rattle.recursive_descent.proofs.complete_lists.WholeListAnswers.{Done, closes_at}
-use Rattle.recursive_descent.proofs.complete_lists.ListLoop.{Reaches}
+use Rattle.recursive_descent.proofs.complete_lists.ListLoop.{Reaches, left_own}
 use Rattle.recursive_descent.proofs.complete_lists.ReachedItems.{asked_item}
 use Rattle.recursive_descent.proofs.complete_lists.ListTurns.{join_again}
 use Rattle.recursive_descent.proofs.complete_lists.ListWhole.{none_behind, whole_left}
 use Rattle.recursive_descent.proofs.sound_lists.WholeLists.{after_nodes, after_listed}
+use Rattle.token_cursor.specs.SourceText.{SourceText}
+use Rattle.recursive_descent.specs.Spelled.{AllOfLanguage}
 
 -- what is seen behind the last item: the same, or that no comma stands there
 abbrev behind_last : Bool → ListSummary → ListSummary
@@ -93,7 +95,7 @@ some_more (gap (part m ps)) n = refl
 some_more (gap (gap ps)) n = refl
 
 -- what parentheses hold has an item then, and no comma is the last
-some_asked : {text : List ℕ} {o : ℕ} {s e : Token} {Q : List Pair} {last : Bool} {one : Parts} (x : ListKind) (a : Reading) (ps qs : Parts) (b : Bool) → ItemGiven text x a o s e Q last one → (x ≡ listed.ParenthesizedItems → b ≡ false) → all_read_as a qs ≡ join (all_read_as a ps) one → cond (asks_some x a) (are_some qs && not b) true ≡ true
+some_asked : {text : SourceText} {o : ℕ} {s e : Token} {Q : List Pair} {last : Bool} {one : Parts} (x : ListKind) (a : Reading) (ps qs : Parts) (b : Bool) → ItemGiven text x a o s e Q last one → (x ≡ listed.ParenthesizedItems → b ≡ false) → all_read_as a qs ≡ join (all_read_as a ps) one → cond (asks_some x a) (are_some qs && not b) true ≡ true
 some_asked listed.ParenthesizedItems as_expression ps qs b (an_item {n = n} ch it d en) free is = ap (λ z. z && not b) (ap are_some is ∙ some_more ps n) ∙ ap not (free refl)
 some_asked listed.ParenthesizedItems as_expression ps qs b (a_hole k c z q) free is = cc
 some_asked listed.ParenthesizedItems as_expression ps qs b (a_chunk k x y z) free is = cc
@@ -103,13 +105,13 @@ some_asked _ a ps qs b g free is = refl
 -- behind the last item
 pub done_behind : {s m t e x : CursorState} {old mid tmid emid new : List Pair} (high : ℕ) (l0 l k k2 k' : ListOf) (u : Unit {0}) → Reaches s.text l0 l s m old mid → l.listed ≡ l0.listed → m.text ≡ s.text → PassedBefore l.listed m t → FirstMisses t.text l.listed t.last → t.text ≡ m.text → tmid ≡ mid →
     is_ended l.listed l.seen (part_count l.nodes) ≡ false → MissesEnd (end_before l.listed) t → ItemComplete t e tmid emid high l k (Ok u) → e.text ≡ t.text → k.listed ≡ l.listed → k2.listed ≡ k.listed → k2.nodes ≡ k.nodes → k2.seen ≡ k.seen → CommaAt e x k2 false → k' ≡ after_item k2 false → new ≡ emid →
-    (a : Reading) (o : ℕ) (ps : Parts) (to : Token) (P : List Pair) → ListGiven s.text l0 a o ps s.last to P → Done s.text l0 k' a ps to P s x old new
-done_behind {s} {m} {t} {e} {x} {old} {mid} {tmid} {emid} {new} high l0 l k k2 k' u before kind here passed first there same open_list miss item here_e kl b c d comma is added a o ps to P g =
-    let v = before a o ps to P g in
+    (a : Reading) (o : ℕ) (ps : Parts) (to : Token) (P : List Pair) → ListGiven s.text l0 a o ps s.last to P → AllOfLanguage s.text ps → Done s.text l0 k' a ps to P s x old new
+done_behind {s} {m} {t} {e} {x} {old} {mid} {tmid} {emid} {new} high l0 l k k2 k' u before kind here passed first there same open_list miss item here_e kl b c d comma is added a o ps to P g own =
+    let v = before a o ps to P g own in
     let q = asked_item l a m t v.left here there passed first open_list miss in
     let w = q.here in
     let text : t.text ≡ s.text = there ∙ here in
-    let r = item a o w.last w.one w.mid w.pairs_one open_list v.left.left q.lone q.once (subst (λ y. ItemGiven y l.listed a o t.last w.mid w.pairs_one w.last w.one) (sym text) w.given) in
+    let r = item a o w.last w.one w.mid w.pairs_one open_list v.left.left q.lone q.once (subst (λ y. ItemGiven y l.listed a o t.last w.mid w.pairs_one w.last w.one) (sym text) w.given) (subst (λ y. AllOfLanguage y w.one) (sym text) (q.own (left_own s.text v.done v.rest v.parts own))) in
     let at : e.last ≡ w.mid = r.1.place in
     let listed2 : k2.listed ≡ l.listed = b ∙ kl in
     let ending : Bool = is_ended k2.listed k2.seen (part_count k2.nodes) || is_unseparated k2.listed in
@@ -137,19 +139,19 @@ done_behind {s} {m} {t} {e} {x} {old} {mid} {tmid} {emid} {new} high l0 l k k2 k
     over_of listed2 text at (inr h) = inr (ap is_unseparated (sym listed2) ∙ h.0, subst (λ y. Misses s.text Punctuator (codes ",") y) at (subst (λ y. Misses y Punctuator (codes ",") e.last) (here_e ∙ text) h.1))
 
 -- all that is given was read
-abbrev pub AllDone : List ℕ → ListOf → ListOf → CursorState → CursorState → List Pair → List Pair → Type 0
-AllDone text l0 l s e old new = (a : Reading) (o : ℕ) (ps : Parts) (to : Token) (P : List Pair) → ListGiven text l0 a o ps s.last to P → Done text l0 l a ps to P s e old new
+abbrev pub AllDone : SourceText → ListOf → ListOf → CursorState → CursorState → List Pair → List Pair → Type 0
+AllDone text l0 l s e old new = (a : Reading) (o : ℕ) (ps : Parts) (to : Token) (P : List Pair) → ListGiven text l0 a o ps s.last to P → AllOfLanguage text ps → Done text l0 l a ps to P s e old new
 
 -- what closes it isn't missed
 pub close_refused : (s m x : CursorState) (old mid new : List Pair) (high : ℕ) (l0 l : ListOf) {w : List ℕ} (answer : Result ListOf Fault) (fault : Fault) → AllDone s.text l0 l s m old mid → m.text ≡ s.text → closing l.listed ≡ Some w → IsErrAnd answer (λ y. y ≡ fault) → Misses m.text Punctuator w m.last → ListComplete s x old new high l0 answer
-close_refused s m x old mid new high l0 l {w} answer fault done same mark err missed a o ps to P g =
-    let v = done a o ps to P g in
-    absurd (subst (λ y. Misses y Punctuator w m.last) same missed to to (subst (λ y. ClosedBy s.text y m.last to) mark v.closes))
+close_refused s m x old mid new high l0 l {w} answer fault done same mark err missed a o ps to P g own =
+    let v = done a o ps to P g own in
+    absurd (not_missed (subst (λ y. Misses y Punctuator w m.last) same missed) (subst (λ y. ClosedBy s.text y m.last to) mark v.closes))
 
 -- the whole list
 pub list_answered : (s m e : CursorState) (old mid new : List Pair) (high : ℕ) (l0 l whole : ListOf) → AllDone s.text l0 l s m old mid → ClosedBy s.text (closing l.listed) m.last e.last → new ≡ mid → whole.listed ≡ l.listed → whole.nodes ≡ l.nodes → whole.seen ≡ l.seen → ListComplete s e old new high l0 (Ok whole)
-list_answered s m e old mid new high l0 l whole done closes added b c d a o ps to P g =
-    let v = done a o ps to P g in
+list_answered s m e old mid new high l0 l whole done closes added b c d a o ps to P g own =
+    let v = done a o ps to P g own in
     let fits : seen_fits l.listed whole a ≡ seen_fits l.listed l a = last_fits l.listed l whole a true c d in (
       (λ i. (has_reading (b i) a && seen_fits (b i) whole a) && cond (asks_some (b i) a) (are_some (c i) && not (d i).has_comma) true) ∙ ap (λ y. (has_reading l.listed a && y) && cond (asks_some l.listed a) (are_some l.nodes && not l.seen.has_comma) true) fits ∙ v.whole,
       ap (all_read_as a) c ∙ v.nodes,

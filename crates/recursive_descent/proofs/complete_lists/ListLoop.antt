@@ -4,7 +4,6 @@ use Rattle.std.specs.Prelude.{Option, Some, None, ◌&&◌, nat_le, nat_lt}
 use Rattle.std.proofs.lemmas.Bool.{false≢true, true≢false}
 use Rattle.std.proofs.lemmas.Bool.Decides.{nat_tests}
 use Rattle.std.proofs.lemmas.List.{append-nil}
-use Rattle.tokens.specs.Reading.{any_goal}
 use Rattle.tokens.specs.declared.token.TokenClass.TheVariants.{Punctuator}
 use Rattle.token_cursor.specs.CursorState.{CursorState}
 use Rattle.tree.specs.declared.kind.Pair.{Pair}
@@ -12,7 +11,6 @@ use Rattle.tree.specs.Tree.{Parts, none, part, gap, join, part_count}
 use Rattle.language.specs.declared.Start.TheVariants.{Any}
 use Rattle.language.specs.Covers.{Reading, as_expression, as_pattern}
 use Rattle.language.specs.Pieces.{is_none}
-use Rattle.language.specs.Places.{NextIn, itself}
 use Rattle.language.proofs.list_loops.FirstPieces.{run_none}
 use Rattle.language.specs.Token.{Token}
 use Rattle.covers.specs.declared.list.ListKind.{ListKind}
@@ -31,9 +29,13 @@ use Rattle.token_cursor.specs.Seen.{ReadsHere, Misses}
 use Rattle.recursive_descent.proofs.sound_lists.OneMoreItem.{join_none}
 use Rattle.recursive_descent.proofs.complete_lists.ListSteps.{Behind, Step as ListStep, over, further, nothing_there}
 use Rattle.recursive_descent.proofs.complete_lists.ListTurns.{Ahead, stuck, unstuck, EndSeen, item_apart}
+use Rattle.token_cursor.specs.SourceText.{SourceText, SeenNext, behind_in}
+use Rattle.recursive_descent.proofs.complete_expressions.Agreement.{not_missed}
+use Rattle.recursive_descent.specs.Spelled.{AllOfLanguage}
+use Rattle.recursive_descent.proofs.reading.LanguageTrees.{join_of_language}
 
 -- What was read of a given list, and what is left of it.
-pub record Reached (text : List ℕ) (l0 l : ListOf) (a : Reading) (o : ℕ) (ps : Parts) (to : Token) (P : List Pair) (s e : CursorState) (old new : List Pair) : Type 0 where
+pub record Reached (text : SourceText) (l0 l : ListOf) (a : Reading) (o : ℕ) (ps : Parts) (to : Token) (P : List Pair) (s e : CursorState) (old new : List Pair) : Type 0 where
   pub done : Parts
   pub rest : Parts
   pub one : List Pair
@@ -45,12 +47,13 @@ pub record Reached (text : List ℕ) (l0 l : ListOf) (a : Reading) (o : ℕ) (ps
   pub left : ListGiven text l a o rest e.last to more
   pub lone : l0.listed ≡ listed.ParenthesizedItems → a ≡ as_expression → LoneRead l0 → LoneRead l
 
--- of each that is given
-abbrev pub Reaches : List ℕ → ListOf → ListOf → CursorState → CursorState → List Pair → List Pair → Type 0
-Reaches text l0 l s e old new = (a : Reading) (o : ℕ) (ps : Parts) (to : Token) (P : List Pair) → ListGiven text l0 a o ps s.last to P → Reached text l0 l a o ps to P s e old new
+-- what is left is of the language with the whole
+pub left_own : (text : SourceText) (done rest : Parts) {ps : Parts} → ps ≡ join done rest → AllOfLanguage text ps → AllOfLanguage text rest
+left_own text done rest is own = (join_of_language {text = text} done rest (subst (λ y. AllOfLanguage text y) is own)).1
 
-only_places : (l k : ListOf) → k.listed ≡ l.listed → k.nodes ≡ l.nodes → k.seen ≡ l.seen → k ≡ record { listed = l.listed; nodes = l.nodes; seen = l.seen; inside = k.inside; span = k.span }
-only_places l k a b c = λ i. record { listed = a i; nodes = b i; seen = c i; inside = k.inside; span = k.span }
+-- of each that is given
+abbrev pub Reaches : SourceText → ListOf → ListOf → CursorState → CursorState → List Pair → List Pair → Type 0
+Reaches text l0 l s e old new = (a : Reading) (o : ℕ) (ps : Parts) (to : Token) (P : List Pair) → ListGiven text l0 a o ps s.last to P → AllOfLanguage text ps → Reached text l0 l a o ps to P s e old new
 
 fits_places : (x : ListKind) (l k : ListOf) (a : Reading) → k.nodes ≡ l.nodes → k.seen ≡ l.seen → seen_fits x k a ≡ seen_fits x l a
 fits_places (listed.Declarators i) l k as_expression b c = ap (λ (y : ListSummary). not y.is_flagged) c
@@ -65,14 +68,14 @@ fits_places _ l k a b c = ap (λ (y : ListSummary). fits_as y.shape a) c
 left_places : (l k : ListOf) (a : Reading) → k.listed ≡ l.listed → k.nodes ≡ l.nodes → k.seen ≡ l.seen → is_left k a ≡ is_left l a
 left_places l k a b c d = (λ i. (has_reading (b i) a && seen_fits (b i) k a) && reads (b i) (d i).shape) ∙ ap (λ x. (has_reading l.listed a && x) && reads l.listed l.seen.shape) (fits_places l.listed l k a c d)
 
-rest_moved : (text : List ℕ) (l k : ListOf) (a : Reading) (o : ℕ) (ps : Parts) (s e : Token) (P : List Pair) → k.listed ≡ l.listed → k.seen ≡ l.seen → (u v : Bool) → v ≡ u → RestGiven text u l a o ps s e P → RestGiven text v k a o ps s e P
+rest_moved : (text : SourceText) (l k : ListOf) (a : Reading) (o : ℕ) (ps : Parts) (s e : Token) (P : List Pair) → k.listed ≡ l.listed → k.seen ≡ l.seen → (u v : Bool) → v ≡ u → RestGiven text u l a o ps s e P → RestGiven text v k a o ps s e P
 rest_moved text l k a o ps s e P b d true true h r = r
 rest_moved text l k a o ps s e P b d true false h r = cc
 rest_moved text l k a o ps s e P b d false true h r = cc
 rest_moved text l k a o ps s e P b d false false h r = subst (λ x. x) (λ j. RunsIn text o (stood_in Any (sym b j) (left_of (sym b j) (sym d j).is_flagged a ps)) ps s e P) r
 
 -- where the list stands matters to none
-pub moved_given : {text : List ℕ} {l k : ListOf} {a : Reading} {o : ℕ} {ps : Parts} {s to : Token} {P : List Pair} → k.listed ≡ l.listed → k.nodes ≡ l.nodes → k.seen ≡ l.seen → ListGiven text l a o ps s to P → ListGiven text k a o ps s to P
+pub moved_given : {text : SourceText} {l k : ListOf} {a : Reading} {o : ℕ} {ps : Parts} {s to : Token} {P : List Pair} → k.listed ≡ l.listed → k.nodes ≡ l.nodes → k.seen ≡ l.seen → ListGiven text l a o ps s to P → ListGiven text k a o ps s to P
 moved_given {text} {l} {k} {a} {o} {ps} {s} {to} {P} b c d g = record {
   left = left_places l k a b c d ∙ g.left;
   mid = g.mid;
@@ -90,8 +93,8 @@ moved_lone {l} {k} c d h = record {
   target = λ n p t. ap (λ (y : ListSummary). Rattle.covers.specs.Shapes.is_target y.last.assigned) d ∙ h.target n (sym c ∙ p) t;
 }
 
-pub reaches_first : (text : List ℕ) (l0 l : ListOf) (s : CursorState) (old : List Pair) → l.listed ≡ l0.listed → l.nodes ≡ l0.nodes → l.seen ≡ l0.seen → Reaches text l0 l s s old old
-reaches_first text l0 l s old b c d a o ps to P g = record {
+pub reaches_first : (text : SourceText) (l0 l : ListOf) (s : CursorState) (old : List Pair) → l.listed ≡ l0.listed → l.nodes ≡ l0.nodes → l.seen ≡ l0.seen → Reaches text l0 l s s old old
+reaches_first text l0 l s old b c d a o ps to P g own = record {
   done = none;
   rest = ps;
   one = [];
@@ -105,7 +108,7 @@ reaches_first text l0 l s old b c d a o ps to P g = record {
 }
 
 -- an item that stands there, and what is given behind it
-pub record ItemHere (text : List ℕ) (l : ListOf) (a : Reading) (o : ℕ) (ps : Parts) (t e : Token) (P : List Pair) : Type 0 where
+pub record ItemHere (text : SourceText) (l : ListOf) (a : Reading) (o : ℕ) (ps : Parts) (t e : Token) (P : List Pair) : Type 0 where
   pub last : Bool
   pub one : Parts
   pub rest : Parts
@@ -128,14 +131,14 @@ counted (gap ps) h = positive (part_count ps)
     positive : (c : ℕ) → nat_lt 0 (c + 1) ≡ true
     positive c = grind (arith, nat_tests)
 
-module _ (text : List ℕ) where
+module _ (text : SourceText) where
   -- what ends the items doesn't stand there
   abbrev pub EndMissed : Option (List ℕ) → Token → Type 0
   EndMissed None s = Unit {0}
   EndMissed (Some w) s = Misses text Punctuator w s
 
   closes_there : {w : List ℕ} {m t to : Token} → Misses text Punctuator w t → m ≡ t → ReadsHere text Punctuator w m to → ⊥
-  closes_there {w} {m} {t} {to} miss at r = miss to to (subst (λ v. ReadsHere text Punctuator w v to) at r)
+  closes_there {w} {m} {t} {to} miss at r = not_missed miss (subst (λ v. ReadsHere text Punctuator w v to) at r)
 
   -- so the list isn't over
   not_stuck : (x : ListKind) (a : Reading) (ps : Parts) (c : Bool) (u : ListSummary) (m t to : Token) → is_ended x u (part_count ps) ≡ false → EndMissed (end_before x) t → ClosedBy text (closing x) m to → m ≡ t → stuck_at x a ps c ≡ true → ⊥
@@ -154,6 +157,7 @@ module _ (text : List ℕ) where
   not_over listed.Elements a count u m t to open_list miss closed at d = closes_there miss at closed
   not_over listed.Properties a count u m t to open_list miss closed at d = closes_there miss at closed
   not_over listed.ParenthesizedItems a count u m t to open_list miss closed at d = closes_there miss at closed
+  not_over listed.AsyncArguments a count u m t to open_list miss closed at d = closes_there miss at closed
   not_over listed.Parameters a count u m t to open_list miss closed at d = closes_there miss at closed
   not_over (listed.Cases r) a count u m t to open_list miss closed at d = closes_there miss at closed
   not_over listed.Members a count u m t to open_list miss closed at d = closes_there miss at closed
@@ -162,13 +166,6 @@ module _ (text : List ℕ) where
   item_here l a {t = t} {e} to open_list miss closed (stuck h p z q) = absurd (not_stuck l.listed a l.nodes l.seen.has_comma l.seen e t to open_list miss closed z h)
   item_here l a {t = t} {e} to open_list miss closed (unstuck h (over p z q d)) = absurd (not_over l.listed a (part_count l.nodes) l.seen e t to open_list miss closed z d)
   item_here l a to open_list miss closed (unstuck h (further {last = last} {one = one} {rest = rest} {m = m} {Q = Q} {R = R} g b p q)) = record { last = last; one = one; rest = rest; mid = m; pairs_one = Q; pairs_more = R; given = g; behind = b; parts = p; pairs = q }
-
-  -- no item follows: nothing is left
-  pub record NoneLeft (l : ListOf) (a : Reading) (ps : Parts) (t e : Token) (P : List Pair) : Type 0 where
-    pub parts : ps ≡ none
-    pub place : e ≡ t
-    pub pairs : P ≡ []
-    pub some : cond (asks_some l.listed a) (are_some l.nodes && not l.seen.has_comma) true ≡ true
 
   pub asked : (x : ListKind) (a : Reading) (ps : Parts) (c : Bool) {o : ℕ} {t : Token} (b : Bool) → RunsIn text o (stood_in Any x (left_of x b a none)) none t t [] → cond (asks_some x a) (are_some ps && not c) true ≡ true
   asked listed.ParenthesizedItems as_expression ps c b d = nothing_there text d
@@ -187,9 +184,9 @@ module _ (text : List ℕ) where
   no_item x a count u free one (inr seen) (further g b p q) r = absurd (item_apart text x g seen)
   no_item listed.ParenthesizedItems a count u free one (inl h) (further g b p q) r = absurd (false≢true (sym free ∙ h))
   no_item listed.Parameters a count u free one (inl h) (further g b p q) r = absurd (false≢true (sym free ∙ h))
-  no_item listed.NoParameter a count u {ps = none} free one (inl h) (further g b p q) r = let z = run_none Token (NextIn text any_goal) itself r in (refl, sym z.place, z.pairs)
+  no_item listed.NoParameter a count u {ps = none} free one (inl h) (further g b p q) r = let z = run_none Token (SeenNext text) (behind_in text) r in (refl, sym z.place, z.pairs)
   no_item listed.NoParameter a count u {ps = part n ps} free one (inl h) (further g b p q) r = nothing_there text r
   no_item listed.NoParameter a count u {ps = gap ps} free one (inl h) (further g b p q) r = nothing_there text r
   no_item listed.OneParameter a count u free one (inl h) (further g b p q) r = absurd (false≢true (sym (one refl) ∙ h))
-  no_item listed.Template a count u {o} {ps} {t} {e} {P = P} free one (inl h) (further g b p q) r = let z = run_none Token (NextIn text any_goal) itself (subst (λ v. RunsIn text o (stood_in Any listed.Template (left_of listed.Template v a ps)) ps t e P) h r) in (z.parts, sym z.place, z.pairs)
+  no_item listed.Template a count u {o} {ps} {t} {e} {P = P} free one (inl h) (further g b p q) r = let z = run_none Token (SeenNext text) (behind_in text) (subst (λ v. RunsIn text o (stood_in Any listed.Template (left_of listed.Template v a ps)) ps t e P) h r) in (z.parts, sym z.place, z.pairs)
   no_item _ a count u free one (inl h) (further g b p q) r = cc

@@ -13,13 +13,12 @@ use Rattle.covers.specs.Lists.{shape_with}
 use Rattle.covers.specs.Shapes.{empty}
 use Rattle.language.specs.declared.Rank.TheVariants.{Expression, Primary}
 use Rattle.language.specs.declared.Start.TheVariants.{Any}
-use Rattle.language.specs.Places.{NextIn, itself}
 use Rattle.language.specs.Promises.{ReadBy}
 use Rattle.language.specs.Vocabulary.{takes, is_target as is_simple}
 use Rattle.language.proofs.table.Begins.{goes_to}
 use Rattle.language.proofs.list_loops.FirstItems.{ChunkForm, last_chunk, more_chunks, chunk_form}
 use Rattle.language.proofs.climbing.SingleStarts.{template_production}
-use Rattle.language.proofs.texts.TextOffsets.{text_determined}
+use Rattle.token_cursor.proofs.SeenTokens.{seen_determined}
 use Rattle.recursive_descent.specs.Soundness.{RunsIn, all_read_as}
 use Rattle.recursive_descent.specs.SoundnessOfLists.{left_of, SoFarAt}
 use Rattle.recursive_descent.specs.CompletenessOfLists.{ListGiven}
@@ -32,8 +31,7 @@ use Rattle.recursive_descent.proofs.complete_expressions.FunctionsAndClassesGive
 use Rattle.recursive_descent.proofs.complete_expressions.StartsGiven.{given_core, has_height, is_bracket, is_named}
 use Rattle.recursive_descent.proofs.sound_expressions.StartsByToken.{template_of}
 use Rattle.recursive_descent.proofs.complete_subscripts.TemplatesGiven.{rest_runs}
-use Rattle.token_cursor.proofs.TokensAhead.{ahead_read}
-use Rattle.tokens.specs.Reading.{any_goal}
+use Rattle.token_cursor.proofs.TokensAhead.{ahead_read, place_seen}
 use Rattle.tokens.specs.Tokens.{LexicalToken}
 use Rattle.tokens.specs.declared.token.Goal.TheVariants.{RegExp}
 use Rattle.token_cursor.specs.CursorState.{CursorState, IsAhead}
@@ -54,9 +52,12 @@ use Rattle.recursive_descent.specs.Completeness.{FirstAs, IsFirst, Room}
 use Rattle.parser_tables.specs.ExpressionStarts.{coded_start}
 use Rattle.recursive_descent.proofs.complete_expressions.Agreement.{Refuses}
 use Rattle.recursive_descent.proofs.complete_lists.BracketedListsGiven.{ListRest, ListCase, in_brackets, in_quotes, list_case, brackets_given, brackets_rest, begun_refuses}
+use Rattle.token_cursor.specs.SourceText.{SourceText, SeenNext, behind_in, unseen}
+use Rattle.recursive_descent.specs.Spelled.{OfLanguage, AllOfLanguage}
+use Rattle.recursive_descent.proofs.reading.LanguageTrees.{others_of_language, parts_of_language}
 
 -- a template has a part
-some_chunk : {text : List ℕ} {o : ℕ} {s e : Token} {P : List Pair} {ps : Parts} → ChunkForm Token (NextIn text any_goal) itself o true s e P ps → 1 ≤ parts_height ps
+some_chunk : {text : SourceText} {o : ℕ} {s e : Token} {P : List Pair} {ps : Parts} → ChunkForm Token (SeenNext text) (behind_in text) o true s e P ps → 1 ≤ parts_height ps
 some_chunk (last_chunk {q = q} p) = let one = has_height q in omega arith
 some_chunk (more_chunks {q = q} p u r z) = let one = has_height q in omega arith
 
@@ -77,22 +78,24 @@ template_first {a} {h} {n} l is reading tree tk = subst (λ x. IsFirst x h (list
 first_shape : (c : ListItem) → c.shape.is_expression ≡ true → c.spreads ≡ false → (shape_with c.spreads listed.Template empty c.shape).is_expression ≡ true
 first_shape c h k = subst (λ b. (shape_with b listed.Template empty c.shape).is_expression ≡ true) (sym k) h
 
-rest_list : (text : List ℕ) (o at : ℕ) (c : ListItem) (rest : Parts) (m e : Token) (P : List Pair) → c.shape.is_expression ≡ true → c.spreads ≡ false → RunsIn text o (goes_to Expression true Any (left_of listed.Template c.is_flagged as_expression rest)) rest m e P → ListGiven text (with_item (list_from listed.Template at) c) as_expression o rest m e P
+rest_list : (text : SourceText) (o at : ℕ) (c : ListItem) (rest : Parts) (m e : Token) (P : List Pair) → c.shape.is_expression ≡ true → c.spreads ≡ false → RunsIn text o (goes_to Expression true Any (left_of listed.Template c.is_flagged as_expression rest)) rest m e P → ListGiven text (with_item (list_from listed.Template at) c) as_expression o rest m e P
 rest_list text o at c rest m e P h k runs = record { left = first_shape c h k; mid = e; runs = runs; closes = refl; last = tt; no_rest = refl; lone = refl; one_default = refl }
 
 -- a template that is given begins with its first part
-template_ahead : {text : List ℕ} {s : Token} (u : LexicalToken) → IsAhead RegExp text s.stop u → expression_start (as_read u) ≡ with_template → (as_read u).class ≡ Template → ReadBy Token (NextIn text any_goal) itself Div s (as_read u) (as_read u)
+template_ahead : {text : SourceText} {s : Token} (u : LexicalToken) → IsAhead RegExp text s.stop u → expression_start (as_read u) ≡ with_template → (as_read u).class ≡ Template → ReadBy Token (SeenNext text) (behind_in text) Div s (as_read u) (unseen (as_read u))
 template_ahead {text} {s} u ahead opens class = let begins = template_of u.class (as_read u).text opens in record { next = (ahead_read text RegExp s u ahead).next; allowed = subst (λ c. IsTrue (allows Div c (as_read u).text)) (sym begins.0) begins.1 }
 
-template_seen : {text : List ℕ} {s : Token} (u : LexicalToken) → IsAhead RegExp text s.stop u → expression_start (as_read u) ≡ with_template → SeesBy text Div is_template s
-template_seen {text} {s} u ahead opens = let begins = template_of u.class (as_read u).text opens in (as_read u, (template_ahead u ahead opens begins.0, ap (same_class Template) begins.0))
+template_seen : {text : SourceText} {s : Token} (u : LexicalToken) → IsAhead RegExp text s.stop u → expression_start (as_read u) ≡ with_template → SeesBy text Div is_template s
+template_seen {text} {s} u ahead opens =
+    let begins = template_of u.class (as_read u).text opens in
+    (unseen (as_read u), subst (λ t. ReadBy Token (SeenNext text) (behind_in text) Div s t (unseen (as_read u)) × (is_template t ≡ true)) (sym (place_seen text {g = RegExp} ahead)) (template_ahead u ahead opens begins.0, ap (same_class Template) begins.0))
 
 template_rest : (s m : CursorState) (l : ListOf) (u : LexicalToken) → m.text ≡ s.text → IsAhead RegExp s.text s.last.stop u → expression_start (as_read u) ≡ with_template → l.listed ≡ listed.Template → BegunAt s m l → BegunTemplate s m l → {p : ExpressionContext} {o : ℕ} {n : Tree} {to : Token} {Q : List Pair} {a : Reading} {h : Rank} → FirstAs s.text p o n s.last to Q a h → ListRest s m l a o h n to Q
 template_rest s m l u text ahead opens is begun b {p} {o} {n} {to} {Q} {a} {h} g =
     let r = ahead_read s.text RegExp s.last u ahead in
     let v = given_core s.text r (ap is_bracket opens) (ap is_named opens) g in
-    let w = sole_given s.text (template_production Token (NextIn s.text any_goal) itself (text_determined s.text) p.start) r opens v.begun.core in
-    let x = rest_runs b.chunk.is_flagged b.read (chunk_form Token (NextIn s.text any_goal) itself w.parts w.runs) in
+    let w = sole_given s.text (template_production Token (SeenNext s.text) (behind_in s.text) (seen_determined s.text) p.start s.last) r opens v.begun.core in
+    let x = rest_runs b.chunk.is_flagged b.read (chunk_form Token (SeenNext s.text) (behind_in s.text) w.parts w.runs) in
     let here : ListGiven m.text l as_expression o x.rest m.last to Q = subst (λ k. ListGiven m.text k as_expression o x.rest m.last to Q) (sym b.list) (subst (λ k. ListGiven k (with_item (list_from listed.Template l.span.start) b.chunk) as_expression o x.rest m.last to Q) (sym text) (rest_list s.text o l.span.start b.chunk x.rest m.last to Q b.plain.0 b.plain.1 x.runs)) in
     let high : height n ≡ suc (parts_height w.parts) = ap height w.tree in
     let parts : parts_height w.parts ≡ max (height b.chunk.node) (parts_height x.rest) = ap parts_height x.parts in
@@ -100,6 +103,7 @@ template_rest s m l u text ahead opens is begun b {p} {o} {n} {to} {Q} {a} {h} g
     record {
       ps = x.rest;
       given = subst (λ k. ListGiven m.text l k o x.rest m.last to Q) (sym v.reading) here;
+      own = λ whole. subst (λ k. AllOfLanguage k x.rest) (sym text) (others_of_language {text = s.text} {n = b.chunk.node} {ps = x.rest} (subst (λ k. AllOfLanguage s.text k) x.parts (parts_of_language {text = s.text} {k = TemplateLiteral} {w = []} {g = plain} (subst (λ k. OfLanguage s.text k) w.tree whole))));
       low = omega arith;
       start_low = omega arith;
       first = λ e old new whole d seen same whole_is nodes place.
@@ -130,13 +134,13 @@ list_refuses s u what inner high fault ahead coded missed untemplated less {p} {
         two_high =
             let r = ahead_read s.text RegExp s.last u ahead in
             let v = given_core s.text r (ap is_bracket opens) (ap is_named opens) g in
-            let w = sole_given s.text (template_production Token (NextIn s.text any_goal) itself (text_determined s.text) p.start) r opens v.begun.core in
-            let some = some_chunk (chunk_form Token (NextIn s.text any_goal) itself w.parts w.runs) in
+            let w = sole_given s.text (template_production Token (SeenNext s.text) (behind_in s.text) (seen_determined s.text) p.start s.last) r opens v.begun.core in
+            let some = some_chunk (chunk_form Token (SeenNext s.text) (behind_in s.text) w.parts w.runs) in
             let high : height n ≡ suc (parts_height w.parts) = ap height w.tree in
             omega arith
 
         in_template : (fault : Fault) → NotBegun listed.Template s inner fault → NoTemplate listed.Template s fault → Refuses (Room s o (height n) high) fault
-        in_template (Syntax at) missed none_there = let t = template_seen u ahead opens in absurd (false≢true (sym (none_there refl t.0 t.0 t.1.0) ∙ t.1.1))
+        in_template (Syntax at) missed none_there = let t = template_seen u ahead opens in absurd (false≢true (sym (none_there refl (behind_in s.text t.0) t.0 t.1.0) ∙ t.1.1))
         in_template TooDeep missed none_there = λ room. (let l = room.1 in let low = missed.1 in let tall = two_high in absurd (omega arith))
         in_template OutOfMemory missed none_there = tt
         in_template _ missed none_there = absurd missed

@@ -1,9 +1,8 @@
 -- A list that is given, read item by item: what is given before and behind each, and where none follows (ECMA-262 12.2, 12.16, 13.3, 13.12, 14.1, 14.6).
 use Rattle.std.proofs.Common.{◌+◌, ◌≤◌, ◌≡◌, ◌⊎◌, inl, inr, ℕ, Bool, true, false, cond, List, [], ◌∷◌, refl, sym, ap, ◌∙◌, subst, arith}
-use Rattle.std.specs.Prelude.{Option, Some, None, codes, ◌&&◌, nat_le}
+use Rattle.std.specs.Prelude.{Option, Some, None, codes, ◌&&◌}
 use Rattle.std.proofs.lemmas.Bool.{and_parts, false≢true, true≢false}
 use Rattle.std.proofs.lemmas.Bool.Decides.{nat_tests}
-use Rattle.tokens.specs.Reading.{any_goal}
 use Rattle.tokens.specs.declared.token.TokenClass.TheVariants.{IdentifierName, Punctuator}
 use Rattle.tokens.specs.declared.token.Goal.TheVariants.{Div}
 use Rattle.tree.specs.declared.kind.Pair.{Pair}
@@ -16,13 +15,12 @@ use Rattle.language.specs.Statements.{defaults, member_lines}
 use Rattle.language.specs.Vocabulary.{is}
 use Rattle.language.specs.Token.{Token}
 use Rattle.language.specs.Derivation.{step, one_more as another, no_more}
-use Rattle.language.specs.Places.{NextIn, itself, SpellsIn}
 use Rattle.language.proofs.list_loops.CommaLists.{by_closing}
 use Rattle.language.proofs.covers.CoverEnds.{a_bracket, a_parenthesis, a_brace}
 use Rattle.language.proofs.covers.CoverSpreads.{expression_kind}
 use Rattle.language.proofs.list_loops.ClassBodies.{no_member_begins}
 use Rattle.language.proofs.list_loops.FirstPieces.{run_none, run_laid, run_the_part}
-use Rattle.language.proofs.texts.TextOffsets.{text_determined}
+use Rattle.token_cursor.proofs.SeenTokens.{seen_determined}
 use Rattle.unambiguity_laws.proofs.list_items.Crossings.{no_element_there, no_property_there}
 use Rattle.covers.specs.declared.list.ListKind.{ListKind}
 use Rattle.covers.specs.declared.list.ListKind.TheVariants as listed
@@ -40,6 +38,8 @@ use Rattle.recursive_descent.proofs.complete_lists.ListSteps.{Step as ListStep, 
 use Rattle.recursive_descent.proofs.complete_lists.ListKinds.{list_step, case_begins}
 use Rattle.token_cursor.proofs.TokensAhead.{mark_by, name_by}
 use Rattle.recursive_descent.proofs.sound_lists.WholeLists.{SemicolonsBefore}
+use Rattle.token_cursor.specs.SourceText.{SourceText, SeenNext, behind_in}
+use Rattle.recursive_descent.specs.Spelled.{SpellsIn}
 
 -- the parts in a reading are as many
 pub count_read : (a : Reading) (ps : Parts) → part_count (all_read_as a ps) ≡ part_count ps
@@ -75,9 +75,6 @@ join_again none qs rs = refl
 join_again (part n ps) qs rs = ap (part n) (join_again ps qs rs)
 join_again (gap ps) qs rs = ap gap (join_again ps qs rs)
 
-less_is : (a b : ℕ) → nat_le (a + b) 1 ≡ true → nat_le b 1 ≡ true
-less_is a b h = grind (arith, nat_tests)
-
 -- fewer parts are lone as well
 pub lone_less : (x : ListKind) (a : Reading) (c d f : ℕ) → c ≡ d + f → is_lone x a c ≡ true → is_lone x a d ≡ true
 lone_less (listed.Declarators i) as_expression c d f is h = refl
@@ -91,6 +88,7 @@ left_same listed.Arguments u v a ps h = refl
 left_same listed.Elements u v a ps h = refl
 left_same listed.Properties u v a ps h = refl
 left_same listed.ParenthesizedItems u v a ps h = refl
+left_same listed.AsyncArguments u v a ps h = refl
 left_same listed.Parameters u v a ps h = refl
 left_same listed.NoParameter u v a ps h = refl
 left_same listed.OneParameter u v a ps h = refl
@@ -105,13 +103,13 @@ some_is e = cc
 pub unlike : {v w : List ℕ} (p : List ℕ → Bool) → p v ≡ true → p w ≡ false → v ≡ w → ⊥
 unlike p h k e = false≢true (sym k ∙ ap p (sym e) ∙ h)
 
-module _ (text : List ℕ) where
+module _ (text : SourceText) where
   -- two signs aren't read at one place
   pub signs_apart : {v w : List ℕ} {s t u : Token} → (v ≡ w → ⊥) → ReadsHere text Punctuator v s t → ReadsHere text Punctuator w s u → ⊥
   signs_apart other a b = other (sym a.text ∙ ap (λ (x : Token). x.text) (marks_same text a b).0 ∙ b.text)
 
   sign_no_word : {v w : List ℕ} {s t u : Token} → ReadsHere text Punctuator v s t → ReadsHere text IdentifierName w s u → ⊥
-  sign_no_word {v} {w} {s} {t} {u} a b = clash (sym a.class ∙ ap (λ (x : Token). x.class) ((text_determined text).same Div s t u t u a.next b.next (mark_by text a).allowed (name_by text b).allowed).0 ∙ b.class)
+  sign_no_word {v} {w} {s} {t} {u} a b = clash (sym a.class ∙ ap (λ (x : Token). x.class) ((seen_determined text).same Div s (behind_in text t) (behind_in text u) t u a.next b.next (mark_by text a).allowed (name_by text b).allowed).0 ∙ b.class)
     where
       clash : Punctuator ≡ IdentifierName → ⊥
       clash e = cc
@@ -123,29 +121,33 @@ module _ (text : List ℕ) where
 
   -- no item begins with it
   pub item_apart : (x : ListKind) {a : Reading} {o : ℕ} {s m : Token} {Q : List Pair} {last : Bool} {one : Parts} → ItemGiven text x a o s m Q last one → EndSeen (end_before x) s → ⊥
-  item_apart listed.Arguments {a = as_expression} (an_item c it sp e) h = no_element_there Token (NextIn text any_goal) itself (text_determined text) a_parenthesis as_expression it sp (by_closing h.1)
-  item_apart listed.Arguments {a = as_pattern b} (an_item c it sp e) h = no_element_there Token (NextIn text any_goal) itself (text_determined text) a_parenthesis (as_pattern b) it sp (by_closing h.1)
+  item_apart listed.Arguments {a = as_expression} (an_item c it sp e) h = no_element_there Token (SeenNext text) (behind_in text) (seen_determined text) a_parenthesis as_expression it sp (by_closing h.1)
+  item_apart listed.Arguments {a = as_pattern b} (an_item c it sp e) h = no_element_there Token (SeenNext text) (behind_in text) (seen_determined text) a_parenthesis (as_pattern b) it sp (by_closing h.1)
   item_apart listed.Arguments (a_hole l c z q) h = cc
   item_apart listed.Arguments (a_chunk l x y z) h = cc
-  item_apart listed.Elements {a = as_expression} (an_item c it sp e) h = no_element_there Token (NextIn text any_goal) itself (text_determined text) a_bracket as_expression it sp (by_closing h.1)
-  item_apart listed.Elements {a = as_pattern b} (an_item c it sp e) h = no_element_there Token (NextIn text any_goal) itself (text_determined text) a_bracket (as_pattern b) it sp (by_closing h.1)
+  item_apart listed.Elements {a = as_expression} (an_item c it sp e) h = no_element_there Token (SeenNext text) (behind_in text) (seen_determined text) a_bracket as_expression it sp (by_closing h.1)
+  item_apart listed.Elements {a = as_pattern b} (an_item c it sp e) h = no_element_there Token (SeenNext text) (behind_in text) (seen_determined text) a_bracket (as_pattern b) it sp (by_closing h.1)
   item_apart listed.Elements (a_hole l c z q) h = signs_apart (unlike (λ w. is w "]") refl refl) h.1 c.1
   item_apart listed.Elements (a_chunk l x y z) h = cc
-  item_apart listed.Properties {a} (an_item c it sp e) h = no_property_there Token (NextIn text any_goal) itself (text_determined text) a_brace a it sp (by_closing h.1)
+  item_apart listed.Properties {a} (an_item c it sp e) h = no_property_there Token (SeenNext text) (behind_in text) (seen_determined text) a_brace a it sp (by_closing h.1)
   item_apart listed.Properties (a_hole l c z q) h = cc
   item_apart listed.Properties (a_chunk l x y z) h = cc
   item_apart listed.ParenthesizedItems {a = as_expression} {o = o} {s} {m} {Q} (an_item {r = r} {n = n} c it sp e) h =
       let d : SpellsIn text o (expr Assignment true Any) n s m Q = subst (λ v. SpellsIn text o v n s m Q) (sym (some_is it)) sp in
-      no_element_there Token (NextIn text any_goal) itself (text_determined text) a_parenthesis as_expression (ap (λ b. Some (cond b spread (expr Assignment true Any))) (expression_kind Token (NextIn text any_goal) itself (text_determined text) d)) d (by_closing h.1)
-  item_apart listed.ParenthesizedItems {a = as_pattern b} (an_item c it sp e) h = no_element_there Token (NextIn text any_goal) itself (text_determined text) a_parenthesis (as_pattern b) it sp (by_closing h.1)
+      no_element_there Token (SeenNext text) (behind_in text) (seen_determined text) a_parenthesis as_expression (ap (λ b. Some (cond b spread (expr Assignment true Any))) (expression_kind Token (SeenNext text) (behind_in text) (seen_determined text) d)) d (by_closing h.1)
+  item_apart listed.ParenthesizedItems {a = as_pattern b} (an_item c it sp e) h = no_element_there Token (SeenNext text) (behind_in text) (seen_determined text) a_parenthesis (as_pattern b) it sp (by_closing h.1)
   item_apart listed.ParenthesizedItems (a_hole l c z q) h = cc
   item_apart listed.ParenthesizedItems (a_chunk l x y z) h = cc
-  item_apart listed.Parameters {a = as_expression} (an_item c it sp e) h = no_element_there Token (NextIn text any_goal) itself (text_determined text) a_parenthesis as_expression it sp (by_closing h.1)
-  item_apart listed.Parameters {a = as_pattern b} (an_item c it sp e) h = no_element_there Token (NextIn text any_goal) itself (text_determined text) a_parenthesis (as_pattern b) it sp (by_closing h.1)
+  item_apart listed.AsyncArguments {a = as_expression} (an_item c it sp e) h = no_element_there Token (SeenNext text) (behind_in text) (seen_determined text) a_parenthesis as_expression it sp (by_closing h.1)
+  item_apart listed.AsyncArguments {a = as_pattern b} (an_item c it sp e) h = no_element_there Token (SeenNext text) (behind_in text) (seen_determined text) a_parenthesis (as_pattern b) it sp (by_closing h.1)
+  item_apart listed.AsyncArguments (a_hole l c z q) h = cc
+  item_apart listed.AsyncArguments (a_chunk l x y z) h = cc
+  item_apart listed.Parameters {a = as_expression} (an_item c it sp e) h = no_element_there Token (SeenNext text) (behind_in text) (seen_determined text) a_parenthesis as_expression it sp (by_closing h.1)
+  item_apart listed.Parameters {a = as_pattern b} (an_item c it sp e) h = no_element_there Token (SeenNext text) (behind_in text) (seen_determined text) a_parenthesis (as_pattern b) it sp (by_closing h.1)
   item_apart listed.Parameters (a_hole l c z q) h = cc
   item_apart listed.Parameters (a_chunk l x y z) h = cc
-  item_apart listed.NoParameter {a = as_expression} (an_item c it sp e) h = no_element_there Token (NextIn text any_goal) itself (text_determined text) a_parenthesis as_expression it sp (by_closing h.1)
-  item_apart listed.NoParameter {a = as_pattern b} (an_item c it sp e) h = no_element_there Token (NextIn text any_goal) itself (text_determined text) a_parenthesis (as_pattern b) it sp (by_closing h.1)
+  item_apart listed.NoParameter {a = as_expression} (an_item c it sp e) h = no_element_there Token (SeenNext text) (behind_in text) (seen_determined text) a_parenthesis as_expression it sp (by_closing h.1)
+  item_apart listed.NoParameter {a = as_pattern b} (an_item c it sp e) h = no_element_there Token (SeenNext text) (behind_in text) (seen_determined text) a_parenthesis (as_pattern b) it sp (by_closing h.1)
   item_apart listed.NoParameter (a_hole l c z q) h = cc
   item_apart listed.NoParameter (a_chunk l x y z) h = cc
   item_apart listed.OneParameter g h = h
@@ -159,18 +161,18 @@ module _ (text : List ℕ) where
       of (inr u) = sign_no_word h.1 u.1
   item_apart (listed.Cases r) (a_hole l c z q) h = cc
   item_apart (listed.Cases r) (a_chunk l x y z) h = cc
-  item_apart listed.Members {o = o} {s} {m} {Q} (an_item {n = n} c it sp e) h = no_member_begins Token (NextIn text any_goal) itself (text_determined text) refl (λ k. unlike (λ w. is w "}") refl refl k) h.1 (subst (λ v. SpellsIn text o v n s m Q) (sym (some_is it)) sp)
+  item_apart listed.Members {o = o} {s} {m} {Q} (an_item {n = n} c it sp e) h = no_member_begins Token (SeenNext text) (behind_in text) (seen_determined text) refl (λ k. unlike (λ w. is w "}") refl refl k) (λ k. unlike (λ w. is w "}") refl refl k) h.1 (subst (λ v. SpellsIn text o v n s m Q) (sym (some_is it)) sp)
   item_apart listed.Members (a_hole l c z q) h = cc
   item_apart listed.Members (a_chunk l x y z) h = cc
 
   -- semicolons before the next member
   one_semicolon : {o : ℕ} (ps : Parts) {s t e to : Token} {P : List Pair} → ReadsHere text Punctuator (codes ";") s t → ReadsHere text Punctuator (codes "}") e to → RunsIn text o (stood_in Any listed.Members (many (codes ";") ∷ member_lines ps)) ps s e P → RunsIn text o (stood_in Any listed.Members (many (codes ";") ∷ member_lines ps)) ps t e P
   one_semicolon {o} ps {s} {t} {e} {P = P} r closed (step (another c q) d) = subst (λ v. RunsIn text o (stood_in Any listed.Members (many (codes ";") ∷ member_lines ps)) ps v e P) (sym (marks_same text r c).1) (step q d)
-  one_semicolon none {to = to} r closed (step no_more d) = let z = run_none Token (NextIn text any_goal) itself d in absurd (signs_apart (unlike (λ w. is w ";") refl refl) r (subst (λ v. ReadsHere text Punctuator (codes "}") v to) (sym z.place) closed))
+  one_semicolon none {to = to} r closed (step no_more d) = let z = run_none Token (SeenNext text) (behind_in text) d in absurd (signs_apart (unlike (λ w. is w ";") refl refl) r (subst (λ v. ReadsHere text Punctuator (codes "}") v to) (sym z.place) closed))
   one_semicolon (gap ps) r closed (step no_more d) = nothing_there text d
   one_semicolon (part n ps) r closed (step no_more d) =
-      let v = run_the_part Token (NextIn text any_goal) itself (run_laid Token (NextIn text any_goal) itself d) in
-      absurd (no_member_begins Token (NextIn text any_goal) itself (text_determined text) refl (λ k. unlike (λ w. is w ";") refl refl k) r v.spelled)
+      let v = run_the_part Token (SeenNext text) (behind_in text) (run_laid Token (SeenNext text) (behind_in text) d) in
+      absurd (no_member_begins Token (SeenNext text) (behind_in text) (seen_determined text) refl (λ k. unlike (λ w. is w ";") refl refl k) (λ k. unlike (λ w. is w ";") refl refl k) r v.spelled)
 
   semicolons_off : {o : ℕ} (ps : Parts) {s t e to : Token} {P : List Pair} → Semicolons text s t → ReadsHere text Punctuator (codes "}") e to → RunsIn text o (stood_in Any listed.Members (many (codes ";") ∷ member_lines ps)) ps s e P → RunsIn text o (stood_in Any listed.Members (many (codes ";") ∷ member_lines ps)) ps t e P
   semicolons_off ps none_passed closed d = d
@@ -185,6 +187,7 @@ module _ (text : List ℕ) where
   before_item listed.Elements b a ps s t e to passed closed d = still_there passed d
   before_item listed.Properties b a ps s t e to passed closed d = still_there passed d
   before_item listed.ParenthesizedItems b a ps s t e to passed closed d = still_there passed d
+  before_item listed.AsyncArguments b a ps s t e to passed closed d = still_there passed d
   before_item listed.Parameters b a ps s t e to passed closed d = still_there passed d
   before_item listed.NoParameter b a ps s t e to passed closed d = still_there passed d
   before_item listed.OneParameter b a ps s t e to passed closed d = still_there passed d
@@ -206,6 +209,7 @@ module _ (text : List ℕ) where
   not_members listed.Elements s t h p = p
   not_members listed.Properties s t h p = p
   not_members listed.ParenthesizedItems s t h p = p
+  not_members listed.AsyncArguments s t h p = p
   not_members listed.Parameters s t h p = p
   not_members listed.NoParameter s t h p = p
   not_members listed.OneParameter s t h p = p

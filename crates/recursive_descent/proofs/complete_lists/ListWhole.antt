@@ -2,7 +2,6 @@
 use Rattle.std.proofs.Common.{◌≡◌, ◌⊎◌, inl, inr, ℕ, Bool, true, false, not, cond, List, [], refl, sym, ap, ◌∙◌, subst}
 use Rattle.std.specs.Prelude.{codes, ◌&&◌, nat_lt}
 use Rattle.std.proofs.lemmas.Bool.{and_parts, false≢true, true≢false}
-use Rattle.tokens.specs.Reading.{any_goal}
 use Rattle.tokens.specs.declared.token.TokenClass.TheVariants.{Punctuator}
 use Rattle.tree.specs.declared.kind.Pair.{Pair}
 use Rattle.tree.specs.Tree.{Parts, none, part, gap, part_count}
@@ -10,7 +9,6 @@ use Rattle.language.specs.declared.Start.TheVariants.{Any}
 use Rattle.language.specs.Covers.{Reading, as_expression, as_pattern}
 use Rattle.language.specs.Pieces.{is_none}
 use Rattle.language.specs.Token.{Token}
-use Rattle.language.specs.Places.{NextIn, itself}
 use Rattle.language.proofs.list_loops.FirstPieces.{run_none}
 use Rattle.covers.specs.declared.list.ListKind.{ListKind}
 use Rattle.covers.specs.declared.list.ListKind.TheVariants as listed
@@ -28,6 +26,8 @@ use Rattle.recursive_descent.proofs.complete_lists.ListLoop.{no_item, asked, ask
 use Rattle.recursive_descent.proofs.complete_lists.ListSteps.{Behind, ended, comma, next}
 use Rattle.recursive_descent.proofs.complete_lists.ListTurns.{EndSeen, before_item, not_members, stuck_kind}
 use Rattle.recursive_descent.proofs.sound_lists.WholeLists.{SemicolonsBefore}
+use Rattle.token_cursor.specs.SourceText.{SourceText, SeenNext, behind_in}
+use Rattle.recursive_descent.proofs.complete_expressions.Agreement.{not_missed}
 
 -- nothing is left, and of what parentheses group something was read
 abbrev pub Nothing : ListOf → Reading → Parts → Token → Token → List Pair → Type 0
@@ -38,7 +38,7 @@ uncounted none h = refl
 uncounted (part n ps) h = absurd (true≢false h)
 uncounted (gap ps) h = absurd (true≢false h)
 
-module _ (text : List ℕ) where
+module _ (text : SourceText) where
   -- before an item, where none stands
   pub none_there : (l : ListOf) (a : Reading) {o : ℕ} {ps : Parts} {s t to : Token} {P : List Pair} → (g : ListGiven text l a o ps s to P) → SemicolonsBefore text l.listed s t → FirstMisses text l.listed t → (is_ended l.listed l.seen (part_count l.nodes) ≡ true) ⊎ EndSeen text (end_before l.listed) t → Nothing l a ps t g.mid P
   none_there l a {o} {ps} {s} {t} {to} {P} g passed first over = of (is_stuck l a) refl g.runs
@@ -59,7 +59,7 @@ module _ (text : List ℕ) where
   pub none_behind : (x : ListKind) (a : Reading) (k : ListSummary) (count : ℕ) {o : ℕ} {last : Bool} {one rest : Parts} {e mid : Token} {R : List Pair} → has_reading x a ≡ true → (is_last_rest x a one ≡ false → minds_rest x a ≡ true → k.is_rest ≡ false) → (is_chunked x ≡ true → k.is_flagged ≡ last) →
       (is_ended x k count ≡ true) ⊎ ((is_unseparated x ≡ false) × Misses text Punctuator (codes ",") e) → Behind text x a last one o rest e mid R → (rest ≡ none) × (mid ≡ e) × (R ≡ [])
   none_behind x a k count reads plain marked over (ended p z q u l) = (p, z, q)
-  none_behind x a k count reads plain marked (inr over) (comma {k = v} u single free sign r l) = absurd (over.1 v v sign)
+  none_behind x a k count reads plain marked (inr over) (comma {k = v} u single free sign r l) = absurd (not_missed over.1 sign)
   none_behind x a k count reads plain marked (inr over) (next u r) = absurd (false≢true (sym over.0 ∙ u))
   none_behind listed.ParenthesizedItems a k count reads plain marked (inl over) (comma u single free sign r l) = absurd (false≢true (sym (plain free refl) ∙ over))
   none_behind listed.Parameters as_expression k count reads plain marked (inl over) (comma u single free sign r l) = cc
@@ -69,7 +69,7 @@ module _ (text : List ℕ) where
   none_behind listed.Template a k count reads plain marked (inl over) (comma u single free sign r l) = cc
   none_behind _ a k count reads plain marked (inl over) (comma u single free sign r l) = cc
   none_behind listed.Template a k count {o} {last} {rest = rest} {e} {mid} {R} reads plain marked (inl over) (next u r) =
-      let z = run_none Token (NextIn text any_goal) itself (subst (λ b. RunsIn text o (stood_in Any listed.Template (left_of listed.Template b a rest)) rest e mid R) (sym (marked refl) ∙ over) r) in (z.parts, sym z.place, z.pairs)
+      let z = run_none Token (SeenNext text) (behind_in text) (subst (λ b. RunsIn text o (stood_in Any listed.Template (left_of listed.Template b a rest)) rest e mid R) (sym (marked refl) ∙ over) r) in (z.parts, sym z.place, z.pairs)
   none_behind _ a k count reads plain marked (inl over) (next u r) = cc
 
 -- what is read of a list with its last item is all of it

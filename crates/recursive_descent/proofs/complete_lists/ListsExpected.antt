@@ -2,7 +2,6 @@
 use Rattle.std.proofs.Common.{◌≡◌, ℕ, suc, ◌+◌, ◌≤◌, Bool, true, false, List, [], ◌∷◌, ◌++◌, refl, sym, ap, ◌∙◌, subst, arith}
 use Rattle.std.specs.Prelude.{codes, nat_le, not, Option, Some, None}
 use Rattle.std.proofs.lemmas.Bool.{and_parts}
-use Rattle.tokens.specs.Reading.{any_goal}
 use Rattle.tokens.specs.declared.token.TokenClass.TheVariants.{Punctuator}
 use Rattle.tokens.specs.declared.token.Token.{Token as Scanned}
 use Rattle.tree.specs.declared.kind.Kind.TheVariants.{ClassBody}
@@ -18,7 +17,6 @@ use Rattle.language.specs.Covers.{Reading, as_expression, as_pattern}
 use Rattle.language.specs.Edges.{last_edge, edge_as_written}
 use Rattle.language.specs.Pieces.{Piece, tok, pattern_element, switch_case, listed as listed_pieces}
 use Rattle.language.specs.Statements.{defaults, lines}
-use Rattle.language.specs.Places.{NextIn, itself}
 use Rattle.language.specs.Token.{Token}
 use Rattle.language.proofs.list_loops.FirstPieces.{run_token}
 use Rattle.parser_tables.specs.declared.symbol_lists.Symbol.{Symbol as Coded}
@@ -34,8 +32,11 @@ use Rattle.token_cursor.specs.Seen.{ReadsHere}
 use Rattle.parser_tables.specs.StatementNodes.{takes_listed, listed_depth, listed_levels}
 use Rattle.recursive_descent.proofs.complete_expressions.Agreement.{read_here}
 use Rattle.recursive_descent.proofs.complete_statements.BlocksGiven.{class_body_given}
-use Rattle.recursive_descent.proofs.complete_subscripts.ArgumentsGiven.{last_token}
 use Rattle.recursive_descent.proofs.sound_statements.ListSymbols.{is_put, list_added, both_mapped}
+use Rattle.token_cursor.specs.SourceText.{SourceText, SeenNext, behind_in}
+use Rattle.recursive_descent.specs.Spelled.{OfLanguage, AllOfLanguage}
+use Rattle.recursive_descent.proofs.reading.LanguageTrees.{of_none, first_of_language, parts_of_language}
+use Rattle.recursive_descent.proofs.reading.PiecesBeforeToken.{run_before}
 
 -- the list that was read puts what is given
 pub record ListSame (p : Coded) (which : ListKind) (word : Option Scanned) (each : Bool) (put : Parts) (y : Edge) (e : Token) (l : ListOf) : Type 0 where
@@ -44,7 +45,7 @@ pub record ListSame (p : Coded) (which : ListKind) (word : Option Scanned) (each
   pub edge : knows_edge (piece_of p) ≡ true → y ≡ l.seen.edge
 
 -- the items from behind the sign on, and what is put of the list with these items
-pub record ListWanted (text : List ℕ) (p : Coded) (which : ListKind) (word : Option Scanned) (o : ℕ) (m e : Token) (y : Edge) (put : Parts) (P : List Pair) : Type 0 where
+pub record ListWanted (text : SourceText) (p : Coded) (which : ListKind) (word : Option Scanned) (o : ℕ) (m e : Token) (y : Edge) (put : Parts) (P : List Pair) : Type 0 where
   pub reading : Reading
   pub items : Parts
   pub first : Token
@@ -53,6 +54,7 @@ pub record ListWanted (text : List ℕ) (p : Coded) (which : ListKind) (word : O
   pub unsigned : opening which ≡ None → first ≡ m
   pub given : (at : ℕ) → ListGiven text (list_from which at) reading o items first e P
   pub low : parts_height items + listed_depth which ≤ parts_height put
+  pub own : AllOfLanguage text put → AllOfLanguage text items
   pub puts : (l : ListOf) (each : Bool) → EachAt text each e → whole_of which l reading ≡ true → all_read_as reading l.nodes ≡ items → ((v : List ℕ) → opening which ≡ Some v → first.start ≡ l.span.start) → l.span.end ≡ e.stop → (asks_edge which ≡ true → l.seen.edge ≡ edge_as_written (last_edge l.nodes) e) →
       ListSame p which word each put y e l
 
@@ -70,6 +72,7 @@ levels_low listed.Arguments word e l = omega arith
 levels_low listed.Elements word e l = omega arith
 levels_low listed.Properties word e l = omega arith
 levels_low listed.ParenthesizedItems word e l = omega arith
+levels_low listed.AsyncArguments word e l = omega arith
 levels_low listed.Template word e l = omega arith
 levels_low (listed.Sequence i) word e l = omega arith
 
@@ -79,7 +82,7 @@ some_is h = cc
 none_more : (n : ℕ) → n ≡ n + 0
 none_more n = omega arith
 
-module _ (text : List ℕ) (o : ℕ) where
+module _ (text : SourceText) (o : ℕ) where
   -- what stands between two signs
   record Between (u v : List ℕ) (qs : List Piece) (ps : Parts) (s e : Token) (P : List Pair) : Type 0 where
     left : Token
@@ -90,9 +93,9 @@ module _ (text : List ℕ) (o : ℕ) where
 
   between : (u v : List ℕ) (qs : List Piece) {ps : Parts} {s e : Token} {P : List Pair} → RunsIn text o (anywhere (tok Punctuator u ∷ qs ++ tok Punctuator v ∷ [])) ps s e P → Between u v qs ps s e P
   between u v qs {ps} {s} {e} {P} d =
-      let t = run_token Token (NextIn text any_goal) itself d in
-      let w = last_token text (anywhere qs) (subst (λ zs. RunsIn text o zs ps t.mid e P) (both_mapped qs (tok Punctuator v)) t.runs) in
-      record { left = t.mid; mid = w.mid; opens = read_here text t.reads; runs = w.runs; closes = w.reads }
+      let t = run_token Token (SeenNext text) (behind_in text) d in
+      let w = run_before text (anywhere qs) (subst (λ zs. RunsIn text o zs ps t.mid e P) (both_mapped qs (tok Punctuator v)) t.runs) in
+      record { left = t.mid; mid = w.mid; opens = read_here text t.reads; runs = w.runs; closes = w.sign }
 
   signed_by : {u : List ℕ} {s first : Token} → ReadsHere text Punctuator u s first → (v : List ℕ) → ◌≡◌ {A = Option (List ℕ)} (Some u) (Some v) → ReadsHere text Punctuator v s first
   signed_by {s = s} {first = first} r v h = subst (λ w. ReadsHere text Punctuator w s first) (some_is h) r
@@ -108,6 +111,7 @@ module _ (text : List ℕ) (o : ℕ) where
     unsigned = λ h. refl;
     given = λ at. record { left = refl; mid = e; runs = g.0; closes = refl; last = (g.1, g.2); no_rest = refl; lone = refl; one_default = refl };
     low = omega arith;
+    own = λ whole. whole;
     puts = λ l each at whole nodes from end right. record { added = nodes; takes = (and_parts (not l.seen.is_flagged) true whole).0; edge = λ known. g.3 ∙ ap (λ z. edge_as_written (last_edge z) e) (sym nodes) ∙ sym (right refl) };
   }
   list_wanted (listed.Cases r) word s e x y put P g =
@@ -121,6 +125,7 @@ module _ (text : List ℕ) (o : ℕ) where
         unsigned = λ h. cc;
         given = λ at. record { left = refl; mid = b.mid; runs = b.runs; closes = b.closes; last = tt; no_rest = refl; lone = refl; one_default = subst (λ n. nat_le n 1 ≡ true) (none_more (defaults put)) g.1 };
         low = omega arith;
+        own = λ whole. whole;
         puts = λ l each at whole nodes from end right. record { added = nodes; takes = refl; edge = λ known. cc };
       }
   list_wanted listed.Members word s e x y put P g =
@@ -136,6 +141,7 @@ module _ (text : List ℕ) (o : ℕ) where
         unsigned = λ h. cc;
         given = λ at. record { left = refl; mid = v.mid; runs = v.runs; closes = v.closes; last = tt; no_rest = refl; lone = refl; one_default = refl };
         low = omega arith;
+        own = λ whole. parts_of_language {text = text} {k = ClassBody} {w = []} {g = plain} (subst (λ n. OfLanguage text n) v.tree (first_of_language {text = text} {n = g.put} {ps = none} (subst (λ qs. AllOfLanguage text qs) g.parts whole)));
         puts = λ l each at whole nodes from end right. record { added = (λ i. part (node ClassBody [] plain (sym (from (codes "{") refl) i) (end i) (nodes i)) none) ∙ ap (λ n. part n none) (sym v.tree) ∙ sym g.parts; takes = refl; edge = λ known. cc };
       }
   list_wanted listed.NoParameter word s e x y put P g =
@@ -149,6 +155,7 @@ module _ (text : List ℕ) (o : ℕ) where
         unsigned = λ h. cc;
         given = λ at. record { left = refl; mid = b.mid; runs = b.runs; closes = b.closes; last = tt; no_rest = refl; lone = refl; one_default = refl };
         low = omega arith;
+        own = λ whole. of_none;
         puts = λ l each at whole nodes from end right. record { added = nodes ∙ sym g.1; takes = (and_parts (is_bound l.seen.shape) true whole).0; edge = λ known. cc };
       }
   list_wanted listed.OneParameter word s e x y put P g =
@@ -162,6 +169,7 @@ module _ (text : List ℕ) (o : ℕ) where
         unsigned = λ h. cc;
         given = λ at. record { left = refl; mid = b.mid; runs = b.runs; closes = b.closes; last = tt; no_rest = refl; lone = refl; one_default = refl };
         low = omega arith;
+        own = λ whole. whole;
         puts = λ l each at whole nodes from end right. record { added = nodes; takes = (and_parts (is_bound l.seen.shape) true whole).0; edge = λ known. cc };
       }
   list_wanted listed.Parameters word s e x y put P g =
@@ -175,6 +183,7 @@ module _ (text : List ℕ) (o : ℕ) where
         unsigned = λ h. cc;
         given = λ at. record { left = refl; mid = b.mid; runs = b.runs; closes = b.closes; last = tt; no_rest = refl; lone = refl; one_default = refl };
         low = omega arith;
+        own = λ whole. whole;
         puts = λ l each at whole nodes from end right. record { added = nodes; takes = (and_parts (is_bound l.seen.shape) true whole).0; edge = λ known. cc };
       }
   list_wanted (listed.Declarators false) word s e x y put P g = absurd g
@@ -182,5 +191,6 @@ module _ (text : List ℕ) (o : ℕ) where
   list_wanted listed.Elements word s e x y put P g = absurd g
   list_wanted listed.Properties word s e x y put P g = absurd g
   list_wanted listed.ParenthesizedItems word s e x y put P g = absurd g
+  list_wanted listed.AsyncArguments word s e x y put P g = absurd g
   list_wanted listed.Template word s e x y put P g = absurd g
   list_wanted (listed.Sequence i) word s e x y put P g = absurd g

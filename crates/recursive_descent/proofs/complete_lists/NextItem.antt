@@ -13,12 +13,13 @@ use Rattle.covers.specs.declared.list.ListKind.TheVariants as listed
 use Rattle.covers.specs.declared.list.ListBuilder.{ListBuilder as ListOf}
 use Rattle.covers.specs.declared.shape.CoverShape.{CoverShape}
 use Rattle.covers.specs.Lists.{separated, reads}
-use Rattle.covers.specs.Shapes.{unassigned, is_either, is_element}
+use Rattle.covers.specs.Shapes.{unassigned, is_either, is_element, is_bound}
 use Rattle.recursive_descent.specs.Soundness.{RunsIn, fits_as}
 use Rattle.recursive_descent.specs.SoundnessOfLists.{has_reading, seen_fits, stood_in, left_of, stuck_at}
 use Rattle.recursive_descent.specs.CompletenessOfLists.{RestGiven, minds_rest}
 use Rattle.parser_tables.specs.Items.{is_unseparated, are_some}
 use Rattle.recursive_descent.proofs.complete_lists.ListSteps.{is_single}
+use Rattle.token_cursor.specs.SourceText.{SourceText}
 
 and_both : {b c : Bool} → b ≡ true → c ≡ true → (b && c) ≡ true
 and_both {b} {c} h k = ap (λ x. x && c) h ∙ k
@@ -31,20 +32,11 @@ kept_value : (b : Bool) (s : CoverShape) → (comma_shape b s).is_expression ≡
 kept_value true s = refl
 kept_value false s = refl
 
-kept_fits : (b : Bool) (s : CoverShape) (a : Reading) → b ≡ false → fits_as s a ≡ true → fits_as (comma_shape b s) a ≡ true
-kept_fits true s a h k = cc
-kept_fits false s a h k = k
-
-kept_either : (b : Bool) (s : CoverShape) → b ≡ false → is_either s ≡ true → is_either (comma_shape b s) ≡ true
-kept_either true s h k = cc
-kept_either false s h k = k
-
-kept_covers : (b : Bool) (s : CoverShape) → b ≡ false → reads listed.ParenthesizedItems s ≡ true → reads listed.ParenthesizedItems (comma_shape b s) ≡ true
-kept_covers true s h k = cc
-kept_covers false s h k = k
-
 value_either : (s : CoverShape) → s.is_expression ≡ true → is_either s ≡ true
 value_either s h = ap (λ b. b || is_element s.assigned) h
+
+value_covers : (s : CoverShape) → s.is_expression ≡ true → reads listed.AsyncArguments s ≡ true
+value_covers s h = ap (λ b. b || is_bound s) h
 
 -- the list behind a comma, in terms of its kind
 abbrev left_at : ListKind → ListOf → Reading → Bool
@@ -74,6 +66,11 @@ comma_left listed.Properties l (as_pattern b) rest h = both_shaped listed.Proper
 comma_left listed.ParenthesizedItems l as_expression rest h = both_shaped listed.ParenthesizedItems l as_expression (rest refl) h
 comma_left listed.ParenthesizedItems l (as_pattern true) rest h = both_shaped listed.ParenthesizedItems l (as_pattern true) (rest refl) h
 comma_left listed.ParenthesizedItems l (as_pattern false) rest h = absurd (false≢true h)
+comma_left listed.AsyncArguments l as_expression rest h =
+    let v = kept_value l.seen.is_rest l.seen.shape ∙ (and_parts l.seen.shape.is_expression (reads listed.AsyncArguments l.seen.shape) h).0 in
+    and_both v (value_covers (comma_shape l.seen.is_rest l.seen.shape) v)
+comma_left listed.AsyncArguments l (as_pattern true) rest h = both_shaped listed.AsyncArguments l (as_pattern true) (rest refl) h
+comma_left listed.AsyncArguments l (as_pattern false) rest h = absurd (false≢true h)
 comma_left listed.Parameters l as_expression rest h = absurd (false≢true h)
 comma_left listed.Parameters l (as_pattern true) rest h = both_shaped listed.Parameters l (as_pattern true) (rest refl) h
 comma_left listed.Parameters l (as_pattern false) rest h = absurd (false≢true h)
@@ -115,7 +112,7 @@ next_free listed.Template a ps c h = refl
 next_free _ a ps c h = absurd (false≢true h)
 
 -- what runs is what is left, where the list isn't stuck
-pub rest_runs : (text : List ℕ) (b : Bool) (l : ListOf) (a : Reading) (o : ℕ) (ps : Parts) (s e : Token) (P : List Pair) → b ≡ false → RunsIn text o (stood_in Any l.listed (left_of l.listed l.seen.is_flagged a ps)) ps s e P → RestGiven text b l a o ps s e P
+pub rest_runs : (text : SourceText) (b : Bool) (l : ListOf) (a : Reading) (o : ℕ) (ps : Parts) (s e : Token) (P : List Pair) → b ≡ false → RunsIn text o (stood_in Any l.listed (left_of l.listed l.seen.is_flagged a ps)) ps s e P → RestGiven text b l a o ps s e P
 rest_runs text true l a o ps s e P h d = absurd (true≢false h)
 rest_runs text false l a o ps s e P h d = d
 

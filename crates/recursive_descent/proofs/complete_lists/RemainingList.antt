@@ -2,8 +2,9 @@
 use Rattle.std.proofs.Common.{◌+◌, ◌≡◌, ℕ, Bool, true, false, not, cond, List, refl, sym, ap, ◌∙◌, subst, arith}
 use Rattle.std.specs.Prelude.{Some, codes, ◌&&◌, ◌||◌, if◌then◌else◌, nat_le}
 use Rattle.std.proofs.lemmas.Bool.{false≢true}
-use Rattle.tokens.specs.Reading.{any_goal}
 use Rattle.tokens.specs.declared.token.TokenClass.TheVariants.{Punctuator}
+use Rattle.tokens.specs.declared.token.Goal.TheVariants.{Div}
+use Rattle.language.specs.Promises.{ReadBy}
 use Rattle.tree.specs.declared.kind.Pair.{Pair}
 use Rattle.tree.specs.Tree.{Parts, join, part_count}
 use Rattle.language.specs.declared.Edge.{Edge}
@@ -16,10 +17,9 @@ use Rattle.language.specs.Continuations.{operation, rank_made_by, stops_at, hold
 use Rattle.language.specs.Pieces.{Role, expr}
 use Rattle.language.specs.Vocabulary.{is}
 use Rattle.language.specs.Token.{Token}
-use Rattle.language.specs.Places.{NextIn, itself, SpellsIn}
 use Rattle.language.proofs.climbing.SpineContinuations.{makes}
 use Rattle.language.proofs.table.RightEdges.{edged}
-use Rattle.language.proofs.texts.TextOffsets.{text_determined}
+use Rattle.token_cursor.proofs.SeenTokens.{seen_determined}
 use Rattle.covers.specs.declared.list.ListKind.{ListKind}
 use Rattle.covers.specs.declared.list.ListKind.TheVariants as listed
 use Rattle.covers.specs.declared.list.ListSummary.{ListSummary}
@@ -30,12 +30,14 @@ use Rattle.recursive_descent.specs.SoundnessOfLists.{has_reading, seen_fits, sto
 use Rattle.recursive_descent.specs.CompletenessOfLists.{ListGiven, LastGiven, ItemGiven, an_item, a_hole, a_chunk, ItemRead, is_full, is_lone, default_seen}
 use Rattle.parser_tables.specs.Items.{is_unseparated}
 use Rattle.token_cursor.specs.Seen.{ReadsHere}
-use Rattle.recursive_descent.proofs.complete_expressions.Agreement.{marks_same}
+use Rattle.recursive_descent.proofs.complete_expressions.Agreement.{marks_same, not_missed}
 use Rattle.recursive_descent.proofs.complete_lists.ListSteps.{Behind, ended, comma, next}
 use Rattle.recursive_descent.proofs.complete_lists.ListTurns.{count_read, count_join, cases_join, left_same, signs_apart, unlike}
 use Rattle.recursive_descent.proofs.complete_lists.ListLoop.{moved_given}
 use Rattle.recursive_descent.proofs.complete_lists.NextItem.{comma_left, comma_free, next_free, rest_runs, defaults_left}
 use Rattle.token_cursor.proofs.TokensAhead.{mark_by}
+use Rattle.token_cursor.specs.SourceText.{SourceText, SeenNext, behind_in}
+use Rattle.recursive_descent.specs.Spelled.{SpellsIn}
 
 some_is : {a b : Role} → Some a ≡ Some b → a ≡ b
 some_is e = cc
@@ -66,21 +68,24 @@ full_of listed.ParenthesizedItems s n h = h
 full_of listed.Parameters s n h = h
 full_of _ s n h = refl
 
-module _ (text : List ℕ) where
+module _ (text : SourceText) where
   -- behind what ends a list stands no comma
   comma_ends : (x : ListKind) {a : Reading} {o : ℕ} {t e m : Token} (to : Token) {v : Token} {Q : List Pair} {last : Bool} {one : Parts} → is_unseparated x ≡ false → ItemGiven text x a o t e Q last one → m ≡ e → LastGiven text x one m → ClosedBy text (closing x) m to → ReadsHere text Punctuator (codes ",") e v → ⊥
-  comma_ends (listed.Declarators i) {e = e} {m = m} to {v} u g at l closed c = l.1 v v (subst (λ z. ReadsHere text Punctuator (codes ",") z v) (sym at) c)
+  comma_ends (listed.Declarators i) {e = e} {m = m} to {v} u g at l closed c = not_missed l.1 (subst (λ z. ReadsHere text Punctuator (codes ",") z v) (sym at) c)
   comma_ends (listed.Sequence i) {o = o} {t} {e} {m} to {v} {Q} u (an_item {r = r} {n = n} ch it d en) at l closed c =
-      let h : stops_at Expression i (edge_as_written (edge n) e) v (rank_made_by (operation v) v.after_break) ≡ true = subst (λ z. stops_at Expression i (edge_as_written (edge n) z) v (rank_made_by (operation v) v.after_break) ≡ true) at (l v v (subst (λ z. Rattle.language.specs.Promises.ReadBy Token (NextIn text any_goal) itself Rattle.tokens.specs.declared.token.Goal.TheVariants.Div z v v) (sym at) (mark_by text c))) in
-      let w : stops_at Expression i (edge_as_written (edge n) e) v (Some Expression) ≡ true = subst (λ z. stops_at Expression i (edge_as_written (edge n) e) v (rank_made_by z v.after_break) ≡ true) (makes v c.class c.text refl) h in
+      let h : stops_at Expression i (edge_as_written (edge n) (behind_in text e)) (behind_in text v) (rank_made_by (operation (behind_in text v)) v.after_break) ≡ true =
+      subst (λ z. stops_at Expression i (edge_as_written (edge n) (behind_in text z)) (behind_in text v) (rank_made_by (operation (behind_in text v)) v.after_break) ≡ true) at
+      (l.before (behind_in text v) v (subst (λ z. ReadBy Token (SeenNext text) (behind_in text) Div z (behind_in text v) v) (sym at) (mark_by text c))) in
+      let w : stops_at Expression i (edge_as_written (edge n) (behind_in text e)) (behind_in text v) (Some Expression) ≡ true = subst (λ z. stops_at Expression i (edge_as_written (edge n) (behind_in text e)) (behind_in text v) (rank_made_by z v.after_break) ≡ true) (makes (behind_in text v) c.class c.text refl) h in
       let d' : SpellsIn text o (expr Assignment i Any) n t e Q = subst (λ z. SpellsIn text o z n t e Q) (sym (some_is it)) d in
-      refused (is v.text "in") i (holds (edge_as_written (edge n) e) Expression) (ap (λ z. is z "in") c.text) (comma_held (edge n) e (edged Token (NextIn text any_goal) itself (text_determined text) d').ends) w
+      refused (is v.text "in") i (holds (edge_as_written (edge n) (behind_in text e)) Expression) (ap (λ z. is z "in") c.text) (comma_held (edge n) (behind_in text e) (edged Token (SeenNext text) (behind_in text) (seen_determined text) d').ends) w
   comma_ends (listed.Sequence i) to u (a_hole k c z q) at l closed c' = cc
   comma_ends (listed.Sequence i) to u (a_chunk k x y z) at l closed c' = cc
   comma_ends listed.Arguments {m = m} to u g at l closed c = signs_apart text (unlike (λ w. is w ",") refl refl) c (subst (λ z. ReadsHere text Punctuator (codes ")") z to) at closed)
   comma_ends listed.Elements {m = m} to u g at l closed c = signs_apart text (unlike (λ w. is w ",") refl refl) c (subst (λ z. ReadsHere text Punctuator (codes "]") z to) at closed)
   comma_ends listed.Properties {m = m} to u g at l closed c = signs_apart text (unlike (λ w. is w ",") refl refl) c (subst (λ z. ReadsHere text Punctuator (codes "}") z to) at closed)
   comma_ends listed.ParenthesizedItems {m = m} to u g at l closed c = signs_apart text (unlike (λ w. is w ",") refl refl) c (subst (λ z. ReadsHere text Punctuator (codes ")") z to) at closed)
+  comma_ends listed.AsyncArguments {m = m} to u g at l closed c = signs_apart text (unlike (λ w. is w ",") refl refl) c (subst (λ z. ReadsHere text Punctuator (codes ")") z to) at closed)
   comma_ends listed.Parameters {m = m} to u g at l closed c = signs_apart text (unlike (λ w. is w ",") refl refl) c (subst (λ z. ReadsHere text Punctuator (codes ")") z to) at closed)
   comma_ends listed.NoParameter {m = m} to u g at l closed c = signs_apart text (unlike (λ w. is w ",") refl refl) c (subst (λ z. ReadsHere text Punctuator (codes ")") z to) at closed)
   comma_ends listed.OneParameter {m = m} to u g at l closed c = signs_apart text (unlike (λ w. is w ",") refl refl) c (subst (λ z. ReadsHere text Punctuator (codes ")") z to) at closed)
@@ -108,7 +113,7 @@ module _ (text : List ℕ) where
   next_given l k k' a {o} {last} {one} {rest} {t} {e} {x} {mid} {to} {Q} {R} read kl b c d open_list still commas g (ended p z q u lg) closed lone once = absurd (comma_ends l.listed to u g z lg closed (commas u))
   next_given l k k' a {o} {last} {one} {rest} {t} {e} {x} {mid} {to} {Q} {R} read kl b c d open_list still commas g (comma {k = v} u single plain sign r lg) closed lone once =
       let with_it : ListOf = record k { seen = separated k.seen true } in
-      let at : v ≡ x = (marks_same text sign (commas u)).0 in
+      let at : v ≡ x = (marks_same text sign (commas u)).1 in
       moved_given {l = with_it} b c (d ∙ ap (λ z. if z then k.seen else separated k.seen true) u) (record {
         left = ap (λ y. (has_reading y a && seen_fits y with_it a) && reads y with_it.seen.shape) kl ∙ comma_left l.listed k a (λ m. read.no_rest plain m) (ap (λ y. (has_reading y a && seen_fits y k a) && reads y k.seen.shape) (sym kl) ∙ read.left);
         mid = mid;

@@ -6,7 +6,6 @@ use Rattle.std.proofs.lemmas.Bool.{false≢true, and_parts}
 use Rattle.source_text.specs.declared.fault.Fault.{Fault}
 use Rattle.source_text.specs.declared.fault.Fault.TheVariants.{Syntax, TooDeep, OutOfMemory}
 use Rattle.tokens.specs.Goals.{allows}
-use Rattle.tokens.specs.Reading.{any_goal}
 use Rattle.tokens.specs.declared.token.TokenClass.TheVariants.{Template}
 use Rattle.tokens.specs.declared.token.Goal.TheVariants.{TemplateTail}
 use Rattle.token_cursor.specs.CursorState.{CursorState}
@@ -17,11 +16,10 @@ use Rattle.language.specs.declared.Rank.TheVariants.{Expression}
 use Rattle.language.specs.declared.Start.TheVariants.{Any}
 use Rattle.language.specs.Covers.{Reading, as_expression, as_pattern}
 use Rattle.language.specs.Pieces.{expr}
-use Rattle.language.specs.Places.{NextIn, itself, SpellsIn}
 use Rattle.language.specs.Promises.{ReadBy}
 use Rattle.language.specs.Token.{Token, same_class}
 use Rattle.language.proofs.list_loops.TemplateElements.{chunk_found, chunk_not_last, chunk_last_one}
-use Rattle.language.proofs.texts.TextOffsets.{text_determined}
+use Rattle.token_cursor.proofs.SeenTokens.{seen_determined}
 use Rattle.covers.specs.declared.list.ListItem.{ListItem}
 use Rattle.covers.specs.declared.list.ListKind.{ListKind}
 use Rattle.covers.specs.declared.list.ListKind.TheVariants as listed
@@ -49,8 +47,11 @@ use Rattle.recursive_descent.proofs.sound_lists.OneMoreItem.{join_none, read_pus
 use Rattle.recursive_descent.proofs.complete_lists.DeclaratorItems.{is_covers}
 use Rattle.recursive_descent.proofs.complete_lists.ItemFits.{agrees_pushed}
 use Rattle.recursive_descent.proofs.complete_lists.ItemAnswers.{left_reads}
+use Rattle.token_cursor.specs.SourceText.{SourceText, SeenNext, behind_in}
+use Rattle.recursive_descent.specs.Spelled.{SpellsIn, OfLanguage, AllOfLanguage}
+use Rattle.recursive_descent.proofs.reading.LanguageTrees.{first_of_language}
 
-module _ (text : List ℕ) where
+module _ (text : SourceText) where
   -- What is given there: an expression, and the part behind it.
   pub record Chunk (o : ℕ) (s e : Token) (P : List Pair) (last : Bool) (one : Parts) : Type 0 where
     pub value : Tree
@@ -68,13 +69,13 @@ module _ (text : List ℕ) where
   chunk_given h (a_chunk {n = n} {c = c} {m = m} is d st ch) = record { value = n; next = c; mid = m; parts = refl; spelled = d; stopped = st; chunk = ch }
 
   -- a part that isn't the first is read by the goal for it
-  later_read : (last : Bool) (w : List ℕ) {s e : Token} → ReadsHere text Template (front false ++ (w ++ back last)) s e → ReadBy Token (NextIn text any_goal) itself TemplateTail s e e × (is_later_part e ≡ true)
+  later_read : (last : Bool) (w : List ℕ) {s e : Token} → ReadsHere text Template (front false ++ (w ++ back last)) s e → ReadBy Token (SeenNext text) (behind_in text) TemplateTail s (behind_in text e) e × (is_later_part (behind_in text e) ≡ true)
   later_read last w {s} {e} r =
-      let allowed : IsTrue (allows TemplateTail e.class e.text) = subst (λ c. IsTrue (allows TemplateTail c e.text)) (sym r.class) (subst (λ v. IsTrue (allows TemplateTail Template v)) (sym r.text) refl) in
+      let allowed : IsTrue (allows TemplateTail (behind_in text e).class e.text) = subst (λ c. IsTrue (allows TemplateTail c e.text)) (sym r.class) (subst (λ v. IsTrue (allows TemplateTail Template v)) (sym r.text) refl) in
       (record { next = r.next; allowed = allowed }, (λ i. same_class Template (r.class i) && nat_eq (slice_index_or (r.text i) 0 0) 125))
 
   -- it is one node, of one token
-  pub chunk_ahead : (last : Bool) {s e : Token} {n : Tree} → ChunkAt text s e n last → ReadBy Token (NextIn text any_goal) itself TemplateTail s e e × (is_later_part e ≡ true)
+  pub chunk_ahead : (last : Bool) {s e : Token} {n : Tree} → ChunkAt text s e n last → ReadBy Token (SeenNext text) (behind_in text) TemplateTail s (behind_in text e) e × (is_later_part (behind_in text e) ≡ true)
   chunk_ahead last c = later_read last c.0 c.1
 
 -- a node has a level
@@ -82,21 +83,21 @@ some_height : (n : Tree) → 1 ≤ height n
 some_height (node k w g s e ps) = omega arith
 
 -- one token at one place is one part
-pub chunk_same : (text : List ℕ) (s u v : Token) (n m : Tree) (b c : Bool) → ChunkAt text s u n b → ChunkAt text s v m c → (u ≡ v) × (n ≡ m) × (b ≡ c)
+pub chunk_same : (text : SourceText) (s u v : Token) (n m : Tree) (b c : Bool) → ChunkAt text s u n b → ChunkAt text s v m c → (u ≡ v) × (n ≡ m) × (b ≡ c)
 chunk_same text s u v n m true true h k =
-    let same = (chunk_found Token (NextIn text any_goal) itself (text_determined text) {b = false} {l = true} {o = 0} {w = k.0} k.1).only 0 u _ [] (chunk_found Token (NextIn text any_goal) itself (text_determined text) {b = false} {l = true} {o = 0} {w = h.0} h.1).spelled in
+    let same = (chunk_found Token (SeenNext text) (behind_in text) (seen_determined text) {b = false} {l = true} {o = 0} {w = k.0} k.1).only 0 u _ [] (chunk_found Token (SeenNext text) (behind_in text) (seen_determined text) {b = false} {l = true} {o = 0} {w = h.0} h.1).spelled in
     (same.0, h.2 ∙ same.1 ∙ sym k.2, refl)
 chunk_same text s u v n m false false h k =
-    let same = (chunk_found Token (NextIn text any_goal) itself (text_determined text) {b = false} {l = false} {o = 0} {w = k.0} k.1).only 0 u _ [] (chunk_found Token (NextIn text any_goal) itself (text_determined text) {b = false} {l = false} {o = 0} {w = h.0} h.1).spelled in
+    let same = (chunk_found Token (SeenNext text) (behind_in text) (seen_determined text) {b = false} {l = false} {o = 0} {w = k.0} k.1).only 0 u _ [] (chunk_found Token (SeenNext text) (behind_in text) (seen_determined text) {b = false} {l = false} {o = 0} {w = h.0} h.1).spelled in
     (same.0, h.2 ∙ same.1 ∙ sym k.2, refl)
 chunk_same text s u v n m true false h k =
-    absurd ((chunk_not_last Token (NextIn text any_goal) itself (text_determined text) {b = false} k.0 k.1).nothing 0 u _ [] (chunk_found Token (NextIn text any_goal) itself (text_determined text) {b = false} {l = true} {o = 0} {w = h.0} h.1).spelled)
+    absurd ((chunk_not_last Token (SeenNext text) (behind_in text) (seen_determined text) {b = false} k.0 k.1).nothing 0 u _ [] (chunk_found Token (SeenNext text) (behind_in text) (seen_determined text) {b = false} {l = true} {o = 0} {w = h.0} h.1).spelled)
 chunk_same text s u v n m false true h k =
-    absurd ((chunk_last_one Token (NextIn text any_goal) itself (text_determined text) {b = false} k.0 k.1).nothing 0 u _ [] (chunk_found Token (NextIn text any_goal) itself (text_determined text) {b = false} {l = false} {o = 0} {w = h.0} h.1).spelled)
+    absurd ((chunk_last_one Token (SeenNext text) (behind_in text) (seen_determined text) {b = false} k.0 k.1).nothing 0 u _ [] (chunk_found Token (SeenNext text) (behind_in text) (seen_determined text) {b = false} {l = false} {o = 0} {w = h.0} h.1).spelled)
 
 -- a part that is given is refused for its height or for memory alone
 no_chunk_refuses : (W : Type 0) (m : CursorState) (high : ℕ) (fault : Fault) (e : Token) (n : Tree) (last : Bool) → NoChunk m high fault → ChunkAt m.text m.last e n last → (W → 1 ≤ high) → Refuses W fault
-no_chunk_refuses W m high (Syntax at) e n last h c f = let u = chunk_ahead m.text last c in absurd (false≢true (sym (h e e u.0) ∙ u.1))
+no_chunk_refuses W m high (Syntax at) e n last h c f = let u = chunk_ahead m.text last c in absurd (false≢true (sym (h (behind_in m.text e) e u.0) ∙ u.1))
 no_chunk_refuses W m high TooDeep e n last h c f = λ (w : W). let room : 1 ≤ high = f w in absurd (omega arith)
 no_chunk_refuses W m high OutOfMemory e n last h c f = tt
 no_chunk_refuses W m high _ e n last h c f = absurd h
@@ -142,32 +143,36 @@ module _ (s : CursorState) (old : List Pair) (l k : ListOf) (high : ℕ) (is : l
       let some = some_height v.next in
       (omega arith, omega arith)
 
+  -- the expression is of the language with it
+  value_own : {o : ℕ} {to : Token} {P : List Pair} {last : Bool} {one : Parts} (v : Chunk s.text o s.last to P last one) → AllOfLanguage s.text one → OfLanguage s.text v.value
+  value_own v own = first_of_language {text = s.text} {n = v.value} {ps = part v.next none} (subst (λ x. AllOfLanguage s.text x) v.parts own)
+
   -- the expression is refused
   pub chunk_refused : (e : CursorState) (new : List Pair) (answer : Result (Unit {0}) Fault) (fault : Fault) → IsErrAnd answer (λ x. x ≡ fault) → ExpressionComplete s e old new high q (Err fault) → ItemComplete s e old new high l k answer
-  chunk_refused e new answer fault err h = λ a o last one to P some left lone once g.
+  chunk_refused e new answer fault err h = λ a o last one to P some left lone once g own.
       let v = chunk_given s.text (ap is_chunked is) g in
-      agrees_on (Room s o (height v.value) high) (Room s o (parts_height one) high) (λ u. ItemRead a l k last one × EndsWith s e old new to P) answer fault err (h as_expression o v.value v.mid P (value_there o to P last one v)) (λ room. (room.0, (chunk_high v room.1).0))
+      agrees_on (Room s o (height v.value) high) (Room s o (parts_height one) high) (λ u. ItemRead a l k last one × EndsWith s e old new to P) answer fault err (h as_expression o v.value v.mid P (value_there o to P last one v) (value_own v own)) (λ room. (room.0, (chunk_high v room.1).0))
 
   module _ (m : CursorState) (mid : List Pair) (r : Operand) (read : ExpressionComplete s m old mid high q (Ok r)) where
     pub chunk_unsettled : (e p : CursorState) (new : List Pair) (answer : Result (Unit {0}) Fault) (fault : Fault) → IsErrAnd answer (λ x. x ≡ fault) → BecomesHere r.cover.node r.cover.shape.is_expression p (Err fault) → ItemComplete s e old new high l k answer
-    chunk_unsettled e p new answer fault err becomes = λ a o last one to P some left lone once g.
+    chunk_unsettled e p new answer fault err becomes = λ a o last one to P some left lone once g own.
         let v = chunk_given s.text (ap is_chunked is) g in
-        let u = read as_expression o v.value v.mid P (value_there o to P last one v) in
+        let u = read as_expression o v.value v.mid P (value_there o to P last one v) (value_own v own) in
         agrees_err (Room s o (parts_height one) high) (λ u. ItemRead a l k last one × EndsWith s e old new to P) answer fault err (refuses_unfit (Room s o (parts_height one) high) r.cover.node r.cover.shape.is_expression p fault becomes u.0.fits)
 
     pub chunk_missing : (e : CursorState) (new : List Pair) (answer : Result (Unit {0}) Fault) (fault : Fault) → m.text ≡ s.text → IsErrAnd answer (λ x. x ≡ fault) → NoChunk m high fault → ItemComplete s e old new high l k answer
-    chunk_missing e new answer fault there err none_there = λ a o last one to P some left lone once g.
+    chunk_missing e new answer fault there err none_there = λ a o last one to P some left lone once g own.
         let v = chunk_given s.text (ap is_chunked is) g in
-        let u = read as_expression o v.value v.mid P (value_there o to P last one v) in
+        let u = read as_expression o v.value v.mid P (value_there o to P last one v) (value_own v own) in
         let here : ChunkAt m.text m.last to v.next last = subst (λ z. ChunkAt z m.last to v.next last) (sym there) (subst (λ z. ChunkAt s.text z to v.next last) (sym u.1.place) v.chunk) in
         agrees_err (Room s o (parts_height one) high) (λ u. ItemRead a l k last one × EndsWith s e old new to P) answer fault err
         (no_chunk_refuses (Room s o (parts_height one) high) m high fault to v.next last none_there here (λ room. (chunk_high v room.1).1))
 
     pub chunk_taken : (e : CursorState) (new : List Pair) (l1 : ListOf) (c : ListItem) (at : ℕ) (answer : Result (Unit {0}) Fault) → m.text ≡ s.text → l1 ≡ with_item l (item_from r.cover.node value false Closed) → ChunkAt m.text m.last e.last c.node c.is_flagged → c.shape.is_expression ≡ true → c.spreads ≡ false → new ≡ mid →
         IfOk answer (λ u. k ≡ with_item l1 c) → IsTaken (takes l1.listed l1.seen c) at answer → ItemComplete s e old new high l k answer
-    chunk_taken e new l1 c at answer there first chunk plain alone same put taken = λ a o last one to P some left lone once g.
+    chunk_taken e new l1 c at answer there first chunk plain alone same put taken = λ a o last one to P some left lone once g own.
         let v = chunk_given s.text (ap is_chunked is) g in
-        let u = read as_expression o v.value v.mid P (value_there o to P last one v) in
+        let u = read as_expression o v.value v.mid P (value_there o to P last one v) (value_own v own) in
         let here : ChunkAt s.text v.mid e.last c.node c.is_flagged = subst (λ z. ChunkAt s.text z e.last c.node c.is_flagged) u.1.place (subst (λ z. ChunkAt z m.last e.last c.node c.is_flagged) there chunk) in
         let once_there = chunk_same s.text v.mid e.last to c.node v.next c.is_flagged last here v.chunk in
         let reading : a ≡ as_expression = only_expression a (ap (λ x. has_reading x a) (sym is) ∙ left_reads l a left) in

@@ -21,9 +21,11 @@ use Rattle.recursive_descent.proofs.complete_lists.ListLoop.{Reaches}
 use Rattle.recursive_descent.proofs.complete_lists.ListTurns.{EndSeen}
 use Rattle.recursive_descent.proofs.complete_lists.ListWhole.{none_there, whole_left}
 use Rattle.recursive_descent.proofs.sound_lists.WholeLists.{semicolons_before, SemicolonsBefore}
+use Rattle.token_cursor.specs.SourceText.{SourceText}
+use Rattle.recursive_descent.specs.Spelled.{AllOfLanguage}
 
 -- All items of a given list were read, and what closes it is left.
-pub record Done (text : List ℕ) (l0 l : ListOf) (a : Reading) (ps : Parts) (to : Token) (P : List Pair) (s e : CursorState) (old new : List Pair) : Type 0 where
+pub record Done (text : SourceText) (l0 l : ListOf) (a : Reading) (ps : Parts) (to : Token) (P : List Pair) (s e : CursorState) (old new : List Pair) : Type 0 where
   pub whole : is_whole l a ≡ true
   pub nodes : all_read_as a l.nodes ≡ join (all_read_as a l0.nodes) ps
   pub read : EndsWith s e old new e.last P
@@ -36,9 +38,9 @@ end_seen (Some w) t h = h
 
 -- before an item, where none stands
 pub done_before : {s m t : CursorState} {old mid new : List Pair} (l0 l : ListOf) → Reaches s.text l0 l s m old mid → m.text ≡ s.text → PassedBefore l.listed m t → FirstMisses t.text l.listed t.last → t.text ≡ m.text → new ≡ mid → (is_ended l.listed l.seen (part_count l.nodes) ≡ true) ⊎ SeesEnd (end_before l.listed) t →
-    (a : Reading) (o : ℕ) (ps : Parts) (to : Token) (P : List Pair) → ListGiven s.text l0 a o ps s.last to P → Done s.text l0 l a ps to P s t old new
-done_before {s} {m} {t} {old} {mid} {new} l0 l before here passed first there same over a o ps to P g =
-    let v = before a o ps to P g in
+    (a : Reading) (o : ℕ) (ps : Parts) (to : Token) (P : List Pair) → ListGiven s.text l0 a o ps s.last to P → AllOfLanguage s.text ps → Done s.text l0 l a ps to P s t old new
+done_before {s} {m} {t} {old} {mid} {new} l0 l before here passed first there same over a o ps to P g own =
+    let v = before a o ps to P g own in
     let text = there ∙ here in
     let passed' : SemicolonsBefore s.text l.listed m.last t.last = subst (λ y. SemicolonsBefore y l.listed m.last t.last) here (semicolons_before l.listed m t passed) in
     let z = none_there s.text l a v.left passed' (subst (λ y. FirstMisses y l.listed t.last) text first) (over_there over) in
@@ -55,6 +57,6 @@ done_before {s} {m} {t} {old} {mid} {new} l0 l before here passed first there sa
     over_there (inr h) = inr (subst (λ y. EndSeen y (end_before l.listed) t.last) (there ∙ here) (end_seen (end_before l.listed) t h))
 
 -- what closes it was read
-pub closes_at : (text : List ℕ) (w : Option (List ℕ)) (m e to : Token) → ClosedBy text w m to → ClosedBy text w m e → e ≡ to
+pub closes_at : (text : SourceText) (w : Option (List ℕ)) (m e to : Token) → ClosedBy text w m to → ClosedBy text w m e → e ≡ to
 closes_at text None m e to a b = b ∙ sym a
-closes_at text (Some w) m e to a b = sym (marks_same text a b).0
+closes_at text (Some w) m e to a b = sym (marks_same text a b).1

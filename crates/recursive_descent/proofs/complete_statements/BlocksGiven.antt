@@ -3,14 +3,12 @@ use Rattle.std.proofs.Common.{◌≡◌, ℕ, Bool, true, false, cond, List, [],
 use Rattle.std.specs.Prelude.{codes, ◌&&◌}
 use Rattle.std.proofs.lemmas.Bool.{false≢true}
 use Rattle.std.proofs.lemmas.List.{append-nil}
-use Rattle.tokens.specs.Reading.{any_goal}
 use Rattle.tokens.specs.declared.token.TokenClass.TheVariants.{IdentifierName, Punctuator}
 use Rattle.tree.specs.declared.kind.Kind.{Kind}
 use Rattle.tree.specs.declared.kind.Kind.TheVariants.{BlockStatement, ClassBody, CatchClause}
 use Rattle.tree.specs.declared.kind.Pair.{Pair}
-use Rattle.tree.specs.Tree.{Tree, node, plain, Parts, none, part, gap, bare, bare_parts, kind_of}
+use Rattle.tree.specs.Tree.{Tree, node, plain, Parts, none, part, gap, bare, bare_parts}
 use Rattle.language.specs.Pieces.{Role, block, body, class_body, handler, item, bound, line, deeper, shallower, Piece, many, lay, put, sign, is_none}
-use Rattle.language.specs.Places.{NextIn, itself, SpellsIn}
 use Rattle.language.specs.Statements.{prologue, lines, is_directive, member_lines}
 use Rattle.language.specs.Token.{Token}
 use Rattle.language.specs.declared.Edge.{Edge}
@@ -22,32 +20,27 @@ use Rattle.language.proofs.list_loops.CommaLists.{an_item}
 use Rattle.language.proofs.list_loops.FirstPieces.{run_never, run_none, run_token, run_laid, run_the_part, run_the_gap}
 use Rattle.language.proofs.table.SoleWays.{same_span, place_node}
 use Rattle.language.proofs.table.StatementWays.{behind_brace}
-use Rattle.language.proofs.texts.TextOffsets.{text_determined}
+use Rattle.token_cursor.proofs.SeenTokens.{seen_determined}
 use Rattle.unambiguity_laws.proofs.statements.Tries.{last_part}
 use Rattle.recursive_descent.specs.Soundness.{RunsIn, anywhere, SpelledAs}
 use Rattle.recursive_descent.specs.CompletenessOfStatements.{PiecesGiven, has_edges}
+use Rattle.language.proofs.climbing.NamesBehind.{apart_sign}
 use Rattle.parser_tables.specs.StatementSymbols.{CatchParts}
 use Rattle.parser_tables.specs.StatementSymbols as Parsed
 use Rattle.token_cursor.specs.Seen.{ReadsHere, Sees}
-use Rattle.recursive_descent.proofs.complete_expressions.Agreement.{read_here, marks_same}
-
-none_bare : (ps : Parts) → is_none (bare_parts ps) ≡ is_none ps
-none_bare none = refl
-none_bare (part n ps) = refl
-none_bare (gap ps) = refl
+use Rattle.recursive_descent.proofs.complete_expressions.Agreement.{read_here, marks_same, not_missed}
+use Rattle.token_cursor.specs.SourceText.{SourceText, SeenNext, behind_in}
+use Rattle.recursive_descent.specs.Spelled.{SpellsIn}
 
 directive_bare : (n : Tree) → is_directive (bare n) ≡ is_directive n
 directive_bare (node k w g s e ps) = refl
-
-bare_kind : (n : Tree) → kind_of (bare n) ≡ kind_of n
-bare_kind (node k w g s e ps) = refl
 
 no_directives : (r : Bool) (ps : Parts) → prologue r false (lay line ∷ []) [] ps ≡ lines (item r) ps
 no_directives r none = refl
 no_directives r (part n ps) = ap (λ qs. lay line ∷ put (item r) ∷ qs) (no_directives r ps)
 no_directives r (gap ps) = refl
 
-module _ (text : List ℕ) where
+module _ (text : SourceText) where
   -- some pieces with all parts, and those behind them
   record Split (o : ℕ) (qs rest : List Piece) (ps : Parts) (s e : Token) (P : List Pair) : Type 0 where
     mid : Token
@@ -60,11 +53,11 @@ module _ (text : List ℕ) where
   prologue_split : {o : ℕ} (r b c : Bool) → c ≡ b → (ps : Parts) (rest : List Piece) {s e : Token} {P : List Pair} → RunsIn text o (anywhere (prologue r c (lay line ∷ []) [] (bare_parts ps) ++ rest)) ps s e P → Split o (prologue r b [] [] ps) rest ps s e P
   prologue_split r b c same none rest {s} {e} {P} d = record { mid = s; one = []; more = P; runs = done; last = d; pairs = refl }
   prologue_split {o} r b c same (part n ps) rest {s} d =
-      let v = run_the_part Token (NextIn text any_goal) itself (run_laid Token (NextIn text any_goal) itself d) in
+      let v = run_the_part Token (SeenNext text) (behind_in text) (run_laid Token (SeenNext text) (behind_in text) d) in
       let w = prologue_split {o = o} r (b && is_directive n) (c && is_directive (bare n)) (λ i. same i && directive_bare n i) ps rest v.runs in
       let first = subst (λ x. SpellsIn text o (cond x (Rattle.language.specs.Pieces.opening r) (item r)) n s v.mid v.one) same v.spelled in
       record { mid = w.mid; one = v.one ++ w.one; more = w.more; runs = within first w.runs; last = w.last; pairs = v.pairs ∙ ap (λ k. v.one ++ k) w.pairs ∙ sym (append_assoc v.one w.one w.more) }
-  prologue_split r b c same (gap ps) rest d = absurd (run_never Token (NextIn text any_goal) itself d)
+  prologue_split r b c same (gap ps) rest d = absurd (run_never Token (SeenNext text) (behind_in text) d)
 
   members_split : {o : ℕ} (ps : Parts) (rest : List Piece) {s e : Token} {P : List Pair} → RunsIn text o (anywhere (member_lines (bare_parts ps) ++ rest)) ps s e P → Split o (member_lines ps) rest ps s e P
   members_split none rest {s} {e} {P} d = record { mid = s; one = []; more = P; runs = done; last = d; pairs = refl }
@@ -72,7 +65,7 @@ module _ (text : List ℕ) where
       let w = members_split {o = o} ps rest g in
       record { mid = w.mid; one = A ++ w.one; more = w.more; runs = step laid (within h (step semicolons w.runs)); last = w.last; pairs = ap (λ k. A ++ k) w.pairs ∙ sym (append_assoc A w.one w.more) }
   members_split (part n ps) rest (step laid (step x g)) = elim x [ ]
-  members_split (gap ps) rest d = absurd (run_never Token (NextIn text any_goal) itself d)
+  members_split (gap ps) rest d = absurd (run_never Token (SeenNext text) (behind_in text) d)
 
   class_split : {o : ℕ} (ps : Parts) (rest : List Piece) {s e : Token} {P : List Pair} → RunsIn text o (anywhere ((many (codes ";") ∷ member_lines (bare_parts ps)) ++ rest)) ps s e P → Split o (many (codes ";") ∷ member_lines ps) rest ps s e P
   class_split ps rest (step semicolons d) = let w = members_split ps rest d in record { mid = w.mid; one = w.one; more = w.more; runs = step semicolons w.runs; last = w.last; pairs = w.pairs }
@@ -87,17 +80,17 @@ module _ (text : List ℕ) where
 
   brace_read : {o : ℕ} {s e : Token} {P : List Pair} → RunsIn text o (anywhere (sign "}" ∷ [])) none s e P → Closed s e P
   brace_read {s = s} d =
-      let a = run_token Token (NextIn text any_goal) itself d in
-      let z = run_none Token (NextIn text any_goal) itself a.runs in
-      record { reads = read_here text (subst (λ x. Reads Token (NextIn text any_goal) itself Punctuator (codes "}") s a.sign x) z.place a.reads); pairs = z.pairs }
+      let a = run_token Token (SeenNext text) (behind_in text) d in
+      let z = run_none Token (SeenNext text) (behind_in text) a.runs in
+      record { reads = read_here text (subst (λ x. Reads Token (SeenNext text) (behind_in text) Punctuator (codes "}") s a.sign x) z.place a.reads); pairs = z.pairs }
 
   brace_closed : {o : ℕ} (c : Bool) {s e : Token} {P : List Pair} → RunsIn text o (anywhere (closing c)) none s e P → Closed s e P
   brace_closed true d = brace_read d
-  brace_closed false d = brace_read (run_laid Token (NextIn text any_goal) itself (run_laid Token (NextIn text any_goal) itself d))
+  brace_closed false d = brace_read (run_laid Token (SeenNext text) (behind_in text) (run_laid Token (SeenNext text) (behind_in text) d))
 
   first_laid : {o : ℕ} (c : Bool) (qs : List Piece) {ps : Parts} {s e : Token} {P : List Pair} → RunsIn text o (anywhere (cond c [] (lay deeper ∷ []) ++ qs)) ps s e P → RunsIn text o (anywhere qs) ps s e P
   first_laid true qs d = d
-  first_laid false qs d = run_laid Token (NextIn text any_goal) itself d
+  first_laid false qs d = run_laid Token (SeenNext text) (behind_in text) d
 
   -- what stands in braces
   inside_braces : {o : ℕ} (ps : Parts) (qs : List Piece) {rs : Parts} {s e : Token} {P : List Pair} → RunsIn text o (anywhere (behind_brace ps qs)) rs s e P → RunsIn text o (anywhere (qs ++ closing (is_none ps))) rs s e P
@@ -116,17 +109,17 @@ module _ (text : List ℕ) where
     pub closes : ReadsHere text Punctuator (codes "}") mid e
     pub tree : n ≡ node k [] plain left.start e.stop parts
 
-  braced : {a : Role} {k : Kind} {o : ℕ} {inner : Parts → List Piece} {pieces : Parts → List Piece} {n : Tree} {s e : Token} {P : List Pair} → OneKind a k (λ ps. sign "{" ∷ behind_brace ps (inner ps)) →
+  braced : {a : Role} {k : Kind} {o : ℕ} {inner : Parts → List Piece} {pieces : Parts → List Piece} {n : Tree} {s e : Token} {P : List Pair} → OneKind a k plain (λ ps. sign "{" ∷ behind_brace ps (inner ps)) →
       ((ps : Parts) (s e : Token) → RunsIn text o (anywhere (inner (bare_parts ps) ++ closing (is_none (bare_parts ps)))) ps s e P → Split o (pieces ps) (closing (is_none (bare_parts ps))) ps s e P) → SpellsIn text o a n s e P → Braced k o pieces n s e P
   braced {a} {k} {o} {inner} {pieces} {n} {s} {e} {P} u split d =
-      let sole = one_kind Token (NextIn text any_goal) itself (text_determined text) {Fine = λ n v. Unit {0}} {s = s} u in
+      let sole = one_kind Token (SeenNext text) (behind_in text) (seen_determined text) {Fine = λ n v. Unit {0}} {s = s} u in
       let told = sole.told d tt in
-      let t = run_token Token (NextIn text any_goal) itself told.runs in
+      let t = run_token Token (SeenNext text) (behind_in text) told.runs in
       let v = split told.parts t.mid e (inside_braces (bare_parts told.parts) (inner (bare_parts told.parts)) t.runs) in
       let c = brace_closed (is_none (bare_parts told.parts)) v.last in
       let opens = read_here text t.reads in
-      let span = same_span Token (NextIn text any_goal) itself (text_determined text) sole.spans (subst (λ z. Placed Token (NextIn text any_goal) itself a z s e) told.tree told.placed)
-      (place_node Token (NextIn text any_goal) itself (text_determined text) {k = k} {w = []} {g = plain} {ps = told.parts} {e = e} sole.spans opens.next) refl in
+      let span = same_span Token (SeenNext text) (behind_in text) (seen_determined text) sole.spans (subst (λ z. Placed Token (SeenNext text) (behind_in text) a z s e) told.tree told.placed)
+      (place_node Token (SeenNext text) (behind_in text) (seen_determined text) {k = k} {w = []} {g = plain} {ps = told.parts} {e = e} sole.spans opens.next) refl in
       record {
         left = t.mid;
         parts = told.parts;
@@ -136,6 +129,19 @@ module _ (text : List ℕ) where
         closes = c.reads;
         tree = told.tree ∙ (λ i. node k [] plain (span.0 i) (span.1 i) told.parts);
       }
+
+  -- what stands behind `{` up to its `}`
+  pub record Inside (o : ℕ) (r : Bool) (ps : Parts) (s e : Token) (P : List Pair) : Type 0 where
+    pub mid : Token
+    pub runs : RunsIn text o (anywhere (prologue r false [] [] ps)) ps s mid P
+    pub closes : ReadsHere text Punctuator (codes "}") mid e
+
+  pub items_given : {o : ℕ} (r : Bool) (ps : Parts) {s e : Token} {P : List Pair} → RunsIn text o (anywhere (behind_brace (bare_parts ps) (lines (item r) (bare_parts ps)))) ps s e P → Inside o r ps s e P
+  items_given {o} r ps {s} {e} {P} d =
+      let last : List Piece = closing (is_none (bare_parts ps)) in
+      let v = prologue_split r false false refl ps last (subst (λ qs. RunsIn text o (anywhere (qs ++ last)) ps s e P) (sym (no_directives r (bare_parts ps))) (inside_braces (bare_parts ps) (lines (item r) (bare_parts ps)) d)) in
+      let c = brace_closed (is_none (bare_parts ps)) v.last in
+      record { mid = v.mid; runs = subst (λ z. RunsIn text o (anywhere (prologue r false [] [] ps)) ps s v.mid z) (sym (v.pairs ∙ ap (λ z. v.one ++ z) c.pairs ∙ append-nil v.one)) v.runs; closes = c.reads }
 
   pub block_given : {o : ℕ} (r : Bool) {n : Tree} {s e : Token} {P : List Pair} → SpellsIn text o (block r) n s e P → Braced BlockStatement o (prologue r false [] []) n s e P
   block_given {o} r {P = P} d = braced {inner = lines (item r)} {pieces = prologue r false [] []} (one_block r) (λ ps s e x. prologue_split r false false refl ps (closing (is_none (bare_parts ps)))
@@ -161,17 +167,17 @@ module _ (text : List ℕ) where
     pub tree : n ≡ node CatchClause [] plain word.start e.stop parts
 
   caught_given : {o : ℕ} (r : Bool) (ps : Parts) {s e : Token} {P : List Pair} → RunsIn text o (anywhere (handler_pieces r (bare_parts ps))) ps s e P → (word : Token) × ReadsHere text IdentifierName (codes "catch") s word × CaughtGiven o r word e ps P
-  caught_given r none d = absurd (run_never Token (NextIn text any_goal) itself d)
+  caught_given r none d = absurd (run_never Token (SeenNext text) (behind_in text) d)
   caught_given {o} r (gap ps) {e = e} {P = P} d =
-      let t = run_token Token (NextIn text any_goal) itself (run_the_gap Token (NextIn text any_goal) itself d) in
-      let v = last_part Token (NextIn text any_goal) itself (text_determined text) (run_laid Token (NextIn text any_goal) itself t.runs) in
+      let t = run_token Token (SeenNext text) (behind_in text) (run_the_gap Token (SeenNext text) (behind_in text) d) in
+      let v = last_part Token (SeenNext text) (behind_in text) (seen_determined text) (run_laid Token (SeenNext text) (behind_in text) t.runs) in
       (t.mid, read_here text t.reads, subst (λ z. CaughtGiven o r t.mid e (gap z) P) (sym v.parts) (no_parameter v.spelled))
   caught_given {o} r (part (node c w g st en qs) ps) {e = e} {P = P} d =
-      let t = run_token Token (NextIn text any_goal) itself d in
-      let a = run_token Token (NextIn text any_goal) itself (run_laid Token (NextIn text any_goal) itself t.runs) in
-      let p = an_item Token (NextIn text any_goal) itself (text_determined text) (bound true c) a.runs in
-      let b = run_token Token (NextIn text any_goal) itself p.runs in
-      let v = last_part Token (NextIn text any_goal) itself (text_determined text) (run_laid Token (NextIn text any_goal) itself b.runs) in (
+      let t = run_token Token (SeenNext text) (behind_in text) d in
+      let a = run_token Token (SeenNext text) (behind_in text) (run_laid Token (SeenNext text) (behind_in text) t.runs) in
+      let p = an_item Token (SeenNext text) (behind_in text) (seen_determined text) (bound true c) a.runs in
+      let b = run_token Token (SeenNext text) (behind_in text) p.runs in
+      let v = last_part Token (SeenNext text) (behind_in text) (seen_determined text) (run_laid Token (SeenNext text) (behind_in text) b.runs) in (
         t.mid,
         read_here text t.reads,
         subst (λ z. CaughtGiven o r t.mid e (part (node c w g st en qs) ps) z) (sym p.pairs) (subst (λ z. CaughtGiven o r t.mid e (part (node c w g st en qs) z) (p.one ++ p.more)) (sym v.parts)
@@ -180,11 +186,11 @@ module _ (text : List ℕ) where
 
   pub handler_given : {o : ℕ} (r : Bool) {n : Tree} {s e : Token} {P : List Pair} → SpellsIn text o (handler r) n s e P → HandlerGiven o r n s e P
   handler_given {o} r {n} {s} {e} {P} d =
-      let sole = one_kind Token (NextIn text any_goal) itself (text_determined text) {Fine = λ n v. Unit {0}} {s = s} (one_handler r) in
+      let sole = one_kind Token (SeenNext text) (behind_in text) (seen_determined text) {Fine = λ n v. Unit {0}} {s = s} (one_handler r) in
       let told = sole.told d tt in
       let v = caught_given r told.parts told.runs in
-      let span = same_span Token (NextIn text any_goal) itself (text_determined text) sole.spans (subst (λ z. Placed Token (NextIn text any_goal) itself (handler r) z s e) told.tree told.placed)
-      (place_node Token (NextIn text any_goal) itself (text_determined text) {k = CatchClause} {w = []} {g = plain} {ps = told.parts} {e = e} sole.spans v.1.next) refl in
+      let span = same_span Token (SeenNext text) (behind_in text) (seen_determined text) sole.spans (subst (λ z. Placed Token (SeenNext text) (behind_in text) (handler r) z s e) told.tree told.placed)
+      (place_node Token (SeenNext text) (behind_in text) (seen_determined text) {k = CatchClause} {w = []} {g = plain} {ps = told.parts} {e = e} sole.spans v.1.next) refl in
       record { word = v.0; parts = told.parts; reads = v.1; caught = v.2; tree = told.tree ∙ (λ i. node CatchClause [] plain (span.0 i) (span.1 i) told.parts) }
 
   -- a block doesn't begin with a parenthesis
@@ -213,7 +219,7 @@ module _ (text : List ℕ) where
         rest = part b none;
         put_pairs = A;
         more_pairs = B;
-        first = record { put = n; parts = refl; target = target };
+        first = (record { put = n; parts = refl; target = target }, apart_sign Token (SeenNext text) (behind_in text) (seen_determined text) closes refl);
         others = record {
           mid = right;
           right = x;
@@ -233,7 +239,7 @@ module _ (text : List ℕ) where
       pairs = refl;
     }),
   )
-  caught_pieces x (inr h) (with_parameter {left = left} opens target closes d) = absurd (h.0 left left opens)
+  caught_pieces x (inr h) (with_parameter {left = left} opens target closes d) = absurd (not_missed h.0 opens)
   caught_pieces x (inl h) (no_parameter d) = absurd (block_sign d h.0)
   caught_pieces {o} {r} {s} {e} x (inr h) (no_parameter {b = b} {P = P} d) = (
     ap has_edges h.1,

@@ -40,21 +40,23 @@ use Rattle.token_cursor.specs.Seen.{ReadsHere, SeesBy, MissesBy}
 use Rattle.parser_tables.specs.StatementNodes.{with_list, list_parts, list_levels, listed_levels, listed_depth, takes_list, takes_listed}
 use Rattle.parser_tables.specs.Tests.{is_each}
 use Rattle.recursive_descent.specs.Expectations.{ExpectedAt}
-use Rattle.recursive_descent.proofs.complete_expressions.Agreement.{Refuses, refuses_on, refuses_where, room_part, ends_behind, marks_same}
+use Rattle.recursive_descent.proofs.complete_expressions.Agreement.{Refuses, refuses_on, refuses_where, room_part, ends_behind, marks_same, not_missed}
 use Rattle.recursive_descent.proofs.complete_lists.ForDeclarationsExpected.{head_wanted, head_some}
 use Rattle.recursive_descent.proofs.complete_lists.ListsExpected.{ListSame, ListWanted, list_wanted, levels_low}
-use Rattle.recursive_descent.proofs.sound_statements.BlockSymbols.{place_mark}
 use Rattle.recursive_descent.proofs.sound_statements.ListSymbols.{is_put, list_added, list_joined, begun_list, stays_before, empty_list, list_of}
 use Rattle.recursive_descent.proofs.sound_statements.PartSymbols.{each_at, wanted_nodes}
 use Rattle.recursive_descent.proofs.complete_statements.SymbolViews.{something, ListPiece, list_of_list, list_of_head, wants_list}
 use Rattle.recursive_descent.proofs.complete_statements.SymbolsLeft.{SameOf, RefusedOf}
+use Rattle.token_cursor.specs.SourceText.{SourceText}
+use Rattle.recursive_descent.specs.Spelled.{AllOfLanguage}
+use Rattle.recursive_descent.proofs.reading.Forward.{place_mark}
 
 -- no template is such a list
 no_template : (which : ListKind) → is_put which ≡ true → which ≡ listed.Template → ⊥
 no_template which put is = let no : false ≡ true = ap is_put (sym is) ∙ put in cc
 
 -- a list without brackets ends where its last item does
-ends_itself : (which : ListKind) (text : List ℕ) {m e : Token} → asks_edge which ≡ true → ClosedBy text (closing which) m e → e ≡ m
+ends_itself : (which : ListKind) (text : SourceText) {m e : Token} → asks_edge which ≡ true → ClosedBy text (closing which) m e → e ≡ m
 ends_itself (listed.Sequence i) text asks h = h
 ends_itself (listed.Declarators i) text asks h = h
 ends_itself _ text asks h = absurd (false≢true asks)
@@ -73,13 +75,13 @@ module _ (r : Bool) (s m : CursorState) (b c : PartialStatement) (high : ℕ) (w
 
   -- its sign stands there
   pub list_unopened : (limit : ℕ) (fault : Fault) → NotBegun which m limit fault → Unopened which fault → RefusedOf s.text r (piece_of p) s b high fault
-  list_unopened limit fault f unopened o to x y put P g at = of fault f unopened (opening which) refl
+  list_unopened limit fault f unopened o to x y put P g at own = of fault f unopened (opening which) refl
     where
       v : ListWanted s.text p which c.word o m.last to y put P
       v = list_given o to x y put P g
 
       of : (fault : Fault) → NotBegun which m limit fault → Unopened which fault → (w : Option (List ℕ)) → opening which ≡ w → Refuses (Room s o (parts_height put) high) fault
-      of (Syntax i) f u (Some w) k = absurd (f w k v.first v.first (subst (λ z. ReadsHere z Punctuator w m.last v.first) (sym same) (v.signed w k)))
+      of (Syntax i) f u (Some w) k = absurd (not_missed (f w k) (subst (λ z. ReadsHere z Punctuator w m.last v.first) (sym same) (v.signed w k)))
       of (Syntax i) f u None k = absurd (no_template which v.is_piece (u k))
       of TooDeep f u w k = absurd (no_template which v.is_piece u)
       of OutOfMemory f u w k = tt
@@ -101,11 +103,14 @@ module _ (r : Bool) (s m : CursorState) (b c : PartialStatement) (high : ℕ) (w
         subst (λ z. ListGiven x.text z v.reading o v.items x.last to P) (sym (list_is v.is_piece))
         (subst (λ z. ListGiven z (list_from which l0.span.start) v.reading o v.items x.last to P) (sym (text ∙ same)) (subst (λ z. ListGiven s.text (list_from which l0.span.start) v.reading o v.items z to P) (first_is v) (v.given l0.span.start)))
 
+    own_items : {o : ℕ} {to : Token} {y : Edge} {put : Parts} {P : List Pair} (v : ListWanted s.text p which c.word o m.last to y put P) → AllOfLanguage s.text put → AllOfLanguage x.text v.items
+    own_items v own = subst (λ z. AllOfLanguage z v.items) (sym (text ∙ same)) (v.own own)
+
     -- an item is refused, or what closes the list
     pub list_refused : (e : CursorState) (q1 new : List Pair) (fault : Fault) → ListComplete x e q1 new limit l0 (Err fault) → RefusedOf s.text r (piece_of p) s b high fault
-    list_refused e q1 new fault complete o to z y put P g at =
+    list_refused e q1 new fault complete o to z y put P g at own =
         let v = list_given o to z y put P g in
-        refuses_on (Room x o (parts_height v.items) limit) (Room s o (parts_height put) high) fault (complete v.reading o v.items to P (items_given v)) (λ room. room_part s x (opened ∙ open_same) (λ low. let less = v.low in omega arith) room)
+        refuses_on (Room x o (parts_height v.items) limit) (Room s o (parts_height put) high) fault (complete v.reading o v.items to P (items_given v) (own_items v own)) (λ room. room_part s x (opened ∙ open_same) (λ low. let less = v.low in omega arith) room)
 
     module _ (e : CursorState) (q1 new : List Pair) (l : ListOf) (each : Bool) (after : e.text ≡ x.text) (complete : ListComplete x e q1 new limit l0 (Ok l)) (kept : (l.listed ≡ l0.listed) × (l.span.start ≡ l0.span.start))
         (a : Adds x e q1 new (λ o k z Q. (f : Start) (w : Token) (P : List Pair) → SoFarAt x.text f l0 o w k P → ListAt x.text f l o w z (P ++ Q))) (seen : OnTrue each (SeesBy e.text Div is_each e.last)) (missed : OnFalse each (MissesBy e.text Div is_each e.last))
@@ -114,10 +119,10 @@ module _ (r : Bool) (s m : CursorState) (b c : PartialStatement) (high : ℕ) (w
           ends : EndsWith x e q1 new to P
           read : ListSame p which c.word each put y to l
 
-        list_read : (o : ℕ) (to : Token) (z y : Edge) (put : Parts) (P : List Pair) → PieceGiven s.text r o (piece_of p) s.last to z y put P → ListRead o to y put P
-        list_read o to z y put P g =
+        list_read : (o : ℕ) (to : Token) (z y : Edge) (put : Parts) (P : List Pair) → PieceGiven s.text r o (piece_of p) s.last to z y put P → AllOfLanguage s.text put → ListRead o to y put P
+        list_read o to z y put P g own =
             let v = list_given o to z y put P g in
-            let u = complete v.reading o v.items to P (items_given v) in
+            let u = complete v.reading o v.items to P (items_given v) (own_items v own) in
             let at : EachAt s.text each to = subst (λ k. EachAt s.text each k) u.2.place (subst (λ k. EachAt k each e.last) (after ∙ text ∙ same) (each_at e.text e.last each seen missed)) in
             let first = list_is v.is_piece in
             let whole = a.is Any x.last [] (subst (λ k. SoFarAt x.text Any k (max_open - x.opened) x.last x.last []) (sym first) (empty_list x.text l0.span.start (max_open - x.opened) x.last which v.is_piece)) in
@@ -136,8 +141,8 @@ module _ (r : Bool) (s m : CursorState) (b c : PartialStatement) (high : ℕ) (w
 
         -- what it makes is refused
         pub list_unput : (At : ℕ → Type 0) (fault : Fault) → RefusedWhere At (takes_list c.word each l) (list_levels l) high fault → RefusedOf s.text r (piece_of p) s b high fault
-        list_unput At fault f o to z y put P g at =
-            let v = list_read o to z y put P g in
+        list_unput At fault f o to z y put P g at own =
+            let v = list_read o to z y put P g own in
             let low = levels_low which c.word to.stop l in
             let whole : parts_height (list_added which c.word to.stop l.span l.nodes) ≡ parts_height put = ap parts_height v.read.added in
             let levels : list_levels l ≡ listed_levels which l.nodes = ap (λ k. listed_levels k l.nodes) (kept.0 ∙ is) in
@@ -145,8 +150,8 @@ module _ (r : Bool) (s m : CursorState) (b c : PartialStatement) (high : ℕ) (w
 
         -- the list
         pub list_same : {old q0 : List Pair} {d : PartialStatement} → q0 ≡ old → q1 ≡ q0 → d ≡ with_list c l e.last.stop → SameOf s.text r (piece_of p) s e old new b d
-        list_same p0 p1 made o to z y put P g at =
-            let v = list_read o to z y put P g in
+        list_same p0 p1 made o to z y put P g at own =
+            let v = list_read o to z y put P g own in
             record {
               nodes = ap (λ (k : PartialStatement). k.nodes) made ∙ ap (λ k. list_parts k c.word e.last.stop l.span c.nodes l.nodes) (kept.0 ∙ is) ∙ list_joined which c.word e.last.stop l.span c.nodes l.nodes
                   ∙ ap (join c.nodes) (ap (λ (t : Token). list_added which c.word t.stop l.span l.nodes) v.ends.place ∙ v.read.added) ∙ ap (λ k. join k put) (wanted_nodes p r s m b c high (wanted.List which) (something (wanted.List which) refl) h);

@@ -1,7 +1,9 @@
 -- A statement that is given, behind what was read of it before its pieces: its pieces, those of a `for` in two runs, and its node (ECMA-262 13).
 use Rattle.std.proofs.Common.{◌≡◌, ◌⊎◌, inl, inr, ℕ, suc, ◌-◌, ◌≤◌, arith, Bool, true, List, [], ◌++◌, Result, Ok, Err, refl, sym, ap, ◌∙◌, subst, append_assoc}
+use Rattle.std.specs.Prelude.{codes}
 use Rattle.std.specs.Result.{IsErrAnd}
 use Rattle.source_text.specs.declared.fault.Fault.{Fault}
+use Rattle.tokens.specs.declared.token.TokenClass.TheVariants.{Keyword}
 use Rattle.tokens.specs.declared.token.Goal.{Goal}
 use Rattle.tokens.specs.declared.token.Token.{Token as Scanned}
 use Rattle.tokens.specs.Scanned.{token_of}
@@ -12,7 +14,6 @@ use Rattle.productions.specs.Made.{Makes}
 use Rattle.language.specs.declared.Edge.{Edge}
 use Rattle.language.specs.declared.Edge.TheVariants.{Closed}
 use Rattle.language.specs.Token.{Token, as_read}
-use Rattle.language.specs.Places.{SpellsIn}
 use Rattle.language.specs.StatementStart.{statement_start}
 use Rattle.language.specs.Claims.{max_open}
 use Rattle.parser_tables.specs.declared.symbol_lists.PartialStatement.{PartialStatement}
@@ -32,6 +33,10 @@ use Rattle.recursive_descent.proofs.sound_statements.WholeStatements.{headed_tex
 use Rattle.recursive_descent.proofs.complete_statements.StatementGiven.{own_told, for_told}
 use Rattle.recursive_descent.proofs.complete_statements.ForStatements.{ForGiven}
 use Rattle.recursive_descent.proofs.complete_statements.SymbolSteps.{PiecesFrom}
+use Rattle.token_cursor.specs.SourceText.{SourceText, unseen}
+use Rattle.token_cursor.specs.Seen.{Misses}
+use Rattle.recursive_descent.specs.Spelled.{SpellsIn, OfLanguage, AllOfLanguage}
+use Rattle.recursive_descent.proofs.reading.LanguageTrees.{parts_of_language, join_of_language}
 
 -- each list of pieces knows the right edges for which its ends ask
 pub edges_known : (h : StatementKind) (r : Bool) → has_edges (statement_parts h r) ≡ true
@@ -81,20 +86,20 @@ pub data MainGiven (s m : CursorState) (old mid : List Pair) (c : StatementConte
       EndsWith s m old mid m.last one → MainGiven s m old mid c t h nodes o n to P
 
 abbrev pub MainFor : CursorState → CursorState → List Pair → List Pair → StatementContext → Scanned → StatementKind → Parts → Type 0
-MainFor s m old mid c t h nodes = (o : ℕ) (n : Tree) (to : Token) (P : List Pair) → SpellsIn s.text o (context_role c) n s.last to P → FinishedIn s.text n to → MainGiven s m old mid c t h nodes o n to P
+MainFor s m old mid c t h nodes = (o : ℕ) (n : Tree) (to : Token) (P : List Pair) → SpellsIn s.text o (context_role c) n s.last to P → FinishedIn s.text n to → OfLanguage s.text n → MainGiven s m old mid c t h nodes o n to P
 
 -- behind a first token that is the statement's own
-pub own_main : (s m : CursorState) (old mid : List Pair) (c : StatementContext) (t : Scanned) (h : StatementKind) (nodes : Parts) → IsAhead Goal.RegExp s.text s.last.stop (token_of t) → code.OfKind h ≡ coded_statement_start (statement_start c.is_item c.returns (as_read (token_of t))) → m.last ≡ as_read (token_of t) → mid ≡ old → nodes ≡ none →
+pub own_main : (s m : CursorState) (old mid : List Pair) (c : StatementContext) (t : Scanned) (h : StatementKind) (nodes : Parts) → IsAhead Goal.RegExp s.text s.last.stop (token_of t) → code.OfKind h ≡ coded_statement_start (statement_start c.is_item c.returns (as_read (token_of t))) → (h ≡ headed.For → Misses s.text Keyword (codes "await") m.last) → m.last ≡ unseen (as_read (token_of t)) → mid ≡ old → nodes ≡ none →
     MainFor s m old mid c t h nodes
-own_main s m old mid c t h nodes ahead coded last same empty o n to P spelled fine = elim (for_or_not h) [
-  | inl loop ↦ (let v = for_told s.text c t s.last ahead (headed_begins (statement_start c.is_item c.returns (as_read (token_of t))) headed.For (ap code.OfKind (sym loop) ∙ coded)) spelled fine in
+own_main s m old mid c t h nodes ahead coded missed last same empty o n to P spelled fine own = elim (for_or_not h) [
+  | inl loop ↦ (let v = for_told s.text c t s.last ahead (subst (Misses s.text Keyword (codes "await")) last (missed loop)) (headed_begins (statement_start c.is_item c.returns (as_read (token_of t))) headed.For (ap code.OfKind (sym loop) ∙ coded)) spelled fine in
       twice loop v.what v.parts [] P (v.tree ∙ ap (λ k. node (statement_node_kind v.what) (headed_text v.what t.text.now) plain t.start to.stop (join k v.parts)) (sym empty)) (subst (λ k. ForGiven s.text c.returns o v.what Closed v.parts k to P) (sym last) v.pieces) refl (ends_none refl same))
   | inr other ↦ (let v = own_told s.text c t s.last ahead h coded other spelled fine in
       once other v.parts [] P (v.tree ∙ ap (λ k. node (statement_node_kind h) (headed_text h t.text.now) plain t.start to.stop (join k v.parts)) (sym empty)) (subst (λ k. PiecesFrom s.text c.returns o (statement_parts h c.returns) k to Closed v.parts P) (sym last) v.pieces) refl (ends_none refl same))
 ]
 
 -- the pieces that are read at a point
-pub pieces_there : {text : List ℕ} {pieces : List Piece} {r : Bool} {o : ℕ} (h : StatementKind) {e : Token} {x : Edge} {ps : Parts} {P : List Pair} (m : CursorState) (b : PartialStatement) → m.text ≡ text → pieces ≡ statement_parts h r → b.edge ≡ x → (u : PiecesFrom text r o (statement_parts h r) m.last e x ps P) → PiecesGiven m.text r o pieces m.last e b.edge u.right ps P
+pub pieces_there : {text : SourceText} {pieces : List Piece} {r : Bool} {o : ℕ} (h : StatementKind) {e : Token} {x : Edge} {ps : Parts} {P : List Pair} (m : CursorState) (b : PartialStatement) → m.text ≡ text → pieces ≡ statement_parts h r → b.edge ≡ x → (u : PiecesFrom text r o (statement_parts h r) m.last e x ps P) → PiecesGiven m.text r o pieces m.last e b.edge u.right ps P
 pieces_there {text} {pieces} {r} {o} h {e} {x} {ps} {P} m b same its edge u =
     subst (λ k. PiecesGiven k r o pieces m.last e b.edge u.right ps P) (sym same) (subst (λ qs. PiecesGiven text r o qs m.last e b.edge u.right ps P) (sym its) (subst (λ y. PiecesGiven text r o (statement_parts h r) m.last e y u.right ps P) (sym edge) u.given))
 
@@ -132,42 +137,48 @@ module _ (s m : CursorState) (old mid : List Pair) (c : StatementContext) (t : S
       let u = (join_low b.nodes added (parts_height (join b.nodes added)) (omega arith)).1 in
       omega arith
 
+  own_added : (n : Tree) {k : Rattle.tree.specs.declared.kind.Kind.Kind} {w : List ℕ} {st en : ℕ} (added : Parts) → n ≡ node k w plain st en (join b.nodes added) → OfLanguage s.text n → AllOfLanguage m.text added
+  own_added n added tree own = subst (λ z. AllOfLanguage z added) (sym there.same) (join_of_language b.nodes added (parts_of_language (subst (OfLanguage s.text) tree own))).1
+
+  own_lead : (lead others : Parts) {added : Parts} → added ≡ join lead others → AllOfLanguage m.text added → AllOfLanguage m.text lead
+  own_lead lead others is own = (join_of_language lead others (subst (AllOfLanguage m.text) is own)).0
+
   -- the pieces are refused
   pub main_refused : (e z : CursorState) (new last : List Pair) (d : PartialStatement) (result : Result Tree Fault) (fault : Fault) → IsErrAnd result (λ x. x ≡ fault) → SymbolsComplete m e mid new inner pieces c.returns b d (Err fault) → StatementComplete s z old last high c result
-  main_refused e z new last d result fault is complete o n to P spelled fine = of (there.main o n to P spelled fine)
+  main_refused e z new last d result fault is complete o n to P spelled fine own = of (there.main o n to P spelled fine own)
     where
       of : MainGiven s m old mid c t h b.nodes o n to P → Agrees (Room s o (height n) high) (λ k. (k ≡ n) × EndsWith s z old last to P) result
       of (once other added one more tree u pairs ends) =
-          agrees_on (Room m o (parts_height added) inner) (Room s o (height n) high) (λ k. (k ≡ n) × EndsWith s z old last to P) result fault is (complete o u.right added to more known (pieces_there h m b there.same its there.edge u))
+          agrees_on (Room m o (parts_height added) inner) (Room s o (height n) high) (λ k. (k ≡ n) × EndsWith s z old last to P) result fault is (complete o u.right added to more known (pieces_there h m b there.same its there.edge u) (own_added n added tree own))
           (λ room. room_of o n (parts_height added) (omega arith) room (tall_once n _ _ _ _ added tree))
       of (twice loop what added one more tree u pairs ends) =
           let head : PiecesFrom s.text c.returns o (statement_parts h c.returns) m.last u.mid Closed u.lead u.one = subst (λ k. PiecesFrom s.text c.returns o (statement_parts k c.returns) m.last u.mid Closed u.lead u.one) (sym loop) u.head in
           let low = (join_low u.lead u.others (parts_height added) (subst (λ k. parts_height k ≤ parts_height added) u.parts (omega arith))).0 in
           let tall = tall_once n _ _ _ _ added tree in
-          agrees_on (Room m o (parts_height u.lead) inner) (Room s o (height n) high) (λ k. (k ≡ n) × EndsWith s z old last to P) result fault is (complete o head.right u.lead u.mid u.one known (pieces_there h m b there.same its there.edge head))
+          agrees_on (Room m o (parts_height u.lead) inner) (Room s o (height n) high) (λ k. (k ≡ n) × EndsWith s z old last to P) result fault is (complete o head.right u.lead u.mid u.one known (pieces_there h m b there.same its there.edge head) (own_lead u.lead u.others u.parts (own_added n added tree own)))
           (λ room. room_of o n (parts_height u.lead) (omega arith) room (omega arith))
 
   -- they were read, of another statement than a `for`
   pub main_read : (e : CursorState) (new : List Pair) (d : PartialStatement) → (h ≡ headed.For → ⊥) → SymbolsComplete m e mid new inner pieces c.returns b d (Ok tt) →
-      (o : ℕ) (n : Tree) (to : Token) (P : List Pair) → SpellsIn s.text o (context_role c) n s.last to P → FinishedIn s.text n to → (n ≡ node (statement_node_kind h) (headed_text h t.text.now) plain t.start to.stop d.nodes) × EndsWith s e old new to P
-  main_read e new d other complete o n to P spelled fine = of (there.main o n to P spelled fine)
+      (o : ℕ) (n : Tree) (to : Token) (P : List Pair) → SpellsIn s.text o (context_role c) n s.last to P → FinishedIn s.text n to → OfLanguage s.text n → (n ≡ node (statement_node_kind h) (headed_text h t.text.now) plain t.start to.stop d.nodes) × EndsWith s e old new to P
+  main_read e new d other complete o n to P spelled fine own = of (there.main o n to P spelled fine own)
     where
       of : MainGiven s m old mid c t h b.nodes o n to P → (n ≡ node (statement_node_kind h) (headed_text h t.text.now) plain t.start to.stop d.nodes) × EndsWith s e old new to P
       of (once not_loop added one more tree u pairs ends) =
-          let agrees = complete o u.right added to more known (pieces_there h m b there.same its there.edge u) in
+          let agrees = complete o u.right added to more known (pieces_there h m b there.same its there.edge u) (own_added n added tree own) in
           (tree ∙ ap (λ k. node (statement_node_kind h) (headed_text h t.text.now) plain t.start to.stop k) (sym agrees.0), ends_same (sym pairs) (ends_both ends agrees.1))
       of (twice loop what added one more tree u pairs ends) = absurd (other loop)
 
   -- of a `for`, what stands first in its head
   pub for_on : (e : CursorState) (new : List Pair) (d : PartialStatement) → h ≡ headed.For → SymbolsComplete m e mid new inner pieces c.returns b d (Ok tt) →
-      (o : ℕ) (n : Tree) (to : Token) (P : List Pair) → SpellsIn s.text o (context_role c) n s.last to P → FinishedIn s.text n to → ForOn s e old new c t d o n to P
-  for_on e new d is_loop complete o n to P spelled fine = of (there.main o n to P spelled fine)
+      (o : ℕ) (n : Tree) (to : Token) (P : List Pair) → SpellsIn s.text o (context_role c) n s.last to P → FinishedIn s.text n to → OfLanguage s.text n → ForOn s e old new c t d o n to P
+  for_on e new d is_loop complete o n to P spelled fine own = of (there.main o n to P spelled fine own)
     where
       of : MainGiven s m old mid c t h b.nodes o n to P → ForOn s e old new c t d o n to P
       of (once other added one more tree u pairs ends) = absurd (other is_loop)
       of (twice loop what added one more tree u pairs ends) =
           let head : PiecesFrom s.text c.returns o (statement_parts h c.returns) m.last u.mid Closed u.lead u.one = subst (λ k. PiecesFrom s.text c.returns o (statement_parts k c.returns) m.last u.mid Closed u.lead u.one) (sym loop) u.head in
-          let agrees = complete o head.right u.lead u.mid u.one known (pieces_there h m b there.same its there.edge head) in
+          let agrees = complete o head.right u.lead u.mid u.one known (pieces_there h m b there.same its there.edge head) (own_lead u.lead u.others u.parts (own_added n added tree own)) in
           record {
             what = what;
             added = u.others;
@@ -182,11 +193,11 @@ module _ (s m : CursorState) (old mid : List Pair) (c : StatementContext) (t : S
 
 -- the node, from what was read of it
 pub statement_whole : (s e : CursorState) (old new : List Pair) (high : ℕ) (c : StatementContext) (k : Rattle.tree.specs.declared.kind.Kind.Kind) (w : List ℕ) (start : ℕ) (nodes : Parts) (result : Result Tree Fault) → Makes (node k w plain start e.last.stop nodes) high result →
-    ((o : ℕ) (n : Tree) (to : Token) (P : List Pair) → SpellsIn s.text o (context_role c) n s.last to P → FinishedIn s.text n to → (n ≡ node k w plain start to.stop nodes) × EndsWith s e old new to P) → StatementComplete s e old new high c result
-statement_whole s e old new high c k w start nodes (Ok made) makes told o n to P spelled fine =
-    let v = told o n to P spelled fine in
+    ((o : ℕ) (n : Tree) (to : Token) (P : List Pair) → SpellsIn s.text o (context_role c) n s.last to P → FinishedIn s.text n to → OfLanguage s.text n → (n ≡ node k w plain start to.stop nodes) × EndsWith s e old new to P) → StatementComplete s e old new high c result
+statement_whole s e old new high c k w start nodes (Ok made) makes told o n to P spelled fine own =
+    let v = told o n to P spelled fine own in
     (makes.0 ∙ ap (λ (x : Token). node k w plain start x.stop nodes) v.1.place ∙ sym v.0, v.1)
-statement_whole s e old new high c k w start nodes (Err fault) makes told o n to P spelled fine =
-    let v = told o n to P spelled fine in
+statement_whole s e old new high c k w start nodes (Err fault) makes told o n to P spelled fine own =
+    let v = told o n to P spelled fine own in
     let tree : n ≡ node k w plain start e.last.stop nodes = v.0 ∙ ap (λ (x : Token). node k w plain start x.stop nodes) (sym v.1.place) in
     refuses_made (Room s o (height n) high) (node k w plain start e.last.stop nodes) high fault makes (λ room. subst (λ x. height x ≤ high) tree room.1)

@@ -2,7 +2,6 @@
 use Rattle.std.proofs.Common.{◌≡◌, ℕ, Bool, true, List, [], ◌∷◌, ◌++◌, refl, sym, ap, ◌∙◌, subst}
 use Rattle.std.specs.Prelude.{codes}
 use Rattle.tokens.specs.declared.token.TokenClass.TheVariants.{IdentifierName, Punctuator}
-use Rattle.tokens.specs.Reading.{any_goal}
 use Rattle.tree.specs.declared.kind.Pair.{Pair}
 use Rattle.tree.specs.Tree.{Tree, Parts, none, part, gap, join}
 use Rattle.language.specs.declared.Edge.{Edge}
@@ -13,10 +12,9 @@ use Rattle.language.specs.Edges.{edge, edge_as_written}
 use Rattle.language.specs.Pieces.{Role, expr, statement, PieceOf, tok, sub}
 use Rattle.language.specs.Token.{Token}
 use Rattle.language.specs.Derivation.{Reads}
-use Rattle.language.specs.Places.{NextIn, itself, SpellsIn}
 use Rattle.language.proofs.statements.StatementFollow.{idle_stops}
 use Rattle.language.proofs.list_loops.FirstPieces.{run_none, run_token, run_part}
-use Rattle.language.proofs.texts.TextOffsets.{text_determined}
+use Rattle.token_cursor.proofs.SeenTokens.{seen_determined}
 use Rattle.recursive_descent.specs.Soundness.{RunsIn}
 use Rattle.recursive_descent.specs.Completeness.{StopsIn, FinishedIn}
 use Rattle.recursive_descent.specs.CompletenessOfStatements.{PieceGiven, PiecesGiven, ExpressionGiven, StatementGiven}
@@ -24,13 +22,15 @@ use Rattle.parser_tables.specs.StatementSymbols as Piece
 use Rattle.parser_tables.specs.StatementSymbols.{in_parentheses}
 use Rattle.token_cursor.specs.Seen.{ReadsHere}
 use Rattle.recursive_descent.proofs.complete_expressions.Agreement.{read_here}
+use Rattle.token_cursor.specs.SourceText.{SourceText, SeenNext, behind_in}
+use Rattle.recursive_descent.specs.Spelled.{SpellsIn}
 
 -- what is given of a statement behind its first token, from any right edge on
-pub record PiecesFrom (text : List ℕ) (r : Bool) (o : ℕ) (qs : List Piece.Piece) (s e : Token) (x : Edge) (ps : Parts) (P : List Pair) : Type 0 where
+pub record PiecesFrom (text : SourceText) (r : Bool) (o : ℕ) (qs : List Piece.Piece) (s e : Token) (x : Edge) (ps : Parts) (P : List Pair) : Type 0 where
   pub right : Edge
   pub given : PiecesGiven text r o qs s e x right ps P
 
-module _ {text : List ℕ} {r : Bool} {o : ℕ} where
+module _ {text : SourceText} {r : Bool} {o : ℕ} where
   pub pieces_as : {qs : List Piece.Piece} {s e : Token} {x : Edge} {ps qs' : Parts} {P Q : List Pair} → ps ≡ qs' → P ≡ Q → PiecesFrom text r o qs s e x qs' Q → PiecesFrom text r o qs s e x ps P
   pieces_as {qs} {s} {e} {x} {ps} {qs'} {P} same pairs u = subst (λ k. PiecesFrom text r o qs s e x k P) (sym same) (subst (λ R. PiecesFrom text r o qs s e x qs' R) (sym pairs) u)
 
@@ -64,15 +64,15 @@ module _ {text : List ℕ} {r : Bool} {o : ℕ} where
   pub a_statement : {n : Tree} {s m : Token} {P : List Pair} → SpellsIn text o (statement r) n s m P → FinishedIn text n m → StatementGiven text r o s m (part n none) P
   a_statement {n = n} spelled finished = record { put = n; parts = refl; spelled = spelled; finished = finished }
 
-module _ {text : List ℕ} {o : ℕ} where
+module _ {text : SourceText} {o : ℕ} where
   pub an_expression : {y : Rank} {n : Tree} {s m : Token} {P : List Pair} → SpellsIn text o (expr y true Any) n s m P → StopsIn text y true n m → ExpressionGiven text o y true s m (edge_as_written (edge n) m) (part n none) P
   an_expression {n = n} spelled stopped = record { put = n; parts = refl; right = refl; spelled = spelled; stopped = stopped }
 
 -- an expression before a sign that can't go on with it
-pub before_sign : {text : List ℕ} (n : Tree) {e k t : Token} → Reads Token (NextIn text any_goal) itself Punctuator (codes ")") e t k → StopsIn text Expression true n e
-before_sign {text} n read = idle_stops Token (NextIn text any_goal) itself (text_determined text) Expression true n refl (λ x b. refl) read
+pub before_sign : {text : SourceText} (n : Tree) {e k t : Token} → Reads Token (SeenNext text) (behind_in text) Punctuator (codes ")") e t k → StopsIn text Expression true n e
+before_sign {text} n read = idle_stops Token (SeenNext text) (behind_in text) (seen_determined text) Expression true n refl (λ x b. refl) read
 
-module _ (text : List ℕ) where
+module _ (text : SourceText) where
   -- an Expression in parentheses
   pub record Condition (o : ℕ) (qs : List (PieceOf Role)) (ps : Parts) (s e : Token) (P : List Pair) : Type 0 where
     pub item : Tree
@@ -92,9 +92,9 @@ module _ (text : List ℕ) where
 
   pub condition_given : {o : ℕ} {qs : List (PieceOf Role)} {ps : Parts} {s e : Token} {P : List Pair} → RunsIn text o (tok Punctuator (codes "(") ∷ sub (expr Expression true Any) ∷ tok Punctuator (codes ")") ∷ qs) ps s e P → Condition o qs ps s e P
   condition_given d =
-      let a = run_token Token (NextIn text any_goal) itself d in
-      let v = run_part Token (NextIn text any_goal) itself a.runs in
-      let b = run_token Token (NextIn text any_goal) itself v.runs in
+      let a = run_token Token (SeenNext text) (behind_in text) d in
+      let v = run_part Token (SeenNext text) (behind_in text) a.runs in
+      let b = run_token Token (SeenNext text) (behind_in text) v.runs in
       record { item = v.item; rest = v.rest; from = a.mid; mid = v.mid; to = b.mid; one = v.one; more = v.more; parts = v.parts; pairs = v.pairs; left = read_here text a.reads; spelled = v.spelled; stopped = before_sign v.item b.reads; right = read_here text b.reads; runs = b.runs }
 
   -- with the pieces behind it
@@ -109,8 +109,8 @@ module _ (text : List ℕ) where
 
   pub last_part : {o : ℕ} {a : Role} {ps : Parts} {s e : Token} {P : List Pair} → RunsIn text o (sub a ∷ []) ps s e P → LastPart o a ps s e P
   last_part {o} {a} {ps} {s} {e} {P} d =
-      let v = run_part Token (NextIn text any_goal) itself d in
-      let z = run_none Token (NextIn text any_goal) itself v.runs in
+      let v = run_part Token (SeenNext text) (behind_in text) d in
+      let z = run_none Token (SeenNext text) (behind_in text) v.runs in
       record { item = v.item; parts = v.parts ∙ ap (part v.item) z.parts; spelled = subst (λ c. SpellsIn text o a v.item s e c) (sym (v.pairs ∙ ap (λ c. v.one ++ c) z.pairs ∙ Rattle.std.proofs.lemmas.List.append-nil v.one)) (subst (λ c. SpellsIn text o a v.item s c v.one) z.place v.spelled) }
 
   -- a statement that is the last piece

@@ -22,9 +22,12 @@ use Rattle.recursive_descent.specs.Complete.{SymbolsComplete}
 use Rattle.parser_tables.specs.StatementSymbols.{Piece, piece_of}
 use Rattle.parser_tables.specs.StatementSymbols as Given
 use Rattle.recursive_descent.proofs.complete_expressions.Agreement.{Refuses, refuses_memory, agrees_on, room_part, ends_none, ends_both}
+use Rattle.token_cursor.specs.SourceText.{SourceText}
+use Rattle.recursive_descent.specs.Spelled.{AllOfLanguage}
+use Rattle.recursive_descent.proofs.reading.LanguageTrees.{join_of_language}
 
 -- Of what was given from s on, with parts ps and pairs P, some was read, and the rest is given from here on. The last right edge is known, if it is asked for.
-pub record Left (text : List ℕ) (r : Bool) (o : ℕ) (qs : List Piece) (s e : CursorState) (old new : List Pair) (b c : PartialStatement) (z : Edge) (to : Token) (ps : Parts) (P : List Pair) : Type 0 where
+pub record Left (text : SourceText) (r : Bool) (o : ℕ) (qs : List Piece) (s e : CursorState) (old new : List Pair) (b c : PartialStatement) (z : Edge) (to : Token) (ps : Parts) (P : List Pair) : Type 0 where
   pub before : Parts
   pub rest : Parts
   pub read_pairs : List Pair
@@ -37,14 +40,15 @@ pub record Left (text : List ℕ) (r : Bool) (o : ℕ) (qs : List Piece) (s e : 
   pub given : PiecesGiven text r o qs e.last to right z rest rest_pairs
   pub parts : ps ≡ join before rest
   pub pairs : P ≡ read_pairs ++ rest_pairs
+  pub own : AllOfLanguage text rest
 
 -- whatever is given there
 abbrev pub LeftOf : Bool → List Piece → List Piece → CursorState → CursorState → List Pair → List Pair → PartialStatement → PartialStatement → Type 0
-LeftOf r all qs s e old new b c = (o : ℕ) (z : Edge) (ps : Parts) (to : Token) (P : List Pair) → has_edges all ≡ true → PiecesGiven s.text r o all s.last to b.edge z ps P → Left s.text r o qs s e old new b c z to ps P
+LeftOf r all qs s e old new b c = (o : ℕ) (z : Edge) (ps : Parts) (to : Token) (P : List Pair) → has_edges all ≡ true → PiecesGiven s.text r o all s.last to b.edge z ps P → AllOfLanguage s.text ps → Left s.text r o qs s e old new b c z to ps P
 
 -- at first all is left
 pub left_first : {s : CursorState} {old : List Pair} {r : Bool} {b : PartialStatement} (all : List Piece) → LeftOf r all all s s old old b b
-left_first {s} {old} {r} {b} all o z ps to P edges given = record {
+left_first {s} {old} {r} {b} all o z ps to P edges given own = record {
   before = none;
   rest = ps;
   read_pairs = [];
@@ -57,6 +61,7 @@ left_first {s} {old} {r} {b} all o z ps to P edges given = record {
   given = given;
   parts = refl;
   pairs = refl;
+  own = own;
 }
 
 -- the next piece and those behind it
@@ -73,11 +78,12 @@ all_dropped [] = refl
 all_dropped (x ∷ xs) = all_dropped xs
 
 -- the first piece that is left
-pub record Ahead (text : List ℕ) (r : Bool) (o : ℕ) (q : Piece) (qs : List Piece) (s e : CursorState) (old new : List Pair) (b c : PartialStatement) (z : Edge) (to : Token) (ps : Parts) (P : List Pair) : Type 0 where
+pub record Ahead (text : SourceText) (r : Bool) (o : ℕ) (q : Piece) (qs : List Piece) (s e : CursorState) (old new : List Pair) (b c : PartialStatement) (z : Edge) (to : Token) (ps : Parts) (P : List Pair) : Type 0 where
   pub left : Left text r o (q ∷ qs) s e old new b c z to ps P
   pub low : (high : ℕ) → parts_height ps ≤ high → parts_height left.given.put ≤ high
+  pub own : AllOfLanguage text left.given.put
 
-pub ahead : {text : List ℕ} {r : Bool} {o : ℕ} {s e : CursorState} {old new : List Pair} {b c : PartialStatement} {z : Edge} {to : Token} {ps : Parts} {P : List Pair} (xs : List Coded) (d : Coded) (i : ℕ) → i < length xs → Left text r o (map piece_of (drop i xs)) s e old new b c z to ps P →
+pub ahead : {text : SourceText} {r : Bool} {o : ℕ} {s e : CursorState} {old new : List Pair} {b c : PartialStatement} {z : Edge} {to : Token} {ps : Parts} {P : List Pair} (xs : List Coded) (d : Coded) (i : ℕ) → i < length xs → Left text r o (map piece_of (drop i xs)) s e old new b c z to ps P →
     Ahead text r o (piece_of (get_or xs i d)) (map piece_of (drop (i + 1) xs)) s e old new b c z to ps P
 ahead {text} {r} {o} {s} {e} {old} {new} {b} {c} {z} {to} {ps} {P} xs d i h l =
     let v = subst (λ qs. Left text r o qs s e old new b c z to ps P) (one_dropped xs d i h) l in
@@ -87,6 +93,7 @@ ahead {text} {r} {o} {s} {e} {old} {new} {b} {c} {z} {to} {ps} {P} xs d i h l =
           let whole = ap parts_height v.parts ∙ parts_height-join v.before v.rest in
           let rest = ap parts_height v.given.parts ∙ parts_height-join v.given.put v.given.rest in
           omega arith;
+      own = (join_of_language v.given.put v.given.rest (subst (AllOfLanguage text) v.given.parts v.own)).0;
     }
 
 -- the pieces behind which the last right edge is their own
@@ -104,6 +111,7 @@ asks_on Given.end qs h k = refl
 asks_on (Given.list (listed.Declarators false)) qs h k = h
 asks_on (Given.list (listed.Cases r)) qs h k = h
 asks_on (Given.list listed.Arguments) qs h k = h
+asks_on (Given.list listed.AsyncArguments) qs h k = h
 asks_on (Given.list listed.Elements) qs h k = h
 asks_on (Given.list listed.Properties) qs h k = h
 asks_on (Given.list listed.ParenthesizedItems) qs h k = h
@@ -151,7 +159,7 @@ known_there false true h k = cc
 known_there false false h k = cc
 
 -- one piece further
-left_on : {text : List ℕ} {r : Bool} {o : ℕ} {q : Piece} {qs : List Piece} {s m e : CursorState} {old mid new : List Pair} {b c d : PartialStatement} {z : Edge} {to : Token} {ps : Parts} {P : List Pair} → (l : Left text r o (q ∷ qs) s m old mid b c z to ps P) →
+left_on : {text : SourceText} {r : Bool} {o : ℕ} {q : Piece} {qs : List Piece} {s m e : CursorState} {old mid new : List Pair} {b c d : PartialStatement} {z : Edge} {to : Token} {ps : Parts} {P : List Pair} → (l : Left text r o (q ∷ qs) s m old mid b c z to ps P) →
     SamePiece q m e mid new c d l.given.mid l.right l.given.right l.given.put l.given.put_pairs → Left text r o qs s e old new b d z to ps P
 left_on {text} {r} {o} {q} {qs} {s} {m} {e} {old} {mid} {new} {b} {c} {d} {z} {to} {ps} {P} l h =
     let both = both_true (knows_edge q || not (asks_edge qs)) (has_edges qs) l.edges in
@@ -168,11 +176,12 @@ left_on {text} {r} {o} {q} {qs} {s} {m} {e} {old} {mid} {new} {b} {c} {d} {z} {t
       given = subst (λ k. PiecesGiven text r o qs k to l.given.right z l.given.rest l.given.more_pairs) (sym h.ends.place) l.given.others;
       parts = l.parts ∙ ap (join l.before) l.given.parts ∙ sym (join-assoc l.before l.given.put l.given.rest);
       pairs = l.pairs ∙ ap (λ k. l.read_pairs ++ k) l.given.pairs ∙ sym (append_assoc l.read_pairs l.given.put_pairs l.given.more_pairs);
+      own = (join_of_language l.given.put l.given.rest (subst (AllOfLanguage text) l.given.parts l.own)).1;
     }
 
 -- for each derivation that is given
-abbrev pub SameOf : List ℕ → Bool → Piece → CursorState → CursorState → List Pair → List Pair → PartialStatement → PartialStatement → Type 0
-SameOf text r q m e mid new c d = (o : ℕ) (to : Token) (x y : Edge) (put : Parts) (P : List Pair) → PieceGiven text r o q m.last to x y put P → (asks_edge (q ∷ []) ≡ true → x ≡ c.edge) → SamePiece q m e mid new c d to x y put P
+abbrev pub SameOf : SourceText → Bool → Piece → CursorState → CursorState → List Pair → List Pair → PartialStatement → PartialStatement → Type 0
+SameOf text r q m e mid new c d = (o : ℕ) (to : Token) (x y : Edge) (put : Parts) (P : List Pair) → PieceGiven text r o q m.last to x y put P → (asks_edge (q ∷ []) ≡ true → x ≡ c.edge) → AllOfLanguage text put → SamePiece q m e mid new c d to x y put P
 
 asks_first : (q : Piece) (qs : List Piece) → asks_edge (q ∷ []) ≡ true → asks_edge (q ∷ qs) ≡ true
 asks_first Given.end qs h = refl
@@ -182,36 +191,36 @@ asks_first _ qs h = absurd (false≢true h)
 
 pub pieces_on : {s m e : CursorState} {old mid new : List Pair} {r : Bool} {b c d : PartialStatement} (xs : List Coded) (none_there : Coded) (i : ℕ) → m.text ≡ s.text → i < length xs → LeftOf r (map piece_of xs) (map piece_of (drop i xs)) s m old mid b c →
     SameOf m.text r (piece_of (get_or xs i none_there)) m e mid new c d → LeftOf r (map piece_of xs) (map piece_of (drop (i + 1) xs)) s e old new b d
-pieces_on {m = m} {r = r} xs z i text h left same o y ps to P edges given =
-    let v = ahead xs z i h (left o y ps to P edges given) in
+pieces_on {m = m} {r = r} xs z i text h left same o y ps to P edges given own =
+    let v = ahead xs z i h (left o y ps to P edges given own) in
     let g = v.left.given in
-    left_on v.left (same o g.mid v.left.right g.right g.put g.put_pairs (subst (λ w. PieceGiven w r o (piece_of (get_or xs i z)) m.last g.mid v.left.right g.right g.put g.put_pairs) (sym text) g.first) (λ k. v.left.known (asks_first (piece_of (get_or xs i z)) (map piece_of (drop (i + 1) xs)) k)))
+    left_on v.left (same o g.mid v.left.right g.right g.put g.put_pairs (subst (λ w. PieceGiven w r o (piece_of (get_or xs i z)) m.last g.mid v.left.right g.right g.put g.put_pairs) (sym text) g.first) (λ k. v.left.known (asks_first (piece_of (get_or xs i z)) (map piece_of (drop (i + 1) xs)) k)) (subst (λ w. AllOfLanguage w g.put) (sym text) v.own))
 
 -- a piece is refused
-abbrev pub RefusedOf : List ℕ → Bool → Piece → CursorState → PartialStatement → ℕ → Fault → Type 0
-RefusedOf text r q m c high fault = (o : ℕ) (to : Token) (x y : Edge) (put : Parts) (P : List Pair) → PieceGiven text r o q m.last to x y put P → (asks_edge (q ∷ []) ≡ true → x ≡ c.edge) → Refuses (Room m o (parts_height put) high) fault
+abbrev pub RefusedOf : SourceText → Bool → Piece → CursorState → PartialStatement → ℕ → Fault → Type 0
+RefusedOf text r q m c high fault = (o : ℕ) (to : Token) (x y : Edge) (put : Parts) (P : List Pair) → PieceGiven text r o q m.last to x y put P → (asks_edge (q ∷ []) ≡ true → x ≡ c.edge) → AllOfLanguage text put → Refuses (Room m o (parts_height put) high) fault
 
 pub pieces_err : {s m : CursorState} {old mid : List Pair} {r : Bool} {b c : PartialStatement} (e : CursorState) (new : List Pair) (high : ℕ) (nodes : Parts) (result : Result (Unit {0}) Fault) (xs : List Coded) (none_there : Coded) (i : ℕ) (fault : Fault) → m.text ≡ s.text → i < length xs → m.opened ≡ s.opened →
     LeftOf r (map piece_of xs) (map piece_of (drop i xs)) s m old mid b c → IsErrAnd result (λ k. k ≡ fault) → RefusedOf m.text r (piece_of (get_or xs i none_there)) m c high fault →
     (o : ℕ) (y : Edge) (ps : Parts) (to : Token) (P : List Pair) → has_edges (map piece_of xs) ≡ true → PiecesGiven s.text r o (map piece_of xs) s.last to b.edge y ps P →
-    Agrees (Room s o (parts_height ps) high) (λ u. (nodes ≡ join b.nodes ps) × EndsWith s e old new to P) result
-pieces_err {s} {m} {old} {r = r} {b = b} e new high nodes result xs z i fault text h same left is f o y ps to P edges given =
-    let v = ahead xs z i h (left o y ps to P edges given) in
+    AllOfLanguage s.text ps → Agrees (Room s o (parts_height ps) high) (λ u. (nodes ≡ join b.nodes ps) × EndsWith s e old new to P) result
+pieces_err {s} {m} {old} {r = r} {b = b} e new high nodes result xs z i fault text h same left is f o y ps to P edges given own =
+    let v = ahead xs z i h (left o y ps to P edges given own) in
     let g = v.left.given in
     agrees_on (Room m o (parts_height g.put) high) (Room s o (parts_height ps) high) (λ (u : Unit {0}). (nodes ≡ join b.nodes ps) × EndsWith s e old new to P) result fault is
-    (f o g.mid v.left.right g.right g.put g.put_pairs (subst (λ w. PieceGiven w r o (piece_of (get_or xs i z)) m.last g.mid v.left.right g.right g.put g.put_pairs) (sym text) g.first) (λ k. v.left.known (asks_first (piece_of (get_or xs i z)) (map piece_of (drop (i + 1) xs)) k)))
+    (f o g.mid v.left.right g.right g.put g.put_pairs (subst (λ w. PieceGiven w r o (piece_of (get_or xs i z)) m.last g.mid v.left.right g.right g.put g.put_pairs) (sym text) g.first) (λ k. v.left.known (asks_first (piece_of (get_or xs i z)) (map piece_of (drop (i + 1) xs)) k)) (subst (λ w. AllOfLanguage w g.put) (sym text) v.own))
     (room_part s m same (v.low high))
 
 -- memory is refused
 pub pieces_memory : {s m : CursorState} {old mid : List Pair} {r : Bool} {b c : PartialStatement} (e : CursorState) (new : List Pair) (high : ℕ) (nodes : Parts) (result : Result (Unit {0}) Fault) (xs : List Coded) (i : ℕ) (fault : Fault) → m.text ≡ s.text → i < length xs → m.opened ≡ s.opened →
     LeftOf r (map piece_of xs) (map piece_of (drop i xs)) s m old mid b c → IsErrAnd result (λ k. k ≡ fault) → fault ≡ OutOfMemory → (o : ℕ) (y : Edge) (ps : Parts) (to : Token) (P : List Pair) → has_edges (map piece_of xs) ≡ true → PiecesGiven s.text r o (map piece_of xs) s.last to b.edge y ps P →
-    Agrees (Room s o (parts_height ps) high) (λ u. (nodes ≡ join b.nodes ps) × EndsWith s e old new to P) result
-pieces_memory {m = m} e new high nodes result xs i fault text h same left is memory = pieces_err e new high nodes result xs code.NoCatchParameter i fault text h same left is (λ o to x y put P g at. refuses_memory (Room m o (parts_height put) high) fault memory)
+    AllOfLanguage s.text ps → Agrees (Room s o (parts_height ps) high) (λ u. (nodes ≡ join b.nodes ps) × EndsWith s e old new to P) result
+pieces_memory {m = m} e new high nodes result xs i fault text h same left is memory = pieces_err e new high nodes result xs code.NoCatchParameter i fault text h same left is (λ o to x y put P g at own. refuses_memory (Room m o (parts_height put) high) fault memory)
 
 -- all of them were read
 pub pieces_ok : {s e : CursorState} {old new : List Pair} {r : Bool} {b c : PartialStatement} (high : ℕ) (xs : List Coded) (i : ℕ) → i ≡ length xs → LeftOf r (map piece_of xs) (map piece_of (drop i xs)) s e old new b c → SymbolsComplete s e old new high (map piece_of xs) r b c (Ok tt)
-pieces_ok {s} {e} {old} {new} {r} {b} {c} high xs i h left o y ps to P edges given =
-    let v = subst (λ qs. Left s.text r o qs s e old new b c y to ps P) (ap (λ n. map piece_of (drop n xs)) h ∙ ap (λ qs. map piece_of qs) (all_dropped xs)) (left o y ps to P edges given) in (
+pieces_ok {s} {e} {old} {new} {r} {b} {c} high xs i h left o y ps to P edges given own =
+    let v = subst (λ qs. Left s.text r o qs s e old new b c y to ps P) (ap (λ n. map piece_of (drop n xs)) h ∙ ap (λ qs. map piece_of qs) (all_dropped xs)) (left o y ps to P edges given own) in (
       v.nodes ∙ ap (join b.nodes) (sym (v.parts ∙ ap (join v.before) v.given.2 ∙ join-none v.before)),
       record { place = sym v.given.0; more = v.ends.more; added = v.ends.added; pairs = v.ends.pairs ∙ sym (v.pairs ∙ ap (λ k. v.read_pairs ++ k) v.given.3 ∙ append-nil v.read_pairs) },
     )

@@ -8,7 +8,6 @@ use Rattle.source_text.specs.declared.fault.Fault.{Fault}
 use Rattle.tokens.specs.declared.token.TokenClass.TheVariants.{IdentifierName, Punctuator}
 use Rattle.tokens.specs.declared.token.Goal.TheVariants.{Div}
 use Rattle.tokens.specs.declared.token.Token.{Token as Scanned}
-use Rattle.tokens.specs.Reading.{any_goal}
 use Rattle.token_cursor.specs.CursorState.{CursorState}
 use Rattle.tree.specs.declared.kind.Kind.{Kind}
 use Rattle.tree.specs.declared.kind.Kind.TheVariants.{Identifier, MemberExpression, ArrayPattern, ObjectPattern}
@@ -26,11 +25,10 @@ use Rattle.language.specs.declared.Start.TheVariants.{Any}
 use Rattle.language.specs.Covers.{Reading, as_expression, as_pattern}
 use Rattle.language.specs.Edges.{edge, edge_as_written}
 use Rattle.language.specs.Pieces.{Role, bound}
-use Rattle.language.specs.Places.{NextIn, itself}
 use Rattle.language.specs.Token.{Token, same_class}
 use Rattle.language.specs.Vocabulary.{is_target as is_simple, is_pattern as is_pattern_kind}
 use Rattle.language.proofs.table.ForDeclarationWays.{head_form}
-use Rattle.language.proofs.texts.TextOffsets.{text_determined}
+use Rattle.token_cursor.proofs.SeenTokens.{seen_determined}
 use Rattle.parser_tables.specs.declared.operand.Operand.{Operand}
 use Rattle.parser_tables.specs.declared.symbol_lists.PartialStatement.{PartialStatement}
 use Rattle.parser_tables.specs.declared.symbol_lists.Symbol.{Symbol as Coded}
@@ -50,14 +48,17 @@ use Rattle.parser_tables.specs.StatementNodes.{put_node, takes_put, with_part}
 use Rattle.parser_tables.specs.Tests.{is_each}
 use Rattle.recursive_descent.specs.Expectations.{ExpectedAt, HeadAt}
 use Rattle.recursive_descent.proofs.reading.FreeRanks.{no_conditional, no_new}
-use Rattle.recursive_descent.proofs.complete_expressions.Agreement.{refuses_on, refuses_unless, room_part, ends_behind, words_same}
+use Rattle.recursive_descent.proofs.complete_expressions.Agreement.{refuses_on, refuses_unless, room_part, ends_behind, words_same, not_missed}
 use Rattle.recursive_descent.proofs.sound_statements.PartSymbols.{position_of, each_at, wanted_nodes}
 use Rattle.recursive_descent.proofs.complete_statements.SymbolViews.{something, ExpressionPiece, expression_of_expression, expression_of_assignment, expression_of_test, expression_of_update, expression_of_argument, expression_of_heritage, expression_of_head, wants_expression}
 use Rattle.recursive_descent.proofs.complete_statements.SymbolsLeft.{SameOf, RefusedOf}
 use Rattle.token_cursor.proofs.TokensAhead.{mark_by}
+use Rattle.token_cursor.specs.SourceText.{SourceText, SeenNext, behind_in}
+use Rattle.recursive_descent.specs.Spelled.{OfLanguage, AllOfLanguage}
+use Rattle.recursive_descent.proofs.reading.LanguageTrees.{first_of_language}
 
 -- an expression that a piece wants, in its reading
-record ValueGiven (text : List ℕ) (p : Coded) (pos : ExpressionContext) (o : ℕ) (m e : Token) (y : Edge) (put : Parts) (P : List Pair) : Type 0 where
+record ValueGiven (text : SourceText) (p : Coded) (pos : ExpressionContext) (o : ℕ) (m e : Token) (y : Edge) (put : Parts) (P : List Pair) : Type 0 where
   reading : Reading
   tree : Tree
   parts : put ≡ part tree none
@@ -88,17 +89,13 @@ read_shape {b} {a} {k} {n} h read = of (bound_shape b (kind_of n) h)
     of (inl x) = read.pattern b refl x
     of (inr x) = target_pattern k.cover.shape.assigned (read.target x)
 
-binds_also : (a b c : Bool) → (a && b) ≡ true → c ≡ true → (a && c) ≡ true
-binds_also true b c h k = k
-binds_also false b c h k = absurd (false≢true h)
-
-module _ (text : List ℕ) where
+module _ (text : SourceText) where
   -- behind an expression before `;` stands no `in` and no `of`
   no_each : {e : Token} → SeesBy text Div is_each e → Sees text Punctuator (codes ";") e → ⊥
   no_each {e} each r =
-      let t = each.0 in
-      let u = r.0 in
-      let same = ((text_determined text).same Div e t u t u each.1.0.next r.1.next each.1.0.allowed (mark_by text r.1).allowed).0 in
+      let t = behind_in text each.0 in
+      let u = behind_in text r.0 in
+      let same = ((seen_determined text).same Div e t u each.0 r.0 each.1.0.next r.1.next each.1.0.allowed (mark_by text r.1).allowed).0 in
       let class : t.class ≡ Punctuator = ap (λ (z : Token). z.class) same ∙ r.1.class in
       false≢true (ap (λ c. same_class IdentifierName c && Rattle.language.specs.Vocabulary.among t.text ("in" ∷ "of" ∷ [])) (sym class) ∙ each.1.1)
 
@@ -116,8 +113,8 @@ module _ (text : List ℕ) where
 
   -- in the head of a `for`
   head_value : {o : ℕ} {s e : Token} {y : Edge} {put : Parts} {P : List Pair} {pos : ExpressionContext} → pos ≡ record { rank = Expression; has_in = false; start = Any } → NoName text declares s → HeadGiven text o s e put P → ValueGiven text code.ForHead pos o s e y put P
-  head_value is none_there (a_declaration each at ends g) =
-      let u = head_form Token (NextIn text any_goal) itself (text_determined text) g.spelled in
+  head_value is none_there (a_declaration each at ends before g) =
+      let u = head_form Token (SeenNext text) (behind_in text) (seen_determined text) g.spelled in
       absurd (none_there u.sign_token u.mid (record { next = u.reads.next; class = u.reads.class; text = refl }) (ap declares u.reads.text ∙ u.word))
   head_value {o} {s} {e} {y} {put} {P} {pos} is none_there (an_expression ends g) = record {
     reading = as_expression;
@@ -131,18 +128,18 @@ module _ (text : List ℕ) where
       of : (each : Bool) → EachAt text each e → (k : Operand) → IsRead as_expression k g.put → (put_node code.ForHead each k.cover.node ≡ g.put) × (takes_put code.ForHead each k.cover.shape ≡ true)
       of true at k read = absurd (no_each at ends)
       of false at k read = (read.tree, read.fits)
-  head_value {o} {s} {e} {y} {put} {P} {pos} is none_there (a_target seen g) = record {
+  head_value {o} {s} {e} {y} {put} {P} {pos} is none_there (a_target seen apart g) = record {
     reading = as_pattern false;
     tree = g.put;
     parts = g.parts;
-    spelled = given.a_target is g.target.it_is g.target.spelled seen;
+    spelled = given.a_target is g.target.it_is g.target.spelled seen apart;
     fits = λ each at k read. of each at k read;
     right = λ known. absurd (false≢true known);
   }
     where
       of : (each : Bool) → EachAt text each e → (k : Operand) → IsRead (as_pattern false) k g.put → (put_node code.ForHead each k.cover.node ≡ g.put) × (takes_put code.ForHead each k.cover.shape ≡ true)
       of true at k read = (read.tree, read_shape g.target.it_is read)
-      of false at k read = absurd (false≢true (sym (at seen.0 seen.0 seen.1.0) ∙ seen.1.1))
+      of false at k read = absurd (false≢true (sym (at (behind_in text seen.0) seen.0 seen.1.0) ∙ seen.1.1))
 
 module _ (r : Bool) (s m : CursorState) (b c : PartialStatement) (high : ℕ) (pos : ExpressionContext) (same : m.text ≡ s.text) where
   value_given : (p : Coded) → ExpectedAt p r s m b c high (wanted.Expression pos) → (o : ℕ) (to : Token) (x y : Edge) (put : Parts) (P : List Pair) → PieceGiven s.text r o (piece_of p) s.last to x y put P → ValueGiven s.text p pos o m.last to y put P
@@ -152,13 +149,13 @@ module _ (r : Bool) (s m : CursorState) (b c : PartialStatement) (high : ℕ) (p
       of expression_of_expression h g = subst (λ z. ValueGiven s.text code.Expression pos o z to y put P) (sym h.1.0) (plain_given s.text code.Expression (position_of h.0) (no_conditional refl) (no_new refl) (λ each n at. refl) (λ each n at. refl) g)
       of expression_of_assignment h g = subst (λ z. ValueGiven s.text code.Assignment pos o z to y put P) (sym h.1.0) (plain_given s.text code.Assignment (position_of h.0) (no_conditional refl) (no_new refl) (λ each n at. refl) (λ each n at. refl) g)
       of expression_of_test h (inl g) = subst (λ z. ValueGiven s.text code.Test pos o z to y put P) (sym h.1.0) (plain_given s.text code.Test h.0.1 (no_conditional refl) (no_new refl) (λ each n at. refl) (λ each n at. refl) g.0)
-      of expression_of_test h (inr g) = absurd (h.0.0 g.1.0 g.1.0 g.1.1)
+      of expression_of_test h (inr g) = absurd (not_missed h.0.0 g.1.1)
       of expression_of_update h (inl g) = subst (λ z. ValueGiven s.text code.Update pos o z to y put P) (sym h.1.0) (plain_given s.text code.Update h.0.1 (no_conditional refl) (no_new refl) (λ each n at. refl) (λ each n at. refl) g.0)
-      of expression_of_update h (inr g) = absurd (h.0.0 g.1.0 g.1.0 g.1.1)
+      of expression_of_update h (inr g) = absurd (not_missed h.0.0 g.1.1)
       of expression_of_argument h (inl g) = subst (λ z. ValueGiven s.text code.Argument pos o z to y put P) (sym h.1.0) (plain_given s.text code.Argument h.0.1 (no_conditional refl) (no_new refl) (λ each n at. refl) (λ each n at. refl) g.1)
-      of expression_of_argument h (inr g) = absurd (false≢true (sym (h.0.0 g.1.0 g.1.0 g.1.1.0) ∙ g.1.1.1))
+      of expression_of_argument h (inr g) = absurd (false≢true (sym (h.0.0 (behind_in s.text g.1.0) g.1.0 g.1.1.0) ∙ g.1.1.1))
       of expression_of_heritage h (inl g) = subst (λ z. ValueGiven s.text code.ClassHeritage pos o z to y put P) (words_same s.text g.1 h.0.0).1 (plain_given s.text code.ClassHeritage h.0.1 (no_conditional refl) (no_new refl) (λ each n at. refl) (λ each n at. refl) g.2)
-      of expression_of_heritage h (inr g) = absurd (g.1 m.last m.last h.0.0)
+      of expression_of_heritage h (inr g) = absurd (not_missed g.1 h.0.0)
       of expression_of_head h (inl g) = head_wanted c.word h.0 g
         where
           head_wanted : (word : Option Scanned) → HeadAt s m (wanted.Expression pos) word → HeadGiven s.text o s.last to put P → ValueGiven s.text code.ForHead pos o m.last to y put P
@@ -168,17 +165,21 @@ module _ (r : Bool) (s m : CursorState) (b c : PartialStatement) (high : ℕ) (p
         where
           head_gap : (word : Option Scanned) → HeadAt s m (wanted.Expression pos) word → ValueGiven s.text code.ForHead pos o m.last to y put P
           head_gap (Some word) k = absurd k
-          head_gap None k = absurd (k.0 g.1.0 g.1.0 g.1.1)
+          head_gap None k = absurd (not_missed k.0 g.1.1)
 
 pub one_high : {put : Parts} {n : Tree} {high : ℕ} → put ≡ part n none → parts_height put ≤ high → height n ≤ high
 one_high {put} {n} is low = let whole : parts_height put ≡ parts_height (part n none) = ap parts_height is in omega arith
 
+-- it is of the language
+pub one_own : {text there : SourceText} {put : Parts} {n : Tree} → there ≡ text → put ≡ part n none → AllOfLanguage text put → OfLanguage there n
+one_own {text} {n = n} same is own = subst (λ z. OfLanguage z n) (sym same) (first_of_language (subst (AllOfLanguage text) is own))
+
 -- the expression is refused
 pub value_refused : (r : Bool) (s m e : CursorState) (mid new : List Pair) (b c : PartialStatement) (high : ℕ) (pos : ExpressionContext) (p : Coded) (fault : Fault) → m.text ≡ s.text → m.opened ≡ s.opened → ExpectedAt p r s m b c high (wanted.Expression pos) → ExpressionComplete m e mid new high pos (Err fault) →
     RefusedOf s.text r (piece_of p) s b high fault
-value_refused r s m e mid new b c high pos p fault same open_same h complete o to x y put P g at =
+value_refused r s m e mid new b c high pos p fault same open_same h complete o to x y put P g at own =
     let v = value_given r s m b c high pos same p h o to x y put P g in
-    refuses_on (Room m o (height v.tree) high) (Room s o (parts_height put) high) fault (complete v.reading o v.tree to P (subst (λ z. GivenAs z pos o v.tree m.last to P v.reading) (sym same) v.spelled)) (λ room. room_part s m open_same (one_high v.parts) room)
+    refuses_on (Room m o (height v.tree) high) (Room s o (parts_height put) high) fault (complete v.reading o v.tree to P (subst (λ z. GivenAs z pos o v.tree m.last to P v.reading) (sym same) v.spelled) (one_own same v.parts own)) (λ room. room_part s m open_same (one_high v.parts) room)
 
 module _ (r : Bool) (s m e : CursorState) (mid new : List Pair) (b c : PartialStatement) (high : ℕ) (pos : ExpressionContext) (k : Operand) (p : Coded) (each : Bool) (same : m.text ≡ s.text) (after : e.text ≡ m.text) (h : ExpectedAt p r s m b c high (wanted.Expression pos)) (complete : ExpressionComplete m e mid new high pos (Ok k))
     (seen : OnTrue each (SeesBy e.text Div is_each e.last)) (missed : OnFalse each (MissesBy e.text Div is_each e.last))
@@ -190,22 +191,22 @@ module _ (r : Bool) (s m e : CursorState) (mid new : List Pair) (b c : PartialSt
       puts : put_node p each k.cover.node ≡ value.tree
       takes : takes_put p each k.cover.shape ≡ true
 
-    value_read : (o : ℕ) (to : Token) (x y : Edge) (put : Parts) (P : List Pair) → PieceGiven s.text r o (piece_of p) s.last to x y put P → ValueRead o to y put P
-    value_read o to x y put P g =
+    value_read : (o : ℕ) (to : Token) (x y : Edge) (put : Parts) (P : List Pair) → PieceGiven s.text r o (piece_of p) s.last to x y put P → AllOfLanguage s.text put → ValueRead o to y put P
+    value_read o to x y put P g own =
         let v = value_given r s m b c high pos same p h o to x y put P g in
-        let u = complete v.reading o v.tree to P (subst (λ z. GivenAs z pos o v.tree m.last to P v.reading) (sym same) v.spelled) in
+        let u = complete v.reading o v.tree to P (subst (λ z. GivenAs z pos o v.tree m.last to P v.reading) (sym same) v.spelled) (one_own same v.parts own) in
         let at : EachAt s.text each to = subst (λ z. EachAt s.text each z) u.1.place (subst (λ z. EachAt z each e.last) (after ∙ same) (each_at e.text e.last each seen missed)) in
         let f = v.fits each at k u.0 in
         record { value = v; read = u.0; ends = u.1; puts = f.0; takes = f.1 }
 
     -- what it makes is refused
     pub value_unput : (At : ℕ → Type 0) (fault : Fault) → RefusedUnless At (takes_put p each k.cover.shape) fault → RefusedOf s.text r (piece_of p) s b high fault
-    value_unput At fault f o to x y put P g at = refuses_unless (Room s o (parts_height put) high) At (takes_put p each k.cover.shape) fault f (value_read o to x y put P g).takes
+    value_unput At fault f o to x y put P g at own = refuses_unless (Room s o (parts_height put) high) At (takes_put p each k.cover.shape) fault f (value_read o to x y put P g own).takes
 
     -- the expression
     pub value_same : {old : List Pair} {d : PartialStatement} → mid ≡ old → Adds m e mid new (ReadAt m.text pos k) → d ≡ with_part c (put_node p each k.cover.node) k.edge → SameOf s.text r (piece_of p) s e old new b d
-    value_same pairs a is o to x y put P g at =
-        let v = value_read o to x y put P g in
+    value_same pairs a is o to x y put P g at own =
+        let v = value_read o to x y put P g own in
         record {
           nodes = ap (λ (z : PartialStatement). z.nodes) is ∙ (λ i. push (wanted_nodes p r s m b c high (wanted.Expression pos) (something (wanted.Expression pos) refl) h i) (v.puts i)) ∙ push-join b.nodes v.value.tree ∙ ap (join b.nodes) (sym v.value.parts);
           ends = ends_behind {m = m} pairs (record { place = v.ends.place; more = v.ends.more; added = v.ends.added; pairs = v.ends.pairs });

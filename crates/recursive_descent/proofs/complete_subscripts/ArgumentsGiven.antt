@@ -1,5 +1,5 @@
 -- Given arguments, as a list that was begun behind its parenthesis (ECMA-262 12.3.8).
-use Rattle.std.proofs.Common.{◌≡◌, ℕ, true, List, [], ◌∷◌, ◌++◌, Result, Ok, Err, refl, sym, ap, ◌∙◌, subst}
+use Rattle.std.proofs.Common.{◌≡◌, ℕ, true, List, [], ◌∷◌, Result, Ok, Err, refl, sym, ap, ◌∙◌, subst}
 use Rattle.std.specs.Prelude.{codes}
 use Rattle.std.specs.Result.{IsErrAnd}
 use Rattle.source_text.specs.declared.fault.Fault.{Fault}
@@ -13,9 +13,9 @@ use Rattle.covers.specs.Lists.{opening}
 use Rattle.language.specs.declared.Rank.TheVariants.{Expression}
 use Rattle.language.specs.declared.Start.TheVariants.{Any}
 use Rattle.language.specs.Covers.{as_expression}
-use Rattle.language.specs.Derivation.{done, step, within, missing, opened, closed, token}
+use Rattle.language.specs.Derivation.{step, token}
 use Rattle.language.specs.Expressions.{arguments}
-use Rattle.language.specs.Pieces.{Role, Piece, PieceOf, settle_piece, sign, tok, listed, argument}
+use Rattle.language.specs.Pieces.{sign, listed, argument}
 use Rattle.language.specs.Token.{Token}
 use Rattle.recursive_descent.specs.Complete.{ListComplete, ArgumentsComplete}
 use Rattle.recursive_descent.specs.Soundness.{RunsIn, anywhere}
@@ -25,40 +25,25 @@ use Rattle.recursive_descent.specs.CompletenessOfLists.{ListGiven}
 use Rattle.parser_tables.specs.Items.{list_from}
 use Rattle.token_cursor.specs.Seen.{ReadsHere}
 use Rattle.recursive_descent.proofs.complete_expressions.Agreement.{agrees_on, read_here, marks_same, ends_behind, room_part}
-
-module _ (text : List ℕ) where
-  -- pieces with one more, that is a token, behind them
-  pub record LastToken (o : ℕ) (qs : List (PieceOf Role)) (w : List ℕ) (ps : Parts) (s e : Token) (P : List Pair) : Type 0 where
-    pub mid : Token
-    pub runs : RunsIn text o qs ps s mid P
-    pub reads : ReadsHere text Punctuator w mid e
-
-  pub last_token : {o : ℕ} (qs : List (PieceOf Role)) {w : List ℕ} {ps : Parts} {s e : Token} {P : List Pair} → RunsIn text o (qs ++ tok Punctuator w ∷ []) ps s e P → LastToken o qs w ps s e P
-  last_token [] (step (token r) done) = record { mid = _; runs = done; reads = read_here text r }
-  last_token (q ∷ qs) (step p d) = let v = last_token qs d in record { mid = v.mid; runs = step p v.runs; reads = v.reads }
-  last_token (q ∷ qs) (opened r d) = let v = last_token qs d in record { mid = v.mid; runs = opened r v.runs; reads = v.reads }
-  last_token (q ∷ qs) (closed r d) = let v = last_token qs d in record { mid = v.mid; runs = closed r v.runs; reads = v.reads }
-  last_token (q ∷ qs) (within k d) = let v = last_token qs d in record { mid = v.mid; runs = within k v.runs; reads = v.reads }
-  last_token (q ∷ qs) (missing d) = let v = last_token qs d in record { mid = v.mid; runs = missing v.runs; reads = v.reads }
-
-map_last : (qs : List Piece) (q : Piece) → anywhere (qs ++ q ∷ []) ≡ anywhere qs ++ settle_piece Expression true Any q ∷ []
-map_last [] q = refl
-map_last (r ∷ qs) q = ap (λ x. settle_piece Expression true Any r ∷ x) (map_last qs q)
+use Rattle.token_cursor.specs.SourceText.{SourceText}
+use Rattle.recursive_descent.specs.Spelled.{AllOfLanguage}
+use Rattle.recursive_descent.proofs.reading.PiecesBeforeToken.{run_before}
+use Rattle.recursive_descent.proofs.sound_expressions.GroupContents.{goes_on}
 
 -- what is given of arguments: the parenthesis, the items, the parenthesis
-pub record ArgumentsGiven (text : List ℕ) (o : ℕ) (ps : Parts) (s e : Token) (P : List Pair) : Type 0 where
+pub record ArgumentsGiven (text : SourceText) (o : ℕ) (ps : Parts) (s e : Token) (P : List Pair) : Type 0 where
   pub left : Token
   pub opens : ReadsHere text Punctuator (codes "(") s left
   pub mid : Token
   pub runs : RunsIn text o (anywhere (listed argument ps)) ps left mid P
   pub closes : ReadsHere text Punctuator (codes ")") mid e
 
-pub arguments_given : {text : List ℕ} {o : ℕ} {ps : Parts} {s e : Token} {P : List Pair} → RunsIn text o (anywhere (arguments ps)) ps s e P → ArgumentsGiven text o ps s e P
+pub arguments_given : {text : SourceText} {o : ℕ} {ps : Parts} {s e : Token} {P : List Pair} → RunsIn text o (anywhere (arguments ps)) ps s e P → ArgumentsGiven text o ps s e P
 arguments_given {text} {o} {ps} {s} {e} {P} (step (token {e = m} r) d) =
-    let v = last_token text (anywhere (listed argument ps)) (subst (λ qs. RunsIn text o qs ps m e P) (map_last (listed argument ps) (sign ")")) d) in
-    record { left = m; opens = read_here text r; mid = v.mid; runs = v.runs; closes = v.reads }
+    let v = run_before text (anywhere (listed argument ps)) (subst (λ qs. RunsIn text o qs ps m e P) (goes_on Expression true Any (listed argument ps) (sign ")" ∷ [])) d) in
+    record { left = m; opens = read_here text r; mid = v.mid; runs = v.runs; closes = v.sign }
 
-arguments_list : (text : List ℕ) (at o : ℕ) (ps : Parts) (s m e : Token) (P : List Pair) → RunsIn text o (anywhere (listed argument ps)) ps s m P → ReadsHere text Punctuator (codes ")") m e → ListGiven text (list_from listed.Arguments at) as_expression o ps s e P
+arguments_list : (text : SourceText) (at o : ℕ) (ps : Parts) (s m e : Token) (P : List Pair) → RunsIn text o (anywhere (listed argument ps)) ps s m P → ReadsHere text Punctuator (codes ")") m e → ListGiven text (list_from listed.Arguments at) as_expression o ps s e P
 arguments_list text at o ps s m e P runs closes = record { left = refl; mid = m; runs = runs; closes = closes; last = tt; no_rest = refl; lone = refl; one_default = refl }
 
 -- what the list, behind its parenthesis, makes of what is given
@@ -73,13 +58,16 @@ module _ (s m e : CursorState) (old mid new : List Pair) (high : ℕ) (l : ListO
       let whole = arguments_list s.text l.span.start o ps m.last v.mid to P (subst (λ x. RunsIn s.text o (anywhere (listed argument ps)) ps x v.mid P) at v.runs) v.closes in
       subst (λ x. ListGiven m.text x as_expression o ps m.last to P) (sym list_is) (subst (λ x. ListGiven x (list_from listed.Arguments l.span.start) as_expression o ps m.last to P) (sym text) whole)
 
+  own_here : {ps : Parts} → AllOfLanguage s.text ps → AllOfLanguage m.text ps
+  own_here {ps} own = subst (λ x. AllOfLanguage x ps) (sym text) own
+
   -- a refusal in the list
   pub arguments_refused : (answer : Result Parts Fault) (fault : Fault) → IsErrAnd answer (λ x. x ≡ fault) → ListComplete m e mid new high l (Err fault) → ArgumentsComplete s e old new high answer
-  arguments_refused answer fault err complete = λ ps o to P given.
-      agrees_on (Room m o (parts_height ps) high) (Room s o (parts_height ps) high) (λ nodes. (nodes ≡ ps) × EndsWith s e old new to P) answer fault err (complete as_expression o ps to P (given_list given)) (λ room. room_part s m open_same (λ low. low) room)
+  arguments_refused answer fault err complete = λ ps o to P given own.
+      agrees_on (Room m o (parts_height ps) high) (Room s o (parts_height ps) high) (λ nodes. (nodes ≡ ps) × EndsWith s e old new to P) answer fault err (complete as_expression o ps to P (given_list given) (own_here own)) (λ room. room_part s m open_same (λ low. low) room)
 
   -- the list
   pub arguments_answered : (k : ListOf) → ListComplete m e mid new high l (Ok k) → ArgumentsComplete s e old new high (Ok k.nodes)
-  arguments_answered k complete = λ ps o to P given.
-      let u = complete as_expression o ps to P (given_list given) in
+  arguments_answered k complete = λ ps o to P given own.
+      let u = complete as_expression o ps to P (given_list given) (own_here own) in
       (u.1 ∙ ap (λ (x : ListOf). join x.nodes ps) list_is, ends_behind same u.2)

@@ -3,7 +3,6 @@ use Rattle.std.proofs.Common.{◌≡◌, ℕ, ◌-◌, true, List, [], ◌∷◌
 use Rattle.std.specs.Prelude.{codes}
 use Rattle.std.proofs.lemmas.List.{append-nil}
 use Rattle.std.proofs.lemmas.List.Elements.{filter-append}
-use Rattle.tokens.specs.Reading.{any_goal}
 use Rattle.tokens.specs.declared.token.TokenClass.TheVariants.{Punctuator}
 use Rattle.token_cursor.specs.CursorState.{CursorState}
 use Rattle.tree.specs.declared.kind.Pair.{Pair}
@@ -17,7 +16,6 @@ use Rattle.covers.specs.Lists.{opening, closing}
 use Rattle.language.specs.Covers.{as_expression, as_pattern}
 use Rattle.language.specs.Pieces.{Role, Piece, PieceOf, settle_piece, sign, listed, argument}
 use Rattle.language.specs.Token.{Token}
-use Rattle.language.specs.Places.{NextIn, itself}
 use Rattle.language.specs.Derivation.{done, step, opened, closed, within, missing, Step, token}
 use Rattle.language.specs.Claims.{max_open}
 use Rattle.recursive_descent.specs.Soundness.{RunsIn, anywhere, groups, grouping, Adds, ArgumentsAt}
@@ -25,6 +23,7 @@ use Rattle.recursive_descent.specs.SoundnessOfLists.{SoFarAt, ListAt, is_whole, 
 use Rattle.recursive_descent.specs.Follows.{BegunAt}
 use Rattle.parser_tables.specs.Items.{list_from}
 use Rattle.token_cursor.specs.Seen.{ReadsHere}
+use Rattle.token_cursor.specs.SourceText.{SourceText, SeenNext, behind_in}
 
 -- the pairs of both
 pub grouping_both : (xs ys : List Pair) → grouping (xs ++ ys) ≡ grouping xs ++ grouping ys
@@ -53,9 +52,9 @@ adds_both {s} {m} {e} {old} {A = A} {B = B} {C = C} a b f = record {
 pub adds_none : {s e : CursorState} {old new : List Pair} {C : ℕ → Token → Token → List Pair → Type 0} → e.opened ≡ s.opened → new ≡ old → ((o : ℕ) → C o s.last e.last []) → Adds s e old new C
 adds_none {s} {old = old} open_same same f = record { more = []; same_open = open_same; pairs = same ∙ sym (append-nil old); is = f (max_open - s.opened) }
 
-module _ (text : List ℕ) where
+module _ (text : SourceText) where
   -- one more piece that is no node
-  pub runs_on : {o : ℕ} {qs : List (PieceOf Role)} {q : PieceOf Role} {ps : Parts} {s m e : Token} {P : List Pair} → RunsIn text o qs ps s m P → Step Token (NextIn text any_goal) itself q m e → RunsIn text o (qs ++ q ∷ []) ps s e P
+  pub runs_on : {o : ℕ} {qs : List (PieceOf Role)} {q : PieceOf Role} {ps : Parts} {s m e : Token} {P : List Pair} → RunsIn text o qs ps s m P → Step Token (SeenNext text) (behind_in text) q m e → RunsIn text o (qs ++ q ∷ []) ps s e P
   runs_on done p = step p done
   runs_on (step q d) p = step q (runs_on d p)
   runs_on (opened q d) p = opened q (runs_on d p)
@@ -63,17 +62,17 @@ module _ (text : List ℕ) where
   runs_on (within q d) p = within q (runs_on d p)
   runs_on (missing d) p = missing (runs_on d p)
 
-map_both : (qs : List Piece) (q : Piece) → anywhere (qs ++ q ∷ []) ≡ anywhere qs ++ settle_piece Expression true Any q ∷ []
+pub map_both : (qs : List Piece) (q : Piece) → anywhere (qs ++ q ∷ []) ≡ anywhere qs ++ settle_piece Expression true Any q ∷ []
 map_both [] q = refl
 map_both (r ∷ qs) q = ap (λ x. settle_piece Expression true Any r ∷ x) (map_both qs q)
 
 -- nothing of a list of arguments so far
-nothing_so_far : (text : List ℕ) (at : ℕ) (o : ℕ) (m : Token) → SoFarAt text Any (list_from listed.Arguments at) o m m []
+nothing_so_far : (text : SourceText) (at : ℕ) (o : ℕ) (m : Token) → SoFarAt text Any (list_from listed.Arguments at) o m m []
 nothing_so_far text at o m as_expression fits ps e Q d = d
 nothing_so_far text at o m (as_pattern b) fits ps e Q d = cc
 
 -- arguments, with their parentheses
-arguments_from : (text : List ℕ) (l : ListOf) (o : ℕ) (s m e : Token) (Q : List Pair) → l.listed ≡ listed.Arguments → ReadsHere text Punctuator (codes "(") s m → ListAt text Any l o m e ([] ++ Q) → ArgumentsAt text l.nodes o s e Q
+arguments_from : (text : SourceText) (l : ListOf) (o : ℕ) (s m e : Token) (Q : List Pair) → l.listed ≡ listed.Arguments → ReadsHere text Punctuator (codes "(") s m → ListAt text Any l o m e ([] ++ Q) → ArgumentsAt text l.nodes o s e Q
 arguments_from text l o s m e Q is left_sign w =
     let whole : is_whole l as_expression ≡ true = ap (λ x. whole_of x l as_expression) is in
     let items : RunsIn text o (anywhere (listed argument l.nodes)) l.nodes m w.mid Q = subst (λ x. RunsIn text o (stood_in Any x (item_pieces x as_expression l.nodes)) l.nodes m w.mid Q) is (w.runs as_expression whole) in

@@ -5,22 +5,19 @@ use Rattle.tree.specs.declared.kind.Pair.{Pair}
 use Rattle.tree.specs.Tree.{Tree, Parts, none, part, gap, join}
 use Rattle.tree.proofs.Shapes.{join-none}
 use Rattle.language.specs.declared.Edge.{Edge}
-use Rattle.language.specs.Pieces.{Role, PieceOf, sub, absent}
+use Rattle.language.specs.Pieces.{Role, PieceOf, sub}
 use Rattle.language.specs.Token.{Token}
-use Rattle.language.specs.Places.{SpellsIn}
-use Rattle.language.specs.Derivation.{within, missing}
+use Rattle.language.specs.Derivation.{within}
 use Rattle.language.specs.Claims.{max_open}
 use Rattle.token_cursor.specs.CursorState.{CursorState}
 use Rattle.recursive_descent.specs.Soundness.{RunsIn, Adds, grouping}
 use Rattle.recursive_descent.specs.SoundnessOfStatements.{OneMore, IsToken, IsGap}
+use Rattle.token_cursor.specs.SourceText.{SourceText}
+use Rattle.recursive_descent.specs.Spelled.{SpellsIn}
 
 -- what a piece is from a place on, by where it ends, the right edge behind it, its parts and its pairs
 abbrev pub Reading : Type 1
 Reading = Token → Edge → Parts → List Pair → Type 0
-
--- nothing behind it
-abbrev pub NoMore : Token → Edge → Reading
-NoMore e z m y ps Q = (e ≡ m) × (z ≡ y) × (ps ≡ none) × (Q ≡ [])
 
 module _ {F : Reading} {ps : Parts} {P : List Pair} where
   -- the last piece
@@ -90,14 +87,11 @@ module _ {First Others : Reading} {ps : Parts} {P : List Pair} (u : OneMore Firs
     pairs = u.pairs;
   }
 
-module _ (text : List ℕ) {o : ℕ} where
+module _ (text : SourceText) {o : ℕ} where
   -- a part and the rest, whatever is known to be these
   pub part_runs : {a : Role} {qs rs : List (PieceOf Role)} {n : Tree} {rest ps : Parts} {s m e : Token} {one more P : List Pair} → rs ≡ sub a ∷ qs → ps ≡ part n rest → P ≡ one ++ more → SpellsIn text o a n s m one → RunsIn text o qs rest m e more → RunsIn text o rs ps s e P
   part_runs {a} {qs} {rs} {n} {rest} {ps} {s} {e = e} {P = P} told parts pairs d run =
       subst (λ x. RunsIn text o x ps s e P) (sym told) (subst (λ x. RunsIn text o (sub a ∷ qs) x s e P) (sym parts) (subst (λ x. RunsIn text o (sub a ∷ qs) (part n rest) s e x) (sym pairs) (within d run)))
-
-  pub gap_runs : {qs rs : List (PieceOf Role)} {rest ps : Parts} {s e : Token} {P : List Pair} → rs ≡ absent ∷ qs → ps ≡ gap rest → RunsIn text o qs rest s e P → RunsIn text o rs ps s e P
-  gap_runs {qs} {ps = ps} {s = s} {e = e} {P = P} told parts run = subst (λ x. RunsIn text o x ps s e P) (sym told) (subst (λ x. RunsIn text o (absent ∷ qs) x s e P) (sym parts) (missing run))
 
 -- Before what added nothing to the pairs, and as many are open as before.
 pub adds_before : {s m e : CursorState} {old mid new : List Pair} {A B : ℕ → Token → Token → List Pair → Type 0} → Adds s m old mid A → e.opened ≡ m.opened → new ≡ mid → ((o : ℕ) (P : List Pair) → A o s.last m.last P → B o s.last e.last P) → Adds s e old new B

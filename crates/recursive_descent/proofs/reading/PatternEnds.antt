@@ -7,7 +7,6 @@ use Rattle.std.proofs.lemmas.Bool.Decides.{nat_tests}
 use Rattle.tokens.specs.declared.token.TokenClass.{TokenClass}
 use Rattle.tokens.specs.declared.token.TokenClass.TheVariants.{IdentifierName, Punctuator}
 use Rattle.tokens.specs.declared.token.Goal.TheVariants.{Div}
-use Rattle.tokens.specs.Reading.{any_goal}
 use Rattle.tree.specs.declared.kind.Kind.{Kind}
 use Rattle.tree.specs.declared.kind.Kind.TheVariants.{AssignmentExpression, Identifier, MemberExpression}
 use Rattle.tree.specs.declared.kind.Pair.{Pair}
@@ -16,18 +15,21 @@ use Rattle.language.specs.declared.Rank.{Rank}
 use Rattle.language.specs.declared.Rank.TheVariants.{Expression, Assignment, LeftHandSide, Relational, Shift}
 use Rattle.language.specs.declared.Start.TheVariants.{Any}
 use Rattle.language.specs.declared.Edge.{Edge}
-use Rattle.language.specs.Vocabulary.{takes, takes_number, is_target as is_simple, is_pattern, is_identifier, op_arrow, op_assign, among, is, op_binary, op_none}
+use Rattle.language.specs.Vocabulary.{takes, takes_number, is_target as is_simple, is_pattern, is_identifier, op_arrow, op_assign, op_call, among, is, op_binary, op_none}
 use Rattle.language.specs.Token.{Token, same_class}
 use Rattle.language.specs.Edges.{edge, edge_as_written}
 use Rattle.language.specs.Pieces.{Role, expr, sub, at, lead, tail}
 use Rattle.language.specs.Continuations.{operation, rank_made_by, holds, stops_at}
 use Rattle.language.specs.Promises.{ReadBy}
 use Rattle.language.specs.Derivation.{Among}
-use Rattle.language.specs.Places.{NextIn, itself}
-use Rattle.language.proofs.texts.TextOffsets.{text_determined}
+use Rattle.token_cursor.proofs.SeenTokens.{seen_determined}
 use Rattle.language.proofs.climbing.SpineContinuations.{makes}
 use Rattle.language.proofs.climbing.Spine.{Grows, whole, grow}
 use Rattle.language.proofs.climbing.Conditionals.{read_there}
+use Rattle.language.proofs.climbing.NamesBehind.{apart_sign}
+use Rattle.language.proofs.table.ForDeclarationWays.{two_signs}
+use Rattle.tokens.specs.Goals.{allows}
+use Rattle.parser_tables.specs.declared.expression_context.ExpressionContext.{ExpressionContext}
 use Rattle.language.proofs.climbing.OperatorLoop.{grows_height, part_low}
 use Rattle.language.proofs.table.Productions.{way_from, listed}
 use Rattle.language.proofs.climbing.OperatorNodes.{kind_bare}
@@ -39,9 +41,10 @@ use Rattle.covers.specs.Patterns.{pattern_tree}
 use Rattle.covers.specs.Shapes.{is_element, is_target, is_pattern as is_listed}
 use Rattle.covers.specs.declared.shape.TargetForm.{TargetForm}
 use Rattle.covers.specs.declared.shape.TargetForm.TheVariants as assigned
-use Rattle.recursive_descent.specs.Completeness.{StopsIn, Over, is_over, Unarrowed}
+use Rattle.recursive_descent.specs.Completeness.{StopsIn, Over, is_over, Unarrowed, Unparenthesized, NameEnds}
 use Rattle.token_cursor.specs.Seen.{ReadsHere, SeesBy}
 use Rattle.parser_tables.specs.Tests.{is_each}
+use Rattle.token_cursor.specs.SourceText.{SourceText, SeenNext, behind_in}
 
 -- what stands at Primary stands left of `=`
 pub primary_number : (z : ℕ) → IsTrue (takes_number 22 z) → IsTrue (takes_number 18 z)
@@ -69,12 +72,6 @@ simple_itself (node _ w g s e ps) h = absurd (false≢true h)
 pub identifier_simple : (k : Kind) → is_identifier k ≡ true → is_simple k ≡ true
 identifier_simple Identifier h = refl
 identifier_simple _ h = absurd (false≢true h)
-
--- nothing but a comma goes on there: nothing does at Assignment
-pub over_stops : (i : Bool) (x : Edge) (t : Token) (z : Option Rank) → is_over z ≡ true → stops_at Assignment i x t z ≡ true
-over_stops i x t None h = refl
-over_stops i x t (Some Expression) h = refl
-over_stops i x t (Some _) h = absurd (false≢true h)
 
 pub over_arrow : (b : Bool) → is_over (rank_made_by op_arrow b) ≡ true → b ≡ true
 over_arrow true h = refl
@@ -129,25 +126,42 @@ assign_way st en left right t =
     way_from (expr Assignment true Any) (node AssignmentExpression (codes "=") plain st en (part left (part right none))) (at Assignment (sub (lead LeftHandSide) ∷ infix_pieces (codes "=") ++ sub (tail Assignment Any) ∷ [])) refl
     (listed (assign refl (ap is_simple (kind_bare left) ∙ t))) refl
 
-module _ (text : List ℕ) where
+module _ (text : SourceText) where
   -- where nothing goes on but a comma
   pub over_stopped : (y : Rank) (i : Bool) (n : Tree) {e : Token} → takes y Expression ≡ false → Over text e → StopsIn text y i n e
-  over_stopped y i n {e} other over t m r = over_stops_at y i (edge_as_written (edge n) e) t (rank_made_by (operation t) t.after_break) other (over t m r)
+  over_stopped y i n {e} other over = record { before = λ t m r. over_stops_at y i (edge_as_written (edge n) (behind_in text e)) t (rank_made_by (operation t) t.after_break) other (over.before t m r); apart = over.apart }
 
   pub over_unarrowed : {e : Token} → Over text e → Unarrowed text e
-  over_unarrowed over t m r op = over_arrow t.after_break (subst (λ v. is_over (rank_made_by v t.after_break) ≡ true) op (over t m r))
+  over_unarrowed over t m r op = over_arrow t.after_break (subst (λ v. is_over (rank_made_by v t.after_break) ≡ true) op (over.before t m r))
 
   pub sign_unarrowed : {m x : Token} → ReadsHere text Punctuator (codes "=") m x → Unarrowed text m
   sign_unarrowed {x = x} sign t k r op =
-      let same = read_there Token (NextIn text any_goal) itself (text_determined text) sign refl r in
-      let assigned : operation t ≡ op_assign = ap operation same.0 ∙ makes x sign.class sign.text refl in
+      let same = read_there Token (SeenNext text) (behind_in text) (seen_determined text) sign refl r in
+      let assigned : operation t ≡ op_assign = ap operation same.0 ∙ makes (behind_in text x) sign.class sign.text refl in
       let clash : op_assign ≡ op_arrow = sym assigned ∙ op in
       cc
 
-  pub each_there : {e t m : Token} → SeesBy text Div is_each e → ReadBy Token (NextIn text any_goal) itself Div e t m → IsEach t
-  each_there {e} {t} {m} each r = each_of t (subst (λ v. is_each v ≡ true) (sym (((text_determined text).same Div e t each.0 m each.0 r.next each.1.0.next r.allowed each.1.0.allowed).0)) each.1.1)
+  -- nor does a `(` go on there
+  over_parenthesis : {e : Token} → Over text e → Unparenthesized text e
+  over_parenthesis {e} over x h =
+      let op : operation (behind_in text x) ≡ op_call = makes (behind_in text x) h.class h.text refl in
+      let al : IsTrue (allows Div (behind_in text x).class (behind_in text x).text) = subst (λ c. IsTrue (allows Div c (behind_in text x).text)) (sym h.class) (subst (λ c. IsTrue (allows Div Punctuator c)) (sym h.text) refl) in
+      absurd (false≢true (subst (λ v. is_over (rank_made_by v (behind_in text x).after_break) ≡ true) op (over.before (behind_in text x) x (record { next = h.next; allowed = al }))))
+
+  sign_parenthesis : {m x : Token} → ReadsHere text Punctuator (codes "=") m x → Unparenthesized text m
+  sign_parenthesis sign x h = let two = two_signs Token (SeenNext text) (behind_in text) (seen_determined text) refl refl sign h in absurd (false≢true (ap (λ w. is w "(") two.0))
+
+  -- so a name ends there
+  pub over_name : {p : ExpressionContext} {e : Token} → Over text e → NameEnds text p e
+  over_name over = record { arrow = λ k. over_unarrowed over; parenthesis = λ k. over_parenthesis over; apart = over.apart }
+
+  pub sign_name : {p : ExpressionContext} {m x : Token} → ReadsHere text Punctuator (codes "=") m x → NameEnds text p m
+  sign_name sign = record { arrow = λ k. sign_unarrowed sign; parenthesis = λ k. sign_parenthesis sign; apart = apart_sign Token (SeenNext text) (behind_in text) (seen_determined text) sign refl }
+
+  pub each_there : {e t m : Token} → SeesBy text Div is_each e → ReadBy Token (SeenNext text) (behind_in text) Div e t m → IsEach t
+  each_there {e} {t} {m} each r = each_of t (subst (λ v. is_each v ≡ true) (sym (((seen_determined text).same Div e t (behind_in text each.0) m each.0 r.next each.1.0.next r.allowed each.1.0.allowed).0)) each.1.1)
 
   -- a tree has grown, or it is the whole
-  pub grows_or : {o : ℕ} {s0 e : Token} {a : Role} {n : Tree} {P : List Pair} {b : Role} {m : Tree} {mid : Token} {Q : List Pair} → Grows Token (NextIn text any_goal) itself o s0 a n e P b m mid Q → (m ≡ n) ⊎ (height m < height n)
+  pub grows_or : {o : ℕ} {s0 e : Token} {a : Role} {n : Tree} {P : List Pair} {b : Role} {m : Tree} {mid : Token} {Q : List Pair} → Grows Token (SeenNext text) (behind_in text) o s0 a n e P b m mid Q → (m ≡ n) ⊎ (height m < height n)
   grows_or whole = inl refl
-  grows_or {n = n} {m = m} (grow {l = node k w g st en ps} {ps = qs} h led pl eq d gs) = inr (let u = grows_height Token (NextIn text any_goal) itself (text_determined text) gs in let v = part_low ps m qs eq in omega arith)
+  grows_or {n = n} {m = m} (grow {l = node k w g st en ps} {ps = qs} h led pl eq d gs) = inr (let u = grows_height Token (SeenNext text) (behind_in text) (seen_determined text) gs in let v = part_low ps m qs eq in omega arith)

@@ -4,7 +4,7 @@ use Rattle.std.specs.Prelude.{IsTrue, ◌&&◌}
 use Rattle.std.proofs.lemmas.Bool.{and_parts, false≢true, true≢false}
 use Rattle.std.proofs.lemmas.Bool.Decides.{nat_tests}
 use Rattle.tree.specs.declared.kind.Kind.{Kind}
-use Rattle.tree.specs.declared.kind.Kind.TheVariants.{SpreadElement, Property}
+use Rattle.tree.specs.declared.kind.Kind.TheVariants.{SpreadElement, Property, Identifier}
 use Rattle.tree.specs.declared.kind.Flags.{Flags}
 use Rattle.tree.specs.declared.kind.Pair.{Pair}
 use Rattle.tree.specs.Tree.{Tree, node, Parts}
@@ -12,18 +12,18 @@ use Rattle.language.specs.declared.Rank.{Rank}
 use Rattle.language.specs.declared.Rank.TheVariants.{Expression, Exponentiation}
 use Rattle.language.specs.declared.Start.{Start}
 use Rattle.language.specs.declared.Start.TheVariants.{Any}
-use Rattle.language.specs.FirstPart.{others}
+use Rattle.language.specs.FirstPart.{lead as lead_kind, others}
 use Rattle.language.specs.Vocabulary.{is, takes, takes_number, precedence, op_binary, operator_of}
 use Rattle.language.specs.Pieces.{Role, expr, PieceOf, Piece, Slot, fixed, left, lead, tail, callee, lead_chain, lead_pattern, sub, settle_piece, Spelling, argument, sign}
 use Rattle.language.specs.Token.{Token}
-use Rattle.language.specs.Expressions.{object_part, selector, in_brackets, arguments}
+use Rattle.language.specs.Expressions.{object_part, selector, property_name, in_brackets, arguments}
 use Rattle.language.specs.Promises.{IsDetermined}
 use Rattle.language.specs.Grammar.{ways}
 use Rattle.language.specs.Derivation.{Spells, direct, grouped}
 use Rattle.language.specs.Chosen as chosen
 use Rattle.language.specs.Chosen.{Chosen}
 use Rattle.language.specs.Forms.{Production, form, spelling_of, pieces_of}
-use Rattle.language.proofs.table.EveryWay.{formed_class}
+use Rattle.language.proofs.table.EveryWay.{formed_class, formed_function}
 use Rattle.language.proofs.table.NodeForms.{Made}
 use Rattle.language.proofs.table.Begins.{retell, goes_to, number_laid, AllLaid, no_piece, one_laid}
 use Rattle.language.proofs.table.FixedPieces.{Fixed, all_done, one_more, is_fixed, fixed_join, fixed_listed, fixed_elements}
@@ -80,10 +80,10 @@ fixed_laid : {qs : List Piece} → AllLaid qs → Fixed qs
 fixed_laid no_piece = all_done
 fixed_laid one_laid = one_more refl all_done
 
-fixed_selector : (g : Flags) → Fixed (selector g)
-fixed_selector g = of g.computed
+fixed_selector : (g : Flags) (k : Kind) → Fixed (selector g k)
+fixed_selector g k = of g.computed
   where
-    of : (c : Bool) → Fixed (cond c in_brackets (sign "." ∷ Rattle.language.specs.Pieces.put Rattle.language.specs.Pieces.word ∷ []))
+    of : (c : Bool) → Fixed (cond c in_brackets (sign "." ∷ property_name k ∷ []))
     of true = one_more refl (one_more refl (one_more refl all_done))
     of false = one_more refl (one_more refl all_done)
 
@@ -122,22 +122,26 @@ each_held (p ∷ qs) h = let u = and_parts (is_held p) _ h in held_more u.0 (eac
 form_stays : {k : Kind} {w : List ℕ} {g : Flags} {ps : Parts} {p : Production} → Chosen w g ps (expr Expression true Any) k p → takes Exponentiation (form p).rank ≡ true → Stays (spelling_of (form p) w g ps)
 form_stays {ps = ps} chosen.array tk = record { needs = refl; pieces = held (one_more refl (fixed_join (fixed_elements argument (λ n. refl) ps) (one_more refl all_done))) }
 form_stays {ps = ps} chosen.object tk = record { needs = refl; pieces = held (one_more refl (fixed_join (fixed_listed object_part object_fixed ps) (one_more refl all_done))) }
-form_stays {ps = ps} chosen.function tk = record { needs = refl; pieces = held (fixed_function ps) }
+form_stays {w = w} {g = g} {ps = ps} chosen.function tk = record { needs = refl; pieces = subst (λ (x : Spelling). Held x.pieces) (formed_function g.form w g ps) (held (fixed_function g.form ps)) }
 form_stays {w = w} {g = g} {ps = ps} chosen.class tk = record { needs = refl; pieces = subst (λ (x : Spelling). Held x.pieces) (formed_class w g ps) (held (fixed_class ps)) }
 form_stays {ps = ps} chosen.template tk = record { needs = refl; pieces = held (fixed_chunks true ps) }
 form_stays (chosen.short_arrow e h) tk = absurd (false≢true tk)
 form_stays chosen.arrow tk = absurd (false≢true tk)
-form_stays {g = g} (chosen.super_member h k) tk = record { needs = refl; pieces = held (one_more refl (fixed_selector g)) }
-form_stays {g = g} {ps = ps} (chosen.member_access h k) tk = record { needs = refl; pieces = held_more refl (held (fixed_join (fixed_laid (number_laid ps g)) (fixed_selector g))) }
+form_stays {g = g} (chosen.super_member h k) tk = record { needs = refl; pieces = held (one_more refl (fixed_selector g Identifier)) }
+form_stays {g = g} {ps = ps} (chosen.member_access h k) tk = record { needs = refl; pieces = held_more refl (held (fixed_join (fixed_laid (number_laid ps g)) (fixed_selector g (lead_kind (others ps))))) }
 form_stays {ps = ps} (chosen.super_call h k) tk = record { needs = refl; pieces = held (one_more refl (fixed_arguments (others ps))) }
 form_stays {ps = ps} (chosen.call h k) tk = record { needs = refl; pieces = held_more refl (held (fixed_arguments (others ps))) }
 form_stays {ps = ps} chosen.new_with tk = record { needs = refl; pieces = held (one_more refl (one_more refl (one_more refl (fixed_arguments (others ps))))) }
 form_stays {w = w} (chosen.unary_sign h v) tk = record { needs = refl; pieces = held (one_more refl (sign_fixed (is w "+") (is w "-") _ (one_more refl all_done))) }
-form_stays {w = w} (chosen.binary h) tk = absurd (no_join w h tk)
+form_stays {w = w} (chosen.binary p h) tk = absurd (no_join w h tk)
 form_stays {w = w} (chosen.logical h) tk = absurd (no_join w h tk)
+form_stays (chosen.private_left p h) tk = absurd (false≢true tk)
 form_stays chosen.conditional tk = absurd (false≢true tk)
 form_stays (chosen.assign h t) tk = absurd (false≢true tk)
 form_stays (chosen.assign_pattern h t e) tk = absurd (false≢true tk)
+form_stays (chosen.yield_alone e h) tk = absurd (false≢true tk)
+form_stays (chosen.yield_operand e h) tk = absurd (false≢true tk)
+form_stays (chosen.yield_from e h) tk = absurd (false≢true tk)
 form_stays (chosen.several h) tk = absurd (false≢true tk)
 form_stays (chosen.of_statement s c) tk = elim s [ ]
 form_stays (chosen.of_declaration s c) tk = elim s [ ]

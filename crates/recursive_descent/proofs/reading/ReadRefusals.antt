@@ -10,6 +10,7 @@ use Rattle.covers.specs.Lists.{opening}
 use Rattle.parser_tables.specs.declared.functions_and_classes.FunctionOrClass.{FunctionOrClass}
 use Rattle.parser_tables.specs.declared.functions_and_classes.FunctionOrClass.TheVariants as closure
 use Rattle.recursive_descent.specs.Follows.{asks_name, NotNamed, NotBegun}
+use Rattle.tree.specs.declared.kind.Form.{Form}
 use Rattle.token_cursor.specs.CursorState.{IsSyntaxHere}
 use Rattle.token_cursor.specs.Seen.{Misses, NoName, is_free_name}
 
@@ -19,8 +20,8 @@ passed_on P (Ok x) fault e f = absurd e
 passed_on P (Err other) fault e f = subst P (sym e) f
 
 -- a declaration asks for a name
-pub asked : (c : FunctionOrClass) → (c ≡ closure.FunctionDeclaration) ⊎ (c ≡ closure.ClassDeclaration) → asks_name c ≡ true
-asked c (inl e) = ap asks_name e
+pub asked : (c : FunctionOrClass) → ((x : Form) × c ≡ closure.FunctionDeclaration x) ⊎ (c ≡ closure.ClassDeclaration) → asks_name c ≡ true
+asked c (inl e) = ap asks_name e.1
 asked c (inr e) = ap asks_name e
 
 pub not_named : (c : FunctionOrClass) (s p : CursorState) (high : ℕ) (fault : Fault) → IsSyntaxHere p fault → asks_name c ≡ true → NoName s.text is_free_name s.last → NotNamed c s high fault

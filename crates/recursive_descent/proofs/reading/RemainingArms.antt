@@ -18,7 +18,7 @@ use Rattle.recursive_descent.specs.Subscripts.{link_by}
 use Rattle.recursive_descent.specs.declared.subscripts.Subscript.{Subscript}
 use Rattle.recursive_descent.specs.declared.subscripts.Subscript.TheVariants as link
 use Rattle.tokens.specs.declared.token.TokenClass.{TokenClass}
-use Rattle.tokens.specs.declared.token.TokenClass.TheVariants.{IdentifierName, Punctuator, Template}
+use Rattle.tokens.specs.declared.token.TokenClass.TheVariants.{IdentifierName, Keyword, PrivateName, Punctuator, Template}
 use Rattle.tokens.specs.declared.token.Goal.TheVariants.{Div}
 use Rattle.tokens.specs.Tokens.{LexicalToken}
 use Rattle.token_cursor.specs.CursorState.{CursorState, IsAhead}
@@ -67,6 +67,9 @@ no_short code.Class h a b = absurd (false≢true h)
 no_short code.Super h a b = absurd (false≢true h)
 no_short code.New h a b = absurd (false≢true h)
 no_short code.Import h a b = absurd (false≢true h)
+no_short code.Async h a b = absurd (false≢true h)
+no_short code.Yield h a b = absurd (false≢true h)
+no_short code.PrivateName h a b = absurd (false≢true h)
 
 -- what stands before arguments or an index
 abbrev pub is_enclosed : Subscript → Bool
@@ -87,6 +90,8 @@ pub enclosed_by : (l : Subscript) (c : TokenClass) (w : List ℕ) → is_enclose
 enclosed_by l Punctuator w k h = let e = enclosing l w (is w "[") (is w "(") refl refl h in (refl, e.0, e.1)
 enclosed_by l Template w k h = absurd (false≢true (ap is_enclosed (same_Some _ _ h) ∙ k))
 enclosed_by l IdentifierName w k h = absurd (false≢true (ap is_enclosed (same_Some _ _ h) ∙ k))
+enclosed_by l Keyword w k h = absurd (false≢true (ap is_enclosed (same_Some _ _ h) ∙ k))
+enclosed_by l PrivateName w k h = absurd (false≢true (ap is_enclosed (same_Some _ _ h) ∙ k))
 enclosed_by l _ w k h = absurd (none-some _ h)
 
 no_sign : (u : LexicalToken) (w : List ℕ) → u.class ≡ Punctuator → bytes_eq u.text w ≡ false → is_token Punctuator w (as_read u) ≡ false

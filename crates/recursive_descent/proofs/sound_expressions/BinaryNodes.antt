@@ -6,7 +6,6 @@ use Rattle.std.proofs.lemmas.Bool.Decides.{nat_tests}
 use Rattle.std.proofs.lemmas.List.{append-nil}
 use Rattle.std.proofs.lemmas.Slice.Eq.{bytes_eq-Decides}
 use Rattle.std.proofs.lemmas.Option.{none-some}
-use Rattle.tokens.specs.Reading.{any_goal}
 use Rattle.tokens.specs.Tokens.{LexicalToken}
 use Rattle.tokens.specs.declared.token.TokenClass.{TokenClass}
 use Rattle.tokens.specs.declared.token.TokenClass.TheVariants.{IdentifierName, Punctuator}
@@ -32,7 +31,6 @@ use Rattle.language.specs.Token.{Token, as_read, table_text}
 use Rattle.language.specs.Edges.{edge, edge_as_written}
 use Rattle.language.specs.Expressions.{infix_pieces}
 use Rattle.language.specs.Continuations.{operation, rank_made_by}
-use Rattle.language.specs.Places.{NextIn, itself, SpellsIn}
 use Rattle.language.specs.Derivation.{placed, step, within, token, laid}
 use Rattle.language.proofs.table.NodeForms.{assign_pattern}
 use Rattle.language.proofs.table.OperatorFacts.{binding}
@@ -40,7 +38,7 @@ use Rattle.language.proofs.table.OperatorTokens.{op_reads, reads_question}
 use Rattle.language.proofs.climbing.OperatorNodes.{kind_bare, last_runs, power_grows, assign_grows}
 use Rattle.language.proofs.table.Productions.{spell, starts_led}
 use Rattle.language.proofs.covers.CoverElements.{default_spells}
-use Rattle.language.proofs.texts.TextOffsets.{text_determined}
+use Rattle.token_cursor.proofs.SeenTokens.{seen_determined}
 use Rattle.parser_tables.specs.declared.operand.Operand.{Operand}
 use Rattle.parser_tables.specs.declared.expression_context.ExpressionContext.{ExpressionContext}
 use Rattle.recursive_descent.specs.declared.expressions.LeftOperand.{LeftOperand}
@@ -56,6 +54,9 @@ use Rattle.parser_tables.specs.StatementNodes.{is_closed}
 use Rattle.token_cursor.specs.CursorState.{CursorState}
 use Rattle.recursive_descent.proofs.reading.AddedPairs.{adds_both, adds_behind, adds_none}
 use Rattle.recursive_descent.proofs.sound_expressions.ExpressionParts.{placed_at, value_part, binary_part, conditional_part}
+use Rattle.token_cursor.specs.SourceText.{SourceText, SeenNext, behind_in}
+use Rattle.recursive_descent.specs.Spelled.{SpellsIn}
+use Rattle.recursive_descent.proofs.reading.SeenClasses.{as_here}
 
 -- the symbol of what an operator makes is that of its node
 pub rank_of : (x : Coded) (l : Operand) (b : Bool) → takes_left x l ≡ true → rank_made_by (meant x) b ≡ Some (left_of x l).own
@@ -172,7 +173,7 @@ no_target : (f : Start) (a : TargetForm) (k : Kind) {r : Role} → shapes.is_tar
 no_target f assigned.Target k t h p = false≢true (sym (target_no_pattern k (chosen h).0) ∙ p)
 no_target f _ k t h p = absurd (false≢true t)
 
-module _ (text : List ℕ) where
+module _ (text : SourceText) where
   -- a target or a pattern, where one is assigned to
   data AssignedTo (f : Start) (o : ℕ) (n : Tree) (s m : Token) (P : List Pair) : Type 0 where
     a_target : is_target (kind_of n) ≡ true → SpellsIn text o (expr LeftHandSide true f) n s m P → AssignedTo f o n s m P
@@ -204,20 +205,20 @@ module _ (text : List ℕ) where
       PartAt text i f (part_from (node BinaryExpression w plain l.start e.stop (part l.cover.node (part u none))) value l.start Exponentiation right) o s e (P ++ Q)
   power_part {i} {f} {l} {o} {s} {m} {x} {e} {P} {Q} {w} {u} {right} left value tk op sign side edge_is open_edge =
       value_part text refl left.begins edge_is open_edge (λ h. cc)
-      (λ h j t lo. power_grows Token (NextIn text any_goal) itself op t (left.stands value Update true tk (λ k. cc)) sign side (placed_at text left.begins))
+      (λ h j t lo. power_grows Token (SeenNext text) (behind_in text) op t (left.stands value Update true tk (λ k. cc)) sign side (placed_at text left.begins))
 
   -- an assignment to a target; to a target or a pattern by `=`
   assign_spelled : {i : Bool} {f : Start} {n u : Tree} {at o : ℕ} {s m x e : Token} {P Q : List Pair} {w : List ℕ} → Begins text at s → is_target (kind_of n) ≡ true → SpellsIn text o (expr LeftHandSide true f) n s m P → operator_of w ≡ op_assign →
       ReadsHere text (cond (is_word_operator w) IdentifierName Punctuator) w m x → SpellsIn text o (expr Assignment i Any) u x e Q → (h : Rank) → IsTrue (takes h Assignment) →
       SpellsIn text o (expr h i f) (node AssignmentExpression w plain at e.stop (part n (part u none))) s e (P ++ Q)
-  assign_spelled begins is d op sign side h t = assign_grows Token (NextIn text any_goal) itself op is t d sign side (placed_at text begins)
+  assign_spelled begins is d op sign side h t = assign_grows Token (SeenNext text) (behind_in text) op is t d sign side (placed_at text begins)
 
   pattern_spelled : {i : Bool} {f : Start} {n u : Tree} {at o : ℕ} {s m x e : Token} {P Q : List Pair} → Begins text at s → is_pattern (kind_of n) ≡ true → SpellsIn text o (pattern false f) n s m P →
       ReadsHere text Punctuator (codes "=") m x → SpellsIn text o (expr Assignment i Any) u x e Q → (h : Rank) → IsTrue (takes h Assignment) →
       SpellsIn text o (expr h i f) (node AssignmentExpression (codes "=") plain at e.stop (part n (part u none))) s e (P ++ Q)
   pattern_spelled {f = f} {n = n} begins is d sign side h t =
-      spell Token (NextIn text any_goal) itself (Rattle.language.specs.Pieces.at Assignment (sub lead_pattern ∷ infix_pieces (codes "=") ++ sub (tail Assignment Any) ∷ [])) (assign_pattern refl refl (ap is_pattern (kind_bare n) ∙ is)) refl t refl (starts_led f lead_pattern _)
-      (placed_at text begins) (within d (step laid (step (token sign) (step laid (last_runs Token (NextIn text any_goal) itself side)))))
+      spell Token (SeenNext text) (behind_in text) (Rattle.language.specs.Pieces.at Assignment (sub lead_pattern ∷ infix_pieces (codes "=") ++ sub (tail Assignment Any) ∷ [])) (assign_pattern refl refl (ap is_pattern (kind_bare n) ∙ is)) refl t refl (starts_led f lead_pattern _)
+      (placed_at text begins) (within d (step laid (step (token sign) (step laid (last_runs Token (SeenNext text) (behind_in text) side)))))
 
   either_spelled : {i : Bool} {f : Start} {n u : Tree} {at o : ℕ} {s m x e : Token} {P Q : List Pair} → Begins text at s → AssignedTo f o n s m P →
       ReadsHere text Punctuator (codes "=") m x → SpellsIn text o (expr Assignment i Any) u x e Q → (h : Rank) → IsTrue (takes h Assignment) →
@@ -254,7 +255,7 @@ module _ (text : List ℕ) where
       default : (b : Bool) → f ≡ Any → i ≡ true → SpelledAs (assigned_at l.cover.shape.assigned f b) text o (pattern_tree l.cover.node) s m P → SpellsIn text o (element b) (node AssignmentPattern [] plain l.start e.stop (part (pattern_tree l.cover.node) (part u none))) s e (P ++ Q)
       default b any has_in v =
           let role : assigned_at l.cover.shape.assigned Any b (kind_of (pattern_tree l.cover.node)) ≡ Some v.role = subst (λ c. assigned_at l.cover.shape.assigned c b (kind_of (pattern_tree l.cover.node)) ≡ Some v.role) any v.it_is in
-          default_spells Token (NextIn text any_goal) itself (text_determined text) b (bound_at l.cover.shape.assigned b (kind_of (pattern_tree l.cover.node)) is role) v.spelled sign
+          default_spells Token (SeenNext text) (behind_in text) (seen_determined text) b (bound_at l.cover.shape.assigned b (kind_of (pattern_tree l.cover.node)) is role) v.spelled sign
           (subst (λ c. SpellsIn text o (expr Assignment c Any) u x e Q) has_in side) (placed left.begins.next (ap (λ (c : ℕ). (c, e.stop)) left.begins.start))
 
       as_default : (b : Bool) → fits_as (with_default l.cover.shape) (as_pattern b) ≡ true → (◌≡◌ {A = TargetForm} assigned.Defaulted assigned.Defaulted → (f ≡ Any) × (i ≡ true)) →
@@ -270,20 +271,20 @@ abbrev pub sided_part : LeftOperand → List ℕ → Operand → Parts → Opera
 sided_part left w l nodes p stop = part_from (node left.kind (operator_text_of left.kind w) plain l.start stop (push nodes p.cover.node)) left.shape l.start left.own p.edge
 
 -- what an operator makes of what stands before it and of each right side
-abbrev pub SidedOn : List ℕ → Bool → Operand → LeftOperand → List ℕ → Parts → ℕ → Token → Token → List Pair → Type 0
+abbrev pub SidedOn : SourceText → Bool → Operand → LeftOperand → List ℕ → Parts → ℕ → Token → Token → List Pair → Type 0
 SidedOn text i l left w nodes o m x Q = (p : Operand) (e : Token) (R : List Pair) → p.cover.shape.is_expression ≡ true → ReadAt text (right_at left.right i) p o x e R → GoesOn text i l (sided_part left w l nodes p e.stop) o m e (Q ++ R)
 
-module _ (text : List ℕ) where
+module _ (text : SourceText) where
   right_spelled : {q : Rank} {i : Bool} {p : Operand} {o : ℕ} {x e : Token} {R : List Pair} → p.cover.shape.is_expression ≡ true → ReadAt text (right_at q i) p o x e R → takes_new q ≡ true → (j : Bool) → (minds_in q ≡ true → j ≡ i) → SpellsIn text o (expr q j Any) p.cover.node x e R
   right_spelled {q} value read new j lo = read.part.stands value q j (read.taken new) lo
 
   -- the token of an operator is read with its own characters
-  pub sign_here : {s t : Token} (v : LexicalToken) {op : Operator} → NextIn text any_goal s t t → t ≡ as_read v → operation (as_read v) ≡ op → (op ≡ op_none → ⊥) → (op ≡ op_template → ⊥) →
+  pub sign_here : {s t : Token} (v : LexicalToken) {op : Operator} → SeenNext text s (as_read v) t → operation (as_read v) ≡ op → (op ≡ op_none → ⊥) → (op ≡ op_template → ⊥) →
       ReadsHere text (cond (is_word_operator v.text) IdentifierName Punctuator) v.text s t × (operator_of v.text ≡ op)
-  sign_here v next is op n m =
+  sign_here v next op n m =
       let r = op_reads (as_read v) op n m in
       let same : table_text v.class v.text ≡ v.text = own_text (is_word_operator (as_read v).text) v.class v.text r.0 in
-      (record { next = next; class = ap (λ k. k.class) is ∙ r.0 ∙ ap (λ w. cond (is_word_operator w) IdentifierName Punctuator) same; text = ap (λ k. k.text) is ∙ same }, sym (ap operator_of same) ∙ r.1)
+      (as_here text (record { next = next; class = r.0 ∙ ap (λ w. cond (is_word_operator w) IdentifierName Punctuator) same; text = same }), sym (ap operator_of same) ∙ r.1)
 
   module _ {i : Bool} {l : Operand} {o : ℕ} {s t : Token} (w : List ℕ) where
     binds_on : (b : Bool) (z q : Rank) → operator_of w ≡ op_binary b z q → IsTrue (takes z l.rank) → l.cover.shape.is_expression ≡ true → (is w "in" && not i) ≡ false → ReadsHere text (cond (is_word_operator w) IdentifierName Punctuator) w s t →
@@ -303,40 +304,40 @@ module _ (text : List ℕ) where
       (default_part text left is sign (right_spelled right read refl i (λ k. refl)) read.part.edge read.part.goes_on)
 
   -- an operator but `?`, behind its token
-  pub sided_before : (i : Bool) (l : Operand) (x : Coded) (v : LexicalToken) (o : ℕ) {s t : Token} → NextIn text any_goal s t t → t ≡ as_read v → coded_operator (operation (as_read v)) v.text ≡ Some x → (is v.text "in" && not i) ≡ false → takes_left x l ≡ true → (x ≡ code.Question → ⊥) →
+  pub sided_before : (i : Bool) (l : Operand) (x : Coded) (v : LexicalToken) (o : ℕ) {s t : Token} → SeenNext text s (as_read v) t → coded_operator (operation (as_read v)) v.text ≡ Some x → (is v.text "in" && not i) ≡ false → takes_left x l ≡ true → (x ≡ code.Question → ⊥) →
       SidedOn text i l (left_of x l) v.text (part (left_of x l).node none) o s t []
-  sided_before i l (code.Binary sign) v o {s} {t} next is op has_in fits other = of (joins_by (operation (as_read v)) v.text sign op)
+  sided_before i l (code.Binary sign) v o {s} {t} next op has_in fits other = of (joins_by (operation (as_read v)) v.text sign op)
     where
       both : (takes sign.left l.rank ≡ true) × (l.cover.shape.is_expression ≡ true)
       both = and_parts _ _ fits
 
       of : JoinsBy (operation (as_read v)) sign → SidedOn text i l (left_of (code.Binary sign) l) v.text (part l.cover.node none) o s t []
       of (by_binds b z q h k) =
-          let r = sign_here v next is h (λ e. cc) (λ e. cc) in
+          let r = sign_here v next h (λ e. cc) (λ e. cc) in
           subst (λ g. SidedOn text i l (left_of (code.Binary g) l) v.text (part l.cover.node none) o s t []) (sym k)
           (binds_on v.text b z q r.1 (subst (λ (g : BinaryOperator). IsTrue (takes g.left l.rank)) k both.0) both.1 has_in r.0)
       of (by_powers h k) =
-          let r = sign_here v next is h (λ e. cc) (λ e. cc) in
+          let r = sign_here v next h (λ e. cc) (λ e. cc) in
           subst (λ g. SidedOn text i l (left_of (code.Binary g) l) v.text (part l.cover.node none) o s t []) (sym k)
           (powers_on v.text r.1 (subst (λ (g : BinaryOperator). IsTrue (takes g.left l.rank)) k both.0) both.1 r.0)
-  sided_before i l (code.Assign true) v o {s} {t} next is op has_in fits other =
+  sided_before i l (code.Assign true) v o {s} {t} next op has_in fits other =
       let a = assigns_by (operation (as_read v)) v.text true op in
-      let r = sign_here v next is a.0 (λ e. cc) (λ e. cc) in
+      let r = sign_here v next a.0 (λ e. cc) (λ e. cc) in
       let equals : v.text ≡ codes "=" = (bytes_eq-Decides v.text (codes "=")).0 a.1 in
       subst (λ (w : List ℕ). SidedOn text i l (left_of (code.Assign true) l) w (part (pattern_tree l.cover.node) none) o s t []) (sym equals)
       (default_on (and_parts _ _ fits).1 (subst (λ (w : List ℕ). ReadsHere text (cond (is_word_operator w) IdentifierName Punctuator) w s t) equals r.0))
-  sided_before i l (code.Assign false) v o next is op has_in fits other =
+  sided_before i l (code.Assign false) v o next op has_in fits other =
       let a = assigns_by (operation (as_read v)) v.text false op in
-      let r = sign_here v next is a.0 (λ e. cc) (λ e. cc) in
+      let r = sign_here v next a.0 (λ e. cc) (λ e. cc) in
       target_on v.text r.1 (and_parts _ _ fits).1 r.0
-  sided_before i l code.Question v o next is op has_in fits other = absurd (other refl)
-  sided_before i l _ v o next is op has_in fits other = absurd (false≢true (and_parts _ _ fits).1)
+  sided_before i l code.Question v o next op has_in fits other = absurd (other refl)
+  sided_before i l _ v o next op has_in fits other = absurd (false≢true (and_parts _ _ fits).1)
 
   -- a conditional, behind its `:`
-  pub asked_before : (i : Bool) (l : Operand) (v : LexicalToken) (o : ℕ) {s t b x : Token} {p : Operand} {Q : List Pair} → NextIn text any_goal s t t → t ≡ as_read v → coded_operator (operation (as_read v)) v.text ≡ Some code.Question → takes_left code.Question l ≡ true →
+  pub asked_before : (i : Bool) (l : Operand) (v : LexicalToken) (o : ℕ) {s t b x : Token} {p : Operand} {Q : List Pair} → SeenNext text s (as_read v) t → coded_operator (operation (as_read v)) v.text ≡ Some code.Question → takes_left code.Question l ≡ true →
       ReadAt text (right_at Assignment true) p o t b Q → p.cover.shape.is_expression ≡ true → ReadsHere text Punctuator (codes ":") b x → SidedOn text i l (left_of code.Question l) v.text (part l.cover.node (part p.cover.node none)) o s x Q
-  asked_before i l v o {s} {t} next is op fits one value colon p e R right read f a P left =
-      let question : ReadsHere text Punctuator (codes "?") s t = reads_question Token (NextIn text any_goal) itself next (ap operation is ∙ asks_by (operation (as_read v)) v.text op) in
+  asked_before i l v o {s} {t} next op fits one value colon p e R right read f a P left =
+      let question : ReadsHere text Punctuator (codes "?") s t = as_here text (reads_question Token (SeenNext text) (behind_in text) next (asks_by (operation (as_read v)) v.text op)) in
       conditional_part text left (and_parts _ _ fits).1 (and_parts _ _ fits).0 question (right_spelled value one refl true (λ k. refl)) colon (right_spelled right read refl i (λ k. refl)) read.part.edge read.part.goes_on
 
 -- behind the token, or behind the first of two right sides and its `:`
@@ -348,15 +349,15 @@ same_left : {s e : CursorState} {old new : List Pair} {i : Bool} {l : Operand} {
 same_left {s} {e} {old} {new} {i} {l} {left} {left'} {w} {nodes} {nodes'} a b h =
     subst (λ (k : LeftOperand). SidedFrom s e old new i l k w nodes') (sym a) (subst (λ (n : Parts). SidedFrom s e old new i l left w n) (sym b) h)
 
-pub sided_one : {s m : CursorState} {old mid : List Pair} (i : Bool) (l : Operand) (x : Coded) (v : LexicalToken) {left : LeftOperand} {nodes : Parts} → m.text ≡ s.text → m.opened ≡ s.opened → mid ≡ old → NextIn s.text any_goal s.last m.last m.last → m.last ≡ as_read v →
+pub sided_one : {s m : CursorState} {old mid : List Pair} (i : Bool) (l : Operand) (x : Coded) (v : LexicalToken) {left : LeftOperand} {nodes : Parts} → m.text ≡ s.text → m.opened ≡ s.opened → mid ≡ old → SeenNext s.text s.last (as_read v) m.last →
     coded_operator (operation (as_read v)) v.text ≡ Some x → (is v.text "in" && not i) ≡ false → takes_left x l ≡ true → left ≡ left_of x l → nodes ≡ part left.node none → (x ≡ code.Question → ⊥) → SidedFrom s m old mid i l left v.text nodes
-sided_one {s} i l x v text open_same same next is op has_in fits of_left of_nodes other =
-    same_left of_left (of_nodes ∙ ap (λ (k : LeftOperand). part k.node none) of_left) (record { same_text = text; adds = adds_none open_same same (λ o. sided_before s.text i l x v o next is op has_in fits other) })
+sided_one {s} i l x v text open_same same next op has_in fits of_left of_nodes other =
+    same_left of_left (of_nodes ∙ ap (λ (k : LeftOperand). part k.node none) of_left) (record { same_text = text; adds = adds_none open_same same (λ o. sided_before s.text i l x v o next op has_in fits other) })
 
-pub sided_two : {s m b e : CursorState} {old mid new last : List Pair} (i : Bool) (l : Operand) (x : Coded) (v : LexicalToken) (p : Operand) {left : LeftOperand} {nodes : Parts} → m.text ≡ s.text → m.opened ≡ s.opened → mid ≡ old → NextIn s.text any_goal s.last m.last m.last → m.last ≡ as_read v →
+pub sided_two : {s m b e : CursorState} {old mid new last : List Pair} (i : Bool) (l : Operand) (x : Coded) (v : LexicalToken) (p : Operand) {left : LeftOperand} {nodes : Parts} → m.text ≡ s.text → m.opened ≡ s.opened → mid ≡ old → SeenNext s.text s.last (as_read v) m.last →
     coded_operator (operation (as_read v)) v.text ≡ Some x → takes_left x l ≡ true → left ≡ left_of x l → nodes ≡ push (part left.node none) p.cover.node → x ≡ code.Question → b.text ≡ m.text → Adds m b mid new (ReadAt m.text (right_at Assignment true) p) → p.cover.shape.is_expression ≡ true →
     e.text ≡ b.text → e.opened ≡ b.opened → last ≡ new → ReadsHere b.text Punctuator (codes ":") b.last e.last → SidedFrom s e old last i l left v.text nodes
-sided_two {s} {m} {b} {e} {old} {mid} {new} {last} i l x v p {left} {nodes} text open_same same next is op fits of_left of_nodes question one_text one value colon_text colon_open colon_same colon =
+sided_two {s} {m} {b} {e} {old} {mid} {new} {last} i l x v p {left} {nodes} text open_same same next op fits of_left of_nodes question one_text one value colon_text colon_open colon_same colon =
     let op' : coded_operator (operation (as_read v)) v.text ≡ Some code.Question = op ∙ ap Some question in
     let fits' : takes_left code.Question l ≡ true = ap (λ k. takes_left k l) (sym question) ∙ fits in
     let of_left' : left ≡ left_of code.Question l = of_left ∙ ap (λ k. left_of k l) question in
@@ -366,7 +367,7 @@ sided_two {s} {m} {b} {e} {old} {mid} {new} {last} i l x v p {left} {nodes} text
     same_left of_left' (of_nodes ∙ ap (λ (k : LeftOperand). push (part k.node none) p.cover.node) of_left')
     (record {
       same_text = colon_text ∙ one_text ∙ text;
-      adds = adds_both first to_colon (λ o P Q u z. subst (λ c. SidedOn s.text i l (left_of code.Question l) v.text (part l.cover.node (part p.cover.node none)) o s.last e.last c) (sym (ap (λ c. P ++ c) z.2 ∙ append-nil P)) (asked_before s.text i l v o next is op' fits' u value here));
+      adds = adds_both first to_colon (λ o P Q u z. subst (λ c. SidedOn s.text i l (left_of code.Question l) v.text (part l.cover.node (part p.cover.node none)) o s.last e.last c) (sym (ap (λ c. P ++ c) z.2 ∙ append-nil P)) (asked_before s.text i l v o next op' fits' u value here));
     })
 
 -- with the right side

@@ -4,7 +4,6 @@ use Rattle.std.specs.Prelude.{IsTrue, Some, None, codes, ◌&&◌}
 use Rattle.std.specs.Result.{IfOk}
 use Rattle.std.proofs.lemmas.Bool.{false≢true}
 use Rattle.source_text.specs.declared.fault.Fault.{Fault}
-use Rattle.tokens.specs.Reading.{any_goal}
 use Rattle.tokens.specs.declared.token.TokenClass.TheVariants.{Punctuator}
 use Rattle.token_cursor.specs.CursorState.{CursorState}
 use Rattle.tree.specs.declared.kind.Kind.{Kind}
@@ -30,7 +29,6 @@ use Rattle.language.specs.Pieces.{Role, expr, pattern, template_element, Piece, 
 use Rattle.language.specs.Token.{Token}
 use Rattle.language.specs.Expressions.{object_part, object_pattern_part, template_elements}
 use Rattle.language.specs.Grammar.{starts}
-use Rattle.language.specs.Places.{NextIn, itself, SpellsIn}
 use Rattle.language.specs.Derivation.{Placed, placed, step, token, within, done}
 use Rattle.language.proofs.table.NodeForms.{array, object, template}
 use Rattle.language.proofs.table.Begins.{goes_to}
@@ -41,7 +39,7 @@ use Rattle.language.proofs.covers.PatternsByToken.{array_spells, object_spells}
 use Rattle.language.proofs.table.Productions.{spell}
 use Rattle.language.proofs.list_loops.FirstPieces.{run_never}
 use Rattle.language.proofs.list_loops.TemplateElements.{chunk_found}
-use Rattle.language.proofs.texts.TextOffsets.{text_determined}
+use Rattle.token_cursor.proofs.SeenTokens.{seen_determined}
 use Rattle.recursive_descent.specs.Soundness.{RunsIn, Begins, SpelledAs, assigned_at, fits_as, PartAt, bare_role}
 use Rattle.recursive_descent.specs.SoundnessOfLists.{ListAt, SoFarAt, is_list_shape, left_of}
 use Rattle.recursive_descent.specs.Follows.{BegunTemplate, FirstChunkAt}
@@ -51,16 +49,15 @@ use Rattle.token_cursor.specs.Seen.{ReadsHere}
 use Rattle.recursive_descent.proofs.reading.AddedPairs.{runs_on}
 use Rattle.recursive_descent.proofs.reading.Forward.{begins_mark}
 use Rattle.recursive_descent.proofs.sound_expressions.ExpressionParts.{placed_at}
-use Rattle.recursive_descent.proofs.sound_expressions.GroupContents.{listed_bare, elements_bare, element_bare, goes_on}
+use Rattle.recursive_descent.proofs.sound_expressions.GroupContents.{listed_bare, elements_bare, element_bare, goes_on, argument_bare}
 use Rattle.language.specs.Edges.{edge, edge_as_written}
+use Rattle.token_cursor.specs.SourceText.{SourceText, SeenNext, behind_in}
+use Rattle.recursive_descent.specs.Spelled.{SpellsIn}
 
 -- what is made, where there is room
 pub makes_ok : {X : Type 0} (x : X) (levels high : ℕ) (B : X → Type 0) (r : Result X Fault) → MakesAs x levels high r → (levels ≤ high → B x) → IfOk r B
 makes_ok x levels high B (Ok made) h f = subst B (sym h.0) (f h.1)
 makes_ok x levels high B (Err fault) h f = tt
-
-argument_bare : (n : Tree) → argument (bare n) ≡ argument n
-argument_bare (node k w g s e ps) = refl
 
 object_bare : (n : Tree) → item_piece object_role (bare n) ≡ item_piece object_role n
 object_bare (node k w g s e ps) = refl
@@ -99,7 +96,7 @@ starts_chunks Statement b (part q none) = refl
 starts_chunks Statement b (part q (gap ps)) = refl
 starts_chunks Statement b (part q (part e ps)) = refl
 
-module _ (text : List ℕ) where
+module _ (text : SourceText) where
   -- pieces between two signs
   between : {o : ℕ} (v w : List ℕ) (qs : List Piece) {ps : Parts} {s m k e : Token} {P : List Pair} → ReadsHere text Punctuator v s m → RunsIn text o (goes_to Expression true Any qs) ps m k P → ReadsHere text Punctuator w k e →
       RunsIn text o (goes_to Expression true Any ((tok Punctuator v ∷ qs) ++ tok Punctuator w ∷ [])) ps s e P
@@ -107,41 +104,41 @@ module _ (text : List ℕ) where
       step (token left) (subst (λ x. RunsIn text o x ps m e P) (sym (goes_on Expression true Any qs (tok Punctuator w ∷ []))) (runs_on text d (token right)))
 
   -- an array
-  array_at : {o : ℕ} {h : Rank} {j : Bool} {f : Start} {ps : Parts} {st : ℕ} {s e : Token} {P : List Pair} → IsTrue (takes h Primary) → Placed Token (NextIn text any_goal) itself (expr h j f) (node ArrayExpression [] plain st e.stop ps) s e →
+  array_at : {o : ℕ} {h : Rank} {j : Bool} {f : Start} {ps : Parts} {st : ℕ} {s e : Token} {P : List Pair} → IsTrue (takes h Primary) → Placed Token (SeenNext text) (behind_in text) (expr h j f) (node ArrayExpression [] plain st e.stop ps) s e →
       RunsIn text o (goes_to Expression true Any ((sign "[" ∷ elements argument ps) ++ sign "]" ∷ [])) ps s e P → SpellsIn text o (expr h j f) (node ArrayExpression [] plain st e.stop ps) s e P
   array_at {o} {h} {j} {f} {ps} {st} {s} {e} {P} tk pl d =
-      spell Token (NextIn text any_goal) itself (at Primary ((sign "[" ∷ elements argument (bare_parts ps)) ++ sign "]" ∷ [])) array refl tk refl (starts_bracket f (elements argument (bare_parts ps) ++ sign "]" ∷ [])) pl
+      spell Token (SeenNext text) (behind_in text) (at Primary ((sign "[" ∷ elements argument (bare_parts ps)) ++ sign "]" ∷ [])) array refl tk refl (starts_bracket f (elements argument (bare_parts ps) ++ sign "]" ∷ [])) pl
       (subst (λ x. RunsIn text o x ps s e P) (ap (λ x. goes_to Expression true Any ((sign "[" ∷ x) ++ sign "]" ∷ [])) (sym (elements_bare argument argument_bare ps)) ∙ same_pieces Expression h true j Any f (fixed_array (bare_parts ps))) d)
 
   -- an object
-  object_at : {o : ℕ} {h : Rank} {j : Bool} {ps : Parts} {st : ℕ} {s e : Token} {P : List Pair} → IsTrue (takes h Primary) → Placed Token (NextIn text any_goal) itself (expr h j Any) (node ObjectExpression [] plain st e.stop ps) s e →
+  object_at : {o : ℕ} {h : Rank} {j : Bool} {ps : Parts} {st : ℕ} {s e : Token} {P : List Pair} → IsTrue (takes h Primary) → Placed Token (SeenNext text) (behind_in text) (expr h j Any) (node ObjectExpression [] plain st e.stop ps) s e →
       RunsIn text o (goes_to Expression true Any ((sign "{" ∷ listing object_part ps) ++ sign "}" ∷ [])) ps s e P → SpellsIn text o (expr h j Any) (node ObjectExpression [] plain st e.stop ps) s e P
   object_at {o} {h} {j} {ps} {st} {s} {e} {P} tk pl d =
       let names : listing object_part ps ≡ listing (item_piece object_role) (bare_parts ps) = object_pieces ps ∙ sym (listed_bare (item_piece object_role) object_bare ps) in
-      spell Token (NextIn text any_goal) itself (at Primary ((sign "{" ∷ listing object_part (bare_parts ps)) ++ sign "}" ∷ [])) object refl tk refl refl pl
+      spell Token (SeenNext text) (behind_in text) (at Primary ((sign "{" ∷ listing object_part (bare_parts ps)) ++ sign "}" ∷ [])) object refl tk refl refl pl
       (subst (λ x. RunsIn text o x ps s e P) (ap (λ x. goes_to Expression true Any ((sign "{" ∷ x) ++ sign "}" ∷ [])) names ∙ same_pieces Expression h true j Any Any (fixed_object (bare_parts ps)) ∙ ap (λ x. goes_to h j Any ((sign "{" ∷ x) ++ sign "}" ∷ [])) (sym (object_pieces (bare_parts ps)))) d)
 
   -- a template
-  template_at : {o : ℕ} {h : Rank} {j : Bool} {f : Start} {ps : Parts} {st : ℕ} {s e : Token} {P : List Pair} → IsTrue (takes h Primary) → Placed Token (NextIn text any_goal) itself (expr h j f) (node TemplateLiteral [] plain st e.stop ps) s e →
+  template_at : {o : ℕ} {h : Rank} {j : Bool} {f : Start} {ps : Parts} {st : ℕ} {s e : Token} {P : List Pair} → IsTrue (takes h Primary) → Placed Token (SeenNext text) (behind_in text) (expr h j f) (node TemplateLiteral [] plain st e.stop ps) s e →
       RunsIn text o (goes_to Expression true Any (template_elements true ps)) ps s e P → SpellsIn text o (expr h j f) (node TemplateLiteral [] plain st e.stop ps) s e P
   template_at {o} {h} {j} {f} {ps} {st} {s} {e} {P} tk pl d =
-      spell Token (NextIn text any_goal) itself (at Primary (template_elements true (bare_parts ps))) template refl tk refl (starts_chunks f true (bare_parts ps)) pl
+      spell Token (SeenNext text) (behind_in text) (at Primary (template_elements true (bare_parts ps))) template refl tk refl (starts_chunks f true (bare_parts ps)) pl
       (subst (λ x. RunsIn text o x ps s e P) (ap (goes_to Expression true Any) (sym (chunks_bare true ps)) ∙ same_pieces Expression h true j Any f (fixed_chunks true (bare_parts ps))) d)
 
   -- the pattern that an array covers, and an object
-  array_pattern_at : {o : ℕ} {b : Bool} {f : Start} {ps : Parts} {st : ℕ} {s e : Token} {P : List Pair} → Placed Token (NextIn text any_goal) itself (pattern b f) (node ArrayPattern [] plain st e.stop ps) s e →
+  array_pattern_at : {o : ℕ} {b : Bool} {f : Start} {ps : Parts} {st : ℕ} {s e : Token} {P : List Pair} → Placed Token (SeenNext text) (behind_in text) (pattern b f) (node ArrayPattern [] plain st e.stop ps) s e →
       RunsIn text o (goes_to Expression true Any ((sign "[" ∷ elements (pattern_element b) ps) ++ sign "]" ∷ [])) ps s e P → SpellsIn text o (pattern b f) (node ArrayPattern [] plain st e.stop ps) s e P
   array_pattern_at {o} {b} {f} {ps} {st} {s} {e} {P} pl d =
-      array_spells Token (NextIn text any_goal) itself (text_determined text) pl (subst (λ x. RunsIn text o x ps s e P) (ap (λ x. goes_to Expression true Any ((sign "[" ∷ x) ++ sign "]" ∷ [])) (sym (elements_bare (pattern_element b) (element_bare b) ps))) d)
+      array_spells Token (SeenNext text) (behind_in text) (seen_determined text) pl (subst (λ x. RunsIn text o x ps s e P) (ap (λ x. goes_to Expression true Any ((sign "[" ∷ x) ++ sign "]" ∷ [])) (sym (elements_bare (pattern_element b) (element_bare b) ps))) d)
 
-  object_pattern_at : {o : ℕ} {b : Bool} {ps : Parts} {st : ℕ} {s e : Token} {P : List Pair} → Placed Token (NextIn text any_goal) itself (pattern b Any) (node ObjectPattern [] plain st e.stop ps) s e →
+  object_pattern_at : {o : ℕ} {b : Bool} {ps : Parts} {st : ℕ} {s e : Token} {P : List Pair} → Placed Token (SeenNext text) (behind_in text) (pattern b Any) (node ObjectPattern [] plain st e.stop ps) s e →
       RunsIn text o (goes_to Expression true Any ((sign "{" ∷ listing (object_pattern_part b) ps) ++ sign "}" ∷ [])) ps s e P → SpellsIn text o (pattern b Any) (node ObjectPattern [] plain st e.stop ps) s e P
   object_pattern_at {o} {b} {ps} {st} {s} {e} {P} pl d =
       let names : listing (object_pattern_part b) ps ≡ listing (item_piece (object_pattern_role b)) (bare_parts ps) = object_pattern_pieces b ps ∙ sym (listed_bare (item_piece (object_pattern_role b)) (property_bare b) ps) in
-      object_spells Token (NextIn text any_goal) itself (text_determined text) refl pl (subst (λ x. RunsIn text o x ps s e P) (ap (λ x. goes_to Expression true Any ((sign "{" ∷ x) ++ sign "}" ∷ [])) names) d)
+      object_spells Token (SeenNext text) (behind_in text) (seen_determined text) refl pl (subst (λ x. RunsIn text o x ps s e P) (ap (λ x. goes_to Expression true Any ((sign "{" ∷ x) ++ sign "}" ∷ [])) names) d)
 
   -- from the first token to the last
-  pattern_placed : {b : Bool} {f : Start} {k : Kind} {from : ℕ} {ps : Parts} {s e : Token} → Begins text from s → Placed Token (NextIn text any_goal) itself (pattern b f) (node k [] plain from e.stop ps) s e
+  pattern_placed : {b : Bool} {f : Start} {k : Kind} {from : ℕ} {ps : Parts} {s e : Token} → Begins text from s → Placed Token (SeenNext text) (behind_in text) (pattern b f) (node k [] plain from e.stop ps) s e
   pattern_placed {e = e} b = placed b.next (ap (λ (x : ℕ). (x, e.stop)) b.start)
 
   -- the part, from how it is spelled in each reading
@@ -218,15 +215,15 @@ module _ (text : List ℕ) where
 
   -- the first part of a template, behind which it goes on
   first_spelled : (o : ℕ) (last : Bool) (n : Tree) {s e : Token} → FirstChunkAt text s e n last → SpellsIn text o (template_element true last) n s e []
-  first_spelled o true n {s} {e} d = subst (λ x. SpellsIn text o (template_element true true) x s e []) (sym d.2) (chunk_found Token (NextIn text any_goal) itself (text_determined text) d.1).spelled
-  first_spelled o false n {s} {e} d = subst (λ x. SpellsIn text o (template_element true false) x s e []) (sym d.2) (chunk_found Token (NextIn text any_goal) itself (text_determined text) d.1).spelled
+  first_spelled o true n {s} {e} d = subst (λ x. SpellsIn text o (template_element true true) x s e []) (sym d.2) (chunk_found Token (SeenNext text) (behind_in text) (seen_determined text) d.1).spelled
+  first_spelled o false n {s} {e} d = subst (λ x. SpellsIn text o (template_element true false) x s e []) (sym d.2) (chunk_found Token (SeenNext text) (behind_in text) (seen_determined text) d.1).spelled
 
   first_runs : (o : ℕ) (f : Start) (last : Bool) (n : Tree) {s m e : Token} {Q : List Pair} (a : Reading) (ps : Parts) → SpellsIn text o (template_element true last) n s m [] → RunsIn text o (goes_to Expression true f (left_of listed.Template last a ps)) ps m e Q → RunsIn text o (goes_to Expression true f (template_elements true (part n ps))) (part n ps) s e Q
   first_runs o f true n a none d done = within d done
   first_runs o f true n a (part k ps) d r = elim r [ ]
   first_runs o f true n a (gap ps) d r = elim r [ ]
-  first_runs o f false n a none d r = absurd (run_never Token (NextIn text any_goal) itself r)
-  first_runs o f false n a (gap ps) d r = absurd (run_never Token (NextIn text any_goal) itself r)
+  first_runs o f false n a none d r = absurd (run_never Token (SeenNext text) (behind_in text) r)
+  first_runs o f false n a (gap ps) d r = absurd (run_never Token (SeenNext text) (behind_in text) r)
   first_runs o f false n a (part k ps) d r = within d r
 
   first_so_far : (f : Start) (from : ℕ) (c : ListItem) (o : ℕ) {s m : Token} → FirstChunkAt text s m c.node c.is_flagged → SoFarAt text f (with_item (list_from listed.Template from) c) o s m []

@@ -4,13 +4,12 @@ use Rattle.std.specs.Prelude.{IsTrue, Some, None, codes, not, ◌&&◌, nat_le}
 use Rattle.std.proofs.lemmas.Bool.{false≢true, true≢false}
 use Rattle.std.proofs.lemmas.Bool.Decides.{nat_tests}
 use Rattle.std.proofs.lemmas.List.{append-nil}
-use Rattle.tokens.specs.Reading.{any_goal}
 use Rattle.tokens.specs.declared.token.TokenClass.TheVariants.{IdentifierName, Punctuator}
 use Rattle.tree.specs.declared.kind.Kind.{Kind}
-use Rattle.tree.specs.declared.kind.Kind.TheVariants.{Identifier, MemberExpression, BinaryExpression, LogicalExpression, ConditionalExpression}
+use Rattle.tree.specs.declared.kind.Kind.TheVariants.{MemberExpression, BinaryExpression, LogicalExpression, ConditionalExpression}
 use Rattle.tree.specs.declared.kind.Flags.{Flags}
 use Rattle.tree.specs.declared.kind.Pair.{Pair}
-use Rattle.tree.specs.Tree.{Tree, node, plain, Parts, none, part}
+use Rattle.tree.specs.Tree.{Tree, node, plain, Parts, none, part, kind_of}
 use Rattle.tree.specs.Uses.{implies}
 use Rattle.covers.specs.declared.shape.CoverShape.{CoverShape}
 use Rattle.covers.specs.Patterns.{pattern_tree}
@@ -26,25 +25,23 @@ use Rattle.language.specs.Covers.{as_pattern}
 use Rattle.language.specs.Pieces.{Role, expr, is_tight}
 use Rattle.language.specs.Token.{Token}
 use Rattle.language.specs.Edges.{edge, edge_as_written}
-use Rattle.language.specs.Places.{NextIn, itself, SpellsIn}
 use Rattle.language.specs.Derivation.{Placed, placed}
 use Rattle.language.proofs.climbing.OperatorNodes.{binary_grows, conditional_grows, dot_grows, index_grows}
-use Rattle.language.proofs.climbing.Leaves.{word_found}
-use Rattle.language.proofs.table.LeftRecursiveWays.{callee_rank}
+use Rattle.language.proofs.table.LeftRecursiveWays.{callee_rank, property_role}
 use Rattle.language.proofs.table.OperatorFacts.{Rises, binding}
 use Rattle.language.proofs.climbing.Suffixes.{suffix_rank, suffix_stands, no_super}
-use Rattle.language.proofs.texts.TextOffsets.{text_determined}
 use Rattle.parser_tables.specs.declared.operand.Operand.{Operand}
 use Rattle.recursive_descent.specs.Soundness.{Adds, Begins, SpelledAs, assigned_at, fits_as, minds_in, bare_role, PartAt, ReadAt, ReadsOn}
 use Rattle.parser_tables.specs.Operands.{part_from, plain_part}
 use Rattle.token_cursor.specs.Seen.{ReadsHere, Misses}
 use Rattle.parser_tables.specs.StatementNodes.{is_closed}
-use Rattle.parser_tables.specs.Tokens.{single_node}
 use Rattle.token_cursor.specs.CursorState.{CursorState}
 use Rattle.recursive_descent.proofs.reading.AddedPairs.{adds_both}
+use Rattle.token_cursor.specs.SourceText.{SourceText, SeenNext, behind_in}
+use Rattle.recursive_descent.specs.Spelled.{SpellsIn}
 
 -- a turn behind what was read
-pub turn_on : {s m e : CursorState} {old mid new : List Pair} {text : List ℕ} {p : Rattle.parser_tables.specs.declared.expression_context.ExpressionContext.ExpressionContext} {l r : Operand} → text ≡ s.text → Adds s m old mid (ReadAt s.text p l) → Adds m e mid new (ReadsOn text p l r) → Adds s e old new (ReadAt s.text p r)
+pub turn_on : {s m e : CursorState} {old mid new : List Pair} {text : SourceText} {p : Rattle.parser_tables.specs.declared.expression_context.ExpressionContext.ExpressionContext} {l r : Operand} → text ≡ s.text → Adds s m old mid (ReadAt s.text p l) → Adds m e mid new (ReadsOn text p l r) → Adds s e old new (ReadAt s.text p r)
 turn_on {s} {m} {e} {p = p} {l = l} {r = r} same a b = adds_both a b (λ o P Q u v. subst (λ x. ReadsOn x p l r o m.last e.last Q) same v s.last P u)
 
 some_none : {A X : Type 0} {x : X} → Some x ≡ None → A
@@ -65,7 +62,7 @@ in_of false b h = refl
 minds_number : (h z : ℕ) → IsTrue (takes_number h z) → nat_le z 14 ≡ true → nat_le h 14 ≡ true
 minds_number h z t l = grind (arith, nat_tests)
 
-minds_of : (h z : Rank) → IsTrue (takes h z) → minds_in z ≡ true → minds_in h ≡ true
+pub minds_of : (h z : Rank) → IsTrue (takes h z) → minds_in z ≡ true → minds_in h ≡ true
 minds_of h z t l = minds_number (precedence h) (precedence z) t l
 
 below_fifteen : (y z : ℕ) → Rises y z → z ≤ 15 → nat_le y 14 ≡ true
@@ -85,9 +82,9 @@ member_target c = of (takes Member c)
     of true = refl
     of false = refl
 
-module _ (text : List ℕ) where
+module _ (text : SourceText) where
   abbrev Here : Role → Tree → Token → Token → Type 0
-  Here = Placed Token (NextIn text any_goal) itself
+  Here = Placed Token (SeenNext text) (behind_in text)
 
   -- from the first token to the last
   pub placed_at : {h : Rank} {j : Bool} {f : Start} {k : Kind} {w : List ℕ} {g : Flags} {at : ℕ} {ps : Parts} {s e : Token} → Begins text at s → Here (expr h j f) (node k w g at e.stop ps) s e
@@ -137,12 +134,11 @@ module _ (text : List ℕ) where
         of true h = cc
         of false h = cc
 
-    pub dot_part : {x e : Token} → ReadsHere text Punctuator (codes ".") m x → ReadsHere text IdentifierName e.text x e →
-        PartAt text i f (plain_part (node MemberExpression [] plain l.start e.stop (part l.cover.node (part (single_node Identifier e) none))) (suffix_rank l.rank) Other) o s e (P ++ [])
-    dot_part {x} {e} sign name =
-        let word_there = (word_found Token (NextIn text any_goal) itself (text_determined text) {o = o} name).spelled in
+    pub dot_part : {u : Tree} {x e : Token} → ReadsHere text Punctuator (codes ".") m x → SpellsIn text o (property_role (kind_of u)) u x e [] →
+        PartAt text i f (plain_part (node MemberExpression [] plain l.start e.stop (part l.cover.node (part u none))) (suffix_rank l.rank) Other) o s e (P ++ [])
+    dot_part sign name =
         member_part refl (member_target l.rank) not_new left.begins
-        (λ h j tk. dot_grows Token (NextIn text any_goal) itself (no_super Token (NextIn text any_goal) itself (callee_at h tk)) (suffix_stands h l.rank tk object).0 (callee_at h tk) sign word_there (placed_at left.begins))
+        (λ h j tk. dot_grows Token (SeenNext text) (behind_in text) (no_super Token (SeenNext text) (behind_in text) (callee_at h tk)) (suffix_stands h l.rank tk object).0 (callee_at h tk) sign name (placed_at left.begins))
 
     pub index_part : {u : Tree} {x z e : Token} {Q : List Pair} → ReadsHere text Punctuator (codes "[") m x → SpellsIn text o (expr Expression true Any) u x z Q → ReadsHere text Punctuator (codes "]") z e →
         PartAt text i f (plain_part (node MemberExpression [] (record plain { computed = true }) l.start e.stop (part l.cover.node (part u none))) (suffix_rank l.rank) Other) o s e (P ++ Q)
@@ -150,7 +146,7 @@ module _ (text : List ℕ) where
         let n = node MemberExpression [] (record plain { computed = true }) l.start e.stop (part l.cover.node (part u none)) in
         member_part refl (member_target l.rank) not_new left.begins
         (λ h j tk. subst (λ R. SpellsIn text o (expr h j f) n s e (P ++ R)) (append-nil Q)
-        (index_grows Token (NextIn text any_goal) itself (no_super Token (NextIn text any_goal) itself (callee_at h tk)) (suffix_stands h l.rank tk object).0 (callee_at h tk) sign index close (placed_at left.begins)))
+        (index_grows Token (SeenNext text) (behind_in text) (no_super Token (SeenNext text) (behind_in text) (callee_at h tk)) (suffix_stands h l.rank tk object).0 (callee_at h tk) sign index close (placed_at left.begins)))
 
   -- a binary or a logical node
   pub binary_part : {i : Bool} {f : Start} {l : Operand} {o : ℕ} {s m x e : Token} {P Q : List Pair} {w : List ℕ} {b : Bool} {z q : Rank} {u : Tree} {right : Edge} → PartAt text i f l o s m P → l.cover.shape.is_expression ≡ true → IsTrue (takes z l.rank) → operator_of w ≡ op_binary b z q →
@@ -160,7 +156,7 @@ module _ (text : List ℕ) where
       value_part (of_kind b) left.begins (edge_is ∙ ap (λ y. edge_as_written y e) (sym (of_edge b))) open_edge (λ h. absurd (not_tight (sym (ap minds_in h) ∙ binds_minds w op)))
       (λ h j t lo. let same : j ≡ i = lo (minds_of h z t (binds_minds w op)) in
       subst (λ c. SpellsIn text o (expr h c f) (node (cond b LogicalExpression BinaryExpression) w plain l.start e.stop (part l.cover.node (part u none))) s e (P ++ Q)) (sym same)
-      (binary_grows Token (NextIn text any_goal) itself op t (in_of (is w "in") i has_in) (left.stands value z i tk (λ k. refl)) sign side (placed_at left.begins)))
+      (binary_grows Token (SeenNext text) (behind_in text) op t (in_of (is w "in") i has_in) (left.stands value z i tk (λ k. refl)) sign side (placed_at left.begins)))
     where
       not_tight : false ≡ true → ⊥
       not_tight = false≢true
@@ -181,4 +177,4 @@ module _ (text : List ℕ) where
       value_part refl left.begins edge_is open_edge (λ h. cc)
       (λ h j t lo. let same : j ≡ i = lo (minds_of h Conditional t refl) in
       subst (λ v. SpellsIn text o (expr h v f) (node ConditionalExpression [] plain l.start e.stop (part l.cover.node (part u (part n none)))) s e (P ++ (Q ++ R))) (sym same)
-      (conditional_grows Token (NextIn text any_goal) itself t (left.stands value ShortCircuit i tk (λ k. refl)) ask one colon other (placed_at left.begins)))
+      (conditional_grows Token (SeenNext text) (behind_in text) t (left.stands value ShortCircuit i tk (λ k. refl)) ask one colon other (placed_at left.begins)))

@@ -4,7 +4,6 @@ use Rattle.std.specs.Prelude.{IsTrue, Some, None, codes, not, ◌&&◌, if◌the
 use Rattle.std.proofs.lemmas.Bool.{false≢true}
 use Rattle.std.proofs.lemmas.List.{append-nil}
 use Rattle.std.proofs.lemmas.Bool.Decides.{nat_tests}
-use Rattle.tokens.specs.Reading.{any_goal}
 use Rattle.tokens.specs.declared.token.TokenClass.TheVariants.{Punctuator}
 use Rattle.tokens.specs.declared.token.Goal.TheVariants.{RegExp}
 use Rattle.tree.specs.declared.kind.Kind.TheVariants.{Identifier, MemberExpression, SequenceExpression}
@@ -25,30 +24,29 @@ use Rattle.language.specs.declared.Edge.TheVariants.{Arrow, Postfix, Other, Clos
 use Rattle.language.specs.Vocabulary.{is, takes, takes_number, precedence}
 use Rattle.language.specs.Vocabulary as words
 use Rattle.language.specs.Covers.{as_expression, as_pattern}
-use Rattle.language.specs.Pieces.{Role, expr, Piece, PieceOf, at, tok, sub, settle_piece, sign, is_none, separator, elements, open_parameters, close_parameters, parameters, pattern_element}
+use Rattle.language.specs.Pieces.{Role, expr, Piece, PieceOf, at, tok, sub, settle_piece, sign, is_none, separator, elements, open_parameters, close_parameters, parameters, argument, pattern_element}
 use Rattle.language.specs.Pieces as pieces
 use Rattle.language.specs.Token.{Token}
 use Rattle.language.specs.Edges.{edge, edge_as_written}
-use Rattle.language.specs.Expressions.{sequence, assignment}
-use Rattle.language.specs.Places.{NextIn, itself, SpellsIn}
+use Rattle.language.specs.Expressions.{arguments, sequence, assignment}
 use Rattle.language.specs.Derivation.{Placed, placed, pair_of, grouped}
 use Rattle.language.proofs.table.Begins.{goes_to}
 use Rattle.language.proofs.climbing.LeftmostParts.{operand_begins}
 use Rattle.language.proofs.climbing.OperatorNodes.{sequence_grows, kind_bare, none_bare}
+use Rattle.language.proofs.climbing.Suffixes.{arguments_fixed}
 use Rattle.language.proofs.table.RightEdges.{edged}
 use Rattle.language.proofs.list_loops.FirstPieces.{run_never, run_the_part, run_none}
-use Rattle.language.proofs.texts.TextOffsets.{text_determined}
+use Rattle.token_cursor.proofs.SeenTokens.{seen_determined}
 use Rattle.language.proofs.climbing.Wholes.{spells_expression}
-use Rattle.recursive_descent.specs.Soundness.{RunsIn, SpelledAs, assigned_at, target_at, fits_as, minds_in, PartAt}
+use Rattle.recursive_descent.specs.Soundness.{RunsIn, anywhere, SpelledAs, assigned_at, target_at, fits_as, minds_in, PartAt}
 use Rattle.recursive_descent.specs.SoundnessOfLists.{ListAt, SeenRight, ClosedBy, is_whole, whole_of, stood_in, item_pieces, several, asks_last}
 use Rattle.parser_tables.specs.Items.{group_node, group_shape, is_grouped, are_some, list_group}
 use Rattle.parser_tables.specs.Operands.{group_part}
 use Rattle.token_cursor.specs.Seen.{ReadsHere}
 use Rattle.recursive_descent.proofs.reading.Forward.{begins_mark}
 use Rattle.language.specs.Promises.{ReadBy}
-
-some_none : {A X : Type 0} {x : X} → Some x ≡ None → A
-some_none e = cc
+use Rattle.token_cursor.specs.SourceText.{SourceText, SeenNext, behind_in}
+use Rattle.recursive_descent.specs.Spelled.{SpellsIn}
 
 minds_number : (h z : ℕ) → IsTrue (takes_number h z) → nat_le z 14 ≡ true → nat_le h 14 ≡ true
 minds_number h z t l = grind (arith, nat_tests)
@@ -76,6 +74,16 @@ elements_bare f h (gap ps) = λ i. (pieces.absent ∷ sign "," ∷ cond (none_ba
 pub element_bare : (b : Bool) (n : Tree) → pattern_element b (bare n) ≡ pattern_element b n
 element_bare b (node k w g s e ps) = refl
 
+pub argument_bare : (n : Tree) → argument (bare n) ≡ argument n
+argument_bare (node k w g s e ps) = refl
+
+pub arguments_bare : (ps : Parts) → arguments (bare_parts ps) ≡ arguments ps
+arguments_bare ps = λ i. (sign "(" ∷ listed_bare argument argument_bare ps i) ++ sign ")" ∷ []
+
+-- arguments are the same wherever their node stands
+pub same_arguments : (y : Rank) (i : Bool) (f : Start) (ps : Parts) → goes_to y i f (arguments (bare_parts ps)) ≡ anywhere (arguments ps)
+same_arguments y i f ps = ap (λ qs. tok Punctuator (codes "(") ∷ qs) (arguments_fixed y i f (bare_parts ps)) ∙ ap (λ qs. goes_to Expression true Any (sign "(" ∷ (qs ++ sign ")" ∷ []))) (listed_bare argument argument_bare ps)
+
 pub goes_on : (y : Rank) (i : Bool) (f : Start) (qs rs : List Piece) → goes_to y i f (qs ++ rs) ≡ goes_to y i f qs ++ goes_to y i f rs
 goes_on y i f [] rs = refl
 goes_on y i f (q ∷ qs) rs = ap (λ x. settle_piece y i f q ∷ x) (goes_on y i f qs rs)
@@ -102,10 +110,10 @@ first_true : (a b : Bool) → (a && b) ≡ true → a ≡ true
 first_true true b h = refl
 first_true false b h = absurd (false≢true h)
 
-module _ (text : List ℕ) where
+module _ (text : SourceText) where
   -- the right edge of a group
   pub group_edge : {o : ℕ} {n : Tree} {s m e : Token} {P : List Pair} → SpellsIn text o (expr Expression true Any) n s m P → ReadsHere text Punctuator (codes ")") m e → Other ≡ edge_as_written (edge n) e
-  group_edge {n = n} {e = e} d sign = of (edge n) (edged Token (NextIn text any_goal) itself (text_determined text) d).ends (ap (λ w. is w ")") sign.text)
+  group_edge {n = n} {e = e} d sign = of (edge n) (edged Token (SeenNext text) (behind_in text) (seen_determined text) d).ends (ap (λ w. is w ")") sign.text)
     where
       of : (x : Edge) → (x ≡ Closed → ⊥) → is e.text ")" ≡ true → Other ≡ edge_as_written x e
       of Arrow h k = sym (ap (λ b. cond b Other Arrow) k)
@@ -136,27 +144,27 @@ module _ (text : List ℕ) where
       as_target false simple false h w = absurd (false≢true h)
 
   -- the expression in parentheses
-  inner_at : {o : ℕ} {m k : Token} {P : List Pair} (start end : ℕ) (ps : Parts) → are_some ps ≡ true → end ≡ k.stop → ((t e : Token) → ReadBy Token (NextIn text any_goal) itself RegExp m t e → start ≡ t.start) → RunsIn text o (stood_in Any listed.ParenthesizedItems (several assignment ps)) ps m k P →
+  inner_at : {o : ℕ} {m k : Token} {P : List Pair} (start end : ℕ) (ps : Parts) → are_some ps ≡ true → end ≡ k.stop → ((t e : Token) → ReadBy Token (SeenNext text) (behind_in text) RegExp m t e → start ≡ t.start) → RunsIn text o (stood_in Any listed.ParenthesizedItems (several assignment ps)) ps m k P →
       SpellsIn text o (expr Expression true Any) (group_node ps start end) m k P
   inner_at start end none some ends begins d = absurd (false≢true some)
-  inner_at start end (gap ps) some ends begins d = absurd (run_never Token (NextIn text any_goal) itself d)
+  inner_at start end (gap ps) some ends begins d = absurd (run_never Token (SeenNext text) (behind_in text) d)
   inner_at {o} {m} {k} {P} start end (part n none) some ends begins d =
-      let a = run_the_part Token (NextIn text any_goal) itself d in
-      let z = run_none Token (NextIn text any_goal) itself a.runs in
+      let a = run_the_part Token (SeenNext text) (behind_in text) d in
+      let z = run_none Token (SeenNext text) (behind_in text) a.runs in
       let pairs : P ≡ a.one = a.pairs ∙ ap (λ x. a.one ++ x) z.pairs ∙ append-nil a.one in
-      spells_expression Token (NextIn text any_goal) itself (text_determined text) (subst (λ x. SpellsIn text o (expr Assignment true Any) n m k x) (sym pairs) (subst (λ x. SpellsIn text o (expr Assignment true Any) n m x a.one) z.place a.spelled))
+      spells_expression Token (SeenNext text) (behind_in text) (seen_determined text) (subst (λ x. SpellsIn text o (expr Assignment true Any) n m k x) (sym pairs) (subst (λ x. SpellsIn text o (expr Assignment true Any) n m x a.one) z.place a.spelled))
   inner_at start end (part n (gap ps)) some ends begins d =
-      let a = run_the_part Token (NextIn text any_goal) itself d in
-      absurd (run_never Token (NextIn text any_goal) itself a.runs)
+      let a = run_the_part Token (SeenNext text) (behind_in text) d in
+      absurd (run_never Token (SeenNext text) (behind_in text) a.runs)
   inner_at {o} {m} {k} {P} start end (part n (part l ps)) some ends begins d =
-      let a = run_the_part Token (NextIn text any_goal) itself d in
-      let first = (operand_begins Token (NextIn text any_goal) itself (text_determined text) a.spelled).begins in
-      let whole : Placed Token (NextIn text any_goal) itself (expr Expression true Any) (node SequenceExpression [] plain start end (part n (part l ps))) m k = placed first.read.next (λ i. (sym (begins first.token first.mid first.read) i, sym ends i)) in
+      let a = run_the_part Token (SeenNext text) (behind_in text) d in
+      let first = (operand_begins Token (SeenNext text) (behind_in text) (seen_determined text) a.spelled).begins in
+      let whole : Placed Token (SeenNext text) (behind_in text) (expr Expression true Any) (node SequenceExpression [] plain start end (part n (part l ps))) m k = placed first.read.next (λ i. (sym (begins first.token first.mid first.read) i, sym ends i)) in
       subst (λ x. SpellsIn text o (expr Expression true Any) (node SequenceExpression [] plain start end (part n (part l ps))) m k x) (sym a.pairs)
-      (sequence_grows Token (NextIn text any_goal) itself refl refl a.spelled (subst (λ x. RunsIn text o (goes_to Expression true Any x) (part l ps) a.mid k a.more) (sym (sequence_bare (part l ps))) a.runs) whole)
+      (sequence_grows Token (SeenNext text) (behind_in text) refl refl a.spelled (subst (λ x. RunsIn text o (goes_to Expression true Any x) (part l ps) a.mid k a.more) (sym (sequence_bare (part l ps))) a.runs) whole)
 
   -- what is said of parentheses that hold a list
-  pub group_list : {i : Bool} {f : Start} (l : ListOf) {o : ℕ} {s m e : Token} {P : List Pair} → l.listed ≡ listed.ParenthesizedItems → is_grouped l ≡ true → SeenRight l → l.span.start ≡ m.start → ((t k : Token) → ReadBy Token (NextIn text any_goal) itself RegExp m t k → l.inside.start ≡ t.start) →
+  pub group_list : {i : Bool} {f : Start} (l : ListOf) {o : ℕ} {s m e : Token} {P : List Pair} → l.listed ≡ listed.ParenthesizedItems → is_grouped l ≡ true → SeenRight l → l.span.start ≡ m.start → ((t k : Token) → ReadBy Token (SeenNext text) (behind_in text) RegExp m t k → l.inside.start ≡ t.start) →
       ReadsHere text Punctuator (codes "(") s m → (w : ListAt text Any l o m e P) → PartAt text i f (list_group l) (suc o) s e (pair_of m e ∷ P)
   group_list {i} {f} l {o} {s} {m} {e} {P} is fits right begin inner left w =
       let value : l.seen.shape.is_expression ≡ true = last_true (are_some l.nodes) (not l.seen.has_comma) l.seen.shape.is_expression fits in

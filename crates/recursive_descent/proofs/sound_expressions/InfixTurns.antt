@@ -5,7 +5,6 @@ use Rattle.std.proofs.lemmas.Bool.{and_parts, false≢true, true≢false}
 use Rattle.std.proofs.lemmas.Slice.Eq.{bytes_eq-Decides}
 use Rattle.std.proofs.lemmas.Option.{none-some}
 use Rattle.source_text.specs.declared.fault.Fault.{Fault}
-use Rattle.tokens.specs.Reading.{any_goal}
 use Rattle.tokens.specs.Tokens.{LexicalToken}
 use Rattle.tokens.specs.declared.token.TokenClass.TheVariants.{IdentifierName, Punctuator}
 use Rattle.tokens.specs.declared.token.Goal.TheVariants.{Div}
@@ -31,15 +30,14 @@ use Rattle.language.specs.Token.{Token, as_read, table_text, is_token}
 use Rattle.language.specs.Edges.{last_edge, edge_as_written}
 use Rattle.language.specs.Expressions.{sequence}
 use Rattle.language.specs.Continuations.{operation, rank_made_by, holds}
-use Rattle.language.specs.Places.{NextIn, next_in, itself, SpellsIn}
-use Rattle.language.specs.Derivation.{step, within, token, laid}
+use Rattle.language.specs.Derivation.{step, within, token, laid, Reads}
 use Rattle.language.proofs.table.Begins.{goes_to}
 use Rattle.language.proofs.climbing.OperatorNodes.{postfix_grows, sequence_grows}
 use Rattle.language.proofs.climbing.SpineContinuations.{makes, steps_no_word}
 use Rattle.language.proofs.table.RightEdges.{edged}
 use Rattle.language.proofs.list_loops.FirstPieces.{run_never}
 use Rattle.language.proofs.table.OperatorTokens.{op_reads, reads_call, reads_chain, reads_comma, reads_dot}
-use Rattle.language.proofs.texts.TextOffsets.{text_determined}
+use Rattle.token_cursor.proofs.SeenTokens.{seen_determined}
 use Rattle.parser_tables.specs.declared.operand.Operand.{Operand}
 use Rattle.parser_tables.specs.declared.expression_context.ExpressionContext.{ExpressionContext}
 use Rattle.grammar.specs.declared.infix.BinaryOperator.{BinaryOperator}
@@ -57,10 +55,14 @@ use Rattle.parser_tables.specs.Operands.{plain_part}
 use Rattle.token_cursor.specs.Seen.{ReadsHere, Sees, Misses}
 use Rattle.parser_tables.specs.StatementNodes.{is_closed}
 use Rattle.recursive_descent.proofs.reading.AddedPairs.{adds_behind, adds_none}
-use Rattle.token_cursor.proofs.TokensAhead.{ahead_read, class_of, mark_missed}
+use Rattle.token_cursor.proofs.TokensAhead.{ahead_read, class_of, mark_missed, ahead_next}
 use Rattle.recursive_descent.proofs.sound_expressions.BinaryNodes.{own_text, sign_here, target_spelled}
 use Rattle.recursive_descent.proofs.reading.RemainingArms.{enclosed_ahead}
 use Rattle.recursive_descent.proofs.sound_expressions.ExpressionParts.{placed_at, value_part}
+use Rattle.token_cursor.specs.SourceText.{SourceText, SeenNext, behind_in, unseen}
+use Rattle.recursive_descent.specs.Spelled.{SpellsIn}
+use Rattle.recursive_descent.proofs.reading.SeenClasses.{as_here}
+use Rattle.language.specs.declared.Language.TheVariants.{Base}
 
 -- what the code has for an operator
 coded_same : {a b : Coded} → Some a ≡ Some b → a ≡ b
@@ -157,7 +159,7 @@ symbol_taken : (p : ExpressionContext) (x : Edge) (v : LexicalToken) {z : Rank} 
 symbol_taken p x v goes is = let g = goes_by p x (as_read v) goes in subst (λ (y : Rank). takes p.rank y ≡ true) (rank_same (sym is ∙ g.makes_it)) g.taken
 
 -- what was read at the position goes on as an expression does
-reads_on : {text : List ℕ} {p : ExpressionContext} {l r : Operand} {o : ℕ} {m e : Token} {Q : List Pair} → takes p.rank r.rank ≡ true → GoesOn text p.has_in l r o m e Q → ReadsOn text p l r o m e Q
+reads_on : {text : SourceText} {p : ExpressionContext} {l r : Operand} {o : ℕ} {m e : Token} {Q : List Pair} → takes p.rank r.rank ≡ true → GoesOn text p.has_in l r o m e Q → ReadsOn text p l r o m e Q
 reads_on {p = p} tk u s P v = record { taken = λ n. tk; part = u p.start s P v.part }
 
 -- an operator with a right side
@@ -168,15 +170,15 @@ sided_on s e old new p l v (Err fault) op goes a rank = tt
 
 -- a chain
 pub chain_there : (s : CursorState) (v : LexicalToken) {c : Coded} → IsAhead Div s.text s.last.stop v → coded_operator (operation (as_read v)) v.text ≡ Some c → c ≡ code.QuestionDot → Sees s.text Punctuator (codes "?.") s.last
-chain_there s v ahead op is = (as_read v, reads_chain Token (NextIn s.text any_goal) itself (next_in Div refl ahead.read) (chains_by (operation (as_read v)) v.text (op ∙ ap Some is)))
+chain_there s v ahead op is = (unseen (as_read v), as_here s.text (reads_chain Token (SeenNext s.text) (behind_in s.text) (ahead_next s.text Div s.last v ahead) (chains_by (operation (as_read v)) v.text (op ∙ ap Some is))))
 
 -- a member or a call
 pub dot_there : (s : CursorState) (v : LexicalToken) {c : Coded} → IsAhead Div s.text s.last.stop v → coded_operator (operation (as_read v)) v.text ≡ Some c → c ≡ code.Dot → Sees s.text Punctuator (codes ".") s.last
-dot_there s v ahead op is = (as_read v, reads_dot Token (NextIn s.text any_goal) itself (next_in Div refl ahead.read) (selects_by (operation (as_read v)) v.text (op ∙ ap Some is)))
+dot_there s v ahead op is = (unseen (as_read v), as_here s.text (reads_dot Token (SeenNext s.text) (behind_in s.text) (ahead_next s.text Div s.last v ahead) (selects_by (operation (as_read v)) v.text (op ∙ ap Some is))))
 
 pub call_there : (s : CursorState) (v : LexicalToken) {c : Coded} → IsAhead Div s.text s.last.stop v → coded_operator (operation (as_read v)) v.text ≡ Some c → c ≡ code.OpenParen → LinkedAt s s link.Arguments false
 call_there s v ahead op is =
-    let r : ReadsHere s.text Punctuator (codes "(") s.last (as_read v) = reads_call Token (NextIn s.text any_goal) itself (next_in Div refl ahead.read) (calls_by (operation (as_read v)) v.text (op ∙ ap Some is)) in
+    let r : Reads Token (SeenNext s.text) (behind_in s.text) Punctuator (codes "(") s.last (as_read v) (unseen (as_read v)) = reads_call Token (SeenNext s.text) (behind_in s.text) (ahead_next s.text Div s.last v ahead) (calls_by (operation (as_read v)) v.text (op ∙ ap Some is)) in
     enclosed_ahead link.Arguments s v refl ahead (linked_by v r.class r.text)
   where
     linked_by : (v : LexicalToken) → v.class ≡ Punctuator → (as_read v).text ≡ codes "(" → link_by v.class v.text ≡ Some link.Arguments
@@ -203,11 +205,11 @@ no_chain_sign t other = go (is_token Punctuator (codes "?.") t) refl
   where
     go : (b : Bool) → is_token Punctuator (codes "?.") t ≡ b → is_token Punctuator (codes "?.") t ≡ false
     go false e = e
-    go true e = let k = class_of [] Punctuator t.class (Rattle.std.specs.Str.bytes_eq t.text (codes "?.")) e in absurd (other (makes t k.0 ((bytes_eq-Decides t.text (codes "?.")).0 k.1) refl))
+    go true e = let k = class_of (record { bytes = []; language = Base }) Punctuator t.class (Rattle.std.specs.Str.bytes_eq t.text (codes "?.")) e in absurd (other (makes t k.0 ((bytes_eq-Decides t.text (codes "?.")).0 k.1) refl))
 
-not_optional : {text : List ℕ} {m : Token} (b : Bool) → cond b (Sees text Punctuator (codes "?.") m) (Misses text Punctuator (codes "?.") m) → Misses text Punctuator (codes "?.") m → b ≡ false
+not_optional : {text : SourceText} {m : Token} (b : Bool) → cond b (Sees text Punctuator (codes "?.") m) (Misses text Punctuator (codes "?.") m) → Misses text Punctuator (codes "?.") m → b ≡ false
 not_optional false h misses = refl
-not_optional true h misses = absurd (misses h.0 h.0 h.1)
+not_optional {text} true h misses = absurd (misses (behind_in text h.0) h.0 h.1)
 
 pub linked_reads : (s e : CursorState) (old new : List Pair) (p : ExpressionContext) (l : Operand) (v : LexicalToken) {c : Coded} (r : Result Operand Fault) → IsAhead Div s.text s.last.stop v → coded_operator (operation (as_read v)) v.text ≡ Some c → (c ≡ code.QuestionDot → ⊥) → stops_by p l.edge (as_read v) ≡ false →
     IfOk r (λ q. Adds s e old new (Links s.text l q)) → IfOk r (λ q. Adds s e old new (ReadsOn s.text p l q))
@@ -217,7 +219,7 @@ linked_reads s e old new p l v (Ok q) ahead op other goes a =
     adds_behind refl refl a (λ o Q u z P read.
     let plainly = not_optional (flags_of q.cover.node).optional u.optional misses in
     record {
-      taken = λ n. u.taken plainly (as_read v) p.rank g.symbol (ahead_read s.text Div s.last v ahead) g.makes_it (read.taken n) g.taken;
+      taken = λ n. u.taken plainly (as_read v) (unseen (as_read v)) p.rank g.symbol (ahead_read s.text Div s.last v ahead) g.makes_it (read.taken n) g.taken;
       part = u.onward plainly p.has_in p.start z P read.part;
     })
 linked_reads s e old new p l v (Err fault) ahead op other goes a = tt
@@ -263,20 +265,20 @@ same_sequence none = refl
 same_sequence (gap ps) = refl
 same_sequence (part n ps) = ap (λ (qs : List Piece). sign "," ∷ sp ∷ sub (tail Assignment Any) ∷ qs) (same_sequence ps)
 
-module _ (text : List ℕ) where
+module _ (text : SourceText) where
   -- `++` or `--` behind a simple target
   step_part : {i : Bool} {f : Start} {l : Operand} {o : ℕ} {s m e : Token} {P : List Pair} {w : List ℕ} → PartAt text i f l o s m P → shapes.is_target l.cover.shape.assigned ≡ true → operator_of w ≡ op_update → e.after_break ≡ false → ReadsHere text Punctuator w m e →
       PartAt text i f (plain_part (node UpdateExpression w plain l.start e.stop (part (pattern_tree l.cover.node) none)) Update Postfix) o s e (P ++ [])
   step_part {e = e} {w = w} first target op line read =
       let d = target_spelled text first target in
       value_part text refl first.begins (sym (ap (λ b. cond b Other Postfix) (ap (λ (v : List ℕ). is v ")") read.text ∙ step_sign w op))) refl (λ h. cc)
-      (λ h j t lo. postfix_grows Token (NextIn text any_goal) itself op d.0 t line d.1 read (placed_at text first.begins))
+      (λ h j t lo. postfix_grows Token (SeenNext text) (behind_in text) op d.0 t line d.1 read (placed_at text first.begins))
 
   -- the parts of a sequence from the first on, where those behind its comma are read
   second : {i : Bool} {f : Start} {o : ℕ} {n : Tree} {s m z e : Token} {P Q : List Pair} (ps : Parts) → SpellsIn text o (expr Assignment i f) n s m P → ReadsHere text Punctuator (codes ",") m z →
       RunsIn text o (goes_to Expression i f (several (sub (tail Assignment Any)) ps)) ps z e Q → RunsIn text o (goes_to Expression i f (two_or_more (sub (left Assignment)) (part n ps))) (part n ps) s e (P ++ Q)
-  second none d comma runs = absurd (run_never Token (NextIn text any_goal) itself runs)
-  second (gap ps) d comma runs = absurd (run_never Token (NextIn text any_goal) itself runs)
+  second none d comma runs = absurd (run_never Token (SeenNext text) (behind_in text) runs)
+  second (gap ps) d comma runs = absurd (run_never Token (SeenNext text) (behind_in text) runs)
   second (part k ps) d comma runs = within d (step (token comma) (step laid runs))
 
   so_far : {i : Bool} {f : Start} {l : Operand} {o : ℕ} {s m z : Token} {P : List Pair} → PartAt text i f l o s m P → l.cover.shape.is_expression ≡ true → IsTrue (takes Assignment l.rank) → ReadsHere text Punctuator (codes ",") m z →
@@ -287,19 +289,19 @@ module _ (text : List ℕ) where
   -- the whole
   sequence_spelled : (i : Bool) (f : Start) (ps : Parts) {at o : ℕ} {s e : Token} {P : List Pair} → Begins text at s → RunsIn text o (goes_to Expression i f (two_or_more (sub (left Assignment)) ps)) ps s e P →
       SpellsIn text o (expr Expression i f) (node SequenceExpression [] plain at e.stop ps) s e P
-  sequence_spelled i f none begins runs = absurd (run_never Token (NextIn text any_goal) itself runs)
-  sequence_spelled i f (gap ps) begins runs = absurd (run_never Token (NextIn text any_goal) itself runs)
-  sequence_spelled i f (part n none) begins runs = absurd (run_never Token (NextIn text any_goal) itself runs)
-  sequence_spelled i f (part n (gap ps)) begins runs = absurd (run_never Token (NextIn text any_goal) itself runs)
+  sequence_spelled i f none begins runs = absurd (run_never Token (SeenNext text) (behind_in text) runs)
+  sequence_spelled i f (gap ps) begins runs = absurd (run_never Token (SeenNext text) (behind_in text) runs)
+  sequence_spelled i f (part n none) begins runs = absurd (run_never Token (SeenNext text) (behind_in text) runs)
+  sequence_spelled i f (part n (gap ps)) begins runs = absurd (run_never Token (SeenNext text) (behind_in text) runs)
   sequence_spelled i f (part n (part k ps)) begins (step p d) = elim p [ ]
   sequence_spelled i f (part n (part k ps)) {o = o} {e = e} begins (within {m = m} {Q = Q} d runs) =
-      sequence_grows Token (NextIn text any_goal) itself refl refl d (subst (λ (qs : List Piece). RunsIn text o (goes_to Expression i f qs) (part k ps) m e Q) (sym (same_sequence (part k ps))) runs) (placed_at text begins)
+      sequence_grows Token (SeenNext text) (behind_in text) refl refl d (subst (λ (qs : List Piece). RunsIn text o (goes_to Expression i f qs) (part k ps) m e Q) (sym (same_sequence (part k ps))) runs) (placed_at text begins)
 
   sequence_part : {i : Bool} {f : Start} {at o : ℕ} {s e : Token} {P : List Pair} (ps : Parts) {x : Edge} → Begins text at s → RunsIn text o (goes_to Expression i f (two_or_more (sub (left Assignment)) ps)) ps s e P → x ≡ edge_as_written (last_edge ps) e →
       PartAt text i f (plain_part (node SequenceExpression [] plain at e.stop ps) Expression x) o s e P
   sequence_part {i} {f} {at} {o} {s} {e} {P} ps begins runs edge_is =
       let d = sequence_spelled i f ps begins runs in
-      let ends = edged Token (NextIn text any_goal) itself (text_determined text) d in
+      let ends = edged Token (SeenNext text) (behind_in text) (seen_determined text) d in
       value_part text refl begins edge_is (ap is_closed edge_is ∙ open_standing (last_edge ps) e ends.ends) (λ h. cc)
       (λ h j t lo. let only = expression_only h t in
       let same : j ≡ i = lo (ap minds_in only) in
@@ -316,24 +318,24 @@ module _ (text : List ℕ) where
 
 -- `++` and `--`
 pub step_reads : (s e : CursorState) (old new : List Pair) (p : ExpressionContext) (l : Operand) (v : LexicalToken) {c : Coded} (r : Operand) → coded_operator (operation (as_read v)) v.text ≡ Some c → c ≡ code.PostUpdate → stops_by p l.edge (as_read v) ≡ false → shapes.is_target l.cover.shape.assigned ≡ true →
-    NextIn s.text any_goal s.last e.last e.last → e.last ≡ as_read v → e.opened ≡ s.opened → new ≡ old → r ≡ plain_part (node UpdateExpression v.text plain l.start e.last.stop (part (pattern_tree l.cover.node) none)) Update Postfix → Adds s e old new (ReadsOn s.text p l r)
-step_reads s e old new p l v r op is goes target next token_is open_same same tree =
+    SeenNext s.text s.last (as_read v) e.last → e.opened ≡ s.opened → new ≡ old → r ≡ plain_part (node UpdateExpression v.text plain l.start e.last.stop (part (pattern_tree l.cover.node) none)) Update Postfix → Adds s e old new (ReadsOn s.text p l r)
+step_reads s e old new p l v r op is goes target next open_same same tree =
     let op' : operation (as_read v) ≡ op_update = steps_by (operation (as_read v)) v.text (op ∙ ap Some is) in
-    let here = sign_here s.text v next token_is op' (λ k. cc) (λ k. cc) in
+    let here = sign_here s.text v next op' (λ k. cc) (λ k. cc) in
     let sign : ReadsHere s.text Punctuator v.text s.last e.last = subst (λ b. ReadsHere s.text (cond b IdentifierName Punctuator) v.text s.last e.last) (steps_no_word v.text here.1) here.0 in
     let line : v.after_break ≡ false = same_line v.after_break (ap (λ x. rank_made_by x v.after_break) (sym op') ∙ (goes_by p l.edge (as_read v) goes).makes_it) in
     let low : rank_made_by (operation (as_read v)) v.after_break ≡ Some Update = ap (λ x. rank_made_by x v.after_break) op' ∙ ap (λ b. cond b None (Some Update)) line in
     adds_none open_same same (λ o. subst (λ (x : Operand). ReadsOn s.text p l x o s.last e.last []) (sym tree)
-    (reads_on (symbol_taken p l.edge v goes low) (λ f z P first. step_part s.text first target here.1 (ap (λ t. t.after_break) token_is ∙ line) sign)))
+    (reads_on (symbol_taken p l.edge v goes low) (λ f z P first. step_part s.text first target here.1 (ap (λ (t : Token). t.after_break) ((seen_determined s.text).last s.last (as_read v) e.last next) ∙ line) sign)))
 
 -- a sequence
 pub sequence_reads : (s m e : CursorState) (old mid new : List Pair) (p : ExpressionContext) (l : Operand) (v : LexicalToken) {c : Coded} (r : Operand) (first whole : ListOf) → coded_operator (operation (as_read v)) v.text ≡ Some c → c ≡ code.Comma → stops_by p l.edge (as_read v) ≡ false →
     first ≡ with_item (list_from (listed.Sequence p.has_in) l.start) (item_from l.cover.node l.cover.shape false l.edge) → (takes Assignment l.rank && l.cover.shape.is_expression) ≡ true → first.listed ≡ listed.Sequence p.has_in → whole.listed ≡ first.listed →
-    m.text ≡ s.text → m.opened ≡ s.opened → mid ≡ old → NextIn s.text any_goal s.last m.last m.last → m.last ≡ as_read v → Adds m e mid new (λ o a b Q. (f : Start) (z : Token) (P : List Pair) → SoFarAt m.text f first o z a P → ListAt m.text f whole o z b (P ++ Q)) →
+    m.text ≡ s.text → m.opened ≡ s.opened → mid ≡ old → SeenNext s.text s.last (as_read v) m.last → Adds m e mid new (λ o a b Q. (f : Start) (z : Token) (P : List Pair) → SoFarAt m.text f first o z a P → ListAt m.text f whole o z b (P ++ Q)) →
     r ≡ plain_part (node SequenceExpression [] plain l.start e.last.stop whole.nodes) Expression whole.seen.edge → Adds s e old new (ReadsOn s.text p l r)
-sequence_reads s m e old mid new p l v r first whole op is goes begun fits listed_is kept text open_same same next token_is rest tree =
+sequence_reads s m e old mid new p l v r first whole op is goes begun fits listed_is kept text open_same same next rest tree =
     let op' : operation (as_read v) ≡ op_comma = sequences_by (operation (as_read v)) v.text (op ∙ ap Some is) in
-    let comma : ReadsHere s.text Punctuator (codes ",") s.last m.last = reads_comma Token (NextIn s.text any_goal) itself next (ap operation token_is ∙ op') in
+    let comma : ReadsHere s.text Punctuator (codes ",") s.last m.last = as_here s.text (reads_comma Token (SeenNext s.text) (behind_in s.text) next op') in
     let both = and_parts (takes Assignment l.rank) l.cover.shape.is_expression fits in
     adds_behind open_same same rest (λ o Q d. subst (λ (x : Operand). ReadsOn s.text p l x o s.last e.last Q) (sym tree)
     (reads_on (symbol_taken p l.edge v goes (ap (λ x. rank_made_by x v.after_break) op')) (λ f z P before_it.

@@ -3,16 +3,14 @@ use Rattle.std.proofs.Common.{◌≡◌, ℕ, Bool, true, false, cond, List, [],
 use Rattle.std.specs.Prelude.{IsTrue, Some, None, codes, not, ◌&&◌}
 use Rattle.std.proofs.lemmas.Bool.{false≢true}
 use Rattle.std.proofs.lemmas.Option.{none-some}
-use Rattle.tokens.specs.Reading.{any_goal}
 use Rattle.tokens.specs.Tokens.{LexicalToken}
 use Rattle.tokens.specs.declared.token.TokenClass.{TokenClass}
 use Rattle.tokens.specs.declared.token.TokenClass.TheVariants.{IdentifierName, Punctuator, NumericLiteral, StringLiteral, RegularExpressionLiteral}
 use Rattle.token_cursor.specs.CursorState.{CursorState}
 use Rattle.tree.specs.declared.kind.Kind.{Kind}
-use Rattle.tree.specs.declared.kind.Kind.TheVariants.{Identifier, Literal, ThisExpression, ArrowFunctionExpression}
+use Rattle.tree.specs.declared.kind.Kind.TheVariants.{Identifier, Literal, ThisExpression}
 use Rattle.tree.specs.declared.kind.Pair.{Pair}
-use Rattle.tree.specs.Tree.{Tree, node, plain, Parts, part, none, push, bare}
-use Rattle.tree.specs.Uses.{is_lean}
+use Rattle.tree.specs.Tree.{Tree, node, plain, Parts, part, none, push}
 use Rattle.covers.specs.Shapes.{is_element}
 use Rattle.covers.specs.Shapes as shapes
 use Rattle.covers.specs.declared.shape.TargetForm.TheVariants as assigned
@@ -25,21 +23,20 @@ use Rattle.language.specs.Vocabulary.{is, among, takes, is_identifier, is_reserv
 use Rattle.language.specs.Covers.{as_pattern}
 use Rattle.language.specs.Pieces.{Role, expr, name, directive_string, tok, put, at, fixed, Spelling}
 use Rattle.language.specs.Token.{Token, as_read, table_text}
-use Rattle.language.specs.ExpressionStart.{ExpressionStart, with_name, with_literal, with_this, with_bracket, with_brace, with_function, with_class, with_template, with_parenthesis, with_super, with_new, with_import, with_step, with_word, with_sign, no_start, expression_start}
+use Rattle.language.specs.ExpressionStart.{ExpressionStart, with_name, with_literal, with_this, with_bracket, with_brace, with_function, with_class, with_template, with_parenthesis, with_super, with_new, with_import, with_step, with_word, with_sign, no_start, expression_start, with_yield, with_private_name}
 use Rattle.language.specs.Expressions.{arrow_end}
 use Rattle.language.specs.Grammar.{starts, spellings}
-use Rattle.language.specs.Places.{NextIn, itself, SpellsIn}
 use Rattle.language.specs.Derivation.{direct, step, token, done, within, placed, first}
 use Rattle.language.proofs.table.NodeForms.{identifier, literal, this, short_arrow}
 use Rattle.language.proofs.table.Begins.{among_by}
 use Rattle.language.proofs.lower_bound.Domination.{settled}
 use Rattle.language.proofs.climbing.Leaves.{name_found}
 use Rattle.language.proofs.table.Productions.{spell, way_from, in_true, starts_led}
-use Rattle.language.proofs.texts.TextOffsets.{text_determined}
+use Rattle.token_cursor.proofs.SeenTokens.{seen_determined}
 use Rattle.parser_tables.specs.declared.operand.Operand.{Operand}
 use Rattle.parser_tables.specs.declared.expression_context.ExpressionContext.{ExpressionContext}
 use Rattle.parser_tables.specs.declared.expression_starts.ExpressionStart.TheVariants as code
-use Rattle.parser_tables.specs.ExpressionStarts.{coded_start}
+use Rattle.parser_tables.specs.ExpressionStarts.{coded_start, coded_in}
 use Rattle.recursive_descent.specs.Soundness.{RunsIn, Adds, Begins, SpelledAs, assigned_at, fits_as, PartAt, ReadAt, ArrowAt}
 use Rattle.parser_tables.specs.Operands.{plain_part}
 use Rattle.token_cursor.specs.Seen.{ReadsHere}
@@ -50,6 +47,12 @@ use Rattle.recursive_descent.proofs.sound_expressions.StartsByToken.{name_of, th
 use Rattle.recursive_descent.proofs.sound_expressions.ExpressionStarts.{loose_primary}
 use Rattle.recursive_descent.proofs.sound_expressions.Parenthesized.{arrow_part, lean_arrow, end_same}
 use Rattle.recursive_descent.proofs.sound_expressions.ExpressionParts.{placed_at, value_part}
+use Rattle.token_cursor.specs.SourceText.{SourceText, SeenNext, behind_in}
+use Rattle.recursive_descent.specs.Spelled.{SpellsIn}
+use Rattle.recursive_descent.proofs.sound_expressions.ArrowFunctions.{flagged}
+use Rattle.recursive_descent.proofs.sound_expressions.CodedStarts.{coded_plain}
+use Rattle.recursive_descent.proofs.reading.SeenClasses.{as_here}
+use Rattle.tree.specs.declared.kind.Form.TheVariants as form
 
 starts_name : (f : Start) (w : List ℕ) → is_reserved w ≡ false → starts f (tok IdentifierName w ∷ []) ≡ true
 unfolding is_reserved
@@ -123,14 +126,14 @@ token_literal f c w h k =
       begins = ap (λ x. starts f (tok x w ∷ [])) class ∙ starts_token f c w h;
     }
 
-module _ (text : List ℕ) where
+module _ (text : SourceText) where
   -- a name
   name_at : {o : ℕ} {h : Rank} {j : Bool} {f : Start} {w : List ℕ} {s m : Token} → ReadsHere text IdentifierName w s m → is_reserved w ≡ false → IsTrue (takes h Primary) → SpellsIn text o (expr h j f) (node Identifier w plain m.start m.stop none) s m []
-  name_at {f = f} {w} r free tk = spell Token (NextIn text any_goal) itself (at Primary (tok IdentifierName w ∷ [])) (identifier free) refl tk refl (starts_name f w free) (placed r.next refl) (step (token r) done)
+  name_at {f = f} {w} r free tk = spell Token (SeenNext text) (behind_in text) (at Primary (tok IdentifierName w ∷ [])) (identifier free) refl tk refl (starts_name f w free) (placed r.next refl) (step (token r) done)
 
-  name_part : {i : Bool} {f : Start} {w : List ℕ} {o : ℕ} {s m : Token} → ReadsHere text IdentifierName w s m → is_reserved w ≡ false → PartAt text i f (plain_part (node Identifier w plain m.start m.stop none) Primary Other) o s m []
+  pub name_part : {i : Bool} {f : Start} {w : List ℕ} {o : ℕ} {s m : Token} → ReadsHere text IdentifierName w s m → is_reserved w ≡ false → PartAt text i f (plain_part (node Identifier w plain m.start m.stop none) Primary Other) o s m []
   name_part {i} {f} {w} {o} {s} {m} r free = record {
-    begins = record { token = m; next = r.next; start = refl };
+    begins = record { token = behind_in text m; place = m; next = r.next; start = refl };
     edge = refl;
     goes_on = refl;
     stands = λ v h j tk lo. name_at r free tk;
@@ -140,7 +143,7 @@ module _ (text : List ℕ) where
   }
     where
       bound : SpellsIn text o name (node Identifier w plain m.start m.stop none) s m []
-      bound = (name_found Token (NextIn text any_goal) itself (text_determined text) {o = o} r free).spelled
+      bound = (name_found Token (SeenNext text) (behind_in text) (seen_determined text) {o = o} r free).spelled
 
       as_name : (b : Bool) → fits_as shapes.name (as_pattern b) ≡ true → (assigned.Target ≡ assigned.Defaulted → (f ≡ Any) × (i ≡ true)) → SpelledAs (assigned_at assigned.Target f b) text o (node Identifier w plain m.start m.stop none) s m []
       as_name true h d = record { role = name; it_is = refl; spelled = bound }
@@ -148,8 +151,8 @@ module _ (text : List ℕ) where
 
   -- `this`
   this_part : {i : Bool} {f : Start} {o : ℕ} {s m : Token} → ReadsHere text IdentifierName (codes "this") s m → PartAt text i f (plain_part (node ThisExpression [] plain m.start m.stop none) Primary Other) o s m []
-  this_part {f = f} r = value_part text refl (record { token = _; next = r.next; start = refl }) refl refl (λ h. cc)
-      (λ h j tk lo. spell Token (NextIn text any_goal) itself (at Primary (tok IdentifierName (codes "this") ∷ [])) this refl tk refl (starts_this f) (placed r.next refl) (step (token r) done))
+  this_part {f = f} {m = m} r = value_part text refl (record { token = behind_in text m; place = m; next = r.next; start = refl }) refl refl (λ h. cc)
+      (λ h j tk lo. spell Token (SeenNext text) (behind_in text) (at Primary (tok IdentifierName (codes "this") ∷ [])) this refl tk refl (starts_this f) (placed r.next refl) (step (token r) done))
 
   -- a string, alone
   quoted_at : {o : ℕ} {w : List ℕ} {s m : Token} → ReadsHere text StringLiteral w s m → is_string (literal_class w) ≡ true → SpellsIn text o directive_string (node Literal w plain m.start m.stop none) s m []
@@ -162,10 +165,10 @@ module _ (text : List ℕ) where
   -- a literal
   literal_part : {i : Bool} {f : Start} {c : TokenClass} {w v : List ℕ} {o : ℕ} {s m : Token} → LiteralRead f c w v → ReadsHere text c v s m → PartAt text i f (plain_part (node Literal w plain m.start m.stop none) Primary Other) o s m []
   literal_part {i} {f} {c} {w} {v} {o} {s} {m} l r = record {
-    begins = record { token = m; next = r.next; start = refl };
+    begins = record { token = behind_in text m; place = m; next = r.next; start = refl };
     edge = refl;
     goes_on = refl;
-    stands = λ x h j tk lo. spell Token (NextIn text any_goal) itself (at Primary (tok (literal_class w) w ∷ [])) (literal l.free) refl tk refl l.begins (placed r.next refl) (step (token here) done);
+    stands = λ x h j tk lo. spell Token (SeenNext text) (behind_in text) (at Primary (tok (literal_class w) w ∷ [])) (literal l.free) refl tk refl l.begins (placed r.next refl) (step (token here) done);
     assigned = λ b fits d. absurd (no_pattern b fits);
     bare = λ a h is. as_quoted a (is_string (literal_class w)) refl is;
     newly = λ h. cc;
@@ -201,36 +204,41 @@ single_begun with_parenthesis k h = cc
 single_begun with_super k h = cc
 single_begun with_new k h = cc
 single_begun with_import k h = cc
+single_begun with_yield k h = cc
+single_begun with_private_name k h = cc
 single_begun with_step k h = cc
 single_begun with_word k h = cc
 single_begun with_sign k h = cc
 single_begun no_start k h = cc
 
-pub single_read : (s m : CursorState) {old mid : List Pair} (p : ExpressionContext) (t : LexicalToken) (k : Kind) → m.opened ≡ s.opened → mid ≡ old → NextIn s.text any_goal s.last m.last m.last → m.last ≡ as_read t → coded_start (expression_start (as_read t)) ≡ Some (code.OneToken k) →
+pub single_read : (s m : CursorState) {old mid : List Pair} (p : ExpressionContext) (t : LexicalToken) (k : Kind) → m.opened ≡ s.opened → mid ≡ old → SeenNext s.text s.last (as_read t) m.last → coded_in s.text.language (as_read t) ≡ Some (code.OneToken k) →
     Adds s m old mid (ReadAt s.text p (plain_part (single_node k t) Primary Other))
-single_read s m {old} {mid} p t k open_same same next token_is coded = adds_none open_same same (λ o. record { taken = loose_primary p.rank; part = of (single_begun (expression_start (as_read t)) k coded) refl })
+single_read s m {old} {mid} p t k open_same same next coded = adds_none open_same same (λ o. record { taken = loose_primary p.rank; part = of (single_begun (expression_start (as_read t)) k (coded_plain s.text.language (expression_start (as_read t)) (as_read t).text (code.OneToken k) coded refl)) refl })
   where
     here : ReadsHere s.text t.class (table_text t.class t.text) s.last m.last
-    here = record { next = next; class = ap (λ (x : Token). x.class) token_is; text = ap (λ (x : Token). x.text) token_is }
+    here = as_here s.text (record { next = next; class = refl; text = refl })
+
+    shown : behind_in s.text m.last ≡ as_read t
+    shown = (seen_determined s.text).last s.last (as_read t) m.last next
 
     of : {o : ℕ} {x : ExpressionStart} {k : Kind} → SingleBegun x k → expression_start (as_read t) ≡ x → PartAt s.text p.has_in p.start (plain_part (single_node k t) Primary Other) o s.last m.last []
     of {o} a_name opens =
         let by = name_of t.class (as_read t).text opens in
         let same_text : (as_read t).text ≡ t.text = ap (λ x. table_text x t.text) by.0 in
-        subst (λ (x : Token). PartAt s.text p.has_in p.start (plain_part (node Identifier t.text plain x.start x.stop none) Primary Other) o s.last m.last []) token_is
+        subst (λ (x : Token). PartAt s.text p.has_in p.start (plain_part (node Identifier t.text plain x.start x.stop none) Primary Other) o s.last m.last []) shown
         (name_part s.text (subst (λ c. ReadsHere s.text c t.text s.last m.last) by.0 (subst (λ w. ReadsHere s.text t.class w s.last m.last) same_text here)) (ap is_reserved (sym same_text) ∙ by.1))
     of {o} a_this opens =
         let by = this_of t.class (as_read t).text opens in
         let this_text : (as_read t).text ≡ codes "this" = among_by (λ v. v ≡ codes "this") (as_read t).text ("this" ∷ []) by.1 (refl, tt) in
-        subst (λ (x : Token). PartAt s.text p.has_in p.start (plain_part (node ThisExpression [] plain x.start x.stop none) Primary Other) o s.last m.last []) token_is
+        subst (λ (x : Token). PartAt s.text p.has_in p.start (plain_part (node ThisExpression [] plain x.start x.stop none) Primary Other) o s.last m.last []) shown
         (this_part s.text (subst (λ c. ReadsHere s.text c (codes "this") s.last m.last) by.0 (subst (λ w. ReadsHere s.text t.class w s.last m.last) this_text here)))
     of {o} a_literal opens =
-        subst (λ (x : Token). PartAt s.text p.has_in p.start (plain_part (node Literal t.text plain x.start x.stop none) Primary Other) o s.last m.last []) token_is
+        subst (λ (x : Token). PartAt s.text p.has_in p.start (plain_part (node Literal t.text plain x.start x.stop none) Primary Other) o s.last m.last []) shown
         (literal_part s.text (which (literal_of t.class (as_read t).text opens)) here)
       where
         which : LiteralBy t.class (as_read t).text → LiteralRead p.start t.class t.text (table_text t.class t.text)
         which (a_word c w) = word_literal p.start t.class t.text c w
-        which (a_token c) = token_literal p.start t.class t.text c (literal_read (subst (λ (x : Token). NextIn s.text any_goal s.last x x) token_is next) c)
+        which (a_token c) = token_literal p.start t.class t.text c (literal_read next c)
 
 -- the kind of a name
 pub name_kind : (k : Kind) → is_identifier k ≡ true → k ≡ Identifier
@@ -238,18 +246,18 @@ name_kind Identifier h = refl
 name_kind _ h = absurd (false≢true h)
 
 -- an arrow function whose parameter is a name
-pub name_arrow : (s m e : CursorState) {old mid new : List Pair} (p : ExpressionContext) (t : LexicalToken) (k : Kind) (ps : Parts) (from : ℕ) (r : Operand) (x : Token) → m.text ≡ s.text → m.opened ≡ s.opened → mid ≡ old → NextIn s.text any_goal s.last m.last m.last → m.last ≡ as_read t → coded_start (expression_start (as_read t)) ≡ Some (code.OneToken k) → k ≡ Identifier →
-    ps ≡ part (single_node k t) none → from ≡ t.start → ReadsHere m.text Punctuator (codes "=>") m.last x → x.after_break ≡ false → takes p.rank Assignment ≡ true → Adds m e mid new (ArrowAt m.text p.has_in ps from r) → Adds s e old new (ReadAt s.text p r)
-name_arrow s m e {old} {mid} {new} p t k ps from r x text open_same same next token_is coded is_name_kind given begin sign line tk a =
+pub name_arrow : (s m e : CursorState) {old mid new : List Pair} (p : ExpressionContext) (t : LexicalToken) (k : Kind) (ps : Parts) (from : ℕ) (r : Operand) (x : Token) → m.text ≡ s.text → m.opened ≡ s.opened → mid ≡ old → SeenNext s.text s.last (as_read t) m.last → coded_in s.text.language (as_read t) ≡ Some (code.OneToken k) → k ≡ Identifier →
+    ps ≡ part (single_node k t) none → from ≡ t.start → ReadsHere m.text Punctuator (codes "=>") m.last x → x.after_break ≡ false → takes p.rank Assignment ≡ true → Adds m e mid new (ArrowAt m.text form.Init p.has_in ps from r) → Adds s e old new (ReadAt s.text p r)
+name_arrow s m e {old} {mid} {new} p t k ps from r x text open_same same next coded is_name_kind given begin sign line tk a =
     adds_behind open_same same a (λ o Q w.
-    let v : ArrowAt s.text p.has_in parameters t.start r o m.last e.last Q = subst (λ y. ArrowAt s.text p.has_in parameters y r o m.last e.last Q) begin (subst (λ y. ArrowAt s.text p.has_in y from r o m.last e.last Q) (given ∙ ap (λ y. part (single_node y t) none) is_name_kind) (subst (λ y. ArrowAt y p.has_in ps from r o m.last e.last Q) text w)) in
+    let v : ArrowAt s.text form.Init p.has_in parameters t.start r o m.last e.last Q = subst (λ y. ArrowAt s.text form.Init p.has_in parameters y r o m.last e.last Q) begin (subst (λ y. ArrowAt s.text form.Init p.has_in y from r o m.last e.last Q) (given ∙ ap (λ y. part (single_node y t) none) is_name_kind) (subst (λ y. ArrowAt y form.Init p.has_in ps from r o m.last e.last Q) text w)) in
     record { taken = λ h. subst (λ y. IsTrue (takes p.rank y)) (sym v.rank) tk; part = whole o Q v })
   where
     parameters : Parts
     parameters = part (single_node Identifier t) none
 
     opens : expression_start (as_read t) ≡ with_name
-    opens = of (expression_start (as_read t)) (coded ∙ ap (λ y. Some (code.OneToken y)) is_name_kind)
+    opens = of (expression_start (as_read t)) (coded_plain s.text.language (expression_start (as_read t)) (as_read t).text (code.OneToken k) coded refl ∙ ap (λ y. Some (code.OneToken y)) is_name_kind)
       where
         of : (y : ExpressionStart) → coded_start y ≡ Some (code.OneToken Identifier) → y ≡ with_name
         of with_name h = refl
@@ -264,27 +272,29 @@ name_arrow s m e {old} {mid} {new} p t k ps from r x text open_same same next to
         of with_super h = cc
         of with_new h = cc
         of with_import h = cc
+        of with_yield h = cc
+        of with_private_name h = cc
         of with_step h = cc
         of with_word h = cc
         of with_sign h = cc
         of no_start h = cc
 
     begins : Begins s.text t.start s.last
-    begins = record { token = m.last; next = next; start = ap (λ (y : Token). y.start) token_is }
+    begins = record { token = as_read t; place = m.last; next = next; start = refl }
 
-    on_line : (u y : Token) → NextIn s.text any_goal m.last u y → u.after_break ≡ false
+    on_line : (u y : Token) → SeenNext s.text m.last u y → u.after_break ≡ false
     on_line u y n = let here_sign : ReadsHere s.text Punctuator (codes "=>") m.last x = subst (λ z. ReadsHere z Punctuator (codes "=>") m.last x) text sign in
-        (text_determined s.text).break m.last u x y x n here_sign.next ∙ line
+        (seen_determined s.text).break m.last u (behind_in s.text x) y x n here_sign.next ∙ line
 
     bound : (o : ℕ) → SpellsIn s.text o name (single_node Identifier t) s.last m.last []
     bound o =
         let by = name_of t.class (as_read t).text opens in
         let same_text : (as_read t).text ≡ t.text = ap (λ y. table_text y t.text) by.0 in
-        let here : ReadsHere s.text IdentifierName t.text s.last m.last = record { next = next; class = ap (λ (y : Token). y.class) token_is ∙ by.0; text = ap (λ (y : Token). y.text) token_is ∙ same_text } in
-        subst (λ (y : Token). SpellsIn s.text o name (node Identifier t.text plain y.start y.stop none) s.last m.last []) token_is (name_found Token (NextIn s.text any_goal) itself (text_determined s.text) {o = o} here (ap is_reserved (sym same_text) ∙ by.1)).spelled
+        let here : ReadsHere s.text IdentifierName t.text s.last m.last = as_here s.text (record { next = next; class = by.0; text = same_text }) in
+        subst (λ (y : Token). SpellsIn s.text o name (node Identifier t.text plain y.start y.stop none) s.last m.last []) ((seen_determined s.text).last s.last (as_read t) m.last next) (name_found Token (SeenNext s.text) (behind_in s.text) (seen_determined s.text) {o = o} here (ap is_reserved (sym same_text) ∙ by.1)).spelled
 
-    whole : (o : ℕ) (Q : List Pair) → ArrowAt s.text p.has_in parameters t.start r o m.last e.last Q → PartAt s.text p.has_in p.start r o s.last e.last Q
-    whole o Q v = arrow_part s.text v begins (λ n u g h j lean tree tk same runs.
+    whole : (o : ℕ) (Q : List Pair) → ArrowAt s.text form.Init p.has_in parameters t.start r o m.last e.last Q → PartAt s.text p.has_in p.start r o s.last e.last Q
+    whole o Q v = arrow_part s.text v begins (λ n u b h j tree tk same runs.
         subst (λ y. SpellsIn s.text o (expr h j p.start) y s.last e.last Q) (sym tree)
-        (spell Token (NextIn s.text any_goal) itself (at Assignment (put name ∷ arrow_end g)) (short_arrow refl) (ap (λ y. is_lean (bare (node ArrowFunctionExpression [] y t.start e.last.stop (push parameters u)))) lean ∙ lean_arrow s.text g.expression t.start e.last.stop (push parameters u)) tk refl (starts_led p.start (fixed name) (arrow_end g)) (placed_at s.text begins)
-        (within (bound o) (subst (λ qs. RunsIn s.text o qs (part u none) m.last e.last Q) (end_same s.text h j p.start g) runs)))) on_line
+        (spell Token (SeenNext s.text) (behind_in s.text) (at Assignment (put name ∷ arrow_end (flagged form.Init b))) (short_arrow refl) (lean_arrow s.text form.Init b t.start e.last.stop (push parameters u)) tk refl (starts_led p.start (fixed name) (arrow_end (flagged form.Init b))) (placed_at s.text begins)
+        (within (bound o) (subst (λ qs. RunsIn s.text o qs (part u none) m.last e.last Q) (end_same s.text h j p.start form.Init b) runs)))) on_line

@@ -6,14 +6,12 @@ use Rattle.std.proofs.lemmas.Bool.{false≢true}
 use Rattle.std.proofs.lemmas.Bool.Decides.{nat_tests}
 use Rattle.std.proofs.lemmas.List.{length-append, set_at}
 use Rattle.source_text.specs.declared.fault.Fault.{Fault}
-use Rattle.tokens.specs.Reading.{any_goal}
 use Rattle.tokens.specs.declared.token.TokenClass.TheVariants.{Punctuator}
 use Rattle.tokens.specs.declared.token.Goal.TheVariants.{RegExp}
 use Rattle.token_cursor.specs.CursorState.{CursorState}
 use Rattle.tree.specs.declared.kind.Kind.TheVariants.{ArrowFunctionExpression}
-use Rattle.tree.specs.declared.kind.Flags.{Flags}
 use Rattle.tree.specs.declared.kind.Pair.{Pair}
-use Rattle.tree.specs.Tree.{Tree, node, plain, Parts, none, part, gap, push, join, bare, bare_parts, height, parts_height}
+use Rattle.tree.specs.Tree.{Tree, node, Parts, none, part, gap, push, join, bare, bare_parts, height, parts_height}
 use Rattle.tree.specs.Uses.{is_lean}
 use Rattle.covers.specs.declared.list.ListKind.TheVariants as listed
 use Rattle.covers.specs.declared.list.ListBuilder.{ListBuilder as ListOf}
@@ -30,7 +28,6 @@ use Rattle.language.specs.Pieces.{Role, expr, Piece, at, settle_piece, sign, lis
 use Rattle.language.specs.Token.{Token}
 use Rattle.language.specs.Expressions.{arrow_end}
 use Rattle.language.specs.Grammar.{starts}
-use Rattle.language.specs.Places.{NextIn, itself, SpellsIn}
 use Rattle.language.specs.Promises.{ReadBy}
 use Rattle.language.specs.Derivation.{opened, closed, token, pair_of}
 use Rattle.language.proofs.table.NodeForms.{arrow}
@@ -40,7 +37,7 @@ use Rattle.language.proofs.climbing.Groups.{takes_group}
 use Rattle.language.proofs.list_loops.ParameterLists.{parameter_list, Closer, parameters_join}
 use Rattle.language.proofs.table.Productions.{spell}
 use Rattle.language.proofs.list_loops.FirstPieces.{run_closed}
-use Rattle.language.proofs.texts.TextOffsets.{text_determined}
+use Rattle.token_cursor.proofs.SeenTokens.{seen_determined}
 use Rattle.parser_tables.specs.declared.operand.Operand.{Operand}
 use Rattle.parser_tables.specs.declared.expression_context.ExpressionContext.{ExpressionContext}
 use Rattle.recursive_descent.specs.Soundness.{RunsIn, Adds, Begins, fits_as, bare_role, PartAt, ReadAt, ArrowAt, grouping}
@@ -50,11 +47,15 @@ use Rattle.parser_tables.specs.Items.{group_node, group_levels, is_grouped, are_
 use Rattle.parser_tables.specs.Outcomes.{BeginsBy, YieldsWhere}
 use Rattle.token_cursor.specs.CursorState.{IsPlaceHere}
 use Rattle.token_cursor.specs.Seen.{ReadsHere}
-use Rattle.recursive_descent.proofs.sound_expressions.ArrowFunctions.{join_one}
+use Rattle.recursive_descent.proofs.sound_expressions.ArrowFunctions.{join_one, flagged}
 use Rattle.recursive_descent.proofs.reading.AddedPairs.{runs_on, grouping_both}
 use Rattle.recursive_descent.proofs.reading.Forward.{begins_mark, mark_long, next_forward, runs_forward, place_mark}
 use Rattle.recursive_descent.proofs.sound_expressions.GroupContents.{group_list, listed_bare, element_bare, goes_on, assignment_minds, and_three}
 use Rattle.recursive_descent.proofs.sound_expressions.ExpressionParts.{placed_at}
+use Rattle.token_cursor.specs.SourceText.{SourceText, SeenNext, behind_in}
+use Rattle.recursive_descent.specs.Spelled.{SpellsIn}
+use Rattle.tree.specs.declared.kind.Form.{Form}
+use Rattle.tree.specs.declared.kind.Form.TheVariants as form
 
 -- what is made, where it fits
 pub yields_ok : {X : Type 0} (x : X) (At : ℕ → Type 0) (fits : Bool) (levels high : ℕ) (B : X → Type 0) (r : Result X Fault) → YieldsWhere x At fits levels high r → (fits ≡ true → levels ≤ high → B x) → IfOk r B
@@ -66,7 +67,7 @@ ok_map A B (Ok x) h f = f x h
 ok_map A B (Err e) h f = tt
 
 -- nothing of what parentheses hold so far
-covers_so_far : (text : List ℕ) (from o : ℕ) (m : Token) → SoFarAt text Any (list_from listed.ParenthesizedItems from) o m m []
+covers_so_far : (text : SourceText) (from o : ℕ) (m : Token) → SoFarAt text Any (list_from listed.ParenthesizedItems from) o m m []
 covers_so_far text from o m as_expression fits = λ ps e Q d. d
 covers_so_far text from o m (as_pattern b) fits = λ ps e Q d. d
 
@@ -74,14 +75,14 @@ covers_seen : (from : ℕ) → SeenRight (list_from listed.ParenthesizedItems fr
 covers_seen from = record { together = refl; target = λ n is h v t. cc; one_default = refl }
 
 -- What was read from the opening parenthesis to the closing one.
-pub record InParens (text : List ℕ) (s m e : Token) (less : ℕ) (l : ListOf) (old new : List Pair) : Type 0 where
+pub record InParens (text : SourceText) (s m e : Token) (less : ℕ) (l : ListOf) (old new : List Pair) : Type 0 where
   pub more : List Pair
   pub pairs : new ≡ old ++ more
   pub left : ReadsHere text Punctuator (codes "(") s m
   pub span : l.span.start ≡ m.start
   pub is : l.listed ≡ listed.ParenthesizedItems
   pub right : SeenRight l
-  pub inner : (t k : Token) → ReadBy Token (NextIn text any_goal) itself RegExp m t k → l.inside.start ≡ t.start
+  pub inner : (t k : Token) → ReadBy Token (SeenNext text) (behind_in text) RegExp m t k → l.inside.start ≡ t.start
   pub list : ListAt text Any l less m e (grouping more)
 
 pub in_parens : (s0 s1 s2 s3 : CursorState) {p1 p2 p3 : List Pair} (l0 l : ListOf) → s1.text ≡ s0.text → s1.last ≡ s0.last → s2.text ≡ s1.text → s2.opened ≡ s1.opened → p2 ≡ p1 → l0.listed ≡ listed.ParenthesizedItems → BegunAt s1 s2 l0 →
@@ -99,7 +100,7 @@ in_parens s0 s1 s2 s3 l0 l text last text2 opened2 same is begun a kept seen inn
         span = kept.1 ∙ place_mark s1 begun.0 here.0;
         is = kept.0 ∙ is;
         right = seen (subst SeenRight (sym empty) (covers_seen l0.span.start));
-        inner = subst (λ x. (t k : Token) → ReadBy Token (NextIn x any_goal) itself RegExp s2.last t k → l.inside.start ≡ t.start) texts (inner is);
+        inner = subst (λ x. (t k : Token) → ReadBy Token (SeenNext x) (behind_in x) RegExp s2.last t k → l.inside.start ≡ t.start) texts (inner is);
         list = subst (λ x. ListAt x Any l (max_open - s1.opened) s2.last s3.last (grouping a.more)) texts (subst (λ x. ListAt s2.text Any l (max_open - x) s2.last s3.last (grouping a.more)) opened2 d);
       },
       a.same_open ∙ opened2,
@@ -164,18 +165,18 @@ first_low s e l high is begun =
     let flat : parts_height l.nodes ≡ 0 = ap (λ (x : ListOf). parts_height x.nodes) (begun.1 (codes "(") (ap opening is)).1 in
     omega arith
 
-module _ (text : List ℕ) where
+module _ (text : SourceText) where
   -- an arrow, from what spells it
-  pub arrow_part : {i : Bool} {f : Start} {ps : Parts} {from o o' : ℕ} {r : Operand} {s k e : Token} {P Q : List Pair} → ArrowAt text i ps from r o' k e Q → Begins text from s →
-      ((n u : Tree) (g : Flags) (h : Rank) (j : Bool) → g ≡ record plain { expression = g.expression } → n ≡ node ArrowFunctionExpression [] g from e.stop (push ps u) → IsTrue (takes h Assignment) → j ≡ i → RunsIn text o' (map (settle_piece Assignment j Any) (arrow_end g)) (part u none) k e Q → SpellsIn text o (expr h j f) n s e P) →
-      ((t x : Token) → NextIn text any_goal k t x → t.after_break ≡ false) → PartAt text i f r o s e P
-  arrow_part {i} {f} {ps} {from} {o} {r = r} {s} {k} {e} {P} w begins spelled line = record {
-    begins = subst (λ x. Begins text x s) (sym w.start) begins;
+  pub arrow_part : {x : Form} {i : Bool} {f : Start} {ps : Parts} {from o o' : ℕ} {r : Operand} {s k e : Token} {P Q : List Pair} → ArrowAt text x i ps from r o' k e Q → Begins text from s →
+      ((n u : Tree) (b : Bool) (h : Rank) (j : Bool) → n ≡ node ArrowFunctionExpression [] (flagged x b) from e.stop (push ps u) → IsTrue (takes h Assignment) → j ≡ i → RunsIn text o' (map (settle_piece Assignment j Any) (arrow_end (flagged x b))) (part u none) k e Q → SpellsIn text o (expr h j f) n s e P) →
+      ((t x : Token) → SeenNext text k t x → t.after_break ≡ false) → PartAt text i f r o s e P
+  arrow_part {x} {i} {f} {ps} {from} {o} {r = r} {s} {k} {e} {P} w begins spelled line = record {
+    begins = subst (λ at. Begins text at s) (sym w.start) begins;
     edge = w.edge;
     goes_on = w.goes_on;
-    stands = λ v h j tk lo. let tk' : IsTrue (takes h Assignment) = subst (λ x. IsTrue (takes h x)) w.rank tk in
+    stands = λ v h j tk lo. let tk' : IsTrue (takes h Assignment) = subst (λ y. IsTrue (takes h y)) w.rank tk in
         let same : j ≡ i = lo (assignment_minds h tk') in
-        spelled r.cover.node w.body w.flags h j w.lean w.tree tk' same (w.runs line j same);
+        spelled r.cover.node w.body w.flags.expression h j (w.tree ∙ ap (λ g. node ArrowFunctionExpression [] g from e.stop (push ps w.body)) w.lean) tk' same (w.runs line j same);
     assigned = λ b fits d. nothing b (r.cover.shape.binds) fits;
     bare = λ a h is. no_name (sym is ∙ ap bare_role w.tree);
     newly = λ h. no_new (sym w.rank ∙ h);
@@ -195,48 +196,51 @@ module _ (text : List ℕ) where
       nothing true c h = absurd (no_both r.cover.shape.binds (ap (λ x. r.cover.shape.binds && is_element x) (sym w.simple.1) ∙ h))
       nothing false c h = absurd (false≢true (ap is_element (sym w.simple.1) ∙ h))
 
-  arrow_closer : (y : Rank) (i : Bool) (f : Start) (o : ℕ) → Closer Token (NextIn text any_goal) itself y i f o (suc o) close_parameters
-  arrow_closer y i f o = record { opens = λ d. (let u = run_closed Token (NextIn text any_goal) itself d in (u.sign, u.mid, u.reads, u.runs)); closes = λ h d. closed h d }
+  arrow_closer : (y : Rank) (i : Bool) (f : Start) (o : ℕ) → Closer Token (SeenNext text) (behind_in text) y i f o (suc o) close_parameters
+  arrow_closer y i f o = record { opens = λ d. (let u = run_closed Token (SeenNext text) (behind_in text) d in (u.sign, u.mid, u.reads, u.runs)); closes = λ h d. closed h d }
 
   starts_parameters : (f : Start) (qs : List Piece) → IsTrue (starts f (open_parameters ∷ qs))
   starts_parameters Any qs = refl
   starts_parameters NoBrace qs = refl
   starts_parameters Statement qs = refl
 
-  pub lean_arrow : (b : Bool) (st en : ℕ) (ps : Parts) → is_lean (bare (node ArrowFunctionExpression [] (record plain { expression = b }) st en ps)) ≡ true
-  lean_arrow true st en ps = refl
-  lean_arrow false st en ps = refl
+  pub lean_arrow : (x : Form) (b : Bool) (st en : ℕ) (ps : Parts) → is_lean (bare (node ArrowFunctionExpression [] (flagged x b) st en ps)) ≡ true
+  lean_arrow x b st en ps = of x b
+    where
+      of : (x : Form) (b : Bool) → is_lean (bare (node ArrowFunctionExpression [] (flagged x b) st en ps)) ≡ true
+      of form.Init true = refl
+      of form.Init false = refl
+      of _ true = refl
+      of _ false = refl
 
   -- what follows the parameters is the same at each symbol and start
-  pub end_same : (h : Rank) (j : Bool) (f : Start) (g : Flags) → map (settle_piece Assignment j Any) (arrow_end g) ≡ goes_to h j f (arrow_end g)
-  end_same h j f g = of g.expression
-    where
-      of : (b : Bool) → map (settle_piece Assignment j Any) (arrow_end (record plain { expression = b })) ≡ goes_to h j f (arrow_end (record plain { expression = b }))
-      of true = refl
-      of false = refl
+  pub end_same : (h : Rank) (j : Bool) (f : Start) (x : Form) (b : Bool) → map (settle_piece Assignment j Any) (arrow_end (flagged x b)) ≡ goes_to h j f (arrow_end (flagged x b))
+  end_same h j f x true = refl
+  end_same h j f x false = refl
 
   -- parameters with their closing parenthesis
-  parameters_at : {o : ℕ} (ps : Parts) {m k e : Token} {P : List Pair} → RunsIn text o (map (settle_piece Expression true Any) (listing (pattern_element true) ps)) ps m k P → ReadsHere text Punctuator (codes ")") k e → RunsIn text o (parameter_list ps) ps m e P
+  pub parameters_at : {o : ℕ} (ps : Parts) {m k e : Token} {P : List Pair} → RunsIn text o (map (settle_piece Expression true Any) (listing (pattern_element true) ps)) ps m k P → ReadsHere text Punctuator (codes ")") k e → RunsIn text o (parameter_list ps) ps m e P
   parameters_at {o} ps {m} {k} {e} {P} d close =
       let names : listing (pattern_element true) ps ≡ listing (pattern_element true) (bare_parts ps) = sym (listed_bare (pattern_element true) (element_bare true) ps) in
       subst (λ qs. RunsIn text o qs ps m e P) (sym (goes_on Expression true Any (listing (pattern_element true) (bare_parts ps)) (sign ")" ∷ [])))
       (runs_on text (subst (λ qs. RunsIn text o (goes_to Expression true Any qs) ps m k P) names d) (token close))
 
   -- an arrow with its parameters in parentheses
-  paren_arrow : {i : Bool} {f : Start} (ps : Parts) {from o : ℕ} {r : Operand} {s m k e : Token} {P Q : List Pair} → from ≡ m.start → ReadsHere text Punctuator (codes "(") s m → RunsIn text o (parameter_list ps) ps m k P → ArrowAt text i ps from r (suc o) k e Q →
-      ((t x : Token) → NextIn text any_goal k t x → t.after_break ≡ false) → PartAt text i f r (suc o) s e (P ++ Q)
+  paren_arrow : {i : Bool} {f : Start} (ps : Parts) {from o : ℕ} {r : Operand} {s m k e : Token} {P Q : List Pair} → from ≡ m.start → ReadsHere text Punctuator (codes "(") s m → RunsIn text o (parameter_list ps) ps m k P → ArrowAt text form.Init i ps from r (suc o) k e Q →
+      ((t x : Token) → SeenNext text k t x → t.after_break ≡ false) → PartAt text i f r (suc o) s e (P ++ Q)
   paren_arrow {i} {f} ps {from} {o} {r} {s} {m} {k} {e} {P} {Q} begin left d w line =
       let begins = begins_mark text begin left in
-      arrow_part w begins (λ n u g h j lean tree tk same runs.
+      arrow_part w begins (λ n u b h j tree tk same runs.
+      let g = flagged form.Init b in
       subst (λ x. SpellsIn text (suc o) (expr h j f) x s e (P ++ Q)) (sym (tree ∙ ap (node ArrowFunctionExpression [] g from e.stop) (sym (join_one ps u))))
-      (spell Token (NextIn text any_goal) itself (at Assignment (open_parameters ∷ parameters (close_parameters ∷ arrow_end g) (bare_parts (join ps (part u none))))) arrow
-      (ap (λ x. is_lean (bare (node ArrowFunctionExpression [] x from e.stop (join ps (part u none))))) lean ∙ lean_arrow g.expression from e.stop (join ps (part u none))) tk refl (starts_parameters f (parameters (close_parameters ∷ arrow_end g) (bare_parts (join ps (part u none))))) (placed_at text begins)
-      (opened left (parameters_join Token (NextIn text any_goal) itself (arrow_end g) (arrow_closer h j f o) ps d (subst (λ qs. RunsIn text (suc o) qs (part u none) k e Q) (end_same h j f g) runs))))) line
+      (spell Token (SeenNext text) (behind_in text) (at Assignment (open_parameters ∷ parameters (close_parameters ∷ arrow_end g) (bare_parts (join ps (part u none))))) arrow
+      (lean_arrow form.Init b from e.stop (join ps (part u none))) tk refl (starts_parameters f (parameters (close_parameters ∷ arrow_end g) (bare_parts (join ps (part u none))))) (placed_at text begins)
+      (opened left (parameters_join Token (SeenNext text) (behind_in text) (arrow_end g) (arrow_closer h j f o) ps d (subst (λ qs. RunsIn text (suc o) qs (part u none) k e Q) (end_same h j f form.Init b) runs))))) line
 
 -- an arrow with its parameters in parentheses, whole
 pub arrow_read : (s0 s1 k e : CursorState) {old p1 p3 p4 new : List Pair} {m : Token} (l : ListOf) (p : ExpressionContext) (ps : Parts) (start : ℕ) (r : Operand) (t : Token) → s0.opened < max_open → s1.opened ≡ s0.opened + 1 → IsPlaceHere s0 start → p1 ≡ old ++ record { left = start; right = start } ∷ [] →
     InParens s0.text s0.last m k.last (max_open - s1.opened) l p1 p3 → k.text ≡ s0.text → k.opened ≡ s0.opened → p4 ≡ p3 → ps ≡ pattern_parts 0 l.nodes → is_bound l.seen.shape ≡ true → ReadsHere k.text Punctuator (codes "=>") k.last t → t.after_break ≡ false → takes p.rank Assignment ≡ true →
-    Adds k e p4 new (ArrowAt k.text p.has_in ps start r) → Adds s0 e old new (ReadAt s0.text p r)
+    Adds k e p4 new (ArrowAt k.text form.Init p.has_in ps start r) → Adds s0 e old new (ReadAt s0.text p r)
 arrow_read s0 s1 k e {old} {p1} {p3} {p4} {new} {m} l p ps start r t room more_open here pushed w texts open_same same given bound sign line tk a =
     let text = s0.text in
     let begin : start ≡ m.start = place_mark s0 here w.left in
@@ -246,10 +250,10 @@ arrow_read s0 s1 k e {old} {p1} {p3} {p4} {new} {m} l p ps start r t room more_o
     subst (λ x. RunsIn text (max_open - s1.opened) (stood_in Any x (item_pieces x (as_pattern true) (pattern_parts 0 l.nodes))) (pattern_parts 0 l.nodes) m w.list.mid (grouping w.more)) w.is (w.list.runs (as_pattern true) whole) in
     let close : ReadsHere text Punctuator (codes ")") w.list.mid k.last = subst (λ x. ClosedBy text (closing x) w.list.mid k.last) w.is w.list.closes in
     let d : RunsIn text (max_open - s1.opened) (parameter_list ps) ps m k.last (grouping w.more) = subst (λ x. RunsIn text (max_open - s1.opened) (parameter_list x) x m k.last (grouping w.more)) (sym given) (parameters_at text (pattern_parts 0 l.nodes) runs close) in
-    let v : ArrowAt text p.has_in ps start r (suc (max_open - s1.opened)) k.last e.last (grouping a.more) = subst (λ x. ArrowAt x p.has_in ps start r (suc (max_open - s1.opened)) k.last e.last (grouping a.more)) texts
-    (subst (λ x. ArrowAt k.text p.has_in ps start r x k.last e.last (grouping a.more)) levels (subst (λ x. ArrowAt k.text p.has_in ps start r (max_open - x) k.last e.last (grouping a.more)) open_same a.is)) in
+    let v : ArrowAt text form.Init p.has_in ps start r (suc (max_open - s1.opened)) k.last e.last (grouping a.more) = subst (λ x. ArrowAt x form.Init p.has_in ps start r (suc (max_open - s1.opened)) k.last e.last (grouping a.more)) texts
+    (subst (λ x. ArrowAt k.text form.Init p.has_in ps start r x k.last e.last (grouping a.more)) levels (subst (λ x. ArrowAt k.text form.Init p.has_in ps start r (max_open - x) k.last e.last (grouping a.more)) open_same a.is)) in
     let here_sign : ReadsHere text Punctuator (codes "=>") k.last t = subst (λ x. ReadsHere x Punctuator (codes "=>") k.last t) texts sign in
-    let on_line : (u x : Token) → NextIn text any_goal k.last u x → u.after_break ≡ false = λ u x n. (text_determined text).break k.last u t x t n here_sign.next ∙ line in
+    let on_line : (u x : Token) → SeenNext text k.last u x → u.after_break ≡ false = λ u x n. (seen_determined text).break k.last u (behind_in text t) x t n here_sign.next ∙ line in
     let read : PartAt text p.has_in p.start r (suc (max_open - s1.opened)) s0.last e.last (grouping w.more ++ grouping a.more) = paren_arrow text ps begin w.left d v on_line in
     let first : Pair = record { left = start; right = start } in
     let all : grouping w.more ++ grouping a.more ≡ grouping (first ∷ (w.more ++ a.more)) = sym (none_groups start (w.more ++ a.more) ∙ grouping_both w.more a.more) in

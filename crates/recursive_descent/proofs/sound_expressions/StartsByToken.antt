@@ -5,10 +5,10 @@ use Prim.Native.String.{String}
 use Rattle.std.proofs.lemmas.Bool.{false≢true}
 use Rattle.std.proofs.lemmas.Bool.Decides.{nat_tests}
 use Rattle.tokens.specs.declared.token.TokenClass.{TokenClass}
-use Rattle.tokens.specs.declared.token.TokenClass.TheVariants.{IdentifierName, Punctuator, NumericLiteral, StringLiteral, Template, RegularExpressionLiteral, End}
+use Rattle.tokens.specs.declared.token.TokenClass.TheVariants.{IdentifierName, Punctuator, NumericLiteral, StringLiteral, Template, RegularExpressionLiteral, End, PrivateName, Keyword}
 use Rattle.tokens.specs.declared.token.Goal.TheVariants as goal
 use Rattle.tokens.specs.Goals.{allows}
-use Rattle.language.specs.Vocabulary.{is, among, is_reserved}
+use Rattle.language.specs.Vocabulary.{is, among, is_reserved, is_keyword}
 use Rattle.language.specs.ExpressionStart.{ExpressionStart, with_name, with_literal, with_this, with_template, with_step, with_word, with_sign, no_start, expression_start_by, start_among, start_words, start_punctuators}
 use Rattle.recursive_descent.proofs.reading.LiteralTokens.{is_literal_class}
 
@@ -80,11 +80,26 @@ abbrev is_template : ExpressionStart → Bool
 is_template with_template = true
 is_template _ = false
 
-pub word_of : (c : TokenClass) (w : List ℕ) → expression_start_by c w ≡ with_word → (c ≡ IdentifierName) × (among w ("delete" ∷ "void" ∷ "typeof" ∷ []) ≡ true)
-word_of IdentifierName w h = (refl, by_texts is_word w start_words (cond (is_reserved w) no_start with_name) (name_other is_word (is_reserved w) refl refl) (ap is_word h))
+no_keyword : {X : Type 0} (f : ExpressionStart → Bool) (b : Bool) → f with_word ≡ false → f no_start ≡ false → f (cond b with_word no_start) ≡ true → X
+no_keyword f true p q h = absurd (false≢true (sym p ∙ h))
+no_keyword f false p q h = absurd (false≢true (sym q ∙ h))
+
+a_keyword : (b : Bool) → is_word (cond b with_word no_start) ≡ true → b ≡ true
+a_keyword true h = refl
+a_keyword false h = absurd (false≢true h)
+
+-- an operator that is a word is one of three names, or a keyword
+pub data WordBy (c : TokenClass) (w : List ℕ) : Type 0 where
+  a_name : c ≡ IdentifierName → among w ("delete" ∷ "void" ∷ "typeof" ∷ []) ≡ true → WordBy c w
+  a_keyword_of : c ≡ Keyword → is_keyword w ≡ true → WordBy c w
+
+pub word_of : (c : TokenClass) (w : List ℕ) → expression_start_by c w ≡ with_word → WordBy c w
+word_of IdentifierName w h = a_name refl (by_texts is_word w start_words (cond (is_reserved w) no_start with_name) (name_other is_word (is_reserved w) refl refl) (ap is_word h))
 word_of Punctuator w h = absurd (false≢true (by_texts is_word w start_punctuators no_start refl (ap is_word h)))
 word_of NumericLiteral w h = cc
 word_of StringLiteral w h = cc
+word_of PrivateName w h = cc
+word_of Keyword w h = a_keyword_of refl (a_keyword (is_keyword w) (ap is_word h))
 word_of RegularExpressionLiteral w h = cc
 word_of Template w h = no_template is_word (nat_eq (slice_index_or w 0 0) 96) refl refl (ap is_word h)
 word_of End w h = cc
@@ -94,6 +109,8 @@ sign_of IdentifierName w h = absurd (false≢true (by_texts is_sign w start_word
 sign_of Punctuator w h = (refl, by_texts is_sign w start_punctuators no_start refl (ap is_sign h))
 sign_of NumericLiteral w h = cc
 sign_of StringLiteral w h = cc
+sign_of PrivateName w h = cc
+sign_of Keyword w h = no_keyword is_sign (is_keyword w) refl refl (ap is_sign h)
 sign_of RegularExpressionLiteral w h = cc
 sign_of Template w h = no_template is_sign (nat_eq (slice_index_or w 0 0) 96) refl refl (ap is_sign h)
 sign_of End w h = cc
@@ -103,6 +120,8 @@ step_of IdentifierName w h = absurd (false≢true (by_texts is_step w start_word
 step_of Punctuator w h = (refl, by_texts is_step w start_punctuators no_start refl (ap is_step h))
 step_of NumericLiteral w h = cc
 step_of StringLiteral w h = cc
+step_of PrivateName w h = cc
+step_of Keyword w h = no_keyword is_step (is_keyword w) refl refl (ap is_step h)
 step_of RegularExpressionLiteral w h = cc
 step_of Template w h = no_template is_step (nat_eq (slice_index_or w 0 0) 96) refl refl (ap is_step h)
 step_of End w h = cc
@@ -112,6 +131,8 @@ this_of IdentifierName w h = (refl, by_texts is_this w start_words (cond (is_res
 this_of Punctuator w h = absurd (false≢true (by_texts is_this w start_punctuators no_start refl (ap is_this h)))
 this_of NumericLiteral w h = cc
 this_of StringLiteral w h = cc
+this_of PrivateName w h = cc
+this_of Keyword w h = no_keyword is_this (is_keyword w) refl refl (ap is_this h)
 this_of RegularExpressionLiteral w h = cc
 this_of Template w h = no_template is_this (nat_eq (slice_index_or w 0 0) 96) refl refl (ap is_this h)
 this_of End w h = cc
@@ -125,6 +146,8 @@ name_of IdentifierName w h = (refl, go (is_reserved w) refl)
 name_of Punctuator w h = absurd (false≢true (by_texts is_name w start_punctuators no_start refl (ap is_name h)))
 name_of NumericLiteral w h = cc
 name_of StringLiteral w h = cc
+name_of PrivateName w h = cc
+name_of Keyword w h = no_keyword is_name (is_keyword w) refl refl (ap is_name h)
 name_of RegularExpressionLiteral w h = cc
 name_of Template w h = no_template is_name (nat_eq (slice_index_or w 0 0) 96) refl refl (ap is_name h)
 name_of End w h = cc
@@ -139,6 +162,8 @@ literal_of IdentifierName w h = a_word refl (by_texts is_literal w start_words (
 literal_of Punctuator w h = absurd (false≢true (by_texts is_literal w start_punctuators no_start refl (ap is_literal h)))
 literal_of NumericLiteral w h = a_token refl
 literal_of StringLiteral w h = a_token refl
+literal_of PrivateName w h = cc
+literal_of Keyword w h = no_keyword is_literal (is_keyword w) refl refl (ap is_literal h)
 literal_of RegularExpressionLiteral w h = a_token refl
 literal_of Template w h = no_template is_literal (nat_eq (slice_index_or w 0 0) 96) refl refl (ap is_literal h)
 literal_of End w h = cc
@@ -153,6 +178,8 @@ template_of IdentifierName w h = absurd (false≢true (by_texts is_template w st
 template_of Punctuator w h = absurd (false≢true (by_texts is_template w start_punctuators no_start refl (ap is_template h)))
 template_of NumericLiteral w h = cc
 template_of StringLiteral w h = cc
+template_of PrivateName w h = cc
+template_of Keyword w h = no_keyword is_template (is_keyword w) refl refl (ap is_template h)
 template_of RegularExpressionLiteral w h = cc
 template_of Template w h = (refl, starts_template w (go (nat_eq (slice_index_or w 0 0) 96) (ap is_template h)))
   where

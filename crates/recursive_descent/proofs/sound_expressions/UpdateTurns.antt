@@ -7,7 +7,6 @@ use Rattle.source_text.specs.declared.fault.Fault.{Fault}
 use Rattle.source_text.specs.declared.fault.Fault.TheVariants.{TooDeep, OutOfMemory}
 use Rattle.tokens.specs.declared.token.Goal.TheVariants.{Div}
 use Rattle.tokens.specs.Tokens.{LexicalToken}
-use Rattle.tokens.specs.Reading.{any_goal}
 use Rattle.token_cursor.specs.CursorState.{CursorState, IsAhead}
 use Rattle.tree.specs.declared.kind.Kind.TheVariants.{UpdateExpression}
 use Rattle.tree.specs.declared.kind.Pair.{Pair}
@@ -19,9 +18,8 @@ use Rattle.language.specs.Token.{Token, as_read}
 use Rattle.language.specs.Continuations.{operation}
 use Rattle.language.specs.Promises.{ReadBy}
 use Rattle.language.specs.Covers.{Reading}
-use Rattle.language.specs.Places.{NextIn, itself}
 use Rattle.language.specs.Claims.{max_open}
-use Rattle.language.proofs.texts.TextOffsets.{text_determined}
+use Rattle.token_cursor.proofs.SeenTokens.{seen_determined}
 use Rattle.language.proofs.table.OperatorTokens.{op_reads}
 use Rattle.language.proofs.climbing.OperatorLoop.{Leads, grows_height}
 use Rattle.covers.specs.Patterns.{pattern_tree}
@@ -45,6 +43,7 @@ use Rattle.recursive_descent.proofs.complete_expressions.SpineTurns.{goes_there,
 use Rattle.recursive_descent.proofs.sound_expressions.InfixTurns.{some_operator, no_tag, steps_by}
 use Rattle.recursive_descent.proofs.complete_subscripts.SubscriptsOnSpine.{step_on}
 use Rattle.recursive_descent.proofs.complete_expressions.StageTurns.{OnSpine, spined, spine_only}
+use Rattle.token_cursor.specs.SourceText.{SeenNext, behind_in, unseen}
 
 -- an operator that is no tag has the text of its token
 pub own_there : (v : LexicalToken) {c : Coded} → coded_operator (operation (as_read v)) v.text ≡ Some c → (c ≡ code.TemplateHead → ⊥) → (as_read v).text ≡ v.text
@@ -63,12 +62,12 @@ module _ (s : CursorState) (p : ExpressionContext) (l : Operand) (v : LexicalTok
   pub record Stepping (o : ℕ) (from to : Token) (P Q : List Pair) (a : Reading) (n : Tree) : Type 0 where
     pub target : is_target l.cover.shape.assigned ≡ true
     pub low : height stepped ≤ height n
-    pub next : StageAs s.text p o from to P (plain_part stepped Update Postfix) (as_read v) (Q ++ []) a n
+    pub next : StageAs s.text p o from to P (plain_part stepped Update Postfix) (unseen (as_read v)) (Q ++ []) a n
 
   pub stepping : (a : Reading) (o : ℕ) (n : Tree) (from to : Token) (P Q R : List Pair) → ReadAt s.text p l (max_open - s.opened) from s.last R → StageAs s.text p o from to P l s.last Q a n → Stepping o from to P Q a n
   stepping a o n from to P Q R read stage = of (spine_only s.text p o from to P l s.last Q a n read.part.begins read.part.edge r goes (λ h. let k : op_update ≡ op_assign = sym op ∙ h in cc) stage)
     where
-      r : ReadBy Token (NextIn s.text any_goal) itself Div s.last (as_read v) (as_read v)
+      r : ReadBy Token (SeenNext s.text) (behind_in s.text) Div s.last (as_read v) (unseen (as_read v))
       r = ahead_read s.text Div s.last v ahead
 
       op : operation (as_read v) ≡ op_update
@@ -79,33 +78,33 @@ module _ (s : CursorState) (p : ExpressionContext) (l : Operand) (v : LexicalTok
           let w = step_on s.text p o from to P l s.last Q a n serves high u read.part.begins r (goes_there s.text p l s.last (as_read v) read.part.edge goes) op in
           let same : node UpdateExpression (as_read v).text plain l.start v.stop (part l.cover.node none) ≡ stepped =
           (let back : l.cover.node ≡ pattern_tree l.cover.node = sym (simple_itself l.cover.node w.target) in let texts = own_there v coded no_tags in λ i. node UpdateExpression (texts i) plain l.start v.stop (part (back i) none)) in
-          let leads : Leads Token (NextIn s.text any_goal) itself (text_determined s.text) o from p.rank p.has_in p.start k to P Update stepped (as_read v) (Q ++ []) = subst (λ d. Leads Token (NextIn s.text any_goal) itself (text_determined s.text) o from p.rank p.has_in p.start k to P Update d (as_read v) (Q ++ [])) same w.leads in
-          let below = grows_height Token (NextIn s.text any_goal) itself (text_determined s.text) leads.grows in
+          let leads : Leads Token (SeenNext s.text) (behind_in s.text) (seen_determined s.text) o from p.rank p.has_in p.start k to P Update stepped (unseen (as_read v)) (Q ++ []) = subst (λ d. Leads Token (SeenNext s.text) (behind_in s.text) (seen_determined s.text) o from p.rank p.has_in p.start k to P Update d (unseen (as_read v)) (Q ++ [])) same w.leads in
+          let below = grows_height Token (SeenNext s.text) (behind_in s.text) (seen_determined s.text) leads.grows in
           record {
             target = u.target w.target;
             low = omega arith;
             next = on_further s.text {r = plain_part stepped Update Postfix} serves high u leads refl (λ h. cc) (λ h d. cc);
           }
 
-  pub step_staged : {a : Reading} {o : ℕ} {n : Tree} {from to : Token} {P Q : List Pair} → Stepping o from to P Q a n → (r : Operand) (e : CursorState) (old new : List Pair) → e.last ≡ as_read v → new ≡ old → r ≡ plain_part (node UpdateExpression v.text plain l.start e.last.stop (part (pattern_tree l.cover.node) none)) Update Postfix →
+  pub step_staged : {a : Reading} {o : ℕ} {n : Tree} {from to : Token} {P Q : List Pair} → Stepping o from to P Q a n → (r : Operand) (e : CursorState) (old new : List Pair) → e.last ≡ unseen (as_read v) → new ≡ old → r ≡ plain_part (node UpdateExpression v.text plain l.start e.last.stop (part (pattern_tree l.cover.node) none)) Update Postfix →
       Staged s.text p o from to P r e.last Q old new a n
   step_staged {a} {o} {n} {from} {to} {P} {Q} u r e old new last same tree =
       let made : plain_part stepped Update Postfix ≡ r = sym (tree ∙ ap (λ (k : Token). plain_part (node UpdateExpression v.text plain l.start k.stop (part (pattern_tree l.cover.node) none)) Update Postfix) last) in
       record {
         more = [];
         added = same ∙ sym (append-nil old);
-        stage = subst (λ d. StageAs s.text p o from to P r d (Q ++ []) a n) (sym last) (subst (λ d. StageAs s.text p o from to P d (as_read v) (Q ++ []) a n) made u.next);
+        stage = subst (λ d. StageAs s.text p o from to P r d (Q ++ []) a n) (sym last) (subst (λ d. StageAs s.text p o from to P d (unseen (as_read v)) (Q ++ []) a n) made u.next);
       }
 
   -- what stands before it is no target, or the node is higher than allowed
   module _ (high : ℕ) (e : CursorState) (old new : List Pair) (answer : Result Operand Fault) (fault : Fault) (err : IsErrAnd answer (λ x. x ≡ fault)) where
     pub step_unfit : (t : Tree) → BecomesHere t (is_target l.cover.shape.assigned) s (Err fault) → InfixComplete s e old new high p l answer
-    step_unfit t unfit = λ a o n from to P Q R read stage.
+    step_unfit t unfit = λ a o n from to P Q R read stage own.
         let u = stepping a o n from to P Q R read stage in
         agrees_err (Room s o (height n) high) (λ r. Staged s.text p o from to P r e.last Q old new a n) answer fault err (refuses_unfit (Room s o (height n) high) t (is_target l.cover.shape.assigned) s fault unfit u.target)
 
     pub step_high : (levels : ℕ) {nodes : Parts} → nodes ≡ part (pattern_tree l.cover.node) none → levels ≡ suc (parts_height nodes) → fault ≡ TooDeep → high < levels → InfixComplete s e old new high p l answer
-    step_high levels {nodes} nodes_are levels_are deep above = λ a o n from to P Q R read stage.
+    step_high levels {nodes} nodes_are levels_are deep above = λ a o n from to P Q R read stage own.
         let u = stepping a o n from to P Q R read stage in
         let low = u.low in
         let level : suc (parts_height nodes) ≡ suc (parts_height (part (pattern_tree l.cover.node) none)) = ap (λ ps. suc (parts_height ps)) nodes_are in
@@ -114,5 +113,5 @@ module _ (s : CursorState) (p : ExpressionContext) (l : Operand) (v : LexicalTok
 
 -- memory is refused
 pub turn_memory : (s e : CursorState) (old new : List Pair) (high : ℕ) (p : ExpressionContext) (l : Operand) (answer : Result Operand Fault) (fault : Fault) → IsErrAnd answer (λ x. x ≡ fault) → fault ≡ OutOfMemory → InfixComplete s e old new high p l answer
-turn_memory s e old new high p l answer fault err is = λ a o n from to P Q R read stage.
+turn_memory s e old new high p l answer fault err is = λ a o n from to P Q R read stage own.
     agrees_err (Room s o (height n) high) (λ r. Staged s.text p o from to P r e.last Q old new a n) answer fault err (refuses_memory (Room s o (height n) high) fault is)

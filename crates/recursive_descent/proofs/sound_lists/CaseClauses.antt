@@ -2,7 +2,7 @@
 use Rattle.std.proofs.Common.{◌≡◌, ℕ, Bool, true, false, cond, List, [], ◌∷◌, ◌++◌, refl, sym, ap, ◌∙◌, subst}
 use Rattle.std.specs.Prelude.{nat_le}
 use Rattle.std.proofs.lemmas.List.{append-nil}
-use Rattle.tokens.specs.Reading.{Reads, any_goal}
+use Rattle.tokens.specs.Reading.{Reads}
 use Rattle.tokens.specs.Tokens.{LexicalToken}
 use Rattle.tokens.specs.declared.token.TokenClass.TheVariants.{IdentifierName}
 use Rattle.tokens.specs.declared.token.Goal.TheVariants.{Div}
@@ -17,13 +17,12 @@ use Rattle.language.specs.Covers.{Reading, as_expression, as_pattern}
 use Rattle.language.specs.Pieces.{item, switch_case, lay, shallower}
 use Rattle.language.specs.Statements.{prologue, lines}
 use Rattle.language.specs.Token.{Token}
-use Rattle.language.specs.Places.{NextIn, itself, SpellsIn}
 use Rattle.language.specs.Derivation.{done, step, within, missing, token, laid, placed}
 use Rattle.language.proofs.statements.Blocks.{case_pieces, one_case}
 use Rattle.language.proofs.table.OneKind.{one_kind}
 use Rattle.language.proofs.list_loops.FirstPieces.{run_never}
 use Rattle.language.proofs.table.SoleWays.{Anyhow}
-use Rattle.language.proofs.texts.TextOffsets.{text_determined}
+use Rattle.token_cursor.proofs.SeenTokens.{seen_determined}
 use Rattle.covers.specs.declared.list.ListItem.{ListItem}
 use Rattle.covers.specs.declared.list.ListKind.TheVariants as listed
 use Rattle.covers.specs.Shapes.{value}
@@ -38,26 +37,28 @@ use Rattle.parser_tables.specs.StatementNodes.{item_context}
 use Rattle.token_cursor.specs.Seen.{ReadsHere}
 use Rattle.recursive_descent.proofs.reading.AddedPairs.{adds_behind}
 use Rattle.recursive_descent.proofs.sound_lists.OneMoreItem.{join_none}
-use Rattle.recursive_descent.proofs.sound_lists.Declarators.{begins_by}
 use Rattle.token_cursor.proofs.TokensAhead.{name_by}
+use Rattle.token_cursor.specs.SourceText.{SourceText, SeenNext, behind_in}
+use Rattle.recursive_descent.specs.Spelled.{SpellsIn}
+use Rattle.recursive_descent.proofs.reading.Forward.{begins_by}
 
 -- the parts of a case: its test, or a gap
 abbrev pub case_nodes : Bool → Parts → Parts
 case_nodes true ps = gap ps
 case_nodes false ps = ps
 
-module _ (text : List ℕ) (r : Bool) where
+module _ (text : SourceText) (r : Bool) where
   case_lines : {o : ℕ} (ps : Parts) {s e : Token} {P : List Pair} → RunsIn text o (anywhere (prologue r false [] [] ps)) ps s e P → RunsIn text o (anywhere (lines (item r) (bare_parts ps) ++ lay shallower ∷ [])) ps s e P
   case_lines none done = step laid done
   case_lines (part n ps) (within p d) = step laid (within p (case_lines ps d))
   case_lines (part n ps) (step p d) = elim p [ ]
-  case_lines (gap ps) d = absurd (run_never Token (NextIn text any_goal) itself d)
+  case_lines (gap ps) d = absurd (run_never Token (SeenNext text) (behind_in text) d)
 
   abbrev CaseAt : ℕ → ℕ → Parts → Token → Token → List Pair → Type 0
   CaseAt o at ps s e P = SpellsIn text o (switch_case r) (node SwitchCase [] plain at e.stop ps) s e P
 
   case_spelled : {o at : ℕ} {ps : Parts} {s e : Token} {P : List Pair} → Begins text at s → RunsIn text o (anywhere (case_pieces r (bare_parts ps))) ps s e P → CaseAt o at ps s e P
-  case_spelled {e = e} b d = (one_kind Token (NextIn text any_goal) itself (text_determined text) {Fine = Anyhow} (one_case r)).spells (placed b.next (ap (λ (x : ℕ). (x, e.stop)) b.start)) d
+  case_spelled {e = e} b d = (one_kind Token (SeenNext text) (behind_in text) (seen_determined text) {Fine = Anyhow} (one_case r)).spells (placed b.next (ap (λ (x : ℕ). (x, e.stop)) b.start)) d
 
   -- `default`, and `case` with its test
   case_read : {o at : ℕ} (d : Bool) {s m e : Token} (x y : Edge) (ps : Parts) {P : List Pair} → Begins text at s → ReadsHere text IdentifierName (case_word d) s m → PiecesAt text r o (case_parts d) m e x y ps P → CaseAt o at (case_nodes d ps) s e P
@@ -107,7 +108,7 @@ module _ (text : List ℕ) (r : Bool) where
       counted false qs v = subst (λ z. nat_le (case_count (listed.Cases r) (part (node SwitchCase [] plain at e.stop z) none)) 0 ≡ true) (sym (v.parts ∙ ap (λ z. join z v.rest) v.first.parts)) refl
 
 -- from the points between which it was read
-pub case_taken : {s m e : CursorState} {old mid new : List Pair} (r d : Bool) (at : ℕ) (b c : PartialStatement) (x : StatementContext) (parts : List Piece) (it : ListItem) → x ≡ item_context r → parts ≡ case_parts d → ((u : LexicalToken) → Reads s.text Div s.last.stop u → at ≡ u.start) → ReadsHere s.text IdentifierName (case_word d) s.last m.last → m.text ≡ s.text →
+pub case_taken : {s m e : CursorState} {old mid new : List Pair} (r d : Bool) (at : ℕ) (b c : PartialStatement) (x : StatementContext) (parts : List Piece) (it : ListItem) → x ≡ item_context r → parts ≡ case_parts d → ((u : LexicalToken) → Reads s.text.bytes Div s.last.stop u → at ≡ u.start) → ReadsHere s.text IdentifierName (case_word d) s.last m.last → m.text ≡ s.text →
     m.opened ≡ s.opened → mid ≡ old → b.nodes ≡ case_nodes d none → Adds m e mid new (BuiltAt m.text x.returns parts b c) → it ≡ record { node = node SwitchCase [] plain at e.last.stop c.nodes; shape = value; spreads = false; is_flagged = d; edge = Closed } → Adds s e old new (ItemReads s.text (listed.Cases r) it)
 case_taken {s} {m} {e} r d at b c x parts it x_is parts_are starts word here open_same same empty a is = adds_behind open_same same a (λ o P v.
     let u : BuiltAt m.text r (case_parts d) b c o m.last e.last P = subst (λ (z : StatementContext). BuiltAt m.text z.returns (case_parts d) b c o m.last e.last P) x_is (subst (λ z. BuiltAt m.text x.returns z b c o m.last e.last P) parts_are v) in

@@ -4,11 +4,10 @@ use Rattle.std.specs.Prelude.{IsTrue, Option, Some, None, codes, not, ◌&&◌, 
 use Rattle.std.specs.Bool.{OnTrue}
 use Rattle.std.proofs.lemmas.Bool.{and_parts, false≢true}
 use Rattle.std.proofs.lemmas.Option.{none-some}
-use Rattle.tokens.specs.Reading.{Reads, any_goal}
+use Rattle.tokens.specs.Reading.{Reads}
 use Rattle.tokens.specs.Tokens.{LexicalToken}
 use Rattle.tokens.specs.declared.token.TokenClass.TheVariants.{Punctuator}
 use Rattle.tokens.specs.declared.token.Goal.TheVariants.{Div}
-use Rattle.tokens.specs.Goals.{allows}
 use Rattle.tree.specs.declared.kind.Kind.{Kind}
 use Rattle.tree.specs.declared.kind.Kind.TheVariants.{Identifier, VariableDeclarator}
 use Rattle.tree.specs.declared.kind.Pair.{Pair}
@@ -19,9 +18,8 @@ use Rattle.language.specs.declared.Edge.TheVariants.{Closed}
 use Rattle.language.specs.Vocabulary.{takes, is_identifier, is_pattern as is_pattern_kind, is_rest}
 use Rattle.language.specs.Covers.{Reading, as_expression, as_pattern}
 use Rattle.language.specs.Pieces.{Role, name, pattern, declarator, bound}
-use Rattle.language.specs.Token.{Token, as_read}
+use Rattle.language.specs.Token.{Token}
 use Rattle.language.specs.Promises.{ReadBy}
-use Rattle.language.specs.Places.{NextIn, next_in, itself}
 use Rattle.language.specs.Derivation.{Placed, placed}
 use Rattle.language.specs.Claims.{max_open}
 use Rattle.language.proofs.covers.CoverElements.{a_name, a_target, a_pattern, a_simple, bound_form, BoundForm}
@@ -29,7 +27,7 @@ use Rattle.language.proofs.statements.Declarators.{Target, valued_spells, alone_
 use Rattle.language.proofs.climbing.Leaves.{name_form}
 use Rattle.language.proofs.covers.PatternsByToken.{as_array, as_object, pattern_core, PatternCore}
 use Rattle.language.proofs.list_loops.FirstPieces.{run_token}
-use Rattle.language.proofs.texts.TextOffsets.{text_determined}
+use Rattle.token_cursor.proofs.SeenTokens.{seen_determined}
 use Rattle.covers.specs.declared.shape.TargetForm.{TargetForm}
 use Rattle.covers.specs.declared.shape.TargetForm.TheVariants as assigned
 use Rattle.covers.specs.declared.list.ListItem.{ListItem}
@@ -43,7 +41,9 @@ use Rattle.recursive_descent.specs.Soundness.{Adds, grouping, Begins, PartAt, Re
 use Rattle.recursive_descent.specs.SoundnessOfLists.{ItemReads, has_reading, item_fits, item_role, may_trail}
 use Rattle.token_cursor.specs.Seen.{ReadsHere}
 use Rattle.recursive_descent.proofs.reading.AddedPairs.{adds_behind, adds_both}
-use Rattle.token_cursor.proofs.TokensAhead.{by_goal, read_allows, mark_by, name_by}
+use Rattle.token_cursor.proofs.TokensAhead.{mark_by, name_by}
+use Rattle.token_cursor.specs.SourceText.{SourceText, SeenNext, behind_in}
+use Rattle.recursive_descent.proofs.reading.Forward.{begins_by}
 
 -- what is bound is a name or a pattern
 bound_pattern : (k : Kind) {a : Role} → cond (is_pattern_kind k) (Some (pattern true Any)) None ≡ Some a → bound true k ≡ Some a
@@ -82,38 +82,25 @@ named_bare : (n : Tree) → kind_of n ≡ Identifier → is_pattern_kind (kind_o
 named_bare (node Identifier w g s e ps) h = refl
 named_bare (node _ w g s e ps) h = cc
 
-module _ (text : List ℕ) where
+module _ (text : SourceText) where
   abbrev ByDiv : Token → Token → Token → Type 0
-  ByDiv = ReadBy Token (NextIn text any_goal) itself Div
-
-  -- the place of what stands ahead is where the token that is read there begins
-  pub place_of : {at : ℕ} {s t e : Token} → ((u : LexicalToken) → Reads text Div s.stop u → at ≡ u.start) → ByDiv s t e → at ≡ t.start
-  place_of {at} {s} f r = of r.next r.allowed
-    where
-      of : {t e : Token} → NextIn text any_goal s t e → IsTrue (allows Div t.class t.text) → at ≡ t.start
-      of (next_in {t = v} other any x) al = f v (by_goal Div x (sym (read_allows Div v x.word x.text) ∙ al))
-
-  pub begins_by : {at : ℕ} {s t e : Token} → ((u : LexicalToken) → Reads text Div s.stop u → at ≡ u.start) → ByDiv s t e → Begins text at s
-  begins_by {at} {s} f r = of r.next (place_of f r)
-    where
-      of : {t e : Token} → NextIn text any_goal s t e → at ≡ t.start → Begins text at s
-      of (next_in {t = v} other any x) h = record { token = as_read v; next = next_in other any x; start = sym h }
+  ByDiv = ReadBy Token (SeenNext text) (behind_in text) Div
 
   -- the goal behind an operand reads the first token of what is bound
-  pub bound_first : {o : ℕ} {n : Tree} {s e : Token} {P : List Pair} → BoundForm Token (NextIn text any_goal) itself (text_determined text) true o n s e P → (t : Token) × (m : Token) × ByDiv s t m
-  bound_first (a_simple (a_name b d)) = let u = (name_form Token (NextIn text any_goal) itself (text_determined text) d).0 in (u.sign, _, name_by text u.reads)
+  pub bound_first : {o : ℕ} {n : Tree} {s e : Token} {P : List Pair} → BoundForm Token (SeenNext text) (behind_in text) (seen_determined text) true o n s e P → (t : Token) × (m : Token) × ByDiv s t m
+  bound_first (a_simple (a_name b d)) = let u = (name_form Token (SeenNext text) (behind_in text) (seen_determined text) d).0 in (u.sign, _, name_by text u.reads)
   bound_first (a_simple (a_target b k d)) = cc
-  bound_first {s = s} (a_pattern d) = of (pattern_core Token (NextIn text any_goal) itself (text_determined text) d)
+  bound_first {s = s} (a_pattern d) = of (pattern_core Token (SeenNext text) (behind_in text) (seen_determined text) d)
     where
-      of : {o : ℕ} {n : Tree} {e : Token} {P : List Pair} → PatternCore Token (NextIn text any_goal) itself (text_determined text) o true Any n s e P → (t : Token) × (m : Token) × ByDiv s t m
-      of (as_array is pl r) = let u = run_token Token (NextIn text any_goal) itself r in (u.sign, u.mid, mark_by text u.reads)
-      of (as_object is st pl r) = let u = run_token Token (NextIn text any_goal) itself r in (u.sign, u.mid, mark_by text u.reads)
+      of : {o : ℕ} {n : Tree} {e : Token} {P : List Pair} → PatternCore Token (SeenNext text) (behind_in text) (seen_determined text) o true Any n s e P → (t : Token) × (m : Token) × ByDiv s t m
+      of (as_array is pl r) = let u = run_token Token (SeenNext text) (behind_in text) r in (u.sign, u.mid, mark_by text u.reads)
+      of (as_object is st pl r) = let u = run_token Token (SeenNext text) (behind_in text) r in (u.sign, u.mid, mark_by text u.reads)
 
   abbrev Bound : ℕ → Token → Token → Tree → List Pair → Type 0
-  Bound = Target Token (NextIn text any_goal) itself (text_determined text)
+  Bound = Target Token (SeenNext text) (behind_in text) (seen_determined text)
 
-  target_begins : {at o : ℕ} {s e : Token} {n : Tree} {P : List Pair} → ((u : LexicalToken) → Reads text Div s.stop u → at ≡ u.start) → Bound o s e n P → Begins text at s
-  target_begins {n = n} f u = begins_by f (bound_first (bound_form Token (NextIn text any_goal) itself (text_determined text) true n u.it_is u.spelled)).2
+  target_begins : {at o : ℕ} {s e : Token} {n : Tree} {P : List Pair} → ((u : LexicalToken) → Reads text.bytes Div s.stop u → at ≡ u.start) → Bound o s e n P → Begins text at s
+  target_begins {n = n} f u = begins_by text f (bound_first (bound_form Token (SeenNext text) (behind_in text) (seen_determined text) true n u.it_is u.spelled)).2
 
   -- what was read, as what is bound
   bound_target : {p : Operand} {o : ℕ} {s m : Token} {P : List Pair} → PartAt text true Any p o s m P → (p.cover.shape.binds && is_pattern p.cover.shape.assigned) ≡ true → Bound o s m (pattern_tree p.cover.node) P
@@ -123,13 +110,13 @@ module _ (text : List ℕ) where
       record { role = r.role; it_is = bound_role p.cover.shape.assigned (kind_of (pattern_tree p.cover.node)) u.1 r.it_is; spelled = r.spelled }
 
   abbrev Here : Role → Tree → Token → Token → Type 0
-  Here = Placed Token (NextIn text any_goal) itself
+  Here = Placed Token (SeenNext text) (behind_in text)
 
   declared_at : {i b : Bool} {at : ℕ} {ps : Parts} {s e : Token} → Begins text at s → Here (declarator i b) (node VariableDeclarator [] plain at e.stop ps) s e
   declared_at {e = e} b = placed b.next (ap (λ (x : ℕ). (x, e.stop)) b.start)
 
   -- with a value
-  pub valued_item : {i : Bool} {p v : Operand} {o at : ℕ} {s m x e : Token} {A V : List Pair} → ((u : LexicalToken) → Reads text Div s.stop u → at ≡ u.start) → PartAt text true Any p o s m A → (p.cover.shape.binds && is_pattern p.cover.shape.assigned) ≡ true →
+  pub valued_item : {i : Bool} {p v : Operand} {o at : ℕ} {s m x e : Token} {A V : List Pair} → ((u : LexicalToken) → Reads text.bytes Div s.stop u → at ≡ u.start) → PartAt text true Any p o s m A → (p.cover.shape.binds && is_pattern p.cover.shape.assigned) ≡ true →
       ReadsHere text Punctuator (codes "=") m x → PartAt text i Any v o x e V → v.cover.shape.is_expression ≡ true → IsTrue (takes Assignment v.rank) →
       (it : ListItem) → it ≡ record { node = node VariableDeclarator [] plain at e.stop (part (pattern_tree p.cover.node) (part v.cover.node none)); shape = value; spreads = false; is_flagged = false; edge = v.edge } →
       ItemReads text (listed.Declarators i) it o s e (A ++ V)
@@ -152,7 +139,7 @@ module _ (text : List ℕ) where
       reads as_expression h k = record {
         role = declarator i true;
         it_is = refl;
-        spelled = valued_spells Token (NextIn text any_goal) itself (text_determined text) (pattern_tree p.cover.node) u equals (right.stands expression Assignment i tk (λ k. refl)) (declared_at (target_begins starts u));
+        spelled = valued_spells Token (SeenNext text) (behind_in text) (seen_determined text) (pattern_tree p.cover.node) u equals (right.stands expression Assignment i tk (λ k. refl)) (declared_at (target_begins starts u));
       }
       reads (as_pattern b) h k = absurd (false≢true (sym right.goes_on ∙ k))
 
@@ -162,7 +149,7 @@ module _ (text : List ℕ) where
       no_rest (as_pattern b) h k t = refl
 
   -- and without; where it is marked, a pattern stands there, which wants one
-  pub valueless_item : {i marked : Bool} {p : Operand} {o at : ℕ} {s e : Token} {A : List Pair} → ((u : LexicalToken) → Reads text Div s.stop u → at ≡ u.start) → PartAt text true Any p o s e A → (p.cover.shape.binds && is_pattern p.cover.shape.assigned) ≡ true →
+  pub valueless_item : {i marked : Bool} {p : Operand} {o at : ℕ} {s e : Token} {A : List Pair} → ((u : LexicalToken) → Reads text.bytes Div s.stop u → at ≡ u.start) → PartAt text true Any p o s e A → (p.cover.shape.binds && is_pattern p.cover.shape.assigned) ≡ true →
       (marked ≡ false → kind_of p.cover.node ≡ Identifier) →
       (it : ListItem) → it ≡ record { node = node VariableDeclarator [] plain at e.stop (part (pattern_tree p.cover.node) (gap none)); shape = value; spreads = false; is_flagged = marked; edge = Closed } →
       ItemReads text (listed.Declarators i) it o s e A
@@ -193,12 +180,12 @@ module _ (text : List ℕ) where
       reads as_expression h k = record {
         role = declarator i true;
         it_is = refl;
-        spelled = alone_spells Token (NextIn text any_goal) itself (text_determined text) (pattern_tree p.cover.node) (named_bare p.cover.node (named (not_marked marked k))) u (declared_at (target_begins starts u));
+        spelled = alone_spells Token (SeenNext text) (behind_in text) (seen_determined text) (pattern_tree p.cover.node) (named_bare p.cover.node (named (not_marked marked k))) u (declared_at (target_begins starts u));
       }
       reads (as_pattern b) h k = record {
         role = declarator i false;
         it_is = refl;
-        spelled = alone_spells Token (NextIn text any_goal) itself (text_determined text) (pattern_tree p.cover.node) refl u (declared_at (target_begins starts u));
+        spelled = alone_spells Token (SeenNext text) (behind_in text) (seen_determined text) (pattern_tree p.cover.node) refl u (declared_at (target_begins starts u));
       }
 
       no_rest : (a : Reading) → has_reading (listed.Declarators i) a ≡ true → item_fits (listed.Declarators i) (record { node = n; shape = value; spreads = false; is_flagged = marked; edge = Closed }) a ≡ true →
@@ -207,7 +194,7 @@ module _ (text : List ℕ) where
       no_rest (as_pattern b) h k t = refl
 
 -- from the points between which they were read
-pub declared_valued : {s m x e : CursorState} {old mid next new : List Pair} {i : Bool} {at : ℕ} {p v : Operand} {q r : ExpressionContext} (it : ListItem) → ((u : LexicalToken) → Reads s.text Div s.last.stop u → at ≡ u.start) → q ≡ record { rank = Primary; has_in = true; start = Any } → r ≡ record { rank = Assignment; has_in = i; start = Any } →
+pub declared_valued : {s m x e : CursorState} {old mid next new : List Pair} {i : Bool} {at : ℕ} {p v : Operand} {q r : ExpressionContext} (it : ListItem) → ((u : LexicalToken) → Reads s.text.bytes Div s.last.stop u → at ≡ u.start) → q ≡ record { rank = Primary; has_in = true; start = Any } → r ≡ record { rank = Assignment; has_in = i; start = Any } →
     Adds s m old mid (ReadAt s.text q p) → (p.cover.shape.binds && is_pattern p.cover.shape.assigned) ≡ true → m.text ≡ s.text → x.text ≡ s.text → x.opened ≡ m.opened → next ≡ mid → ReadsHere m.text Punctuator (codes "=") m.last x.last →
     Adds x e next new (ReadAt x.text r v) → v.cover.shape.is_expression ≡ true → it ≡ record { node = node VariableDeclarator [] plain at e.last.stop (part (pattern_tree p.cover.node) (part v.cover.node none)); shape = value; spreads = false; is_flagged = false; edge = v.edge } →
     Adds s e old new (ItemReads s.text (listed.Declarators i) it)
@@ -217,7 +204,7 @@ declared_valued {s} {m} {x} {e} {i = i} {p = p} {v = v} {q = q} {r = r} it start
     let right : ReadAt s.text (record { rank = Assignment; has_in = i; start = Any }) v o x.last e.last Q = subst (λ t. ReadAt t (record { rank = Assignment; has_in = i; start = Any }) v o x.last e.last Q) there (subst (λ c. ReadAt x.text c v o x.last e.last Q) r_is w) in
     valued_item s.text starts target fits (subst (λ t. ReadsHere t Punctuator (codes "=") m.last x.last) here equals) right.part expression (right.taken refl) it is)
 
-pub declared_valueless : {s m e : CursorState} {old mid new : List Pair} {i marked : Bool} {at : ℕ} {p : Operand} {q : ExpressionContext} (it : ListItem) → ((u : LexicalToken) → Reads s.text Div s.last.stop u → at ≡ u.start) → q ≡ record { rank = Primary; has_in = true; start = Any } →
+pub declared_valueless : {s m e : CursorState} {old mid new : List Pair} {i marked : Bool} {at : ℕ} {p : Operand} {q : ExpressionContext} (it : ListItem) → ((u : LexicalToken) → Reads s.text.bytes Div s.last.stop u → at ≡ u.start) → q ≡ record { rank = Primary; has_in = true; start = Any } →
     Adds s m old mid (ReadAt s.text q p) → (p.cover.shape.binds && is_pattern p.cover.shape.assigned) ≡ true → e.opened ≡ m.opened → new ≡ mid → e.last ≡ m.last → (marked ≡ false → kind_of p.cover.node ≡ Identifier) →
     it ≡ record { node = node VariableDeclarator [] plain at e.last.stop (part (pattern_tree p.cover.node) (gap none)); shape = value; spreads = false; is_flagged = marked; edge = Closed } →
     Adds s e old new (ItemReads s.text (listed.Declarators i) it)

@@ -15,7 +15,6 @@ use Rattle.language.specs.Covers.{Reading, as_expression, as_pattern}
 use Rattle.language.specs.Derivation.{done, step, no_more}
 use Rattle.language.specs.Edges.{edge, last_edge, edge_as_written}
 use Rattle.language.specs.Pieces.{expr, is_none}
-use Rattle.language.specs.Places.{SpellsIn}
 use Rattle.language.specs.Token.{Token}
 use Rattle.language.specs.Claims.{max_open}
 use Rattle.covers.specs.declared.list.ListItem.{ListItem}
@@ -32,16 +31,18 @@ use Rattle.token_cursor.specs.Seen.{Misses}
 use Rattle.recursive_descent.proofs.reading.AddedPairs.{adds_behind, adds_both}
 use Rattle.recursive_descent.proofs.sound_lists.OneMoreItem.{has_items, join_none, semicolons_on}
 use Rattle.recursive_descent.proofs.sound_lists.ListReadings.{seen_step}
-use Rattle.recursive_descent.proofs.sound_lists.WholeLists.{FurtherOn, SemicolonsBefore, after_listed, after_nodes, semicolons_before, so_far_chunk, unless_is, whole_item}
+use Rattle.recursive_descent.proofs.sound_lists.WholeLists.{FurtherOn, SemicolonsBefore, after_listed, after_nodes, semicolons_before, so_far_chunk, unless_is, whole_item, item_up_to}
+use Rattle.token_cursor.specs.SourceText.{SourceText, behind_in}
+use Rattle.recursive_descent.specs.Spelled.{SpellsIn}
 
 -- The items from s to where none follows, in each reading that the whole has; the last right edge, and the last place.
-pub record ItemsAt (text : List ℕ) (f : Start) (l : ListOf) (o : ℕ) (s e : Token) (P : List Pair) : Type 0 where
+pub record ItemsAt (text : SourceText) (f : Start) (l : ListOf) (o : ℕ) (s e : Token) (P : List Pair) : Type 0 where
   pub runs : (a : Reading) → is_whole l a ≡ true → RunsIn text o (stood_in f l.listed (item_pieces l.listed a (all_read_as a l.nodes))) (all_read_as a l.nodes) s e P
   pub edge : asks_edge l.listed ≡ true → l.seen.edge ≡ edge_as_written (last_edge l.nodes) e
   pub inside : asks_last l.listed as_expression ≡ true → is_whole l as_expression ≡ true → l.inside.end ≡ e.stop
 
 -- from a list as far as it was read to all its items
-abbrev pub ItemsFrom : List ℕ → ListOf → ListOf → ℕ → Token → Token → List Pair → Type 0
+abbrev pub ItemsFrom : SourceText → ListOf → ListOf → ℕ → Token → Token → List Pair → Type 0
 ItemsFrom text l k o m e Q = (f : Start) (s : Token) (P : List Pair) → SoFarAt text f l o s m P → ItemsAt text f k o s e (P ++ Q)
 
 pushed_edge : (ps : Parts) (n : Tree) → last_edge (push ps n) ≡ edge n
@@ -77,7 +78,7 @@ some_counted none h = absurd (false≢true h)
 some_counted (part n ps) h = refl
 some_counted (gap ps) h = refl
 
-module _ (text : List ℕ) (f : Start) {o : ℕ} where
+module _ (text : SourceText) (f : Start) {o : ℕ} where
   still : {m t : Token} → t ≡ m → RunsIn text o [] none m t []
   still {m} h = subst (λ z. RunsIn text o [] none m z []) (sym h) done
 
@@ -88,6 +89,8 @@ module _ (text : List ℕ) (f : Start) {o : ℕ} where
   -- nothing is left then, or the list was stuck
   nothing_left : (x : ListKind) (l : ListOf) (a : Reading) (m : Token) (t : CursorState) → whole_of x l a ≡ true → IsOver x l t → SemicolonsBefore text x m t.last → (stuck_at x a l.nodes l.seen.has_comma ≡ true) ⊎ RunsIn text o (stood_in f x (left_of x l.seen.is_flagged a none)) none m t.last []
   nothing_left listed.Arguments l a m t w over passed = inr (still passed)
+  nothing_left listed.AsyncArguments l as_expression m t w over passed = inr (still passed)
+  nothing_left listed.AsyncArguments l (as_pattern b) m t w over passed = inr (still passed)
   nothing_left listed.Elements l as_expression m t w over passed = inr (still passed)
   nothing_left listed.Elements l (as_pattern b) m t w over passed = inr (still passed)
   nothing_left listed.Properties l as_expression m t w over passed = inr (still passed)
@@ -122,7 +125,7 @@ over_stuck (listed.Declarators i) l t over k w = over_edge (listed.Declarators i
 over_stuck _ l t over k w = absurd (false≢true k)
 
 -- where the list is over, all its items were read
-pub over_there : (text : List ℕ) (f : Start) (l : ListOf) (o : ℕ) (s m : Token) (t : CursorState) (P : List Pair) → SoFarAt text f l o s m P → SemicolonsBefore text l.listed m t.last → IsOver l.listed l t → ItemsAt text f l o s t.last (P ++ [])
+pub over_there : (text : SourceText) (f : Start) (l : ListOf) (o : ℕ) (s m : Token) (t : CursorState) (P : List Pair) → SoFarAt text f l o s m P → SemicolonsBefore text l.listed m t.last → IsOver l.listed l t → ItemsAt text f l o s t.last (P ++ [])
 over_there text f l o s m t P before passed over = record {
   runs = λ a w. of a w (nothing_left text f l.listed l a m t w over passed);
   edge = λ h. over_edge l.listed l t over h;
@@ -181,7 +184,7 @@ may_have listed.NoParameter s c h = absurd (true≢false h)
 may_have _ s c h = refl
 
 -- the last item, whatever it is
-last_there : (text : List ℕ) (f : Start) (l k1 k2 k : ListOf) {o : ℕ} (s m t : Token) (e x : CursorState) (P Q : List Pair) → SoFarAt text f l o s m P → SemicolonsBefore text l.listed m t → is_ended l.listed l.seen (part_count l.nodes) ≡ false → ItemAt text l k1 o t e.last Q →
+last_there : (text : SourceText) (f : Start) (l k1 k2 k : ListOf) {o : ℕ} (s m t : Token) (e x : CursorState) (P Q : List Pair) → SoFarAt text f l o s m P → SemicolonsBefore text l.listed m t → is_ended l.listed l.seen (part_count l.nodes) ≡ false → ItemAt text l k1 o t e.last Q →
     e.text ≡ text → k2.listed ≡ k1.listed → k2.nodes ≡ k1.nodes → k2.seen ≡ k1.seen → k2.inside.end ≡ e.last.stop → CommaAt e x k2 false → k ≡ after_item k2 false → ItemsAt text f k o s x.last (P ++ Q)
 last_there text f l k1 k2 k {o} s m t e x P Q before passed open_list (an_item it plain pushed took item target) here same nodes seen inside comma is =
     let sees : k2.seen ≡ seen_with l.seen it l.listed = seen ∙ ap (λ y. y.seen) pushed in
@@ -204,7 +207,7 @@ last_there text f l k1 k2 k {o} s m t e x P Q before passed open_list (a_hole el
 
     of : (is_ended k2.listed k2.seen (part_count k2.nodes) ≡ true) ⊎ ((is_unseparated k2.listed ≡ false) × Misses e.text Punctuator (codes ",") e.last) → ⊥
     of (inl h) = false≢true (sym (ap (λ y. is_ended y k2.seen (part_count k2.nodes)) kind) ∙ h)
-    of (inr h) = subst (λ y. Misses y Punctuator (codes ",") t) here (subst (λ y. Misses e.text Punctuator (codes ",") y) still_at h.1) comma_ahead.0 comma_ahead.0 comma_ahead.1
+    of (inr h) = subst (λ y. Misses y Punctuator (codes ",") t) here (subst (λ y. Misses e.text Punctuator (codes ",") y) still_at h.1) (behind_in text comma_ahead.0) comma_ahead.0 comma_ahead.1
 last_there text f l k1 k2 k {o} s m t e x P Q before passed open_list (a_chunk template n c mid pushed expression part_read) here same nodes seen inside comma is =
     let listed : k2.listed ≡ l.listed = same ∙ ap (λ y. y.listed) pushed in
     let kind : k.listed ≡ l.listed = ap (λ y. y.listed) is ∙ after_listed k2 false ∙ listed in
@@ -228,12 +231,7 @@ pub last_follows : {s m t e x : CursorState} {old mid tmid emid new : List Pair}
 last_follows {s} {m} {t} {e} {x} l0 l k1 k2 k before here passed there open_same same goes item further_on a b c inside open_after after comma is =
     let text : t.text ≡ s.text = there ∙ here in
     let passed' : SemicolonsBefore s.text l.listed m.last t.last = subst (λ y. SemicolonsBefore y l.listed m.last t.last) here (semicolons_before l.listed m t passed) in
-    let more : Adds t x _ _ (λ o _ z Q. ItemAt s.text l k1 o t.last e.last Q) = record {
-      more = item.more;
-      same_open = open_after ∙ item.same_open;
-      pairs = after ∙ item.pairs;
-      is = subst (λ y. ItemAt y l k1 (max_open - t.opened) t.last e.last (grouping item.more)) text item.is;
-    } in
+    let more : Adds t x _ _ (λ o _ z Q. ItemAt s.text l k1 o t.last e.last Q) = item_up_to s.text l k1 text item open_after after in
     adds_both before (adds_behind {B = λ o _ z Q. ItemAt s.text l k1 o t.last e.last Q} open_same same more (λ o P h. h)) (λ o P Q u v f z R h.
     subst (λ y. ItemsAt s.text f k o z x.last y) (append_assoc R P Q) (last_there s.text f l k1 k2 k z m.last t.last e x (R ++ P) Q (u f z R h) passed' goes v (further_on ∙ text) a b c inside comma is))
 

@@ -64,6 +64,7 @@ abbrev pub is_shaped : ListKind → Bool
 is_shaped listed.Elements = true
 is_shaped listed.Properties = true
 is_shaped listed.ParenthesizedItems = true
+is_shaped listed.AsyncArguments = true
 is_shaped listed.Parameters = true
 is_shaped listed.NoParameter = true
 is_shaped listed.OneParameter = true
@@ -72,14 +73,6 @@ is_shaped _ = false
 -- a comma stands behind an item only where that is no rest
 abbrev Stepped : Bool → Bool → ListKind → CoverShape → CoverShape → Reading → Type 0
 Stepped comma sp x s p a = (fits_as s a ≡ true) × (cond sp (fits_rest x p a) (fits_as p a) ≡ true) × ((comma ≡ true) → (b : Bool) → a ≡ as_pattern b → sp ≡ false)
-
-rest_same : (x : ListKind) (p : CoverShape) (a : Reading) → is_shaped x ≡ true → fits_rest listed.Elements p a ≡ true → (x ≡ listed.ParenthesizedItems → a ≡ as_expression → ⊥) → fits_rest x p a ≡ true
-rest_same listed.ParenthesizedItems p as_expression h k un = absurd (un refl refl)
-rest_same listed.ParenthesizedItems p (as_pattern false) h k un = k
-rest_same listed.ParenthesizedItems p (as_pattern true) h k un = k
-rest_same _ p as_expression h k un = k
-rest_same _ p (as_pattern false) h k un = k
-rest_same _ p (as_pattern true) h k un = k
 
 shape_step : (comma sp : Bool) (x : ListKind) (s p : CoverShape) (a : Reading) → is_shaped x ≡ true → fits_as (stepped comma sp x s p) a ≡ true → Stepped comma sp x s p a
 shape_step true false x s p a sh h = let u = alone_step s p a h in (u.0, u.1, λ c b q. refl)
@@ -186,5 +179,6 @@ fits_step comma listed.OneParameter l k it a c r t ns sn h =
 fits_step comma listed.Elements l k it a c r t ns sn h = let u = shape_step comma it.spreads listed.Elements l.seen.shape it.shape a refl (sym (ap (λ (y : ListSummary). fits_as y.shape a) sn) ∙ h) in (or_right (is_none l.nodes) _ u.0, u.1, λ y. trails comma it a u.2)
 fits_step comma listed.Properties l k it a c r t ns sn h = let u = shape_step comma it.spreads listed.Properties l.seen.shape it.shape a refl (sym (ap (λ (y : ListSummary). fits_as y.shape a) sn) ∙ h) in (or_right (is_none l.nodes) _ u.0, u.1, λ y. trails comma it a u.2)
 fits_step comma listed.ParenthesizedItems l k it a c r t ns sn h = let u = shape_step comma it.spreads listed.ParenthesizedItems l.seen.shape it.shape a refl (sym (ap (λ (y : ListSummary). fits_as y.shape a) sn) ∙ h) in (or_right (is_none l.nodes) _ u.0, u.1, λ y. trails comma it a u.2)
+fits_step comma listed.AsyncArguments l k it a c r t ns sn h = let u = shape_step comma it.spreads listed.AsyncArguments l.seen.shape it.shape a refl (sym (ap (λ (y : ListSummary). fits_as y.shape a) sn) ∙ h) in (or_right (is_none l.nodes) _ u.0, u.1, λ y. trails comma it a u.2)
 fits_step comma listed.Parameters l k it a c r t ns sn h = let u = shape_step comma it.spreads listed.Parameters l.seen.shape it.shape a refl (sym (ap (λ (y : ListSummary). fits_as y.shape a) sn) ∙ h) in (or_right (is_none l.nodes) _ u.0, u.1, λ y. trails comma it a u.2)
 fits_step comma listed.NoParameter l k it a c r t ns sn h = let u = shape_step comma it.spreads listed.NoParameter l.seen.shape it.shape a refl (sym (ap (λ (y : ListSummary). fits_as y.shape a) sn) ∙ h) in (or_right (is_none l.nodes) _ u.0, u.1, λ y. trails comma it a u.2)

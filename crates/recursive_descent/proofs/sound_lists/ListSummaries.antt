@@ -21,6 +21,7 @@ use Rattle.covers.specs.Shapes.{is_pattern, is_element, unassigned, value}
 use Rattle.recursive_descent.specs.Soundness.{Adds}
 use Rattle.parser_tables.specs.Items.{after_item, is_unseparated}
 use Rattle.recursive_descent.specs.SoundnessOfLists.{ItemAt, an_item, a_hole, a_chunk, SeenRight, case_count, is_list_shape}
+use Rattle.token_cursor.specs.SourceText.{SourceText}
 
 abbrev is_cases : ListKind → Bool
 is_cases (listed.Cases r) = true
@@ -76,7 +77,7 @@ no_cases : (x y : ListKind) (ps : Parts) (b : Bool) → x ≡ y → is_cases y �
 no_cases (listed.Cases r) y ps b h k = absurd (false≢true (sym k ∙ ap is_cases (sym h)))
 no_cases _ y ps b h k = none_le b
 
-pub right_item : {text : List ℕ} (l k : ListOf) {o : ℕ} {s e : Token} {P : List Pair} → ItemAt text l k o s e P → SeenRight l → SeenRight k
+pub right_item : {text : SourceText} (l k : ListOf) {o : ℕ} {s e : Token} {P : List Pair} → ItemAt text l k o s e P → SeenRight l → SeenRight k
 right_item l k (an_item it plain pushed took item target) h = subst SeenRight (sym pushed) (record {
   together = shape_right it.spreads l.listed l.seen.shape it.shape h.together;
   target = λ n covers nodes expression tg. subst (λ m. is_simple (kind_of m) ≡ true) (push_alone l.nodes it.node n nodes) (target covers (alone_covers it.spreads l.listed l.seen.shape it.shape covers expression) tg);
@@ -99,7 +100,7 @@ right_item l k (a_chunk template n c mid pushed expression part_read) h = subst 
     other : listed.Template ≡ listed.ParenthesizedItems → ⊥
     other e = cc
 
-pub right_items : {s e : CursorState} {old new : List Pair} {text : List ℕ} (l k : ListOf) → Adds s e old new (ItemAt text l k) → SeenRight l → SeenRight k
+pub right_items : {s e : CursorState} {old new : List Pair} {text : SourceText} (l k : ListOf) → Adds s e old new (ItemAt text l k) → SeenRight l → SeenRight k
 right_items l k a h = right_item l k a.is h
 
 pub right_after : (k : ListOf) (b : Bool) → SeenRight k → SeenRight (after_item k b)

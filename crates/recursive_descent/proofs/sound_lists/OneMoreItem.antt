@@ -3,7 +3,6 @@ use Rattle.std.proofs.Common.{◌≡◌, ℕ, Bool, true, false, cond, List, [],
 use Rattle.std.specs.Prelude.{Option, Some, None, codes, map}
 use Rattle.std.proofs.lemmas.List.{append-nil}
 use Rattle.std.proofs.lemmas.Bool.{true≢false}
-use Rattle.tokens.specs.Reading.{any_goal}
 use Rattle.tokens.specs.declared.token.TokenClass.TheVariants.{Punctuator}
 use Rattle.tree.specs.declared.kind.Kind.{Kind}
 use Rattle.tree.specs.declared.kind.Kind.TheVariants.{SpreadElement, RestElement, Property}
@@ -18,7 +17,6 @@ use Rattle.language.specs.Pieces.{Role, expr, declarator, switch_case, member, P
 use Rattle.language.specs.Expressions.{assignment, sequence, object_part, object_pattern_part}
 use Rattle.language.specs.Statements.{lines, declarators, member_lines}
 use Rattle.language.specs.Token.{Token}
-use Rattle.language.specs.Places.{NextIn, itself, SpellsIn}
 use Rattle.language.specs.Derivation.{done, step, within, missing, token, with_mark, without_mark, no_more, one_more as another, laid}
 use Rattle.language.proofs.list_loops.FirstPieces.{run_never}
 use Rattle.covers.specs.declared.list.ListKind.{ListKind}
@@ -28,6 +26,8 @@ use Rattle.recursive_descent.specs.Soundness.{RunsIn, SpelledAs, read_as, all_re
 use Rattle.recursive_descent.specs.SoundnessOfLists.{stood_in, left_of, has_reading, item_role, several, is_chunked}
 use Rattle.recursive_descent.specs.Follows.{Semicolons, none_passed, one_more}
 use Rattle.token_cursor.specs.Seen.{ReadsHere}
+use Rattle.token_cursor.specs.SourceText.{SourceText, SeenNext, behind_in}
+use Rattle.recursive_descent.specs.Spelled.{SpellsIn}
 
 -- the parts in a reading, with one more
 join_push : (qs : Parts) (n : Tree) (ps : Parts) → join (push qs n) ps ≡ join qs (part n ps)
@@ -75,13 +75,13 @@ pattern_piece b (node Property w g s e ps) = refl
 pattern_piece b (node _ w g s e ps) = refl
 
 -- a comma, where one stands between items
-abbrev pub CommaBetween : List ℕ → ListKind → Token → Token → Type 0
+abbrev pub CommaBetween : SourceText → ListKind → Token → Token → Type 0
 CommaBetween text listed.Members s e = e ≡ s
 CommaBetween text (listed.Cases r) s e = e ≡ s
 CommaBetween text listed.Template s e = e ≡ s
 CommaBetween text _ s e = ReadsHere text Punctuator (codes ",") s e
 
-module _ (text : List ℕ) (i : Bool) (f : Start) where
+module _ (text : SourceText) (i : Bool) (f : Start) where
   abbrev Settled : List Piece → List (PieceOf Role)
   Settled qs = map (settle_piece Expression i f) qs
 
@@ -107,7 +107,7 @@ module _ (text : List ℕ) (i : Bool) (f : Start) where
         of : (c : Bool) → c ≡ false → RunsIn text o (Settled (cond c nothing (sign "," ∷ sp ∷ []) ++ listed_pieces g (part n ps))) (part n ps) m e R
         of true h = absurd (true≢false h)
         of false h = step (token comma) (step laid d)
-    listed_comma g k (gap ps) h d = absurd (run_never Token (NextIn text any_goal) itself d)
+    listed_comma g k (gap ps) h d = absurd (run_never Token (SeenNext text) (behind_in text) d)
 
     elements_comma : (g : Tree → Piece) (k : Kind) (ps : Parts) → is_rest k ≡ false → RunsIn text o (Settled (elements g ps)) ps x e R → RunsIn text o (Settled (separator k (is_none ps) ++ elements g ps)) ps m e R
     elements_comma g k none h d = of (is_rest k) h
@@ -134,14 +134,14 @@ module _ (text : List ℕ) (i : Bool) (f : Start) where
 
     -- expressions
     several_comma : (q : Piece) (ps : Parts) → settle_piece Expression i f q ≡ settle_piece Expression i f (sub (tail Assignment Any)) → RunsIn text o (Settled (several q ps)) ps x e R → RunsIn text o (Settled (sequence ps)) ps m e R
-    several_comma q none same d = absurd (run_never Token (NextIn text any_goal) itself d)
+    several_comma q none same d = absurd (run_never Token (SeenNext text) (behind_in text) d)
     several_comma q (part n ps) same d = step (token comma) (step laid (subst (λ y. RunsIn text o (y ∷ Settled (sequence ps)) (part n ps) x e R) same d))
-    several_comma q (gap ps) same d = absurd (run_never Token (NextIn text any_goal) itself d)
+    several_comma q (gap ps) same d = absurd (run_never Token (SeenNext text) (behind_in text) d)
 
     declarators_comma : {n : Tree} {s : Token} {P : List Pair} (a : Role) (ps : Parts) → SpellsIn text o a n s m P → RunsIn text o (Settled (declarators a ps)) ps x e R → RunsIn text o (Settled (declarators a (part n ps))) (part n ps) s e (P ++ R)
-    declarators_comma a none p d = absurd (run_never Token (NextIn text any_goal) itself d)
+    declarators_comma a none p d = absurd (run_never Token (SeenNext text) (behind_in text) d)
     declarators_comma a (part k ps) p d = within p (step (token comma) (step laid d))
-    declarators_comma a (gap ps) p d = absurd (run_never Token (NextIn text any_goal) itself d)
+    declarators_comma a (gap ps) p d = absurd (run_never Token (SeenNext text) (behind_in text) d)
 
   -- no comma behind the last
   listed_end : {o : ℕ} {m : Token} (k : Kind) → RunsIn text o (Settled (separator k true ++ [])) none m m []
@@ -172,6 +172,7 @@ trails_at listed.Arguments = true
 trails_at listed.Elements = true
 trails_at listed.Properties = true
 trails_at listed.ParenthesizedItems = true
+trails_at listed.AsyncArguments = true
 trails_at listed.Parameters = true
 trails_at _ = false
 
@@ -183,7 +184,7 @@ has_items _ = true
 some_is : {a b : Role} → Some a ≡ Some b → a ≡ b
 some_is e = cc
 
-module _ (text : List ℕ) (f : Start) {o : ℕ} {s m x e : Token} {Q R : List Pair} where
+module _ (text : SourceText) (f : Start) {o : ℕ} {s m x e : Token} {Q R : List Pair} where
   -- one more item and a comma, where one stands between items
   pub next_runs : (l : ListKind) (before after : Bool) (a : Reading) (n : Tree) (ps : Parts) → goes_on_at l ≡ true → has_reading l a ≡ true → SpelledAs (item_role l a) text o n s m Q → (trails_at l ≡ true → is_rest (kind_of n) ≡ false) → CommaBetween text l m x →
       RunsIn text o (stood_in f l (left_of l after a ps)) ps x e R → RunsIn text o (stood_in f l (left_of l before a (part n ps))) (part n ps) s e (Q ++ R)
@@ -195,6 +196,9 @@ module _ (text : List ℕ) (f : Start) {o : ℕ} {s m x e : Token} {Q R : List P
   next_runs listed.Properties u v (as_pattern b) n ps g h it plain comma d = item_by text true f (property_as (as_pattern b) (kind_of n)) (object_pattern_part b n) (pattern_piece b n) it.it_is it.spelled (listed_comma text true f comma (object_pattern_part b) (kind_of n) ps (plain refl) d)
   next_runs listed.ParenthesizedItems u v as_expression n ps g h it plain comma d = item_on text true f (Some (expr Assignment true Any)) it.it_is it.spelled (several_comma text true f comma assignment ps refl d)
   next_runs listed.ParenthesizedItems u v (as_pattern b) n ps g h it plain comma d = item_on text true f (element_as (as_pattern b) (kind_of n)) it.it_is it.spelled (listed_comma text true f comma (pattern_element b) (kind_of n) ps (plain refl) d)
+  next_runs listed.AsyncArguments u v as_expression n ps g h it plain comma d = item_on text true f (element_as as_expression (kind_of n)) it.it_is it.spelled (listed_comma text true f comma argument (kind_of n) ps (plain refl) d)
+  next_runs listed.AsyncArguments u v (as_pattern true) n ps g h it plain comma d = item_on text true f (element_as (as_pattern true) (kind_of n)) it.it_is it.spelled (listed_comma text true f comma (pattern_element true) (kind_of n) ps (plain refl) d)
+  next_runs listed.AsyncArguments u v (as_pattern false) n ps g h it plain comma d = cc
   next_runs listed.Parameters u v as_expression n ps g h it plain comma d = cc
   next_runs listed.Parameters u v (as_pattern true) n ps g h it plain comma d = item_on text true f (element_as (as_pattern true) (kind_of n)) it.it_is it.spelled (listed_comma text true f comma (pattern_element true) (kind_of n) ps (plain refl) d)
   next_runs listed.Parameters u v (as_pattern false) n ps g h it plain comma d = cc
@@ -215,7 +219,7 @@ module _ (text : List ℕ) (f : Start) {o : ℕ} {s m x e : Token} {Q R : List P
   next_runs listed.Members u v a n ps g h it plain comma d = step no_more (step laid (item_on text true f (Some member) it.it_is it.spelled (subst (λ y. RunsIn text o (stood_in f listed.Members (many (codes ";") ∷ member_lines ps)) ps y e R) comma d)))
 
 -- the last item
-module _ (text : List ℕ) (f : Start) {o : ℕ} {s m : Token} {Q : List Pair} where
+module _ (text : SourceText) (f : Start) {o : ℕ} {s m : Token} {Q : List Pair} where
   -- what ends behind it
   ends_with : {qs : List (PieceOf Role)} {n : Tree} → RunsIn text o qs (part n none) s m (Q ++ []) → RunsIn text o qs (part n none) s m Q
   ends_with {qs} {n} d = subst (λ R. RunsIn text o qs (part n none) s m R) (append-nil Q) d
@@ -229,6 +233,9 @@ module _ (text : List ℕ) (f : Start) {o : ℕ} {s m : Token} {Q : List Pair} w
   last_runs listed.Properties u (as_pattern b) n c k h it = ends_with (item_by text true f (property_as (as_pattern b) (kind_of n)) (object_pattern_part b n) (pattern_piece b n) it.it_is it.spelled (listed_end text true f (kind_of n)))
   last_runs listed.ParenthesizedItems u as_expression n c k h it = ends_with (item_on text true f (Some (expr Assignment true Any)) it.it_is it.spelled done)
   last_runs listed.ParenthesizedItems u (as_pattern b) n c k h it = ends_with (item_on text true f (element_as (as_pattern b) (kind_of n)) it.it_is it.spelled (listed_end text true f (kind_of n)))
+  last_runs listed.AsyncArguments u as_expression n c k h it = ends_with (item_on text true f (element_as as_expression (kind_of n)) it.it_is it.spelled (listed_end text true f (kind_of n)))
+  last_runs listed.AsyncArguments u (as_pattern true) n c k h it = ends_with (item_on text true f (element_as (as_pattern true) (kind_of n)) it.it_is it.spelled (listed_end text true f (kind_of n)))
+  last_runs listed.AsyncArguments u (as_pattern false) n c k h it = cc
   last_runs listed.Parameters u as_expression n c k h it = cc
   last_runs listed.Parameters u (as_pattern true) n c k h it = ends_with (item_on text true f (element_as (as_pattern true) (kind_of n)) it.it_is it.spelled (listed_end text true f (kind_of n)))
   last_runs listed.Parameters u (as_pattern false) n c k h it = cc

@@ -5,7 +5,7 @@ use Rattle.std.specs.Result.{IfOk}
 use Rattle.source_text.specs.declared.fault.Fault.{Fault}
 use Rattle.std.proofs.lemmas.Bool.{and_parts, false≢true, true≢false}
 use Rattle.std.proofs.lemmas.Option.{none-some}
-use Rattle.tokens.specs.Reading.{Reads, any_goal}
+use Rattle.tokens.specs.Reading.{Reads}
 use Rattle.tokens.specs.Tokens.{LexicalToken}
 use Rattle.tokens.specs.declared.token.TokenClass.TheVariants.{Punctuator}
 use Rattle.tokens.specs.declared.token.Goal.TheVariants.{Div}
@@ -23,11 +23,10 @@ use Rattle.language.specs.Covers.{Reading, as_expression, as_pattern, element_as
 use Rattle.language.specs.Grammar.{ways}
 use Rattle.language.specs.Pieces.{Role, expr, spread, rest, bound, with_default}
 use Rattle.language.specs.Token.{Token}
-use Rattle.language.specs.Places.{NextIn, itself, SpellsIn}
 use Rattle.language.specs.Derivation.{direct, grouped}
 use Rattle.language.specs.Claims.{max_open}
 use Rattle.language.proofs.covers.CoverSpreads.{spread_spells, rest_spells, expression_kind}
-use Rattle.language.proofs.texts.TextOffsets.{text_determined}
+use Rattle.token_cursor.proofs.SeenTokens.{seen_determined}
 use Rattle.language.proofs.table.ViewIsComplete.{way_of}
 use Rattle.covers.specs.declared.shape.TargetForm.{TargetForm}
 use Rattle.covers.specs.declared.shape.TargetForm.TheVariants as assigned
@@ -49,9 +48,11 @@ use Rattle.parser_tables.specs.Items.{element_item, element_levels, item_from, w
 use Rattle.recursive_descent.specs.Follows.{ChunkAt}
 use Rattle.token_cursor.specs.Seen.{ReadsHere}
 use Rattle.recursive_descent.proofs.reading.AddedPairs.{adds_behind}
-use Rattle.recursive_descent.proofs.sound_lists.Declarators.{place_of}
 use Rattle.token_cursor.proofs.TokensAhead.{mark_by}
 use Rattle.recursive_descent.proofs.sound_statements.StatementLists.{push_low}
+use Rattle.token_cursor.specs.SourceText.{SourceText, SeenNext, behind_in}
+use Rattle.recursive_descent.specs.Spelled.{SpellsIn}
+use Rattle.recursive_descent.proofs.reading.Forward.{place_by}
 
 -- lists whose items are expressions, alone or behind `...`
 abbrev pub lists_elements : ListKind → Bool
@@ -146,7 +147,7 @@ target_simple Identifier h = refl
 target_simple MemberExpression h = refl
 target_simple _ h = absurd (none-some _ h)
 
-module _ (text : List ℕ) where
+module _ (text : SourceText) where
   -- no expression is a rest
   pub expression_no_rest : {o : ℕ} {y : Rank} {i : Bool} {f : Start} {n : Tree} {s e : Token} {P : List Pair} → SpellsIn text o (expr y i f) n s e P → is_rest (kind_of n) ≡ false
   unfolding Rattle.language.specs.Grammar.spellings Rattle.language.specs.Expressions.expressions
@@ -188,10 +189,10 @@ module _ (at : ℕ) (p : Operand) (stop : ℕ) where
   alone_fits (listed.OneParameter) a h k = k
   alone_fits _ a h k = k
 
-module _ (text : List ℕ) (p : Operand) {o : ℕ} {s e : Token} {P : List Pair} where
+module _ (text : SourceText) (p : Operand) {o : ℕ} {s e : Token} {P : List Pair} where
   expression_element : {n : Tree} → SpellsIn text o (expr Assignment true Any) n s e P → SpelledAs (element_as as_expression) text o n s e P
   expression_element {n} d =
-      let no_spread : is_spread (kind_of n) ≡ false = expression_kind Token (NextIn text any_goal) itself (text_determined text) d in
+      let no_spread : is_spread (kind_of n) ≡ false = expression_kind Token (SeenNext text) (behind_in text) (seen_determined text) d in
       record { role = expr Assignment true Any; it_is = ap (λ c. Some (cond c spread (expr Assignment true Any))) no_spread; spelled = d }
 
   default_there : (b : Bool) (n : Tree) → SpelledAs (assigned_at p.cover.shape.assigned Any b) text o n s e P → SpelledAs (with_default b) text o n s e P
@@ -210,6 +211,8 @@ module _ (text : List ℕ) (p : Operand) {o : ℕ} {s e : Token} {P : List Pair}
   alone_reads listed.Elements h r tk (as_pattern b) k fits = element_there b (pattern_tree p.cover.node) (an_element text r tk b refl fits)
   alone_reads listed.ParenthesizedItems h r tk as_expression k fits = record { role = expr Assignment true Any; it_is = refl; spelled = an_expression text r tk fits }
   alone_reads listed.ParenthesizedItems h r tk (as_pattern b) k fits = element_there b (pattern_tree p.cover.node) (an_element text r tk b refl fits)
+  alone_reads listed.AsyncArguments h r tk as_expression k fits = expression_element (an_expression text r tk fits)
+  alone_reads listed.AsyncArguments h r tk (as_pattern b) k fits = element_there b (pattern_tree p.cover.node) (an_element text r tk b refl fits)
   alone_reads listed.Parameters h r tk as_expression k fits = absurd (false≢true k)
   alone_reads listed.Parameters h r tk (as_pattern b) k fits = element_there b (pattern_tree p.cover.node) (an_element text r tk b refl fits)
   alone_reads listed.NoParameter h r tk as_expression k fits = absurd (false≢true k)
@@ -235,16 +238,16 @@ module _ (text : List ℕ) (p : Operand) {o : ℕ} {s e : Token} {P : List Pair}
           (element_of p.cover.shape.assigned b (kind_of (pattern_tree p.cover.node)) u.it_is).1
 
 -- an element behind `...`
-module _ (text : List ℕ) (p : Operand) {o : ℕ} {s m e : Token} {P : List Pair} (at : ℕ) (starts : (u : LexicalToken) → Reads text Div s.stop u → at ≡ u.start) (dots : ReadsHere text Punctuator (codes "...") s m) where
+module _ (text : SourceText) (p : Operand) {o : ℕ} {s m e : Token} {P : List Pair} (at : ℕ) (starts : (u : LexicalToken) → Reads text.bytes Div s.stop u → at ≡ u.start) (dots : ReadsHere text Punctuator (codes "...") s m) where
   a_spread : SpellsIn text o (expr Assignment true Any) p.cover.node m e P → SpelledAs (element_as as_expression) text o (node SpreadElement [] plain at e.stop (part p.cover.node none)) s e P
-  a_spread d = record { role = spread; it_is = refl; spelled = subst (λ x. SpellsIn text o spread (node SpreadElement [] plain x e.stop (part p.cover.node none)) s e P) (sym (place_of text starts (mark_by text dots))) (spread_spells Token (NextIn text any_goal) itself (text_determined text) dots d) }
+  a_spread d = record { role = spread; it_is = refl; spelled = subst (λ x. SpellsIn text o spread (node SpreadElement [] plain x e.stop (part p.cover.node none)) s e P) (sym (place_by text starts (mark_by text dots))) (spread_spells Token (SeenNext text) (behind_in text) (seen_determined text) dots d) }
 
   a_rest : (b : Bool) → is_pattern p.cover.shape.assigned ≡ true → SpelledAs (assigned_at p.cover.shape.assigned Any b) text o (pattern_tree p.cover.node) m e P → SpelledAs (element_as (as_pattern b)) text o (node RestElement [] plain at e.stop (part (pattern_tree p.cover.node) none)) s e P
   a_rest b tight u = record {
     role = rest b false;
     it_is = refl;
-    spelled = subst (λ x. SpellsIn text o (rest b false) (node RestElement [] plain x e.stop (part (pattern_tree p.cover.node) none)) s e P) (sym (place_of text starts (mark_by text dots)))
-        (rest_spells Token (NextIn text any_goal) itself (text_determined text) b false (bound_of p.cover.shape.assigned b (kind_of (pattern_tree p.cover.node)) tight u.it_is) refl dots u.spelled);
+    spelled = subst (λ x. SpellsIn text o (rest b false) (node RestElement [] plain x e.stop (part (pattern_tree p.cover.node) none)) s e P) (sym (place_by text starts (mark_by text dots)))
+        (rest_spells Token (SeenNext text) (behind_in text) (seen_determined text) b false (bound_of p.cover.shape.assigned b (kind_of (pattern_tree p.cover.node)) tight u.it_is) refl dots u.spelled);
   }
 
   module _ (r : PartAt text true Any p o m e P) (tk : IsTrue (takes_rank Assignment p.rank)) where
@@ -258,6 +261,10 @@ module _ (text : List ℕ) (p : Operand) {o : ℕ} {s m e : Token} {P : List Pai
     fit_cover : (b : Bool) → fits_rest listed.ParenthesizedItems p.cover.shape (as_pattern b) ≡ true → fits_rest listed.Elements p.cover.shape (as_pattern b) ≡ true
     fit_cover true h = h
     fit_cover false h = h
+
+    fit_async : (b : Bool) → fits_rest listed.AsyncArguments p.cover.shape (as_pattern b) ≡ true → fits_rest listed.Elements p.cover.shape (as_pattern b) ≡ true
+    fit_async true h = h
+    fit_async false h = h
 
     fit_parameter : (b : Bool) → fits_rest listed.Parameters p.cover.shape (as_pattern b) ≡ true → fits_rest listed.Elements p.cover.shape (as_pattern b) ≡ true
     fit_parameter true h = h
@@ -274,6 +281,8 @@ module _ (text : List ℕ) (p : Operand) {o : ℕ} {s m e : Token} {P : List Pai
     spread_reads listed.Elements h n (as_pattern b) k fits = rest_reads b fits
     spread_reads listed.ParenthesizedItems h n as_expression k fits = absurd (false≢true fits)
     spread_reads listed.ParenthesizedItems h n (as_pattern b) k fits = rest_reads b (fit_cover b fits)
+    spread_reads listed.AsyncArguments h n as_expression k fits = a_spread (an_expression text r tk fits)
+    spread_reads listed.AsyncArguments h n (as_pattern b) k fits = rest_reads b (fit_async b fits)
     spread_reads listed.Parameters h n as_expression k fits = absurd (false≢true k)
     spread_reads listed.Parameters h n (as_pattern b) k fits = rest_reads b (fit_parameter b fits)
     spread_reads listed.NoParameter h n as_expression k fits = absurd (false≢true k)
@@ -333,7 +342,7 @@ alone_item {s} {e} l {q = q} at p it q_is el is a = adds_behind refl refl a (λ 
     subst (λ x. ItemReads s.text l x o s.last e.last P) (sym is) (element_alone s.text p l at el read.part (read.taken refl)))
 
 pub spread_item : {s m e : CursorState} {old mid new : List Pair} (l : ListKind) {q : ExpressionContext} (at : ℕ) (p : Operand) (it : ListItem) → q ≡ record { rank = Assignment; has_in = true; start = Any } → lists_elements l ≡ true → asks_edge l ≡ false → it ≡ element_item true at e.last.stop p →
-    ((u : LexicalToken) → Reads s.text Div s.last.stop u → at ≡ u.start) → ReadsHere s.text Punctuator (codes "...") s.last m.last → m.text ≡ s.text → m.opened ≡ s.opened → mid ≡ old → Adds m e mid new (ReadAt m.text q p) → Adds s e old new (ItemReads s.text l it)
+    ((u : LexicalToken) → Reads s.text.bytes Div s.last.stop u → at ≡ u.start) → ReadsHere s.text Punctuator (codes "...") s.last m.last → m.text ≡ s.text → m.opened ≡ s.opened → mid ≡ old → Adds m e mid new (ReadAt m.text q p) → Adds s e old new (ItemReads s.text l it)
 spread_item {s} {m} {e} l {q = q} at p it q_is el bare is starts dots here open_same same a = adds_behind open_same same a (λ o P d.
     let read : ReadAt s.text (record { rank = Assignment; has_in = true; start = Any }) p o m.last e.last P = subst (λ t. ReadAt t (record { rank = Assignment; has_in = true; start = Any }) p o m.last e.last P) here (subst (λ (x : ExpressionContext). ReadAt m.text x p o m.last e.last P) q_is d) in
     subst (λ x. ItemReads s.text l x o s.last e.last P) (sym is) (element_spread s.text p at starts dots read.part (read.taken refl) l el bare))
@@ -363,7 +372,7 @@ is_an_element l x is h = ap (λ y. lists_elements y && not (asks_edge y)) is ∙
 some_height : (n : Tree) (high : ℕ) → height n ≤ high → 1 ≤ high
 some_height (node k w g s e ps) high h = omega arith
 
-pub low_chunk : (text : List ℕ) (s e : Token) (l l1 k : ListOf) (p : Operand) (c : ListItem) (high : ℕ) (r : Result (Unit {0}) Fault) → l1 ≡ with_item l (item_from p.cover.node value false Closed) → IfOk r (λ u. k ≡ with_item l1 c) → height p.cover.node ≤ high → ChunkAt text s e c.node c.is_flagged →
+pub low_chunk : (text : SourceText) (s e : Token) (l l1 k : ListOf) (p : Operand) (c : ListItem) (high : ℕ) (r : Result (Unit {0}) Fault) → l1 ≡ with_item l (item_from p.cover.node value false Closed) → IfOk r (λ u. k ≡ with_item l1 c) → height p.cover.node ≤ high → ChunkAt text s e c.node c.is_flagged →
     IfOk r (λ u. parts_height l.nodes ≤ high → parts_height k.nodes ≤ high)
 low_chunk text s e l l1 k' p c high (Err f) first k h chunk = tt
 low_chunk text s e l l1 k' p c high (Ok u) first k h chunk = λ b.
@@ -375,6 +384,7 @@ pub elements_only : (l : ListKind) → (lists_elements l && not (asks_edge l)) �
 elements_only listed.Arguments h = (refl, refl, refl)
 elements_only listed.Elements h = (refl, refl, refl)
 elements_only listed.ParenthesizedItems h = (refl, refl, refl)
+elements_only listed.AsyncArguments h = (refl, refl, refl)
 elements_only listed.Parameters h = (refl, refl, refl)
 elements_only listed.NoParameter h = (refl, refl, refl)
 elements_only listed.OneParameter h = (refl, refl, refl)

@@ -13,13 +13,16 @@ use Rattle.tokens.specs.Alphabet.{one_of, begins_with, is_empty, carriage_return
 use Rattle.tokens.specs.Lexical.{is_of}
 use Rattle.tokens.specs.Templates.{closes_template, is_template, line_end_turned, raw_after, raw_value}
 use Rattle.tokens.specs.Tokens.{LexicalToken}
-use Rattle.tokens.specs.Reading.{behind}
+use Rattle.tokens.specs.Reading.{behind, Reads}
 use Rattle.tokens.proofs.Classes.{token_is}
 use Rattle.token_cursor.specs.CursorState.{IsAhead}
 use Rattle.tree.specs.declared.kind.Kind.TheVariants.{TemplateElement}
 use Rattle.tree.specs.declared.kind.Span.{Span}
 use Rattle.tree.specs.Tree.{Tree, node, none, plain}
 use Rattle.recursive_descent.specs.TemplateElements.{front, back, Holds, part_node}
+use Rattle.token_cursor.specs.SourceText.{SourceText}
+use Rattle.language.specs.Later.{has_later}
+use Rattle.recursive_descent.proofs.reading.SeenClasses.{steady_class}
 
 is_equal : (a d : ℕ) → (a == d) ≡ true → a ≡ d
 is_equal a d h = grind (arith, nat_tests)
@@ -203,12 +206,12 @@ back_encoded true = ap (λ x. x ++ encode_utf8_all []) (encode_ascii 96 (omega a
 back_encoded false = ap (λ x. x ++ encode_utf8_all (123 ∷ [])) (encode_ascii 36 (omega arith)) ∙ ap (λ x. 36 ∷ (x ++ encode_utf8_all [])) (encode_ascii 123 (omega arith))
 
 -- a template's token has delimiters
-pub held : (text : List ℕ) (g : Goal) (at : ℕ) (u : LexicalToken) → IsAhead g text at u → u.class ≡ Template → Held u.text
-held text g at u a h = of a.read.word a.read.text (subst (λ c. IsTrue (is_of c a.read.word)) h (token_is u.class a.read.word (behind text u.stop) a.read.longest))
+pub held : (text : SourceText) (g : Goal) (at : ℕ) (u : LexicalToken) → IsAhead g text at u → u.class ≡ Template → Held u.text
+held text g at u a h = subst Held (sym (ap (λ (x : LexicalToken). x.text) a.seen)) (scanned_held a.scanned (steady_class text.language a.scanned.class Template a.scanned.text refl (sym (ap (λ (x : LexicalToken). x.class) a.seen) ∙ h)) a.read)
   where
-    of : (cs : List ℕ) → u.text ≡ encode_utf8_all cs → is_template cs ≡ true → Held u.text
-    of [] e k = absurd (false≢true k)
-    of (c ∷ cs) e k =
+    of : (v : LexicalToken) (cs : List ℕ) → v.text ≡ encode_utf8_all cs → is_template cs ≡ true → Held v.text
+    of v [] e k = absurd (false≢true k)
+    of v (c ∷ cs) e k =
         let v = and_parts (one_of "`}" c) (closes_template false cs) k in
         let o = opened c v.0 in
         let r = closing false cs v.1 in
@@ -224,6 +227,9 @@ held text g at u a h = of a.read.word a.read.text (subst (λ c. IsTrue (is_of c 
               ∙ ap (λ x. front o.0 ++ x) (encodes-append r.word (back r.last) ∙ ap (λ x. encode_utf8_all r.word ++ x) (back_encoded r.last));
         }
 
+    scanned_held : (v : LexicalToken) → v.class ≡ Template → Reads text.bytes g at v → Held v.text
+    scanned_held v k x = of v x.word x.text (subst (λ c. IsTrue (is_of c x.word)) k (token_is v.class x.word (behind text.bytes v.stop) x.longest))
+
 shorter_inside : (first last : Bool) (w : List ℕ) → 1 + length w < length (front first ++ (w ++ back last))
 shorter_inside true true w = omega (arith, length-append w (96 ∷ []))
 shorter_inside true false w = omega (arith, length-append w (36 ∷ 123 ∷ []))
@@ -231,6 +237,11 @@ shorter_inside false true w = omega (arith, length-append w (96 ∷ []))
 shorter_inside false false w = omega (arith, length-append w (36 ∷ 123 ∷ []))
 
 -- the node of a part, from what stands between the delimiters
+-- the node of a part is of each language
+pub part_own : {w : List ℕ} {st en : ℕ} {n : Tree} → n ≡ node TemplateElement w plain st en none → has_later n ≡ false
+unfolding has_later
+part_own made = ap has_later made
+
 pub part_made : (start stop : ℕ) (text w got raw : List ℕ) (first last : Bool) (s : Span) (n : Tree) → Holds text first last w → stop ≡ start + length text → got ≡ w → (start + 1 + length got ≤ stop → s ≡ record { start = start + 1; end = start + 1 + length got }) → raw ≡ raw_value got → n ≡ node TemplateElement raw plain s.start s.end none → n ≡ part_node start w
 part_made start stop text w got raw first last s n h e g place r made =
     let long : length text ≡ length (front first ++ (w ++ back last)) = ap length h in

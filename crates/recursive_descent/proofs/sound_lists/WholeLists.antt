@@ -4,7 +4,6 @@ use Rattle.std.specs.Prelude.{not, ◌&&◌, ◌||◌, if◌then◌else◌, nat_
 use Rattle.std.proofs.lemmas.Bool.{and_parts, false≢true, true≢false}
 use Rattle.std.proofs.lemmas.Bool.Decides.{nat_tests}
 use Rattle.std.proofs.lemmas.List.{append-nil}
-use Rattle.tokens.specs.Reading.{any_goal}
 use Rattle.tree.specs.declared.kind.Pair.{Pair}
 use Rattle.tree.specs.Tree.{Tree, Parts, none, part, gap, push, push_gap, join, part_count}
 use Rattle.language.specs.declared.Start.{Start}
@@ -15,12 +14,11 @@ use Rattle.tokens.specs.declared.token.TokenClass.TheVariants.{Punctuator}
 use Rattle.language.specs.Pieces.{expr, template_element, is_none, argument, pattern_element}
 use Rattle.language.specs.Expressions.{template_elements}
 use Rattle.language.specs.Token.{Token}
-use Rattle.language.specs.Places.{NextIn, itself, SpellsIn}
 use Rattle.language.specs.Derivation.{within}
 use Rattle.language.specs.Claims.{max_open}
 use Rattle.language.proofs.list_loops.FirstPieces.{run_never}
 use Rattle.language.proofs.list_loops.TemplateElements.{chunk_found}
-use Rattle.language.proofs.texts.TextOffsets.{text_determined}
+use Rattle.token_cursor.proofs.SeenTokens.{seen_determined}
 use Rattle.covers.specs.declared.list.ListItem.{ListItem}
 use Rattle.covers.specs.declared.list.ListSummary.{ListSummary}
 use Rattle.covers.specs.declared.list.ListKind.{ListKind}
@@ -37,6 +35,8 @@ use Rattle.parser_tables.specs.StatementNodes.{is_closed}
 use Rattle.recursive_descent.proofs.reading.AddedPairs.{adds_behind, adds_both}
 use Rattle.recursive_descent.proofs.sound_lists.OneMoreItem.{CommaBetween, goes_on_at, next_runs, has_items, last_runs, read_push, read_gap, join_none, semicolons_on, hole_comma}
 use Rattle.recursive_descent.proofs.sound_lists.ListReadings.{fits_step, seen_step}
+use Rattle.token_cursor.specs.SourceText.{SourceText, SeenNext, behind_in}
+use Rattle.recursive_descent.specs.Spelled.{SpellsIn}
 
 -- what isn't stuck goes on
 pub unless_is : {X : Type 0} (b : Bool) → Unless b X → X
@@ -48,17 +48,18 @@ unless_not true h x = absurd (true≢false h)
 unless_not false h x = x
 
 -- the semicolons that were passed
-abbrev pub SemicolonsBefore : List ℕ → ListKind → Token → Token → Type 0
+abbrev pub SemicolonsBefore : SourceText → ListKind → Token → Token → Type 0
 SemicolonsBefore text listed.Members s e = Semicolons text s e
 SemicolonsBefore text _ s e = e ≡ s
 
-before_left : (text : List ℕ) (f : Start) {o : ℕ} (x : ListKind) (b : Bool) (a : Reading) (ps : Parts) {s m e : Token} {Q : List Pair} → SemicolonsBefore text x s m → RunsIn text o (stood_in f x (left_of x b a ps)) ps m e Q → RunsIn text o (stood_in f x (left_of x b a ps)) ps s e Q
+before_left : (text : SourceText) (f : Start) {o : ℕ} (x : ListKind) (b : Bool) (a : Reading) (ps : Parts) {s m e : Token} {Q : List Pair} → SemicolonsBefore text x s m → RunsIn text o (stood_in f x (left_of x b a ps)) ps m e Q → RunsIn text o (stood_in f x (left_of x b a ps)) ps s e Q
 before_left text f listed.Members b a ps passed d = semicolons_on text true f passed d
 before_left text f {o} x b a ps {e = e} {Q = Q} passed d = of x passed d
   where
     of : {s m : Token} (y : ListKind) → SemicolonsBefore text y s m → RunsIn text o (stood_in f y (left_of y b a ps)) ps m e Q → RunsIn text o (stood_in f y (left_of y b a ps)) ps s e Q
     of listed.Members passed d = semicolons_on text true f passed d
     of listed.Arguments passed d = subst (λ z. RunsIn text o (stood_in f listed.Arguments (left_of listed.Arguments b a ps)) ps z e Q) passed d
+    of listed.AsyncArguments passed d = subst (λ z. RunsIn text o (stood_in f listed.AsyncArguments (left_of listed.AsyncArguments b a ps)) ps z e Q) passed d
     of listed.Elements passed d = subst (λ z. RunsIn text o (stood_in f listed.Elements (left_of listed.Elements b a ps)) ps z e Q) passed d
     of listed.Properties passed d = subst (λ z. RunsIn text o (stood_in f listed.Properties (left_of listed.Properties b a ps)) ps z e Q) passed d
     of listed.ParenthesizedItems passed d = subst (λ z. RunsIn text o (stood_in f listed.ParenthesizedItems (left_of listed.ParenthesizedItems b a ps)) ps z e Q) passed d
@@ -116,7 +117,7 @@ and_of : {b c : Bool} → b ≡ true → c ≡ true → (b && c) ≡ true
 and_of {b} {c} h k = ap (λ x. x && c) h ∙ k
 
 -- so far, with one more item behind which another may follow
-pub so_far_item : (text : List ℕ) (f : Start) (l k : ListOf) (it : ListItem) {o : ℕ} (s m : Token) {t e : Token} (x : Token) (P : List Pair) {Q : List Pair} → SoFarAt text f l o s m P → SemicolonsBefore text l.listed m t → goes_on_at l.listed ≡ true → is_chunked l.listed ≡ false → takes l.listed l.seen it ≡ true → ItemReads text l.listed it o t e Q → CommaBetween text l.listed e x →
+pub so_far_item : (text : SourceText) (f : Start) (l k : ListOf) (it : ListItem) {o : ℕ} (s m : Token) {t e : Token} (x : Token) (P : List Pair) {Q : List Pair} → SoFarAt text f l o s m P → SemicolonsBefore text l.listed m t → goes_on_at l.listed ≡ true → is_chunked l.listed ≡ false → takes l.listed l.seen it ≡ true → ItemReads text l.listed it o t e Q → CommaBetween text l.listed e x →
     k.listed ≡ l.listed → k.nodes ≡ push l.nodes it.node → k.seen ≡ seen_step true l.listed l.seen it → SoFarAt text f k o s x (P ++ Q)
 so_far_item text f l k it {o} s m {t} {e} x P {Q} before passed goes plain took item comma same nodes seen a fits =
     let reads : has_reading l.listed a ≡ true = ap (λ y. has_reading y a) (sym same) ∙ (and_parts (has_reading k.listed a) (is_none k.nodes || seen_fits k.listed k a) fits).0 in
@@ -133,7 +134,7 @@ so_far_item text f l k it {o} s m {t} {e} x P {Q} before passed goes plain took 
     (subst (λ y. RunsIn text o (stood_in f l.listed (item_pieces l.listed a (join (all_read_as a l.nodes) (part (read_as a it.node) ps)))) (join (all_read_as a l.nodes) (part (read_as a it.node) ps)) s z y) (sym (append_assoc P Q R)) whole)))
 
 -- the whole, with its last item
-pub whole_item : (text : List ℕ) (f : Start) (l k : ListOf) (it : ListItem) {o : ℕ} (s m : Token) {t e : Token} (P : List Pair) {Q : List Pair} → SoFarAt text f l o s m P → SemicolonsBefore text l.listed m t → has_items l.listed ≡ true → is_chunked l.listed ≡ false → takes l.listed l.seen it ≡ true → ItemReads text l.listed it o t e Q →
+pub whole_item : (text : SourceText) (f : Start) (l k : ListOf) (it : ListItem) {o : ℕ} (s m : Token) {t e : Token} (P : List Pair) {Q : List Pair} → SoFarAt text f l o s m P → SemicolonsBefore text l.listed m t → has_items l.listed ≡ true → is_chunked l.listed ≡ false → takes l.listed l.seen it ≡ true → ItemReads text l.listed it o t e Q →
     k.listed ≡ l.listed → k.nodes ≡ push l.nodes it.node → k.seen ≡ seen_step false l.listed l.seen it → (a : Reading) → has_reading l.listed a ≡ true → seen_fits l.listed k a ≡ true →
     RunsIn text o (stood_in f k.listed (item_pieces k.listed a (all_read_as a k.nodes))) (all_read_as a k.nodes) s e (P ++ Q)
 whole_item text f l k it {o} s m {t} {e} P {Q} before passed some plain took item same nodes seen a reads left =
@@ -145,7 +146,7 @@ whole_item text f l k it {o} s m {t} {e} P {Q} before passed some plain took ite
     (subst (λ y. RunsIn text o (stood_in f l.listed (item_pieces l.listed a y)) y s e (P ++ Q)) (read_push a l.nodes it.node none ∙ join_none (all_read_as a (push l.nodes it.node)) ∙ ap (all_read_as a) (sym nodes)) whole)
 
 -- from one list as far as it is read to another
-abbrev pub FurtherOn : List ℕ → ListOf → ListOf → ℕ → Token → Token → List Pair → Type 0
+abbrev pub FurtherOn : SourceText → ListOf → ListOf → ℕ → Token → Token → List Pair → Type 0
 FurtherOn text l k o m e Q = (f : Start) (s : Token) (P : List Pair) → SoFarAt text f l o s m P → SoFarAt text f k o s e (P ++ Q)
 
 -- what is seen and the items tell how far a list is read
@@ -163,10 +164,10 @@ same_fits listed.Members l k a b c = refl
 same_fits _ l k a b c = ap (λ (y : ListSummary). fits_as y.shape a) c
 
 -- what runs over the rest completes it
-abbrev Completes : List ℕ → Start → ListOf → Reading → ℕ → Token → Token → List Pair → Type 0
+abbrev Completes : SourceText → Start → ListOf → Reading → ℕ → Token → Token → List Pair → Type 0
 Completes text f l a o s m P = (ps : Parts) (e : Token) (Q : List Pair) → RunsIn text o (stood_in f l.listed (left_pieces l a ps)) ps m e Q → RunsIn text o (stood_in f l.listed (item_pieces l.listed a (join (all_read_as a l.nodes) ps))) (join (all_read_as a l.nodes) ps) s e (P ++ Q)
 
-pub same_so_far : (text : List ℕ) (f : Start) (l k : ListOf) (o : ℕ) (s m : Token) (P : List Pair) → k.listed ≡ l.listed → k.nodes ≡ l.nodes → k.seen ≡ l.seen → SoFarAt text f l o s m P → SoFarAt text f k o s m P
+pub same_so_far : (text : SourceText) (f : Start) (l k : ListOf) (o : ℕ) (s m : Token) (P : List Pair) → k.listed ≡ l.listed → k.nodes ≡ l.nodes → k.seen ≡ l.seen → SoFarAt text f l o s m P → SoFarAt text f k o s m P
 same_so_far text f l k o s m P a b c h = λ y fits.
     let same : seen_fits k.listed k y ≡ seen_fits l.listed l y = ap (λ x. seen_fits x k y) a ∙ same_fits l.listed l k y b c in
     let before : so_far_fits l y ≡ true = sym (λ i. has_reading (a i) y && (is_none (b i) || same i)) ∙ fits in
@@ -175,7 +176,7 @@ same_so_far text f l k o s m P a b c h = λ y fits.
 pub same_right : (l k : ListOf) → k.listed ≡ l.listed → k.nodes ≡ l.nodes → k.seen ≡ l.seen → SeenRight l → SeenRight k
 same_right l k a b c h = subst SeenRight (sym (only_places l k a b c)) (record { together = h.together; target = h.target; one_default = h.one_default })
 
-pub further_first : (text : List ℕ) (l k : ListOf) (o : ℕ) (m : Token) → k.listed ≡ l.listed → k.nodes ≡ l.nodes → k.seen ≡ l.seen → FurtherOn text l k o m m []
+pub further_first : (text : SourceText) (l k : ListOf) (o : ℕ) (m : Token) → k.listed ≡ l.listed → k.nodes ≡ l.nodes → k.seen ≡ l.seen → FurtherOn text l k o m m []
 further_first text l k o m a b c f s P h = subst (λ x. SoFarAt text f k o s m x) (sym (append-nil P)) (same_so_far text f l k o s m P a b c h)
 
 -- a list without brackets is no other
@@ -191,6 +192,7 @@ comma_between listed.Members s e a b = a refl
 comma_between (listed.Cases r) s e a b = a refl
 comma_between listed.Template s e a b = a refl
 comma_between listed.Arguments s e a b = b refl
+comma_between listed.AsyncArguments s e a b = b refl
 comma_between listed.Elements s e a b = b refl
 comma_between listed.Properties s e a b = b refl
 comma_between listed.ParenthesizedItems s e a b = b refl
@@ -205,6 +207,7 @@ semicolons_before listed.Members s e h = h
 semicolons_before (listed.Cases r) s e h = h
 semicolons_before listed.Template s e h = h
 semicolons_before listed.Arguments s e h = h
+semicolons_before listed.AsyncArguments s e h = h
 semicolons_before listed.Elements s e h = h
 semicolons_before listed.Properties s e h = h
 semicolons_before listed.ParenthesizedItems s e h = h
@@ -251,7 +254,7 @@ goes_by listed.OneParameter u v a b c h k p = absurd (false≢true (sym k ∙ p)
 goes_by _ u v a b c h k p = refl
 
 -- a hole and its comma
-pub so_far_hole : (text : List ℕ) (f : Start) (l k : ListOf) (o : ℕ) (s m x : Token) (P : List Pair) → SoFarAt text f l o s m P → l.listed ≡ listed.Elements → ReadsHere text Punctuator (codes ",") m x → k.listed ≡ l.listed → k.nodes ≡ push_gap l.nodes → k.seen ≡ separated (with_hole l.seen) true → SoFarAt text f k o s x (P ++ [])
+pub so_far_hole : (text : SourceText) (f : Start) (l k : ListOf) (o : ℕ) (s m x : Token) (P : List Pair) → SoFarAt text f l o s m P → l.listed ≡ listed.Elements → ReadsHere text Punctuator (codes ",") m x → k.listed ≡ l.listed → k.nodes ≡ push_gap l.nodes → k.seen ≡ separated (with_hole l.seen) true → SoFarAt text f k o s x (P ++ [])
 so_far_hole text f l k o s m x P before is comma same nodes seen a fits =
     let kind : k.listed ≡ listed.Elements = same ∙ is in
     let left : fits_as l.seen.shape a ≡ true = sym (ap (λ (y : ListSummary). fits_as y.shape a) seen) ∙ ap (λ y. seen_fits y k a) (sym kind) ∙ or_false_left (is_none k.nodes) (seen_fits k.listed k a) (ap is_none nodes ∙ none_gap l.nodes) (and_parts (has_reading k.listed a) (is_none k.nodes || seen_fits k.listed k a) fits).1 in
@@ -277,20 +280,20 @@ so_far_hole text f l k o s m x P before is comma same nodes seen a fits =
     hole_as as_expression ps u v d = hole_comma text true f comma argument ps d
     hole_as (as_pattern b) ps u v d = hole_comma text true f comma (pattern_element b) ps d
 
-chunk_there : (text : List ℕ) {o : ℕ} {t e : Token} (c : Tree) (last : Bool) → ChunkAt text t e c last → SpellsIn text o (template_element false last) c t e []
-chunk_there text {o} {t} {e} c true h = subst (λ y. SpellsIn text o (template_element false true) y t e []) (sym h.2) (chunk_found Token (NextIn text any_goal) itself (text_determined text) {b = false} {l = true} {w = h.0} h.1).spelled
-chunk_there text {o} {t} {e} c false h = subst (λ y. SpellsIn text o (template_element false false) y t e []) (sym h.2) (chunk_found Token (NextIn text any_goal) itself (text_determined text) {b = false} {l = false} {w = h.0} h.1).spelled
+chunk_there : (text : SourceText) {o : ℕ} {t e : Token} (c : Tree) (last : Bool) → ChunkAt text t e c last → SpellsIn text o (template_element false last) c t e []
+chunk_there text {o} {t} {e} c true h = subst (λ y. SpellsIn text o (template_element false true) y t e []) (sym h.2) (chunk_found Token (SeenNext text) (behind_in text) (seen_determined text) {b = false} {l = true} {w = h.0} h.1).spelled
+chunk_there text {o} {t} {e} c false h = subst (λ y. SpellsIn text o (template_element false false) y t e []) (sym h.2) (chunk_found Token (SeenNext text) (behind_in text) (seen_determined text) {b = false} {l = false} {w = h.0} h.1).spelled
 
-chunk_behind : (text : List ℕ) (f : Start) {o : ℕ} {t e z : Token} {R : List Pair} (last : Bool) (c : Tree) → ChunkAt text t e c last → (ps : Parts) → RunsIn text o (stood_in f listed.Template (left_of listed.Template last as_expression ps)) ps e z R → RunsIn text o (stood_in f listed.Template (template_elements false (part c ps))) (part c ps) t z R
+chunk_behind : (text : SourceText) (f : Start) {o : ℕ} {t e z : Token} {R : List Pair} (last : Bool) (c : Tree) → ChunkAt text t e c last → (ps : Parts) → RunsIn text o (stood_in f listed.Template (left_of listed.Template last as_expression ps)) ps e z R → RunsIn text o (stood_in f listed.Template (template_elements false (part c ps))) (part c ps) t z R
 chunk_behind text f true c h none d = within (chunk_there text c true h) d
 chunk_behind text f true c h (part n ps) d = elim d [ ]
 chunk_behind text f true c h (gap ps) d = elim d [ ]
-chunk_behind text f false c h none d = absurd (run_never Token (NextIn text any_goal) itself d)
+chunk_behind text f false c h none d = absurd (run_never Token (SeenNext text) (behind_in text) d)
 chunk_behind text f false c h (part n ps) d = within (chunk_there text c false h) d
-chunk_behind text f false c h (gap ps) d = absurd (run_never Token (NextIn text any_goal) itself d)
+chunk_behind text f false c h (gap ps) d = absurd (run_never Token (SeenNext text) (behind_in text) d)
 
 -- an expression in a template, and the part behind it
-pub so_far_chunk : (text : List ℕ) (f : Start) (l k : ListOf) (n c : Tree) (last : Bool) {o : ℕ} (s m t e : Token) (P Q : List Pair) → SoFarAt text f l o s m P → l.listed ≡ listed.Template → l.seen.is_flagged ≡ false → SpellsIn text o (expr Expression true Any) n m t Q → ChunkAt text t e c last →
+pub so_far_chunk : (text : SourceText) (f : Start) (l k : ListOf) (n c : Tree) (last : Bool) {o : ℕ} (s m t e : Token) (P Q : List Pair) → SoFarAt text f l o s m P → l.listed ≡ listed.Template → l.seen.is_flagged ≡ false → SpellsIn text o (expr Expression true Any) n m t Q → ChunkAt text t e c last →
     k.listed ≡ l.listed → k.nodes ≡ push (push l.nodes n) c → k.seen.is_flagged ≡ last → SoFarAt text f k o s e (P ++ Q)
 so_far_chunk text f l k n c last {o} s m t e P Q before is open_end expression part_read same nodes marked (as_pattern b) fits =
     absurd (false≢true (sym (ap (λ y. has_reading y (as_pattern b)) (same ∙ is)) ∙ (and_parts (has_reading k.listed (as_pattern b)) (is_none k.nodes || seen_fits k.listed k (as_pattern b)) fits).0))
@@ -310,7 +313,7 @@ so_far_chunk text f l k n c last {o} s m t e P Q before is open_end expression p
     or_of false c h = h
 
 -- one more item, whatever it is, behind which another may follow
-further : (text : List ℕ) (f : Start) (l k1 k2 k : ListOf) {o : ℕ} (s m t : Token) (e x : CursorState) (P Q : List Pair) → SoFarAt text f l o s m P → SemicolonsBefore text l.listed m t → is_ended l.listed l.seen (part_count l.nodes) ≡ false → ItemAt text l k1 o t e.last Q →
+further : (text : SourceText) (f : Start) (l k1 k2 k : ListOf) {o : ℕ} (s m t : Token) (e x : CursorState) (P Q : List Pair) → SoFarAt text f l o s m P → SemicolonsBefore text l.listed m t → is_ended l.listed l.seen (part_count l.nodes) ≡ false → ItemAt text l k1 o t e.last Q →
     e.text ≡ text → k2.listed ≡ k1.listed → k2.nodes ≡ k1.nodes → k2.seen ≡ k1.seen → CommaAt e x k2 true → k ≡ after_item k2 true → SoFarAt text f k o s x.last (P ++ Q)
 further text f l k1 k2 k {o} s m t e x P Q before passed open_list (an_item it plain pushed took item target) here same nodes seen comma is =
     let listed : k2.listed ≡ l.listed = same ∙ ap (λ y. y.listed) pushed in
@@ -341,28 +344,32 @@ further text f l k1 k2 k {o} s m t e x P Q before passed open_list (a_chunk temp
     subst (λ y. SoFarAt text f k o s y (P ++ Q)) (sym still)
     (so_far_chunk text f l k n c.node c.is_flagged s m mid e.last P Q before template unmarked (subst (λ y. SpellsIn text o (expr Expression true Any) n y mid Q) at expression) part_read (ap (λ y. y.listed) is ∙ after_listed k2 true ∙ listed) (ap (λ y. y.nodes) is ∙ after_nodes k2 true ∙ parts) (ap (λ y. y.seen.is_flagged) is ∙ kept ∙ marked))
 
+-- an item, and what is read behind it that adds nothing
+pub item_up_to : (text : SourceText) {t e x : CursorState} {tmid emid new : List Pair} (l k : ListOf) → t.text ≡ text → Adds t e tmid emid (ItemAt t.text l k) → x.opened ≡ e.opened → new ≡ emid → Adds t x tmid new (λ o _ z Q. ItemAt text l k o t.last e.last Q)
+item_up_to text {t = t} {e = e} l k same item open_after after = record {
+  more = item.more;
+  same_open = open_after ∙ item.same_open;
+  pairs = after ∙ item.pairs;
+  is = subst (λ y. ItemAt y l k (max_open - t.opened) t.last e.last (grouping item.more)) same item.is;
+}
+
 -- from where the list was entered
 pub further_item : {s m t e x : CursorState} {old mid tmid emid new : List Pair} (l0 l k1 k2 k : ListOf) → Adds s m old mid (FurtherOn s.text l0 l) → m.text ≡ s.text → PassedBefore l.listed m t → t.text ≡ m.text → t.opened ≡ m.opened → tmid ≡ mid → is_ended l.listed l.seen (part_count l.nodes) ≡ false →
     Adds t e tmid emid (ItemAt t.text l k1) → e.text ≡ t.text → k2.listed ≡ k1.listed → k2.nodes ≡ k1.nodes → k2.seen ≡ k1.seen → x.opened ≡ e.opened → new ≡ emid → CommaAt e x k2 true → k ≡ after_item k2 true → Adds s x old new (FurtherOn s.text l0 k)
 further_item {s} {m} {t} {e} {x} l0 l k1 k2 k before here passed there open_same same goes item further_on a b c open_after after comma is =
     let text : t.text ≡ s.text = there ∙ here in
     let passed' : SemicolonsBefore s.text l.listed m.last t.last = subst (λ y. SemicolonsBefore y l.listed m.last t.last) here (semicolons_before l.listed m t passed) in
-    let more : Adds t x _ _ (λ o _ z Q. ItemAt s.text l k1 o t.last e.last Q) = record {
-      more = item.more;
-      same_open = open_after ∙ item.same_open;
-      pairs = after ∙ item.pairs;
-      is = subst (λ y. ItemAt y l k1 (max_open - t.opened) t.last e.last (grouping item.more)) text item.is;
-    } in
+    let more : Adds t x _ _ (λ o _ z Q. ItemAt s.text l k1 o t.last e.last Q) = item_up_to s.text l k1 text item open_after after in
     adds_both before (adds_behind {B = λ o _ z Q. ItemAt s.text l k1 o t.last e.last Q} open_same same more (λ o P h. h)) (λ o P Q u v f z R h.
     subst (λ y. SoFarAt s.text f k o z x.last y) (append_assoc R P Q) (further s.text f l k1 k2 k z m.last t.last e x (R ++ P) Q (u f z R h) passed' goes v (further_on ∙ text) a b c comma is))
 
 -- the places of a list stay
-item_kept : {text : List ℕ} (l k : ListOf) {o : ℕ} {s e : Token} {P : List Pair} → ItemAt text l k o s e P → (k.span.start ≡ l.span.start) × (k.inside.start ≡ l.inside.start)
+item_kept : {text : SourceText} (l k : ListOf) {o : ℕ} {s e : Token} {P : List Pair} → ItemAt text l k o s e P → (k.span.start ≡ l.span.start) × (k.inside.start ≡ l.inside.start)
 item_kept l k (an_item it plain pushed took item target) = (ap (λ y. y.span.start) pushed, ap (λ y. y.inside.start) pushed)
 item_kept l k (a_hole elements pushed still none_added comma) = (ap (λ y. y.span.start) pushed, ap (λ y. y.inside.start) pushed)
 item_kept l k (a_chunk template n c mid pushed expression part_read) = (ap (λ y. y.span.start) pushed, ap (λ y. y.inside.start) pushed)
 
-pub item_places : {s e : CursorState} {old new : List Pair} {text : List ℕ} {l k : ListOf} → Adds s e old new (ItemAt text l k) → (k.span.start ≡ l.span.start) × (k.inside.start ≡ l.inside.start)
+pub item_places : {s e : CursorState} {old new : List Pair} {text : SourceText} {l k : ListOf} → Adds s e old new (ItemAt text l k) → (k.span.start ≡ l.span.start) × (k.inside.start ≡ l.inside.start)
 item_places {l = l} {k = k} a = item_kept l k a.is
 
 pub after_start : (k : ListOf) (b : Bool) → (after_item k b).span.start ≡ k.span.start

@@ -1,10 +1,10 @@
 -- Properties of objects and members of classes (ECMA-262 12.2.6, 14.3, 14.6), from their names on.
 use Rattle.std.proofs.Common.{◌≡◌, ℕ, Bool, true, false, cond, List, [], ◌++◌, refl, sym, ap, ◌∙◌, subst}
-use Rattle.std.specs.Prelude.{IsTrue, Some, codes, ◌&&◌, Result, Ok, Err, IfOk}
+use Rattle.std.specs.Prelude.{IsTrue, Some, codes, ◌&&◌, Result, Ok, Err, IfOk, cond}
 use Rattle.std.proofs.lemmas.Bool.{false≢true}
 use Rattle.std.proofs.lemmas.Option.{none-some}
 use Rattle.tokens.specs.Tokens.{LexicalToken}
-use Rattle.tokens.specs.Reading.{any_goal, Reads as Scans}
+use Rattle.tokens.specs.Reading.{Reads as Scans}
 use Rattle.tokens.specs.Goals.{allows}
 use Rattle.tokens.specs.declared.token.TokenClass.TheVariants.{Punctuator}
 use Rattle.tokens.specs.declared.token.Goal.TheVariants.{Div}
@@ -12,7 +12,7 @@ use Rattle.token_cursor.specs.CursorState.{CursorState}
 use Rattle.tree.specs.declared.kind.Kind.{Kind}
 use Rattle.tree.specs.declared.kind.Kind.TheVariants.{Identifier, MemberExpression, SpreadElement, RestElement}
 use Rattle.tree.specs.declared.kind.Form.{Form}
-use Rattle.tree.specs.declared.kind.Form.TheVariants.{Get, Set, Method, Init, Shorthand, Constructor}
+use Rattle.tree.specs.declared.kind.Form.TheVariants.{Get, Set, Method, Init, Shorthand, Constructor, Generator, Async, AsyncGenerator}
 use Rattle.tree.specs.declared.kind.Pair.{Pair}
 use Rattle.tree.specs.Tree.{node, plain, none, part, kind_of}
 use Rattle.covers.specs.declared.shape.CoverShape.{CoverShape}
@@ -23,19 +23,16 @@ use Rattle.covers.specs.declared.list.ListKind.TheVariants as listed
 use Rattle.covers.specs.Patterns.{pattern_tree}
 use Rattle.covers.specs.Shapes as shapes
 use Rattle.language.specs.declared.Start.TheVariants.{Any}
-use Rattle.language.specs.Vocabulary.{is_pattern}
+use Rattle.language.specs.Vocabulary.{is_pattern, is_private}
 use Rattle.language.specs.Covers.{Reading, as_expression, as_pattern, property_as}
-use Rattle.language.specs.Pieces.{Role, spread, rest, bound}
+use Rattle.language.specs.Pieces.{Role, spread, rest, bound, private_name, key}
 use Rattle.language.specs.Promises.{ReadBy, is_free}
-use Rattle.language.specs.Token.{Token, as_read}
-use Rattle.language.specs.Places.{NextIn, next_in, itself}
+use Rattle.language.specs.Token.{Token}
 use Rattle.language.specs.Derivation.{done, step, token}
 use Rattle.language.proofs.table.Begins.{div_allows}
-use Rattle.language.proofs.covers.CoverProperties.{plain_key, computed_key}
-use Rattle.language.proofs.covers.CoverProperties as properties
 use Rattle.language.proofs.covers.CoverSpreads.{spread_spells, rest_spells}
 use Rattle.language.proofs.table.PropertyNameWays.{key_form, key_free}
-use Rattle.language.proofs.texts.TextOffsets.{text_determined}
+use Rattle.token_cursor.proofs.SeenTokens.{seen_determined}
 use Rattle.parser_tables.specs.declared.operand.Operand.{Operand}
 use Rattle.recursive_descent.specs.declared.properties.PropertyName.{PropertyName}
 use Rattle.recursive_descent.specs.declared.properties.Modifiers.{Modifiers}
@@ -44,8 +41,13 @@ use Rattle.recursive_descent.specs.SoundnessOfLists.{KeyAt, NamedSo, ItemReads, 
 use Rattle.token_cursor.specs.Seen.{ReadsHere}
 use Rattle.recursive_descent.proofs.reading.AddedPairs.{adds_behind, adds_both}
 use Rattle.recursive_descent.proofs.sound_subscripts.SubscriptReads.{spelled_at}
-use Rattle.token_cursor.proofs.TokensAhead.{by_goal, read_allows}
-use Rattle.recursive_descent.proofs.sound_properties.PropertyValues.{at_assignment, key_known}
+use Rattle.token_cursor.proofs.TokensAhead.{mark_by}
+use Rattle.recursive_descent.proofs.sound_properties.PropertyValues.{at_assignment}
+use Rattle.token_cursor.specs.SourceText.{SourceText, SeenNext, behind_in}
+use Rattle.recursive_descent.proofs.reading.Forward.{begins_by, place_by}
+use Rattle.language.proofs.climbing.Leaves.{private_form}
+use Rattle.language.proofs.list_loops.FirstPieces.{run_token}
+use Rattle.recursive_descent.specs.Spelled.{SpellsIn}
 
 -- what stands behind `...` among properties, from a place to another
 abbrev pub spread_of : Operand → ℕ → ℕ → ListItem
@@ -89,26 +91,35 @@ target_shape s b it shape spreads fits = of b (sym (λ i. cond (spreads i) (Ratt
     of false h = let t = simple_target s.assigned h in record { is = t; fits = ap shapes.is_element t }
     of true h = let t = simple_target s.assigned (and_right s.binds _ h) in record { is = t; fits = both s.binds (shapes.is_element s.assigned) (and_left s.binds _ h) (ap shapes.is_element t) }
 
-module _ (text : List ℕ) where
+module _ (text : SourceText) where
   -- the token that stands ahead, as the goal behind an operand reads it
   record First (s : Token) : Type 0 where
     sign : Token
     place : Token
-    read : ReadBy Token (NextIn text any_goal) itself Div s sign place
+    read : ReadBy Token (SeenNext text) (behind_in text) Div s sign place
 
   key_first : {in_class : Bool} {k : PropertyName} {o : ℕ} {s e : Token} {P : List Pair} → KeyAt text in_class k o s e P → First s
-  key_first {k = k} {o = o} {s = s} {e = e} {P = P} d = of (key_known text d)
+  key_first {k = k} {o = o} {s = s} {e = e} {P = P} d = of k.computed refl
     where
-      of : {b : Bool} → properties.KeyAt Token (NextIn text any_goal) itself (text_determined text) o k.node s e P b → First s
-      of (plain_key p) =
-          let u = key_form Token (NextIn text any_goal) itself (text_determined text) p in
+      named : (b : Bool) → SpellsIn text o (cond b private_name key) k.node s e P → First s
+      named true p =
+          let u = private_form Token (SeenNext text) (behind_in text) (seen_determined text) p in
+          record { sign = u.sign; place = e; read = record { next = u.reads.next; allowed = (seen_determined text).free Div s u.sign e u.reads.next (ap is_free u.reads.class) } }
+      named false p =
+          let u = key_form Token (SeenNext text) (behind_in text) (seen_determined text) p in
           let v = u.leaf in
-          record { sign = v.sign; place = e; read = record { next = v.reads.next; allowed = (text_determined text).free Div s v.sign e v.reads.next (ap is_free v.reads.class ∙ key_free u.class u.is_key) } }
-      of (computed_key {x = x} {t = t} h p q) = record { sign = t; place = x; read = record { next = h.next; allowed = subst (λ c. IsTrue (allows Div c t.text)) (sym h.class) (div_allows false t.text) } }
+          record { sign = v.sign; place = e; read = record { next = v.reads.next; allowed = (seen_determined text).free Div s v.sign e v.reads.next (ap is_free v.reads.class ∙ key_free u.class u.is_key) } }
+
+      of : (b : Bool) → k.computed ≡ b → First s
+      of false h = named (is_private (kind_of k.node)) (d.plain h)
+      of true h = let u = run_token Token (SeenNext text) (behind_in text) (d.computed h).1 in record { sign = u.sign; place = u.mid; read = record { next = u.reads.next; allowed = subst (λ c. IsTrue (allows Div c u.sign.text)) (sym u.reads.class) (div_allows false u.sign.text) } }
 
   words_first : (b : Bool) (f : Form) {o : ℕ} {s m : Token} → RunsIn text o (anywhere (modifier_pieces b f)) none s m [] → First m → First s
   words_first true f (step (token {t = t} {e = x} r) d) h = record { sign = t; place = x; read = record { next = r.next; allowed = subst (λ c. IsTrue (allows Div c t.text)) (sym r.class) (div_allows true t.text) } }
   words_first false Get (step (token {t = t} {e = x} r) d) h = record { sign = t; place = x; read = record { next = r.next; allowed = subst (λ c. IsTrue (allows Div c t.text)) (sym r.class) (div_allows true t.text) } }
+  words_first false Generator (step (token {t = t} {e = x} r) d) h = record { sign = t; place = x; read = record { next = r.next; allowed = subst (λ c. IsTrue (allows Div c t.text)) (sym r.class) (div_allows true t.text) } }
+  words_first false Async (step (token {t = t} {e = x} r) d) h = record { sign = t; place = x; read = record { next = r.next; allowed = subst (λ c. IsTrue (allows Div c t.text)) (sym r.class) (div_allows true t.text) } }
+  words_first false AsyncGenerator (step (token {t = t} {e = x} r) d) h = record { sign = t; place = x; read = record { next = r.next; allowed = subst (λ c. IsTrue (allows Div c t.text)) (sym r.class) (div_allows true t.text) } }
   words_first false Set (step (token {t = t} {e = x} r) d) h = record { sign = t; place = x; read = record { next = r.next; allowed = subst (λ c. IsTrue (allows Div c t.text)) (sym r.class) (div_allows true t.text) } }
   words_first false Init done h = h
   words_first false Method done h = h
@@ -116,21 +127,8 @@ module _ (text : List ℕ) where
   words_first false Constructor done h = h
 
   -- where it begins
-  place_begins : {s t m : Token} {at : ℕ} → ((u : LexicalToken) → Scans text Div s.stop u → at ≡ u.start) → ReadBy Token (NextIn text any_goal) itself Div s t m → Begins text at s
-  place_begins {at = at} here r = of r.next r.allowed here
-    where
-      of : {s t e : Token} → NextIn text any_goal s t e → IsTrue (allows Div t.class t.text) → ((u : LexicalToken) → Scans text Div s.stop u → at ≡ u.start) → Begins text at s
-      of (next_in {t = u} g any x) al here = record { token = as_read u; next = next_in g any x; start = sym (here u (by_goal Div x (sym (read_allows Div u x.word x.text) ∙ al))) }
-
-  pub named_begins : {in_class : Bool} {m : Modifiers} {k : PropertyName} {o : ℕ} {s e : Token} {P : List Pair} {at : ℕ} → ((u : LexicalToken) → Scans text Div s.stop u → at ≡ u.start) → NamedSo text in_class m k o s e P → Begins text at s
-  named_begins {m = m} here d = let h = words_first m.is_static m.form d.words (key_first d.key) in place_begins here h.read
-
-  -- a mark's place
-  pub mark_starts : {w : List ℕ} {s x : Token} {at : ℕ} → ((u : LexicalToken) → Scans text Div s.stop u → at ≡ u.start) → ReadsHere text Punctuator w s x → at ≡ x.start
-  mark_starts {at = at} here r = of r.next r.class here
-    where
-      of : {s t e : Token} → NextIn text any_goal s t e → t.class ≡ Punctuator → ((u : LexicalToken) → Scans text Div s.stop u → at ≡ u.start) → at ≡ t.start
-      of (next_in {t = u} g any x) class here = here u (by_goal Div x (subst (λ c. IsTrue (allows Div c x.word)) (sym class) (div_allows false x.word)))
+  pub named_begins : {in_class : Bool} {m : Modifiers} {k : PropertyName} {o : ℕ} {s e : Token} {P : List Pair} {at : ℕ} → ((u : LexicalToken) → Scans text.bytes Div s.stop u → at ≡ u.start) → NamedSo text in_class m k o s e P → Begins text at s
+  named_begins {m = m} here d = let h = words_first m.is_static m.form d.words (key_first d.key) in begins_by text here h.read
 
   -- `...` and an expression
   spread_reads : {r : Operand} {o st : ℕ} {s x e : Token} {Q : List Pair} (it : ListItem) → st ≡ x.start → ReadsHere text Punctuator (codes "...") s x → ReadAt text at_assignment r o x e Q → it ≡ spread_of r st e.stop →
@@ -150,7 +148,7 @@ module _ (text : List ℕ) where
       of as_expression fits = record {
         role = spread;
         it_is = refl;
-        spelled = subst (λ v. Rattle.language.specs.Places.SpellsIn text o spread (node SpreadElement [] plain v e.stop (part r.cover.node none)) s e Q) (sym starts) (spread_spells Token (NextIn text any_goal) itself (text_determined text) sign (spelled_at refl fits read));
+        spelled = subst (λ v. SpellsIn text o spread (node SpreadElement [] plain v e.stop (part r.cover.node none)) s e Q) (sym starts) (spread_spells Token (SeenNext text) (behind_in text) (seen_determined text) sign (spelled_at refl fits read));
       }
       of (as_pattern b) fits =
           let t = target_shape r.cover.shape b (spread_of r st e.stop) refl refl fits in
@@ -159,23 +157,23 @@ module _ (text : List ℕ) where
           record {
             role = rest b true;
             it_is = refl;
-            spelled = subst (λ u. Rattle.language.specs.Places.SpellsIn text o (rest b true) (node RestElement [] plain u e.stop (part (pattern_tree r.cover.node) none)) s e Q) (sym starts) (rest_spells Token (NextIn text any_goal) itself (text_determined text) b true w.0 w.1 sign v.spelled);
+            spelled = subst (λ u. SpellsIn text o (rest b true) (node RestElement [] plain u e.stop (part (pattern_tree r.cover.node) none)) s e Q) (sym starts) (rest_spells Token (SeenNext text) (behind_in text) (seen_determined text) b true w.0 w.1 sign v.spelled);
           }
 
-pub spread_item : {s x e : CursorState} {old mid new : List Pair} (in_class : Bool) (r : Operand) (start : ℕ) (it : ListItem) → in_class ≡ false → ((u : LexicalToken) → Scans s.text Div s.last.stop u → start ≡ u.start) → x.text ≡ s.text → x.opened ≡ s.opened → mid ≡ old → ReadsHere s.text Punctuator (codes "...") s.last x.last →
+pub spread_item : {s x e : CursorState} {old mid new : List Pair} (in_class : Bool) (r : Operand) (start : ℕ) (it : ListItem) → in_class ≡ false → ((u : LexicalToken) → Scans s.text.bytes Div s.last.stop u → start ≡ u.start) → x.text ≡ s.text → x.opened ≡ s.opened → mid ≡ old → ReadsHere s.text Punctuator (codes "...") s.last x.last →
     Adds x e mid new (ReadAt x.text at_assignment r) → it ≡ spread_of r start e.last.stop → Adds s e old new (ItemReads s.text (defined in_class) it)
 spread_item {s} {x} {e} in_class r start it object here text open_same same sign a is =
     adds_behind open_same same a (λ o Q d. subst (λ c. ItemReads s.text (defined c) it o s.last e.last Q) (sym object)
-    (spread_reads s.text it (mark_starts s.text here sign) sign (subst (λ v. ReadAt v at_assignment r o x.last e.last Q) text d) is))
+    (spread_reads s.text it (place_by s.text here (mark_by s.text sign)) sign (subst (λ v. ReadAt v at_assignment r o x.last e.last Q) text d) is))
 
 -- a key without words before it
-bare_words : (text : List ℕ) {m : Modifiers} {k : PropertyName} {o : ℕ} {s e : Token} {P : List Pair} → m.is_static ≡ false → m.form ≡ Method → NamedSo text false m k o s e P → KeyAt text false k o s e P
+bare_words : (text : SourceText) {m : Modifiers} {k : PropertyName} {o : ℕ} {s e : Token} {P : List Pair} → m.is_static ≡ false → m.form ≡ Method → NamedSo text false m k o s e P → KeyAt text false k o s e P
 bare_words text {m} {k} {o} {s} {e} {P} static form d = of (subst (λ v. RunsIn text o (anywhere v) none s d.mid []) (λ i. modifier_pieces (static i) (form i)) d.words)
   where
     of : RunsIn text o [] none s d.mid [] → KeyAt text false k o s e P
-    of r = let z = Rattle.language.proofs.list_loops.FirstPieces.run_none Token (NextIn text any_goal) itself r in subst (λ v. KeyAt text false k o v e P) (sym z.place) d.key
+    of r = let z = Rattle.language.proofs.list_loops.FirstPieces.run_none Token (SeenNext text) (behind_in text) r in subst (λ v. KeyAt text false k o v e P) (sym z.place) d.key
 
-pub value_item : {s y m e : CursorState} {old p1 mid new : List Pair} (in_class : Bool) (ms : Modifiers) (k : PropertyName) (start : ℕ) (it : ListItem) → in_class ≡ false → ms.form ≡ Method → ((u : LexicalToken) → Scans s.text Div s.last.stop u → start ≡ u.start) → y.text ≡ s.text → y.opened ≡ s.opened → p1 ≡ old → y.last ≡ s.last →
+pub value_item : {s y m e : CursorState} {old p1 mid new : List Pair} (in_class : Bool) (ms : Modifiers) (k : PropertyName) (start : ℕ) (it : ListItem) → in_class ≡ false → ms.form ≡ Method → ((u : LexicalToken) → Scans s.text.bytes Div s.last.stop u → start ≡ u.start) → y.text ≡ s.text → y.opened ≡ s.opened → p1 ≡ old → y.last ≡ s.last →
     m.text ≡ y.text → Adds y m p1 mid (NamedSo y.text in_class ms k) → Adds m e mid new (ValueAt m.text k start it) → Adds s e old new (ItemReads s.text (defined in_class) it)
 value_item {s} {y} {m} {e} in_class ms k start it object form here text0 open0 same0 stays text a b =
     adds_behind {s = s} {m = y} {e = e} {B = λ o z c R. ItemReads s.text (defined in_class) it o z c R} open0 same0 (adds_both {s = y} {m = m} {e = e} {C = λ o z c R. ItemReads s.text (defined in_class) it o s.last c R} a b (λ o P Q u v.

@@ -1,13 +1,12 @@
 -- Properties of objects and their patterns that are no methods (ECMA-262 12.2.6, 12.15.5, 13.3.3).
 use Rattle.std.proofs.Common.{◌≡◌, ℕ, Bool, true, false, List, [], ◌∷◌, ◌++◌, refl, sym, ap, ◌∙◌, subst}
-use Rattle.std.specs.Prelude.{Some, IfSome, codes, not, ◌&&◌}
+use Rattle.std.specs.Prelude.{Some, IfSome, codes, not, ◌&&◌, cond}
 use Rattle.std.proofs.lemmas.Bool.{false≢true}
 use Rattle.std.proofs.lemmas.List.{append-nil}
 use Rattle.std.proofs.lemmas.Option.{none-some}
 use Rattle.tokens.specs.Scanned.{token_of}
-use Rattle.tokens.specs.Reading.{any_goal}
 use Rattle.tokens.specs.declared.token.Token.{Token as Scanned}
-use Rattle.tokens.specs.declared.token.TokenClass.TheVariants.{IdentifierName, Punctuator, Template}
+use Rattle.tokens.specs.declared.token.TokenClass.TheVariants.{IdentifierName, Punctuator}
 use Rattle.token_cursor.specs.CursorState.{CursorState}
 use Rattle.tree.specs.declared.kind.Kind.{Kind}
 use Rattle.tree.specs.declared.kind.Kind.TheVariants.{Identifier, MemberExpression, Property, ArrayPattern, ObjectPattern, AssignmentPattern, AssignmentExpression}
@@ -26,10 +25,9 @@ use Rattle.language.specs.declared.Rank.TheVariants.{Assignment, Primary}
 use Rattle.language.specs.declared.Start.TheVariants.{Any}
 use Rattle.language.specs.Vocabulary.{is_reserved, is_rest}
 use Rattle.language.specs.Covers.{Reading, as_expression, as_pattern, property_as}
-use Rattle.language.specs.Pieces.{Role, expr, name, shorthand_key, element, put, with_default, Spelling, at as at_symbol}
-use Rattle.language.specs.Token.{Token, as_read, same_class, table_text}
+use Rattle.language.specs.Pieces.{Role, expr, name, shorthand_key, element, put, with_default, Spelling, at as at_symbol, private_name, key}
+use Rattle.language.specs.Token.{Token, as_read, table_text}
 use Rattle.language.specs.Grammar.{spellings}
-use Rattle.language.specs.Places.{NextIn, itself, SpellsIn}
 use Rattle.language.specs.Derivation.{Placed, placed, direct, within, first}
 use Rattle.language.proofs.covers.CoverElements.{default_spells}
 use Rattle.language.proofs.covers.CoverKeys.{echo_spells}
@@ -41,7 +39,7 @@ use Rattle.language.proofs.climbing.OperatorNodes.{last_runs}
 use Rattle.language.proofs.climbing.Leaves.{name_found}
 use Rattle.language.proofs.table.Productions.{way_from}
 use Rattle.language.proofs.list_loops.FirstPieces.{run_none}
-use Rattle.language.proofs.texts.TextOffsets.{text_determined}
+use Rattle.token_cursor.proofs.SeenTokens.{seen_determined}
 use Rattle.parser_tables.specs.declared.operand.Operand.{Operand}
 use Rattle.parser_tables.specs.declared.expression_context.ExpressionContext.{ExpressionContext}
 use Rattle.recursive_descent.specs.declared.properties.PropertyName.{PropertyName}
@@ -50,9 +48,12 @@ use Rattle.recursive_descent.specs.SoundnessOfLists.{KeyAt, ItemReads, ValueAt}
 use Rattle.parser_tables.specs.Items.{property_item}
 use Rattle.parser_tables.specs.Methods.{member_flags}
 use Rattle.token_cursor.specs.Seen.{ReadsHere, is_free_name}
-use Rattle.parser_tables.specs.Tokens.{single_node, key_kind}
+use Rattle.parser_tables.specs.Tokens.{single_node, key_node, key_node_by}
 use Rattle.recursive_descent.proofs.reading.AddedPairs.{adds_behind, adds_none}
-use Rattle.recursive_descent.proofs.sound_subscripts.SubscriptReads.{spelled_at, single_read}
+use Rattle.recursive_descent.proofs.sound_subscripts.SubscriptReads.{spelled_at}
+use Rattle.token_cursor.specs.SourceText.{SourceText, SeenNext, behind_in, unseen}
+use Rattle.recursive_descent.specs.Spelled.{SpellsIn}
+use Rattle.recursive_descent.proofs.reading.SeenClasses.{as_here}
 
 -- the position of what stands behind `:` and `=`
 abbrev pub at_assignment : ExpressionContext
@@ -80,25 +81,25 @@ data Short : Reading → Tree → Role → Type 0 where
   short_name : {a : Reading} {w : List ℕ} {g : Flags} {s e : ℕ} {ps : Parts} → Short a (node Identifier w g s e ps) name
   short_default : {b : Bool} {w : List ℕ} {g : Flags} {s e : ℕ} {ps : Parts} → Short (as_pattern b) (node AssignmentPattern w g s e ps) (element true)
 
-module _ (text : List ℕ) where
+module _ (text : SourceText) where
   -- a key as the tables have it
-  pub key_known : {o : ℕ} {in_class : Bool} {k : PropertyName} {s e : Token} {P : List Pair} → KeyAt text in_class k o s e P → properties.KeyAt Token (NextIn text any_goal) itself (text_determined text) o k.node s e P k.computed
-  key_known {o} {in_class} {k} {s} {e} {P} d = of k.computed refl
+  pub key_known : {o : ℕ} {k : PropertyName} {s e : Token} {P : List Pair} → KeyAt text false k o s e P → properties.KeyAt Token (SeenNext text) (behind_in text) (seen_determined text) o k.node s e P k.computed
+  key_known {o} {k} {s} {e} {P} d = of k.computed refl
     where
       first_is : {a b : Tree} {ps qs : Parts} → part a ps ≡ part b qs → b ≡ a
       first_is h = cc
 
-      of : (b : Bool) → k.computed ≡ b → properties.KeyAt Token (NextIn text any_goal) itself (text_determined text) o k.node s e P b
-      of false h = plain_key (d.plain h)
+      of : (b : Bool) → k.computed ≡ b → properties.KeyAt Token (SeenNext text) (behind_in text) (seen_determined text) o k.node s e P b
+      of false h = plain_key (subst (λ b. SpellsIn text o (cond b private_name key) k.node s e P) (d.public refl h) (d.plain h))
       of true h =
-          let w = run_key Token (NextIn text any_goal) itself (text_determined text) true [] (d.computed h).1 in
-          let z = run_none Token (NextIn text any_goal) itself w.runs in
+          let w = run_key Token (SeenNext text) (behind_in text) (seen_determined text) true [] (d.computed h).1 in
+          let z = run_none Token (SeenNext text) (behind_in text) w.runs in
           let pairs : P ≡ w.one = w.pairs ∙ ap (λ x. w.one ++ x) z.pairs ∙ append-nil w.one in
-          subst (λ n. properties.KeyAt Token (NextIn text any_goal) itself (text_determined text) o n s e P true) (first_is w.parts)
-          (subst (λ v. properties.KeyAt Token (NextIn text any_goal) itself (text_determined text) o w.item s v P true) z.place
-          (subst (λ v. properties.KeyAt Token (NextIn text any_goal) itself (text_determined text) o w.item s w.mid v true) (sym pairs) w.key))
+          subst (λ n. properties.KeyAt Token (SeenNext text) (behind_in text) (seen_determined text) o n s e P true) (first_is w.parts)
+          (subst (λ v. properties.KeyAt Token (SeenNext text) (behind_in text) (seen_determined text) o w.item s v P true) z.place
+          (subst (λ v. properties.KeyAt Token (SeenNext text) (behind_in text) (seen_determined text) o w.item s w.mid v true) (sym pairs) w.key))
 
-  property_placed : (a : Reading) {w : List ℕ} {g : Flags} {st : ℕ} {ps : Parts} {s e : Token} → Begins text st s → Placed Token (NextIn text any_goal) itself (property_role a) (node Property w g st e.stop ps) s e
+  property_placed : (a : Reading) {w : List ℕ} {g : Flags} {st : ℕ} {ps : Parts} {s e : Token} → Begins text st s → Placed Token (SeenNext text) (behind_in text) (property_role a) (node Property w g st e.stop ps) s e
   property_placed as_expression {e = e} b = placed b.next (ap (λ (x : ℕ). (x, e.stop)) b.start)
   property_placed (as_pattern c) {e = e} b = placed b.next (ap (λ (x : ℕ). (x, e.stop)) b.start)
 
@@ -124,27 +125,27 @@ module _ (text : List ℕ) where
       of as_expression fits = record {
         role = property_role as_expression;
         it_is = refl;
-        spelled = value_spells Token (NextIn text any_goal) itself (text_determined text) as_expression (key_known key_at) colon refl (spelled_at refl fits read) (property_placed as_expression begins);
+        spelled = value_spells Token (SeenNext text) (behind_in text) (seen_determined text) as_expression (key_known key_at) colon refl (spelled_at refl fits read) (property_placed as_expression begins);
       }
       of (as_pattern b) fits =
           let v = read.part.assigned b fits (λ h. (refl, refl)) in
           record {
             role = property_role (as_pattern b);
             it_is = refl;
-            spelled = value_spells Token (NextIn text any_goal) itself (text_determined text) (as_pattern b) (key_known key_at) colon (with_default_of r.cover.shape.assigned b (kind_of (pattern_tree r.cover.node)) v.it_is) v.spelled (property_placed (as_pattern b) begins);
+            spelled = value_spells Token (SeenNext text) (behind_in text) (seen_determined text) (as_pattern b) (key_known key_at) colon (with_default_of r.cover.shape.assigned b (kind_of (pattern_tree r.cover.node)) v.it_is) v.spelled (property_placed (as_pattern b) begins);
           }
 
   short_spells : (a : Reading) {o st : ℕ} {r : Role} {n u : Tree} {s e : Token} {Q : List Pair} → Short a u r → SpellsIn text o shorthand_key n s s [] → SpellsIn text o r u s e Q → Begins text st s → SpellsIn text o (property_role a) (node Property [] (flags_as false Shorthand) st e.stop (part n (part u none))) s e Q
   unfolding spellings
   short_spells as_expression {o} {st} {n = n} {u = u} {e = e} short_name d k begins =
       let y : Spelling = at_symbol Primary (put shorthand_key ∷ put name ∷ []) in
-      direct (settled (property_role as_expression) y) (way_from (property_role as_expression) (node Property [] (flags_as false Shorthand) st e.stop (part n (part u none))) y refl first refl) (property_placed as_expression begins) (within d (last_runs Token (NextIn text any_goal) itself k))
+      direct (settled (property_role as_expression) y) (way_from (property_role as_expression) (node Property [] (flags_as false Shorthand) st e.stop (part n (part u none))) y refl first refl) (property_placed as_expression begins) (within d (last_runs Token (SeenNext text) (behind_in text) k))
   short_spells (as_pattern b) {o} {st} {n = n} {u = u} {e = e} short_name d k begins =
       let y : Spelling = at_symbol Primary (put shorthand_key ∷ put name ∷ []) in
-      direct (settled (property_role (as_pattern b)) y) (way_from (property_role (as_pattern b)) (node Property [] (flags_as false Shorthand) st e.stop (part n (part u none))) y refl first refl) (property_placed (as_pattern b) begins) (within d (last_runs Token (NextIn text any_goal) itself k))
+      direct (settled (property_role (as_pattern b)) y) (way_from (property_role (as_pattern b)) (node Property [] (flags_as false Shorthand) st e.stop (part n (part u none))) y refl first refl) (property_placed (as_pattern b) begins) (within d (last_runs Token (SeenNext text) (behind_in text) k))
   short_spells (as_pattern b) {o} {st} {n = n} {u = u} {e = e} short_default d k begins =
       let y : Spelling = at_symbol Primary (put shorthand_key ∷ put (element true) ∷ []) in
-      direct (settled (property_role (as_pattern b)) y) (way_from (property_role (as_pattern b)) (node Property [] (flags_as false Shorthand) st e.stop (part n (part u none))) y refl first refl) (property_placed (as_pattern b) begins) (within d (last_runs Token (NextIn text any_goal) itself k))
+      direct (settled (property_role (as_pattern b)) y) (way_from (property_role (as_pattern b)) (node Property [] (flags_as false Shorthand) st e.stop (part n (part u none))) y refl first refl) (property_placed (as_pattern b) begins) (within d (last_runs Token (SeenNext text) (behind_in text) k))
 
   -- The one token that is key and value.
   record Lone (k : PropertyName) (t : Scanned) (s m : Token) (P : List Pair) : Type 0 where
@@ -161,14 +162,14 @@ module _ (text : List ℕ) where
 
   lone_key : {k : PropertyName} {o : ℕ} {s m : Token} {P : List Pair} (t : Scanned) → k.token ≡ Some t → t.class ≡ IdentifierName → is_free_name t.text.now ≡ true → KeyAt text false k o s m P → Lone k t s m P
   lone_key {k} {o} {s} {m} {P} t is class free d =
-      let u = subst (λ v. IfSome v (λ t. (k.computed ≡ false) × NextIn text any_goal s m m × (m ≡ as_read (token_of t)) × (P ≡ []) × (k.node ≡ single_node (key_kind t.class) (token_of t)))) is d.token in
-      let its : m.class ≡ IdentifierName = ap (λ (x : Token). x.class) u.2 ∙ class in
-      let value : single_node Identifier m ≡ single_node Identifier (token_of t) = single_read Identifier (token_of t) m u.2 (ap (same_class Template) its) in
-      let word : m.text ≡ t.text.now = ap (λ (x : Token). x.text) u.2 ∙ ap (λ c. table_text c t.text.now) class in
+      let u = subst (λ v. IfSome v (λ t. (k.computed ≡ false) × SeenNext text s (as_read (token_of t)) m × (m ≡ unseen (as_read (token_of t))) × (P ≡ []) × (k.node ≡ key_node (token_of t)))) is d.token in
+      let word : (as_read (token_of t)).text ≡ t.text.now = ap (λ c. table_text c t.text.now) class in
+      let text_is : m.text ≡ t.text.now = ap (λ (x : Token). x.text) u.2 ∙ word in
+      let value : single_node Identifier m ≡ single_node Identifier (token_of t) = ap (single_node Identifier) u.2 ∙ ap (λ w. node Identifier w plain t.start (token_of t).stop none) word in
       record {
-        reads = record { next = u.1; class = its; text = refl };
-        free = not_free (is_reserved m.text) (ap is_free_name word ∙ free);
-        node_is = u.4 ∙ ap (λ c. single_node (key_kind c) (token_of t)) class ∙ sym value;
+        reads = as_here text (record { next = u.1; class = class; text = ap (λ (x : Token). x.text) (sym u.2) });
+        free = not_free (is_reserved m.text) (ap is_free_name text_is ∙ free);
+        node_is = u.4 ∙ ap (λ c. key_node_by c (token_of t)) class ∙ sym value;
         value_is = sym value;
         start_is = ap (λ (x : Token). x.start) (sym u.2);
         pairs = u.3;
@@ -183,8 +184,8 @@ module _ (text : List ℕ) where
       (property_reads shapes.name (λ a fits. of v a)))
     where
       of : Lone k t s m P → (a : Reading) → SpelledAs (property_as a) text o (read_as a (node Property [] (member_flags false false Shorthand) st m.stop (part (single_node Identifier m) (part (single_node Identifier m) none)))) s m []
-      of v as_expression = record { role = property_role as_expression; it_is = refl; spelled = short_spells as_expression short_name (echo_spells Token (NextIn text any_goal) itself (text_determined text) v.reads) (name_found Token (NextIn text any_goal) itself (text_determined text) v.reads v.free).spelled begins }
-      of v (as_pattern b) = record { role = property_role (as_pattern b); it_is = refl; spelled = short_spells (as_pattern b) short_name (echo_spells Token (NextIn text any_goal) itself (text_determined text) v.reads) (name_found Token (NextIn text any_goal) itself (text_determined text) v.reads v.free).spelled begins }
+      of v as_expression = record { role = property_role as_expression; it_is = refl; spelled = short_spells as_expression short_name (echo_spells Token (SeenNext text) (behind_in text) (seen_determined text) v.reads) (name_found Token (SeenNext text) (behind_in text) (seen_determined text) v.reads v.free).spelled begins }
+      of v (as_pattern b) = record { role = property_role (as_pattern b); it_is = refl; spelled = short_spells (as_pattern b) short_name (echo_spells Token (SeenNext text) (behind_in text) (seen_determined text) v.reads) (name_found Token (SeenNext text) (behind_in text) (seen_determined text) v.reads v.free).spelled begins }
 
   default_reads : {k : PropertyName} {o st : ℕ} {s m x e : Token} {P Q : List Pair} {n : Tree} (t : Scanned) → k.token ≡ Some t → t.class ≡ IdentifierName → is_free_name t.text.now ≡ true → Begins text st s → KeyAt text false k o s m P → ReadsHere text Punctuator (codes "=") m x → SpellsIn text o (expr Assignment true Any) n x e Q →
       ItemReads text listed.Properties (property_item (node Property [] (member_flags false false Shorthand) st e.stop (part k.node (part (node AssignmentExpression (codes "=") plain t.start e.stop (part (single_node Identifier (token_of t)) (part n none))) none))) (shapes.initialized (shapes.defaulted shapes.name))) o s e (P ++ Q)
@@ -197,9 +198,9 @@ module _ (text : List ℕ) where
       of : Lone k t s m P → (a : Reading) → fits_as (shapes.initialized (shapes.defaulted shapes.name)) a ≡ true → SpelledAs (property_as a) text o (read_as a (node Property [] (member_flags false false Shorthand) st e.stop (part (single_node Identifier m) (part (node AssignmentExpression (codes "=") plain m.start e.stop (part (single_node Identifier m) (part n none))) none)))) s e Q
       of v as_expression fits = absurd (false≢true fits)
       of v (as_pattern b) fits =
-          let target = (name_found Token (NextIn text any_goal) itself (text_determined text) {o = o} v.reads v.free).spelled in
-          let value = default_spells Token (NextIn text any_goal) itself (text_determined text) true refl target sign right (placed v.reads.next refl) in
-          record { role = property_role (as_pattern b); it_is = refl; spelled = short_spells (as_pattern b) short_default (echo_spells Token (NextIn text any_goal) itself (text_determined text) v.reads) value begins }
+          let target = (name_found Token (SeenNext text) (behind_in text) (seen_determined text) {o = o} v.reads v.free).spelled in
+          let value = default_spells Token (SeenNext text) (behind_in text) (seen_determined text) true refl target sign right (placed v.reads.next refl) in
+          record { role = property_role (as_pattern b); it_is = refl; spelled = short_spells (as_pattern b) short_default (echo_spells Token (SeenNext text) (behind_in text) (seen_determined text) v.reads) value begins }
 
 -- an identifier is a name that isn't reserved
 pub is_free : (a b : Bool) {x : Bool} → x ≡ true → x ≡ (a && b) → b ≡ true

@@ -1,22 +1,15 @@
 -- A piece that is a block, a body or a handler (ECMA-262 13.2, 13.15, 14.1).
-use Rattle.std.proofs.Common.{◌≡◌, ℕ, ◌-◌, ◌≤◌, Bool, true, false, List, [], ◌++◌, refl, sym, ap, ◌∙◌, subst, inl}
-use Rattle.std.specs.Prelude.{IsTrue, codes, Some}
+use Rattle.std.proofs.Common.{◌≡◌, ℕ, ◌-◌, ◌≤◌, Bool, List, [], ◌++◌, refl, sym, ap, ◌∙◌, subst, inl}
+use Rattle.std.specs.Prelude.{codes, Some}
 use Rattle.tokens.specs.declared.token.TokenClass.TheVariants.{IdentifierName, Punctuator}
-use Rattle.tokens.specs.declared.token.Goal.{Goal}
-use Rattle.tokens.specs.declared.token.Goal.TheVariants as goal
-use Rattle.tokens.specs.Goals.{allows}
-use Rattle.tokens.specs.Tokens.{LexicalToken, IsTokenAt}
-use Rattle.tokens.specs.Reading.{any_goal, Reads}
 use Rattle.token_cursor.specs.CursorState.{CursorState}
 use Rattle.tree.specs.declared.kind.Kind.TheVariants.{BlockStatement, CatchClause}
 use Rattle.tree.specs.declared.kind.Pair.{Pair}
 use Rattle.tree.specs.Tree.{Tree, node, plain, Parts, none, part, height}
 use Rattle.language.specs.declared.Edge.{Edge}
 use Rattle.language.specs.Pieces.{block, body}
-use Rattle.language.specs.Places.{NextIn, next_in, SpellsIn}
 use Rattle.language.specs.Token.{Token}
 use Rattle.language.specs.Claims.{max_open}
-use Rattle.language.proofs.table.Begins.{div_allows}
 use Rattle.parser_tables.specs.declared.symbol_lists.PartialStatement.{PartialStatement}
 use Rattle.parser_tables.specs.declared.symbol_lists.Symbol.{Symbol as Coded}
 use Rattle.recursive_descent.specs.declared.statement_symbols.Expected.TheVariants as wanted
@@ -33,6 +26,10 @@ use Rattle.recursive_descent.proofs.sound_statements.Blocks.{block_spelled, body
 use Rattle.recursive_descent.proofs.sound_statements.OneMoreSymbol.{OnePiece}
 use Rattle.recursive_descent.proofs.sound_statements.PartSymbols.{one_part}
 use Rattle.recursive_descent.proofs.complete_statements.SymbolViews.{something, BlockPiece, block_of_block, block_of_body, block_of_finally, wants_block, HandlerPiece, handler_of_catch, wants_handler}
+use Rattle.token_cursor.specs.SourceText.{SourceText}
+use Rattle.recursive_descent.specs.Spelled.{SpellsIn}
+use Rattle.recursive_descent.proofs.reading.Forward.{place_by}
+use Rattle.token_cursor.proofs.TokensAhead.{name_by}
 
 -- between what adds nothing to the pairs
 pub adds_within : {m x k e : CursorState} {old mid more new : List Pair} {A B : ℕ → Token → Token → List Pair → Type 0} → x.opened ≡ m.opened → mid ≡ old → Adds x k mid more A → e.opened ≡ k.opened → new ≡ more → ((o : ℕ) (P : List Pair) → A o x.last k.last P → B o m.last e.last P) → Adds m e old new B
@@ -46,7 +43,7 @@ adds_within {m} {x} {k} {e} {A = A} o1 p1 a o2 p2 f = record {
 context_of : {a b : StatementContext} → Some (wanted.Block a) ≡ Some (wanted.Block b) → b ≡ a
 context_of h = cc
 
-module _ (text : List ℕ) (r : Bool) (s m : CursorState) (b c : PartialStatement) (high : ℕ) (context : StatementContext) (o : ℕ) (x k e : Token) (at : ℕ) (ps : Parts) (P : List Pair) (y : Edge)
+module _ (text : SourceText) (r : Bool) (s m : CursorState) (b c : PartialStatement) (high : ℕ) (context : StatementContext) (o : ℕ) (x k e : Token) (at : ℕ) (ps : Parts) (P : List Pair) (y : Edge)
     (same : text ≡ s.text) (left : ReadsHere text Punctuator (codes "{") m.last x) (start : x.start ≡ at) (items : StatementsAt text context ps o x k P) (right : ReadsHere text Punctuator (codes "}") k e)
   where
     whole_block : context ≡ item_context r → SpellsIn text o (block r) (node BlockStatement [] plain at e.stop ps) m.last e P
@@ -73,37 +70,12 @@ block_piece {s} {m} {x} {k} {e} {q0 = q0} {new = new} {r = r} p {b} c {d} {high}
     subst (λ z. PieceAt s.text r o (piece_of p) s.last e.last b.edge c.edge (part z none) P) (sym made)
     (block_put s.text r s m b c high context o x.last k.last e.last at ps P c.edge refl left' start (subst (λ z. StatementsAt z context ps o x.last k.last P) (t1 ∙ t0) v) right' p h)))
 
--- the same token, by another goal that allows it
-by_goal : {at : ℕ} {cs : List ℕ} {g : Goal} {t : LexicalToken} {rest : List ℕ} (h : Goal) (x : IsTokenAt g at cs t rest) → IsTrue (allows h t.class x.word) → IsTokenAt h at cs t rest
-by_goal h x al = record {
-  gap = x.gap;
-  word = x.word;
-  split = x.split;
-  separated = x.separated;
-  no_comment = x.no_comment;
-  longest = x.longest;
-  allowed = al;
-  text = x.text;
-  start = x.start;
-  stop = x.stop;
-  after_break = x.after_break;
-}
-
 -- the place of what stands ahead is that of a name there
 pub place_name : (p : CursorState) {w : List ℕ} {m : Token} {at : ℕ} → IsPlaceHere p at → ReadsHere p.text IdentifierName w p.last m → at ≡ m.start
-place_name p {at = at} here r = of r.next r.class here.1
-  where
-    of : {s t e : Token} → NextIn p.text any_goal s t e → t.class ≡ IdentifierName → ((u : LexicalToken) → Reads p.text goal.Div s.stop u → at ≡ u.start) → at ≡ t.start
-    of (next_in {t = u} g any x) class here = here u (by_goal goal.Div x (subst (λ c. IsTrue (allows goal.Div c x.word)) (sym class) (div_allows true x.word)))
-
-pub place_mark : (p : CursorState) {w : List ℕ} {m : Token} {at : ℕ} → IsPlaceHere p at → ReadsHere p.text Punctuator w p.last m → at ≡ m.start
-place_mark p {at = at} here r = of r.next r.class here.1
-  where
-    of : {s t e : Token} → NextIn p.text any_goal s t e → t.class ≡ Punctuator → ((u : LexicalToken) → Reads p.text goal.Div s.stop u → at ≡ u.start) → at ≡ t.start
-    of (next_in {t = u} g any x) class here = here u (by_goal goal.Div x (subst (λ c. IsTrue (allows goal.Div c x.word)) (sym class) (div_allows false x.word)))
+place_name p here r = place_by p.text here.1 (name_by p.text r)
 
 -- a handler
-handler_put : (text : List ℕ) (r : Bool) (s m : CursorState) (b c : PartialStatement) (high at : ℕ) (ps : Parts) (o : ℕ) (e : Token) (P : List Pair) (z y : Edge) {pieces : List Piece} (p : Coded) → text ≡ s.text → ExpectedAt p r s m b c high (wanted.Handler at) → CatchParts text m.last pieces → Rattle.recursive_descent.specs.SoundnessOfStatements.PiecesAt text r o pieces m.last e Rattle.language.specs.declared.Edge.TheVariants.Closed z ps P →
+handler_put : (text : SourceText) (r : Bool) (s m : CursorState) (b c : PartialStatement) (high at : ℕ) (ps : Parts) (o : ℕ) (e : Token) (P : List Pair) (z y : Edge) {pieces : List Piece} (p : Coded) → text ≡ s.text → ExpectedAt p r s m b c high (wanted.Handler at) → CatchParts text m.last pieces → Rattle.recursive_descent.specs.SoundnessOfStatements.PiecesAt text r o pieces m.last e Rattle.language.specs.declared.Edge.TheVariants.Closed z ps P →
     PieceAt text r o (piece_of p) s.last e b.edge y (part (node CatchClause [] plain at e.stop ps) none) P
 handler_put text r s m b c high at ps o e P z y p same h parts d = of (wants_handler p r s m b c high at h) h
   where

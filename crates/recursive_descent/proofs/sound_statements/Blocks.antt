@@ -1,7 +1,6 @@
 -- Blocks, the bodies of functions and classes, and handlers, from what stands in them (ECMA-262 13.2, 13.15, 14.1, 14.6).
 use Rattle.std.proofs.Common.{◌≡◌, ℕ, Bool, true, false, cond, List, [], ◌∷◌, ◌++◌, refl, sym, ap, ◌∙◌, subst, append_assoc, inl, inr}
 use Rattle.std.specs.Prelude.{codes, ◌&&◌}
-use Rattle.tokens.specs.Reading.{any_goal}
 use Rattle.tokens.specs.declared.token.TokenClass.TheVariants.{IdentifierName, Punctuator}
 use Rattle.tree.specs.declared.kind.Kind.{Kind}
 use Rattle.tree.specs.declared.kind.Kind.TheVariants.{BlockStatement, ClassBody, CatchClause}
@@ -9,7 +8,6 @@ use Rattle.tree.specs.declared.kind.Pair.{Pair}
 use Rattle.tree.specs.Tree.{Tree, node, plain, Parts, none, part, gap, join, bare, bare_parts, kind_of}
 use Rattle.language.specs.declared.Edge.{Edge}
 use Rattle.language.specs.Pieces.{Role, block, body, class_body, handler, item, member, bound, line, deeper, shallower, Piece, many, lay, put, put_at, sign, sp, term, is_none}
-use Rattle.language.specs.Places.{NextIn, itself, SpellsIn}
 use Rattle.language.specs.Statements.{prologue, lines, is_directive, member_lines}
 use Rattle.language.specs.Token.{Token}
 use Rattle.language.specs.Derivation.{done, step, within, missing, token, laid, Placed, placed}
@@ -17,16 +15,13 @@ use Rattle.language.proofs.statements.Blocks.{one_block, one_body, one_class_bod
 use Rattle.language.proofs.table.OneKind.{OneKind, one_kind}
 use Rattle.language.proofs.list_loops.FirstPieces.{run_never}
 use Rattle.language.proofs.table.StatementWays.{behind_brace}
-use Rattle.language.proofs.texts.TextOffsets.{text_determined}
+use Rattle.token_cursor.proofs.SeenTokens.{seen_determined}
 use Rattle.recursive_descent.specs.Soundness.{RunsIn, anywhere, SpelledAs}
 use Rattle.recursive_descent.specs.SoundnessOfStatements.{PiecesAt}
 use Rattle.parser_tables.specs.StatementSymbols.{CatchParts, Piece as Parsed}
 use Rattle.token_cursor.specs.Seen.{ReadsHere}
-
-none_bare : (ps : Parts) → is_none (bare_parts ps) ≡ is_none ps
-none_bare none = refl
-none_bare (part n ps) = refl
-none_bare (gap ps) = refl
+use Rattle.token_cursor.specs.SourceText.{SourceText, SeenNext, behind_in}
+use Rattle.recursive_descent.specs.Spelled.{SpellsIn}
 
 directive_bare : (n : Tree) → is_directive (bare n) ≡ is_directive n
 directive_bare (node k w g s e ps) = refl
@@ -39,7 +34,7 @@ no_directives r none = refl
 no_directives r (part n ps) = ap (λ qs. lay line ∷ put (item r) ∷ qs) (no_directives r ps)
 no_directives r (gap ps) = refl
 
-module _ (text : List ℕ) where
+module _ (text : SourceText) where
   -- the items, each on a line of its own, and what stands behind them
   prologue_laid : {o : ℕ} (r b c : Bool) → c ≡ b → (ps : Parts) (rest : List Piece) {s m e : Token} {P : List Pair} → RunsIn text o (anywhere (prologue r b [] [] ps)) ps s m P → RunsIn text o (anywhere rest) none m e [] → RunsIn text o (anywhere (prologue r c (lay line ∷ []) [] (bare_parts ps) ++ rest)) ps s e P
   prologue_laid r b c same none rest done d = d
@@ -47,7 +42,7 @@ module _ (text : List ℕ) where
       let first = subst (λ x. SpellsIn text o (cond x (Rattle.language.specs.Pieces.opening r) (item r)) n s k P) (sym same) h in
       step laid (within first (prologue_laid r (b && is_directive n) (c && is_directive (bare n)) ((λ i. same i && directive_bare n i)) ps rest g d))
   prologue_laid r b c same (part n ps) rest (step x g) d = elim x [ ]
-  prologue_laid r b c same (gap ps) rest g d = absurd (run_never Token (NextIn text any_goal) itself g)
+  prologue_laid r b c same (gap ps) rest g d = absurd (run_never Token (SeenNext text) (behind_in text) g)
 
   -- the closing brace, on a line of its own where anything stands before it
   brace_laid : {o : ℕ} (c : Bool) {m e : Token} → ReadsHere text Punctuator (codes "}") m e → RunsIn text o (anywhere (cond c [] (lay shallower ∷ lay line ∷ []) ++ sign "}" ∷ [])) none m e []
@@ -58,11 +53,11 @@ module _ (text : List ℕ) where
   braces_laid true qs open_brace d = step (token open_brace) d
   braces_laid false qs open_brace d = step (token open_brace) (step laid d)
 
-  placed_brace : {a : Role} {k : Kind} {pieces : Parts → List Piece} {ps : Parts} {s x e : Token} {at : ℕ} → OneKind a k pieces → ReadsHere text Punctuator (codes "{") s x → x.start ≡ at → Placed Token (NextIn text any_goal) itself a (node k [] plain at e.stop ps) s e
-  placed_brace {e = e} u open_brace start = placed open_brace.next (u.position.spans _ e ∙ ap (λ (y : ℕ). (y, e.stop)) start)
+  placed_brace : {a : Role} {k : Kind} {pieces : Parts → List Piece} {ps : Parts} {s x e : Token} {at : ℕ} → OneKind a k plain pieces → ReadsHere text Punctuator (codes "{") s x → x.start ≡ at → Placed Token (SeenNext text) (behind_in text) a (node k [] plain at e.stop ps) s e
+  placed_brace {e = e} u open_brace start = placed open_brace.next (u.position.spans _ (behind_in text e) ∙ ap (λ (y : ℕ). (y, e.stop)) start)
 
-  by_kind : {o : ℕ} {a : Role} {k : Kind} {pieces : Parts → List Piece} {ps : Parts} {s e : Token} {at : ℕ} {P : List Pair} → OneKind a k pieces → Placed Token (NextIn text any_goal) itself a (node k [] plain at e.stop ps) s e → RunsIn text o (anywhere (pieces (bare_parts ps))) ps s e P → SpellsIn text o a (node k [] plain at e.stop ps) s e P
-  by_kind u pl d = (one_kind Token (NextIn text any_goal) itself (text_determined text) {Fine = λ n v. Unit {0}} u).spells pl d
+  by_kind : {o : ℕ} {a : Role} {k : Kind} {pieces : Parts → List Piece} {ps : Parts} {s e : Token} {at : ℕ} {P : List Pair} → OneKind a k plain pieces → Placed Token (SeenNext text) (behind_in text) a (node k [] plain at e.stop ps) s e → RunsIn text o (anywhere (pieces (bare_parts ps))) ps s e P → SpellsIn text o a (node k [] plain at e.stop ps) s e P
+  by_kind u pl d = (one_kind Token (SeenNext text) (behind_in text) (seen_determined text) {Fine = λ n v. Unit {0}} u).spells pl d
 
   abbrev closing : Bool → List Piece
   closing c = cond c [] (lay shallower ∷ lay line ∷ []) ++ sign "}" ∷ []
@@ -73,6 +68,14 @@ module _ (text : List ℕ) where
       let first : List Piece = cond (is_none ps) [] (lay deeper ∷ []) in
       let last : List Piece = cond (is_none ps) [] (lay shallower ∷ lay line ∷ []) in
       subst (λ zs. RunsIn text o (anywhere (sign "{" ∷ zs)) rs s e P) (sym (append_assoc (first ++ qs) last (sign "}" ∷ []) ∙ append_assoc first qs (closing (is_none ps)))) (braces_laid (is_none ps) (qs ++ closing (is_none ps)) open_brace d)
+
+  -- items between braces
+  pub items_laid : {o : ℕ} (r : Bool) (ps : Parts) {s x m e : Token} {P : List Pair} → ReadsHere text Punctuator (codes "{") s x → RunsIn text o (anywhere (prologue r false [] [] ps)) ps x m P → ReadsHere text Punctuator (codes "}") m e →
+      RunsIn text o (anywhere (sign "{" ∷ behind_brace (bare_parts ps) (lines (item r) (bare_parts ps)))) ps s e P
+  items_laid {o} r ps {s} {x} {m} {e} {P} open_brace d close =
+      let none_left = is_none (bare_parts ps) in
+      let items = prologue_laid r false false refl ps (closing none_left) d (brace_laid none_left close) in
+      in_braces (bare_parts ps) (lines (item r) (bare_parts ps)) open_brace (subst (λ qs. RunsIn text o (anywhere (qs ++ closing none_left)) ps x e P) (no_directives r (bare_parts ps)) items)
 
   pub block_spelled : {o : ℕ} (r : Bool) (ps : Parts) {s x m e : Token} {at : ℕ} {P : List Pair} → ReadsHere text Punctuator (codes "{") s x → x.start ≡ at → RunsIn text o (anywhere (prologue r false [] [] ps)) ps x m P → ReadsHere text Punctuator (codes "}") m e → SpellsIn text o (block r) (node BlockStatement [] plain at e.stop ps) s e P
   block_spelled {o} r ps {s} {x} {m} {e} {at} {P} open_brace start d close =
@@ -92,7 +95,7 @@ module _ (text : List ℕ) where
   members_laid none rest done d = d
   members_laid (part n ps) rest (step laid (within h (step semicolons g))) d = step laid (within h (step semicolons (members_laid ps rest g d)))
   members_laid (part n ps) rest (step laid (step x g)) d = elim x [ ]
-  members_laid (gap ps) rest g d = absurd (run_never Token (NextIn text any_goal) itself g)
+  members_laid (gap ps) rest g d = absurd (run_never Token (SeenNext text) (behind_in text) g)
 
   class_members : {o : ℕ} (ps : Parts) (rest : List Piece) {s m e : Token} {P : List Pair} → RunsIn text o (anywhere (many (codes ";") ∷ member_lines ps)) ps s m P → RunsIn text o (anywhere rest) none m e [] → RunsIn text o (anywhere ((many (codes ";") ∷ member_lines (bare_parts ps)) ++ rest)) ps s e P
   class_members ps rest (step semicolons g) d = step semicolons (members_laid ps rest g d)
@@ -103,7 +106,7 @@ module _ (text : List ℕ) where
       by_kind one_class_body (placed_brace one_class_body open_brace start) (in_braces (bare_parts ps) (many (codes ";") ∷ member_lines (bare_parts ps)) open_brace (class_members ps (closing none_left) d (brace_laid none_left close)))
 
   -- a handler, with a parameter or without
-  handler_placed : {r : Bool} {ps : Parts} {s m e : Token} {at : ℕ} → ReadsHere text IdentifierName (codes "catch") s m → m.start ≡ at → Placed Token (NextIn text any_goal) itself (handler r) (node CatchClause [] plain at e.stop ps) s e
+  handler_placed : {r : Bool} {ps : Parts} {s m e : Token} {at : ℕ} → ReadsHere text IdentifierName (codes "catch") s m → m.start ≡ at → Placed Token (SeenNext text) (behind_in text) (handler r) (node CatchClause [] plain at e.stop ps) s e
   handler_placed {e = e} read start = placed read.next (ap (λ (y : ℕ). (y, e.stop)) start)
 
   handler_given : {o : ℕ} (r : Bool) (n k : Tree) {s m a b c e : Token} {at : ℕ} {P Q : List Pair} → ReadsHere text IdentifierName (codes "catch") s m → m.start ≡ at → ReadsHere text Punctuator (codes "(") m a → SpelledAs (bound true) text o n a b P → ReadsHere text Punctuator (codes ")") b c → SpellsIn text o (block r) k c e Q →

@@ -3,7 +3,6 @@ use Rattle.std.proofs.Common.{◌≡◌, ℕ, ◌≤◌, Bool, true, false, not,
 use Rattle.std.specs.Prelude.{IsTrue, IfOk, ◌&&◌}
 use Rattle.std.proofs.lemmas.List.{append-nil}
 use Rattle.source_text.specs.declared.fault.Fault.{Fault}
-use Rattle.tokens.specs.Reading.{any_goal}
 use Rattle.token_cursor.specs.CursorState.{CursorState}
 use Rattle.token_cursor.specs.StatementEnds.{EndsAt, IsEnd}
 use Rattle.token_cursor.specs.declared.semicolon.StatementEnd.TheVariants.{AfterExpression}
@@ -20,7 +19,6 @@ use Rattle.language.specs.Pieces.{expr, directive_string, statement, item, openi
 use Rattle.language.specs.Statements.{statements, items, openings, end_of, is_string_literal}
 use Rattle.language.specs.Grammar.{spellings}
 use Rattle.language.specs.Token.{Token}
-use Rattle.language.specs.Places.{NextIn, itself, SpellsIn}
 use Rattle.language.specs.Derivation.{Step, first, direct, grouped, done, step, within, placed}
 use Rattle.language.proofs.table.BareEdges.{edge_bare}
 use Rattle.language.proofs.table.Beginnings.{made_rank, too_tight}
@@ -37,6 +35,8 @@ use Rattle.parser_tables.specs.StatementNodes.{expression_statement_node, expres
 use Rattle.recursive_descent.proofs.sound_statements.OwnTokenStatements.{role_of}
 use Rattle.recursive_descent.proofs.reading.FirstOfPieces.{adds_before}
 use Rattle.recursive_descent.proofs.sound_statements.StatementWays.{end_standing}
+use Rattle.token_cursor.specs.SourceText.{SourceText, SeenNext, behind_in}
+use Rattle.recursive_descent.specs.Spelled.{SpellsIn}
 
 -- a string literal
 pub literal_role : (n : Tree) → is_string_literal (kind_of n) (text_of n) ≡ true → bare_role n ≡ Some directive_string
@@ -52,13 +52,13 @@ group_taken Grouped h = refl
 group_taken _ h = absurd (false≢true h)
 
 -- where a group begins doesn't matter
-grouped_any : {text : List ℕ} {o : ℕ} {n : Tree} {s e : Token} {P : List Pair} → SpellsIn text o (expr Grouped true Statement) n s e P → SpellsIn text o (expr Grouped true Any) n s e P
+grouped_any : {text : SourceText} {o : ℕ} {n : Tree} {s e : Token} {P : List Pair} → SpellsIn text o (expr Grouped true Statement) n s e P → SpellsIn text o (expr Grouped true Any) n s e P
 unfolding spellings
 grouped_any (grouped p d q) = grouped p d q
 grouped_any {n = node k w g st en ps} (direct qs h pl d) = let v = way_of h in absurd (too_tight (precedence v.spelling.rank) (made_rank (made k v.listed)) (and_parts _ _ (and_parts _ _ v.fit).0).0)
 
-module _ (text : List ℕ) {o : ℕ} {p : Operand} {s m e : Token} {P : List Pair} (read : ReadAt text (record { rank = Expression; has_in = true; start = Statement }) p o s m P) (fits : p.cover.shape.is_expression ≡ true) (end : EndsAt text (AfterExpression p.edge) m e) where
-  ended : Step Token (NextIn text any_goal) itself (ending (behind (edge (bare p.cover.node)))) m e
+module _ (text : SourceText) {o : ℕ} {p : Operand} {s m e : Token} {P : List Pair} (read : ReadAt text (record { rank = Expression; has_in = true; start = Statement }) p o s m P) (fits : p.cover.shape.is_expression ≡ true) (end : EndsAt text (AfterExpression p.edge) m e) where
+  ended : Step Token (SeenNext text) (behind_in text) (ending (behind (edge (bare p.cover.node)))) m e
   ended = end_standing text (read.part.edge ∙ ap (λ y. edge_as_written y m) (sym (edge_bare p.cover.node))) end
 
   plain_runs : RunsIn text o (sub (expr Expression true Statement) ∷ ending (behind (edge (bare p.cover.node))) ∷ []) (part p.cover.node none) s e P

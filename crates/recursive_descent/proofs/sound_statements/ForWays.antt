@@ -6,8 +6,6 @@ use Rattle.std.proofs.lemmas.List.{append-nil}
 use Rattle.std.proofs.lemmas.Option.{none-some}
 use Rattle.tokens.specs.declared.token.TokenClass.TheVariants.{IdentifierName, Punctuator}
 use Rattle.tokens.specs.declared.token.Goal.TheVariants.{Div}
-use Rattle.tokens.specs.Goals.{allows}
-use Rattle.tokens.specs.Reading.{any_goal}
 use Rattle.tree.specs.declared.kind.Kind.{Kind}
 use Rattle.tree.specs.declared.kind.Kind.TheVariants as kind
 use Rattle.tree.specs.declared.kind.Pair.{Pair}
@@ -24,16 +22,15 @@ use Rattle.language.specs.Vocabulary.{among}
 use Rattle.language.specs.Pieces.{Role, expr, statement, head, bound, Piece, tok, sign, sp, put, put_at, is_none}
 use Rattle.language.specs.Statements.{is_declaration, for_left, whole}
 use Rattle.language.specs.Token.{Token, same_class}
-use Rattle.language.specs.Places.{NextIn, itself, SpellsIn}
-use Rattle.language.specs.Promises.{is_free, ReadBy}
+use Rattle.language.specs.Promises.{ReadBy}
 use Rattle.language.specs.Derivation.{step, within, missing, token, laid, done}
-use Rattle.language.proofs.table.Begins.{retell, div_allows}
+use Rattle.language.proofs.table.Begins.{retell}
 use Rattle.language.proofs.statements.ForHeads.{left_role}
 use Rattle.language.proofs.statements.ForParts.{undeclared}
 use Rattle.language.proofs.climbing.OperatorNodes.{kind_bare}
 use Rattle.language.proofs.table.ForDeclarationWays.{head_form}
 use Rattle.language.proofs.table.StatementWays.{behind_own, behind_for}
-use Rattle.language.proofs.texts.TextOffsets.{text_determined}
+use Rattle.token_cursor.proofs.SeenTokens.{seen_determined}
 use Rattle.parser_tables.specs.declared.statements.StatementKind.{StatementKind}
 use Rattle.parser_tables.specs.declared.statements.StatementKind.TheVariants as headed
 use Rattle.parser_tables.specs.StatementStarts.{KindFollowed}
@@ -45,6 +42,9 @@ use Rattle.parser_tables.specs.StatementNodes.{statement_node_kind}
 use Rattle.parser_tables.specs.Tests.{is_each}
 use Rattle.recursive_descent.proofs.reading.FirstOfPieces.{last_one, part_runs}
 use Rattle.recursive_descent.proofs.sound_statements.StatementWays.{StatedBy, read_then, expression_then}
+use Rattle.token_cursor.specs.SourceText.{SourceText, SeenNext, behind_in}
+use Rattle.recursive_descent.specs.Spelled.{SpellsIn}
+use Rattle.token_cursor.proofs.TokensAhead.{name_by, mark_by}
 
 -- what is assigned to is no declaration
 bound_undeclared : (k : Kind) {a : Role} → bound false k ≡ Some a → is_declaration k ≡ false
@@ -93,28 +93,28 @@ part_skipped n none h = absurd (true≢false h)
 part_skipped n (part m ps) h = refl
 part_skipped n (gap ps) h = refl
 
-module _ (text : List ℕ) where
+module _ (text : SourceText) where
   -- what the goal behind an operand reads where a name or a `;` stands
-  by_name : {w : List ℕ} {s u : Token} → ReadsHere text IdentifierName w s u → ReadBy Token (NextIn text any_goal) itself Div s u u
-  by_name {s = s} {u = u} h = record { next = h.next; allowed = (text_determined text).free Div s u u h.next (ap is_free h.class) }
+  by_name : {w : List ℕ} {s u : Token} → ReadsHere text IdentifierName w s u → ReadBy Token (SeenNext text) (behind_in text) Div s (behind_in text u) u
+  by_name h = name_by text h
 
-  by_mark : {w : List ℕ} {s u : Token} → ReadsHere text Punctuator w s u → ReadBy Token (NextIn text any_goal) itself Div s u u
-  by_mark {u = u} h = record { next = h.next; allowed = subst (λ c. Rattle.std.specs.Prelude.IsTrue (allows Div c u.text)) (sym h.class) (div_allows false u.text) }
+  by_mark : {w : List ℕ} {s u : Token} → ReadsHere text Punctuator w s u → ReadBy Token (SeenNext text) (behind_in text) Div s (behind_in text u) u
+  by_mark h = mark_by text h
 
-  same_there : {s t m u : Token} → ReadBy Token (NextIn text any_goal) itself Div s t m → ReadBy Token (NextIn text any_goal) itself Div s u u → t ≡ u
-  same_there {s} {t} {m} {u} a b = ((text_determined text).same Div s t u m u a.next b.next a.allowed b.allowed).0
+  same_there : {s t m u x : Token} → ReadBy Token (SeenNext text) (behind_in text) Div s t m → ReadBy Token (SeenNext text) (behind_in text) Div s u x → t ≡ u
+  same_there {s} {t} {m} {u} {x} a b = ((seen_determined text).same Div s t u m x a.next b.next a.allowed b.allowed).0
 
-  each_name : {w : List ℕ} {s u : Token} → among w ("in" ∷ "of" ∷ []) ≡ true → ReadsHere text IdentifierName w s u → is_each u ≡ true
+  each_name : {w : List ℕ} {s u : Token} → among w ("in" ∷ "of" ∷ []) ≡ true → ReadsHere text IdentifierName w s u → is_each (behind_in text u) ≡ true
   each_name {u = u} h d = ap (λ c. same_class IdentifierName c && among u.text ("in" ∷ "of" ∷ [])) d.class ∙ ap (λ v. among v ("in" ∷ "of" ∷ [])) d.text ∙ h
 
-  no_each : {w : List ℕ} {s u : Token} → ReadsHere text Punctuator w s u → is_each u ≡ false
+  no_each : {w : List ℕ} {s u : Token} → ReadsHere text Punctuator w s u → is_each (behind_in text u) ≡ false
   no_each {u = u} d = ap (λ c. same_class IdentifierName c && among u.text ("in" ∷ "of" ∷ [])) d.class
 
   no_gap : {A : Type 0} {v w : List ℕ} {s : Token} → Sees text Punctuator v s → Sees text IdentifierName w s → A
   no_gap a b = (let q : Punctuator ≡ IdentifierName = sym a.1.class ∙ ap (λ (t : Token). t.class) (same_there (by_mark a.1) (by_name b.1)) ∙ b.1.class in cc)
 
   head_kind : {o : ℕ} {b : Bool} {n : Tree} {s e : Token} {P : List Pair} → SpellsIn text o (head b) n s e P → kind_of n ≡ kind.VariableDeclaration
-  head_kind d = ap kind_of (head_form Token (NextIn text any_goal) itself (text_determined text) d).tree
+  head_kind d = ap kind_of (head_form Token (SeenNext text) (behind_in text) (seen_determined text) d).tree
 
   -- what stands first before `in` or `of`
   record LeftPut (o : ℕ) (s e : Token) (ps : Parts) (P : List Pair) : Type 0 where
@@ -126,8 +126,8 @@ module _ (text : List ℕ) where
 
   left_put : {o : ℕ} {w : List ℕ} {s e : Token} {ps : Parts} {P : List Pair} → among w ("in" ∷ "of" ∷ []) ≡ true → Sees text IdentifierName w e → HeadPut text o s e ps P → LeftPut o s e ps P
   left_put h see (a_declaration true at p) = record { put_there = p.put; parts = p.parts; role = head false; it_is = ap left_role (head_kind p.spelled); spelled = p.spelled }
-  left_put h see (a_declaration false at p) = absurd (false≢true (sym (at see.0 see.0 (by_name see.1)) ∙ each_name h see.1))
-  left_put h see (an_expression at p) = absurd (false≢true (sym (at see.0 see.0 (by_name see.1)) ∙ each_name h see.1))
+  left_put h see (a_declaration false at p) = absurd (false≢true (sym (at (behind_in text see.0) see.0 (by_name see.1)) ∙ each_name h see.1))
+  left_put h see (an_expression at p) = absurd (false≢true (sym (at (behind_in text see.0) see.0 (by_name see.1)) ∙ each_name h see.1))
   left_put h see (a_target at p) = record {
     put_there = p.put;
     parts = p.parts;
@@ -152,7 +152,7 @@ module _ (text : List ℕ) where
   first_put {o} {s = s} {e = e} {P = P} see (an_expression at p) = record {
     put_there = p.put;
     parts = p.parts;
-    spelled = subst (λ b. SpellsIn text o (cond b (head true) (expr Expression false Any)) p.put s e P) (sym (undeclared Token (NextIn text any_goal) itself (text_determined text) p.spelled)) p.spelled;
+    spelled = subst (λ b. SpellsIn text o (cond b (head true) (expr Expression false Any)) p.put s e P) (sym (undeclared Token (SeenNext text) (behind_in text) (seen_determined text) p.spelled)) p.spelled;
   }
   first_put see (a_target at p) = absurd (false≢true (sym (no_each see.1) ∙ ap is_each (sym (same_there at.1.0 (by_mark see.1))) ∙ at.1.1))
 
@@ -172,7 +172,7 @@ module _ (text : List ℕ) where
       let run : RunsIn text o (anywhere (sp ∷ sign "(" ∷ put l.role ∷ sp ∷ tok IdentifierName w ∷ sp ∷ put (expr q true Any) ∷ sign ")" ∷ sp ∷ put (statement r) ∷ [])) all s e (P ++ Q) =
       step laid (step (token left_sign) (within l.spelled (step laid (step (token word) (step laid (part_runs text refl refl pairs spelled (step (token right_sign) (step laid (part_runs text refl refl (sym (append-nil more)) st.statement.spelled done))))))))) in
       let run' : RunsIn text o (anywhere (behind_own r k (bare_parts all))) all s e (P ++ Q) =
-      retell Token (NextIn text any_goal) itself (ap anywhere ((λ i. sp ∷ sign "(" ∷ put_at (sym role i) ∷ sp ∷ tok IdentifierName w ∷ sp ∷ put (expr q true Any) ∷ sign ")" ∷ sp ∷ put (statement r) ∷ []) ∙ sym (told (bare_parts all)))) run in
+      retell Token (SeenNext text) (behind_in text) (ap anywhere ((λ i. sp ∷ sign "(" ∷ put_at (sym role i) ∷ sp ∷ tok IdentifierName w ∷ sp ∷ put (expr q true Any) ∷ sign ")" ∷ sp ∷ put (statement r) ∷ []) ∙ sym (told (bare_parts all)))) run in
       record {
         runs = subst (λ x. RunsIn text o (anywhere (behind_own r k (bare_parts x))) x s e (P ++ Q)) (sym whole_parts) run';
         dangles = λ h. st.statement.dangles (sym (ends (join first behind) ∙ ap last_ends_in_if whole_parts) ∙ h);
@@ -249,7 +249,7 @@ module _ (text : List ℕ) where
       let st = last_one d.others in
       let last : RunsIn text o (anywhere (last_piece r)) w.rest w.mid e w.more = step (token d.first) (step laid (part_runs text refl st.parts (sym (append-nil w.more)) st.statement.spelled done)) in
       let third : RunsIn text o (anywhere (given (others (bare_parts behind)) later ++ last_piece r)) t.rest c.mid e t.more =
-      retell Token (NextIn text any_goal) itself (ap (λ x. anywhere (given x later ++ last_piece r)) (sym (bare_others behind ∙ ap bare_parts t.rests))) (w.runs (last_piece r) e last) in
+      retell Token (SeenNext text) (behind_in text) (ap (λ x. anywhere (given x later ++ last_piece r)) (sym (bare_others behind ∙ ap bare_parts t.rests))) (w.runs (last_piece r) e last) in
       let second : RunsIn text o (anywhere (second_pieces r (bare_parts behind))) behind m e Q = step (token b.first) (t.runs (sign ";" ∷ (given (others (bare_parts behind)) later ++ last_piece r)) e (step (token c.first) third)) in
       let all = join first behind in
       let at_first = f.runs (second_pieces r (bare_parts behind)) e behind Q second in
@@ -259,7 +259,7 @@ module _ (text : List ℕ) where
       let some_more : is_none t.rest ≡ false = left_over t.rest (ap is_none w.rests ∙ some) in
       let some_most : is_none behind ≡ false = left_over behind (ap is_none t.rests ∙ some_more) in
       record {
-        runs = retell Token (NextIn text any_goal) itself (ap (λ x. anywhere (sp ∷ sign "(" ∷ (given (bare_parts all) (initial (bare_parts all)) ++ x))) told ∙ ap anywhere (loop_told r (bare_parts all))) run;
+        runs = retell Token (SeenNext text) (behind_in text) (ap (λ x. anywhere (sp ∷ sign "(" ∷ (given (bare_parts all) (initial (bare_parts all)) ++ x))) told ∙ ap anywhere (loop_told r (bare_parts all))) run;
         dangles = λ h. st.statement.dangles (sym (f.skips behind some_most ∙ t.skips some_more ∙ w.skips some ∙ ap last_ends_in_if st.parts) ∙ h);
       }
     where
@@ -269,7 +269,7 @@ module _ (text : List ℕ) where
       left_over (gap ps) h = refl
 
 -- of each kind
-pub for_stated : (text : List ℕ) {o : ℕ} (r : Bool) (what : StatementKind) (y z : Edge) {s m e : Token} {first : Parts} (behind : Parts) {P : List Pair} (Q : List Pair) → PiecesAt text r o (statement_parts headed.For r) s m Closed y first P → KindFollowed text m what → PiecesAt text r o (statement_parts what r) m e y z behind Q →
+pub for_stated : (text : SourceText) {o : ℕ} (r : Bool) (what : StatementKind) (y z : Edge) {s m e : Token} {first : Parts} (behind : Parts) {P : List Pair} (Q : List Pair) → PiecesAt text r o (statement_parts headed.For r) s m Closed y first P → KindFollowed text m what → PiecesAt text r o (statement_parts what r) m e y z behind Q →
     StatedBy text r (statement_node_kind what) (join first behind) o s e (P ++ Q)
 for_stated text r headed.ForLoop y z behind Q u followed v =
     let a = read_then text u in

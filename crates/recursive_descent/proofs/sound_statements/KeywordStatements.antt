@@ -3,7 +3,6 @@ use Rattle.std.proofs.Common.{◌≡◌, inl, inr, ℕ, ◌+◌, Bool, true, fal
 use Rattle.std.specs.Prelude.{nat_le}
 use Rattle.std.proofs.lemmas.Bool.{false≢true}
 use Rattle.tokens.specs.declared.token.Goal.{Goal}
-use Rattle.tokens.specs.Reading.{any_goal}
 use Rattle.token_cursor.specs.StatementEnds.{EndsAt}
 use Rattle.token_cursor.specs.declared.semicolon.StatementEnd.TheVariants.{AfterExpression}
 use Rattle.tree.specs.declared.kind.Kind.TheVariants as kind
@@ -18,7 +17,6 @@ use Rattle.language.specs.Edges.{edge_as_written, edge, last_edge, last_ends_in_
 use Rattle.language.specs.Pieces.{Role, expr, name, statement, switch_case, Piece, Spelling, at, unbroken, lay, line, shallower, sign, sp, nothing, put}
 use Rattle.language.specs.Statements.{lines, defaults, end_of, whole, after_word}
 use Rattle.language.specs.Token.{Token}
-use Rattle.language.specs.Places.{NextIn, itself, SpellsIn}
 use Rattle.language.specs.Promises.{is_free, ReadBy}
 use Rattle.language.specs.Derivation.{Step, token, laid, same_line, direct, done, step, within, missing, placed}
 use Rattle.language.proofs.table.BareEdges.{edge_bare}
@@ -31,7 +29,7 @@ use Rattle.language.proofs.table.OwnTokenWays.{statement_spans, statement_fits}
 use Rattle.language.proofs.table.Productions.{way_from}
 use Rattle.language.proofs.list_loops.FirstPieces.{run_never}
 use Rattle.language.proofs.table.StatementWays.{Stands, behind_own, behind_brace, label_listed}
-use Rattle.language.proofs.texts.TextOffsets.{text_determined}
+use Rattle.token_cursor.proofs.SeenTokens.{seen_determined}
 use Rattle.recursive_descent.specs.Soundness.{RunsIn, anywhere}
 use Rattle.recursive_descent.specs.SoundnessOfStatements.{PiecesAt, StatementAt}
 use Rattle.parser_tables.specs.StatementSymbols as Coded
@@ -39,6 +37,8 @@ use Rattle.parser_tables.specs.StatementSymbols.{statement_parts}
 use Rattle.parser_tables.specs.declared.statements.StatementKind.TheVariants as headed
 use Rattle.recursive_descent.proofs.reading.FirstOfPieces.{last_one, token_then, part_runs}
 use Rattle.recursive_descent.proofs.sound_statements.StatementWays.{StatedBy, read_then, expression_then, statement_then, end_standing}
+use Rattle.token_cursor.specs.SourceText.{SourceText, SeenNext, behind_in}
+use Rattle.recursive_descent.specs.Spelled.{SpellsIn}
 
 -- places aside, the cases are the same
 pub defaults_bare : (ps : Parts) → defaults (bare_parts ps) ≡ defaults ps
@@ -48,19 +48,19 @@ defaults_bare (part (node k w g s e none) ps) = ap (λ n. 0 + n) (defaults_bare 
 defaults_bare (part (node k w g s e (part m qs)) ps) = ap (λ n. 0 + n) (defaults_bare ps)
 defaults_bare (part (node k w g s e (gap qs)) ps) = ap (λ n. 1 + n) (defaults_bare ps)
 
-module _ (text : List ℕ) where
+module _ (text : SourceText) where
   -- no line break stands before what the goal for operands reads
   abbrev pub OnLine : Token → Type 0
-  OnLine s = (t m : Token) → ReadBy Token (NextIn text any_goal) itself Goal.RegExp s t m → t.after_break ≡ false
+  OnLine s = (t m : Token) → ReadBy Token (SeenNext text) (behind_in text) Goal.RegExp s t m → t.after_break ≡ false
 
-  name_on_line : {o : ℕ} {n : Tree} {s m : Token} {P : List Pair} → OnLine s → SpellsIn text o name n s m P → Step Token (NextIn text any_goal) itself unbroken s s
+  name_on_line : {o : ℕ} {n : Tree} {s m : Token} {P : List Pair} → OnLine s → SpellsIn text o name n s m P → Step Token (SeenNext text) (behind_in text) unbroken s s
   name_on_line {s = s} {m = m} near d =
-      let u = (name_form Token (NextIn text any_goal) itself (text_determined text) d).0 in
-      same_line u.reads.next (near u.sign m (record { next = u.reads.next; allowed = (text_determined text).free Goal.RegExp s u.sign m u.reads.next (ap is_free u.reads.class) }))
+      let u = (name_form Token (SeenNext text) (behind_in text) (seen_determined text) d).0 in
+      same_line u.reads.next (near u.sign m (record { next = u.reads.next; allowed = (seen_determined text).free Goal.RegExp s u.sign m u.reads.next (ap is_free u.reads.class) }))
 
-  expression_on_line : {o : ℕ} {n : Tree} {y : Rank} {s m : Token} {P : List Pair} → OnLine s → SpellsIn text o (expr y true Any) n s m P → Step Token (NextIn text any_goal) itself unbroken s s
+  expression_on_line : {o : ℕ} {n : Tree} {y : Rank} {s m : Token} {P : List Pair} → OnLine s → SpellsIn text o (expr y true Any) n s m P → Step Token (SeenNext text) (behind_in text) unbroken s s
   expression_on_line near d =
-      let u = (operand_begins Token (NextIn text any_goal) itself (text_determined text) d).begins in
+      let u = (operand_begins Token (SeenNext text) (behind_in text) (seen_determined text) d).begins in
       same_line u.read.next (near u.token u.mid u.read)
 
   -- a label or none, and the end
@@ -127,13 +127,13 @@ module _ (text : List ℕ) where
   cases_closed a zs none {s} {e} {P} f run = f s e P run
   cases_closed a zs (part n ps) f (step laid (within d run)) = step laid (within d (cases_closed a zs ps f run))
   cases_closed a zs (part n ps) f (step laid (step q run)) = elim q [ ]
-  cases_closed a zs (gap ps) f run = absurd (run_never Token (NextIn text any_goal) itself run)
+  cases_closed a zs (gap ps) f run = absurd (run_never Token (SeenNext text) (behind_in text) run)
 
   cases_braced : {o : ℕ} (a : Role) (ps : Parts) {s e : Token} {P : List Pair} → RunsIn text o (anywhere (lines a ps ++ sign "}" ∷ [])) ps s e P → RunsIn text o (anywhere (behind_brace (bare_parts ps) (lines a (bare_parts ps)))) ps s e P
   cases_braced a none run = run
-  cases_braced a (gap ps) run = absurd (run_never Token (NextIn text any_goal) itself run)
+  cases_braced a (gap ps) run = absurd (run_never Token (SeenNext text) (behind_in text) run)
   cases_braced a (part n ps) run =
-      step laid (retell Token (NextIn text any_goal) itself (ap anywhere (sym (append_assoc (lines a (bare_parts (part n ps))) (lay shallower ∷ lay line ∷ []) (sign "}" ∷ []))))
+      step laid (retell Token (SeenNext text) (behind_in text) (ap anywhere (sym (append_assoc (lines a (bare_parts (part n ps))) (lay shallower ∷ lay line ∷ []) (sign "}" ∷ []))))
       (cases_closed a (lay shallower ∷ lay line ∷ sign "}" ∷ []) (part n ps) (λ m e Q d. step laid (step laid d)) run))
 
   pub a_switch : {o : ℕ} (r : Bool) (x : Edge) {z : Edge} {s e : Token} {ps : Parts} {P : List Pair} → PiecesAt text r o (statement_parts headed.Switch r) s e x z ps P → StatedBy text r kind.SwitchStatement ps o s e P
@@ -147,7 +147,7 @@ module _ (text : List ℕ) where
       let told : sp ∷ sign "(" ∷ whole ∷ sign ")" ∷ sp ∷ brace ≡ behind_own r kind.SwitchStatement (bare_parts ps) =
       (λ i. cond (sym one i) (sp ∷ sign "(" ∷ whole ∷ sign ")" ∷ sp ∷ brace) nothing) ∙ ap (λ k. behind_own r kind.SwitchStatement (bare_parts k)) (sym b.parts) in
       record {
-        runs = retell Token (NextIn text any_goal) itself (ap anywhere told) (step laid (step (token a.first) (part_runs text refl b.parts b.pairs b.first.1 (step (token c.first) (step laid (braces_behind (switch_case r) b.rest v.0))))));
+        runs = retell Token (SeenNext text) (behind_in text) (ap anywhere told) (step laid (step (token a.first) (part_runs text refl b.parts b.pairs b.first.1 (step (token c.first) (step laid (braces_behind (switch_case r) b.rest v.0))))));
         dangles = λ h. absurd (false≢true h);
       }
     where
@@ -155,9 +155,9 @@ module _ (text : List ℕ) where
       braces_behind a ps (step q run) = step q (cases_braced a ps run)
 
   -- a label, and its statement behind the `:`
-  pub a_label : {a : Role} {p d r : Bool} {o st : ℕ} {x z : Edge} {l : Tree} {s m e t : Token} {ps : Parts} {P Q : List Pair} → Stands a p d r → NextIn text any_goal s t t → t.start ≡ st → SpellsIn text o name l s m P → PiecesAt text r o (statement_parts headed.Label r) m e x z ps Q →
+  pub a_label : {a : Role} {p d r : Bool} {o st : ℕ} {x z : Edge} {l : Tree} {s m e t k : Token} {ps : Parts} {P Q : List Pair} → Stands a p d r → SeenNext text s t k → t.start ≡ st → SpellsIn text o name l s m P → PiecesAt text r o (statement_parts headed.Label r) m e x z ps Q →
       StatementAt text a (node kind.LabeledStatement [] plain st e.stop (part l ps)) o s e (P ++ Q)
-  a_label {a} {p} {d} {r} {o} {st} {x} {z} {l} {s} {m} {e} {t} {ps} {P} {Q} stands next start spelled u =
+  a_label {a} {p} {d} {r} {o} {st} {x} {z} {l} {s} {m} {e} {t} {k} {ps} {P} {Q} stands next start spelled u =
       let b = read_then text u in
       let c = statement_then text b.others in
       let parts : ps ≡ part c.item none = c.parts ∙ ap (part c.item) c.others.2 in
@@ -167,7 +167,7 @@ module _ (text : List ℕ) where
       let w : Spelling = at Primary (put name ∷ sign ":" ∷ sp ∷ put (statement r) ∷ []) in
       let run : RunsIn text o (anywhere w.pieces) (part l ps) s e (P ++ Q) = within spelled (step (token b.first) (step laid (part_runs text refl parts pairs inner.spelled done))) in
       record {
-        spelled = direct (settled a w) (way_from a n w refl (label_listed [] plain 0 0 (bare_parts (part l ps)) stands) (statement_fits stands w)) (placed next (statement_spans stands t e ∙ ap (λ (v : ℕ). (v, e.stop)) start))
-            (retell Token (NextIn text any_goal) itself (sym (settled_at stands w)) run);
+        spelled = direct (settled a w) (way_from a n w refl (label_listed [] plain 0 0 (bare_parts (part l ps)) stands) (statement_fits stands w)) (placed next (statement_spans stands t (behind_in text e) ∙ ap (λ (v : ℕ). (v, e.stop)) start))
+            (retell Token (SeenNext text) (behind_in text) (sym (settled_at stands w)) run);
         dangles = λ h. inner.dangles (sym (ap (λ k. last_ends_in_if (part l k)) parts) ∙ h);
       }

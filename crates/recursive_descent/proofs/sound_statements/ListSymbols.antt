@@ -4,7 +4,6 @@ use Rattle.std.specs.Prelude.{codes, not, ◌&&◌, ◌||◌, nat_le, nat_eq, Op
 use Rattle.std.specs.Bool.{OnTrue, OnFalse}
 use Rattle.std.proofs.lemmas.Bool.Decides.{nat_tests}
 use Rattle.std.proofs.lemmas.Bool.{false≢true}
-use Rattle.tokens.specs.Reading.{any_goal}
 use Rattle.tokens.specs.declared.token.TokenClass.TheVariants.{IdentifierName, Punctuator}
 use Rattle.tokens.specs.declared.token.Goal.TheVariants.{Div}
 use Rattle.tokens.specs.declared.token.Token.{Token as Scanned}
@@ -29,11 +28,10 @@ use Rattle.language.specs.Covers.{Reading, as_expression, as_pattern}
 use Rattle.language.specs.Edges.{last_edge, edge_as_written}
 use Rattle.language.specs.Pieces.{class_body, declarator, head, switch_case, Piece, PieceOf, many, sign, pattern_element, sp, nothing, listed as listed_pieces}
 use Rattle.language.specs.Statements.{declarators, defaults, lines, is_one}
-use Rattle.language.specs.Places.{NextIn, itself, SpellsIn}
 use Rattle.language.specs.Token.{Token, as_read, table_text}
 use Rattle.language.specs.Derivation.{step, token, laid, placed}
 use Rattle.language.proofs.list_loops.FirstPieces.{run_never, run_the_part}
-use Rattle.language.proofs.texts.TextOffsets.{text_determined}
+use Rattle.token_cursor.proofs.SeenTokens.{seen_determined}
 use Rattle.language.proofs.table.ForDeclarationWays.{head_sole}
 use Rattle.language.proofs.statements.Blocks.{one_declarator}
 use Rattle.language.proofs.table.OneKind.{one_kind}
@@ -52,10 +50,14 @@ use Rattle.parser_tables.specs.Tests.{is_each}
 use Rattle.recursive_descent.specs.Expectations.{ExpectedAt, HeadAt}
 use Rattle.recursive_descent.proofs.reading.AddedPairs.{runs_on}
 use Rattle.recursive_descent.proofs.sound_statements.Blocks.{class_body_spelled}
-use Rattle.recursive_descent.proofs.sound_statements.BlockSymbols.{place_mark, adds_within}
+use Rattle.recursive_descent.proofs.sound_statements.BlockSymbols.{adds_within}
 use Rattle.recursive_descent.proofs.sound_statements.OneMoreSymbol.{OnePiece}
 use Rattle.recursive_descent.proofs.complete_statements.SymbolViews.{something, ListPiece, list_of_list, list_of_head, wants_list}
 use Rattle.recursive_descent.proofs.sound_statements.PartSymbols.{wanted_nodes, each_at}
+use Rattle.token_cursor.specs.SourceText.{SourceText, SeenNext, behind_in}
+use Rattle.recursive_descent.specs.Spelled.{SpellsIn}
+use Rattle.recursive_descent.proofs.reading.Forward.{place_mark}
+use Rattle.recursive_descent.proofs.reading.SeenClasses.{seen_name}
 
 -- the lists that are pieces
 abbrev pub is_put : ListKind → Bool
@@ -68,7 +70,7 @@ is_put listed.Parameters = true
 is_put _ = false
 
 -- nothing of such a list so far
-pub empty_list : (text : List ℕ) (at o : ℕ) (m : Token) (l : ListKind) → is_put l ≡ true → SoFarAt text Any (list_from l at) o m m []
+pub empty_list : (text : SourceText) (at o : ℕ) (m : Token) (l : ListKind) → is_put l ≡ true → SoFarAt text Any (list_from l at) o m m []
 empty_list text at o m (listed.Declarators i) is as_expression = λ fits ps e Q d. d
 empty_list text at o m (listed.Declarators i) is (as_pattern b) = λ fits ps e Q d. d
 empty_list text at o m (listed.Cases r) is as_expression = λ fits ps e Q d. d
@@ -82,6 +84,7 @@ empty_list text at o m listed.OneParameter is (as_pattern b) = λ fits ps e Q d.
 empty_list text at o m listed.Parameters is as_expression = λ fits ps e Q d. d
 empty_list text at o m listed.Parameters is (as_pattern b) = λ fits ps e Q d. d
 empty_list text at o m listed.Arguments is a = absurd (false≢true is)
+empty_list text at o m listed.AsyncArguments is a = absurd (false≢true is)
 empty_list text at o m listed.Elements is a = absurd (false≢true is)
 empty_list text at o m listed.Properties is a = absurd (false≢true is)
 empty_list text at o m listed.ParenthesizedItems is a = absurd (false≢true is)
@@ -133,7 +136,7 @@ pub both_mapped : (qs : List Piece) (q : Piece) → anywhere (qs ++ q ∷ []) �
 both_mapped [] q = refl
 both_mapped (r ∷ qs) q = ap (λ x. Rattle.language.specs.Pieces.settle_piece Expression true Any r ∷ x) (both_mapped qs q)
 
-module _ (text : List ℕ) (l : ListOf) (o : ℕ) (s x e : Token) (P : List Pair) (w : ListAt text Any l o x e P) where
+module _ (text : SourceText) (l : ListOf) (o : ℕ) (s x e : Token) (P : List Pair) (w : ListAt text Any l o x e P) where
   -- a list with brackets round it
   in_brackets : (m : ListKind) (a : Reading) (u v : List ℕ) → l.listed ≡ m → whole_of m l a ≡ true → closing m ≡ Some v → ReadsHere text Punctuator u s x → RunsIn text o (stood_in Any m (item_pieces m a (all_read_as a l.nodes))) (all_read_as a l.nodes) x w.mid P × ReadsHere text Punctuator v w.mid e
   in_brackets m a u v is whole close left =
@@ -147,8 +150,8 @@ module _ (text : List ℕ) (l : ListOf) (o : ℕ) (s x e : Token) (P : List Pair
 
   no_parameters : (ps : Parts) → RunsIn text o (anywhere (no_part ps)) ps x w.mid P → (ps ≡ none) × RunsIn text o [] none x w.mid P
   no_parameters none d = (refl, d)
-  no_parameters (part n ps) d = absurd (run_never Token (NextIn text any_goal) itself d)
-  no_parameters (gap ps) d = absurd (run_never Token (NextIn text any_goal) itself d)
+  no_parameters (part n ps) d = absurd (run_never Token (SeenNext text) (behind_in text) d)
+  no_parameters (gap ps) d = absurd (run_never Token (SeenNext text) (behind_in text) d)
 
   -- what such a list puts
   put_listed : (m : ListKind) (word : Option Scanned) (each : Bool) → l.listed ≡ m → takes_listed m word each l ≡ true → SeenRight l → ((v : List ℕ) → opening m ≡ Some v → ReadsHere text Punctuator v s x) → (opening m ≡ None → x ≡ s) → ((v : List ℕ) → opening m ≡ Some v → x.start ≡ l.span.start) →
@@ -179,6 +182,7 @@ module _ (text : List ℕ) (l : ListOf) (o : ℕ) (s x e : Token) (P : List Pair
       let b = in_brackets listed.Parameters (as_pattern true) (codes "(") (codes ")") is (and_true _ ∙ fits) refl (open_sign (codes "(") refl) in
       between (listed_pieces (pattern_element true) (pattern_parts 0 l.nodes)) (pattern_parts 0 l.nodes) (open_sign (codes "(") refl) b.0 b.1
   put_listed listed.Arguments word each is fits seen open_sign stays start = tt
+  put_listed listed.AsyncArguments word each is fits seen open_sign stays start = tt
   put_listed listed.Elements word each is fits seen open_sign stays start = tt
   put_listed listed.Properties word each is fits seen open_sign stays start = tt
   put_listed listed.ParenthesizedItems word each is fits seen open_sign stays start = tt
@@ -188,7 +192,7 @@ module _ (text : List ℕ) (l : ListOf) (o : ℕ) (s x e : Token) (P : List Pair
 more_than_one : (n : ℕ) → 2 ≤ n → nat_eq n 1 ≡ true → ⊥
 more_than_one n h k = grind (arith, nat_tests)
 
-module _ (text : List ℕ) (o : ℕ) where
+module _ (text : SourceText) (o : ℕ) where
   -- a declarator is one as a pattern too
   pub same_kind : (k : Kind) → pattern_kind k ≡ kind.VariableDeclarator → k ≡ kind.VariableDeclarator
   same_kind kind.ArrayExpression h = cc
@@ -204,7 +208,7 @@ module _ (text : List ℕ) (o : ℕ) where
   pattern_kind_of (node k w g s e ps) = refl
 
   pub declarator_kind : {i b : Bool} (n : Tree) {s e : Token} {P : List Pair} → SpellsIn text o (declarator i b) n s e P → kind_of n ≡ kind.VariableDeclarator
-  declarator_kind {i} {b} n d = ap kind_of ((one_kind Token (NextIn text any_goal) itself (text_determined text) {Fine = λ n v. Unit {0}} (one_declarator i b)).told d tt).tree
+  declarator_kind {i} {b} n d = ap kind_of ((one_kind Token (SeenNext text) (behind_in text) (seen_determined text) {Fine = λ n v. Unit {0}} (one_declarator i b)).told d tt).tree
 
   declarator_same : {i b : Bool} (n : Tree) {s e : Token} {P : List Pair} → SpellsIn text o (declarator i b) (pattern_tree n) s e P → pattern_tree n ≡ n
   declarator_same n d = kind_same n (same_kind (kind_of n) (sym (pattern_kind_of n) ∙ declarator_kind (pattern_tree n) d))
@@ -215,12 +219,12 @@ module _ (text : List ℕ) (o : ℕ) where
     runs : RunsIn text o (anywhere (declarators (declarator false a) (bare_parts ps))) ps s e P
 
   one_there : (ps : Parts) {s e : Token} {P : List Pair} → nat_eq (part_count ps) 1 ≡ true → RunsIn text o (anywhere (declarators (declarator false false) (pattern_parts 0 ps))) (pattern_parts 0 ps) s e P → OneDeclarator false ps s e P
-  one_there none h d = absurd (run_never Token (NextIn text any_goal) itself d)
-  one_there (gap ps) h d = absurd (run_never Token (NextIn text any_goal) itself d)
+  one_there none h d = absurd (run_never Token (SeenNext text) (behind_in text) d)
+  one_there (gap ps) h d = absurd (run_never Token (SeenNext text) (behind_in text) d)
   one_there (part n none) {s} {e} {P} h d =
-      let one = run_the_part Token (NextIn text any_goal) itself d in
+      let one = run_the_part Token (SeenNext text) (behind_in text) d in
       record { one = refl; runs = subst (λ y. RunsIn text o (anywhere (declarators (declarator false false) (part y none))) (part y none) s e P) (declarator_same n one.spelled) d }
-  one_there (part n (gap ps)) h d = absurd (run_never Token (NextIn text any_goal) itself d)
+  one_there (part n (gap ps)) h d = absurd (run_never Token (SeenNext text) (behind_in text) d)
   one_there (part n (part m ps)) h d = absurd (more_than_one (part_count (part n (part m ps))) (omega arith) h)
 
   pub declarators_bare : (a : Rattle.language.specs.Pieces.Role) (ps : Parts) → declarators a (bare_parts ps) ≡ declarators a ps
@@ -234,7 +238,7 @@ module _ (text : List ℕ) (o : ℕ) where
   head_spelled : (b : Bool) (ps : Parts) {s m e : Token} {P : List Pair} → ReadsHere text IdentifierName m.text s m → declares m.text ≡ true → (b || is_one (bare_parts ps)) ≡ true → RunsIn text o (anywhere (declarators (declarator false b) (bare_parts ps))) ps m e P →
       SpellsIn text o (head b) (node kind.VariableDeclaration m.text plain m.start e.stop ps) s e P
   head_spelled b ps {s} {m} {e} {P} read word some d =
-      (head_sole Token (NextIn text any_goal) itself (text_determined text) {Fine = λ n v. Unit {0}} b read word).spells (placed read.next refl)
+      (head_sole Token (SeenNext text) (behind_in text) (seen_determined text) {Fine = λ n v. Unit {0}} b read word).spells (placed read.next refl)
       (subst (λ c. RunsIn text o (anywhere (cond c (sp ∷ declarators (declarator false b) (bare_parts ps)) nothing)) ps m e P) (sym some) (step laid d))
 
 taken_put : (m : ListKind) (word : Option Scanned) (each : Bool) (l : ListOf) → takes_listed m word each l ≡ true → is_put m ≡ true
@@ -255,6 +259,7 @@ begun_list listed.NoParameter s x {l = l} h is begun = (begun.1 (codes "(") (ap 
 begun_list listed.OneParameter s x {l = l} h is begun = (begun.1 (codes "(") (ap opening is)).1 ∙ ap (λ z. list_from z l.span.start) is
 begun_list listed.Parameters s x {l = l} h is begun = (begun.1 (codes "(") (ap opening is)).1 ∙ ap (λ z. list_from z l.span.start) is
 begun_list listed.Arguments s x h is begun = absurd (false≢true h)
+begun_list listed.AsyncArguments s x h is begun = absurd (false≢true h)
 begun_list listed.Elements s x h is begun = absurd (false≢true h)
 begun_list listed.Properties s x h is begun = absurd (false≢true h)
 begun_list listed.ParenthesizedItems s x h is begun = absurd (false≢true h)
@@ -269,6 +274,7 @@ stays_before listed.NoParameter s x h is begun sign_missing = cc
 stays_before listed.OneParameter s x h is begun sign_missing = cc
 stays_before listed.Parameters s x h is begun sign_missing = cc
 stays_before listed.Arguments s x h is begun sign_missing = cc
+stays_before listed.AsyncArguments s x h is begun sign_missing = cc
 stays_before listed.Elements s x h is begun sign_missing = cc
 stays_before listed.Properties s x h is begun sign_missing = cc
 stays_before listed.ParenthesizedItems s x h is begun sign_missing = cc
@@ -289,10 +295,10 @@ one_at_most : (n : ℕ) → nat_eq n 1 ≡ true → nat_le n 1 ≡ true
 one_at_most n h = grind (arith, nat_tests)
 
 -- the declaration in the head of a `for`
-module _ (text : List ℕ) (l : ListOf) (o : ℕ) (s x e : Token) (P : List Pair) (t : Scanned) (w : ListAt text Any l o x e P) (is : l.listed ≡ listed.Declarators false) (word : NameHere text declares s x) (same : x ≡ as_read (token_of t)) where
+module _ (text : SourceText) (l : ListOf) (o : ℕ) (s x e : Token) (P : List Pair) (t : Scanned) (w : ListAt text Any l o x e P) (is : l.listed ≡ listed.Declarators false) (word : NameHere text declares s x) (same : x ≡ as_read (token_of t)) where
   head_is : node kind.VariableDeclaration x.text plain x.start e.stop l.nodes ≡ head_node (Some t) e.stop l.nodes
   head_is =
-      let class : t.class ≡ IdentifierName = sym (ap (λ (z : Token). z.class) same) ∙ word.0.class in
+      let class : t.class ≡ IdentifierName = sym (ap (λ (z : Token). z.class) same) ∙ seen_name text.language x.class x.text word.0.class in
       let spelling : x.text ≡ t.text.now = ap (λ (z : Token). z.text) same ∙ ap (λ c. table_text c t.text.now) class in
       let start : x.start ≡ t.start = ap (λ (z : Token). z.start) same in
       λ i. node kind.VariableDeclaration (spelling i) plain (start i) e.stop l.nodes
@@ -319,7 +325,7 @@ module _ (text : List ℕ) (l : ListOf) (o : ℕ) (s x e : Token) (P : List Pair
       let one = one_there text o l.nodes both.0 runs in
       a_declaration true at (head_put_at false (head_spelled text o false l.nodes word.0 word.1 one.one one.runs))
 
-module _ (text : List ℕ) (r : Bool) (s m x : CursorState) (b c : PartialStatement) (high o : ℕ) (e : Token) (P : List Pair) (l0 l : ListOf) (which : ListKind) (each : Bool) (same : text ≡ s.text) (here : m.text ≡ text)
+module _ (text : SourceText) (r : Bool) (s m x : CursorState) (b c : PartialStatement) (high o : ℕ) (e : Token) (P : List Pair) (l0 l : ListOf) (which : ListKind) (each : Bool) (same : text ≡ s.text) (here : m.text ≡ text)
     (is : l0.listed ≡ which) (begun : BegunAt m x l0) (kept : l.listed ≡ l0.listed) (from : l.span.start ≡ l0.span.start) (seen : SeenRight l0 → SeenRight l) (at : EachAt text each e) (fits : takes_list c.word each l ≡ true)
     (whole : SoFarAt text Any l0 o x.last x.last [] → ListAt text Any l o x.last e P)
   where

@@ -14,12 +14,13 @@ use Rattle.recursive_descent.specs.Soundness.{Adds}
 use Rattle.recursive_descent.specs.SoundnessOfStatements.{BuiltAt, PiecesAt, PieceAt}
 use Rattle.parser_tables.specs.StatementSymbols.{Piece, piece_of}
 use Rattle.recursive_descent.proofs.reading.AddedPairs.{adds_both, adds_none}
+use Rattle.token_cursor.specs.SourceText.{SourceText}
 
 -- no piece so far
-pub built_first : {s : CursorState} {old : List Pair} {text : List ℕ} {r : Bool} {b : PartialStatement} → Adds s s old old (BuiltAt text r [] b b)
+pub built_first : {s : CursorState} {old : List Pair} {text : SourceText} {r : Bool} {b : PartialStatement} → Adds s s old old (BuiltAt text r [] b b)
 built_first {b = b} = adds_none refl refl (λ o. record { added = none; nodes = sym (join-none b.nodes); read = (refl, refl, refl, refl) })
 
-module _ (text : List ℕ) (r : Bool) (o : ℕ) where
+module _ (text : SourceText) (r : Bool) (o : ℕ) where
   -- one more piece behind others
   pieces_on : (qs : List Piece) (q : Piece) (s m e : Token) (x y z : Edge) (ps put : Parts) (P Q : List Pair) → PiecesAt text r o qs s m x y ps P → PieceAt text r o q m e y z put Q → PiecesAt text r o (qs ++ q ∷ []) s e x z (join ps put) (P ++ Q)
   pieces_on [] q s m e x y z ps put P Q h p = record {
@@ -79,14 +80,6 @@ piece_low {c = c} p h =
     let joined = ap parts_height p.nodes ∙ parts_height-join c.nodes p.put in
     let low = p.low in
     omega arith
-
-all_taken : (xs : List Coded) → take (length xs) xs ≡ xs
-all_taken [] = refl
-all_taken (x ∷ xs) = ap (λ w. x ∷ w) (all_taken xs)
-
--- all of them
-pub pieces_taken : {s e : CursorState} {old new : List Pair} {text : List ℕ} {r : Bool} {b c : PartialStatement} (xs : List Coded) (i : ℕ) → i ≡ length xs → Adds s e old new (BuiltAt text r (map piece_of (take i xs)) b c) → Adds s e old new (BuiltAt text r (map piece_of xs) b c)
-pieces_taken {s} {e} {old} {new} {text} {r} {b} {c} xs i h a = subst (λ qs. Adds s e old new (BuiltAt text r (map piece_of qs) b c)) (ap (λ n. take n xs) h ∙ all_taken xs) a
 
 -- a piece of tokens alone; of one part
 pub gap_join : (ps : Parts) → push_gap ps ≡ join ps (gap none)

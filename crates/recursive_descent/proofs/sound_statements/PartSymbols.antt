@@ -46,6 +46,7 @@ use Rattle.recursive_descent.proofs.reading.AddedPairs.{adds_behind}
 use Rattle.recursive_descent.proofs.sound_statements.OneMoreSymbol.{OnePiece}
 use Rattle.recursive_descent.proofs.sound_statements.TokenSymbols.{nodes_of, token_edge}
 use Rattle.recursive_descent.proofs.complete_statements.SymbolViews.{something, ExpressionPiece, expression_of_expression, expression_of_assignment, expression_of_test, expression_of_update, expression_of_argument, expression_of_heritage, expression_of_head, wants_expression, BindingPiece, binding_of_binding, wants_binding, StatementPiece, statement_of_statement, statement_of_else, wants_statement, ItemsPiece, items_of_items, items_of_consequent, wants_items}
+use Rattle.token_cursor.specs.SourceText.{SourceText}
 
 and_both : (a b : Bool) → (a && b) ≡ true → (a ≡ true) × (b ≡ true)
 and_both true true h = (refl, refl)
@@ -96,7 +97,7 @@ assigned_bound assigned.Defaulted b k p h = absurd (false≢true p)
 pub position_of : {a b : ExpressionContext} → Some (wanted.Expression a) ≡ Some (wanted.Expression b) → b ≡ a
 position_of h = cc
 
-module _ (text : List ℕ) {o : ℕ} {s e : Token} {P : List Pair} where
+module _ (text : SourceText) {o : ℕ} {s e : Token} {P : List Pair} where
   -- an expression
   as_put : {y : Rank} {i : Bool} {p : ExpressionContext} {part_read : Operand} → ReadAt text p part_read o s e P → p ≡ record { rank = y; has_in = i; start = Any } → takes_new y ≡ true → part_read.cover.shape.is_expression ≡ true → ExpressionPut text o y i s e part_read.edge (part part_read.cover.node none) P
   as_put {y} {i} {p} {part_read = k} h is new fits =
@@ -109,14 +110,11 @@ module _ (text : List ℕ) {o : ℕ} {s e : Token} {P : List Pair} where
       let t = h.assigned b fits (λ d. absurd ((plainly k.cover.shape.assigned is).1 d)) in
       record { put = pattern_tree k.cover.node; parts = refl; target = record { role = t.role; it_is = assigned_bound k.cover.shape.assigned b (kind_of (pattern_tree k.cover.node)) is t.it_is; spelled = t.spelled } }
 
-pub each_at : (text : List ℕ) (e : Token) (each : Bool) → OnTrue each (SeesBy text Div is_each e) → OnFalse each (MissesBy text Div is_each e) → EachAt text each e
+pub each_at : (text : SourceText) (e : Token) (each : Bool) → OnTrue each (SeesBy text Div is_each e) → OnFalse each (MissesBy text Div is_each e) → EachAt text each e
 each_at text e true a b = a
 each_at text e false a b = b
 
-pub parts_pushed : (ps : Parts) (n : Tree) {b c : PartialStatement} → c ≡ b → push c.nodes n ≡ join b.nodes (part n none)
-parts_pushed ps n {b} h = ap (λ (x : PartialStatement). push x.nodes n) h ∙ push-join b.nodes n
-
-module _ (text : List ℕ) (r : Bool) (s m : CursorState) (b c : PartialStatement) (high : ℕ) (pos : ExpressionContext) (k : Operand) (o : ℕ) (e : Token) (P : List Pair) (same : text ≡ s.text) (d : ReadAt text pos k o m.last e P) where
+module _ (text : SourceText) (r : Bool) (s m : CursorState) (b c : PartialStatement) (high : ℕ) (pos : ExpressionContext) (k : Operand) (o : ℕ) (e : Token) (P : List Pair) (same : text ≡ s.text) (d : ReadAt text pos k o m.last e P) where
   an_expression_put : {y : Rank} {i : Bool} → pos ≡ record { rank = y; has_in = i; start = Any } → takes_new y ≡ true → k.cover.shape.is_expression ≡ true → m.last ≡ s.last → ExpressionPut text o y i s.last e k.edge (part k.cover.node none) P
   an_expression_put {y} {i} is new fits stays = subst (λ x. ExpressionPut text o y i x e k.edge (part k.cover.node none) P) stays (as_put text d is new fits)
 
@@ -212,7 +210,7 @@ binding_piece {s} {m} {e} {r = r} p {b} c {d} {high} {pos} {k} same open_same sa
     (λ edges. adds_behind refl refl a (λ o P v. binding_put s.text r s m b c high pos k o e.last P refl (subst (λ x. ReadAt x pos k o m.last e.last P) same v) p h at fits))
 
 -- a statement
-statement_put : (text : List ℕ) (p : Coded) (r : Bool) (s m : CursorState) (b c : PartialStatement) (high : ℕ) (n : Tree) (o : ℕ) (e : Token) (P : List Pair) (x : Edge) → text ≡ s.text → ExpectedAt p r s m b c high wanted.Statement → StatementAt text (statement r) n o m.last e P → PieceAt text r o (piece_of p) s.last e b.edge x (part n none) P
+statement_put : (text : SourceText) (p : Coded) (r : Bool) (s m : CursorState) (b c : PartialStatement) (high : ℕ) (n : Tree) (o : ℕ) (e : Token) (P : List Pair) (x : Edge) → text ≡ s.text → ExpectedAt p r s m b c high wanted.Statement → StatementAt text (statement r) n o m.last e P → PieceAt text r o (piece_of p) s.last e b.edge x (part n none) P
 statement_put text p r s m b c high n o e P x same h d = of (wants_statement p r s m b c high h) h
   where
     of : {p : Coded} → StatementPiece p → ExpectedAt p r s m b c high wanted.Statement → PieceAt text r o (piece_of p) s.last e b.edge x (part n none) P
@@ -226,7 +224,7 @@ statement_piece {s} {m} {e} {r = r} p {b} c {d} {high} {n} {context} same open_s
     (λ edges. adds_behind refl refl a (λ o P v. statement_put s.text p r s m b c high n o e.last P c.edge refl h (subst (λ x. StatementAt s.text (context_role x) n o m.last e.last P) at (subst (λ x. StatementAt x (context_role context) n o m.last e.last P) same v))))
 
 -- statements
-items_put : (text : List ℕ) (p : Coded) (r : Bool) (s m : CursorState) (b c : PartialStatement) (high : ℕ) (until : StatementListEnd) (ps : Parts) (o : ℕ) (e : Token) (P : List Pair) (x : Edge) → ExpectedAt p r s m b c high (wanted.Items until) → RunsIn text o (anywhere (prologue r false [] [] ps)) ps m.last e P → PieceAt text r o (piece_of p) s.last e b.edge x ps P
+items_put : (text : SourceText) (p : Coded) (r : Bool) (s m : CursorState) (b c : PartialStatement) (high : ℕ) (until : StatementListEnd) (ps : Parts) (o : ℕ) (e : Token) (P : List Pair) (x : Edge) → ExpectedAt p r s m b c high (wanted.Items until) → RunsIn text o (anywhere (prologue r false [] [] ps)) ps m.last e P → PieceAt text r o (piece_of p) s.last e b.edge x ps P
 items_put text p r s m b c high until ps o e P x h d = of (wants_items p r s m b c high until h) h
   where
     of : {p : Coded} → ItemsPiece p → ExpectedAt p r s m b c high (wanted.Items until) → PieceAt text r o (piece_of p) s.last e b.edge x ps P

@@ -2,13 +2,11 @@
 use Rattle.std.proofs.Common.{◌≡◌, ℕ, ◌≤◌, arith, Bool, true, false, cond, List, [], ◌++◌, refl, sym, ap, ◌∙◌, subst, append_assoc}
 use Rattle.std.specs.Prelude.{◌&&◌}
 use Rattle.std.proofs.lemmas.List.{append-nil}
-use Rattle.tokens.specs.Reading.{any_goal}
 use Rattle.token_cursor.specs.CursorState.{CursorState}
 use Rattle.tree.specs.declared.kind.Pair.{Pair}
 use Rattle.tree.specs.Tree.{Tree, Parts, none, part, gap, push, height, parts_height}
 use Rattle.language.specs.Pieces.{opening, item, statement}
 use Rattle.language.specs.Token.{Token}
-use Rattle.language.specs.Places.{NextIn, itself, SpellsIn}
 use Rattle.language.specs.Statements.{prologue, is_directive}
 use Rattle.language.specs.Derivation.{done, step, within}
 use Rattle.language.proofs.list_loops.FirstPieces.{run_never}
@@ -16,6 +14,8 @@ use Rattle.parser_tables.specs.declared.statements.StatementContext.{StatementCo
 use Rattle.recursive_descent.specs.Soundness.{RunsIn, anywhere, Adds}
 use Rattle.recursive_descent.specs.SoundnessOfStatements.{StatementsAt, StatementAt, context_role}
 use Rattle.recursive_descent.proofs.reading.AddedPairs.{adds_both, adds_none}
+use Rattle.token_cursor.specs.SourceText.{SourceText, SeenNext, behind_in}
+use Rattle.recursive_descent.specs.Spelled.{SpellsIn}
 
 -- all of them are directives
 abbrev pub all_directive : Parts → Bool
@@ -27,7 +27,7 @@ pub and_true : (a : Bool) → (a && true) ≡ a
 and_true true = refl
 and_true false = refl
 
-and_all : (a b c : Bool) → (a && (b && c)) ≡ ((a && b) && c)
+pub and_all : (a b c : Bool) → (a && (b && c)) ≡ ((a && b) && c)
 and_all true b c = refl
 and_all false b c = refl
 
@@ -41,7 +41,7 @@ one_directive (gap ps) n = refl
 pub still : (d b : Bool) (ps : Parts) (n : Tree) → d ≡ (b && all_directive ps) → (d && is_directive n) ≡ (b && all_directive (push ps n))
 still d b ps n h = ap (λ x. x && is_directive n) h ∙ sym (and_all b (all_directive ps) (is_directive n)) ∙ ap (λ x. b && x) (sym (one_directive ps n))
 
-module _ (text : List ℕ) (r : Bool) where
+module _ (text : SourceText) (r : Bool) where
   -- one more
   prologue_on : {o : ℕ} (b : Bool) (ps : Parts) {n : Tree} {s m e : Token} {P Q : List Pair} → RunsIn text o (anywhere (prologue r b [] [] ps)) ps s m P → SpellsIn text o (cond (b && all_directive ps) (opening r) (item r)) n m e Q →
       RunsIn text o (anywhere (prologue r b [] [] (push ps n))) (push ps n) s e (P ++ Q)
@@ -51,12 +51,12 @@ module _ (text : List ℕ) (r : Bool) where
       subst (λ R. RunsIn text o (anywhere (prologue r b [] [] (part k (push ps n)))) (part k (push ps n)) s e R) (sym (append_assoc P1 P2 Q))
       (within h (prologue_on (b && is_directive k) ps g (subst (λ c. SpellsIn text o (cond c (opening r) (item r)) n m e Q) (and_all b (is_directive k) (all_directive ps)) d)))
   prologue_on b (part k ps) (step x g) d = elim x [ ]
-  prologue_on b (gap ps) g d = absurd (run_never Token (NextIn text any_goal) itself g)
+  prologue_on b (gap ps) g d = absurd (run_never Token (SeenNext text) (behind_in text) g)
 
   no_statements : {o : ℕ} (b : Bool) {s : Token} → RunsIn text o (anywhere (prologue r b [] [] none)) none s s []
   no_statements b = done
 
-pub statements_on : {s m e : CursorState} {old mid new : List Pair} {text : List ℕ} (c d : StatementContext) (nodes : Parts) (n : Tree) → text ≡ s.text → d.is_item ≡ c.is_item → d.returns ≡ c.returns → d.is_prologue ≡ (c.is_prologue && all_directive nodes) → Adds s m old mid (StatementsAt s.text c nodes) →
+pub statements_on : {s m e : CursorState} {old mid new : List Pair} {text : SourceText} (c d : StatementContext) (nodes : Parts) (n : Tree) → text ≡ s.text → d.is_item ≡ c.is_item → d.returns ≡ c.returns → d.is_prologue ≡ (c.is_prologue && all_directive nodes) → Adds s m old mid (StatementsAt s.text c nodes) →
     Adds m e mid new (StatementAt text (context_role d) n) → Adds s e old new (StatementsAt s.text c (push nodes n))
 statements_on {s} {m} {e} {text = text} c d nodes n same items returns before a b =
     adds_both a b (λ o P Q u v is_item.

@@ -5,7 +5,6 @@ use Rattle.std.proofs.lemmas.Bool.{false≢true}
 use Rattle.std.proofs.lemmas.List.{append-nil}
 use Rattle.tokens.specs.declared.token.TokenClass.{TokenClass}
 use Rattle.tokens.specs.declared.token.TokenClass.TheVariants.{IdentifierName, Punctuator}
-use Rattle.tokens.specs.Reading.{any_goal}
 use Rattle.token_cursor.specs.StatementEnds.{EndsAt}
 use Rattle.token_cursor.specs.declared.semicolon.StatementEnd.TheVariants.{AfterExpression}
 use Rattle.tree.specs.declared.kind.Kind.{Kind}
@@ -22,7 +21,6 @@ use Rattle.language.specs.Edges.{edge_as_written, last_edge, goes_on, is_end, is
 use Rattle.language.specs.Pieces.{Role, expr, item, statement, handler, declarator, Piece, absent, lay, ending, behind, line, shallower, settle_piece, sign, term, sp, nothing, put}
 use Rattle.language.specs.Statements.{prologue, lines, declarators, end_of}
 use Rattle.language.specs.Token.{Token}
-use Rattle.language.specs.Places.{NextIn, itself, SpellsIn}
 use Rattle.language.specs.Derivation.{Step, token, explicit, implicit, laid, done, step, within, missing}
 use Rattle.language.proofs.table.BareEdges.{last_edge_bare, ends_bare}
 use Rattle.language.proofs.table.Begins.{retell}
@@ -35,6 +33,9 @@ use Rattle.parser_tables.specs.declared.statements.StatementKind.TheVariants as 
 use Rattle.token_cursor.specs.Seen.{ReadsHere, Misses}
 use Rattle.recursive_descent.proofs.reading.AddedPairs.{runs_on}
 use Rattle.recursive_descent.proofs.reading.FirstOfPieces.{PartThen, TokenThen, last_one, token_then, part_then, gap_then, part_runs}
+use Rattle.token_cursor.specs.SourceText.{SourceText, SeenNext, behind_in}
+use Rattle.recursive_descent.specs.Spelled.{SpellsIn}
+use Rattle.recursive_descent.proofs.reading.SeenClasses.{edge_seen}
 
 -- a right edge that stands stays as it stands
 pub standing_twice : (x : Edge) (t : Token) → edge_as_written (edge_as_written x t) t ≡ edge_as_written x t
@@ -52,7 +53,7 @@ standing_twice Other t = refl
 standing_twice Closed t = refl
 
 -- what was read behind the first token, and that no `else` follows what ends in an `if` without one
-pub record StatedBy (text : List ℕ) (r : Bool) (k : Kind) (ps : Parts) (o : ℕ) (m e : Token) (P : List Pair) : Type 0 where
+pub record StatedBy (text : SourceText) (r : Bool) (k : Kind) (ps : Parts) (o : ℕ) (m e : Token) (P : List Pair) : Type 0 where
   pub runs : RunsIn text o (anywhere (behind_own r k (bare_parts ps))) ps m e P
   pub dangles : ends_in_if (node k [] plain 0 0 ps) ≡ true → Misses text IdentifierName (codes "else") e
 
@@ -68,36 +69,36 @@ settled_on [] q = refl
 settled_on (r ∷ qs) q = ap (λ x. settle_piece Expression true Any r ∷ x) (settled_on qs q)
 
 -- what is followed by `else` doesn't end in an `if` without one
-closed_before : {text : List ℕ} {s m : Token} (n : Tree) → (ends_in_if n ≡ true → Misses text IdentifierName (codes "else") s) → ReadsHere text IdentifierName (codes "else") s m → ends_in_if n ≡ false
+closed_before : {text : SourceText} {s m : Token} (n : Tree) → (ends_in_if n ≡ true → Misses text IdentifierName (codes "else") s) → ReadsHere text IdentifierName (codes "else") s m → ends_in_if n ≡ false
 closed_before {text} {s} {m} n h read = of (ends_in_if n) h
   where
     of : (b : Bool) → (b ≡ true → Misses text IdentifierName (codes "else") s) → b ≡ false
-    of true k = absurd (k refl m m read)
+    of true k = absurd (k refl (behind_in text m) m read)
     of false k = refl
 
-module _ (text : List ℕ) where
-  pub end_standing : {x y : Edge} {s e : Token} → y ≡ edge_as_written x s → EndsAt text (AfterExpression y) s e → Step Token (NextIn text any_goal) itself (ending (behind x)) s e
+module _ (text : SourceText) where
+  pub end_standing : {x y : Edge} {s e : Token} → y ≡ edge_as_written x s → EndsAt text (AfterExpression y) s e → Step Token (SeenNext text) (behind_in text) (ending (behind x)) s e
   end_standing {x} {y} {s} {e} same d = of (subst (λ v. EndsAt text (AfterExpression v) s e) same d)
     where
-      of : {e : Token} → Step Token (NextIn text any_goal) itself (ending (behind (edge_as_written x s))) s e → Step Token (NextIn text any_goal) itself (ending (behind x)) s e
+      of : {e : Token} → Step Token (SeenNext text) (behind_in text) (ending (behind (edge_as_written x s))) s e → Step Token (SeenNext text) (behind_in text) (ending (behind x)) s e
       of (explicit r) = explicit r
-      of (implicit {t = t} nx h) = implicit nx (subst (λ v. IsTrue (not (is_semicolon t) && ((is_end t || (is_sign t && is t.text "}")) || (t.after_break && not (goes_on v t))))) (standing_twice x s) h)
+      of (implicit {t = t} nx h) = implicit nx (subst (λ v. IsTrue (not (is_semicolon t) && ((is_end t || (is_sign t && is t.text "}")) || (t.after_break && not (goes_on v t))))) (edge_seen text (edge_as_written x s) s ∙ standing_twice x s ∙ sym (edge_seen text x s)) h)
 
   -- items, each on a line of its own
   lines_on : {o : ℕ} (r : Bool) (zs : List Piece) (ps : Parts) {s m e : Token} {P : List Pair} → RunsIn text o (anywhere (prologue r false [] [] ps)) ps s m P → RunsIn text o (anywhere zs) none m e [] → RunsIn text o (anywhere (lines (item r) (bare_parts ps) ++ zs)) ps s e P
   lines_on r zs none done z = z
   lines_on r zs (part n ps) (within d run) z = step laid (within d (lines_on r zs ps run z))
   lines_on r zs (part n ps) (step q run) z = elim q [ ]
-  lines_on r zs (gap ps) run z = absurd (run_never Token (NextIn text any_goal) itself run)
+  lines_on r zs (gap ps) run z = absurd (run_never Token (SeenNext text) (behind_in text) run)
 
   block_runs : {o : ℕ} (r : Bool) (ps : Parts) {s m e : Token} {P : List Pair} → RunsIn text o (anywhere (prologue r false [] [] ps)) ps s m P → ReadsHere text Punctuator (codes "}") m e → RunsIn text o (anywhere (behind_brace (bare_parts ps) (lines (item r) (bare_parts ps)))) ps s e P
   block_runs r none done close = step (token close) done
-  block_runs r (gap ps) run close = absurd (run_never Token (NextIn text any_goal) itself run)
+  block_runs r (gap ps) run close = absurd (run_never Token (SeenNext text) (behind_in text) run)
   block_runs r (part n ps) run close =
-      step laid (retell Token (NextIn text any_goal) itself (ap anywhere (sym (append_assoc (lines (item r) (bare_parts (part n ps))) (lay shallower ∷ lay line ∷ []) (sign "}" ∷ []))))
+      step laid (retell Token (SeenNext text) (behind_in text) (ap anywhere (sym (append_assoc (lines (item r) (bare_parts (part n ps))) (lay shallower ∷ lay line ∷ []) (sign "}" ∷ []))))
       (lines_on r (lay shallower ∷ lay line ∷ sign "}" ∷ []) (part n ps) run (step laid (step laid (step (token close) done)))))
 
-module _ (text : List ℕ) {Others : Token → Edge → Parts → List Pair → Type 0} {ps : Parts} {P : List Pair} where
+module _ (text : SourceText) {Others : Token → Edge → Parts → List Pair → Type 0} {ps : Parts} {P : List Pair} where
   pub read_then : {c : TokenClass} {w : List ℕ} {s : Token} {x : Edge} → OneMore (λ m y put Q. ReadsHere text c w s m × IsToken x y put Q) Others ps P → TokenThen (λ m. ReadsHere text c w s m) x Others ps P
   read_then {c} {w} {s} u = token_then u {Is = λ m. ReadsHere text c w s m} u.first
 
@@ -110,7 +111,7 @@ module _ (text : List ℕ) {Others : Token → Edge → Parts → List Pair → 
   pub put_then : {o : ℕ} {a : Role} {s : Token} → OneMore (λ m y put Q. PutAt text o a s m put Q) Others ps P → PartThen (λ n m y Q. SpellsIn text o a n s m Q) Others ps P
   put_then {o} {a} {s} u = part_then u {Is = λ n m y Q. SpellsIn text o a n s m Q} u.first.put u.first.parts u.first.spelled
 
-module _ (text : List ℕ) {o : ℕ} where
+module _ (text : SourceText) {o : ℕ} where
   pub a_block : (r : Bool) (x : Edge) {z : Edge} {s e : Token} {ps : Parts} {P : List Pair} → PiecesAt text r o (statement_parts headed.Block r) s e x z ps P → StatedBy text r kind.BlockStatement ps o s e P
   a_block r x {z} {s} {e} {ps} {P} u =
       let v = last_one u.others in
@@ -132,9 +133,9 @@ module _ (text : List ℕ) {o : ℕ} where
       let v = last_one u.others in
       let parts : ps ≡ u.put = u.parts ∙ ap (join u.put) v.1.1 ∙ Rattle.tree.proofs.Shapes.join-none u.put in
       let pairs : P ≡ u.put_pairs = u.pairs ∙ ap (λ Q. u.put_pairs ++ Q) v.1.2 ∙ append-nil u.put_pairs in
-      let list = retell Token (NextIn text any_goal) itself (ap anywhere (sym (declarators_bare (declarator true true) u.put))) u.first.0 in
+      let list = retell Token (SeenNext text) (behind_in text) (ap anywhere (sym (declarators_bare (declarator true true) u.put))) u.first.0 in
       let end = end_standing text (u.first.1 ∙ ap (λ y. edge_as_written y u.mid) (sym (last_edge_bare u.put))) v.0 in
-      let run = step laid (retell Token (NextIn text any_goal) itself (sym (settled_on (declarators (declarator true true) (bare_parts u.put)) (end_of (last_edge (bare_parts u.put))))) (runs_on text list end)) in
+      let run = step laid (retell Token (SeenNext text) (behind_in text) (sym (settled_on (declarators (declarator true true) (bare_parts u.put)) (end_of (last_edge (bare_parts u.put))))) (runs_on text list end)) in
       record {
         runs = subst (λ k. RunsIn text o (anywhere (behind_own r kind.VariableDeclaration (bare_parts k))) k s e P) (sym parts) (subst (λ Q. RunsIn text o (anywhere (behind_own r kind.VariableDeclaration (bare_parts u.put))) u.put s e Q) (sym pairs) run);
         dangles = λ h. absurd (false≢true h);
@@ -192,7 +193,7 @@ module _ (text : List ℕ) {o : ℕ} where
             step laid (step (token a.first) (part_runs text refl refl b.pairs b.first.1 (step (token c.first) (step laid (part_runs text refl refl d.pairs d.first.spelled (step laid (step (token h.1) (step laid (part_runs text refl refl (sym (append-nil _)) h.2.statement.spelled done))))))))) in
             record {
               runs = subst (λ k. RunsIn text o (anywhere (behind_own r kind.IfStatement (bare_parts k))) k s e P) (sym parts)
-                  (retell Token (NextIn text any_goal) itself (λ i. anywhere (cond (sym (ends_bare d.item ∙ no_dangling) i) nothing (condition r (sp ∷ term "else" ∷ sp ∷ put (statement r) ∷ [])))) run);
+                  (retell Token (SeenNext text) (behind_in text) (λ i. anywhere (cond (sym (ends_bare d.item ∙ no_dangling) i) nothing (condition r (sp ∷ term "else" ∷ sp ∷ put (statement r) ∷ [])))) run);
               dangles = λ k. h.2.statement.dangles (sym (ap (λ j. last_ends_in_if j) parts) ∙ k);
             })
         | inr h ↦ (let parts : ps ≡ part b.item (part d.item (gap none)) = b.parts ∙ ap (part b.item) (d.parts ∙ ap (part d.item) h.0.2) in
@@ -234,6 +235,6 @@ module _ (text : List ℕ) {o : ℕ} where
                         (step laid (part_runs text refl refl a.pairs a.first (missing (step laid (step (token k.1) (step laid (part_runs text refl refl (sym (append-nil _)) k.2.spelled done)))))));
                     dangles = λ j. absurd (false≢true j);
                   })
-              | inr k ↦ absurd (k.1 h.1.0 h.1.0 h.1.1)
+              | inr k ↦ absurd (k.1 (behind_in text h.1.0) h.1.0 h.1.1)
             ])
       ]

@@ -6,13 +6,11 @@ use Rattle.tree.specs.declared.kind.Kind.TheVariants.{Identifier}
 use Rattle.tree.specs.declared.kind.Pair.{Pair}
 use Rattle.tree.specs.Tree.{Tree, node, plain, Parts, none, part, gap, join, push, push_gap}
 use Rattle.tree.proofs.Shapes.{join-none, push-join}
-use Rattle.tokens.specs.Reading.{any_goal}
 use Rattle.language.specs.Pieces.{name}
-use Rattle.language.specs.Places.{NextIn, itself, SpellsIn}
 use Rattle.language.specs.Token.{Token}
 use Rattle.language.specs.Vocabulary.{is_reserved}
 use Rattle.language.proofs.climbing.Leaves.{name_found}
-use Rattle.language.proofs.texts.TextOffsets.{text_determined}
+use Rattle.token_cursor.proofs.SeenTokens.{seen_determined}
 use Rattle.parser_tables.specs.declared.symbol_lists.PartialStatement.{PartialStatement}
 use Rattle.parser_tables.specs.declared.symbol_lists.Symbol.{Symbol as Coded}
 use Rattle.parser_tables.specs.declared.symbol_lists.Symbol.TheVariants as code
@@ -26,6 +24,8 @@ use Rattle.recursive_descent.proofs.reading.AddedPairs.{adds_none}
 use Rattle.recursive_descent.proofs.sound_statements.OneMoreSymbol.{OnePiece, gap_join}
 use Rattle.recursive_descent.proofs.complete_statements.SymbolViews.{something, of_some, is_nothing, is_gap}
 use Rattle.token_cursor.proofs.TokensAhead.{not_true}
+use Rattle.token_cursor.specs.SourceText.{SourceText, SeenNext, behind_in}
+use Rattle.recursive_descent.specs.Spelled.{SpellsIn}
 
 -- what was passed, and what it puts
 pub record Passed (s e : CursorState) (r : Bool) (q : Piece) (b c : PartialStatement) (high : ℕ) : Type 0 where
@@ -44,8 +44,8 @@ pub token_edge : {b c : PartialStatement} → c ≡ b → c.edge ≡ b.edge
 token_edge h = ap (λ (x : PartialStatement). x.edge) h
 
 -- a name that is no reserved word
-pub name_spelled : (text : List ℕ) {o : ℕ} {s e : Token} → NameHere text is_free_name s e → SpellsIn text o name (single_node Identifier e) s e []
-name_spelled text {o} {e = e} h = (name_found Token (NextIn text any_goal) itself (text_determined text) {o = o} h.0 (not_true (is_reserved e.text) h.1)).spelled
+pub name_spelled : (text : SourceText) {o : ℕ} {s e : Token} → NameHere text is_free_name s e → SpellsIn text o name (single_node Identifier e) s e []
+name_spelled text {o} {e = e} h = (name_found Token (SeenNext text) (behind_in text) (seen_determined text) {o = o} h.0 (not_true (is_reserved e.text) h.1)).spelled
 
 no_height : (high : ℕ) → 0 ≤ high
 no_height high = omega arith

@@ -10,7 +10,6 @@ use Rattle.tokens.specs.declared.token.TokenClass.TheVariants.{IdentifierName, P
 use Rattle.tokens.specs.declared.token.Goal.{Goal}
 use Rattle.tokens.specs.declared.token.Token.{Token as Scanned}
 use Rattle.tokens.specs.Scanned.{token_of}
-use Rattle.tokens.specs.Reading.{any_goal}
 use Rattle.token_cursor.specs.CursorState.{CursorState, IsAhead}
 use Rattle.tree.specs.declared.kind.Kind.{Kind}
 use Rattle.tree.specs.declared.kind.Kind.TheVariants.{Identifier, ForStatement, ForInStatement, ForOfStatement}
@@ -26,13 +25,12 @@ use Rattle.language.specs.Vocabulary.{among, is_identifier}
 use Rattle.language.specs.Pieces.{Role, name, directive_string, statement, item, opening}
 use Rattle.language.specs.StatementStart.{StatementStart, a_block, an_empty, a_variable, an_if, a_do, a_while, a_for, a_continue, a_break, a_return, a_throw, a_switch, a_try, a_debugger, a_function, a_class, an_expression, is_own, statement_start, statement_start_by}
 use Rattle.language.specs.Token.{Token, as_read, table_text}
-use Rattle.language.specs.Places.{NextIn, itself, SpellsIn}
 use Rattle.language.specs.Promises.{ReadBy}
 use Rattle.language.specs.Derivation.{placed}
 use Rattle.language.proofs.table.Beginnings.{text_as}
 use Rattle.language.proofs.table.OwnTokenWays.{own_spells, statement_spans}
 use Rattle.language.proofs.table.StatementWays.{begins_as, Stands, as_statement, as_item, as_opening}
-use Rattle.language.proofs.texts.TextOffsets.{text_determined}
+use Rattle.token_cursor.proofs.SeenTokens.{seen_determined}
 use Rattle.parser_tables.specs.declared.symbol_lists.PartialStatement.{PartialStatement}
 use Rattle.parser_tables.specs.declared.statements.StatementStart.{StatementStart as Coded}
 use Rattle.parser_tables.specs.declared.statements.StatementStart.TheVariants as code
@@ -54,6 +52,8 @@ use Rattle.recursive_descent.proofs.sound_statements.StatementWays as Direct
 use Rattle.recursive_descent.proofs.sound_statements.StatementWays.{StatedBy}
 use Rattle.recursive_descent.proofs.sound_statements.KeywordStatements as Worded
 use Rattle.recursive_descent.proofs.sound_statements.KeywordStatements.{a_label}
+use Rattle.token_cursor.specs.SourceText.{SourceText, SeenNext, behind_in, unseen}
+use Rattle.recursive_descent.specs.Spelled.{SpellsIn}
 
 -- the position of a context
 pub context_stands : (c : StatementContext) → Stands (context_role c) (c.is_item && c.is_prologue) c.is_item c.returns
@@ -124,7 +124,7 @@ abbrev pub headed_text : StatementKind → List ℕ → List ℕ
 headed_text headed.Variable w = w
 headed_text _ w = []
 
-module _ (text : List ℕ) (r : Bool) (o : ℕ) where
+module _ (text : SourceText) (r : Bool) (o : ℕ) where
   -- a statement whose first token is its own
   record OwnBy (h : StatementKind) (b : StatementStart) (ps : Parts) (m e : Token) (P : List Pair) : Type 0 where
     stated : StatedBy text r (statement_node_kind h) ps o m e P
@@ -154,22 +154,22 @@ module _ (text : List ℕ) (r : Bool) (o : ℕ) where
   own_by a_class h z q loop u = cc
   own_by an_expression h z q loop u = cc
 
-module _ (text : List ℕ) where
+module _ (text : SourceText) where
   -- from its first token on it is derived
-  own_at : {a : Role} {p d r : Bool} {o : ℕ} {s e t : Token} {ps : Parts} {P : List Pair} (k : Kind) → Stands a p d r → ReadBy Token (NextIn text any_goal) itself Goal.RegExp s t t → statement_start d r t ≡ begins_as k → is_own (begins_as k) ≡ true → StatedBy text r k ps o t e P →
+  own_at : {a : Role} {p d r : Bool} {o : ℕ} {s m e t : Token} {ps : Parts} {P : List Pair} (k : Kind) → Stands a p d r → ReadBy Token (SeenNext text) (behind_in text) Goal.RegExp s t m → statement_start d r t ≡ begins_as k → is_own (begins_as k) ≡ true → StatedBy text r k ps o m e P →
       StatementAt text a (node k (text_as (begins_as k) t.text) plain t.start e.stop ps) o s e P
   own_at {e = e} {t = t} k stands read begun own u = record {
-    spelled = own_spells Token (NextIn text any_goal) itself (text_determined text) k stands read begun own (placed read.next (statement_spans stands t e)) u.runs;
+    spelled = own_spells Token (SeenNext text) (behind_in text) (seen_determined text) k stands read begun own (placed read.next (statement_spans stands t (behind_in text e))) u.runs;
     dangles = u.dangles;
   }
 
 -- what was read of a statement before its pieces: its first token, or a label
-pub data FirstAt (text : List ℕ) (c : StatementContext) (t : Token) (h : StatementKind) : Parts → ℕ → Token → Token → List Pair → Type 0 where
-  own_first : {o : ℕ} {s : Token} → code.OfKind h ≡ coded_statement_start (statement_start c.is_item c.returns t) → FirstAt text c t h none o s t []
+pub data FirstAt (text : SourceText) (c : StatementContext) (t : Token) (h : StatementKind) : Parts → ℕ → Token → Token → List Pair → Type 0 where
+  own_first : {o : ℕ} {s : Token} → code.OfKind h ≡ coded_statement_start (statement_start c.is_item c.returns t) → FirstAt text c t h none o s (unseen t) []
   label_first : {o : ℕ} {l : Tree} {s m : Token} {P : List Pair} → h ≡ headed.Label → SpellsIn text o name l s m P → FirstAt text c t h (part l none) o s m P
 
 -- with the pieces behind it
-pub record OnceAt (text : List ℕ) (c : StatementContext) (t : Token) (h : StatementKind) (nodes : Parts) (y : Edge) (o : ℕ) (s e : Token) (P : List Pair) : Type 0 where
+pub record OnceAt (text : SourceText) (c : StatementContext) (t : Token) (h : StatementKind) (nodes : Parts) (y : Edge) (o : ℕ) (s e : Token) (P : List Pair) : Type 0 where
   pub mid : Token
   pub first : Parts
   pub added : Parts
@@ -180,11 +180,11 @@ pub record OnceAt (text : List ℕ) (c : StatementContext) (t : Token) (h : Stat
   pub parts : nodes ≡ join first added
   pub pairs : P ≡ one ++ more
 
-pub own_begun : {s m : CursorState} {old mid : List Pair} (c : StatementContext) (t : Scanned) (h : StatementKind) (nodes : Parts) → code.OfKind h ≡ coded_statement_start (statement_start c.is_item c.returns (as_read (token_of t))) → m.last ≡ as_read (token_of t) → m.opened ≡ s.opened → mid ≡ old → nodes ≡ none → Adds s m old mid (FirstAt s.text c (as_read (token_of t)) h nodes)
+pub own_begun : {s m : CursorState} {old mid : List Pair} (c : StatementContext) (t : Scanned) (h : StatementKind) (nodes : Parts) → code.OfKind h ≡ coded_statement_start (statement_start c.is_item c.returns (as_read (token_of t))) → m.last ≡ unseen (as_read (token_of t)) → m.opened ≡ s.opened → mid ≡ old → nodes ≡ none → Adds s m old mid (FirstAt s.text c (as_read (token_of t)) h nodes)
 own_begun {s} {m} c t h nodes coded last same_open same empty =
     adds_none same_open same (λ o. subst (λ ps. FirstAt s.text c (as_read (token_of t)) h ps o s.last m.last []) (sym empty) (subst (λ x. FirstAt s.text c (as_read (token_of t)) h none o s.last x []) (sym last) (own_first coded)))
 
-pub pieces_read : {s m e : CursorState} {old mid new : List Pair} {text : List ℕ} {pieces : List Parsed} (c : StatementContext) (t : Token) (h : StatementKind) (nodes : Parts) (b d : PartialStatement) → Adds s m old mid (FirstAt s.text c t h nodes) → b.nodes ≡ nodes → b.edge ≡ Closed → text ≡ s.text → pieces ≡ statement_parts h c.returns →
+pub pieces_read : {s m e : CursorState} {old mid new : List Pair} {text : SourceText} {pieces : List Parsed} (c : StatementContext) (t : Token) (h : StatementKind) (nodes : Parts) (b d : PartialStatement) → Adds s m old mid (FirstAt s.text c t h nodes) → b.nodes ≡ nodes → b.edge ≡ Closed → text ≡ s.text → pieces ≡ statement_parts h c.returns →
     Adds m e mid new (BuiltAt text c.returns pieces b d) → Adds s e old new (OnceAt s.text c t h d.nodes d.edge)
 pieces_read {s} {m} {e} {text = text} {pieces} c t h nodes b d a begun edge same its built = adds_both a built (λ o P Q u v. record {
   mid = m.last;
@@ -205,13 +205,13 @@ text_told d r t headed.Variable q =
     ap (λ c. table_text c t.text.now) (sym class)
 text_told d r t _ q = refl
 
-module _ (text : List ℕ) (c : StatementContext) (t : Scanned) where
+module _ (text : SourceText) (c : StatementContext) (t : Scanned) where
   abbrev Start : Token
   Start = as_read (token_of t)
 
-  module _ {s : Token} (read : ReadBy Token (NextIn text any_goal) itself Goal.RegExp s Start Start) where
+  module _ {s : Token} (read : ReadBy Token (SeenNext text) (behind_in text) Goal.RegExp s Start (unseen Start)) where
     -- one whose first token is its own, but for `for`
-    own_whole : (h : StatementKind) {o : ℕ} (y : Edge) {e : Token} {ps : Parts} {P : List Pair} → code.OfKind h ≡ coded_statement_start (statement_start c.is_item c.returns Start) → (h ≡ headed.For → ⊥) → PiecesAt text c.returns o (statement_parts h c.returns) Start e Closed y ps P →
+    own_whole : (h : StatementKind) {o : ℕ} (y : Edge) {e : Token} {ps : Parts} {P : List Pair} → code.OfKind h ≡ coded_statement_start (statement_start c.is_item c.returns Start) → (h ≡ headed.For → ⊥) → PiecesAt text c.returns o (statement_parts h c.returns) (unseen Start) e Closed y ps P →
         StatementAt text (context_role c) (node (statement_node_kind h) (headed_text h t.text.now) plain t.start e.stop ps) o s e P
     own_whole h {o} y {e} {ps} {P} coded loop u =
         let b = statement_start c.is_item c.returns Start in
@@ -242,7 +242,7 @@ module _ (text : List ℕ) (c : StatementContext) (t : Scanned) where
     for_by what y z added more Q R (label_first is d) u followed v = cc
 
 -- of a `for`, with the pieces behind its first part
-pub for_read : {s m e : CursorState} {old mid new : List Pair} {text : List ℕ} {pieces : List Parsed} (c : StatementContext) (t : Scanned) (what : StatementKind) (b d : PartialStatement) → IsAhead Goal.RegExp s.text s.last.stop (token_of t) → Adds s m old mid (OnceAt s.text c (as_read (token_of t)) headed.For b.nodes b.edge) → KindFollowed text m.last what → text ≡ s.text →
+pub for_read : {s m e : CursorState} {old mid new : List Pair} {text : SourceText} {pieces : List Parsed} (c : StatementContext) (t : Scanned) (what : StatementKind) (b d : PartialStatement) → IsAhead Goal.RegExp s.text s.last.stop (token_of t) → Adds s m old mid (OnceAt s.text c (as_read (token_of t)) headed.For b.nodes b.edge) → KindFollowed text m.last what → text ≡ s.text →
     pieces ≡ statement_parts what c.returns → Adds m e mid new (BuiltAt text c.returns pieces b d) →
     Adds s e old new (λ o x y P. StatementAt s.text (context_role c) (node (statement_node_kind what) (headed_text what t.text.now) plain t.start y.stop d.nodes) o x y P)
 for_read {s} {m} {e} {text = text} {pieces} c t what b d ahead a followed same its built = adds_both a built (λ o P Q u v.

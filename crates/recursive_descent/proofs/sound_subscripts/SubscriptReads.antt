@@ -3,16 +3,15 @@ use Rattle.std.proofs.Common.{◌≡◌, ℕ, Bool, true, false, cond, List, [],
 use Rattle.std.specs.Prelude.{IsTrue, Some, None, codes}
 use Rattle.std.proofs.lemmas.Bool.{false≢true, true≢false}
 use Rattle.tokens.specs.Tokens.{LexicalToken}
-use Rattle.tokens.specs.Reading.{any_goal}
 use Rattle.tokens.specs.declared.token.TokenClass.{TokenClass}
-use Rattle.tokens.specs.declared.token.TokenClass.TheVariants.{IdentifierName, Punctuator, Template, StringLiteral, NumericLiteral, RegularExpressionLiteral, End}
+use Rattle.tokens.specs.declared.token.TokenClass.TheVariants.{IdentifierName, Punctuator, Template, StringLiteral, NumericLiteral, RegularExpressionLiteral, End, PrivateName, Keyword}
 use Rattle.tokens.specs.declared.token.Goal.TheVariants.{Div}
 use Rattle.token_cursor.specs.CursorState.{CursorState, IsAhead}
-use Rattle.tree.specs.declared.kind.Kind.{Kind}
-use Rattle.tree.specs.declared.kind.Kind.TheVariants.{Identifier, TemplateLiteral}
+use Rattle.tree.specs.declared.kind.Kind.TheVariants.{TemplateLiteral, ChainExpression}
 use Rattle.tree.specs.declared.kind.Pair.{Pair}
 use Rattle.tree.specs.Tree.{Tree, node, plain, Parts, none, part, gap, bare_parts}
 use Rattle.covers.specs.declared.list.ListItem.{ListItem}
+use Rattle.covers.specs.declared.list.ListKind.{ListKind}
 use Rattle.covers.specs.declared.list.ListKind.TheVariants as listed
 use Rattle.covers.specs.declared.list.ListBuilder.{ListBuilder as ListOf}
 use Rattle.covers.specs.Lists.{closing}
@@ -27,15 +26,14 @@ use Rattle.language.specs.Pieces.{expr, tagged_quasi, template_element, put, Spe
 use Rattle.language.specs.Token.{Token, as_read, table_text, same_class}
 use Rattle.language.specs.Expressions.{template_elements}
 use Rattle.language.specs.Grammar.{spellings}
-use Rattle.language.specs.Places.{NextIn, itself, SpellsIn}
-use Rattle.language.specs.Derivation.{Reads, direct, placed, done, step, within, token, first}
+use Rattle.language.specs.Derivation.{direct, placed, done, step, within, token, first}
 use Rattle.language.specs.Promises.{ReadBy}
 use Rattle.language.proofs.table.Begins.{goes_to, retell}
 use Rattle.language.proofs.lower_bound.Domination.{settled}
 use Rattle.language.proofs.table.Productions.{way_from, runs_can}
 use Rattle.language.proofs.list_loops.FirstPieces.{run_never}
 use Rattle.language.proofs.list_loops.TemplateElements.{chunk_found}
-use Rattle.language.proofs.texts.TextOffsets.{text_determined}
+use Rattle.token_cursor.proofs.SeenTokens.{seen_determined}
 use Rattle.parser_tables.specs.declared.operand.Operand.{Operand}
 use Rattle.parser_tables.specs.declared.expression_context.ExpressionContext.{ExpressionContext}
 use Rattle.recursive_descent.specs.declared.subscripts.Subscript.{Subscript}
@@ -48,10 +46,16 @@ use Rattle.recursive_descent.specs.Subscripts.{link_kind, link_flags, link_rank,
 use Rattle.parser_tables.specs.Operands.{plain_part}
 use Rattle.token_cursor.specs.Seen.{ReadsHere, Sees}
 use Rattle.parser_tables.specs.Tests.{is_template}
-use Rattle.parser_tables.specs.Tokens.{single_node}
 use Rattle.recursive_descent.proofs.reading.AddedPairs.{adds_behind, adds_none}
 use Rattle.token_cursor.proofs.TokensAhead.{ahead_read, seen_by}
-use Rattle.recursive_descent.proofs.sound_subscripts.SubscriptNodes.{Behind, a_name, optional_name, an_index, optional_index, some_arguments, optional_arguments, a_template, is_call, rank_of_link, links_behind}
+use Rattle.recursive_descent.proofs.sound_subscripts.SubscriptNodes.{Behind, a_name, optional_name, an_index, optional_index, some_arguments, optional_arguments, a_template, is_call, rank_of_link, links_behind, MemberNamed, member_named}
+use Rattle.token_cursor.specs.SourceText.{SourceText, SeenNext, behind_in, unseen}
+use Rattle.recursive_descent.specs.Spelled.{SpellsIn, OfLanguage, AllOfLanguage}
+use Rattle.recursive_descent.proofs.reading.LanguageTrees.{of_node, of_part, of_none}
+use Rattle.language.specs.Later.{is_later}
+use Rattle.recursive_descent.proofs.reading.SeenClasses.{as_here}
+use Rattle.recursive_descent.proofs.reading.Forward.{place_token}
+use Rattle.recursive_descent.specs.Later.{MemberNameAt}
 
 -- what was added, with nothing behind it
 pub adds_then : {s m e : CursorState} {old mid new : List Pair} {A B : ℕ → Token → Token → List Pair → Type 0} → Adds s m old mid A → e.opened ≡ m.opened → new ≡ mid → ((o : ℕ) (P : List Pair) → A o s.last m.last P → B o s.last e.last P) → Adds s e old new B
@@ -63,7 +67,7 @@ adds_then {s} a open_same same f = record {
 }
 
 -- an expression that was read to its end
-pub spelled_at : {text : List ℕ} {p : ExpressionContext} {r : Operand} {o : ℕ} {s e : Token} {P : List Pair} → takes_new p.rank ≡ true → r.cover.shape.is_expression ≡ true → ReadAt text p r o s e P → SpellsIn text o (expr p.rank p.has_in p.start) r.cover.node s e P
+pub spelled_at : {text : SourceText} {p : ExpressionContext} {r : Operand} {o : ℕ} {s e : Token} {P : List Pair} → takes_new p.rank ≡ true → r.cover.shape.is_expression ≡ true → ReadAt text p r o s e P → SpellsIn text o (expr p.rank p.has_in p.start) r.cover.node s e P
 spelled_at {p = p} loose value read = read.part.stands value p.rank p.has_in (read.taken loose) (λ k. refl)
 
 -- a token that is no template stands in a node as it is read
@@ -74,29 +78,23 @@ no_template_text NumericLiteral w h = refl
 no_template_text StringLiteral w h = refl
 no_template_text RegularExpressionLiteral w h = refl
 no_template_text End w h = refl
+no_template_text PrivateName w h = refl
+no_template_text Keyword w h = refl
 no_template_text Template w h = absurd (true≢false h)
 
-pub single_read : (k : Kind) (t : LexicalToken) (e : Token) → e ≡ as_read t → same_class Template e.class ≡ false → single_node k e ≡ single_node k t
-single_read k t e is other =
-    let class : same_class Template t.class ≡ false = sym (ap (λ (x : Token). same_class Template x.class) is) ∙ other in
-    let text = no_template_text t.class t.text class in
-    ap (single_node k) is ∙ (λ i. single_node k (record t { text = text i }))
-
-abbrev pub BehindOn : List ℕ → Subscript → Bool → Parts → ℕ → Token → Token → List Pair → Type 0
+abbrev pub BehindOn : SourceText → Subscript → Bool → Parts → ℕ → Token → Token → List Pair → Type 0
 BehindOn text w b ps o m e Q = Behind text o m e w b ps Q
 
 -- a name
-name_behind : (s m e : CursorState) (o : ℕ) (b : Bool) → m.text ≡ s.text → LinkedAt s m link.Name b → ReadsHere m.text IdentifierName e.last.text m.last e.last → Behind s.text o s.last e.last link.Name b (part (single_node Identifier e.last) none) []
-name_behind s m e o false text sign name = a_name sign (subst (λ x. ReadsHere x IdentifierName e.last.text m.last e.last) text name)
-name_behind s m e o true text sign name = optional_name sign.0 (subst (λ x. ReadsHere x IdentifierName e.last.text m.last e.last) text name)
+name_behind : (s m e : CursorState) (o : ℕ) (b : Bool) {n : Tree} → m.text ≡ s.text → LinkedAt s m link.Name b → MemberNamed m.text n m.last e.last → Behind s.text o s.last e.last link.Name b (part n none) []
+name_behind s m e o false {n} text sign name = a_name sign (subst (λ x. MemberNamed x n m.last e.last) text name)
+name_behind s m e o true {n} text sign name = optional_name sign.0 (subst (λ x. MemberNamed x n m.last e.last) text name)
 
-pub name_read : {s m e : CursorState} {old mid new : List Pair} (w : Subscript) (b : Bool) (t : LexicalToken) → m.text ≡ s.text → m.opened ≡ s.opened → mid ≡ old → w ≡ link.Name → LinkedAt s m w b → e.opened ≡ m.opened → new ≡ mid → ReadsHere m.text IdentifierName e.last.text m.last e.last → e.last ≡ as_read t →
-    Adds s e old new (BehindOn s.text w b (part (single_node Identifier t) none))
-name_read {s} {m} {e} {old} {mid} {new} w b t text open_same same is sign end_open end_same name token_is =
+pub name_read : {s m e : CursorState} {old mid new : List Pair} (w : Subscript) (b : Bool) (n : Tree) → m.text ≡ s.text → m.opened ≡ s.opened → mid ≡ old → w ≡ link.Name → LinkedAt s m w b → e.opened ≡ m.opened → new ≡ mid → MemberNameAt m e n → OfLanguage m.text n →
+    Adds s e old new (BehindOn s.text w b (part n none))
+name_read {s} {m} {e} w b n text open_same same is sign end_open end_same name own =
     adds_none (end_open ∙ open_same) (end_same ∙ same) (λ o.
-    let node_is : single_node Identifier e.last ≡ single_node Identifier t = single_read Identifier t e.last token_is (ap (same_class Template) name.class) in
-    subst (λ x. Behind s.text o s.last e.last x b (part (single_node Identifier t) none) []) (sym is)
-    (subst (λ n. Behind s.text o s.last e.last link.Name b (part n none) []) node_is (name_behind s m e o b text (subst (λ x. LinkedAt s m x b) is sign) name)))
+    subst (λ x. Behind s.text o s.last e.last x b (part n none) []) (sym is) (name_behind s m e o b text (subst (λ x. LinkedAt s m x b) is sign) (member_named m e n name own)))
 
 -- an expression in brackets
 index_behind : (s m x z e : CursorState) (o : ℕ) (b : Bool) {n : Tree} {Q : List Pair} → m.text ≡ s.text → LinkedAt s m link.Index b → ReadsHere m.text Punctuator (codes "[") m.last x.last → SpellsIn m.text o (expr Expression true Any) n x.last z.last Q → ReadsHere m.text Punctuator (codes "]") z.last e.last →
@@ -119,8 +117,8 @@ index_read {s} {m} {x} {z} {e} {p = p} {r = r} w b text open_same same is sign t
     (index_behind s m x z e o b text (subst (λ v. LinkedAt s m v b) is sign) left d (subst (λ v. ReadsHere v Punctuator (codes "]") z.last e.last) (text2 ∙ text1) right)))
 
 -- arguments
-arguments_begin : (text : List ℕ) {o : ℕ} {ps : Parts} {m e : Token} {Q : List Pair} → ArgumentsAt text ps o m e Q → Sees text Punctuator (codes "(") m
-arguments_begin text {m = m} (step (token {t = t} {e = x} r) d) = (t, subst (λ y. Reads Token (NextIn text any_goal) itself Punctuator (codes "(") m t y) ((text_determined text).last m t x r.next) r)
+arguments_begin : (text : SourceText) {o : ℕ} {ps : Parts} {m e : Token} {Q : List Pair} → ArgumentsAt text ps o m e Q → Sees text Punctuator (codes "(") m
+arguments_begin text (step (token {e = x} r) d) = (x, as_here text r)
 
 arguments_behind : (s m e : CursorState) (o : ℕ) (b : Bool) {ps : Parts} {Q : List Pair} → m.text ≡ s.text → LinkedAt s m link.Arguments b → ArgumentsAt m.text ps o m.last e.last Q → Behind s.text o s.last e.last link.Arguments b ps Q
 arguments_behind s m e o true {ps} {Q} text sign d = optional_arguments sign.0 (subst (λ v. ArgumentsAt v ps o m.last e.last Q) text d)
@@ -142,19 +140,19 @@ chunks_bare b (part q (gap ps)) = refl
 chunks_bare b (part q (part e ps)) = ap (λ x. put (template_element b false) ∷ put (expr Expression true Any) ∷ x) (chunks_bare false ps)
 
 -- the first part of a template, behind which it goes on
-first_spelled : (text : List ℕ) (o : ℕ) (last : Bool) (n : Tree) {s e : Token} → FirstChunkAt text s e n last → SpellsIn text o (template_element true last) n s e []
-first_spelled text o true n {s} {e} d = subst (λ x. SpellsIn text o (template_element true true) x s e []) (sym d.2) (chunk_found Token (NextIn text any_goal) itself (text_determined text) d.1).spelled
-first_spelled text o false n {s} {e} d = subst (λ x. SpellsIn text o (template_element true false) x s e []) (sym d.2) (chunk_found Token (NextIn text any_goal) itself (text_determined text) d.1).spelled
+first_spelled : (text : SourceText) (o : ℕ) (last : Bool) (n : Tree) {s e : Token} → FirstChunkAt text s e n last → SpellsIn text o (template_element true last) n s e []
+first_spelled text o true n {s} {e} d = subst (λ x. SpellsIn text o (template_element true true) x s e []) (sym d.2) (chunk_found Token (SeenNext text) (behind_in text) (seen_determined text) d.1).spelled
+first_spelled text o false n {s} {e} d = subst (λ x. SpellsIn text o (template_element true false) x s e []) (sym d.2) (chunk_found Token (SeenNext text) (behind_in text) (seen_determined text) d.1).spelled
 
-first_runs : (text : List ℕ) (o : ℕ) (f : Start) (last : Bool) (n : Tree) {s m e : Token} {Q : List Pair} (a : Reading) (ps : Parts) → SpellsIn text o (template_element true last) n s m [] → RunsIn text o (goes_to Expression true f (left_of listed.Template last a ps)) ps m e Q → RunsIn text o (goes_to Expression true f (template_elements true (part n ps))) (part n ps) s e Q
+first_runs : (text : SourceText) (o : ℕ) (f : Start) (last : Bool) (n : Tree) {s m e : Token} {Q : List Pair} (a : Reading) (ps : Parts) → SpellsIn text o (template_element true last) n s m [] → RunsIn text o (goes_to Expression true f (left_of listed.Template last a ps)) ps m e Q → RunsIn text o (goes_to Expression true f (template_elements true (part n ps))) (part n ps) s e Q
 first_runs text o f true n a none d done = within d done
 first_runs text o f true n a (part k ps) d r = elim r [ ]
 first_runs text o f true n a (gap ps) d r = elim r [ ]
-first_runs text o f false n a none d r = absurd (run_never Token (NextIn text any_goal) itself r)
-first_runs text o f false n a (gap ps) d r = absurd (run_never Token (NextIn text any_goal) itself r)
+first_runs text o f false n a none d r = absurd (run_never Token (SeenNext text) (behind_in text) r)
+first_runs text o f false n a (gap ps) d r = absurd (run_never Token (SeenNext text) (behind_in text) r)
 first_runs text o f false n a (part k ps) d r = within d r
 
-first_so_far : (text : List ℕ) (f : Start) (at : ℕ) (c : ListItem) (o : ℕ) {s m : Token} → FirstChunkAt text s m c.node c.is_flagged → SoFarAt text f (with_item (list_from listed.Template at) c) o s m []
+first_so_far : (text : SourceText) (f : Start) (at : ℕ) (c : ListItem) (o : ℕ) {s m : Token} → FirstChunkAt text s m c.node c.is_flagged → SoFarAt text f (with_item (list_from listed.Template at) c) o s m []
 first_so_far text f at c o d as_expression fits = λ ps e Q r. first_runs text o f c.is_flagged c.node as_expression ps (first_spelled text o c.is_flagged c.node d) r
 first_so_far text f at c o d (as_pattern b) fits = absurd (false≢true fits)
 
@@ -162,14 +160,14 @@ begun_so_far : (s m : CursorState) (l : ListOf) (f : Start) (o : ℕ) → BegunT
 begun_so_far s m l f o d = subst (λ k. SoFarAt s.text f k o s.last m.last []) (sym d.list) (first_so_far s.text f l.span.start d.chunk o d.read)
 
 -- a template behind a tag
-template_spelled : (text : List ℕ) (o : ℕ) {n : Tree} {at : ℕ} {ps : Parts} {s e : Token} {Q : List Pair} (u : LexicalToken) → n ≡ node TemplateLiteral [] plain at e.stop ps → IsAhead Div text s.stop u → at ≡ u.start → RunsIn text o (goes_to Expression true Any (template_elements true ps)) ps s e Q → SpellsIn text o tagged_quasi n s e Q
+template_spelled : (text : SourceText) (o : ℕ) {n : Tree} {at : ℕ} {ps : Parts} {s e : Token} {Q : List Pair} (u : LexicalToken) → n ≡ node TemplateLiteral [] plain at e.stop ps → IsAhead Div text s.stop u → at ≡ u.start → RunsIn text o (goes_to Expression true Any (template_elements true ps)) ps s e Q → SpellsIn text o tagged_quasi n s e Q
 unfolding spellings
 template_spelled text o {at = at} {ps = ps} {s = s} {e = e} {Q = Q} u is ahead starts d =
     let x : Spelling = at_symbol Primary (template_elements true (bare_parts ps)) in
     let n : Tree = node TemplateLiteral [] plain at e.stop ps in
-    let runs : RunsIn text o (goes_to Expression true Any (template_elements true (bare_parts ps))) ps s e Q = retell Token (NextIn text any_goal) itself (ap (goes_to Expression true Any) (sym (chunks_bare true ps))) d in
+    let runs : RunsIn text o (goes_to Expression true Any (template_elements true (bare_parts ps))) ps s e Q = retell Token (SeenNext text) (behind_in text) (ap (goes_to Expression true Any) (sym (chunks_bare true ps))) d in
     subst (λ v. SpellsIn text o tagged_quasi v s e Q) (sym is)
-    (direct (settled tagged_quasi x) (way_from tagged_quasi n x refl first (runs_can Token (NextIn text any_goal) itself Expression true Any x.pieces runs)) (placed (ahead_read text Div s u ahead).next (ap (λ (x : ℕ). (x, e.stop)) (sym starts))) runs)
+    (direct (settled tagged_quasi x) (way_from tagged_quasi n x refl first (runs_can Token (SeenNext text) (behind_in text) Expression true Any x.pieces runs)) (placed (ahead_read text Div s u ahead).next (ap (λ (x : ℕ). (x, e.stop)) (sym starts))) runs)
 
 class_template : (c : TokenClass) (w : List ℕ) → link_by c w ≡ Some link.Quasi → c ≡ Template
 class_template Template w h = refl
@@ -195,8 +193,8 @@ template_at s m x e l0 l n o {Q} text text1 sign what begun first_part kept star
     let items : RunsIn x.text o (goes_to Expression true Any (template_elements true l.nodes)) l.nodes m.last whole.mid Q = subst (λ v. RunsIn x.text o (stood_in Any v (item_pieces v as_expression l.nodes)) l.nodes m.last whole.mid Q) listed_is (whole.runs as_expression (ap (λ v. whole_of v l as_expression) listed_is)) in
     let runs : RunsIn m.text o (goes_to Expression true Any (template_elements true l.nodes)) l.nodes m.last e.last Q = subst (λ v. RunsIn m.text o (goes_to Expression true Any (template_elements true l.nodes)) l.nodes m.last v Q) (sym ended) (subst (λ v. RunsIn v o (goes_to Expression true Any (template_elements true l.nodes)) l.nodes m.last whole.mid Q) text1 items) in
     let tree : n ≡ node TemplateLiteral [] plain l.span.start e.last.stop l.nodes = node_is ∙ (λ i. node (listed_kind (listed_is i)) [] plain l.span.start (whole.ends i) l.nodes) in
-    let spelled : SpellsIn m.text o tagged_quasi n m.last e.last Q = template_spelled m.text o u tree ahead (start_is ∙ begun.0.1 u ahead.read) runs in
-    let there : ReadBy Token (NextIn s.text any_goal) itself Div s.last (as_read u) (as_read u) = subst (λ v. ReadBy Token (NextIn v any_goal) itself Div s.last (as_read u) (as_read u)) text (subst (λ v. ReadBy Token (NextIn m.text any_goal) itself Div v (as_read u) (as_read u)) stays (ahead_read m.text Div m.last u ahead)) in
+    let spelled : SpellsIn m.text o tagged_quasi n m.last e.last Q = template_spelled m.text o u tree ahead (start_is ∙ place_token m begun.0 (ahead_read m.text Div m.last u ahead)) runs in
+    let there : ReadBy Token (SeenNext s.text) (behind_in s.text) Div s.last (as_read u) (unseen (as_read u)) = subst (λ v. ReadBy Token (SeenNext v) (behind_in v) Div s.last (as_read u) (unseen (as_read u))) text (subst (λ v. ReadBy Token (SeenNext m.text) (behind_in m.text) Div v (as_read u) (unseen (as_read u))) stays (ahead_read m.text Div m.last u ahead)) in
     a_template there class (subst (λ v. SpellsIn v o tagged_quasi n s.last e.last Q) text (subst (λ v. SpellsIn m.text o tagged_quasi n v e.last Q) stays spelled))
 
 template_behind : (s m x e : CursorState) (l0 l : ListOf) (n : Tree) (o : ℕ) (b : Bool) {Q : List Pair} → m.text ≡ s.text → x.text ≡ m.text → LinkedAt s m link.Quasi b → l0.listed ≡ listed.Template → BegunAt m x l0 → TemplateAt m x l0 → l.listed ≡ l0.listed → l.span.start ≡ l0.span.start → n ≡ listed_node l →
@@ -229,3 +227,26 @@ links_read {s} {e} {l = l} {r = r} {ps = ps} w b called value object call nodes_
     adds_behind refl refl a (λ o Q d.
     let rank_is = ap (link_rank w) call ∙ rank_of_link w l.rank object in
     subst (λ x. Links s.text l x o s.last e.last Q) (sym (made ∙ (λ i. plain_part (node (link_kind w) [] (link_flags w b) l.start e.last.stop (nodes_are i)) (rank_is i) Other))) (links_behind s.text value object d))
+
+-- it is of the language where what stands before it is, and what was read behind it
+link_not_later : (w : Subscript) (b : Bool) (st en : ℕ) (ps : Parts) → is_later (node (link_kind w) [] (link_flags w b) st en ps) ≡ false
+link_not_later link.Name b st en ps = refl
+link_not_later link.Index b st en ps = refl
+link_not_later link.Arguments b st en ps = refl
+link_not_later link.Quasi b st en ps = refl
+
+pub link_own : {text : SourceText} {n : Tree} {nodes ps : Parts} {st en : ℕ} (w : Subscript) (b : Bool) → nodes ≡ part n ps → AllOfLanguage text ps → OfLanguage text n → OfLanguage text (node (link_kind w) [] (link_flags w b) st en nodes)
+link_own {text} {n} {ps = ps} {st = st} {en = en} w b nodes_are own object =
+    subst (λ x. OfLanguage text (node (link_kind w) [] (link_flags w b) st en x)) (sym nodes_are) (of_node (λ base. link_not_later w b st en (part n ps)) (of_part object own))
+
+-- a list as an expression, and a chain
+pub list_own : {text : SourceText} (l : ListOf) → AllOfLanguage text l.nodes → OfLanguage text (listed_node l)
+list_own l own = of_node (λ base. by l.listed) own
+  where
+    by : (k : ListKind) → is_later (node (listed_kind k) [] plain l.span.start l.span.end l.nodes) ≡ false
+    by listed.Elements = refl
+    by listed.Properties = refl
+    by _ = refl
+
+pub chain_own : {text : SourceText} {n m : Tree} {st en : ℕ} → n ≡ node ChainExpression [] plain st en (part m none) → OfLanguage text m → OfLanguage text n
+chain_own {text} is own = subst (OfLanguage text) (sym is) (of_node (λ base. refl) (of_part own of_none))

@@ -5,7 +5,7 @@ use Rattle.shipped_rules.proofs.check_by.Goals as goal
 
 -- the rules find what those of `rules` do
 pub returns-clause-answer : goal.returns-clause-answer
-returns-clause-answer g c = subst (λ finds. Runs finds (Check c.args.form) (record {
+returns-clause-answer g c = subst (λ finds. Runs finds (Check c.args.form) c.args.choice (record {
   given = g.F.Feed.left c.args.file.now;
   second = g.S.Feed.left c.args.settings.now;
   before = g.W.Sink.taken c.args.output.now;

@@ -8,6 +8,7 @@ use Rattle.tokens.specs.Goals.{allows}
 use Rattle.tree.specs.declared.kind.Kind.{Kind}
 use Rattle.tree.specs.declared.kind.Kind.TheVariants.{Identifier, ArrowFunctionExpression}
 use Rattle.tree.specs.declared.kind.Flags.{Flags}
+use Rattle.tree.specs.declared.kind.Form.{Form}
 use Rattle.tree.specs.declared.kind.Pair.{Pair}
 use Rattle.tree.specs.Tree.{Tree, node, Parts, none, part, height, bare, plain}
 use Rattle.tree.specs.Uses.{is_lean, used_flags, has_text}
@@ -22,7 +23,7 @@ use Rattle.language.specs.Pieces.{Role, expr, body, PieceOf, sub, tail, put}
 use Rattle.language.specs.Token.{Token}
 use Rattle.language.specs.Edges.{edge, edge_as_written}
 use Rattle.language.specs.Continuations.{operation, rank_made_by, stops_at, stops}
-use Rattle.language.specs.ExpressionStart.{with_name}
+use Rattle.language.specs.ExpressionStart.{with_name, expression_start}
 use Rattle.language.specs.Promises.{IsDetermined, ReadBy, Stops}
 use Rattle.language.specs.Following.{IsAlike}
 use Rattle.language.specs.Grammar.{ways}
@@ -30,7 +31,7 @@ use Rattle.language.specs.Derivation.{Reads, Spells, Runs, Placed}
 use Rattle.language.proofs.table.Begins.{goes_to, retell}
 use Rattle.language.proofs.climbing.SpineContinuations.{makes}
 use Rattle.language.proofs.table.LeftRecursiveWays.{Led}
-use Rattle.language.proofs.table.TokenFirstWays.{head_identifier, head_short_arrow}
+use Rattle.language.proofs.table.TokenFirstWays.{head_identifier, head_short_arrow, head_async}
 use Rattle.language.proofs.climbing.LeftmostParts.{Cored, in_way, core_by}
 use Rattle.language.proofs.climbing.RightOperands.{OnePart, one_part}
 use Rattle.language.proofs.list_loops.FirstPieces.{run_token, run_laid, run_unbroken, run_part}
@@ -43,7 +44,10 @@ use Rattle.language.proofs.climbing.FirstTurn.{Begun, begun_stops, core_spelled}
 use Rattle.language.proofs.climbing.Leaves.{by_name, core_primary, name_form, climb_identifier}
 use Rattle.language.proofs.climbing.Arrows.{arrow_flags, ArrowBody, climb_arrow}
 use Rattle.language.proofs.climbing.FunctionsAndClasses.{body_begins, braced_absent, block_body, concise_body}
-use Rattle.unambiguity_laws.proofs.Unique.{Unique, CoreStep, Climbed}
+use Rattle.language.proofs.list_loops.ParameterLists.{parameter_list}
+use Rattle.unambiguity_laws.proofs.Unique.{Unique, UniqueParts, CoreStep, Climbed}
+use Rattle.unambiguity_laws.proofs.cores.AsyncCalls.{no_async_name}
+use Rattle.unambiguity_laws.proofs.cores.AsyncCores.{part_of, async_climbed}
 use Rattle.unambiguity_laws.proofs.cores.WordCores.{leaf_same, climbed_as}
 
 -- nothing is led by what stands before `=>`
@@ -76,12 +80,12 @@ module _ (S : Type 0) (Next : S → Token → S → Type 0) (behind : S → Toke
       concise_body S Next behind det (λ t m k. (braced_absent S Next behind det {y = Assignment} {i = i} k).nothing o e v U d (st refl)) (u.expressions.found low (λ c. cc) (λ c. cc) d (st refl))
   arrow_body false low d st = let w = body_begins S Next behind det d in block_body S Next behind det w.2 (u.closed refl low d)
 
-  pub name_core : CoreStep S Next behind det h with_name
-  name_core = record { gives = λ {o} {y} {i} {f} {n} {s0} {e} {P} {q} {j} {m} {mid} {m0} {Q} {t} no_new inner low b r op. of low b r (core_by S Next behind det r op b.core) (core_primary S Next behind det b.core r (λ c. (let z = sym c ∙ op in cc))) }
+  pub name_core : UniqueParts S Next behind det h parameter_list → CoreStep S Next behind det h with_name
+  name_core parameters = record { gives = λ {o} {y} {i} {f} {n} {s0} {e} {P} {q} {j} {m} {mid} {m0} {Q} {t} no_new inner low b r op. of low b r op (core_by S Next behind det r op b.core) (core_primary S Next behind det b.core r (λ c. (let z = sym c ∙ op in cc))) }
     where
-      of : {o : ℕ} {y : Rank} {i : Bool} {f : Start} {n : Tree} {s0 e : S} {P : List Pair} {q : Rank} {j : Bool} {m : Tree} {mid m0 : S} {Q : List Pair} {t : Token} → height n ≤ suc h → Begun S Next behind det o s0 y i f n e P q j m mid Q → ReadBy S Next behind Goal.RegExp s0 t m0 →
+      of : {o : ℕ} {y : Rank} {i : Bool} {f : Start} {n : Tree} {s0 e : S} {P : List Pair} {q : Rank} {j : Bool} {m : Tree} {mid m0 : S} {Q : List Pair} {t : Token} → height n ≤ suc h → Begun S Next behind det o s0 y i f n e P q j m mid Q → ReadBy S Next behind Goal.RegExp s0 t m0 → expression_start t ≡ with_name →
           Cored S Next behind det o q j f m s0 mid Q with_name → IsTrue (takes q Primary) → Climbed S Next behind det o y i f s0 m mid Q
-      of {m = m} {mid = mid} {m0 = m0} {t = t} low b r (in_way {k = k0} {w = w} {g = g} {st = st} {en = en} {ps = ps} whole (head_identifier k c v) lean pl d) tk =
+      of {m = m} {mid = mid} {m0 = m0} {t = t} low b r op (in_way {k = k0} {w = w} {g = g} {st = st} {en = en} {ps = ps} whole (head_identifier k c v) lean pl d) tk =
           let bares : is_lean (bare (node k0 w g st en ps)) ≡ true = ap (λ v. is_lean (bare v)) (sym whole) ∙ lean in
           let a = run_token S Next behind (retell S Next behind v d) in
           let here = (by_name S Next behind det r a.sign a.mid a.reads).0 in
@@ -90,8 +94,14 @@ module _ (S : Type 0) (Next : S → Token → S → Type 0) (behind : S → Toke
           let leaf = leaf_same S Next behind det whole k (lean_flags (bare (node k0 w g st en ps)) bares ∙ ap (λ v. used_flags v g) k) pl (retell S Next behind v d) (by_name S Next behind det r) in
           let tree : m ≡ node Identifier t.text plain t.start (behind m0).stop none = leaf.1 ∙ ap (λ v. node Identifier v plain t.start (behind m0).stop none) text in
           climbed_as S Next behind det leaf.0 tree leaf.2 (climb_identifier S Next behind det r (b.reached.taken Primary tk) class (ap is_reserved (sym text) ∙ c)
-          (λ tk' v k eq line. arrow_follows S Next behind det b tk' (ap edge tree) (subst (λ c. Reads S Next behind Punctuator (codes "=>") c v k) (sym leaf.0) eq) line))
-      of {o} {y} {i} {f} {n} {s0} {e} {P} {q} {j} {m} {mid} {m0} {Q} {t} low b r (in_way {k = k0} {w = w} {g = g} {st = st} {en = en} {ps = ps} whole (head_short_arrow k p nm tk' v) lean pl d) tk =
+          (λ tk' v k eq line. arrow_follows S Next behind det b tk' (ap edge tree) (subst (λ c. Reads S Next behind Punctuator (codes "=>") c v k) (sym leaf.0) eq) line) (no_async_name S Next behind det alike u low b r leaf.0 (ap edge tree)))
+      of {q = q} {j = j} {t = t} low b r op (in_way whole (head_async k st v) lean pl d) tk =
+          let a = run_token S Next behind (retell S Next behind v d) in
+          let here = (by_name S Next behind det r a.sign a.mid a.reads).0 in
+          let class : t.class ≡ IdentifierName = sym (ap (λ (t : Token). t.class) here) ∙ a.reads.class in
+          let word : t.text ≡ codes "async" = sym (ap (λ (t : Token). t.text) here) ∙ a.reads.text in
+          async_climbed S Next behind det alike u parameters r class word op low b (part_of S Next behind det r class word q j _ whole lean pl tk k st (retell S Next behind v d))
+      of {o} {y} {i} {f} {n} {s0} {e} {P} {q} {j} {m} {mid} {m0} {Q} {t} low b r op (in_way {k = k0} {w = w} {g = g} {st = st} {en = en} {ps = ps} whole (head_short_arrow k formed p nm tk' v) lean pl d) tk =
           let bares : is_lean (bare (node k0 w g st en ps)) ≡ true = ap (λ v. is_lean (bare v)) (sym whole) ∙ lean in
           let a = run_part S Next behind (retell S Next behind v d) in
           let first = name_form S Next behind det a.spelled in
@@ -104,7 +114,7 @@ module _ (S : Type 0) (Next : S → Token → S → Type 0) (behind : S → Toke
           let sign = run_token S Next behind (run_laid S Next behind on_line.runs) in
           let eq : Reads S Next behind Punctuator (codes "=>") m0 sign.sign sign.mid = subst (λ c. Reads S Next behind Punctuator (codes "=>") c sign.sign sign.mid) here.1 sign.reads in
           let line : sign.sign.after_break ≡ false = det.break a.mid sign.sign on_line.sign sign.mid on_line.mid sign.reads.next on_line.next ∙ on_line.unbroken in
-          let flags : g ≡ arrow_flags g.expression = lean_flags (bare (node k0 w g st en ps)) bares ∙ ap (λ v. used_flags v g) k in
+          let flags : g ≡ arrow_flags g.expression = lean_flags (bare (node k0 w g st en ps)) bares ∙ ap (λ v. used_flags v g) k ∙ ap (λ (x : Form). record (arrow_flags g.expression) { form = x }) formed in
           let text : w ≡ [] = lean_text (bare (node k0 w g st en ps)) bares (ap has_text k) in
           let z = body_part g.expression (run_laid S Next behind sign.runs) in
           let parts : ps ≡ part (node Identifier t.text plain t.start (behind m0).stop none) (part z.operand none) = a.parts ∙ ap (λ c. part c a.rest) name_tree ∙ ap (part (node Identifier t.text plain t.start (behind m0).stop none)) z.parts in

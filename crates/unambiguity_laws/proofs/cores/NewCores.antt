@@ -20,7 +20,7 @@ use Rattle.tree.specs.Tree.{Tree, node, Parts, none, part, height, parts_height,
 use Rattle.tree.specs.Uses.{is_lean, used_flags, has_text}
 use Rattle.tree.proofs.Lean.{lean_flags, lean_text}
 use Rattle.language.specs.FirstPart.{others}
-use Rattle.language.specs.Vocabulary.{takes, op_call}
+use Rattle.language.specs.Vocabulary.{is_keyword, takes, op_call}
 use Rattle.language.specs.Pieces.{expr, word}
 use Rattle.language.specs.Token.{Token}
 use Rattle.language.specs.Edges.{edge, edge_as_written}
@@ -46,7 +46,7 @@ use Rattle.language.proofs.climbing.OperatorLoop.{grows_height, Climbing}
 use Rattle.language.proofs.climbing.Conditionals.{stops_before}
 use Rattle.language.proofs.climbing.Suffixes.{argument_pieces, arguments_fixed}
 use Rattle.language.proofs.climbing.FirstTurn.{Begun, begins, begun_stops, core_spelled}
-use Rattle.language.proofs.climbing.Leaves.{by_name, word_form}
+use Rattle.language.proofs.climbing.Leaves.{by_class, worded_free, named_class, by_name, word_form}
 use Rattle.language.proofs.climbing.Callees.{standing_tight, member_stops, ClimbingCallee, Uncalled, uncalled_at, as_callee}
 use Rattle.language.proofs.climbing.NewExpressions.{word_node, climb_new_target, climb_new_given, callee_new_given, climb_new_bare, callee_new_bare}
 use Rattle.unambiguity_laws.proofs.Unique.{Unique, UniqueParts, Climbed, ClimbedCallee, CoreStep, BegunCallee, NewCallee}
@@ -77,6 +77,7 @@ module _ (S : Type 0) (Next : S → Token → S → Type 0) (behind : S → Toke
         tree ∙ same_node kind (lean_text (bare (node k w g st en ps)) bares (ap has_text kind ∙ texts)) (lean_flags (bare (node k w g st en ps)) bares ∙ ap (λ v. used_flags v g) kind ∙ flags) refl refl parts
 
     new_parts : {o : ℕ} {h : Rank} {j : Bool} {f : Start} {m : Tree} {mid : S} {Q : List Pair} → Core S Next behind o (expr h j f) m s0 mid Q → NewParts o h j f m mid Q
+    unfolding is_keyword
     new_parts {o} {h} {j} {f} {m} {mid} {Q} c = of (core_by S Next behind det r opening c)
       where
         of : Cored S Next behind det o h j f m s0 mid Q with_new → NewParts o h j f m mid Q
@@ -97,13 +98,13 @@ module _ (S : Type 0) (Next : S → Token → S → Type 0) (behind : S → Toke
         of (in_way {ps = ps} tree (head_new_target k c tk q) lean pl d) =
             let a = run_part S Next behind (retell S Next behind q d) in
             let w = word_form S Next behind det a.spelled in
-            let here = by_name S Next behind det r w.sign a.mid w.reads in
+            let here = by_class S Next behind det (worded_free w.class w.text w.is_word) r w.sign a.mid w.reads in
             let dot = run_token S Next behind a.runs in
             let u = one_part S Next behind det dot.runs in
             let parts = a.parts ∙ ap (part a.item) u.parts in
             let same = made_node tree k refl refl lean parts in
             let said = and_parts _ _ (ap (λ v. lead_is (bare_parts v) "new" && lead_is (others (bare_parts v)) "target") (sym parts) ∙ c) in
-            as_target (ap (λ (v : Token). v.class) (sym here.0) ∙ w.reads.class) (ap (λ (v : Token). v.text) (sym here.0) ∙ w.reads.text ∙ sym (ap text_of w.tree) ∙ text_is (part u.operand none) "new" a.item said.0) same tk (subst (λ v. Placed S Next behind (expr h j f) v s0 mid) same pl) (subst (λ v. Spells ways S Next behind o word a.item s0 v []) here.1 (subst (λ v. Spells ways S Next behind o word a.item s0 a.mid v) w.pairs a.spelled))
+            as_target (ap (λ (v : Token). v.class) (sym here.0) ∙ w.reads.class ∙ named_class w.class w.text w.is_word (ap is_keyword (sym (ap text_of w.tree) ∙ text_is (part u.operand none) "new" a.item said.0))) (ap (λ (v : Token). v.text) (sym here.0) ∙ w.reads.text ∙ sym (ap text_of w.tree) ∙ text_is (part u.operand none) "new" a.item said.0) same tk (subst (λ v. Placed S Next behind (expr h j f) v s0 mid) same pl) (subst (λ v. Spells ways S Next behind o word a.item s0 v []) here.1 (subst (λ v. Spells ways S Next behind o word a.item s0 a.mid v) w.pairs a.spelled))
             (subst (λ v. Reads S Next behind Punctuator (codes ".") v dot.sign dot.mid) here.1 dot.reads) u.spelled (text_is none "target" u.operand said.1) (a.pairs ∙ ap (λ v. v ++ a.more) w.pairs)
           where
             text_is : (rest : Parts) (z : String) (n : Tree) → lead_is (bare_parts (part n rest)) z ≡ true → text_of n ≡ codes z
@@ -138,17 +139,18 @@ module _ (S : Type 0) (Next : S → Token → S → Type 0) (behind : S → Toke
     target_climbing : {y' : Rank} {i' : Bool} {f' : Start} {st en : ℕ} {c w : Tree} {x2 : S} {v : Token} {U : List Pair} → IsTrue (takes y' Member) → t.class ≡ IdentifierName → t.text ≡ codes "new" → m ≡ node MetaProperty [] plain st en (part c (part w none)) →
         Placed S Next behind (expr q j f) (node MetaProperty [] plain st en (part c (part w none))) s0 mid → Spells ways S Next behind o word c s0 x [] → Reads S Next behind Punctuator (codes ".") x v x2 → Spells ways S Next behind o word w x2 mid U → text_of w ≡ codes "target" → Q ≡ U →
         Climbing S Next behind det o y' i' f' Member s0 m mid Q
+    unfolding is_keyword
     target_climbing {y'} {i'} {f'} {st} {en} {c} {w} {x2} tk class text tree pl d eq p said pairs =
         let one = word_form S Next behind det d in
         let two = word_form S Next behind det p in
-        let here = by_name S Next behind det r one.sign x one.reads in
+        let here = by_class S Next behind det (worded_free one.class one.text one.is_word) r one.sign x one.reads in
         let first_text : one.text ≡ codes "new" = sym one.reads.text ∙ ap (λ (v : Token). v.text) here.0 ∙ text in
         let last_text : two.text ≡ codes "target" = sym (ap text_of two.tree) ∙ said in
         let first_is : c ≡ word_node S Next behind det (codes "new") t x = one.tree ∙ ap (λ k. word_node S Next behind det k one.sign x) first_text ∙ ap (λ k. word_node S Next behind det (codes "new") k x) here.0 in
         let last_is : w ≡ word_node S Next behind det (codes "target") two.sign mid = two.tree ∙ ap (λ k. word_node S Next behind det k two.sign mid) last_text in
         let same : node MetaProperty [] plain st en (part c (part w none)) ≡ node MetaProperty [] plain st en (part (word_node S Next behind det (codes "new") t x) (part (word_node S Next behind det (codes "target") two.sign mid) none)) =
         λ k. node MetaProperty [] plain st en (part (first_is k) (part (last_is k) none)) in
-        let reads : Reads S Next behind IdentifierName (codes "target") x2 two.sign mid = subst (λ k. Reads S Next behind IdentifierName k x2 two.sign mid) last_text two.reads in
+        let reads : Reads S Next behind IdentifierName (codes "target") x2 two.sign mid = subst (λ d. Reads S Next behind d (codes "target") x2 two.sign mid) (named_class two.class two.text two.is_word (ap is_keyword last_text)) (subst (λ k. Reads S Next behind two.class k x2 two.sign mid) last_text two.reads) in
         let climb = climb_new_target S Next behind det r opening eq class text tk reads (replaced S Next behind det (subst (λ k. Placed S Next behind (expr q j f) k s0 mid) same pl)) in
         subst (λ k. Climbing S Next behind det o y' i' f' Member s0 m mid k) (sym (pairs ∙ two.pairs)) (subst (λ k. Climbing S Next behind det o y' i' f' Member s0 k mid []) (sym (tree ∙ same)) climb)
 

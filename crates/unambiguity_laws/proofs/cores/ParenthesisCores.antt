@@ -13,6 +13,7 @@ use Rattle.language.specs.declared.Start.TheVariants.{Any, NoBrace}
 use Rattle.language.specs.declared.Edge.{Edge}
 use Rattle.language.specs.declared.Edge.TheVariants.{Arrow, Postfix, Other, Closed}
 use Rattle.tree.specs.declared.kind.Flags.{Flags}
+use Rattle.tree.specs.declared.kind.Form.{Form}
 use Rattle.tree.specs.declared.kind.Pair.{Pair}
 use Rattle.tree.specs.Tree.{Tree, node, Parts, none, part, gap, height, parts_height, bare, bare_parts, join}
 use Rattle.tree.specs.Uses.{is_lean, used_flags, has_text}
@@ -98,7 +99,7 @@ module _ (S : Type 0) (Next : S → Token → S → Type 0) (behind : S → Toke
   paren_parts {m = m} opens_it (in_group {less = less} {left = left} {right = right} {l = l} {Q = inner} o p d q e) =
       let same = same_sign S Next behind det p opens_it refl in
       as_group o (subst (λ c. Spells ways S Next behind less (expr Expression true Any) m c l inner) same.1 d) q (e ∙ ap (λ c. pair_of c right ∷ inner) same.0)
-  paren_parts {h = h} {j = j} {f = f} {mid = mid} {Q = Q} opens_it (in_way {k = k} {w = w} {g = g} {st = st} {en = en} {ps = ps} tree (head_arrow kind tk q) lean pl d) =
+  paren_parts {h = h} {j = j} {f = f} {mid = mid} {Q = Q} opens_it (in_way {k = k} {w = w} {g = g} {st = st} {en = en} {ps = ps} tree (head_arrow kind formed tk q) lean pl d) =
       let bares : is_lean (bare (node k w g st en ps)) ≡ true = ap (λ v. is_lean (bare v)) (sym tree) ∙ lean in
       let a = run_opened S Next behind (retell S Next behind q d) in
       let there = same_sign S Next behind det a.reads opens_it refl in
@@ -107,7 +108,7 @@ module _ (S : Type 0) (Next : S → Token → S → Type 0) (behind : S → Toke
       let on_line = run_unbroken S Next behind b.runs in
       let sign = run_token S Next behind (run_laid S Next behind on_line.runs) in
       let u = body_part g.expression (run_laid S Next behind sign.runs) in
-      let flags : g ≡ arrow_flags g.expression = lean_flags (bare (node k w g st en ps)) bares ∙ ap (λ v. used_flags v g) kind in
+      let flags : g ≡ arrow_flags g.expression = lean_flags (bare (node k w g st en ps)) bares ∙ ap (λ v. used_flags v g) kind ∙ ap (λ (x : Form). record (arrow_flags g.expression) { form = x }) formed in
       let text : w ≡ [] = lean_text (bare (node k w g st en ps)) bares (ap has_text kind) in
       as_arrow a.more (tree ∙ same_node kind text flags refl refl (b.parts ∙ ap (λ v. join b.given v) u.parts)) tk pl b.list sign.reads (det.break b.mid sign.sign on_line.sign sign.mid on_line.mid sign.reads.next on_line.next ∙ on_line.unbroken) u.spelled b.pairs
     where
@@ -127,7 +128,7 @@ module _ (S : Type 0) (Next : S → Token → S → Type 0) (behind : S → Toke
 
       of : {o : ℕ} {h : Rank} {j : Bool} {f : Start} {m : Tree} {mid : S} {Q : List Pair} → Cored S Next behind det o h j f m s0 mid Q with_parenthesis → Reads S Next behind Punctuator (codes "(") s0 t x
       of (in_group more p d q pairs) = the_same p
-      of (in_way tree (head_arrow kind tk q) lean pl d) = the_same (run_opened S Next behind (retell S Next behind q d)).reads
+      of (in_way tree (head_arrow kind formed tk q) lean pl d) = the_same (run_opened S Next behind (retell S Next behind q d)).reads
 
 module _ (S : Type 0) (Next : S → Token → S → Type 0) (behind : S → Token) (det : IsDetermined S Next behind) (alike : IsAlike S Next behind) {h : ℕ} (u : Unique S Next behind det h) where
   module _ (groups : GroupParameters S Next behind h) (lists : ParametersGroup S Next behind h) (listed : UniqueParts S Next behind det h parameter_list) {o : ℕ} {y : Rank} {i : Bool} {f : Start} {n : Tree} {s0 e x : S} {P : List Pair} {q : Rank} {j : Bool} {m : Tree} {mid : S} {Q : List Pair} {t : Token}

@@ -1,9 +1,9 @@
--- Leftmost parts that their first word tells: `this`, `import`, functions, classes, literals; and that there is none without an opening.
+-- Leftmost parts that their first word tells: `this`, functions, classes, literals; and that there is none without an opening.
 use Rattle.std.proofs.Common.{◌≡◌, ℕ, suc, ◌≤◌, Bool, true, false, cond, List, [], ◌∷◌, refl, sym, ap, ◌∙◌, subst}
 use Rattle.std.specs.Prelude.{IsTrue, codes, not, ◌&&◌}
 use Rattle.std.proofs.lemmas.Bool.{false≢true}
 use Rattle.tokens.specs.declared.token.TokenClass.{TokenClass}
-use Rattle.tokens.specs.declared.token.TokenClass.TheVariants.{IdentifierName, Punctuator, NumericLiteral, StringLiteral}
+use Rattle.tokens.specs.declared.token.TokenClass.TheVariants.{IdentifierName, NumericLiteral, StringLiteral}
 use Rattle.tokens.specs.declared.token.Goal.{Goal}
 use Rattle.tokens.specs.declared.token.Goal.TheVariants.{Div}
 use Rattle.tokens.specs.Goals.{allows}
@@ -16,17 +16,18 @@ use Rattle.tree.specs.Tree.{Tree, node, Parts, none, height, bare, bare_parts, p
 use Rattle.tree.specs.Uses.{is_lean, used_flags}
 use Rattle.tree.proofs.Lean.{lean_flags}
 use Rattle.language.specs.declared.Rank.{Rank}
-use Rattle.language.specs.declared.Rank.TheVariants.{Assignment, Primary}
+use Rattle.language.specs.declared.Rank.TheVariants.{Primary}
 use Rattle.language.specs.declared.Start.{Start}
 use Rattle.language.specs.declared.Start.TheVariants.{Any, NoBrace, Statement}
 use Rattle.language.specs.Vocabulary.{is_name, among, takes, literal_class}
 use Rattle.language.specs.Pieces.{Role, expr, PieceOf, tok, at}
 use Rattle.language.specs.Token.{Token}
-use Rattle.language.specs.ExpressionStart.{ExpressionStart, with_literal, with_this, with_function, with_class, with_import, no_start, expression_start}
+use Rattle.language.specs.ExpressionStart.{ExpressionStart, with_literal, with_this, with_function, with_class, no_start, expression_start}
 use Rattle.language.specs.Promises.{is_free, IsDetermined, ReadBy}
 use Rattle.language.specs.Following.{IsAlike}
 use Rattle.language.specs.Grammar.{ways, starts}
 use Rattle.language.specs.Derivation.{Reads, Runs, Placed, placed}
+use Rattle.tree.specs.declared.kind.Form.TheVariants.{Init}
 use Rattle.language.proofs.table.NodeForms.{this}
 use Rattle.language.proofs.table.Productions.{spell}
 use Rattle.language.proofs.table.Begins.{retell}
@@ -37,14 +38,13 @@ use Rattle.language.proofs.climbing.BinaryTurns.{same_node}
 use Rattle.language.proofs.climbing.OperatorLoop.{Climbing}
 use Rattle.language.proofs.climbing.FirstTurn.{Begun}
 use Rattle.language.proofs.climbing.Leaves.{core_primary, climb_literal}
-use Rattle.language.proofs.climbing.SingleStarts.{Production, function_production, class_production, import_production}
+use Rattle.language.proofs.climbing.SingleStarts.{Production, one_form, function_production, class_production}
 use Rattle.language.proofs.list_loops.ParameterLists.{parameter_list}
-use Rattle.language.proofs.statements.StatementFollow.{CannotGoOn, found_whole, before_token}
-use Rattle.language.proofs.table.SoleWays.{Anyhow}
 use Rattle.unambiguity_laws.proofs.Unique.{Unique, UniqueParts, CoreStep, Climbed}
-use Rattle.unambiguity_laws.proofs.list_items.PieceRuns.{nothing_unique, token_unique, part_unique}
+use Rattle.unambiguity_laws.proofs.list_items.PieceRuns.{nothing_unique, token_unique}
 use Rattle.unambiguity_laws.proofs.cores.CoreNodes.{production_climbed}
-use Rattle.unambiguity_laws.proofs.statements.FunctionBodies.{function_unique, class_unique}
+use Rattle.unambiguity_laws.proofs.statements.FunctionBodies.{class_unique}
+use Rattle.unambiguity_laws.proofs.statements.FunctionForms.{function_found}
 
 starts_this : (f : Start) → starts f (tok IdentifierName (codes "this") ∷ []) ≡ true
 starts_this Any = refl
@@ -52,13 +52,13 @@ starts_this NoBrace = refl
 starts_this Statement = refl
 
 module _ (S : Type 0) (Next : S → Token → S → Type 0) (behind : S → Token) (det : IsDetermined S Next behind) where
-  this_production : (f : Start) → Production S Next behind det with_this ThisExpression Primary f (λ ps. tok IdentifierName (codes "this") ∷ [])
-  this_production f = record {
+  this_production : (f : Start) (s0 : S) → Production S Next behind det with_this ThisExpression Primary f s0 (λ g. Init) (λ x ps. tok IdentifierName (codes "this") ∷ [])
+  this_production f s0 = record {
     no_text = refl;
     no_flags = λ g. refl;
     no_group = λ e. cc;
-    is_way = λ h j k w g ps qs headed tk. of h j ps headed tk;
-    spells = λ o h j st en ps s e P tk pl d. spell S Next behind (at Primary (tok IdentifierName (codes "this") ∷ [])) this refl tk refl (starts_this f) pl d;
+    is_way = λ o h j k w g ps qs mid Q headed d tk. of h j ps headed tk;
+    spells = λ o h j st en g ps e P tk pl d. spell S Next behind (at Primary (tok IdentifierName (codes "this") ∷ [])) this refl tk refl (starts_this f) pl d;
   }
     where
       of : (h : Rank) (j : Bool) {k : Kind} {w : List ℕ} {g : Flags} (ps : Parts) {qs : List (PieceOf Role)} → Headed h j f k w g (bare_parts ps) qs with_this → IsTrue (takes h Primary) → (k ≡ ThisExpression) × IsTrue (takes h Primary) × (qs ≡ tok IdentifierName (codes "this") ∷ [])
@@ -107,29 +107,21 @@ module _ (S : Type 0) (Next : S → Token → S → Type 0) (behind : S → Toke
       of (in_way is v lean pl d) = none_headed v
 
   pub this_core : CoreStep S Next behind det h with_this
-  this_core = record { gives = λ {o} {y} {i} {f} no_new inner low b r op. production_climbed S Next behind det (this_production S Next behind det f) r op (token_unique S Next behind det Div refl (nothing_unique S Next behind det)) low b }
-
-  pub import_core : CoreStep S Next behind det h with_import
-  import_core = record {
-    gives = λ {o} {y} {i} {f} no_new inner low b r op. production_climbed S Next behind det (import_production S Next behind det f) r op
-        (token_unique S Next behind det Div refl (token_unique S Next behind det Div refl
-        (part_unique S Next behind det {after = λ ps. tok Punctuator (codes ")") ∷ []} (CannotGoOn S Next behind det Assignment true) (λ o s e n P low d st. found_whole S Next behind det (u.expressions.found low (λ e. cc) (λ e. cc) d st))
-        (λ mid. before_token S Next behind det Anyhow Assignment true (λ ps. []) refl (λ x b. refl)) (λ n. token_unique S Next behind det Div refl (nothing_unique S Next behind det))))) low b;
-  }
+  this_core = record { gives = λ {o} {y} {i} {f} no_new inner low b r op. production_climbed S Next behind det (this_production S Next behind det f _) r op (λ o g ps e P low d. one_form S Next behind det ((token_unique S Next behind det Div refl (nothing_unique S Next behind det)).gives low d)) low b }
 
   pub class_core : CoreStep S Next behind det h with_class
   class_core = record { gives = λ {o} {y} {i} {f} {n} {s0} {e} {P} {q} {j} {m} {mid} {m0} {Q} {t} no_new inner low b r op. of low b r op (core_by S Next behind det r op b.core) }
     where
       of : {o : ℕ} {y : Rank} {i : Bool} {f : Start} {n : Tree} {s0 e : S} {P : List Pair} {q : Rank} {j : Bool} {m : Tree} {mid m0 : S} {Q : List Pair} {t : Token} → height n ≤ suc h → Begun S Next behind det o s0 y i f n e P q j m mid Q → ReadBy S Next behind Goal.RegExp s0 t m0 → expression_start t ≡ with_class →
           Cored S Next behind det o q j f m s0 mid Q with_class → Climbed S Next behind det o y i f s0 m mid Q
-      of {f = f} low b r op (in_way is (head_class k begins v) lean pl d) = production_climbed S Next behind det (class_production S Next behind det f begins) r op (token_unique S Next behind det Div refl (class_unique S Next behind det alike u)) low b
+      of {f = f} low b r op (in_way is (head_class k begins v) lean pl d) = production_climbed S Next behind det (class_production S Next behind det f _ begins) r op (λ o g ps e P low d. one_form S Next behind det ((token_unique S Next behind det Div refl (class_unique S Next behind det alike u)).gives low d)) low b
 
   pub function_core : UniqueParts S Next behind det h parameter_list → CoreStep S Next behind det h with_function
   function_core parameters = record { gives = λ {o} {y} {i} {f} {n} {s0} {e} {P} {q} {j} {m} {mid} {m0} {Q} {t} no_new inner low b r op. of low b r op (core_by S Next behind det r op b.core) }
     where
       of : {o : ℕ} {y : Rank} {i : Bool} {f : Start} {n : Tree} {s0 e : S} {P : List Pair} {q : Rank} {j : Bool} {m : Tree} {mid m0 : S} {Q : List Pair} {t : Token} → height n ≤ suc h → Begun S Next behind det o s0 y i f n e P q j m mid Q → ReadBy S Next behind Goal.RegExp s0 t m0 → expression_start t ≡ with_function →
           Cored S Next behind det o q j f m s0 mid Q with_function → Climbed S Next behind det o y i f s0 m mid Q
-      of {f = f} low b r op (in_way is (head_function k begins v) lean pl d) = production_climbed S Next behind det (function_production S Next behind det f begins) r op (token_unique S Next behind det Div refl (function_unique S Next behind det alike u parameters)) low b
+      of {f = f} low b r op (in_way is (head_function k plainly begins v) lean pl d) = production_climbed S Next behind det (function_production S Next behind det f _ begins) r op (λ o g ps e P low d. function_found S Next behind det alike u parameters o g ps e P low d) low b
 
   pub literal_core : CoreStep S Next behind det h with_literal
   literal_core = record { gives = λ {o} {y} {i} {f} {n} {s0} {e} {P} {q} {j} {m} {mid} {m0} {Q} {t} no_new inner low b r op. of b r op (core_by S Next behind det r op b.core) (core_primary S Next behind det b.core r (λ c. (let z = sym c ∙ op in cc))) }
@@ -151,7 +143,6 @@ module _ (S : Type 0) (Next : S → Token → S → Type 0) (behind : S → Toke
   abbrev pub is_lone : ExpressionStart → Bool
   is_lone with_literal = true
   is_lone with_this = true
-  is_lone with_import = true
   is_lone with_class = true
   is_lone no_start = true
   is_lone _ = false
@@ -159,7 +150,6 @@ module _ (S : Type 0) (Next : S → Token → S → Type 0) (behind : S → Toke
   pub lone_core : (z : ExpressionStart) → is_lone z ≡ true → CoreStep S Next behind det h z
   lone_core with_literal l = literal_core
   lone_core with_this l = this_core
-  lone_core with_import l = import_core
   lone_core with_class l = class_core
   lone_core no_start l = no_core
   lone_core _ l = absurd (false≢true l)

@@ -1,19 +1,19 @@
 -- What a derivation spells is at most twice as high as the bytes are many, and one. And no more parentheses are open at one point than
 -- there are bytes.
-use Rattle.std.proofs.Common.{◌≡◌, ◌≢◌, ℕ, zero, suc, pred, ◌+◌, ◌≤◌, ◌<◌, max, Bool, true, false, List, [], ◌∷◌, length, refl, sym, ◌∙◌, subst, arith}
-use Rattle.std.specs.Prelude.{IsTrue, codes}
+use Rattle.std.proofs.Common.{ap, ◌≡◌, ◌≢◌, ℕ, zero, suc, pred, ◌+◌, ◌≤◌, ◌<◌, max, Bool, true, false, List, [], ◌++◌, ◌∷◌, length, refl, sym, ◌∙◌, subst, arith}
+use Rattle.std.specs.Prelude.{IsTrue, codes, cond, ◌&&◌}
 use Rattle.std.proofs.lemmas.Bool.{and_parts, false≢true}
-use Rattle.std.specs.Str.{IsUtf8, IsCharBoundary}
+use Rattle.std.specs.Str.{IsUtf8, IsCharBoundary, chars}
 use Rattle.std.proofs.lemmas.Str.{IsCharBoundary-from_drop, len_utf8_bounds}
 use Rattle.tokens.specs.declared.token.TokenClass.{TokenClass}
-use Rattle.tokens.specs.declared.token.TokenClass.TheVariants.{IdentifierName, Punctuator, NumericLiteral, StringLiteral, Template, RegularExpressionLiteral, End}
+use Rattle.tokens.specs.declared.token.TokenClass.TheVariants.{IdentifierName, Punctuator, NumericLiteral, StringLiteral, Template, RegularExpressionLiteral, PrivateName, Keyword, End}
 use Rattle.tokens.specs.declared.token.Goal.{Goal}
 use Rattle.tokens.specs.Alphabet.{one_of}
 use Rattle.tokens.specs.Templates.{closes_template}
 use Rattle.tokens.specs.Lexical.{is_token, is_of}
 use Rattle.tokens.specs.Tokens.{LexicalToken, size}
 use Rattle.tokens.specs.Reading.{Reads as ReadsIn, behind, any_goal}
-use Rattle.tokens.proofs.Bounds.{IsWithin, token_within, token_places, token_goes_on}
+use Rattle.tokens.proofs.Bounds.{IsWithin, token_within, token_places, token_goes_on, pass_word}
 use Rattle.tokens.proofs.Classes.{token_is}
 use Rattle.tokens.proofs.PassedCharacters.{size_append, size_one}
 use Rattle.tree.specs.declared.kind.Pair.{Pair}
@@ -26,11 +26,17 @@ use Rattle.language.specs.Pieces.{Role, expr, PieceOf, open_parameters}
 use Rattle.language.specs.Token.{Token}
 use Rattle.language.specs.Places.{NextIn, next_in, itself}
 use Rattle.language.specs.Claims.{DerivesOpen, Derives, max_open}
-use Rattle.language.specs.Derivation.{pair_of, Among, Reads, Step, token, with_mark, without_mark, one_more, no_more, seen, same_line, explicit, implicit, laid, Spells, direct, grouped, Runs, done, step, opened, closed, within, missing}
+use Rattle.language.specs.Derivation.{pair_of, Among, Reads, Step, token, with_mark, without_mark, one_more, no_more, seen, same_line, left_bare, explicit, implicit, laid, Spells, direct, grouped, Runs, done, step, opened, closed, within, missing, reserved_key, reserved_word}
 use Rattle.language.specs.Grammar.{ways}
-use Rattle.unambiguity_laws.specs.Laws.{ShortScriptsFit}
+use Rattle.unambiguity_laws.specs.Laws.{ShortScriptsFit, ShortScriptsFitIn}
 use Rattle.unambiguity_laws.proofs.heights.Levels.{level, token_gain, piece_gain, gain, owing, debt, debt_one}
 use Rattle.unambiguity_laws.proofs.heights.LevelsOfNodes.{way_paid}
+use Rattle.language.specs.declared.Language.{Language}
+use Rattle.language.specs.declared.Language.TheVariants.{Base, Script, Module}
+use Rattle.language.specs.Languages.{is_of_2022, class_in, seen_in, Seen, seen_next, beginning_in}
+use Rattle.language.specs.Vocabulary.{is_keyword}
+use Rattle.tokens.specs.Comments.{first_line, hashbang}
+use Rattle.source_text.specs.Lines.{is_line_terminator}
 
 -- a node counts
 height_one : (n : Tree) → 1 ≤ height n
@@ -86,6 +92,7 @@ module _ (S : Type 0) (Next : S → Token → S → Type 0) (behind : S → Toke
   step_forward no_more k = record { ok = k; far = omega arith }
   step_forward (seen r) k = record { ok = k; far = omega arith }
   step_forward (same_line r h) k = record { ok = k; far = omega arith }
+  step_forward (left_bare r h) k = record { ok = k; far = omega arith }
   step_forward (explicit r) k = let f = read_forward r k in let x = f.far in record { ok = f.ok; far = omega (arith, x) }
   step_forward (implicit r h) k = record { ok = k; far = omega arith }
   step_forward laid k = record { ok = k; far = omega arith }
@@ -99,6 +106,7 @@ module _ (S : Type 0) (Next : S → Token → S → Type 0) (behind : S → Toke
   step_debt qs no_more = refl
   step_debt qs (seen h) = refl
   step_debt qs (same_line h k) = refl
+  step_debt qs (left_bare h k) = refl
   step_debt qs (explicit h) = refl
   step_debt qs (implicit h k) = refl
   step_debt qs laid = refl
@@ -121,6 +129,16 @@ module _ (S : Type 0) (Next : S → Token → S → Type 0) (behind : S → Toke
         let z = v.high in
         let t = w.far in
         record { ok = w.ok; high = omega (arith, x, z, t) }
+    spells_high (reserved_key {n = n} r b p) k =
+        let u = read_forward r k in
+        let x = u.far in
+        let m : height n ≡ 1 = ap height p in
+        record { ok = u.ok; high = omega (arith, x, m) }
+    spells_high (reserved_word {n = n} r b p) k =
+        let u = read_forward r k in
+        let x = u.far in
+        let m : height n ≡ 1 = ap height p in
+        record { ok = u.ok; high = omega (arith, x, m) }
 
     runs_high : {o : ℕ} {qs : List (PieceOf Role)} {ps : Parts} {s e : S} {P : List Pair} → Runs ways S Next behind o qs ps s e P → Ok s → High s e (gain level qs) (parts_height ps) (debt level qs)
     runs_high done k = record { ok = k; far = omega arith; high = omega arith }
@@ -194,6 +212,8 @@ module _ (S : Type 0) (Next : S → Token → S → Type 0) (behind : S → Toke
         let f = spells_on d u.ok in
         let g = read_forward q f.ok in
         group_nested p q (λ j c. spells_nested d u.ok j c) u f g k b
+    spells_nested (reserved_key r h p) v k b = reserved_key r h p
+    spells_nested (reserved_word r h p) v k b = reserved_word r h p
 
     runs_nested : {o : ℕ} {qs : List (PieceOf Role)} {ps : Parts} {s e : S} {P : List Pair} → Runs ways S Next behind o qs ps s e P → Ok s → (k : ℕ) → at e ≤ at s + k → Runs ways S Next behind k qs ps s e P
     runs_nested done v k b = done
@@ -257,6 +277,8 @@ token_passes text goal at t u p h =
     of NumericLiteral e a b = let x = by_more NumericLiteral e (λ f. absurd (cc)) in omega (arith, a, x)
     of StringLiteral e a b = let x = by_more StringLiteral e (λ f. absurd (cc)) in omega (arith, a, x)
     of RegularExpressionLiteral e a b = let x = by_more RegularExpressionLiteral e (λ f. absurd (cc)) in omega (arith, a, x)
+    of PrivateName e a b = let x = by_more PrivateName e (λ f. absurd (cc)) in omega (arith, a, x)
+    of Keyword e a b = let x = by_more Keyword e (λ f. absurd (cc)) in omega (arith, a, x)
 
 pub text_passes : (text : List ℕ) → IsUtf8 text → (s e t : Token) → NextIn text any_goal s t e → IsCharBoundary text s.stop → Passes Token (λ p. IsCharBoundary text p.stop) (λ p. p.stop) s e t.class
 text_passes text u s _ _ (next_in {t = t} goal g h) p = record { ok = (token_places text goal s.stop t u p h).1; far = token_passes text goal s.stop t u p h }
@@ -282,3 +304,59 @@ pub short_fits : ShortScriptsFit
 short_fits text n P u b d =
     let h = script_height text n P u d in
     (omega (arith, b, h), script_nesting text n P max_open u (omega (arith, b)) d)
+
+-- In a language
+
+-- what stands before a line's end begins a text, and so does the line of `#!`
+first_line_begins : (cs : List ℕ) → (rest : List ℕ) × (cs ≡ first_line cs ++ rest)
+first_line_begins [] = ([], refl)
+first_line_begins (c ∷ cs) = let u = first_line_begins cs in of (is_line_terminator c) u
+  where
+    of : (b : Bool) → (rest : List ℕ) × (cs ≡ first_line cs ++ rest) → (rest : List ℕ) × (c ∷ cs ≡ cond b [] (c ∷ first_line cs) ++ rest)
+    of true u = (c ∷ cs, refl)
+    of false u = (u.0, ap (λ x. c ∷ x) u.1)
+
+hashbang_begins : (cs : List ℕ) → (rest : List ℕ) × (cs ≡ hashbang cs ++ rest)
+hashbang_begins [] = ([], refl)
+hashbang_begins (c ∷ []) = (c ∷ [], refl)
+hashbang_begins (c ∷ d ∷ cs) = of (one_of "#" c && one_of "!" d) (first_line_begins cs)
+  where
+    of : (b : Bool) → (rest : List ℕ) × (cs ≡ first_line cs ++ rest) → (rest : List ℕ) × (c ∷ d ∷ cs ≡ cond b (c ∷ d ∷ first_line cs) [] ++ rest)
+    of true u = (u.0, ap (λ x. c ∷ d ∷ x) u.1)
+    of false u = (c ∷ d ∷ cs, refl)
+
+-- the place before the first token
+pub beginning_places : (language : Language) (text : List ℕ) → IsUtf8 text → IsCharBoundary text (beginning_in language text).stop
+beginning_places language text u = of language
+  where
+    start : IsCharBoundary text 0
+    start = IsCharBoundary-from_drop text 0 (omega arith) u
+
+    behind_line : IsCharBoundary text (size (hashbang (chars text)))
+    behind_line = let h = hashbang_begins (chars text) in subst (IsCharBoundary text) (omega arith) (pass_word text 0 (hashbang (chars text)) h.0 u start h.1).place
+
+    of : (language : Language) → IsCharBoundary text (beginning_in language text).stop
+    of Base = start
+    of Script = behind_line
+    of Module = behind_line
+
+same_gain : (language : Language) (c : TokenClass) (w : List ℕ) → token_gain (class_in language c w) ≡ token_gain c
+same_gain language IdentifierName w = of (is_of_2022 language && is_keyword w)
+  where
+    of : (b : Bool) → token_gain (cond b Keyword IdentifierName) ≡ 2
+    of true = refl
+    of false = refl
+same_gain language _ w = refl
+
+pub seen_passes : (language : Language) (text : List ℕ) → IsUtf8 text → (s e t : Token) → Seen Token (NextIn text any_goal) language s t e → IsCharBoundary text s.stop → Passes Token (λ p. IsCharBoundary text p.stop) (λ p. p.stop) s e t.class
+seen_passes language text u s e _ (seen_next {t = t} n) p =
+    let v = text_passes text u s e t n p in
+    record { ok = v.ok; far = subst (λ g. g + (s.stop + s.stop) ≤ e.stop + e.stop) (sym (same_gain language t.class t.text)) v.far }
+
+pub short_fits_in : ShortScriptsFitIn
+short_fits_in language text n P u b d =
+    let start = beginning_places language text u in
+    let f = spells_high Token (Seen Token (NextIn text any_goal) language) (seen_in language) (λ p. IsCharBoundary text p.stop) (λ p. p.stop) (seen_passes language text u) d.1.2 start in
+    let x = f.high in
+    let y = f.ok.0 in
+    (omega (arith, b, x, y), (d.1.0, d.1.1, spells_nested Token (Seen Token (NextIn text any_goal) language) (seen_in language) (λ p. IsCharBoundary text p.stop) (λ p. p.stop) (seen_passes language text u) d.1.2 start max_open (omega (arith, b, y))))

@@ -7,7 +7,7 @@ use Rattle.tokens.specs.declared.token.TokenClass.{TokenClass}
 use Rattle.tokens.specs.declared.token.TokenClass.TheVariants.{Template, End}
 use Rattle.language.specs.declared.Rank.{Rank}
 use Rattle.language.specs.declared.Start.{Start}
-use Rattle.language.specs.Pieces.{Role, expr, chain_part, name, word, key, shorthand_key, base, directive_string, tagged_quasi, template_element, property, pattern, pattern_property, element, class_body, script, Slot, fixed, left, tail, callee, lead_chain, lead_pattern, PieceOf, Piece, tok, may, many, ahead, unbroken, ending, open_parameters, close_parameters, sub, absent, never, lay, Spelling, only, settle, settle_piece, sign, put, is_none, parameters, pattern_element, separator}
+use Rattle.language.specs.Pieces.{Role, expr, chain_part, name, word, private_name, key, shorthand_key, base, directive_string, tagged_quasi, template_element, property, pattern, pattern_property, element, class_body, script, Slot, fixed, left, tail, callee, lead_chain, lead_pattern, PieceOf, Piece, tok, may, many, ahead, unbroken, no_operand, ending, open_parameters, close_parameters, sub, absent, never, lay, Spelling, only, settle, settle_piece, sign, put, is_none, parameters, pattern_element, separator}
 use Rattle.language.specs.Pieces as piece
 use Rattle.language.specs.Grammar.{own_rank, own_in, own_start}
 use Rattle.language.specs.Derivation.{Among, first, later}
@@ -23,6 +23,7 @@ level (expr y i f) = 2
 level (chain_part f) = 3
 level name = 2
 level word = 2
+level private_name = 2
 level key = 2
 level base = 2
 level directive_string = 2
@@ -79,6 +80,7 @@ debt_one l (may w ∷ qs) = debt_one l qs
 debt_one l (many w ∷ qs) = debt_one l qs
 debt_one l (ahead w ∷ qs) = debt_one l qs
 debt_one l (unbroken ∷ qs) = debt_one l qs
+debt_one l (no_operand ∷ qs) = debt_one l qs
 debt_one l (ending e ∷ qs) = debt_one l qs
 debt_one l (open_parameters ∷ qs) = debt_one l qs
 debt_one l (close_parameters ∷ qs) = debt_one l qs
@@ -108,6 +110,7 @@ piece-settled z i f (may w) = refl
 piece-settled z i f (many w) = refl
 piece-settled z i f (ahead w) = refl
 piece-settled z i f unbroken = refl
+piece-settled z i f no_operand = refl
 piece-settled z i f (ending e) = refl
 piece-settled z i f open_parameters = refl
 piece-settled z i f close_parameters = refl
@@ -127,6 +130,7 @@ debt-settled z i f (may w ∷ qs) = debt-settled z i f qs
 debt-settled z i f (many w ∷ qs) = debt-settled z i f qs
 debt-settled z i f (ahead w ∷ qs) = debt-settled z i f qs
 debt-settled z i f (unbroken ∷ qs) = debt-settled z i f qs
+debt-settled z i f (no_operand ∷ qs) = debt-settled z i f qs
 debt-settled z i f (ending e ∷ qs) = debt-settled z i f qs
 debt-settled z i f (open_parameters ∷ qs) = debt-settled z i f qs
 debt-settled z i f (close_parameters ∷ qs) = debt-settled z i f qs

@@ -1,34 +1,30 @@
--- Methods, the members of a class and class bodies: each is the only one at its place.
+-- Keys of a class and the functions of methods: each is the only one at its place.
 use Rattle.std.proofs.Common.{◌≡◌, ℕ, suc, ◌≤◌, max, Bool, true, false, cond, List, [], ◌∷◌, ◌++◌, refl, sym, ap, ◌∙◌, subst, arith}
 use Rattle.std.specs.Prelude.{Some, codes}
 use Rattle.tokens.specs.declared.token.TokenClass.TheVariants.{Punctuator}
 use Rattle.tokens.specs.declared.token.Goal.TheVariants.{Div}
 use Rattle.tree.specs.declared.kind.Form.{Form}
-use Rattle.tree.specs.declared.kind.Form.TheVariants.{Init, Get, Set, Method, Shorthand, Constructor}
+use Rattle.tree.specs.declared.kind.Form.TheVariants.{Get, Set}
 use Rattle.tree.specs.declared.kind.Pair.{Pair}
 use Rattle.tree.specs.Tree.{Tree, node, Parts, none, part, gap, height, parts_height, bare_parts, kind_of}
 use Rattle.language.specs.declared.Rank.TheVariants.{Expression, Assignment}
 use Rattle.language.specs.declared.Start.TheVariants.{Any}
 use Rattle.language.specs.Vocabulary.{is_rest}
-use Rattle.language.specs.Pieces.{Role, key, rest, body, method, member, class_body, space, tok, many, absent, sub, lay, sp, sign, put, put_at, nothing, with_default}
+use Rattle.language.specs.Pieces.{Role, key, rest, body, method, space, tok, absent, sub, lay, sp, sign, put, put_at, nothing, with_default}
 use Rattle.language.specs.Token.{Token}
-use Rattle.language.specs.Promises.{IsDetermined, is_free, FoundAt, FoundParts}
+use Rattle.language.specs.Promises.{IsDetermined, is_free, FoundAt}
 use Rattle.language.specs.Following.{IsAlike}
 use Rattle.language.specs.Covers.{as_pattern, element_as}
 use Rattle.language.specs.Grammar.{ways}
-use Rattle.language.specs.Derivation.{Reads, Spells, Runs, Step, one_more, no_more, Placed}
+use Rattle.language.specs.Derivation.{Reads, Spells, Runs}
 use Rattle.language.proofs.table.Begins.{goes_to}
-use Rattle.language.proofs.list_loops.FirstPieces.{run_token, run_laid, run_never, run_the_part, run_the_gap}
+use Rattle.language.proofs.list_loops.FirstPieces.{run_token, run_laid, run_never, run_the_gap}
 use Rattle.language.proofs.climbing.RightOperands.{one_part}
 use Rattle.language.proofs.climbing.BinaryTurns.{same_node}
 use Rattle.language.proofs.climbing.Conditionals.{same_sign, stops_before}
 use Rattle.language.proofs.table.SoleWays.{Anyhow, found_where}
-use Rattle.language.proofs.list_loops.PiecesSoFar.{run_step}
 use Rattle.language.proofs.table.OneKind.{one_kind}
-use Rattle.language.proofs.statements.Blocks.{method_pieces, class_body_pieces, one_method, one_class_body}
-use Rattle.language.proofs.list_loops.StatementLists.{closing_brace, closed_by}
-use Rattle.language.proofs.list_loops.ClassBodies.{plain_members, members_begin, semicolon_on, member_on, members_closed}
-use Rattle.language.proofs.statements.ClassMembers.{fits_first, member_at, member_found}
+use Rattle.language.proofs.statements.Blocks.{method_pieces, one_method}
 use Rattle.language.proofs.table.PropertyNameWays.{key_kind, key_free, key_form}
 use Rattle.language.proofs.covers.CoverProperties.{KeyAt, plain_key, computed_key}
 use Rattle.language.proofs.covers.CoverKeys.{KeyFound, plain_key_found, computed_key_found}
@@ -37,7 +33,7 @@ use Rattle.language.proofs.covers.CoverEnds.{a_parenthesis}
 use Rattle.language.proofs.list_loops.ParameterLists.{parameter_list}
 use Rattle.language.proofs.statements.FunctionParts.{call_and_body}
 use Rattle.unambiguity_laws.proofs.Unique.{Unique, UniqueParts}
-use Rattle.unambiguity_laws.proofs.list_items.PieceRuns.{further, built_found, turned_unique, nothing_unique, laid_unique, token_unique, gap_unique, part_unique, sole_closed, behind_gap}
+use Rattle.unambiguity_laws.proofs.list_items.PieceRuns.{turned_unique, nothing_unique, laid_unique, token_unique, gap_unique, part_unique, sole_closed, behind_gap}
 use Rattle.unambiguity_laws.proofs.statements.FunctionBodies.{call_unique}
 
 module _ (S : Type 0) (Next : S → Token → S → Type 0) (behind : S → Token) (det : IsDetermined S Next behind) where
@@ -54,20 +50,6 @@ module _ (S : Type 0) (Next : S → Token → S → Type 0) (behind : S → Toke
             let text : w.leaf.text ≡ v.leaf.text = sym w.leaf.reads.text ∙ ap (λ (t : Token). t.text) same.0 ∙ v.leaf.reads.text in
             (same.1, w.leaf.tree ∙ same_node (ap key_kind class) text refl (ap (λ (t : Token). t.start) same.0) (ap (λ x. (behind x).stop) same.1) refl ∙ sym v.leaf.tree, w.leaf.pairs ∙ sym v.leaf.pairs);
       }
-
-  -- what runs over the closing brace
-  brace_unique : {h : ℕ} → UniqueParts S Next behind det h (closed_by closing_brace)
-  brace_unique = turned_unique S Next behind det {last = λ ps. closing_brace} (λ o ps s e P d. of ps d) (token_unique S Next behind det Div refl (nothing_unique S Next behind det))
-    where
-      of : {o : ℕ} {s e : S} {P : List Pair} (ps : Parts) → Runs ways S Next behind o (closed_by closing_brace ps) ps s e P → Runs ways S Next behind o closing_brace ps s e P
-      of none d = d
-      of (part n ps) d = absurd (run_never S Next behind d)
-      of (gap ps) d = absurd (run_never S Next behind d)
-
-  -- `;` in any number before members that are found
-  over_semicolons : {o : ℕ} {s k e : S} {ps : Parts} {P : List Pair} → Step S Next behind (many (codes ";")) s k → FoundParts S Next behind o (plain_members closing_brace) k e ps P → FoundParts S Next behind o (plain_members closing_brace) s e ps P
-  over_semicolons no_more found = found
-  over_semicolons (one_more h p) found = built_found S Next behind det (semicolon_on S Next behind det h) (over_semicolons p found)
 
   -- a setter's function: its parameter, which is no rest, and its body
   record Setter (o : ℕ) (ps : Parts) (s e : S) (P : List Pair) : Type 0 where
@@ -127,40 +109,6 @@ module _ (S : Type 0) (Next : S → Token → S → Type 0) (behind : S → Toke
   key_at_unique low (plain_key d) = plain_key_found S Next behind det (key_unique S Next behind det d)
   key_at_unique {n = n} low (computed_key r d q) = computed_key_found S Next behind det r (u.expressions.found low (λ c. cc) (λ c. cc) d (stops_before S Next behind det Assignment true n q refl refl (λ c v. refl))) q
 
-  -- a member of a class
-  pub member_closed : {o : ℕ} {n : Tree} {s e : S} {P : List Pair} → height n ≤ suc h → Spells ways S Next behind o member n s e P → FoundAt S Next behind o member s e n P
-  member_closed {o} {n} {s} {e} {P} low d =
-      let w = member_at S Next behind det d in
-      let high : height n ≡ suc (max (height w.name) (max (height w.function) 0)) = ap height w.tree in
-      let found = key_at_unique (omega arith) w.key in
-      let function = u.closed refl (omega arith) w.spelled in
-      subst (λ v. FoundAt S Next behind o member s e n v) (sym w.pairs) (subst (λ v. FoundAt S Next behind o member s e v (w.one ++ w.more)) (sym w.tree)
-      (member_found S Next behind det w.words found w.reads (fits_first w.computed w.is_static w.form w.name (part w.function none) none w.fits) function (subst (λ v. Placed S Next behind member v s e) w.tree w.places)))
-
-  -- the members of a class, with `;` between them
-  members_unique : UniqueParts S Next behind det h (plain_members closing_brace)
-  members_unique = record { gives = λ {o} {s} {e} {ps} {P} low d. of ps low d }
-    where
-      of : {o : ℕ} (ps : Parts) {s e : S} {P : List Pair} → parts_height ps ≤ h → Runs ways S Next behind o (plain_members closing_brace ps) ps s e P → FoundParts S Next behind o (plain_members closing_brace) s e ps P
-      of none low d =
-          let v = run_step S Next behind det no_more d in
-          let t = run_token S Next behind v.runs in
-          let brace = brace_unique S Next behind det in
-          over_semicolons S Next behind det v.one (built_found S Next behind det (members_closed S Next behind det t.reads) (brace.gives low v.runs))
-      of (gap ps) low d = absurd (run_never S Next behind d)
-      of {o} (part n ps) {s} {e} {P} low d =
-          let v = run_step S Next behind det no_more d in
-          let w = run_the_part S Next behind v.runs in
-          subst (λ c. FoundParts S Next behind o (plain_members closing_brace) s e (part n ps) c) (sym w.pairs)
-          (over_semicolons S Next behind det v.one (built_found S Next behind det (member_on S Next behind det (u.closed refl (omega arith) w.spelled)) (of ps (omega arith) w.runs)))
-
-  class_body_unique : UniqueParts S Next behind det h (λ ps. goes_to Expression true Any (class_body_pieces (bare_parts ps)))
-  class_body_unique = token_unique S Next behind det Div refl (record { gives = λ low d. further S Next behind det (members_begin S Next behind det) members_unique low d })
-
-  -- a class body
-  pub class_body_closed : {o : ℕ} {n : Tree} {s e : S} {P : List Pair} → height n ≤ suc h → Spells ways S Next behind o class_body n s e P → FoundAt S Next behind o class_body s e n P
-  class_body_closed low d = sole_closed S Next behind det (one_kind S Next behind det one_class_body) class_body_unique low d
-
   -- the body of a method behind its parameters
   body_unique : UniqueParts S Next behind det h (λ ps. lay space ∷ sub body ∷ [])
   body_unique = laid_unique S Next behind det (part_unique S Next behind det {after = λ ps. []} Anyhow (λ o s e n P low d fine. found_where S Next behind det (u.closed refl low d)) (λ mid o m ps k e A P d r fine. tt) (λ n. nothing_unique S Next behind det))
@@ -200,24 +148,9 @@ module _ (S : Type 0) (Next : S → Token → S → Type 0) (behind : S → Toke
     method_unique : (f : Form) → UniqueParts S Next behind det h (λ ps. goes_to Expression true Any (method_pieces f (bare_parts ps)))
     method_unique Get = getter_unique
     method_unique Set = setter_unique
-    method_unique Method = turned_unique S Next behind det (λ o ps s e P d. of ps d) called_unique
+    method_unique f = turned_unique S Next behind det (λ o ps s e P d. of ps d) called_unique
       where
-        of : {o : ℕ} {s e : S} {P : List Pair} (ps : Parts) → Runs ways S Next behind o (goes_to Expression true Any (method_pieces Method (bare_parts ps))) ps s e P → Runs ways S Next behind o (absent ∷ call_and_body (behind_gap ps)) ps s e P
-        of (gap ps) d = d
-        of _ d = absurd (run_never S Next behind d)
-    method_unique Init = turned_unique S Next behind det (λ o ps s e P d. of ps d) called_unique
-      where
-        of : {o : ℕ} {s e : S} {P : List Pair} (ps : Parts) → Runs ways S Next behind o (goes_to Expression true Any (method_pieces Init (bare_parts ps))) ps s e P → Runs ways S Next behind o (absent ∷ call_and_body (behind_gap ps)) ps s e P
-        of (gap ps) d = d
-        of _ d = absurd (run_never S Next behind d)
-    method_unique Shorthand = turned_unique S Next behind det (λ o ps s e P d. of ps d) called_unique
-      where
-        of : {o : ℕ} {s e : S} {P : List Pair} (ps : Parts) → Runs ways S Next behind o (goes_to Expression true Any (method_pieces Shorthand (bare_parts ps))) ps s e P → Runs ways S Next behind o (absent ∷ call_and_body (behind_gap ps)) ps s e P
-        of (gap ps) d = d
-        of _ d = absurd (run_never S Next behind d)
-    method_unique Constructor = turned_unique S Next behind det (λ o ps s e P d. of ps d) called_unique
-      where
-        of : {o : ℕ} {s e : S} {P : List Pair} (ps : Parts) → Runs ways S Next behind o (goes_to Expression true Any (method_pieces Constructor (bare_parts ps))) ps s e P → Runs ways S Next behind o (absent ∷ call_and_body (behind_gap ps)) ps s e P
+        of : {o : ℕ} {s e : S} {P : List Pair} (ps : Parts) → Runs ways S Next behind o (goes_to Expression true Any (method_pieces f (bare_parts ps))) ps s e P → Runs ways S Next behind o (absent ∷ call_and_body (behind_gap ps)) ps s e P
         of (gap ps) d = d
         of _ d = absurd (run_never S Next behind d)
 

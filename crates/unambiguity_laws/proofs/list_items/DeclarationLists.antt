@@ -81,7 +81,7 @@ module _ (S : Type 0) (Next : S → Token → S → Type 0) (behind : S → Toke
   pub variable_statement : StatementStep S Next behind det h a_variable
   variable_statement = record {
     gives = λ {a} {p} {d} {r} {o} {n} {s} {m} {e} {P} {t} stands low sp fine read begun.
-        let sole = own_sole S Next behind det {Fine = Finished S Next behind} stands read a_variable begun refl (λ z. cc) in
+        let sole = own_sole S Next behind det {Fine = Finished S Next behind} stands read a_variable begun refl (λ z. cc) (λ o n e P w. elim w [ ]) in
         let told = sole.told sp fine in
         let high : height n ≡ suc (parts_height told.parts) = ap height told.tree in
         let fine' : Followed S Next behind false e = subst (λ v. Finished S Next behind v e) told.tree fine in

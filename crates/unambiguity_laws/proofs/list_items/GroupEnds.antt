@@ -36,7 +36,9 @@ use Rattle.language.proofs.table.Tails.{tails_assign}
 use Rattle.language.proofs.climbing.BinaryTurns.{same_node}
 use Rattle.language.proofs.climbing.Conditionals.{same_sign}
 use Rattle.language.proofs.climbing.OperatorLoop.{Climbing, climb_stop, LedOn, led_on, stops_inside, grows_height, whole_where_stops}
-use Rattle.language.proofs.climbing.Leaves.{OneToken, name_form, climb_identifier}
+use Rattle.language.proofs.climbing.Leaves.{OneToken, name_form, climb_identifier, AsyncNext, function_next, name_next, parameters_next}
+use Rattle.language.proofs.covers.CoverReadings.{name_or_sign}
+use Rattle.unambiguity_laws.proofs.statements.FunctionForms.{names_same}
 use Rattle.language.proofs.list_loops.CommaLists.{Separated, by_comma, by_closing}
 use Rattle.language.proofs.covers.CoverElements.{Simple, a_name, a_target, Defaulted, ElementForm, bare_pattern, bare_simple, pattern_default, simple_default, element_form}
 use Rattle.language.proofs.covers.CoverEnds.{a_parenthesis, item_stops}
@@ -63,22 +65,33 @@ assigned_rest (led_assign k op ta tk b e) = (k, tk, e)
 goes_on_name : (w : List ℕ) (st en : ℕ) (l t : Token) → t.text ≡ codes "=" → operation t ≡ op_assign → stops Assignment true (edge (node Identifier w plain st en none)) l t ≡ false
 goes_on_name w st en l t text op = ap (λ c. stops_at Assignment true Other t (rank_made_by c t.after_break)) op ∙ ap (λ v. (is v "in" && not true) || not true) text
 
+module _ (S : Type 0) (Next : S → Token → S → Type 0) (behind : S → Token) (det : IsDetermined S Next behind) where
+  -- a name with another sign behind it is no word of an async function or arrow
+  sign_behind : {w v : List ℕ} {y : Rank} {x k z : S} {t u : Token} → IsTrue (allows Div Punctuator v) → (v ≡ codes "(" → ⊥) → Reads S Next behind IdentifierName w x t k → Reads S Next behind Punctuator v k u z → AsyncNext S Next behind det y x → ⊥
+  sign_behind {v = v} {z = z} {u = u} al other r h (function_next a b line) = name_or_sign S Next behind det al b (subst (λ c. Reads S Next behind Punctuator v c u z) (names_same S Next behind det r a).1 h)
+  sign_behind {v = v} {z = z} {u = u} al other r h (name_next a b free line c on tk) = name_or_sign S Next behind det al b (subst (λ c. Reads S Next behind Punctuator v c u z) (names_same S Next behind det r a).1 h)
+  sign_behind {v = v} {z = z} {u = u} al other r h (parameters_next a b line d c on tk) = other (two_signs S Next behind det al refl (subst (λ c. Reads S Next behind Punctuator v c u z) (names_same S Next behind det r a).1 h) b).0
+
 module _ (S : Type 0) (Next : S → Token → S → Type 0) (behind : S → Token) (det : IsDetermined S Next behind) (alike : IsAlike S Next behind) {h : ℕ} (u : Unique S Next behind det h) where
   module _ {o : ℕ} {n : Tree} {x e : S} {P : List Pair} (d : Spells ways S Next behind o (expr Assignment true Any) n x e P) (sep : Separated S Next behind det (codes ")") e) where
     -- a name there, behind which no `=>` is read, begins the expression
-    name_climbs : {o' : ℕ} {m : Tree} {k : S} {Q : List Pair} (v : OneToken S Next behind det IdentifierName Identifier m x k Q) → is_reserved v.text ≡ false → ((t : Token) (z : S) → Reads S Next behind Punctuator (codes "=>") k t z → ⊥) → Climbing S Next behind det o' Assignment true Any Primary x (node Identifier v.sign.text plain v.sign.start (behind k).stop none) k []
-    name_climbs v free no_arrow = climb_identifier S Next behind det (record { next = v.reads.next; allowed = det.free Goal.RegExp _ v.sign _ v.reads.next (ap is_free v.reads.class) }) refl v.reads.class (ap is_reserved v.reads.text ∙ free) (λ tk t z eq line. no_arrow t z eq)
+    name_climbs : {o' : ℕ} {m : Tree} {k : S} {Q : List Pair} (v : OneToken S Next behind det IdentifierName Identifier m x k Q) → is_reserved v.text ≡ false → ((t : Token) (z : S) → Reads S Next behind Punctuator (codes "=>") k t z → ⊥) → (AsyncNext S Next behind det Assignment x → ⊥) → Climbing S Next behind det o' Assignment true Any Primary x (node Identifier v.sign.text plain v.sign.start (behind k).stop none) k []
+    name_climbs v free no_arrow no_async = climb_identifier S Next behind det (record { next = v.reads.next; allowed = det.free Goal.RegExp _ v.sign _ v.reads.next (ap is_free v.reads.class) }) refl v.reads.class (ap is_reserved v.reads.text ∙ free) (λ tk t z eq line. no_arrow t z eq) no_async
 
     -- a name alone
     at_name : {o' : ℕ} {m : Tree} {k : S} {Q : List Pair} → Spells ways S Next behind o' name m x k Q → Separated S Next behind det (codes ")") k → k ≡ e
     at_name {o'} {k = k} p there =
         let v = name_form S Next behind det p in
-        let found = climb_stop S Next behind det (name_climbs {o' = o'} v.0 v.1 (no_arrow there)) (item_stops S Next behind det a_parenthesis Assignment (node Identifier v.0.sign.text plain v.0.sign.start (behind k).stop none) k refl there) in
+        let found = climb_stop S Next behind det (name_climbs {o' = o'} v.0 v.1 (no_arrow there) (no_async v.0.reads there)) (item_stops S Next behind det a_parenthesis Assignment (node Identifier v.0.sign.text plain v.0.sign.start (behind k).stop none) k refl there) in
         sym (found.only o e n P d (item_stops S Next behind det a_parenthesis Assignment n e refl sep)).0
       where
         no_arrow : Separated S Next behind det (codes ")") k → (t : Token) (z : S) → Reads S Next behind Punctuator (codes "=>") k t z → ⊥
         no_arrow (by_comma h) t z eq = let clash = two_texts S Next behind det refl refl eq h in false≢true (sym (ap (λ w. is w "=>") clash))
         no_arrow (by_closing h) t z eq = let clash = two_texts S Next behind det refl refl eq h in false≢true (sym (ap (λ w. is w "=>") clash))
+
+        no_async : {w : List ℕ} {t : Token} → Reads S Next behind IdentifierName w x t k → Separated S Next behind det (codes ")") k → AsyncNext S Next behind det Assignment x → ⊥
+        no_async r (by_comma h) a = sign_behind S Next behind det refl (λ e. false≢true (ap (λ w. is w "(") e)) r h a
+        no_async r (by_closing h) a = sign_behind S Next behind det refl (λ e. false≢true (ap (λ w. is w "(") e)) r h a
 
     -- `=` goes on with the name, and both right sides end alike
     rights_end : {o' : ℕ} {m left : Tree} {k : S} {Q R : List Pair} {q : Rank} {j : Bool} {f : Start} → height n ≤ suc h → (p : Defaulted S Next behind det (Simple S Next behind det true) o' m x k Q) → Separated S Next behind det (codes ")") k → ReadBy S Next behind Div p.mid p.sign p.x →
@@ -109,7 +122,7 @@ module _ (S : Type 0) (Next : S → Token → S → Type 0) (behind : S → Toke
         of (a_target c t q) = absurd (false≢true (sym c))
         of (a_name c q) =
             let v = name_form S Next behind det q in
-            let climb = name_climbs {o' = o'} v.0 v.1 (λ t z eq. (let clash = two_texts S Next behind det refl refl eq p.reads in false≢true (sym (ap (λ w. is w "=>") clash)))) in
+            let climb = name_climbs {o' = o'} v.0 v.1 (λ t z eq. (let clash = two_texts S Next behind det refl refl eq p.reads in false≢true (sym (ap (λ w. is w "=>") clash)))) (sign_behind S Next behind det refl (λ e. false≢true (ap (λ w. is w "(") e)) v.0.reads p.reads) in
             let st = item_stops S Next behind det a_parenthesis Assignment n e refl sep in
             let lead = climb.leads o e n P d st in
             let op : operation p.sign ≡ op_assign = makes p.sign p.reads.class p.reads.text refl in

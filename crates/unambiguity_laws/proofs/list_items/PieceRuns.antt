@@ -41,15 +41,6 @@ module _ (S : Type 0) (Next : S → Token → S → Type 0) (behind : S → Toke
             (one.0, v.parts ∙ ap f one.1 ∙ sym w.parts, v.pairs ∙ ap (λ x. Q ++ x) one.2 ∙ sym w.pairs);
       }
 
-  -- the same where the rest is found
-  pub built_found : {o : ℕ} {all left : Parts → List (PieceOf Role)} {s mid e : S} {f : Parts → Parts} {ps : Parts} {Q R : List Pair} → Sofar S Next behind det Anyhow o all s left mid f Q → FoundParts S Next behind o left mid e ps R → FoundParts S Next behind o all s e (f ps) (Q ++ R)
-  built_found {f = f} {Q = Q} a found = record {
-    runs = a.runs found.runs;
-    only = λ o' e' ps' P' d'. let v = a.leads d' tt in
-        let one = found.only o' e' v.rest v.more v.runs in
-        (one.0, v.parts ∙ ap f one.1, v.pairs ∙ ap (λ x. Q ++ x) one.2);
-  }
-
   -- pieces over which only that runs which runs over others
   pub turned_unique : {h : ℕ} {all last : Parts → List (PieceOf Role)} → ((o : ℕ) (ps : Parts) (s e : S) (P : List Pair) → Runs ways S Next behind o (all ps) ps s e P → Runs ways S Next behind o (last ps) ps s e P) → UniqueParts S Next behind det h last → UniqueParts S Next behind det h all
   turned_unique there unique = record {

@@ -6,7 +6,7 @@ use Rattle.tokens.specs.declared.token.TokenClass.TheVariants.{IdentifierName, P
 use Rattle.tree.specs.declared.kind.Kind.{Kind}
 use Rattle.tree.specs.declared.kind.Kind.TheVariants.{Property, SpreadElement, RestElement, AssignmentPattern}
 use Rattle.tree.specs.declared.kind.Form.{Form}
-use Rattle.tree.specs.declared.kind.Form.TheVariants.{Init, Method, Shorthand}
+use Rattle.tree.specs.declared.kind.Form.TheVariants.{Init, Method, Shorthand, Generator, Async, AsyncGenerator}
 use Rattle.tree.specs.declared.kind.Pair.{Pair}
 use Rattle.tree.specs.Tree.{Tree, node, none, part, kind_of, height, plain}
 use Rattle.language.specs.declared.Rank.TheVariants.{Assignment}
@@ -21,7 +21,7 @@ use Rattle.language.proofs.table.PropertyNameWays.{is_accessor}
 use Rattle.language.proofs.covers.CoverElements.{bound_defaults, BoundForm, a_pattern, a_simple, a_name, a_target, Defaulted, default_core}
 use Rattle.language.proofs.covers.CoverSpreads.{default_no_rest, expression_kind, spread_form, rest_form}
 use Rattle.language.proofs.covers.CoverReadings.{named_unbracketed}
-use Rattle.language.proofs.covers.CoverProperties.{flags_as, accessor_word, KeyAt, plain_key, Valued, Short, PropertyAt, by_value, by_name, by_method, by_accessor, PatternPropertyAt, with_value, with_name, with_element, property_at, pattern_property_at}
+use Rattle.language.proofs.covers.CoverProperties.{flags_as, accessor_word, KeyAt, plain_key, Valued, Short, Called, PropertyAt, by_value, by_name, by_method, by_star, by_async, by_async_star, by_accessor, PatternPropertyAt, with_value, with_name, with_element, property_at, pattern_property_at}
 use Rattle.language.proofs.covers.CoverKeys.{name_key, echo_form}
 use Rattle.language.proofs.table.KindViews.{InObject, a_spread, a_property, in_object, InPattern, a_rest, a_property_there, in_pattern}
 
@@ -40,11 +40,18 @@ module _ (S : Type 0) (Next : S → Token → S → Type 0) (behind : S → Toke
     a_default : {n : Tree} {y : S} {t : Token} {P : List Pair} → Reads S Next behind Punctuator (codes "=") mid t y → height n ≤ hi → Spells ways S Next behind o (expr Assignment true Any) n y e P → BehindKey x o hi mid e
     a_function : {n : Tree} {y : S} {t : Token} {P : List Pair} → Reads S Next behind Punctuator (codes "(") mid t y → height n ≤ hi → Spells ways S Next behind o (method Method) n mid e P → BehindKey x o hi mid e
 
-  -- A property: a spread or a rest; a key and what stands behind it; or a getter or setter.
+  -- what stands before the key of a method whose function has this form
+  pub data Modifies (s : S) : Form → S → Type 0 where
+    starred : {z : S} {t : Token} → Reads S Next behind Punctuator (codes "*") s t z → Modifies s Generator z
+    asynchronous : {z k : S} {t v : Token} → Reads S Next behind IdentifierName (codes "async") s t z → Next z v k → v.after_break ≡ false → Modifies s Async z
+    both_modify : {x z : S} {t v : Token} → Reads S Next behind IdentifierName (codes "async") s t x → Reads S Next behind Punctuator (codes "*") x v z → v.after_break ≡ false → Modifies s AsyncGenerator z
+
+  -- A property: a spread or a rest; a key and what stands behind it; a getter or setter; or a method of another form.
   pub data PropertyIs (x : Reading) (o hi : ℕ) (s e : S) : Type 0 where
     dotted : {a : Role} {n : Tree} {y : S} {t : Token} {P : List Pair} → Reads S Next behind Punctuator (codes "...") s t y → height n ≤ hi → element_as x (kind_of n) ≡ Some a → Spells ways S Next behind o a n y e P → PropertyIs x o hi s e
     keyed : {c : Bool} {n : Tree} {mid : S} {P : List Pair} → height n ≤ hi → KeyAt S Next behind det o n s mid P c → BehindKey x o hi mid e → PropertyIs x o hi s e
     accessed : (f : Form) {c : Bool} {n m : Tree} {z mid : S} {t : Token} {P Q : List Pair} → is_accessor f ≡ true → Reads S Next behind IdentifierName (accessor_word f) s t z → height n ≤ hi → KeyAt S Next behind det o n z mid P c → height m ≤ hi → Spells ways S Next behind o (method f) m mid e Q → PropertyIs x o hi s e
+    modified : (y : Form) {c : Bool} {n m : Tree} {z mid : S} {P Q : List Pair} → Modifies s y z → height n ≤ hi → KeyAt S Next behind det o n z mid P c → height m ≤ hi → Spells ways S Next behind o (method y) m mid e Q → PropertyIs x o hi s e
 
   module _ {o hi : ℕ} {n : Tree} {s e : S} {P : List Pair} (low : height n ≤ suc hi) where
     of_value : (x : Reading) {r : Kind → Option Role} → (v : Valued S Next behind det r o n s e P) → element_as x (kind_of v.value) ≡ Some v.role → PropertyIs x o hi s e
@@ -71,12 +78,20 @@ module _ (S : Type 0) (Next : S → Token → S → Type 0) (behind : S → Toke
             let inner : height v.value ≡ height (node AssignmentPattern [] plain w.st w.en (part w.left (part w.right none))) = ap height w.tree in
             keyed (omega arith) (plain_key (name_key S Next behind det d)) (a_default w.reads (omega arith) w.value)
 
+    of_modified : (x : Reading) {y : Form} {z : S} → Modifies s y z → Called S Next behind det Method y o n s z e P → PropertyIs x o hi s e
+    of_modified x {y} words v =
+        let high : height n ≡ height (node Property [] (flags_as v.computed Method) v.st v.en (part v.name (part v.function none))) = ap height v.tree in
+        modified y words (omega arith) v.key (omega arith) v.spelled
+
     of_property : PropertyAt S Next behind det o n s e P → PropertyIs as_expression o hi s e
     of_property (by_value v) = of_value as_expression v (ap (λ b. Some (cond b spread (expr Assignment true Any))) (expression_kind S Next behind det (subst (λ r. Spells ways S Next behind o r v.value v.x e v.more) (sym (some_same v.it_is)) v.spelled)) ∙ v.it_is)
     of_property (by_name v) = of_name as_expression v
     of_property (by_method v) =
         let high : height n ≡ height (node Property [] (flags_as v.computed Method) v.st v.en (part v.name (part v.function none))) = ap height v.tree in
         keyed (omega arith) v.key (a_function v.reads (omega arith) v.spelled)
+    of_property (by_star star v) = of_modified as_expression (starred star) v
+    of_property (by_async word nx line v) = of_modified as_expression (asynchronous word nx line) v
+    of_property (by_async_star word star line v) = of_modified as_expression (both_modify word star line) v
     of_property (by_accessor f h word v) =
         let high : height n ≡ height (node Property [] (flags_as v.computed f) v.st v.en (part v.name (part v.function none))) = ap height v.tree in
         accessed f h word (omega arith) v.key (omega arith) v.spelled

@@ -5,6 +5,7 @@ use Rattle.std.proofs.lemmas.Bool.{false≢true}
 use Rattle.tokens.specs.declared.token.TokenClass.TheVariants.{IdentifierName, Punctuator}
 use Rattle.tokens.specs.declared.token.Goal.TheVariants.{Div}
 use Rattle.tokens.specs.Goals.{allows}
+use Rattle.tree.specs.declared.kind.Form.{Form}
 use Rattle.tree.specs.declared.kind.Form.TheVariants.{Method}
 use Rattle.tree.specs.declared.kind.Pair.{Pair}
 use Rattle.tree.specs.Tree.{Tree, kind_of, height}
@@ -23,12 +24,13 @@ use Rattle.language.proofs.table.PropertyNameWays.{key_free, key_form, word_key}
 use Rattle.language.proofs.list_loops.CommaLists.{Separated, by_comma, by_closing}
 use Rattle.language.proofs.covers.CoverSpreads.{two_texts}
 use Rattle.language.proofs.covers.CoverReadings.{name_or_sign}
-use Rattle.language.proofs.covers.CoverProperties.{KeyAt, plain_key, computed_key}
+use Rattle.language.proofs.covers.CoverProperties.{accessor_word, KeyAt, plain_key, computed_key}
 use Rattle.language.proofs.covers.CoverKeys.{key_or_sign, key_at_sign}
 use Rattle.language.proofs.covers.CoverMethods.{word_tells}
 use Rattle.language.proofs.covers.CoverEnds.{a_brace, item_stops}
 use Rattle.unambiguity_laws.proofs.Unique.{Unique}
-use Rattle.unambiguity_laws.proofs.list_items.PropertyForms.{BehindKey, nothing, a_value, a_default, a_function, PropertyIs, dotted, keyed, accessed, property_is}
+use Rattle.unambiguity_laws.proofs.list_items.PropertyForms.{BehindKey, nothing, a_value, a_default, a_function, PropertyIs, dotted, keyed, accessed, modified, Modifies, starred, asynchronous, both_modify, property_is}
+use Rattle.unambiguity_laws.proofs.list_items.Properties.{unlike_async}
 
 unlike : {v w : List ℕ} {A : Type 0} (s : List ℕ → Bool) → s v ≡ true → s w ≡ false → v ≡ w → A
 unlike s h k e = absurd (false≢true (sym k ∙ ap s (sym e) ∙ h))
@@ -75,6 +77,42 @@ module _ (S : Type 0) (Next : S → Token → S → Type 0) (behind : S → Toke
   two_words {s = s} {e = e} {k = k} {t = t} {t' = t'} a b =
       let same = det.same Div s t' t k e a.next b.next (det.free Div s t' k a.next (ap is_free a.class)) (det.free Div s t e b.next (ap is_free b.class)) in
       (sym a.text ∙ ap (λ (v : Token). v.text) same.0 ∙ b.text, same.1)
+
+  -- nor `*`
+  no_star_behind : {A : Type 0} {x : Reading} {o hi : ℕ} {s e k : S} {t : Token} → BehindKey S Next behind det x o hi s e → Separated S Next behind det (codes "}") e → Reads S Next behind Punctuator (codes "*") s t k → A
+  no_star_behind {k = k} {t = t} (nothing same) sep star = apart refl (unlike (λ x. is x "*") refl refl) (unlike (λ x. is x "*") refl refl) (subst (λ v. Reads S Next behind Punctuator (codes "*") v t k) same star) sep
+  no_star_behind (a_value h low it p) sep star = unlike (λ x. is x "*") refl refl (two_texts S Next behind det refl refl star h)
+  no_star_behind (a_default h low p) sep star = unlike (λ x. is x "*") refl refl (two_texts S Next behind det refl refl star h)
+  no_star_behind (a_function h low p) sep star = unlike (λ x. is x "*") refl refl (two_texts S Next behind det refl refl star h)
+
+  -- a method's words stand before no other property
+  modified_dots : {A : Type 0} {y : Form} {s z k : S} {t : Token} → Modifies S Next behind det s y z → Reads S Next behind Punctuator (codes "...") s t k → A
+  modified_dots (starred star) dots = unlike (λ x. is x "*") refl refl (two_texts S Next behind det refl refl star dots)
+  modified_dots (asynchronous word nx line) dots = absurd (name_or_sign S Next behind det refl word dots)
+  modified_dots (both_modify word star line) dots = absurd (name_or_sign S Next behind det refl word dots)
+
+  modified_keyed : {A : Type 0} {x : Reading} {y : Form} {c c' : Bool} {o o' o2 hi : ℕ} {n m : Tree} {s z mid k e : S} {P Q : List Pair} → Modifies S Next behind det s y z → KeyAt S Next behind det o n z mid P c → KeyAt S Next behind det o' m s k Q c' → BehindKey S Next behind det x o2 hi k e →
+      Separated S Next behind det (codes "}") e → A
+  modified_keyed (starred star) inner other after sep = absurd (key_at_sign S Next behind det refl refl (unlike (λ x. is x "*") refl refl) other star)
+  modified_keyed {x = x} {o2 = o2} {hi = hi} {e = e} (asynchronous word nx line) inner other after sep = no_key_behind inner (subst (λ v. BehindKey S Next behind det x o2 hi v e) (word_end word other) after) sep
+  modified_keyed {x = x} {o2 = o2} {hi = hi} {e = e} (both_modify word star line) inner other after sep = no_star_behind (subst (λ v. BehindKey S Next behind det x o2 hi v e) (word_end word other) after) sep star
+
+  modified_accessed : {A : Type 0} {y : Form} {s z k : S} {t : Token} (f : Form) → Modifies S Next behind det s y z → Reads S Next behind IdentifierName (accessor_word f) s t k → A
+  modified_accessed f (starred star) word = absurd (name_or_sign S Next behind det refl word star)
+  modified_accessed f (asynchronous word' nx' line') word = absurd (unlike_async f (two_words word word').0)
+  modified_accessed f (both_modify word' star line2) word = absurd (unlike_async f (two_words word word').0)
+
+  -- and they tell the form
+  modifiers_same : {y y' : Form} {c c' : Bool} {o o' : ℕ} {n m : Tree} {s z z' mid k : S} {P Q : List Pair} → Modifies S Next behind det s y z → KeyAt S Next behind det o n z mid P c → Modifies S Next behind det s y' z' → KeyAt S Next behind det o' m z' k Q c' → (y' ≡ y) × (z' ≡ z)
+  modifiers_same (starred star) first (starred star') second = (refl, (same_sign S Next behind det star' star refl).1)
+  modifiers_same (starred star) first (asynchronous word nx line) second = absurd (name_or_sign S Next behind det refl word star)
+  modifiers_same (starred star) first (both_modify word star' line2) second = absurd (name_or_sign S Next behind det refl word star)
+  modifiers_same (asynchronous word nx line) first (starred star) second = absurd (name_or_sign S Next behind det refl word star)
+  modifiers_same (asynchronous word nx line) first (asynchronous word' nx' line') second = (refl, (two_words word' word).1)
+  modifiers_same {z' = z'} (asynchronous word nx line) first (both_modify {v = v} word' star line2) second = absurd (key_at_sign S Next behind det refl refl (unlike (λ x. is x "*") refl refl) first (subst (λ c. Reads S Next behind Punctuator (codes "*") c v z') (two_words word' word).1 star))
+  modifiers_same (both_modify word star line) first (starred star') second = absurd (name_or_sign S Next behind det refl word star')
+  modifiers_same {z = z} (both_modify {v = v} word star line) first (asynchronous word' nx' line') second = absurd (key_at_sign S Next behind det refl refl (unlike (λ x. is x "*") refl refl) second (subst (λ c. Reads S Next behind Punctuator (codes "*") c v z) (two_words word word').1 star))
+  modifiers_same {z' = z'} (both_modify word star line) first (both_modify {v = v} word' star' line2) second = (refl, (same_sign S Next behind det (subst (λ c. Reads S Next behind Punctuator (codes "*") c v z') (two_words word' word).1 star') star refl).1)
 
 module _ (S : Type 0) (Next : S → Token → S → Type 0) (behind : S → Token) (det : IsDetermined S Next behind) (alike : IsAlike S Next behind) {h : ℕ} (u : Unique S Next behind det h) where
   -- keys end alike
@@ -127,6 +165,16 @@ module _ (S : Type 0) (Next : S → Token → S → Type 0) (behind : S → Toke
       let form : g ≡ f = word_tells f g acc acc' words.0 in
       let same = keys_end low d (subst (λ v. KeyAt S Next behind det o' n' v mid' P' c') words.1 d') in
       ((u.closed {a = method f} refl low2 q).only o' k m' Q' (subst (λ v. Spells ways S Next behind o' (method v) m' mid k Q') form (subst (λ v. Spells ways S Next behind o' (method g) m' v k Q') same q'))).0
+  both_properties x z (modified y words low d low2 q) sep (dotted a' low' it' d') there = modified_dots S Next behind det words a'
+  both_properties x z (modified y words low d low2 q) sep (keyed low' d' after) there = modified_keyed S Next behind det words d d' after there
+  both_properties x z (modified y words low d low2 q) sep (accessed f acc word low' d' low2' q') there = modified_accessed S Next behind det f words word
+  both_properties x z (dotted a low it d) sep (modified y words low' d' low2 q) there = modified_dots S Next behind det words a
+  both_properties x z (keyed low d after) sep (modified y words low' d' low2 q) there = modified_keyed S Next behind det words d' d after sep
+  both_properties x z (accessed f acc word low d low2 q) sep (modified y words low' d' low2' q') there = modified_accessed S Next behind det f words word
+  both_properties x z {o' = o'} {k = k} (modified y {mid = mid} words low d low2 q) sep (modified y' {c = c'} {n = n'} {m = m'} {mid = mid'} {P = P'} {Q = Q'} words' low' d' low2' q') there =
+      let form = modifiers_same S Next behind det words d words' d' in
+      let same = keys_end low d (subst (λ v. KeyAt S Next behind det o' n' v mid' P' c') form.1 d') in
+      ((u.closed {a = method y} refl low2 q).only o' k m' Q' (subst (λ v. Spells ways S Next behind o' (method v) m' mid k Q') form.0 (subst (λ v. Spells ways S Next behind o' (method y') m' v k Q') same q'))).0
 
   -- two readings of a property end alike
   pub property_ends_step : (x z : Reading) {a b : Role} {o o' : ℕ} {n m : Tree} {s e k : S} {P Q : List Pair} → height n ≤ suc h → property_as x (kind_of n) ≡ Some a → Spells ways S Next behind o a n s e P → Separated S Next behind det (codes "}") e →

@@ -24,7 +24,7 @@ use Rattle.unambiguity_laws.proofs.Unique.{Unique}
 use Rattle.unambiguity_laws.proofs.list_items.UniqueRuns.{UniqueRuns}
 
 -- an item of a prologue stands before other items, or behind directives alone
-stands_first : (r b : Bool) → Stands (cond b (opening r) (item r)) b true r
+pub stands_first : (r b : Bool) → Stands (cond b (opening r) (item r)) b true r
 stands_first r true = as_opening
 stands_first r false = as_item
 

@@ -104,7 +104,7 @@ module _ (S : Type 0) (Next : S → Token → S → Type 0) (behind : S → Toke
   template_read : {o : ℕ} {y q : Rank} {i j : Bool} {f : Start} {m : Tree} {s0 mid m0 : S} {Q : List Pair} {t : Token} → height m ≤ suc h → IsTrue (takes y Primary) → IsTrue (takes q Primary) → ReadBy S Next behind Goal.RegExp s0 t m0 → expression_start t ≡ with_template →
       Cored S Next behind det o q j f m s0 mid Q with_template → Climbed S Next behind det o y i f s0 m mid Q
   template_read {o} {y} {q} {i} {j} {f} {m} {s0} {mid} {m0} {Q} low tk takes_it r op (in_way {k = k} {w = w} {g = g} {st = st} {en = en} {ps = ps} is headed lean pl d) =
-      let way = (template_production S Next behind det f).is_way q j k w g ps _ headed takes_it in
+      let way = (template_production S Next behind det f s0).is_way o q j k w g ps _ mid Q headed d takes_it in
       let tree : m ≡ node TemplateLiteral [] plain st en ps = is ∙ made_node way.0 (ap (λ c. is_lean (bare c)) (sym is) ∙ lean) in
       let high : height m ≡ height (node TemplateLiteral [] plain st en ps) = ap height tree in
       record {

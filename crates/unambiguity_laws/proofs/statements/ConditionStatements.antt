@@ -105,7 +105,7 @@ module _ (S : Type 0) (Next : S → Token → S → Type 0) (behind : S → Toke
         of _ low d fine = absurd (run_never S Next behind d)
 
   pub if_statement : StatementStep S Next behind det h an_if
-  if_statement = own_step S Next behind det alike u an_if refl (λ e. cc) (λ ps e. Followed S Next behind (last_ends_in_if ps) e) (λ w st en ps e f. f) (λ r. runs_after S Next behind det (λ o s. if_begins S Next behind det r) (pieces r))
+  if_statement = own_step S Next behind det alike u an_if refl (λ e. cc) (λ r o a t m n s e P w. elim w [ ]) (λ ps e. Followed S Next behind (last_ends_in_if ps) e) (λ w st en ps e f. f) (λ r. runs_after S Next behind det (λ o s. if_begins S Next behind det r) (pieces r))
     where
       pieces : (r : Bool) → UniqueRuns S Next behind det h (λ ps e. Followed S Next behind (last_ends_in_if ps) e) (λ ps. goes_to Expression true Any (Rattle.language.proofs.table.StatementWays.condition r (behind_consequent r (bare_parts ps))))
       pieces r = runs_lay S Next behind det (runs_token S Next behind det Div refl (runs_part S Next behind det
@@ -115,7 +115,7 @@ module _ (S : Type 0) (Next : S → Token → S → Type 0) (behind : S → Toke
           (λ mid. consequent_fits S Next behind det alike r x) (λ c low'. else_unique r x c))))))
 
   pub do_statement : StatementStep S Next behind det h a_do
-  do_statement = own_step S Next behind det alike u a_do refl (λ e. cc) (λ ps e. Followed S Next behind false e) (λ w st en ps e f. f)
+  do_statement = own_step S Next behind det alike u a_do refl (λ e. cc) (λ r o a t m n s e P w. elim w [ ]) (λ ps e. Followed S Next behind false e) (λ w st en ps e f. f)
       (λ r. runs_lay S Next behind det (runs_part S Next behind det
       {after = λ ps. lay space ∷ tok IdentifierName (codes "while") ∷ lay space ∷ tok Punctuator (codes "(") ∷ sub (expr Expression true Any) ∷ tok Punctuator (codes ")") ∷ ending of_do ∷ []} (statement_unique S Next behind det alike u as_statement)
       (λ mid. before_while S Next behind det alike (λ ps e. Followed S Next behind false e) (λ ps. lay space ∷ tok Punctuator (codes "(") ∷ sub (expr Expression true Any) ∷ tok Punctuator (codes ")") ∷ ending of_do ∷ []))
@@ -125,7 +125,7 @@ module _ (S : Type 0) (Next : S → Token → S → Type 0) (behind : S → Toke
       (λ x low'. runs_token S Next behind det Div refl (runs_end S Next behind det (λ ps. of_do))))))))))
 
   pub while_statement : StatementStep S Next behind det h a_while
-  while_statement = own_step S Next behind det alike u a_while refl (λ e. cc) (λ ps e. Followed S Next behind (last_ends_in_if ps) e) (λ w st en ps e f. f)
+  while_statement = own_step S Next behind det alike u a_while refl (λ e. cc) (λ r o a t m n s e P w. elim w [ ]) (λ ps e. Followed S Next behind (last_ends_in_if ps) e) (λ w st en ps e f. f)
       (λ r. runs_lay S Next behind det (runs_token S Next behind det Div refl (runs_part S Next behind det
       {after = λ ps. tok Punctuator (codes ")") ∷ lay space ∷ sub (statement r) ∷ []} (whole_unique S Next behind det alike u)
       (λ mid. before_token S Next behind det (λ ps e. Followed S Next behind (last_ends_in_if ps) e) Expression true (λ ps. lay space ∷ sub (statement r) ∷ []) refl (λ x b. refl))

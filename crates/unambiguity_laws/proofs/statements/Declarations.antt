@@ -57,7 +57,7 @@ module _ (S : Type 0) (Next : S → Token → S → Type 0) (behind : S → Toke
       on_value true same on {st} {en} {target} {value} {A = A} {V = V} tree t equals v p pl =
           let high : height n ≡ height (node VariableDeclarator [] plain st en (part target (part value none))) = ap height tree in
           let first = target_unique (omega arith) t in
-          let second = u.expressions.found (omega arith) (λ z. cc) (λ z. cc) v (λ w m r. subst (λ c. IsTrue (stops Assignment i c (behind e) w)) (ap edge tree) (fine.stopped w m r)) in
+          let second = u.expressions.found (omega arith) (λ z. cc) (λ z. cc) v (record { before = λ w m r. subst (λ c. IsTrue (stops Assignment i c (behind e) w)) (ap edge tree) (fine.stopped.before w m r); apart = fine.stopped.apart }) in
           subst (λ c. FoundWhere S Next behind (Declared S Next behind i) o (declarator i true) s e c P) (sym tree)
           (subst (λ c. FoundWhere S Next behind (Declared S Next behind i) o (declarator i true) s e (node VariableDeclarator [] plain st en (part target (part value none))) c) (sym p)
           (declarator_found S Next behind det first equals second pl))

@@ -4,7 +4,7 @@ use Rattle.std.specs.Prelude.{IsTrue, codes}
 use Rattle.std.proofs.lemmas.Bool.{and_parts, false≢true}
 use Rattle.std.proofs.lemmas.List.{append-nil}
 use Rattle.tokens.specs.declared.token.TokenClass.{TokenClass}
-use Rattle.tokens.specs.declared.token.TokenClass.TheVariants.{Punctuator, StringLiteral}
+use Rattle.tokens.specs.declared.token.TokenClass.TheVariants.{IdentifierName, Punctuator, StringLiteral}
 use Rattle.tokens.specs.declared.token.Goal.{Goal}
 use Rattle.tokens.specs.declared.token.Goal.TheVariants.{Div}
 use Rattle.tokens.specs.Goals.{allows}
@@ -19,24 +19,27 @@ use Rattle.language.specs.Edges.{edge, last_edge, ends_in_if}
 use Rattle.language.specs.Pieces.{Role, expr, name, directive_string, statement, opening, tok, ending, sub, lay, space, Ending}
 use Rattle.language.specs.Statements.{first_is_string, is_string_literal}
 use Rattle.language.specs.Token.{Token}
-use Rattle.language.specs.StatementStart.{an_expression, statement_start}
+use Rattle.language.specs.StatementStart.{StatementStart, an_expression, statement_start, is_own}
 use Rattle.language.specs.Promises.{is_free, IsDetermined, ReadBy, Found, FoundAt}
 use Rattle.language.specs.Following.{IsAlike, Followed, Finished, may_follow, FoundWhere}
 use Rattle.language.specs.Grammar.{ways, spellings}
 use Rattle.language.specs.Derivation.{Reads, Spells, direct, grouped, Runs, Step, explicit, implicit, Placed}
 use Rattle.language.proofs.table.ViewIsComplete.{way_of, made}
 use Rattle.language.proofs.list_loops.FirstPieces.{run_none, run_token, run_laid, run_part}
-use Rattle.language.proofs.climbing.Leaves.{name_form, name_found}
+use Rattle.language.proofs.climbing.Leaves.{by_name, name_form, name_found}
+use Rattle.language.proofs.covers.CoverReadings.{name_or_sign}
 use Rattle.language.proofs.table.BareEdges.{edge_bare}
-use Rattle.language.proofs.statements.MissingSemicolons.{ended_stops}
 use Rattle.language.proofs.table.StatementWays.{Stands, as_statement, as_item, as_opening}
-use Rattle.language.proofs.table.Beginnings.{directive_flags, made_rank, too_tight, OtherWay, a_label, evaluated, a_directive, a_group, other_way}
-use Rattle.language.proofs.statements.StatementFollow.{idle_stops}
+use Rattle.language.proofs.table.Beginnings.{directive_flags, made_rank, too_tight, OtherWay, a_label, evaluated, a_directive, a_group, LaterWay, Viewed, its_own, another, later, viewed}
+use Rattle.language.proofs.statements.StatementFollow.{idle_stops, end_stops}
 use Rattle.language.proofs.list_loops.PiecesSoFar.{run_end}
 use Rattle.language.proofs.climbing.AsExpressions.{name_expression, quoted_form, quoted_expression, group_expression}
 use Rattle.language.proofs.statements.ExpressionStatements.{expression_found, directive_found, string_group_found, label_found}
-use Rattle.unambiguity_laws.proofs.Unique.{Unique, StatementStep}
+use Rattle.language.proofs.list_loops.ParameterLists.{parameter_list}
+use Rattle.unambiguity_laws.proofs.Unique.{Unique, UniqueParts, StatementStep}
 use Rattle.unambiguity_laws.proofs.statements.StatementEnds.{end_behind, end_once}
+use Rattle.unambiguity_laws.proofs.statements.AsyncStatements.{async_apart}
+use Rattle.unambiguity_laws.proofs.statements.FunctionStatements.{AsyncDeclared, async_function, async_same}
 
 -- a token of this class and text
 abbrev token_as : TokenClass → List ℕ → Token
@@ -79,11 +82,11 @@ module _ (S : Type 0) (Next : S → Token → S → Type 0) (behind : S → Toke
       }
 
   -- the first token of a string by itself, and of one in a group
-  string_opens : {o : ℕ} {x : Tree} {s e m : S} {P : List Pair} {t : Token} → Spells ways S Next behind o directive_string x s e P → ReadBy S Next behind Goal.RegExp s t m → t.class ≡ StringLiteral
+  pub string_opens : {o : ℕ} {x : Tree} {s e m : S} {P : List Pair} {t : Token} → Spells ways S Next behind o directive_string x s e P → ReadBy S Next behind Goal.RegExp s t m → t.class ≡ StringLiteral
   string_opens {s = s} {e = e} {m = m} {t = t} d read = let q = quoted_form S Next behind det d in
       ap (λ (v : Token). v.class) (det.same Goal.RegExp s t q.sign m e read.next q.reads.next read.allowed (det.free Goal.RegExp s q.sign e q.reads.next (ap is_free q.reads.class))).0 ∙ q.reads.class
 
-  group_opens : {o : ℕ} {x : Tree} {s e m : S} {P : List Pair} {t : Token} → Spells ways S Next behind o (expr Grouped true Any) x s e P → ReadBy S Next behind Goal.RegExp s t m → t.class ≡ Punctuator
+  pub group_opens : {o : ℕ} {x : Tree} {s e m : S} {P : List Pair} {t : Token} → Spells ways S Next behind o (expr Grouped true Any) x s e P → ReadBy S Next behind Goal.RegExp s t m → t.class ≡ Punctuator
   unfolding spellings
   group_opens {s = s} {m = m} {t = t} (grouped {left = u} {m = k} p d q) read =
       let al : IsTrue (allows Goal.RegExp u.class u.text) = subst (λ c. IsTrue (allows Goal.RegExp c u.text)) (sym p.class) (subst (λ z. IsTrue (allows Goal.RegExp Punctuator z)) (sym p.text) refl) in
@@ -94,17 +97,36 @@ module _ (S : Type 0) (Next : S → Token → S → Type 0) (behind : S → Toke
   -- the expression that ends where the statement does
   ended_found : {b : Bool} {o : ℕ} {x : Tree} {s mid e : S} {P : List Pair} → height x ≤ h → Spells ways S Next behind o (expr Expression true Statement) x s mid P → Step S Next behind (end_behind (edge x)) mid e → Followed S Next behind b e →
       Found S Next behind o Expression true Statement s mid x P
-  ended_found {x = x} low d end fine = u.expressions.found low (λ c. cc) (λ c. cc) d (λ t m r. ended_stops S Next behind det alike Expression true (edge x) end fine r)
+  ended_found {x = x} low d end fine = u.expressions.found low (λ c. cc) (λ c. cc) d (end_stops S Next behind det alike Expression true x end fine)
 
   -- the edge of the one part
   edge_end : {ps : Parts} {x : Tree} {mid e : S} → ps ≡ part x none → Step S Next behind (end_behind (last_edge (bare_parts ps))) mid e → Step S Next behind (end_behind (edge x)) mid e
   edge_end {x = x} {mid} {e} parts p = subst (λ v. Step S Next behind (end_behind v) mid e) (ap (λ v. last_edge (bare_parts v)) parts ∙ edge_bare x) p
 
+  -- another statement doesn't begin with `async` and `function` on one line
+  other_apart : {p r : Bool} {a : Role} {o : ℕ} {n : Tree} {s m k e : S} {P : List Pair} {t v : Token} → OtherWay S Next behind det p r o a n s e P → Finished S Next behind n e → ReadBy S Next behind Goal.RegExp s t m → t.class ≡ IdentifierName → t.text ≡ codes "async" →
+      Reads S Next behind IdentifierName (codes "function") m v k → v.after_break ≡ false → ⊥
+  other_apart {k = k} {v = v} (a_label tree pl d) fine read class text word line =
+      let a = run_part S Next behind d in
+      let c = run_token S Next behind a.runs in
+      let w = (name_form S Next behind det a.spelled).0 in
+      let there = (by_name S Next behind det read w.sign a.mid w.reads).1 in
+      name_or_sign S Next behind det refl (subst (λ x. Reads S Next behind IdentifierName (codes "function") x v k) (sym there) word) c.reads
+  other_apart (evaluated tree pl plainly d) fine read class text word line =
+      let w = ends_of S Next behind det d in
+      async_apart S Next behind det read class text word line w.spelled (end_stops S Next behind det alike Expression true w.item (edge_end w.parts w.ends) fine)
+  other_apart {t = t} (a_directive first tree pl lit d) fine read class text word line =
+      let clash : IdentifierName ≡ StringLiteral = sym class ∙ string_opens S Next behind det (ends_of S Next behind det d).spelled read in
+      cc
+  other_apart {t = t} (a_group first tree pl lit d) fine read class text word line =
+      let clash : IdentifierName ≡ Punctuator = sym class ∙ group_opens S Next behind det (ends_of S Next behind det d).spelled read in
+      cc
+
   first_string : {b : Bool} {ps : Parts} {x : Tree} → ps ≡ part x none → first_is_string (bare_parts ps) ≡ b → is_string_literal (kind_of x) (text_of x) ≡ b
   first_string {x = x} parts q = sym (string_bare x) ∙ sym (ap (λ v. first_is_string (bare_parts v)) parts) ∙ q
 
   module _ {p d r : Bool} {a : Role} {o : ℕ} {n : Tree} {s m e : S} {P : List Pair} {t : Token} (stands : Stands a p d r) (low : height n ≤ suc h) (fine : Finished S Next behind n e) (read : ReadBy S Next behind Goal.RegExp s t m)
-      (begun : statement_start d r t ≡ an_expression) where
+      (begun : statement_start d r t ≡ an_expression) (no_later : (o : ℕ) (n : Tree) (e : S) (P : List Pair) → LaterWay S Next behind det r o a t m n s e P an_expression → ⊥) where
     by_label : {st en : ℕ} {ps : Parts} → n ≡ node LabeledStatement [] plain st en ps → Placed S Next behind a n s e → Runs ways S Next behind o (sub name ∷ tok Punctuator (codes ":") ∷ lay space ∷ sub (statement r) ∷ []) ps s e P →
         FoundWhere S Next behind (Finished S Next behind) o a s e n P
     by_label {st} {en} {ps} tree pl d1 =
@@ -139,7 +161,7 @@ module _ (S : Type 0) (Next : S → Token → S → Type 0) (behind : S → Toke
         let low1 : height x ≤ h = omega arith in
         let end = edge_end v.parts v.ends in
         subst (λ w. FoundWhere S Next behind (Finished S Next behind) o a s e w P) (sym is)
-        (expression_found S Next behind det alike stands read begun (ended_found low1 v.spelled end fine) (λ o' n' P' w k l c. no_end S Next behind det (Rattle.language.specs.Pieces.behind (edge x)) c end fine)
+        (expression_found S Next behind det alike stands read begun no_later (ended_found low1 v.spelled end fine) (λ o' n' P' w k l c. no_end S Next behind det (Rattle.language.specs.Pieces.behind (edge x)) c end fine)
         (λ q. first_string v.parts (plainly q)) end (λ e' p'. end_once S Next behind det end p') (subst (λ w. Placed S Next behind a w s e) is pl))
 
   module _ {r : Bool} {o : ℕ} {n : Tree} {s m e : S} {P : List Pair} {t : Token} (low : height n ≤ suc h) (fine : Finished S Next behind n e) (read : ReadBy S Next behind Goal.RegExp s t m) (begun : statement_start true r t ≡ an_expression) where
@@ -171,16 +193,31 @@ module _ (S : Type 0) (Next : S → Token → S → Type 0) (behind : S → Toke
         (string_group_found S Next behind det alike read begun (ended_found low1 (group_expression S Next behind det v.spelled) end fine) (first_string v.parts lit) (group_opens S Next behind det v.spelled read) end
         (λ e' p'. end_once S Next behind det end p') (subst (λ w. Placed S Next behind (opening r) w s e) is pl))
 
-  pub expression_statement : StatementStep S Next behind det h an_expression
-  expression_statement = record { gives = λ {a} {p} {d} {r} {o} {n} {s} {m} {e} {P} {t} stands low d1 fine read begun. of stands low fine read begun (other_way S Next behind det stands read begun d1) }
+  by_kind : {a : Role} {p d r : Bool} {o : ℕ} {n : Tree} {s m e : S} {P : List Pair} {t : Token} → Stands a p d r → height n ≤ suc h → Finished S Next behind n e → ReadBy S Next behind Goal.RegExp s t m → statement_start d r t ≡ an_expression →
+      ((o : ℕ) (n : Tree) (e : S) (P : List Pair) → LaterWay S Next behind det r o a t m n s e P an_expression → ⊥) → OtherWay S Next behind det p r o a n s e P → FoundWhere S Next behind (Finished S Next behind) o a s e n P
+  by_kind st low fine read begun no_later (a_label tree pl d1) = by_label st low fine read begun no_later tree pl d1
+  by_kind st low fine read begun no_later (evaluated tree pl plainly d1) = by_expression st low fine read begun no_later tree pl plainly d1
+  by_kind as_opening low fine read begun no_later (a_directive first tree pl lit d1) = by_directive low fine read begun tree pl lit d1
+  by_kind as_statement low fine read begun no_later (a_directive first tree pl lit d1) = absurd (false≢true first)
+  by_kind as_item low fine read begun no_later (a_directive first tree pl lit d1) = absurd (false≢true first)
+  by_kind as_opening low fine read begun no_later (a_group first tree pl lit d1) = by_group low fine read begun tree pl lit d1
+  by_kind as_statement low fine read begun no_later (a_group first tree pl lit d1) = absurd (false≢true first)
+  by_kind as_item low fine read begun no_later (a_group first tree pl lit d1) = absurd (false≢true first)
+
+  -- a label, an expression, a directive, or an async function
+  pub expression_statement : UniqueParts S Next behind det h parameter_list → StatementStep S Next behind det h an_expression
+  expression_statement parameters = record { gives = λ {a} {p} {d} {r} {o} {n} {s} {m} {e} {P} {t} stands low d1 fine read begun. of stands low fine read begun d1 (viewed S Next behind det stands read d1) begun }
     where
-      of : {a : Role} {p d r : Bool} {o : ℕ} {n : Tree} {s m e : S} {P : List Pair} {t : Token} → Stands a p d r → height n ≤ suc h → Finished S Next behind n e → ReadBy S Next behind Goal.RegExp s t m → statement_start d r t ≡ an_expression →
-          OtherWay S Next behind det p r o a n s e P → FoundWhere S Next behind (Finished S Next behind) o a s e n P
-      of st low fine read begun (a_label tree pl d1) = by_label st low fine read begun tree pl d1
-      of st low fine read begun (evaluated tree pl plainly d1) = by_expression st low fine read begun tree pl plainly d1
-      of as_opening low fine read begun (a_directive first tree pl lit d1) = by_directive low fine read begun tree pl lit d1
-      of as_statement low fine read begun (a_directive first tree pl lit d1) = absurd (false≢true first)
-      of as_item low fine read begun (a_directive first tree pl lit d1) = absurd (false≢true first)
-      of as_opening low fine read begun (a_group first tree pl lit d1) = by_group low fine read begun tree pl lit d1
-      of as_statement low fine read begun (a_group first tree pl lit d1) = absurd (false≢true first)
-      of as_item low fine read begun (a_group first tree pl lit d1) = absurd (false≢true first)
+      of : {a : Role} {p d r : Bool} {o : ℕ} {n : Tree} {s m e : S} {P : List Pair} {t : Token} {b : StatementStart} → Stands a p d r → height n ≤ suc h → Finished S Next behind n e → ReadBy S Next behind Goal.RegExp s t m → statement_start d r t ≡ an_expression →
+          Spells ways S Next behind o a n s e P → Viewed S Next behind det p r o a t m n s e P b → b ≡ an_expression → FoundWhere S Next behind (Finished S Next behind) o a s e n P
+      of st low fine read begun d1 (its_own own w) is = absurd (false≢true (sym (ap is_own is) ∙ own))
+      of st low fine read begun d1 (another k w) is = by_kind st low fine read begun (λ o n e P l. (let x = async_function S Next behind det l in other_apart w fine read x.class x.text x.reads x.line)) w
+      of {a} {p} {d} {r} {o} {n} {s} {m} {e} {P} {t} st low fine read begun d1 (later w) is = record { spelled = d1; only = λ o' e' n' P' d' fine'. same (viewed S Next behind det st read d') begun fine' }
+        where
+          first : AsyncDeclared S Next behind det t a o n s m e P
+          first = async_function S Next behind det (subst (λ c. LaterWay S Next behind det r o a t m n s e P c) is w)
+
+          same : {o' : ℕ} {n' : Tree} {e' : S} {P' : List Pair} {b' : StatementStart} → Viewed S Next behind det p r o' a t m n' s e' P' b' → b' ≡ an_expression → Finished S Next behind n' e' → (e' ≡ e) × (n' ≡ n) × (P' ≡ P)
+          same (its_own own w') is' fine' = absurd (false≢true (sym (ap is_own is') ∙ own))
+          same (another k w') is' fine' = absurd (other_apart w' fine' read first.class first.text first.reads first.line)
+          same {o'} {n'} {e'} {P'} (later w') is' fine' = async_same S Next behind det alike u parameters st low first (async_function S Next behind det (subst (λ c. LaterWay S Next behind det r o' a t m n' s e' P' c) is' w'))

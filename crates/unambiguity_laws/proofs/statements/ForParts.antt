@@ -18,10 +18,12 @@ use Rattle.language.specs.Statements.{whole}
 use Rattle.language.specs.Expressions.{given}
 use Rattle.language.specs.FirstPart.{others}
 use Rattle.language.specs.Token.{Token}
-use Rattle.language.specs.Promises.{IsDetermined}
+use Rattle.language.specs.Promises.{IsDetermined, Apart}
 use Rattle.language.specs.Grammar.{ways}
 use Rattle.language.specs.Derivation.{Reads, Spells, Runs}
 use Rattle.language.proofs.table.Begins.{goes_to, retell}
+use Rattle.language.proofs.climbing.NamesBehind.{apart_in, apart_of}
+use Rattle.language.proofs.climbing.Supers.{no_arrow_begins}
 use Rattle.language.proofs.list_loops.FirstPieces.{run_token, run_laid, run_never, run_the_part, run_the_gap, run_part}
 use Rattle.language.proofs.list_loops.CommaLists.{an_item}
 use Rattle.language.proofs.covers.CoverReadings.{name_or_sign}
@@ -276,10 +278,20 @@ module _ (S : Type 0) (Next : S → Token → S → Type 0) (behind : S → Toke
     pub reads : Reads S Next behind Punctuator (codes "(") s sign mid
     pub begins : LoopHead c hi o mid
 
-  left_head : {w : List ℕ} {y : Rank} {r : Bool} {o : ℕ} {ps : Parts} {s e : S} {P : List Pair} {c : Kind} → ((k : S) → Worded S Next behind det w k → HeadToken k c) → LeftLoop w y r o ps s e P → LoopHead c (parts_height ps) o s
-  left_head {ps = ps} tells l =
+  -- no other name stands before this word, behind which an expression stands
+  abbrev pub BeforeWord : List ℕ → Rank → Type 0
+  BeforeWord w y = (o : ℕ) (n : Tree) (k m e : S) (t : Token) (P : List Pair) → Reads S Next behind IdentifierName w k t m → Spells ways S Next behind o (expr y true Any) n m e P → Apart S Next behind k
+
+  pub before_in : {y : Rank} → BeforeWord (codes "in") y
+  before_in o n k m e t P r d = apart_in S Next behind det r
+
+  pub before_of : {y : Rank} → BeforeWord (codes "of") y
+  before_of o n k m e t P r d = apart_of S Next behind det r (no_arrow_begins S Next behind det d)
+
+  left_head : {w : List ℕ} {y : Rank} {r : Bool} {o : ℕ} {ps : Parts} {s e : S} {P : List Pair} {c : Kind} → BeforeWord w y → ((k : S) → Worded S Next behind det w k → HeadToken k c) → LeftLoop w y r o ps s e P → LoopHead c (parts_height ps) o s
+  left_head {ps = ps} before tells l =
       let high : parts_height ps ≡ parts_height (part l.left (part l.right (part l.body none))) = ap parts_height l.parts in
-      headed (omega arith) (of_left S Next behind det l.stands) (tells l.k (record { sign = l.t; mid = l.m; reads = l.word }))
+      headed (omega arith) (of_left S Next behind det l.stands) (tells l.k (record { sign = l.t; mid = l.m; reads = l.word; apart = before _ _ _ _ _ _ _ l.word l.spelled }))
 
   test_head : {r : Bool} {o : ℕ} {ps : Parts} {s e : S} {P : List Pair} → TestLoop r o ps s e P → LoopHead ForStatement (parts_height ps) o s
   test_head {r} {o} {ps} {s} {e} {P} l =
@@ -293,8 +305,8 @@ module _ (S : Type 0) (Next : S → Token → S → Type 0) (behind : S → Toke
 
   begins_by : (r : Bool) {o : ℕ} {c : Kind} {ps : Parts} {s e : S} {P : List Pair} → LoopKind c → Runs ways S Next behind o (goes_to Expression true Any (behind_own r c (bare_parts ps))) ps s e P → LoopBegins c (parts_height ps) o s
   begins_by r {ps} a_loop d = let a = run_token S Next behind (run_laid S Next behind d) in record { sign = a.sign; mid = a.mid; reads = a.reads; begins = test_head (test_loop ps a.runs) }
-  begins_by r {ps} a_loop_in d = let a = run_token S Next behind (run_laid S Next behind d) in record { sign = a.sign; mid = a.mid; reads = a.reads; begins = left_head (λ k w. in_token w) (left_loop {y = Expression} ps a.runs) }
-  begins_by r {ps} a_loop_of d = let a = run_token S Next behind (run_laid S Next behind d) in record { sign = a.sign; mid = a.mid; reads = a.reads; begins = left_head (λ k w. of_token w) (left_loop {y = Assignment} ps a.runs) }
+  begins_by r {ps} a_loop_in d = let a = run_token S Next behind (run_laid S Next behind d) in record { sign = a.sign; mid = a.mid; reads = a.reads; begins = left_head before_in (λ k w. in_token w) (left_loop {y = Expression} ps a.runs) }
+  begins_by r {ps} a_loop_of d = let a = run_token S Next behind (run_laid S Next behind d) in record { sign = a.sign; mid = a.mid; reads = a.reads; begins = left_head before_of (λ k w. of_token w) (left_loop {y = Assignment} ps a.runs) }
 
   pub loop_begins : (r : Bool) {o : ℕ} (c : Kind) {ps : Parts} {s e : S} {P : List Pair} → begins_as c ≡ a_for → Runs ways S Next behind o (goes_to Expression true Any (behind_own r c (bare_parts ps))) ps s e P → LoopBegins c (parts_height ps) o s
   loop_begins r c loop d = begins_by r (loop_kind c loop) d

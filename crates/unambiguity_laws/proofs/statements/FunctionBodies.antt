@@ -12,7 +12,7 @@ use Rattle.language.specs.declared.Start.TheVariants.{Any}
 use Rattle.language.specs.Vocabulary.{is_reserved}
 use Rattle.language.specs.Pieces.{name, body, space, lay, sp, put}
 use Rattle.language.specs.Token.{Token}
-use Rattle.language.specs.StatementStart.{a_function, a_class}
+use Rattle.language.specs.StatementStart.{a_class}
 use Rattle.language.specs.Promises.{IsDetermined, is_free, FoundAt, AbsentAt, FoundParts}
 use Rattle.language.specs.Following.{IsAlike}
 use Rattle.language.specs.Grammar.{ways}
@@ -22,13 +22,13 @@ use Rattle.language.proofs.list_loops.FirstPieces.{run_token, run_laid, run_part
 use Rattle.language.proofs.climbing.RightOperands.{one_part}
 use Rattle.language.proofs.climbing.Leaves.{name_form, name_found}
 use Rattle.language.proofs.list_loops.ParameterLists.{parameter_list, parameters_and_body, parameters_split, function_closer, bodied_found}
-use Rattle.language.proofs.climbing.FunctionsAndClasses.{function_behind, class_behind}
-use Rattle.language.proofs.table.StatementWays.{behind_function, behind_class}
+use Rattle.language.proofs.climbing.FunctionsAndClasses.{class_behind}
+use Rattle.language.proofs.table.StatementWays.{behind_class}
 use Rattle.language.proofs.table.OwnTokenWays.{own_sole}
 use Rattle.language.proofs.table.SoleWays.{Anyhow, found_where}
 use Rattle.language.proofs.statements.StatementFollow.{CannotGoOn, found_whole}
 use Rattle.language.proofs.covers.CoverReadings.{name_or_sign}
-use Rattle.language.proofs.statements.FunctionParts.{call_and_body, heritage_and_body, function_name, class_name, declared_function, declared_class, superclass_pieces, body_alone, class_body_begins, function_spaced, function_named, function_unnamed, class_spaced, class_named, class_unnamed, declared_function_spaced, declared_function_named, declared_class_spaced, declared_class_named, extending, not_extending, before_class_body}
+use Rattle.language.proofs.statements.FunctionParts.{call_and_body, heritage_and_body, function_name, class_name, declared_class, superclass_pieces, body_alone, class_body_begins, function_named, function_unnamed, class_spaced, class_named, class_unnamed, declared_class_spaced, declared_class_named, extending, not_extending, before_class_body}
 use Rattle.unambiguity_laws.proofs.Unique.{Unique, UniqueParts, StatementStep}
 use Rattle.unambiguity_laws.proofs.list_items.PieceRuns.{further, nothing_unique, laid_unique, token_unique, part_unique, sole_unique}
 
@@ -100,7 +100,7 @@ module _ (S : Type 0) (Next : S → Token → S → Type 0) (behind : S → Toke
 
   -- a class declaration
   pub class_statement : StatementStep S Next behind det h a_class
-  class_statement = record { gives = λ stands low d fine read begun. sole_unique S Next behind det (own_sole S Next behind det stands read a_class begun refl (λ e. cc)) declared_class_unique low d fine }
+  class_statement = record { gives = λ stands low d fine read begun. sole_unique S Next behind det (own_sole S Next behind det stands read a_class begun refl (λ e. cc) (λ o n e P w. elim w [ ])) declared_class_unique low d fine }
 
   -- Where the parameters are the only ones.
   module _ (parameters : UniqueParts S Next behind det h parameter_list) where
@@ -121,8 +121,8 @@ module _ (S : Type 0) (Next : S → Token → S → Type 0) (behind : S → Toke
     pub call_unique : UniqueParts S Next behind det h call_and_body
     call_unique = token_unique S Next behind det Div refl bodied_unique
 
-    -- behind `function`
-    function_name_unique : UniqueParts S Next behind det h function_name
+    -- behind `function`: a name or none
+    pub function_name_unique : UniqueParts S Next behind det h function_name
     function_name_unique = record { gives = λ {o} {s} {e} {ps} {P} low d. of ps low d }
       where
         of : {o : ℕ} {s e : S} {P : List Pair} (ps : Parts) → parts_height ps ≤ h → Runs ways S Next behind o (function_name ps) ps s e P → FoundParts S Next behind o function_name s e ps P
@@ -131,22 +131,3 @@ module _ (S : Type 0) (Next : S → Token → S → Type 0) (behind : S → Toke
         of (gap ps) low d =
             let v = run_token S Next behind (run_the_gap S Next behind d) in
             further S Next behind det (function_unnamed S Next behind det (record { nothing = λ o' e' n' P' p. name_or_sign S Next behind det refl (name_form S Next behind det p).0.reads v.reads })) call_unique low d
-
-    pub function_unique : UniqueParts S Next behind det h function_behind
-    function_unique = record { gives = λ low d. further S Next behind det (function_spaced S Next behind det) function_name_unique low d }
-
-    declared_name_unique : UniqueParts S Next behind det h declared_function
-    declared_name_unique = record { gives = λ {o} {s} {e} {ps} {P} low d. of ps low d }
-      where
-        of : {o : ℕ} {s e : S} {P : List Pair} (ps : Parts) → parts_height ps ≤ h → Runs ways S Next behind o (declared_function ps) ps s e P → FoundParts S Next behind o declared_function s e ps P
-        of none low d = absurd (run_never S Next behind d)
-        of (part n ps) low d = further S Next behind det (declared_function_named S Next behind det (name_unique S Next behind det (run_the_part S Next behind d).spelled)) call_unique low d
-        of (gap ps) low d = absurd (run_never S Next behind d)
-
-    -- behind `function` of a declaration
-    pub declared_function_unique : UniqueParts S Next behind det h (λ ps. goes_to Expression true Any (behind_function (bare_parts ps)))
-    declared_function_unique = record { gives = λ low d. further S Next behind det (declared_function_spaced S Next behind det) (laid_unique S Next behind det declared_name_unique) low d }
-
-    -- a function declaration
-    pub function_statement : StatementStep S Next behind det h a_function
-    function_statement = record { gives = λ stands low d fine read begun. sole_unique S Next behind det (own_sole S Next behind det stands read a_function begun refl (λ e. cc)) declared_function_unique low d fine }

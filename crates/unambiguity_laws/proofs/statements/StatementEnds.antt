@@ -38,7 +38,7 @@ abbrev pub end_behind : Edge → PieceOf Role
 end_behind x = ending (Rattle.language.specs.Pieces.behind x)
 
 -- some goal reads each token
-some_goal : (c : TokenClass) (w : List ℕ) → (g : Goal) × IsTrue (allows g c w)
+pub some_goal : (c : TokenClass) (w : List ℕ) → (g : Goal) × IsTrue (allows g c w)
 some_goal c w = go (is_regexp c) (is_template_part c) (begins_with (one_of "/") w) (begins_with (one_of "}") w)
   where
     go : (p q x y : Bool) → (g : Goal) × IsTrue (if x then beq p (reads_regexps g) else if y then beq q (reads_template_parts g) else true)

@@ -17,7 +17,7 @@ use Rattle.language.specs.Grammar.{ways}
 use Rattle.language.specs.Derivation.{Spells, Placed}
 use Rattle.language.proofs.table.Begins.{goes_to}
 use Rattle.language.proofs.table.StatementWays.{kind_as, behind_own, Stands}
-use Rattle.language.proofs.table.Beginnings.{text_as}
+use Rattle.language.proofs.table.Beginnings.{text_as, LaterWay}
 use Rattle.language.proofs.table.OwnTokenWays.{own_sole}
 use Rattle.language.proofs.table.SoleWays.{Sole, Anyhow, sole_found}
 use Rattle.language.proofs.table.ItemTokens.{item_starts}
@@ -52,11 +52,11 @@ module _ (S : Type 0) (Next : S → Token → S → Type 0) (behind : S → Toke
   statement_unique st = record { found = λ low d fine. u.statement st low d fine }
 
   -- from the pieces behind its first token to the statement
-  pub own_step : (b : StatementStart) → is_own b ≡ true → (b ≡ a_for → ⊥) → (FineParts : Parts → S → Type 0) → ((w : List ℕ) (st en : ℕ) (ps : Parts) (e : S) → Finished S Next behind (node (kind_as b) w plain st en ps) e → FineParts ps e) →
+  pub own_step : (b : StatementStart) → is_own b ≡ true → (b ≡ a_for → ⊥) → ((r : Bool) (o : ℕ) (a : Role) (t : Token) (m : S) (n : Tree) (s e : S) (P : List Pair) → LaterWay S Next behind det r o a t m n s e P b → ⊥) → (FineParts : Parts → S → Type 0) → ((w : List ℕ) (st en : ℕ) (ps : Parts) (e : S) → Finished S Next behind (node (kind_as b) w plain st en ps) e → FineParts ps e) →
       ((r : Bool) → UniqueRuns S Next behind det h FineParts (λ ps. goes_to Expression true Any (behind_own r (kind_as b) (bare_parts ps)))) → StatementStep S Next behind det h b
-  own_step b own no_loop FineParts turn runs = record {
+  own_step b own no_loop no_later FineParts turn runs = record {
     gives = λ {a} {p} {d} {r} {o} {n} {s} {m} {e} {P} {t} stands low d1 fine read begun.
-        let sole : Sole S Next behind det (Finished S Next behind) a (kind_as b) (text_as b t.text) plain s m (λ ps. goes_to Expression true Any (behind_own r (kind_as b) (bare_parts ps))) = own_sole S Next behind det stands read b begun own no_loop in
+        let sole : Sole S Next behind det (Finished S Next behind) a (kind_as b) (text_as b t.text) plain s m (λ ps. goes_to Expression true Any (behind_own r (kind_as b) (bare_parts ps))) = own_sole S Next behind det stands read b begun own no_loop (λ o n e P w. no_later r o a t m n s e P w) in
         let v = sole.told d1 fine in
         let tall : height n ≡ suc (parts_height v.parts) = ap height v.tree in
         let low' : parts_height v.parts ≤ h = omega arith in
@@ -67,28 +67,28 @@ module _ (S : Type 0) (Next : S → Token → S → Type 0) (behind : S → Toke
   }
 
   block_statement : StatementStep S Next behind det h a_block
-  block_statement = own_step a_block refl (λ e. cc) (λ ps e. Unit {0}) (λ w st en ps e f. tt) (λ r. block_items S Next behind det alike u r)
+  block_statement = own_step a_block refl (λ e. cc) (λ r o a t m n s e P w. elim w [ ]) (λ ps e. Unit {0}) (λ w st en ps e f. tt) (λ r. block_items S Next behind det alike u r)
 
   empty_statement : StatementStep S Next behind det h an_empty
-  empty_statement = own_step an_empty refl (λ e. cc) (λ ps e. Unit {0}) (λ w st en ps e f. tt) (λ r. runs_none S Next behind det)
+  empty_statement = own_step an_empty refl (λ e. cc) (λ r o a t m n s e P w. elim w [ ]) (λ ps e. Unit {0}) (λ w st en ps e f. tt) (λ r. runs_none S Next behind det)
 
   debugger_statement : StatementStep S Next behind det h a_debugger
-  debugger_statement = own_step a_debugger refl (λ e. cc) (λ ps e. Unit {0}) (λ w st en ps e f. tt) (λ r. runs_end S Next behind det (λ ps. Rattle.language.specs.Pieces.behind Closed))
+  debugger_statement = own_step a_debugger refl (λ e. cc) (λ r o a t m n s e P w. elim w [ ]) (λ ps e. Unit {0}) (λ w st en ps e f. tt) (λ r. runs_end S Next behind det (λ ps. Rattle.language.specs.Pieces.behind Closed))
 
   continue_statement : StatementStep S Next behind det h a_continue
-  continue_statement = own_step a_continue refl (λ e. cc) (λ ps e. Unit {0}) (λ w st en ps e f. tt)
+  continue_statement = own_step a_continue refl (λ e. cc) (λ r o a t m n s e P w. elim w [ ]) (λ ps e. Unit {0}) (λ w st en ps e f. tt)
       (λ r. runs_word S Next behind det (λ ps. Closed) (λ o n s e P d. name_expression S Next behind det d) (name_unique S Next behind det) (λ mid o m ps k e A P d runs fine. tt))
 
   break_statement : StatementStep S Next behind det h a_break
-  break_statement = own_step a_break refl (λ e. cc) (λ ps e. Unit {0}) (λ w st en ps e f. tt)
+  break_statement = own_step a_break refl (λ e. cc) (λ r o a t m n s e P w. elim w [ ]) (λ ps e. Unit {0}) (λ w st en ps e f. tt)
       (λ r. runs_word S Next behind det (λ ps. Closed) (λ o n s e P d. name_expression S Next behind det d) (name_unique S Next behind det) (λ mid o m ps k e A P d runs fine. tt))
 
   return_statement : StatementStep S Next behind det h a_return
-  return_statement = own_step a_return refl (λ e. cc) (λ ps e. Followed S Next behind false e) (λ w st en ps e f. f)
+  return_statement = own_step a_return refl (λ e. cc) (λ r o a t m n s e P w. elim w [ ]) (λ ps e. Followed S Next behind false e) (λ w st en ps e f. f)
       (λ r. runs_word S Next behind det last_edge (λ o n s e P d. d) whole_unique (λ mid. before_end S Next behind det alike (λ ps. false) Expression true))
 
   throw_statement : StatementStep S Next behind det h a_throw
-  throw_statement = own_step a_throw refl (λ e. cc) (λ ps e. Followed S Next behind false e) (λ w st en ps e f. f)
+  throw_statement = own_step a_throw refl (λ e. cc) (λ r o a t m n s e P w. elim w [ ]) (λ ps e. Followed S Next behind false e) (λ w st en ps e f. f)
       (λ r. runs_given S Next behind det last_edge (λ o n s e P d. d) whole_unique (λ mid. before_end S Next behind det alike (λ ps. false) Expression true))
 
   -- those that need no lists of their own

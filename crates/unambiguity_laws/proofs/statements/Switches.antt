@@ -214,7 +214,7 @@ module _ (S : Type 0) (Next : S → Token → S → Type 0) (behind : S → Toke
   pub switch_statement : StatementStep S Next behind det h a_switch
   switch_statement = record {
     gives = λ {a} {p} {d} {r} {o} {n} {s} {m} {e} {P} {t} stands low sp fine read begun.
-        let sole = own_sole S Next behind det {Fine = Finished S Next behind} stands read a_switch begun refl (λ z. cc) in
+        let sole = own_sole S Next behind det {Fine = Finished S Next behind} stands read a_switch begun refl (λ z. cc) (λ o n e P w. elim w [ ]) in
         let told = sole.told sp fine in
         let high : height n ≡ suc (parts_height told.parts) = ap height told.tree in
         let form = switch_form S Next behind det told.runs in

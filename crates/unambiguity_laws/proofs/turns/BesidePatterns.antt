@@ -137,5 +137,5 @@ module _ (S : Type 0) (Next : S → Token → S → Type 0) (behind : S → Toke
       of (literal bracketing begun tree there) = absurd (literal_unassigned S Next behind det bracketing refl begun tree (subst (λ z. Reads S Next behind Punctuator (codes "=") z t x) (sym there) eq))
       of (assigned {j = j} {m = m} {mid = mid} {p = p} {v = v} begun tree tk left eq' there) =
           let right : Stops S Next behind Assignment true v mid = subst (λ z. Stops S Next behind Assignment z v mid) (inside S Next behind det begun tk) (right_stops S Next behind det begun tree tk) in
-          let ended = whole_where_stops S Next behind det (core_spelled S Next behind begun.core) (subst (λ z. Stops S Next behind Assignment true z mid) (sym tree) right) begun.grows in
+          let ended = whole_where_stops S Next behind det (core_spelled S Next behind begun.core) (subst (λ z. Stops S Next behind Assignment true z mid) (sym tree) (record { before = right.before; apart = right.apart })) begun.grows in
           ap (simply b) (ended.tree ∙ tree) ∙ assigned_plain b (is_simple b (kind_of p)) (pattern_plain b (kind_of p) (pattern_is S Next behind left))

@@ -16,8 +16,9 @@ use Rattle.tree.specs.declared.kind.Pair.{Pair}
 use Rattle.tree.specs.Tree.{Tree, node, Parts, none, part, bare, bare_parts, plain}
 use Rattle.tree.specs.Uses.{is_lean, used_flags, has_text, implies}
 use Rattle.tree.proofs.Lean.{lean_flags, lean_text}
+use Rattle.language.specs.FirstPart.{lead as lead_kind}
 use Rattle.language.specs.Vocabulary.{is, takes, takes_number, precedence, Operator}
-use Rattle.language.specs.Pieces.{Role, expr, chain_part, word, PieceOf, tok, sub, is_tight}
+use Rattle.language.specs.Pieces.{Role, expr, chain_part, PieceOf, tok, sub, is_tight}
 use Rattle.language.specs.Token.{Token}
 use Rattle.language.specs.Edges.{edge, edge_as_written}
 use Rattle.language.specs.Expressions.{arguments}
@@ -34,7 +35,7 @@ use Rattle.language.proofs.climbing.NoContinuation.{stops_none, no_in, no_spine}
 use Rattle.language.proofs.table.RightEdges.{takes_less}
 use Rattle.language.proofs.climbing.Suffixes.{computed_flags, argument_pieces, arguments_fixed}
 use Rattle.language.proofs.climbing.BinaryTurns.{same_node}
-use Rattle.language.proofs.climbing.Chains.{optional_flags, Link, on_dot, on_index, on_call, on_name, on_brackets, on_arguments, LinkSymbol, select_symbol, index_symbol, call_symbol, chain_symbol}
+use Rattle.language.proofs.climbing.Chains.{property_pieces, optional_flags, Link, on_dot, on_index, on_call, on_name, on_brackets, on_arguments, LinkSymbol, select_symbol, index_symbol, call_symbol, chain_symbol}
 
 pub record SymbolOf (z : Operator) : Type 0 where
   pub symbol : Rank
@@ -119,7 +120,7 @@ module _ (S : Type 0) (Next : S → Token → S → Type 0) (behind : S → Toke
 
   pub link_runs : {o : ℕ} {f : Start} {k : Kind} {w : List ℕ} {g : Flags} {st en : ℕ} {m : Tree} {ps : Parts} {b : Role} {rest : List (PieceOf Role)} {z : Operator} {mid x to : S} {R : List Pair} {t : Token} → Linked f k g (bare_parts (part m ps)) b rest z →
       is_lean (bare (node k w g st en (part m ps))) ≡ true → Runs ways S Next behind o rest ps mid to R → ReadBy S Next behind Div mid t x → LinkRuns o k w g st en m ps x to R z
-  link_runs {g = g} (link_dot k o c fc b e) lean d r = record { K = MemberExpression; G = plain; pieces = λ ps. sub word ∷ []; link = on_dot; runs = (taken S Next behind det Div dotted refl refl (retell S Next behind e d) r).runs; tree = as_node lean k refl (member_flags g false false c o) }
+  link_runs {g = g} {ps = ps} (link_dot k o c fc b e) lean d r = record { K = MemberExpression; G = plain; pieces = property_pieces; link = on_dot; runs = (taken S Next behind det Div (dotted (lead_kind (bare_parts ps))) refl refl (retell S Next behind e d) r).runs; tree = as_node lean k refl (member_flags g false false c o) }
   link_runs {g = g} (link_index k o c fc b e) lean d r = record {
     K = MemberExpression;
     G = computed_flags;
@@ -136,12 +137,12 @@ module _ (S : Type 0) (Next : S → Token → S → Type 0) (behind : S → Toke
     runs = retell S Next behind (arguments_fixed Expression true f (bare_parts ps)) (taken S Next behind det Div (goes_to Expression true f (arguments (bare_parts ps))) refl refl (retell S Next behind e d) r).runs;
     tree = as_node lean k refl (call_flags g false o);
   }
-  link_runs {g = g} (link_chained_name k o c b e) lean d r = record {
+  link_runs {g = g} {ps = ps} (link_chained_name k o c b e) lean d r = record {
     K = MemberExpression;
     G = optional_flags false;
-    pieces = λ ps. sub word ∷ [];
+    pieces = property_pieces;
     link = on_name;
-    runs = (taken S Next behind det Div (tok Punctuator (codes "?.") ∷ sub word ∷ []) refl refl (retell S Next behind e d) r).runs;
+    runs = (taken S Next behind det Div (tok Punctuator (codes "?.") ∷ property_pieces ps) refl refl (retell S Next behind e d) r).runs;
     tree = as_node lean k refl (member_flags g false true c o);
   }
   link_runs {g = g} (link_chained_index k o c b e) lean d r = record {
@@ -174,7 +175,7 @@ module _ (S : Type 0) (Next : S → Token → S → Type 0) (behind : S → Toke
       of : Onward S Next behind det o s0 (expr y i f) n e P (expr y2 i2 f2) (node ChainExpression [] plain st en (part m none)) mid Q t → ⊥
       of (ended a b d p) =
           let other : edge_as_written (edge n) (behind e) ≡ Other = ap (λ v. edge_as_written (edge v) (behind e)) b in
-          stops_none S Next behind det y i t (edge_as_written (edge n) (behind e)) (stopped t x (subst (λ v. ReadBy S Next behind Div v t x) (sym d) r)) (record {
+          stops_none S Next behind det y i t (edge_as_written (edge n) (behind e)) (stopped.before t x (subst (λ v. ReadBy S Next behind Div v t x) (sym d) r)) (record {
             symbol = c;
             makes = ap (λ v. rank_made_by v t.after_break) op ∙ symbol_makes t.after_break is;
             taken = symbol_taken y is low;

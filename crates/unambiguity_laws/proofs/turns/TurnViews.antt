@@ -22,9 +22,9 @@ use Rattle.language.specs.Token.{Token}
 use Rattle.language.specs.Edges.{edge, last_edge, edge_as_written}
 use Rattle.language.specs.Expressions.{arguments}
 use Rattle.language.specs.Continuations.{operation, rank_made_by, holds, stops_at, stops}
-use Rattle.language.specs.Promises.{IsDetermined, ReadBy, Stops, later_parts, LaterStop, FoundLater}
+use Rattle.language.specs.Promises.{IsDetermined, ReadBy, Stops, later_parts, LaterStop, FoundLater, Apart}
 use Rattle.language.specs.Grammar.{ways}
-use Rattle.language.specs.Derivation.{Reads, Spells, direct, grouped, Runs, Placed, placed}
+use Rattle.language.specs.Derivation.{reserved_key, reserved_word, Reads, Spells, direct, grouped, Runs, Placed, placed}
 use Rattle.language.proofs.table.OperatorFacts.{binding}
 use Rattle.language.proofs.table.OperatorTokens.{op_reads, reads_comma}
 use Rattle.language.proofs.table.Begins.{retell, goes_to}
@@ -146,6 +146,8 @@ module _ (S : Type 0) (Next : S → Token → S → Type 0) (behind : S → Toke
   -- what is spelled begins with a token
   pub first_token : {o : ℕ} {a : Role} {n : Tree} {s e : S} {P : List Pair} → Spells ways S Next behind o a n s e P → First s
   first_token (grouped {left = left} {m = m} p d q) = record { token = left; mid = m; next = p.next }
+  first_token (reserved_key r k p) = record { token = _; mid = _; next = r.next }
+  first_token (reserved_word r k p) = record { token = _; mid = _; next = r.next }
   first_token (direct qs h (placed {t = t} {m = m} nx eq) d) = record { token = t; mid = m; next = nx }
 
   -- so there is a node from there to any place
@@ -233,16 +235,20 @@ module _ (S : Type 0) (Next : S → Token → S → Type 0) (behind : S → Toke
             later = part u ps;
             pairs = W;
             runs = subst (λ k. Runs ways S Next behind o' (later_parts i (part u ps)) (part u ps) k e W) same.1 (run_laid S Next behind comma.runs);
-            stopped = λ t1 x1 r1. subst (λ k. stops Expression i k (behind e) t1 ≡ true) (ap edge tree) (st t1 x1 r1);
+            stopped = record { before = λ t1 x1 r1. subst (λ k. stops Expression i k (behind e) t1 ≡ true) (ap edge tree) (st.before t1 x1 r1); apart = st.apart };
             low = omega arith;
           }
 
   -- an item before a comma, or the last one, can't go on
   item_stops : {o : ℕ} (i : Bool) {k e : S} {P : List Pair} (u : Tree) (rest : Parts) → Runs ways S Next behind o (comma_pieces i Any rest) rest k e P → LaterStop S Next behind i (part u rest) e → Stops S Next behind Assignment i u k
-  item_stops i {k = k} {e = e} u none d st = λ t m r.
+  item_stops i {k = k} {e = e} u none d st =
       let end = run_none S Next behind d in
-      stops_assignment i (edge_as_written (edge u) (behind k)) t (rank_made_by (operation t) t.after_break)
-      (subst (λ c. stops Expression i (edge u) (behind c) t ≡ true) (sym end.place) (st t m (subst (λ c. ReadBy S Next behind Div c t m) end.place r)))
+      record {
+        before = λ t m r.
+            stops_assignment i (edge_as_written (edge u) (behind k)) t (rank_made_by (operation t) t.after_break)
+            (subst (λ c. stops Expression i (edge u) (behind c) t ≡ true) (sym end.place) (st.before t m (subst (λ c. ReadBy S Next behind Div c t m) end.place r)));
+        apart = subst (Apart S Next behind) (sym end.place) st.apart;
+      }
   item_stops i u (gap rest) d st = absurd (run_never S Next behind d)
   item_stops i u (part n rest) d st = stops_before S Next behind det Assignment i u (run_token S Next behind d).reads refl refl (λ c b. refl)
 
@@ -254,7 +260,7 @@ module _ (S : Type 0) (Next : S → Token → S → Type 0) (behind : S → Toke
   -- behind the last item no comma is read
   no_comma : (i : Bool) (u : Tree) {e x : S} {t : Token} → (edge u ≡ Closed → ⊥) → LaterStop S Next behind i (part u none) e → ReadBy S Next behind Div e t x → operation t ≡ op_comma → ⊥
   no_comma i u {e} {x} {t} ends st r op =
-      let at : stops_at Expression i (edge_as_written (edge u) (behind e)) t (Some Expression) ≡ true = subst (λ v. stops_at Expression i (edge_as_written (edge u) (behind e)) t (rank_made_by v t.after_break) ≡ true) op (st t x r) in
+      let at : stops_at Expression i (edge_as_written (edge u) (behind e)) t (Some Expression) ≡ true = subst (λ v. stops_at Expression i (edge_as_written (edge u) (behind e)) t (rank_made_by v t.after_break) ≡ true) op (st.before t x r) in
       let sign = reads_comma S Next behind r.next op in
       refused (is t.text "in") i (holds (edge_as_written (edge u) (behind e)) Expression) (ap (λ w. is w "in") sign.text) (open_edge (edge u) (behind e) ends) at
 
@@ -271,15 +277,16 @@ module _ (S : Type 0) (Next : S → Token → S → Type 0) (behind : S → Toke
         parts_height rest ≤ h → LaterFound o i s
     more_found {k = k} {e = e} {qs = qs} {R = R} u none listing last d st low =
         let end = run_none S Next behind d in
-        let stopped : LaterStop S Next behind i (part u none) k = λ t x r. subst (λ c. stops Expression i (edge u) (behind c) t ≡ true) (sym end.place) (st t x (subst (λ c. ReadBy S Next behind Div c t x) end.place r)) in
+        let stopped : LaterStop S Next behind i (part u none) k = record { before = λ t x r. subst (λ c. stops Expression i (edge u) (behind c) t ≡ true) (sym end.place) (st.before t x (subst (λ c. ReadBy S Next behind Div c t x) end.place r)); apart = subst (Apart S Next behind) (sym end.place) st.apart } in
         record { parts = qs; to = k; pairs = R; found = listing_stop S Next behind det listing (λ t x r op. no_comma i u (λ c. listing.edge_is (last ∙ c)) stopped r op) }
     more_found u (gap rest) listing last d st low = absurd (run_never S Next behind d)
     more_found {s = s} {k = k} {e = e} {qs = qs} {R = R} {W = W} u (part n rest) listing last d st low =
         let comma = run_token S Next behind d in
         let p = run_the_part S Next behind (run_laid S Next behind comma.runs) in
         let read = read_comma comma.reads in
-        let found = each.found (omega arith) (λ c. cc) (λ c. cc) p.spelled (item_stops i n rest p.runs st) in
-        more_found {s = s} {k = p.mid} {e = e} {qs = push qs n} {R = R ++ p.one} {W = p.more} n rest (listing_more S Next behind det read.0 read.1 listing found) (last_push qs n) p.runs st (omega arith)
+        let on : LaterStop S Next behind i (part n rest) e = record { before = st.before; apart = st.apart } in
+        let found = each.found (omega arith) (λ c. cc) (λ c. cc) p.spelled (item_stops i n rest p.runs on) in
+        more_found {s = s} {k = p.mid} {e = e} {qs = push qs n} {R = R ++ p.one} {W = p.more} n rest (listing_more S Next behind det read.0 read.1 listing found) (last_push qs n) p.runs on (omega arith)
 
     pub later_found : {s e : S} {P : List Pair} (ps : Parts) → Runs ways S Next behind o (later_parts i ps) ps s e P → LaterStop S Next behind i ps e → parts_height ps ≤ h → LaterFound o i s
     later_found none d st low = absurd (run_never S Next behind d)

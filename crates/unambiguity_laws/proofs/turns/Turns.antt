@@ -4,7 +4,7 @@ use Rattle.std.specs.Prelude.{IsTrue}
 use Rattle.std.proofs.lemmas.Bool.{false≢true}
 use Rattle.tokens.specs.declared.token.Goal.TheVariants.{Div}
 use Rattle.tree.specs.declared.kind.Kind.{Kind}
-use Rattle.tree.specs.declared.kind.Kind.TheVariants.{Identifier, ConditionalExpression, UpdateExpression, MemberExpression, CallExpression, TaggedTemplateExpression, SequenceExpression}
+use Rattle.tree.specs.declared.kind.Kind.TheVariants.{ConditionalExpression, UpdateExpression, MemberExpression, CallExpression, TaggedTemplateExpression, SequenceExpression}
 use Rattle.language.specs.declared.Rank.{Rank}
 use Rattle.language.specs.declared.Rank.TheVariants.{Expression, Assignment, Conditional, LeftHandSide, Update, Call}
 use Rattle.language.specs.declared.Start.{Start}
@@ -21,7 +21,7 @@ use Rattle.language.specs.Following.{IsAlike}
 use Rattle.language.specs.Grammar.{ways}
 use Rattle.language.specs.Derivation.{Spells}
 use Rattle.language.proofs.table.Tails.{tails_conditional}
-use Rattle.language.proofs.climbing.Leaves.{word_form, word_found}
+use Rattle.unambiguity_laws.proofs.turns.SubscriptParts.{property_unique}
 use Rattle.language.proofs.climbing.OperatorLoop.{goes_on, grows_height, Climbing, stops_inside}
 use Rattle.language.proofs.climbing.BinaryTurns.{TwoSided, two_binds, two_powers, two_assigns, climb_two}
 use Rattle.language.proofs.climbing.Conditionals.{ask_on, climb_conditional}
@@ -107,14 +107,14 @@ module _ (S : Type 0) (Next : S → Token → S → Type 0) (behind : S → Toke
   dot_turn = record {
     gives = λ {o} {y} {i} {f} {n} {s0} {e} {P} {c} {m} {mid} {x} {Q} {t} no_test no_new low d st climb r is_op goes.
         let w = dot_on S Next behind det r is_op goes st (climb.leads o e n P d st) in
+        let below = w.low in
         let first = first_token S Next behind d in
-        let name = word_form S Next behind det w.spelled in
         record {
-          tree = node MemberExpression [] plain first.token.start (behind w.to).stop (part m (part (node Identifier name.text plain name.sign.start (behind w.to).stop none) none));
+          tree = node MemberExpression [] plain first.token.start (behind w.to).stop (part m (part w.name none));
           place = w.to;
-          pairs = Q ++ [];
+          pairs = Q ++ w.pairs;
           taller = omega arith;
-          climbed = record { symbol = suffix_rank c; climbing = climb_dot S Next behind det r is_op goes climb w.fits (word_found S Next behind det name.reads) (place_node S Next behind first) };
+          climbed = record { symbol = suffix_rank c; climbing = climb_dot S Next behind det r is_op goes climb w.fits (property_unique S Next behind det w.spelled) (place_node S Next behind first) };
         };
   }
 

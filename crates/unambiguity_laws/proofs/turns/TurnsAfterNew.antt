@@ -1,7 +1,7 @@
 -- A turn of the loop behind `new`: only a member or a template goes on there.
 use Rattle.std.proofs.Common.{◌≡◌, ℕ, Bool, true, false, cond, [], ◌++◌, refl, sym, ap, ◌∙◌, subst, arith}
 use Rattle.std.specs.Prelude.{IsTrue, Some, None}
-use Rattle.tree.specs.declared.kind.Kind.TheVariants.{Identifier, MemberExpression, TaggedTemplateExpression}
+use Rattle.tree.specs.declared.kind.Kind.TheVariants.{MemberExpression, TaggedTemplateExpression}
 use Rattle.language.specs.declared.Rank.{Rank}
 use Rattle.language.specs.declared.Rank.TheVariants.{Assignment, Update, New}
 use Rattle.tree.specs.Tree.{node, none, part, plain}
@@ -14,7 +14,7 @@ use Rattle.language.specs.Following.{IsAlike}
 use Rattle.language.proofs.table.OperatorFacts.{binding}
 use Rattle.language.proofs.table.OperatorTokens.{op_reads}
 use Rattle.language.proofs.table.RightEdges.{takes_less}
-use Rattle.language.proofs.climbing.Leaves.{word_form, word_found}
+use Rattle.unambiguity_laws.proofs.turns.SubscriptParts.{property_unique}
 use Rattle.language.proofs.climbing.OperatorLoop.{goes_on}
 use Rattle.language.proofs.climbing.Suffixes.{suffix_rank, some_same, computed_flags, dot_on}
 use Rattle.language.proofs.climbing.Calls.{index_on, tag_on}
@@ -69,14 +69,14 @@ module _ (S : Type 0) (Next : S → Token → S → Type 0) (behind : S → Toke
   dot_turn = record {
     gives = λ {o} {n} {s0} {e} {P} {c} {m} {mid} {x} {Q} {t} low d st climb r is_op goes.
         let w = dot_on S Next behind det r is_op goes st (climb.leads o e n P d st) in
+        let below = w.low in
         let first = first_token S Next behind (callee_new S Next behind d) in
-        let name = word_form S Next behind det w.spelled in
         record {
-          tree = node MemberExpression [] plain first.token.start (behind w.to).stop (part m (part (node Identifier name.text plain name.sign.start (behind w.to).stop none) none));
+          tree = node MemberExpression [] plain first.token.start (behind w.to).stop (part m (part w.name none));
           place = w.to;
-          pairs = Q ++ [];
+          pairs = Q ++ w.pairs;
           taller = omega arith;
-          climbed = record { symbol = suffix_rank c; climbing = callee_dot S Next behind det r is_op goes climb w.fits (word_found S Next behind det name.reads) (place_node S Next behind first) };
+          climbed = record { symbol = suffix_rank c; climbing = callee_dot S Next behind det r is_op goes climb w.fits (property_unique S Next behind det w.spelled) (place_node S Next behind first) };
         };
   }
 

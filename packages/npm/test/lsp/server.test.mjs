@@ -98,7 +98,7 @@ test('refusals, with hints', async () => {
   await withClient(async (client) => {
     let number = 0;
     const told = async (text) => { const it = (await client.open(uriOf(`refused${number++}.js`), text))[0]; return it && [it.severity, it.code, placed(it), it.message]; };
-    assert.deepEqual(await told('a;\nimport b from "c";'), [3, 'syntax', '1:7-1:8', "not checked: syntax error\nperhaps: 'import' makes this a module, and only scripts are read"]);
+    assert.deepEqual(await told('a;\nimport b from "c";'), [3, 'syntax', '1:7-1:8', "not checked: syntax error\nperhaps: 'import' makes this a module, which --module reads"]);
     assert.deepEqual(await told('x = [1 2]'), [1, 'syntax', '0:7-0:8', 'syntax error']);
     assert.deepEqual(await told('let a; let a;'), [1, 'E3', '0:11-0:12', `${texts.early[3]} (early error E3)`]);
     assert.equal((await told('"a\ud800b"'))[1], 'utf8');

@@ -9,7 +9,7 @@ use Rattle.commands.specs.Commands.{word_of}
 use Rattle.commands.specs.declared.command.Command.{Command}
 use Rattle.commands.specs.declared.command.Command.TheVariants.{Check, Tree, Fix, Unwrap, Cost, Verify, Same}
 use Rattle.commands.specs.declared.command.ReportForm.{ReportForm}
-use Rattle.command_line.specs.CommandLine.{HasFiles, HasForm, HasSecond, form_of, plain}
+use Rattle.command_line.specs.CommandLine.{HasFiles, HasForm, HasSecond, form_of, is_set, plain}
 use Rattle.command_line.proofs.line.line_of.Goals as goal
 use Rattle.command_line.proofs.line.line_of.Goals.{in-Check, in-Verify, in-Same, in-Tree}
 
@@ -125,4 +125,5 @@ returns c =
       sym (some_text found rows (codes "file") _ c.get_str.ensures rows_are) ∙ ap text_of c.unwrap-file.ensures,
       serves.1,
       serves.2,
+      (some_text found rows (codes "edition") _ c.get_str-edition.ensures rows_are, c.is_set-is_module.ensures ∙ ap (is_set (codes "module")) rows_are),
     )

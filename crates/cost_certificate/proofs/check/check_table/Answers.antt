@@ -91,7 +91,7 @@ returns-clause-bound c =
     let bound = c.least-bound.ensures ∙ c.check_node-judged.ensures.bounds Expression true Any ∙ ap (λ x. capped (bound_at T x script 1)) c.root.ensures in
     let none = total_last T n p c.least-bound.result false h c.in_default.is (omega (arith, count, c.if-judged-row_count.false, c.row_count.ensures)) c.in_default-fault.is (omega (arith, c.total.type_inv, c.total.ensures)) bound
     (ap (λ x. Rattle.cost_certificate.specs.Faults.is_above (Some x) c.least-bound.result) (sym c.total.ensures) ∙ sym c.is_above.ensures ∙ c.if-is_above.false) in
-    λ text m P same d. subst (λ k. k ≤ length P) (sym c.total-2.ensures) (Rattle.cost_certificate.proofs.Faultless.faultless_bound T n none text m P same d)
+    λ language text m P same d. subst (λ k. k ≤ length P) (sym c.total-2.ensures) (Rattle.cost_certificate.proofs.Faultless.faultless_bound T n none language text m P same d)
 
 pub returns-in-Some-clause-sound : goal.returns-in-Some-clause-sound
 returns-in-Some-clause-sound c = answer_sound (table_of c.args.table.now.rows.items c.args.table.now.total) c.args.program.now _ (returns-in-Some-clause-answer c)

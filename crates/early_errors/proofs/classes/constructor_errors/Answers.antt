@@ -1,17 +1,27 @@
-use Rattle.std.proofs.Common.{◌+◌, ◌<◌, ◌≤◌, subst, sym, ap, ◌∙◌}
+use Rattle.std.proofs.Common.{◌≡◌, refl, ◌+◌, ◌<◌, ◌≤◌, subst, ap, ◌∙◌}
 use Rattle.tree.specs.Node.{node_tree}
-use Rattle.tree.specs.Tree.{parts_of}
-use Rattle.early_errors.specs.declared.own.OwnErrors.TheVariants.{Constructors}
+use Rattle.tree.specs.declared.kind.Kind.TheVariants.{ClassBody}
+use Rattle.tree.specs.Tree.{Tree, node, kind_of, parts_of}
+use Rattle.name_tables.specs.BoundNames.{each_part}
+use Rattle.early_errors.specs.declared.EarlyError.TheVariants.{DuplicateConstructor}
+use Rattle.early_errors.specs.Classes.{after_first, constructor_places, duplicate_constructor}
+use Rattle.early_errors.specs.Early.{each}
+use Rattle.early_errors.specs.Owns.{own_of}
+use Rattle.early_errors.specs.declared.own.OwnErrors.TheVariants.{ClassElements}
 use Rattle.early_errors.specs.Walk.{after}
-use Rattle.early_errors.proofs.OwnErrorsByKind.{small_given}
 use Rattle.early_errors.proofs.Constructors.{to_come, one-comes, none-comes, all-came}
 use Rattle.early_errors.proofs.classes.constructor_errors.Goals as goal
 use Rattle.early_errors.proofs.classes.constructor_errors.Goals.{in-Some, in_default}
 
+body : (t : Tree) → own_of (kind_of t) ≡ ClassElements → each DuplicateConstructor (after_first (each_part constructor_places (parts_of t))) ≡ each DuplicateConstructor (duplicate_constructor t)
+unfolding duplicate_constructor
+body (node ClassBody w g s e ps) h = refl
+body (node _ w g s e ps) h = absurd (cc)
+
 pub returns : goal.returns
-returns c = λ z.
+returns c =
     all-came c.loop-index.found _ c.loop-index.has_one (parts_of (node_tree c.args.body)) c.loop-index.index (subst (λ n. n ≤ c.loop-index.index) c.part_count-index-end.ensures c.loop-index-test.false) c.loop-index.invariant
-    ∙ sym (ap (after c.args.found) (small_given Constructors z (node_tree c.args.body) c.requires))
+    ∙ ap (after c.args.found) (body (node_tree c.args.body) c.requires)
 
 pub loop-index-preserved : goal.loop-index-preserved
 loop-index-preserved c =

@@ -28,5 +28,5 @@ returns-in-Named c =
 pub returns-in-Nameless : goal.returns-in-Nameless
 returns-in-Nameless c =
     if_ok c.nameless_errors.result _ _
-    (λ r x ls h. nameless_found (round c.args.surroundings.around ls) (node_tree c.args.node) (look c.args.surroundings.vars.now) c.own_of-own.result c.args.found r (c.own_of-own.ensures ∙ ap own_of c.kind.ensures) (sym c.sort_of.ensures ∙ c.in-Nameless.is) (x ls))
+    (λ r x ls h. nameless_found (round c.args.surroundings.around ls) (node_tree c.args.node) (look c.args.surroundings.vars.now) c.own_of-own.result c.args.found r (c.own_of-own.ensures ∙ ap own_of c.kind.ensures) (sym c.sort_of.ensures ∙ c.in-Nameless.is) (x ls h))
     c.nameless_errors.ensures

@@ -15,8 +15,8 @@ parts_have_none-returns t c =
     let ps = parts_of (node_tree c.args.node) in
     c.loop-index.invariant ∙ free_past ps c.loop-index.index (part_count ps) (subst (λ n. n ≤ c.loop-index.index) c.part_count-index-end.ensures c.loop-index-test.false)
 
-pub has_none-returns-then-is_function : goal.has_none-returns-then-is_function
-has_none-returns-then-is_function t c = function_given (node_tree c.args.node) c.kind.result c.is_function.result c.kind.ensures c.is_function.ensures c.if-is_function.true
+pub has_none-returns-then-has_own_vars : goal.has_none-returns-then-has_own_vars
+has_none-returns-then-has_own_vars t c = function_given (node_tree c.args.node) c.kind.result c.has_own_vars.result c.kind.ensures c.has_own_vars.ensures c.if-has_own_vars.true
 
 pub has_none-returns : goal.has_none-returns
 has_none-returns t c = plain_given (node_tree c.args.node) c.is_var.result c.parts_have_none.result c.is_var.ensures c.if-is_var.false c.parts_have_none.ensures

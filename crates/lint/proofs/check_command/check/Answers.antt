@@ -1,13 +1,22 @@
-use Rattle.std.proofs.Common.{inl, inr}
-use Rattle.lint.proofs.CheckAnswers.{checks, lacking_told}
+use Rattle.std.proofs.Common.{◌∙◌, inl, refl}
+use Rattle.lint.specs.ReadScripts.{IsReading}
+use Rattle.lint.proofs.CheckAnswers.{check_answers, check_unread}
+use Rattle.lint.proofs.RunAnswers.{check_refuses}
 use Rattle.lint.proofs.check_command.check.Goals as goal
 
-pub returns-in-Err-clause-told : goal.returns-in-Err-clause-told
-returns-in-Err-clause-told g c = lacking_told _ c.in-Err.refused _ c.in-Err.ensures
+pub returns-in-Err-clause-answer : goal.returns-in-Err-clause-answer
+returns-in-Err-clause-answer g c = λ seen before. check_refuses _ c.args.form c.args.choice c.args.source.now _ c.in-Err.refused c.refusal.result _ seen c.requires.source c.refusal.ensures c.in-Err.ensures before
+
+pub returns-in-Err-read_script-clause-answer : goal.returns-in-Err-read_script-clause-answer
+returns-in-Err-read_script-clause-answer g c = λ seen before.
+    rw (c.refused_at.ensures.fault, c.refused_at.ensures.first)
+    (check_unread _ c.args.form c.args.choice c.args.source.now _ c.in-Ok.checked c.in-Err-read_script.fault _ _ seen c.requires.source c.in-Ok.ensures c.in-Err-read_script.ensures.refused c.refused_at.ensures.place before)
 
 pub returns-in-Ok-report-clause-answer : goal.returns-in-Ok-report-clause-answer
 returns-in-Ok-report-clause-answer g c =
-    checks _ c.args.form c.args.source.now c.args.parsed.now.program c.args.parsed.now.pairs.items _ c.in-Ok.settings c.in-Ok-report.answer _ c.in-Ok.ensures c.in-Ok-report.ensures.lines
+    let parsed = c.in-Ok-read_script.parsed in
+    let reading : IsReading c.in-Ok.checked.language c.args.source.now parsed.program parsed.pairs.items = record { accepted = c.in-Ok-read_script.ensures.accepted; only = c.in-Ok-read_script.ensures.only } in
+    check_answers _ c.args.form c.args.choice c.args.source.now parsed.program parsed.pairs.items _ c.in-Ok.checked c.in-Ok-report.answer _ c.requires.source reading c.in-Ok.ensures (c.in-Ok-report.ensures.lines c.in-Ok.checked.language)
 
 pub returns-clause-answer : goal.returns-clause-answer
-returns-clause-answer g c = inr (c.in-Ok.ensures.0, inl c.at_no_place.ensures)
+returns-clause-answer g c = λ seen before. rw c.at_no_place.ensures ((before.reader, before.writer, inl (before.of_failed ∙ c.in-Ok.ensures.0.0)), before.kept, refl)

@@ -16,9 +16,9 @@ pub plan-requires-clause-few : goal.plan-requires-clause-few
 plan-requires-clause-few c = subst (λ m. rows m script ≤ 16777216) (sym c.program.ensures) (script_few c.args.parsed.program c.args.parsed.pairs.items c.requires.script)
 
 pub returns-in-Ok-clause-answer : goal.returns-in-Ok-clause-answer
-returns-in-Ok-clause-answer c = λ text.
+returns-in-Ok-clause-answer c = λ language text reading.
     let plan : IsPlan c.args.parsed.program c.in-Ok.plan = subst (λ m. IsPlan m c.in-Ok.plan) c.program.ensures c.in-Ok.ensures in
-    planned text c.args.parsed.program c.args.parsed.pairs.items c.args.parsed c.in-Ok.plan c.requires.script plan
+    planned language text c.args.parsed.program c.args.parsed.pairs.items c.args.parsed c.in-Ok.plan reading plan
 
 pub returns-in-Ok-clause-writable : goal.returns-in-Ok-clause-writable
 returns-in-Ok-clause-writable c =

@@ -1,6 +1,6 @@
 use Rattle.std.proofs.Common.{◌≡◌, sym, subst, string_bytes}
 use Rattle.std.proofs.lemmas.Str.{IsUtf8-string_bytes}
-use Rattle.language.specs.Claims.{Derives}
+use Rattle.language.specs.Languages.{DerivesIn}
 use Rattle.language.specs.Layout.{fixed_text}
 use Rattle.lint.proofs.FixAnswers.{fixes, is_planned}
 use Rattle.lint.proofs.PlannedScripts.{script_derived}
@@ -15,11 +15,11 @@ returns-clause-laid c =
     let is = c.requires.script in
     let same = c.program-program.ensures in
     subst (λ m. string_bytes c.in_ok-text.text ≡ fixed_text m) same
-    (c.in_ok-text.ensures.fixed is.text c.args.parsed.now.pairs.items (subst (λ m. Derives is.text m c.args.parsed.now.pairs.items) (sym same) is.derived)
+    (c.in_ok-text.ensures.fixed is.language is.text c.args.parsed.now.pairs.items (subst (λ m. DerivesIn is.language is.text m c.args.parsed.now.pairs.items) (sym same) is.derived)
     (is_planned c.program-program.result.now _ c.in_ok-wraps.ensures))
 
 pub returns-clause-fixed : goal.returns-clause-fixed
 returns-clause-fixed c =
     let n = c.args.parsed.now.program in
     let laid : string_bytes c.in_ok-text.text ≡ fixed_text n = returns-clause-laid c in
-    λ text accepted. fixes text _ n c.args.parsed.now.pairs.items (IsUtf8-string_bytes c.in_ok-text.text) accepted laid
+    λ language text accepted. fixes language text _ n c.args.parsed.now.pairs.items (IsUtf8-string_bytes c.in_ok-text.text) accepted laid

@@ -2,7 +2,7 @@ use Rattle.std.proofs.Common.{◌∙◌, ℕ, List, ap, refl, subst, sym, length
 use Rattle.std.specs.Str.{IsUtf8}
 use Rattle.tree.specs.declared.kind.Pair.{Pair}
 use Rattle.tree.specs.Tree.{Tree, SameTree}
-use Rattle.language.specs.Claims.{WithinLimits}
+use Rattle.recursive_descent.specs.Limits.{WithinLimitsIn}
 use Rattle.unwrapping.specs.Keeps.{Keeps}
 use Rattle.lint.proofs.unwrap.is_same_script.Goals as goal
 
@@ -17,7 +17,7 @@ returns-in-Ok-keeps-clause-spells c held =
       again = again;
       pairs = pairs;
       source = subst IsUtf8 c.in-Ok.ensures.ok.0 c.in-Ok-parse.ensures.source.0;
-      derived = subst (λ (t : List ℕ). WithinLimits t again pairs) c.in-Ok.ensures.ok.0 c.in-Ok-parse.ensures.derived;
+      derived = subst (λ (t : List ℕ). WithinLimitsIn c.args.original.language t again pairs) c.in-Ok.ensures.ok.0 c.in-Ok-parse.ensures.derived;
       kept = subst (λ (t : List ℕ). Keeps text n P t again pairs) c.in-Ok.ensures.ok.0
           (subst (λ (m : Tree). Keeps text n P c.in-Ok.source m pairs) c.program-2.ensures
           (subst (λ (ps : List Pair). Keeps text n P c.in-Ok.source c.program-2.result.now ps) c.grouping_pairs-2.ensures (c.in-Ok-keeps.ensures held n P c.requires)));

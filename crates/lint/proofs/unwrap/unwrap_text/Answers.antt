@@ -4,8 +4,8 @@ use Rattle.lint.proofs.Unwrapping.{is_unwrapped}
 use Rattle.lint.proofs.unwrap.unwrap_text.Goals as goal
 
 pub returns-in-Ok-made_or_own-clause-unwrapped : goal.returns-in-Ok-made_or_own-clause-unwrapped
-returns-in-Ok-made_or_own-clause-unwrapped c = subst (Unwraps c.args.source.now) (sym c.in-Ok-made_or_own.ensures) c.in-Ok-unwrap_unless_fewest.ensures.unwrapped
+returns-in-Ok-made_or_own-clause-unwrapped c = subst (Unwraps c.args.language c.args.source.now) (sym c.in-Ok-made_or_own.ensures) c.in-Ok-unwrap_unless_fewest.ensures.unwrapped
 
 pub returns-in-Ok-made_or_own-clause-stable : goal.returns-in-Ok-made_or_own-clause-stable
 returns-in-Ok-made_or_own-clause-stable c =
-    is_unwrapped c.args.source.now (string_bytes c.in-Ok-made_or_own.text) (subst (Unwraps c.args.source.now) (sym c.in-Ok-made_or_own.ensures) c.in-Ok-unwrap_unless_fewest.ensures.unwrapped)
+    is_unwrapped c.args.language c.args.source.now (string_bytes c.in-Ok-made_or_own.text) (subst (Unwraps c.args.language c.args.source.now) (sym c.in-Ok-made_or_own.ensures) c.in-Ok-unwrap_unless_fewest.ensures.unwrapped)

@@ -3,4 +3,4 @@ use Rattle.location_laws.proofs.Bound.{scope_names_apart}
 use Rattle.location_laws.proofs.laws.bindings_are_in_order.Goals as goal
 
 pub returns : goal.returns
-returns c = λ text n P u d s a. scope_names_apart (AtName text) (name_wide text) n (derived_ordered text n P u d) a
+returns c = λ language text n P u d s a. scope_names_apart (AtName text) (name_wide text) n (derived_ordered language text n P u d) a

@@ -3,4 +3,4 @@ use Rattle.location_laws.proofs.References.{script_refs}
 use Rattle.location_laws.proofs.laws.references_are_in_order.Goals as goal
 
 pub returns : goal.returns
-returns c = λ text n P u d. script_refs (AtName text) (name_wide text) n (derived_ordered text n P u d)
+returns c = λ language text n P u d. script_refs (AtName text) (name_wide text) n (derived_ordered language text n P u d)

@@ -5,4 +5,4 @@ use Rattle.location_laws.proofs.ScopeOrder.{places_stand, places_count}
 use Rattle.location_laws.proofs.laws.scopes_are_in_order.Goals as goal
 
 pub returns : goal.returns
-returns c = λ text n P u d. (sym (places_count n outside 0), (places_stand (AtName text) n (derived_ordered text n P u d) outside.role).1)
+returns c = λ language text n P u d. (sym (places_count n outside 0), (places_stand (AtName text) n (derived_ordered language text n P u d) outside.role).1)

@@ -11,4 +11,4 @@ returns c =
     let n = c.args.program.now in
     let P = c.args.pairs.now in
     let few = derived_few n P c.requires in
-    total_of n c.in_ok-weights.weights.total c.number.result c.in_ok-weights.ensures.total (derived_least c.requires.text n P c.requires.derived) few c.number.ensures
+    total_of n c.in_ok-weights.weights.total c.number.result c.in_ok-weights.ensures.total (derived_least c.requires.language c.requires.text n P c.requires.derived) few c.number.ensures

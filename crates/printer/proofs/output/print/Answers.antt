@@ -19,17 +19,17 @@ pub returns-then-has_failed-clause-laid : goal.returns-then-has_failed-clause-la
 returns-then-has_failed-clause-laid g c k = failed_written _ _ _ _ (layout (wrapped_by c.args.wraps.now.flags.items) c.args.program.now script 1 0) c.requires.ready (sym c.has_failed.ensures ∙ c.if-has_failed.true) (c.print_whole.ensures.laid k)
 
 pub returns-then-has_failed-clause-fixed : goal.returns-then-has_failed-clause-fixed
-returns-then-has_failed-clause-fixed g c text pairs derived planned =
+returns-then-has_failed-clause-fixed g c language text pairs derived planned =
     subst (λ t. IsWritten t (Err WriteFailed) (g.W.Sink.taken c.args.writer.now) (g.W.Sink.taken c.print_whole.new.out) (g.W.Sink.failed c.print_whole.new.out)) (planned_layout c.args.wraps.now.flags.items c.args.program.now planned)
-    (returns-then-has_failed-clause-laid g c (planned_fits c.args.wraps.now.flags.items c.args.program.now planned text pairs derived))
+    (returns-then-has_failed-clause-laid g c (planned_fits c.args.wraps.now.flags.items c.args.program.now planned language text pairs derived))
 
 pub returns-clause-laid : goal.returns-clause-laid
 returns-clause-laid g c k = whole_written _ _ _ _ (layout (wrapped_by c.args.wraps.now.flags.items) c.args.program.now script 1 0) c.requires.ready (sym c.has_failed.ensures ∙ c.if-has_failed.false) (c.print_whole.ensures.laid k)
 
 pub returns-clause-fixed : goal.returns-clause-fixed
-returns-clause-fixed g c text pairs derived planned =
+returns-clause-fixed g c language text pairs derived planned =
     subst (λ t. IsWritten t (Ok tt) (g.W.Sink.taken c.args.writer.now) (g.W.Sink.taken c.print_whole.new.out) (g.W.Sink.failed c.print_whole.new.out)) (planned_layout c.args.wraps.now.flags.items c.args.program.now planned)
-    (returns-clause-laid g c (planned_fits c.args.wraps.now.flags.items c.args.program.now planned text pairs derived))
+    (returns-clause-laid g c (planned_fits c.args.wraps.now.flags.items c.args.program.now planned language text pairs derived))
 
 pub returns-then-has_failed-clause-some : goal.returns-then-has_failed-clause-some
 returns-then-has_failed-clause-some g c = let p = c.print_whole.ensures.adds in (p.text, failed_written _ _ _ _ p.text c.requires.ready (sym c.has_failed.ensures ∙ c.if-has_failed.true) p.puts)

@@ -1,24 +1,69 @@
-use Rattle.std.proofs.Common.{◌≡◌, ◌∙◌, length, rules}
+use Rattle.std.proofs.Common.{◌≡◌, Ok, Err, sym, ◌∙◌, length, rules, subst}
 use Rattle.std.proofs.lemmas.List.Elements.{filter_from_retain}
+use Rattle.source_text.specs.Source.{IsPlace}
 use Rattle.tree.specs.Tree.{program_tree}
+use Rattle.language.proofs.texts.StartPlaces.{starting_place}
+use Rattle.token_cursor.specs.SourceText.{SourceText}
 use Rattle.recursive_descent.specs.Soundness.{groups, grouping}
+use Rattle.recursive_descent.specs.Scripts.{program_text}
+use Rattle.token_cursor.specs.Refusals.{IsRefusal}
+use Rattle.recursive_descent.proofs.reading.ReadRefusals.{passed_on}
 use Rattle.recursive_descent.proofs.sound_statements.Scripts.{parsed}
-use Rattle.recursive_descent.proofs.complete_statements.ScriptGiven.{script_refused, script_read}
+use Rattle.recursive_descent.proofs.complete_statements.ScriptGiven.{ItemsComplete, script_refused, script_read}
+use Rattle.recursive_descent.proofs.complete_statements.WholeItems.{WholeItems, script_items, script_complete, module_items, module_complete}
 use Rattle.recursive_descent.specs.declared.script.Script.{Script}
 use Rattle.recursive_descent.proofs.script.read.Goals as goal
+use Rattle.recursive_descent.proofs.script.read.Goals.{in-Module+in_ok-items-in-Module, in-Base+in_ok-items-in-Base}
 
 pub returns-clause-derived : goal.returns-clause-derived
 returns-clause-derived c =
-    let kept : c.retain.new.self.items ≡ grouping c.statements.new.self.pairs.items = filter_from_retain _ groups (λ p x b q h. search rules) _ _ _ c.retain.ensures.filtered in
-    parsed c.args.source.now c.in_ok-items.items c.in_ok-program.program c.text.ensures.utf8 c.new.ensures.text c.new.ensures.last c.new.ensures.none c.new-2.ensures.items c.in_ok-items.ensures.derived c.statements.ensures.text c.in_ok-items.ensures.ended kept (c.in_ok-program.ensures.built ∙ (λ i. program_tree (c.into_parts.ensures i) (record { start = 0; end = length (c.text.ensures.value i) }))) c.in_ok-items.ensures.low
-
-pub returns-in_err-items-clause-complete : goal.returns-in_err-items-clause-complete
-returns-in_err-items-clause-complete c =
-    script_refused c.new.result c.statements.new.self.cursor c.new-2.result.items c.statements.new.self.pairs.items c.args.source.now c.new.ensures.text c.new.ensures.last (λ n P (script : Script). (script.program ≡ n) × (script.pairs.items ≡ P)) c.from_residual.result c.in_err-items.field-0.0 c.new.ensures.none
-    c.from_residual.ensures.1 c.in_err-items.ensures.complete
+    let text : SourceText = record { bytes = c.args.source.now; language = c.args.language } in
+    let s = c.new.result in
+    let kept : c.retain.new.self.items ≡ grouping c.match-language.parser.pairs.items = filter_from_retain _ groups (λ p x b q h. search rules) _ _ _ c.retain.ensures.filtered in
+    let whole : WholeItems text s c.match-language.parser.cursor c.new-2.result.items c.match-language.parser.pairs.items c.match-language.items = elim c.match-language.branch [
+      | in-Module+in_ok-items-in-Module w ↦
+          let items = w.in_ok-items-in-Module.ensures in
+          rw (w.parser-is, w.items-is) (module_items text s w.module_items.new.self.cursor c.new-2.result.items w.module_items.new.self.pairs.items c.new.ensures.text w.in-Module.is w.in_ok-items-in-Module.items items.text items.derived items.ended items.low)
+      | in-Base+in_ok-items-in-Base w ↦
+          let items = w.in_ok-items-in-Base.ensures in
+          rw (w.parser-is, w.items-is) (script_items text s w.statements.new.self.cursor c.new-2.result.items w.statements.new.self.pairs.items c.new.ensures.text w.in-Base.is w.in_ok-items-in-Base.items items.text items.derived items.ended items.low items.own)
+    ] in
+    let begins : IsPlace c.args.source.now s.last.stop = subst (λ m. IsPlace c.args.source.now m.stop) (sym c.new.ensures.last) (starting_place c.args.language c.args.source.now c.text.ensures.utf8) in
+    parsed text c.match-language.items c.in_ok-program.program c.text.ensures.utf8 c.new.ensures.text c.new.ensures.last begins c.new.ensures.none c.new-2.ensures.items whole.derived whole.same whole.ended whole.own kept
+    (c.in_ok-program.ensures.built ∙ (λ i. program_tree (program_text c.args.language) (c.into_parts.ensures i) (record { start = 0; end = length (c.text.ensures.value i) }))) whole.low
 
 pub returns-clause-complete : goal.returns-clause-complete
 returns-clause-complete c =
-    let kept : c.retain.new.self.items ≡ grouping c.statements.new.self.pairs.items = filter_from_retain _ groups (λ p x b q h. search rules) _ _ _ c.retain.ensures.filtered in
-    script_read c.new.result c.statements.new.self.cursor c.new-2.result.items c.statements.new.self.pairs.items c.args.source.now c.new.ensures.text c.new.ensures.last c.in_ok-items.items c.in_ok-program.program c.retain.new.self.items c.text.ensures.utf8 c.new-2.ensures.items kept
-    (c.in_ok-program.ensures.built ∙ (λ i. program_tree (c.into_parts.ensures i) (record { start = 0; end = length (c.text.ensures.value i) }))) c.in_ok-items.ensures.complete
+    let text : SourceText = record { bytes = c.args.source.now; language = c.args.language } in
+    let s = c.new.result in
+    let kept : c.retain.new.self.items ≡ grouping c.match-language.parser.pairs.items = filter_from_retain _ groups (λ p x b q h. search rules) _ _ _ c.retain.ensures.filtered in
+    let begins : IsPlace c.args.source.now s.last.stop = subst (λ m. IsPlace c.args.source.now m.stop) (sym c.new.ensures.last) (starting_place c.args.language c.args.source.now c.text.ensures.utf8) in
+    let complete : ItemsComplete s c.match-language.parser.cursor c.new-2.result.items c.match-language.parser.pairs.items text c.new.ensures.text c.new.ensures.last (Ok c.match-language.items) = elim c.match-language.branch [
+      | in-Module+in_ok-items-in-Module w ↦ rw (w.parser-is, w.items-is) (module_complete text s w.module_items.new.self.cursor c.new-2.result.items w.module_items.new.self.pairs.items c.new.ensures.text w.in-Module.is c.new.ensures.last (Ok w.in_ok-items-in-Module.items) w.in_ok-items-in-Module.ensures.complete)
+      | in-Base+in_ok-items-in-Base w ↦ rw (w.parser-is, w.items-is) (script_complete text s w.statements.new.self.cursor c.new-2.result.items w.statements.new.self.pairs.items c.new.ensures.text w.in-Base.is c.new.ensures.last (Ok w.in_ok-items-in-Base.items) w.in_ok-items-in-Base.ensures.complete)
+    ] in
+    script_read s c.match-language.parser.cursor c.new-2.result.items c.match-language.parser.pairs.items text c.new.ensures.text c.new.ensures.last c.match-language.items c.in_ok-program.program c.retain.new.self.items c.text.ensures.utf8 begins c.new-2.ensures.items kept
+    (c.in_ok-program.ensures.built ∙ (λ i. program_tree (program_text c.args.language) (c.into_parts.ensures i) (record { start = 0; end = length (c.text.ensures.value i) }))) complete
+
+pub returns-in_err-items-in-Module-clause-complete : goal.returns-in_err-items-in-Module-clause-complete
+returns-in_err-items-in-Module-clause-complete c =
+    let text : SourceText = record { bytes = c.args.source.now; language = c.args.language } in
+    let s = c.new.result in
+    let e = c.module_items.new.self in
+    let fault = c.in_err-items-in-Module.field-0.0 in
+    script_refused s e.cursor c.new-2.result.items e.pairs.items text c.new.ensures.text c.new.ensures.last (λ n P (script : Script). (script.program ≡ n) × (script.pairs.items ≡ P)) c.from_residual.result fault c.new.ensures.none c.from_residual.ensures.1
+    (module_complete text s e.cursor c.new-2.result.items e.pairs.items c.new.ensures.text c.in-Module.is c.new.ensures.last (Err fault) c.in_err-items-in-Module.ensures.complete)
+
+pub returns-in_err-items-in-Base : goal.returns-in_err-items-in-Base
+returns-in_err-items-in-Base c =
+    let text : SourceText = record { bytes = c.args.source.now; language = c.args.language } in
+    let s = c.new.result in
+    let e = c.statements.new.self in
+    let fault = c.in_err-items-in-Base.field-0.0 in
+    record {
+      source = search rules;
+      derived = search rules;
+      complete = script_refused s e.cursor c.new-2.result.items e.pairs.items text c.new.ensures.text c.new.ensures.last (λ n P (script : Script). (script.program ≡ n) × (script.pairs.items ≡ P)) c.from_residual-in_err-items-in-Base.result fault c.new.ensures.none c.from_residual-in_err-items-in-Base.ensures.1
+          (script_complete text s e.cursor c.new-2.result.items e.pairs.items c.new.ensures.text c.in-Base.is c.new.ensures.last (Err fault) c.in_err-items-in-Base.ensures.complete);
+      refused = passed_on (IsRefusal text) c.from_residual-in_err-items-in-Base.result fault c.from_residual-in_err-items-in-Base.ensures.1 (subst (λ x. IsRefusal x fault) (c.in_err-items-in-Base.ensures.text ∙ c.new.ensures.text) c.in_err-items-in-Base.ensures.refused);
+    }

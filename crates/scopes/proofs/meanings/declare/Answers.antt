@@ -1,4 +1,4 @@
-use Rattle.std.proofs.Common.{◌≡◌, [], ◌∷◌, ◌++◌, Some, sym, ap, ◌∙◌, cond, false}
+use Rattle.std.proofs.Common.{◌≡◌, [], ◌∷◌, ◌++◌, Some, sym, ap, ◌∙◌, cond, true, false}
 use Rattle.std.specs.Prelude.{is_some}
 use Rattle.std.specs.Str.{bytes_eq}
 use Rattle.std.proofs.lemmas.List.{map-append, length-map}
@@ -6,22 +6,37 @@ use Rattle.name_tables.specs.Tables.{value_at, undone, saved_name, saved_value}
 use Rattle.name_tables.proofs.Undone.{kept-turn, undone-agrees}
 use Rattle.scopes.specs.Bindings.{has_name}
 use Rattle.scopes.specs.Found.{here_or_outer, index_of, nearest}
-use Rattle.scopes.specs.Shown.{all_shown, declared_shown, is_of, shown}
-use Rattle.scopes.proofs.Nearest.{is_of-here, meant-further_out, one-more, added-stands, added-new}
+use Rattle.scopes.specs.Shown.{all_shown, declared_shown, exported_at, is_of, shown}
+use Rattle.scopes.proofs.Nearest.{is_of-here, meant-further_out, one-more, meant-exported, exported-there, added-exported, added-same, added-new}
 use Rattle.scopes.proofs.meanings.declare.Goals as goal
 
--- a name that is declared here already
-pub returns-then-is_of-clause-bindings : goal.returns-then-is_of-clause-bindings
-returns-then-is_of-clause-bindings c = λ fs m b.
+-- a name that is declared here already, and exported now
+pub returns-then-declared-clause-bindings : goal.returns-then-declared-clause-bindings
+returns-then-declared-clause-bindings c = λ fs m b.
     let bs = all_shown c.args.bindings.now.items in
     let w = c.args.declared.name.now in
-    sym (added-stands fs bs (declared_shown c.args.declared) (sym (is_of-here c.args.number w bs fs b) ∙ ap (λ o. is_of o c.args.number) (sym (c.in_ok-before.ensures.value ∙ m w)) ∙ sym c.is_of.ensures ∙ c.if-is_of.true))
+    let here : has_name w bs ≡ true = sym (is_of-here c.args.number w bs fs b) ∙ ap (λ o. is_of o c.args.number) (sym (c.in_ok-before.ensures.value ∙ m w)) ∙ sym c.is_of.ensures ∙ c.if-is_of.true in
+    c.export_binding.ensures ∙ ap (λ o. exported_at o bs) (c.in_ok-before.ensures.value ∙ m w) ∙ exported-there c.args.number w bs fs here
+    ∙ sym (added-exported fs bs (declared_shown c.args.declared) here c.if-declared.true)
 
-pub returns-then-is_of-clause-meanings : goal.returns-then-is_of-clause-meanings
-returns-then-is_of-clause-meanings c = λ fs m b w. c.in_ok-before.ensures.same w ∙ m w
+pub returns-then-declared-clause-meanings : goal.returns-then-declared-clause-meanings
+returns-then-declared-clause-meanings c = λ fs m b. meant-exported (value_at c.save.new.self) c.args.number _ (all_shown c.args.bindings.now.items) _ fs c.export_binding.ensures (λ w. c.in_ok-before.ensures.same w ∙ m w)
 
-pub returns-then-is_of-clause-kept : goal.returns-then-is_of-clause-kept
-returns-then-is_of-clause-kept c = undone-agrees saved_name saved_value (value_at c.save.new.self) (value_at c.args.meanings.now) c.args.saved.now.items c.in_ok-before.ensures.same
+pub returns-then-declared-clause-kept : goal.returns-then-declared-clause-kept
+returns-then-declared-clause-kept c = undone-agrees saved_name saved_value (value_at c.save.new.self) (value_at c.args.meanings.now) c.args.saved.now.items c.in_ok-before.ensures.same
+
+-- the same without an export
+pub returns-else-declared-clause-bindings : goal.returns-else-declared-clause-bindings
+returns-else-declared-clause-bindings c = λ fs m b.
+    let bs = all_shown c.args.bindings.now.items in
+    let w = c.args.declared.name.now in
+    sym (added-same fs bs (declared_shown c.args.declared) (sym (is_of-here c.args.number w bs fs b) ∙ ap (λ o. is_of o c.args.number) (sym (c.in_ok-before.ensures.value ∙ m w)) ∙ sym c.is_of.ensures ∙ c.if-is_of.true) c.if-declared.false)
+
+pub returns-else-declared-clause-meanings : goal.returns-else-declared-clause-meanings
+returns-else-declared-clause-meanings c = λ fs m b w. c.in_ok-before.ensures.same w ∙ m w
+
+pub returns-else-declared-clause-kept : goal.returns-else-declared-clause-kept
+returns-else-declared-clause-kept c = undone-agrees saved_name saved_value (value_at c.save.new.self) (value_at c.args.meanings.now) c.args.saved.now.items c.in_ok-before.ensures.same
 
 pub returns-clause-bindings : goal.returns-clause-bindings
 returns-clause-bindings c = λ fs m b.

@@ -10,5 +10,5 @@ use Rattle.scopes.proofs.names.push_parameters.Goals as goal
 pub returns : goal.returns
 returns c =
     on_ok c.push_parameters.result
-    (retold-parameters made_of (record { kind = Param; settled = false }) c.push_parameters.new.names.items c.args.names.now.items (parts_drop c.args.from (parts_of (node_tree c.args.function))))
+    (retold-parameters made_of (record { kind = Param; settled = false; exported = false }) c.push_parameters.new.names.items c.args.names.now.items (parts_drop c.args.from (parts_of (node_tree c.args.function))))
     c.push_parameters.ensures

@@ -1,9 +1,9 @@
 use Rattle.std.proofs.Common.{◌≡◌, ◌∙◌, sym, ap}
 use Rattle.tree.specs.Node.{node_tree}
 use Rattle.tree.specs.Tree.{Tree}
-use Rattle.language.specs.Vocabulary.{is_super}
+use Rattle.language.specs.Vocabulary.{is_super, is_private}
 use Rattle.spelling_table.specs.declared.position.Position.{Position}
-use Rattle.spellings.specs.Others.{leaf_if, is_chunk, name_outline, key_outline, quoted_outline, quasi_outline, spread_outline, property_outline, pattern_outline, class_body_outline}
+use Rattle.spellings.specs.Others.{leaf_if, is_chunk, name_outline, key_outline, quoted_outline, quasi_outline, spread_outline, pattern_outline, class_body_outline}
 use Rattle.spellings.specs.Statements.{block_outline, body_outline, script_outline}
 use Rattle.spellings.specs.Positions.{outline_at}
 use Rattle.spellings.proofs.nodes.production_at.Goals as goal
@@ -76,7 +76,7 @@ pub returns-in-Spread : goal.returns-in-Spread
 returns-in-Spread c = c.spread_production.ensures ∙ ap spread_outline c.kind-kind.ensures ∙ there (node_tree c.args.node) _ _ c.in-Spread.is
 
 pub returns-in-Property : goal.returns-in-Property
-returns-in-Property c = c.property_production.ensures ∙ (λ i. property_outline (c.kind-kind.ensures i) (c.flags.ensures i)) ∙ there (node_tree c.args.node) _ _ c.in-Property.is
+returns-in-Property c = c.property_production.ensures ∙ there (node_tree c.args.node) _ _ c.in-Property.is
 
 pub returns-in-Pattern : goal.returns-in-Pattern
 returns-in-Pattern c = c.pattern_production.ensures ∙ ap (pattern_outline c.in-Pattern.binds) c.kind-kind.ensures ∙ there (node_tree c.args.node) _ _ c.in-Pattern.is
@@ -91,4 +91,16 @@ pub returns-in-ClassBody : goal.returns-in-ClassBody
 returns-in-ClassBody c = c.class_body_production.ensures ∙ ap class_body_outline c.kind-kind.ensures ∙ there (node_tree c.args.node) _ _ c.in-ClassBody.is
 
 pub returns-in-Script : goal.returns-in-Script
-returns-in-Script c = c.script_production.ensures ∙ ap script_outline c.kind-kind.ensures ∙ there (node_tree c.args.node) _ _ c.in-Script.is
+returns-in-Script c = c.script_production.ensures ∙ (λ i. script_outline (c.kind-kind.ensures i) (c.text-in-Script.ensures i)) ∙ there (node_tree c.args.node) _ _ c.in-Script.is
+
+pub returns-in-PrivateName : goal.returns-in-PrivateName
+returns-in-PrivateName c = c.leaf_if-in-PrivateName.ensures ∙ ap leaf_if (c.is_private.ensures ∙ ap is_private c.kind-kind.ensures) ∙ there (node_tree c.args.node) _ _ c.in-PrivateName.is
+
+pub returns-in-ModuleItem : goal.returns-in-ModuleItem
+returns-in-ModuleItem c = c.module_item_production.ensures ∙ there (node_tree c.args.node) _ _ c.in-ModuleItem.is
+
+pub returns-in-Specifier : goal.returns-in-Specifier
+returns-in-Specifier c = c.specifier_production.ensures ∙ there (node_tree c.args.node) _ _ c.in-Specifier.is
+
+pub returns-in-DefaultItem : goal.returns-in-DefaultItem
+returns-in-DefaultItem c = c.default_item_production.ensures ∙ there (node_tree c.args.node) _ _ c.in-DefaultItem.is

@@ -1,4 +1,4 @@
-use Rattle.std.proofs.Common.{◌≡◌, ℕ, List, [], ◌∷◌, refl, sym, subst}
+use Rattle.std.proofs.Common.{ℕ, List, [], ◌∷◌, refl, sym, subst}
 use Rattle.source_text.specs.Source.{IsPlace}
 use Rattle.tokens.specs.Scanned.{Passed, IsCommentRest}
 use Rattle.unwrapping.specs.declared.comment.CommentRow.{CommentRow}

@@ -3,7 +3,7 @@ use Rattle.unwrapping.proofs.CompareSteps.{Compares}
 use Rattle.unwrapping.proofs.keeping.are_kept.Given as goal
 
 abbrev pub invariant-loop-left : goal.invariant-loop-left
-invariant-loop-left l = Compares l.source l.rows l.unwrapped l.others l.left
+invariant-loop-left l = Compares l.reading.start l.source l.reading.tokens.items l.again.start l.unwrapped l.again.tokens.items l.left
 
 abbrev pub decreases-loop-left : goal.decreases-loop-left
 decreases-loop-left l = row_count l.left

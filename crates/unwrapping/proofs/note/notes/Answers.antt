@@ -1,4 +1,4 @@
-use Rattle.std.proofs.Common.{◌+◌, ◌≤◌, List, [], ◌∷◌, take, sym, subst, append-nil, arith}
+use Rattle.std.proofs.Common.{◌+◌, List, [], ◌∷◌, take, sym, subst, append-nil, arith}
 use Rattle.tree.specs.Node.{node_tree}
 use Rattle.tree.specs.Flat.{post_order}
 use Rattle.unwrapping.specs.declared.note.Note.{Note}

@@ -1,4 +1,4 @@
-use Rattle.std.proofs.Common.{◌≡◌, ◌≤◌, ◌<◌, List, ◌∷◌, sym, subst, arith}
+use Rattle.std.proofs.Common.{◌≡◌, ◌≤◌, ◌<◌, sym, subst, arith}
 use Rattle.tokens.specs.Reading.{Reads}
 use Rattle.tokens.specs.Scanned.{token_of}
 use Rattle.tree.specs.Flat.{post_order}

@@ -1,9 +1,10 @@
 use Rattle.std.proofs.Common.{sym, ◌∙◌}
 use Rattle.std.proofs.lemmas.Bool.{OnTrue_at, false≢true}
+use Rattle.token_cursor.specs.SourceText.{behind_in}
 use Rattle.recursive_descent.specs.Follows.{NotNamed}
 use Rattle.recursive_descent.proofs.reading.ReadRefusals.{passed_on, asked, not_named}
 use Rattle.recursive_descent.proofs.parser.Parser.function_or_class_name.Goals as goal
-use Rattle.recursive_descent.proofs.parser.Parser.function_or_class_name.Goals.{in-FunctionDeclaration, in-Function, in-Method}
+use Rattle.recursive_descent.proofs.parser.Parser.function_or_class_name.Goals.{in-FunctionDeclaration, in_default, in-Method}
 
 pub returns-in_err-name-clause-unnamed : goal.returns-in_err-name-clause-unnamed
 returns-in_err-name-clause-unnamed c =
@@ -12,6 +13,6 @@ returns-in_err-name-clause-unnamed c =
     passed_on (NotNamed c.args.closure c.args.self.now.cursor c.args.high) _ c.in_err-name.field-0.0 c.from_residual.ensures.1
     (elim c.match-closure.branch [
       | in-FunctionDeclaration w ↦ refused (asked c.args.closure w.in-FunctionDeclaration.is) none
-      | in-Function w ↦ (let there = OnTrue_at (sym w.has_name-is ∙ c.if-has_name.true) w.sees_identifier-has_name.ensures.seen in absurd (none there.0 there.0 there.1.0 there.1.1))
+      | in_default w ↦ (let there = OnTrue_at (sym w.has_name-is ∙ c.if-has_name.true) w.sees_identifier-has_name.ensures.seen in absurd (none (behind_in c.args.self.now.cursor.text there.0) there.0 there.1.0 there.1.1))
       | in-Method w ↦ absurd (false≢true (sym w.has_name-is ∙ c.if-has_name.true))
     ])

@@ -12,4 +12,4 @@ invariant-empty l = record {
 }
 
 abbrev pub decreases-empty : goal.decreases-empty
-decreases-empty l = length l.self.cursor.text - l.self.cursor.last.stop
+decreases-empty l = length l.self.cursor.text.bytes - l.self.cursor.last.stop

@@ -2,7 +2,7 @@ use Rattle.std.proofs.Common.{sym, ◌∙◌}
 use Rattle.std.proofs.lemmas.Bool.{OnTrue_from, OnFalse_from}
 use Rattle.tokens.specs.declared.token.TokenClass.TheVariants.{Punctuator}
 use Rattle.tokens.specs.declared.token.Goal.TheVariants.{Div}
-use Rattle.token_cursor.proofs.TokensAhead.{sees, mark_missed}
+use Rattle.token_cursor.proofs.TokensAhead.{sees, mark_missed, mark_none}
 use Rattle.token_cursor.proofs.cursor.Cursor.sees_punctuator.Goals as goal
 
 pub returns-in-Some-clause-seen : goal.returns-in-Some-clause-seen
@@ -10,3 +10,6 @@ returns-in-Some-clause-seen c = OnTrue_from _ _ (λ h. sees _ Div Punctuator _ _
 
 pub returns-in-Some-clause-missed : goal.returns-in-Some-clause-missed
 returns-in-Some-clause-missed c = OnFalse_from _ _ (λ h. mark_missed _ _ _ _ c.in-Some.ensures.some (sym c.is_punctuator.ensures.is ∙ h))
+
+pub returns-in-None-clause-missed : goal.returns-in-None-clause-missed
+returns-in-None-clause-missed c = mark_none _ _ _ c.in-None.ensures.none

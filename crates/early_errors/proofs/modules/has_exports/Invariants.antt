@@ -1,0 +1,12 @@
+use Rattle.std.proofs.Common.{◌≡◌}
+use Rattle.tree.specs.Node.{node_tree}
+use Rattle.tree.specs.Tree.{parts_of, parts_drop}
+use Rattle.name_tables.specs.BoundNames.{each_part}
+use Rattle.early_errors.specs.Modules.{exported_names, locals}
+use Rattle.early_errors.proofs.modules.has_exports.Given as goal
+
+abbrev pub invariant-loop-index : goal.invariant-loop-index
+invariant-loop-index l = record {
+  names : each_part exported_names (parts_of (node_tree l.program)) ≡ each_part exported_names (parts_drop l.index (parts_of (node_tree l.program)));
+  locals : each_part locals (parts_of (node_tree l.program)) ≡ each_part locals (parts_drop l.index (parts_of (node_tree l.program)));
+}

@@ -1,0 +1,5 @@
+use Rattle.embedding_c.proofs.Telling.{tells_refusal}
+use Rattle.embedding_c.proofs.tell_answer.Goals as goal
+
+pub returns-in-Err : goal.returns-in-Err
+returns-in-Err c = tells_refusal c.args.command c.args.choice c.args.text.now c.args.second.now _ _ _ _ c.in-Err.ensures.answer c.tell_refusal.ensures
