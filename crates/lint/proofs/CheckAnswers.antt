@@ -29,11 +29,11 @@ use Rattle.commands.specs.Refused.{place_of}
 use Rattle.commands.specs.declared.language_choice.LanguageChoice.{LanguageChoice}
 use Rattle.lint.specs.declared.check_command.Checked.{Checked}
 use Rattle.lint.specs.Languages.{asked_language, language_of}
-use Rattle.lint.specs.Outputs.{Checks, Contradicts, IsExtra, IsOutput, IsSecond, IsView}
+use Rattle.lint.specs.Outputs.{Checks, IsExtra, IsOutput, IsSecond, IsView}
 use Rattle.lint.specs.ReadScripts.{IsReading, RefusesReading}
 use Rattle.lint.specs.Run.{IsSource, Refuses, Seen}
 use Rattle.lint.specs.Steps.{AnswersBytes, IsBefore, LacksLanguage, LacksSettings, ReadsLanguage, ReadsSettings, RefusesChecked, RefusesSettingsBy, ReportsLines, output_of, status_of}
-use Rattle.lint.proofs.RunAnswers.{script_read, script_refused}
+use Rattle.lint.proofs.RunAnswers.{none_failed, script_read, script_refused}
 
 -- the pairs that are extra by the wrapped nodes are all of the derivation but the innermost of each wrapped node
 pub are_extra : (language : Language) (text : List ℕ) (n : Tree) (P : List Pair) (wraps : List Bool) (spans : List Span) → IsUtf8 text → AreWraps n wraps
@@ -97,7 +97,7 @@ pub check_unread : (finds : View → List Report) (form : ReportForm) (choice : 
     → IsSource text → ReadsLanguage choice second (Ok checked) failed → RefusesReading checked.language text fault → place ≡ place_of text fault → IsBefore text second failed seen → Refuses finds (Check form) choice seen fault place
 check_unread finds form choice text second checked fault place failed seen source ((well, (other, is, utf8, are)), language_is) why at before =
     script_refused finds (Check form) choice text second checked.language fault place failed seen source why at before
-    (inr (other, subst (λ o. IsSecond (Check form) o other) (sym before.of_second) is, (checked.settings, are, language_is))) (inl well)
+    (inl (none_failed finds (Check form) choice text second failed seen before well, (other, subst (λ o. IsSecond (Check form) o other) (sym before.of_second) is, (checked.settings, are, language_is))))
 
 -- ---- the second file
 
@@ -141,10 +141,10 @@ contradicted choice given settings failed refused (well, (second, is, utf8, are)
 -- settings are refused of a text that is a script in the language that is asked for
 pub settings_refused : (choice : LanguageChoice) (text : List ℕ) (language : Language) (n : Tree) (P : List Pair) (of_settings refused : Refused) → language ≡ asked_language choice → IsReading language text n P → refused ≡ of_settings
     → RefusesChecked choice text of_settings refused
-settings_refused choice text language n P of_settings refused is reading same = inl (same, (n, P, subst (λ (l : Language). IsReading l text n P) is reading))
+settings_refused choice text language n P of_settings refused is reading same = inl (same, inr (n, P, subst (λ (l : Language). IsReading l text n P) is reading))
 
 -- else the text is
-pub text_refused : (choice : LanguageChoice) (text : List ℕ) (language : Language) (fault : Fault) (of_settings refused : Refused) → language ≡ asked_language choice → RefusesReading language text fault → refused.in_second ≡ false → refused.fault ≡ fault
+pub text_refused : (choice : LanguageChoice) (text : List ℕ) (language : Language) (fault : Fault) (of_settings refused : Refused) → of_settings.fault ≢ OutOfMemory → language ≡ asked_language choice → RefusesReading language text fault → refused.in_second ≡ false → refused.fault ≡ fault
     → (refused.line, refused.column) ≡ place_of text fault → RefusesChecked choice text of_settings refused
-text_refused choice text language fault of_settings refused is why first same place =
-    inr (first, subst (RefusesReading (asked_language choice) text) (sym same) (subst (λ (l : Language). RefusesReading l text fault) is why), place ∙ ap (place_of text) (sym same))
+text_refused choice text language fault of_settings refused other is why first same place =
+    inr (other, first, subst (RefusesReading (asked_language choice) text) (sym same) (subst (λ (l : Language). RefusesReading l text fault) is why), place ∙ ap (place_of text) (sym same))

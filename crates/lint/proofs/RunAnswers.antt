@@ -1,10 +1,10 @@
 -- From what was read to the answer of a run.
-use Rattle.std.proofs.Common.{◌≡◌, ◌≢◌, ◌<◌, ◌≤◌, ◌+◌, ℕ, List, length, arith, refl, ap, sym, subst, ◌∙◌, Bool, false, Some, None, Result, Ok, Err, inl, inr, ◌⊎◌}
+use Rattle.std.proofs.Common.{◌≡◌, ◌≢◌, ◌<◌, ◌≤◌, ◌+◌, ℕ, List, [], length, take, arith, refl, ap, sym, subst, ◌∙◌, Bool, false, Some, None, Result, Ok, Err, inl, inr, ◌⊎◌}
 use Rattle.std.proofs.lemmas.List.{length-take, take_all}
 use Rattle.std.specs.declared.option.Option.{Option}
 use Rattle.source_text.specs.Source.{max_bytes, IsRefusal}
 use Rattle.source_text.specs.declared.fault.Fault.{Fault}
-use Rattle.source_text.specs.declared.fault.Fault.TheVariants.{NotUtf8, TooLong, Syntax, TooDeep, Early, OutOfMemory, BadSettings, BadTable, WriteFailed, ReadFailed, UnwrapFailed, Usage}
+use Rattle.source_text.specs.declared.fault.Fault.TheVariants.{NotUtf8, TooLong, Syntax, TooDeep, Early, OutOfMemory, BadSettings, BadTable, ReadFailed, UnwrapFailed, Usage}
 use Rattle.commands.specs.declared.command.Command.{Command}
 use Rattle.commands.specs.declared.command.Command.TheVariants.{Check, Same}
 use Rattle.commands.specs.declared.command.ReportForm.{ReportForm}
@@ -18,9 +18,9 @@ use Rattle.rules.specs.Reports.{Report}
 use Rattle.rules.specs.Rules.{View}
 use Rattle.lint.specs.declared.answer.Answer.{Answer}
 use Rattle.lint.specs.Languages.{asked_language}
-use Rattle.lint.specs.Outputs.{IsLanguage, IsOutput, IsSecond}
+use Rattle.lint.specs.Outputs.{IsLanguage, IsSecond, IsSecondTo, second_limit}
 use Rattle.lint.specs.ReadScripts.{IsReading, RefusesReading}
-use Rattle.lint.specs.Run.{IsSource, IsGiven, IsTried, NoOtherFailed, ReadsScript, ReadsBoth, HasOutput, Seen, Refuses, RefusesIn}
+use Rattle.lint.specs.Run.{IsSource, IsGiven, IsTried, NoneFailed, SettingsUnread, SettingsRefused, ReadsScript, ReadsBoth, HasOutput, Seen, Refuses, RefusesIn}
 use Rattle.lint.specs.Steps.{IsRead, IsBefore, Answers, AnswersBytes, AnswersSame, LacksLanguage, RefusesChecked, output_of, status_of}
 
 -- where the bytes are no more than a text may have, they are all
@@ -49,6 +49,12 @@ script_read language given bytes n P read source reading = record {
   reading = reading;
 }
 
+-- a command can take as much of a second file as there is
+some_second : (limit : Option ℕ) (given : Option (List ℕ)) → (second : List ℕ) × IsSecondTo limit given second
+some_second None given = ([], refl)
+some_second (Some limit) None = ([], tt)
+some_second (Some limit) (Some bytes) = (take (limit + 1) bytes, refl)
+
 -- a command but `check` reads the language that is asked for
 own_language : (command : Command) (choice : LanguageChoice) (read : List ℕ) → ((form : ReportForm) → command ≢ Check form) → IsLanguage command choice read (asked_language choice)
 own_language (Check form) choice read other = absurd (other form refl)
@@ -58,34 +64,40 @@ module _ (finds : View → List Report) (command : Command) (choice : LanguageCh
   abbrev own : Language
   own = asked_language choice
 
-  -- the second reader has not failed, or the command is `check`
-  abbrev IsBeside : Bool → Type 0
-  IsBeside failed = (failed ≡ false) ⊎ ((form : ReportForm) × (command ≡ Check form))
+  -- where the second reader hasn't failed, no device has
+  pub none_failed : (failed : Bool) (seen : Seen) → IsBefore bytes second failed seen → failed ≡ false → NoneFailed seen
+  none_failed failed seen before well = (before.reader, before.of_failed ∙ well, before.writer)
 
-  beside : (failed : Bool) (seen : Seen) → IsBefore bytes second failed seen → IsBeside failed → NoOtherFailed command seen
-  beside failed seen before (inl well) = (before.reader, before.writer, inl (before.of_failed ∙ well))
-  beside failed seen before (inr check) = (before.reader, before.writer, inr check)
+  -- which devices may have failed before the text is read
+  tried_failed : (language : Language) (seen : Seen) → IsTried command choice seen language → NoneFailed seen ⊎ SettingsUnread command seen
+  tried_failed language seen (inl tried) = inl tried.0
+  tried_failed language seen (inr (inl unread, is)) = inr unread
+  tried_failed language seen (inr (inr refused, is)) = inl refused.1
+
+  -- a command but `check` reads the text in the language that is asked for
+  pub own_tried : (language : Language) (failed : Bool) (seen : Seen) → ((form : ReportForm) → command ≢ Check form) → language ≡ own → IsBefore bytes second failed seen → failed ≡ false → IsTried command choice seen language
+  own_tried language failed seen other is before well =
+      let read = some_second (second_limit command) seen.second in
+      inl (none_failed failed seen before well, (read.0, read.1, subst (λ l. IsLanguage command choice read.0 l) (sym is) (own_language command choice read.0 other)))
 
   -- bytes that are no source text are refused
   pub bytes_refused : (fault : Fault) (seen : Seen) → IsRefusal bytes fault → IsBefore bytes second false seen → Refuses finds command choice seen fault (0, 0)
   bytes_refused TooLong seen refused before =
       let found = more_given seen.given bytes before.read refused in
-      ((before.reader, before.of_failed, before.writer), before.kept, inl (found.0, found.1, (own, inl refl, found.2), refl))
+      (none_failed false seen before refl, before.kept, inl found, refl)
   bytes_refused (NotUtf8 at) seen refused before =
-      (beside false seen before (inl refl), before.kept, (bytes, all_read seen.given bytes before.read refused.0, (own, inl refl, refused), refl))
+      (none_failed false seen before refl, before.kept, (bytes, all_read seen.given bytes before.read refused.0, refused), refl)
   bytes_refused _ seen refused before = absurd refused
 
-  -- source text that is no script in a language that is tried is refused, at its place
+  -- source text that is no script in the language in which it is read is refused, at its place
   pub script_refused : (language : Language) (fault : Fault) (place : ℕ × ℕ) (failed : Bool) (seen : Seen) → IsSource bytes → RefusesReading language bytes fault → place ≡ place_of bytes fault → IsBefore bytes second failed seen
-      → IsTried command choice seen language → IsBeside failed → Refuses finds command choice seen fault place
-  script_refused language (Syntax at) place failed seen source refused is before tried other =
-      (beside failed seen before other, before.kept, (bytes, all_read seen.given bytes before.read source.1, (language, tried, (source, refused)), is))
-  script_refused language TooDeep place failed seen source refused is before tried other =
-      (beside failed seen before other, before.kept, (bytes, all_read seen.given bytes before.read source.1, (language, tried, (source, refused)), is))
-  script_refused language (Early number at) place failed seen source refused is before tried other =
-      (beside failed seen before other, before.kept, (bytes, all_read seen.given bytes before.read source.1, (language, tried, (source, refused)), is))
-  script_refused language OutOfMemory place failed seen source refused is before tried other = (beside failed seen before other, before.kept, is)
-  script_refused language _ place failed seen source refused is before tried other = absurd refused
+      → IsTried command choice seen language → Refuses finds command choice seen fault place
+  script_refused language (Syntax at) place failed seen source refused is before tried = (before.kept, (bytes, all_read seen.given bytes before.read source.1, source, (language, tried, refused), is))
+  script_refused language TooDeep place failed seen source refused is before tried = (before.kept, (bytes, all_read seen.given bytes before.read source.1, source, (language, tried, refused), is))
+  script_refused language (Early number at) place failed seen source refused is before tried =
+      (before.kept, (bytes, all_read seen.given bytes before.read source.1, source, (language, tried, refused), is))
+  script_refused language OutOfMemory place failed seen source refused is before tried = (tried_failed language seen tried, before.kept, is)
+  script_refused language _ place failed seen source refused is before tried = absurd refused
 
   -- what a script and its second file were read as
   both_read : (language : Language) (seen : Seen) (n : SyntaxTree) (P : List Pair) (failed : Bool) (read : List ℕ) → IsSource bytes → IsReading language bytes n P → IsBefore bytes second failed seen
@@ -102,7 +114,7 @@ module _ (finds : View → List Report) (command : Command) (choice : LanguageCh
   unfolding both_read script_read
   command_refused n P ReadFailed failed seen source reading answers before =
       (before.writer, before.kept, inr (before.reader, before.of_failed ∙ answers.0, answers.1, script_read own seen.given bytes n P before.read source reading), refl)
-  command_refused n P OutOfMemory failed seen source reading answers before = (beside failed seen before (inl answers), before.kept, refl)
+  command_refused n P OutOfMemory failed seen source reading answers before = (inl (none_failed failed seen before answers), before.kept, refl)
   command_refused n P (BadTable row why) failed seen source reading answers before =
       ((before.reader, before.of_failed ∙ answers.0, before.writer), before.kept, (both_read own seen n P failed answers.1.0 source reading before answers.1.1, answers.1.2), refl)
   command_refused n P UnwrapFailed failed seen source reading answers before =
@@ -110,7 +122,8 @@ module _ (finds : View → List Report) (command : Command) (choice : LanguageCh
   command_refused n P TooLong failed seen source reading answers before = (
     (before.reader, before.of_failed ∙ answers.0, before.writer),
     before.kept,
-    inr ((both_read own seen n P failed answers.1.0 source reading before answers.1.1, answers.1.2), refl),
+    inr (both_read own seen n P failed answers.1.0 source reading before answers.1.1, answers.1.2),
+    refl,
   )
   command_refused n P _ failed seen source reading answers before = absurd answers.1.2
 
@@ -145,17 +158,46 @@ module _ (finds : View → List Report) (command : Command) (choice : LanguageCh
 
 -- ---- `check`
 
+unlike_memory : (fault : Fault) (refused : Refused) → refused.fault ≡ fault → refused.fault ≡ OutOfMemory → fault ≢ OutOfMemory → ⊥
+unlike_memory fault refused is memory other = other (sym is ∙ memory)
+
 module _ (finds : View → List Report) (form : ReportForm) (choice : LanguageChoice) (bytes : List ℕ) (second : Option (List ℕ)) where
+  -- it has no settings, though memory was not refused
+  no_settings : (refused : Refused) (failed : Bool) (seen : Seen) → LacksLanguage choice second refused failed → refused.fault ≢ OutOfMemory → IsBefore bytes second failed seen
+      → SettingsUnread (Check form) seen ⊎ SettingsRefused (Check form) choice seen
+  no_settings refused failed seen (inl (inl unread)) other before = inl ((form, refl), before.reader, before.of_failed ∙ unread.0, before.writer)
+  no_settings refused failed seen (inl (inr (well, inl memory))) other before = absurd (other (ap (λ (r : Refused). r.fault) memory))
+  no_settings refused failed seen (inl (inr (well, inr (read, is, why)))) other before = inr (
+    (form, refl),
+    none_failed finds (Check form) choice bytes second failed seen before well,
+    (read, subst (λ o. IsSecond (Check form) o read) (sym before.of_second) is, ((refused.line, refused.column), inl why.2)),
+  )
+  no_settings refused failed seen (inr (well, is, (read, second_is, contradicts))) other before = inr (
+    (form, refl),
+    none_failed finds (Check form) choice bytes second failed seen before well,
+    (read, subst (λ o. IsSecond (Check form) o read) (sym before.of_second) second_is, ((0, 0), inr (refl, contradicts))),
+  )
+
+  -- memory was refused while they were read
+  no_memory_for : (refused : Refused) (failed : Bool) (seen : Seen) → refused.fault ≡ OutOfMemory → LacksLanguage choice second refused failed → IsBefore bytes second failed seen
+      → RefusesIn refused.in_second finds (Check form) choice seen refused.fault (refused.line, refused.column)
+  no_memory_for refused failed seen is (inl (inl unread)) before = absurd (unlike_memory ReadFailed refused (ap (λ (r : Refused). r.fault) unread.1) is (λ e. cc))
+  no_memory_for refused failed seen is (inl (inr (well, inl memory))) before =
+      subst (λ (r : Refused). RefusesIn r.in_second finds (Check form) choice seen r.fault (r.line, r.column)) (sym memory)
+      (inl (none_failed finds (Check form) choice bytes second failed seen before well), before.kept, refl)
+  no_memory_for refused failed seen is (inl (inr (well, inr (read, second_is, why)))) before = absurd (unlike_memory BadSettings refused why.0 is (λ e. cc))
+  no_memory_for refused failed seen is (inr (well, same, contradicts)) before = absurd (unlike_memory BadSettings refused (ap (λ (r : Refused). r.fault) same) is (λ e. cc))
+
   -- its settings are refused, of a script in the language that is asked for
   check_lacks : (n : SyntaxTree) (P : List Pair) (refused : Refused) (failed : Bool) (seen : Seen) → IsSource bytes → IsReading (asked_language choice) bytes n P
       → LacksLanguage choice second refused failed → IsBefore bytes second failed seen → RefusesIn refused.in_second finds (Check form) choice seen refused.fault (refused.line, refused.column)
-  unfolding both_read script_read beside
+  unfolding both_read script_read
   check_lacks n P refused failed seen source reading (inl (inl unread)) before =
       subst (λ (r : Refused). RefusesIn r.in_second finds (Check form) choice seen r.fault (r.line, r.column)) (sym unread.1)
       (before.writer, before.kept, inr (before.reader, before.of_failed ∙ unread.0, refl, script_read (asked_language choice) seen.given bytes n P before.read source reading), refl)
   check_lacks n P refused failed seen source reading (inl (inr (well, inl memory))) before =
       subst (λ (r : Refused). RefusesIn r.in_second finds (Check form) choice seen r.fault (r.line, r.column)) (sym memory)
-      ((before.reader, before.writer, inl (before.of_failed ∙ well)), before.kept, refl)
+      (inl (none_failed finds (Check form) choice bytes second failed seen before well), before.kept, refl)
   check_lacks n P refused failed seen source reading (inl (inr (well, inr other))) before =
       subst (λ (b : Bool). RefusesIn b finds (Check form) choice seen refused.fault (refused.line, refused.column)) (sym other.2.1)
       (subst (λ (f : Fault). Refuses finds (Check form) choice seen f (refused.line, refused.column)) (sym other.2.0) (
@@ -173,11 +215,14 @@ module _ (finds : View → List Report) (form : ReportForm) (choice : LanguageCh
   -- so it refuses its settings, or the text
   pub check_refuses : (of_settings refused : Refused) (failed : Bool) (seen : Seen) → IsSource bytes → RefusesChecked choice bytes of_settings refused → LacksLanguage choice second of_settings failed
       → IsBefore bytes second failed seen → RefusesIn refused.in_second finds (Check form) choice seen refused.fault (refused.line, refused.column)
-  check_refuses of_settings refused failed seen source (inl (same, (n, P, reading))) lacks before =
+  check_refuses of_settings refused failed seen source (inl (same, inl memory)) lacks before =
+      subst (λ (r : Refused). RefusesIn r.in_second finds (Check form) choice seen r.fault (r.line, r.column)) (sym same) (no_memory_for of_settings failed seen memory lacks before)
+  check_refuses of_settings refused failed seen source (inl (same, inr (n, P, reading))) lacks before =
       subst (λ (r : Refused). RefusesIn r.in_second finds (Check form) choice seen r.fault (r.line, r.column)) (sym same) (check_lacks n P of_settings failed seen source reading lacks before)
-  check_refuses of_settings refused failed seen source (inr (first, why, place)) lacks before =
+  check_refuses of_settings refused failed seen source (inr (other, first, why, place)) lacks before =
       subst (λ (b : Bool). RefusesIn b finds (Check form) choice seen refused.fault (refused.line, refused.column)) (sym first)
-      (script_refused finds (Check form) choice bytes second (asked_language choice) refused.fault (refused.line, refused.column) failed seen source why place before (inl refl) (inr (form, refl)))
+      (script_refused finds (Check form) choice bytes second (asked_language choice) refused.fault (refused.line, refused.column) failed seen source why place before
+      (inr (no_settings of_settings failed seen lacks other before, refl)))
 
 -- ---- `same`
 
@@ -191,7 +236,7 @@ module _ (finds : View → List Report) (choice : LanguageChoice) (bytes : List 
       (before.writer, before.kept, inr (before.reader, before.of_failed ∙ answers.0, refl, script_read (asked_language choice) seen.given bytes n P before.read source reading), refl)
   same_refused n P refused failed seen source reading (inr (well, inl memory)) before =
       subst (λ (r : Refused). RefusesIn r.in_second finds Same choice seen r.fault (r.line, r.column)) (sym memory)
-      ((before.reader, before.writer, inl (before.of_failed ∙ well)), before.kept, refl)
+      (inl (none_failed finds Same choice bytes second failed seen before well), before.kept, refl)
   same_refused n P refused failed seen source reading (inr (well, inr other)) before =
       subst (λ (b : Bool). RefusesIn b finds Same choice seen refused.fault (refused.line, refused.column)) (sym other.2.0) (
         refl,

@@ -47,11 +47,9 @@ pub record Seen : Type 0 where
 abbrev pub NoneFailed : Seen → Type 0
 NoneFailed seen = (seen.reader_failed ≡ false) × (seen.second_failed ≡ false) × (seen.writer_failed ≡ false)
 
--- no device has failed, but perhaps the second reader of `check`: its settings are read before the script, and that they can't be read is told of a text
--- alone that is a script
-abbrev pub NoOtherFailed : Command → Seen → Type 0
-NoOtherFailed command seen =
-    (seen.reader_failed ≡ false) × (seen.writer_failed ≡ false) × ((seen.second_failed ≡ false) ⊎ ((form : ReportForm) × (command ≡ Check form)))
+-- the second reader of `check` has failed, that of its settings, and no other device
+abbrev pub SettingsUnread : Command → Seen → Type 0
+SettingsUnread command seen = ((form : ReportForm) × (command ≡ Check form)) × (seen.reader_failed ≡ false) × (seen.second_failed ≡ true) × (seen.writer_failed ≡ false)
 
 abbrev pub NothingWritten : Seen → Type 0
 NothingWritten seen = Keeps seen.before seen.after
@@ -111,28 +109,40 @@ abbrev pub RefusesSettingsAfter : Command → LanguageChoice → Seen → ℕ ×
 RefusesSettingsAfter command choice seen place =
     (read : ReadsBoth (asked_language choice) command seen.given seen.second) × ((form : ReportForm) × (command ≡ Check form)) × RefusesSettings choice read.second place
 
--- a language in which the text is read: the one that is asked for, or that of the settings of `check`
+-- the settings of `check` were read, and are refused
+abbrev pub SettingsRefused : Command → LanguageChoice → Seen → Type 0
+SettingsRefused command choice seen =
+    ((form : ReportForm) × (command ≡ Check form)) × NoneFailed seen
+    × ((second : List ℕ) × IsSecond command seen.second second × ((place : ℕ × ℕ) × RefusesSettings choice second place))
+
+-- the language in which the text of the first file is read, and the devices that failed before: the command's language, and none; but the one that is asked
+-- for where the settings of `check`, which are read before the text, can't be read or are refused
 abbrev pub IsTried : Command → LanguageChoice → Seen → Language → Type 0
 IsTried command choice seen language =
-    (language ≡ asked_language choice) ⊎ ((second : List ℕ) × IsSecond command seen.second second × IsLanguage command choice second language)
+    (NoneFailed seen × ((second : List ℕ) × IsSecond command seen.second second × IsLanguage command choice second language))
+    ⊎ ((SettingsUnread command seen ⊎ SettingsRefused command choice seen) × (language ≡ asked_language choice))
 
--- the text of the first file is refused, at this place
+-- the bytes of the first file are no source text
+abbrev pub RefusesSource : Seen → Fault → Type 0
+RefusesSource seen fault = (text : List ℕ) × IsGiven seen.given text × IsRefusal text fault
+
+-- they are source text that is refused in the language in which it is read, at this place
 abbrev pub RefusesFirst : Command → LanguageChoice → Seen → Fault → ℕ × ℕ → Type 0
 RefusesFirst command choice seen fault place =
-    (text : List ℕ) × IsGiven seen.given text × ((language : Language) × IsTried command choice seen language × RefusesText language text fault) × (place ≡ place_of text fault)
+    (text : List ℕ) × IsGiven seen.given text × IsSource text × ((language : Language) × IsTried command choice seen language × RefusesReading language text fault) × (place ≡ place_of text fault)
 
 -- a refusal by its fault, with the line and the column of its place
 abbrev pub Refuses : (View → List Report) → Command → LanguageChoice → Seen → Fault → ℕ × ℕ → Type 0
 Refuses finds command choice seen ReadFailed place = (seen.writer_failed ≡ false) × NothingWritten seen × FailsToRead command choice seen × (place ≡ (0, 0))
 Refuses finds command choice seen WriteFailed place =
     (seen.reader_failed ≡ false) × (seen.second_failed ≡ false) × (seen.writer_failed ≡ true) × BeginsOutput finds command choice seen × (place ≡ (0, 0))
-Refuses finds command choice seen OutOfMemory place = NoOtherFailed command seen × NothingWritten seen × (place ≡ (0, 0))
+Refuses finds command choice seen OutOfMemory place = (NoneFailed seen ⊎ SettingsUnread command seen) × NothingWritten seen × (place ≡ (0, 0))
 Refuses finds command choice seen BadSettings place = NoneFailed seen × NothingWritten seen × RefusesSettingsAfter command choice seen place
 Refuses finds command choice seen (BadTable row why) place = NoneFailed seen × NothingWritten seen × RefusesAfter command choice seen (BadTable row why) × (place ≡ (0, 0))
 Refuses finds command choice seen UnwrapFailed place = NoneFailed seen × NothingWritten seen × RefusesAfter command choice seen UnwrapFailed × (place ≡ (0, 0))
-Refuses finds command choice seen TooLong place =
-    NoneFailed seen × NothingWritten seen × (RefusesFirst command choice seen TooLong place ⊎ (RefusesAfter command choice seen TooLong × (place ≡ (0, 0))))
-Refuses finds command choice seen fault place = NoOtherFailed command seen × NothingWritten seen × RefusesFirst command choice seen fault place
+Refuses finds command choice seen (NotUtf8 at) place = NoneFailed seen × NothingWritten seen × RefusesSource seen (NotUtf8 at) × (place ≡ (0, 0))
+Refuses finds command choice seen TooLong place = NoneFailed seen × NothingWritten seen × (RefusesSource seen TooLong ⊎ RefusesAfter command choice seen TooLong) × (place ≡ (0, 0))
+Refuses finds command choice seen fault place = NothingWritten seen × RefusesFirst command choice seen fault place
 
 -- `same` refuses its second script: the text of the second file is refused in the language of the first, at this place
 abbrev pub RefusesSecond : Command → LanguageChoice → Seen → Fault → ℕ × ℕ → Type 0

@@ -30,7 +30,7 @@ use Rattle.lint.specs.declared.answer.Answer.TheVariants.{Text, Unchanged, Fixed
 use Rattle.lint.specs.declared.check_command.Checked.{Checked}
 use Rattle.lint.specs.Languages.{asked_language, language_of}
 use Rattle.lint.specs.ReadScripts.{IsReading, IsScript, RefusesReading}
-use Rattle.lint.specs.Outputs.{Compares, Contradicts, second_limit, IsSecond, IsOutput, CommandRefuses, RefusesSettings, RefusesSettingsText, Reports}
+use Rattle.lint.specs.Outputs.{Compares, Contradicts, second_limit, IsSecond, IsOutput, CommandRefuses, RefusesSettingsText, Reports}
 use Rattle.lint.specs.Run.{Seen, NothingWritten, HasOutput, RefusesIn, RefusesText}
 
 -- what an answer writes, and its status
@@ -96,12 +96,12 @@ ReadsLanguage choice given (Ok checked) failed =
     ReadsSettings given (Ok checked.settings) failed × (language_of choice checked.settings.languages ≡ Some checked.language)
 ReadsLanguage choice given (Err refused) failed = LacksLanguage choice given refused failed
 
--- the refusal of `check` where its settings are refused: that of the text, which is no script in the language that is asked for, or else that of the
--- settings, of a script
+-- the refusal of `check` where there are no settings: at once that memory was refused, if it was; else that of the text, which is no script in the language
+-- that is asked for, or that of the settings, of a script
 abbrev pub RefusesChecked : LanguageChoice → List ℕ → Refused → Refused → Type 0
 RefusesChecked choice text of_settings refused =
-    ((refused ≡ of_settings) × ((n : SyntaxTree) × (P : List Pair) × IsReading (asked_language choice) text n P))
-    ⊎ ((refused.in_second ≡ false) × RefusesReading (asked_language choice) text refused.fault × ((refused.line, refused.column) ≡ place_of text refused.fault))
+    ((refused ≡ of_settings) × ((of_settings.fault ≡ OutOfMemory) ⊎ ((n : SyntaxTree) × (P : List Pair) × IsReading (asked_language choice) text n P)))
+    ⊎ ((of_settings.fault ≢ OutOfMemory) × (refused.in_second ≡ false) × RefusesReading (asked_language choice) text refused.fault × ((refused.line, refused.column) ≡ place_of text refused.fault))
 
 -- a table, from what the second reader has to give
 abbrev pub ReadsTable : Option (List ℕ) → Result CostTable Fault → Bool → Type 0

@@ -91,8 +91,8 @@ fn read_second<S: Feed>(
     }
 }
 
-/// The refusal of `check` where its settings are refused: of the script, where it is none in the language that is asked for, else that of
-/// the settings.
+/// The refusal of `check` where there are no settings: at once where memory was refused, since they may have said the language; else of
+/// the script, where it is none in the language that is asked for, or that of the settings.
 fn refusal(
     alloc: Global,
     choice: LanguageChoice,
@@ -102,9 +102,12 @@ fn refusal(
     requires source { IsSource source.now }
     ensures { RefusesChecked choice source.now of_settings result }
 {
-    match read_script(alloc, source, asked_language(choice)) {
-        Ok(_) => of_settings,
-        Err(fault) => refused_at(source, fault),
+    match of_settings.fault {
+        Fault::OutOfMemory => of_settings,
+        _ => match read_script(alloc, source, asked_language(choice)) {
+            Ok(_) => of_settings,
+            Err(fault) => refused_at(source, fault),
+        },
     }
 }
 
@@ -179,8 +182,8 @@ fn report<'s>(
 /// # Errors
 ///
 /// What `read_script` refuses; `BadSettings` where the settings are too long, aren't UTF-8, are refused, or leave no language that is asked
-/// for, with line and column where they aren't UTF-8 or no TOML; `ReadFailed` where the reader fails; `OutOfMemory`. Where the settings are
-/// refused, a text that is no script in the language that is asked for is refused as such.
+/// for, with line and column where they aren't UTF-8 or no TOML; `ReadFailed` where the reader fails; `OutOfMemory`. Where the settings
+/// can't be read or are refused, a text that is no script in the language that is asked for is refused as such.
 pub(crate) fn check<'s, S: Feed>(
     alloc: Global,
     form: ReportForm,

@@ -76,8 +76,9 @@ fn answer_bytes<'s, S: Feed>(
     }
 }
 
-/// Runs a command. The first file is read to its end, or to one byte past the longest text, and has to be a script; then `check` reads its
-/// settings, `verify` its table and `same` its other script; no other command has a second file. All that takes memory is done before anything is written: the
+/// Runs a command. The first file is read to its end, or to one byte past the longest text, and has to be a script, for `check` in the
+/// language that its settings leave, which are read before that; then `verify` reads its table and `same` its other script; no other
+/// command has a second file. All that takes memory is done before anything is written: the
 /// texts of `fix` and `cost` are made by a plan as they are written. The rules of `check` are those that are handed in. Answers the exit status: 1 where `check` has a
 /// report or `same` has two trees, else 0.
 ///
@@ -87,8 +88,8 @@ fn answer_bytes<'s, S: Feed>(
 /// `Early`, with line and column, and `TooDeep` where it is no script; `BadSettings`, with line and column where the settings aren't UTF-8 or no TOML, and
 /// `BadTable` where the second file is refused, and, of the second script, what a first one is refused for;
 /// `TooLong` also where the text that `unwrap` would write is longer than a source text may be, and `UnwrapFailed` where it isn't the same
-/// script with the fewest pairs, of which none is known; `OutOfMemory`. The first of these is answered. Nothing is written but where the
-/// writer fails: then a beginning of the output.
+/// script with the fewest pairs, of which none is known; `OutOfMemory`. The first of these is answered, but at once that memory was
+/// refused while `check` reads its settings. Nothing is written but where the writer fails: then a beginning of the output.
 pub fn run<R: Feed, S: Feed, W: Sink>(
     alloc: Global,
     command: Command,

@@ -1,13 +1,14 @@
-use Rattle.std.proofs.Common.{◌≡◌, [], inl}
+use Rattle.std.proofs.Common.{[]}
 use Rattle.commands.specs.declared.language_choice.LanguageChoice.TheVariants.{Unsaid}
 use Rattle.lint.specs.ReadScripts.{IsReading}
-use Rattle.lint.proofs.RunAnswers.{answers_behind, refused_behind, same_behind, script_refused, told_behind}
+use Rattle.lint.proofs.RunAnswers.{answers_behind, own_tried, refused_behind, same_behind, script_refused, told_behind}
 use Rattle.lint.proofs.run.answer_script.Goals as goal
 
 pub returns-in-Err-clause-answer : goal.returns-in-Err-clause-answer
 returns-in-Err-clause-answer g c = λ finds choice own seen before.
     rw (c.refused_at.ensures.fault, c.refused_at.ensures.first)
-    (script_refused finds c.args.command choice c.args.source.now _ c.args.language c.in-Err.fault _ _ seen c.requires.source c.in-Err.ensures.refused c.refused_at.ensures.place before (inl own) (inl c.requires.ready))
+    (script_refused finds c.args.command choice c.args.source.now _ c.args.language c.in-Err.fault _ _ seen c.requires.source c.in-Err.ensures.refused c.refused_at.ensures.place before
+    (own_tried finds c.args.command choice c.args.source.now _ c.args.language _ seen c.requires.unchecked own before c.requires.ready))
 
 pub returns-in-Same-clause-answer : goal.returns-in-Same-clause-answer
 returns-in-Same-clause-answer g c = λ finds choice own.
