@@ -1,5 +1,5 @@
 //! Unwrapping a script: its text without its unnecessary pairs, tokens and comments kept. One procedure, by stages: `unwrap_unless_fewest` asks
-//! for the fewest pairs and plans, `read_and_rewrite` reads the text by its tree, `rewrite_and_check` makes the new text, and `checked_text`
+//! for the fewest pairs, `read_and_rewrite` reads the text by its tree, `rewrite_and_check` makes the new text, and `checked_text`
 //! reads that again and compares.
 
 ghost use Rattle.std.specs.Prelude.{IfErr, IfOk, ◌≡◌, ◌≤◌, true, length, string_bytes};
@@ -9,7 +9,7 @@ ghost use Rattle.lint.specs.Unwraps.{Unwraps, IsUnwrapped, IsUnfit, MayOutgrow, 
 
 use crate::script_reader::read_script;
 use language::Language;
-use paren_planner::{Plan, fewest_by_pairs, plan};
+use paren_planner::{TextCosts, costs_by_pairs};
 use parser::{Parsed, parse};
 use source_text::{Fault, MAX_BYTES, Source};
 use std::alloc::{AllocError, Global};
@@ -133,15 +133,15 @@ fn rewrite_and_check(
     reading: &TreeReading,
     parsed: &Parsed<'_>,
     language: Language,
-    plan: &Plan,
+    costs: &TextCosts,
 ) -> Result<String, Fault>
     requires { IsRead source.now parsed.now.program parsed.now.pairs.items reading.now }
-    ensures spells { IfOk result (λ text. SpellsWith language source.now (string_bytes text) parsed.now.program parsed.now.pairs.items plan.now.table.total) }
+    ensures spells { IfOk result (λ text. SpellsWith language source.now (string_bytes text) parsed.now.program parsed.now.pairs.items costs.now.fewest) }
     ensures refused { IfErr result (IsUnfit source.now parsed.now.pairs.items) }
 {
     let program = parsed.program();
     let pairs = parsed.grouping_pairs();
-    let count = plan.total() as usize;
+    let count = costs.fewest() as usize;
     let original = Original {
         source,
         reading,
@@ -155,7 +155,7 @@ fn rewrite_and_check(
         reading,
         program,
         pairs,
-        table: plan.table(),
+        costs,
     };
     match unwrapped(alloc, script) {
         Ok(bytes) => checked_text(alloc, bytes, original),
@@ -169,19 +169,19 @@ fn read_and_rewrite(
     source: &Source<'_>,
     parsed: &Parsed<'_>,
     language: Language,
-    plan: &Plan,
+    costs: &TextCosts,
 ) -> Result<String, Fault>
-    ensures spells { IfOk result (λ text. SpellsWith language source.now (string_bytes text) parsed.now.program parsed.now.pairs.items plan.now.table.total) }
+    ensures spells { IfOk result (λ text. SpellsWith language source.now (string_bytes text) parsed.now.program parsed.now.pairs.items costs.now.fewest) }
     ensures refused { IfErr result (IsUnfit source.now parsed.now.pairs.items) }
 {
     match read_by_tree(alloc, source, parsed) {
-        Ok(reading) => rewrite_and_check(alloc, source, &reading, parsed, language, plan),
+        Ok(reading) => rewrite_and_check(alloc, source, &reading, parsed, language, costs),
         Err(fault) => Err(fault),
     }
 }
 
 /// The text of a script as it stands, without its unnecessary pairs; comments stay. None where the script has no more pairs than the
-/// fewest: its own text is the answer then, and no plan is made.
+/// fewest: its own text is the answer then.
 ///
 /// # Errors
 ///
@@ -198,18 +198,14 @@ pub(crate) fn unwrap_unless_fewest(
     ensures refused { IfErr result (RefusesScript source.now parsed.now.program parsed.now.pairs.items) }
 {
     let pairs = parsed.grouping_pairs();
-    let fewest = match fewest_by_pairs(alloc, parsed.program(), pairs) {
-        Ok(fewest) => fewest,
+    let costs = match costs_by_pairs(alloc, parsed.program(), pairs) {
+        Ok(costs) => costs,
         Err(AllocError) => return Err(Fault::OutOfMemory),
     };
-    if pairs.len() == fewest as usize {
+    if pairs.len() == costs.fewest() as usize {
         return Ok(None);
     }
-    let plan = match plan(alloc, parsed.program()) {
-        Ok(plan) => plan,
-        Err(AllocError) => return Err(Fault::OutOfMemory),
-    };
-    match read_and_rewrite(alloc, source, parsed, language, &plan) {
+    match read_and_rewrite(alloc, source, parsed, language, &costs) {
         Ok(text) => Ok(Some(text)),
         Err(fault) => Err(fault),
     }

@@ -1,4 +1,4 @@
-//! Which nodes of a script are wrapped, and how many, by the pairs of its text: without a table of costs.
+//! Which nodes of a script are wrapped, and how many, by the pairs of its text: without a row for each node.
 
 ghost use Rattle.std.specs.Prelude.{◌≡◌, ◌≤◌, true, IfOk, Some};
 ghost use Rattle.language.specs.Pieces.{script};
@@ -8,6 +8,7 @@ ghost use Rattle.paren_planner.specs.Noted.{ScriptSteps};
 ghost use Rattle.paren_planner.specs.Plans.{AreWraps, IsDerived};
 
 use crate::planner::{Weights, number, weigh_by_pairs};
+use crate::text_costs::{PassedNodes, TextCosts};
 use crate::text_pairs::TextPairs;
 use crate::wrap_pass::wrap_pass;
 use std::alloc::{AllocError, Global};
@@ -48,20 +49,25 @@ fn weighed_wraps(
 }
 
 /// The fewest pairs that any text with the tree of a script has, by the grouping pairs of a text that derives it: the total of its plan,
-/// without one. The walk passes the nodes that `wraps_by_pairs` passes.
+/// without one; and what its nodes cost. The walk passes the nodes that `wraps_by_pairs` passes.
 ///
 /// # Errors
 ///
 /// `AllocError` where memory is refused.
-pub fn fewest_by_pairs(
+pub fn costs_by_pairs(
     alloc: Global,
     program: &Program<'_>,
     pairs: &[Pair],
-) -> Result<u32, AllocError>
+) -> Result<TextCosts, AllocError>
     requires { IsDerived program.now pairs.now }
-    ensures { IfOk result (λ fewest. Some fewest ≡ least program.now script) }
+    ensures { IfOk result (λ costs. Some costs.fewest ≡ least program.now script) }
 {
     let pairs = TextPairs { known: Some(pairs) };
     let weights = weigh_by_pairs(alloc, program, &pairs)?;
-    Ok(number(weights.total))
+    let passed = PassedNodes::of(alloc, &weights.steps)?;
+    Ok(TextCosts {
+        fewest: number(weights.total),
+        table: weights.table,
+        passed,
+    })
 }

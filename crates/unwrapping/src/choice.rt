@@ -8,8 +8,9 @@ ghost use Rattle.spellings.specs.Wherever.{spelled_by};
 ghost use Rattle.unwrapping.specs.Ties.{costs_more};
 
 use crate::changes::{Addition, Changes, Closing};
-use cost_table::{CostTable, widest};
+use cost_table::widest;
 use language::{Rank, Start};
+use paren_planner::TextCosts;
 use spelling_table::{Position, Production, WHOLE, admits, resolve_slot};
 use spellings::{SlotCursor, holds_chain, leads_chain, node_production};
 use std::alloc::{AllocError, Global};
@@ -18,7 +19,7 @@ use tree::{Kind, Node, Pair, Program};
 /// What the choice goes by.
 #[derive(Clone, Copy)]
 struct Basis<'c> {
-    table: &'c CostTable,
+    costs: &'c TextCosts,
     /// The pairs of the text, in order of their `(`: the node in a pair is the first with a row that starts after that.
     pairs: &'c [Pair],
 }
@@ -71,7 +72,7 @@ pub fn changes_of(
     alloc: Global,
     program: &Program<'_>,
     pairs: &[Pair],
-    table: &CostTable,
+    costs: &TextCosts,
 ) -> Result<Changes, AllocError> {
     let mut chosen = Chosen {
         changes: Changes::new(alloc),
@@ -81,7 +82,7 @@ pub fn changes_of(
         in_chain: false,
         is_bare_callee: false,
     };
-    let basis = Basis { table, pairs };
+    let basis = Basis { costs, pairs };
     choose_node(program.root(), Position::Script, around, basis, &mut chosen)?;
     Ok(chosen.changes)
 }
@@ -243,7 +244,7 @@ impl Basis<'_> {
 
     /// What the node of a row costs at a position.
     fn costs(&self, row: usize, position: Position, production: Production) -> Costs {
-        let cells = cells_of(self.table, row);
+        let cells = self.costs.cells(row);
         let asks = production.requirements();
         let direct = if admits(position, asks.rank, asks.needs_in, asks.opens) {
             cell_at(cells, position)
@@ -321,15 +322,6 @@ impl Costs {
             }
         }
     }
-}
-
-/// The cells of a row; zeros where there is no such row.
-fn cells_of(table: &CostTable, row: usize) -> [Option<u32>; 8] {
-    if row < 1 || row > table.row_count() {
-        return [Some(0u32); 8];
-    }
-    let (_, cells) = table.row(row);
-    cells
 }
 
 /// The cell of a position: with In, without In, and where only what is at Member may stand, at each start.

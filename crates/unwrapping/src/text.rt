@@ -3,12 +3,12 @@
 use crate::choice::changes_of;
 use crate::reading::TreeReading;
 use crate::writer::rewritten;
-use cost_table::CostTable;
+use paren_planner::TextCosts;
 use source_text::Source;
 use std::alloc::{AllocError, Global};
 use tree::{Pair, Program};
 
-/// A script with the cost table of its plan.
+/// A script with what its nodes cost.
 #[derive(Clone, Copy)]
 pub struct PlannedScript<'o, 's> {
     pub source: &'o Source<'s>,
@@ -17,7 +17,7 @@ pub struct PlannedScript<'o, 's> {
     pub program: &'o Program<'s>,
     /// Its grouping pairs, in order of their `(`.
     pub pairs: &'o [Pair],
-    pub table: &'o CostTable,
+    pub costs: &'o TextCosts,
 }
 
 /// The text of a script as it is, with pairs just round the nodes that want them: each where the text has it, if that costs no more.
@@ -27,6 +27,6 @@ pub struct PlannedScript<'o, 's> {
 ///
 /// `AllocError` where memory is refused, and nothing else.
 pub fn unwrapped(alloc: Global, script: PlannedScript<'_, '_>) -> Result<Vec<u8>, AllocError> {
-    let changes = changes_of(alloc, script.program, script.pairs, script.table)?;
+    let changes = changes_of(alloc, script.program, script.pairs, script.costs)?;
     rewritten(alloc, script.source, script.reading, &changes)
 }

@@ -13,6 +13,6 @@ checked_text-requires c =
 
 pub returns-in-Ok-clause-spells : goal.returns-in-Ok-clause-spells
 returns-in-Ok-clause-spells c =
-    subst (λ (k : ℕ). IfOk c.checked_text.result (λ t. SpellsWith c.args.language c.args.source.now (string_bytes t) c.args.parsed.now.program c.args.parsed.now.pairs.items k)) c.total-count.ensures
-    (subst (λ (ps : List Pair). IfOk c.checked_text.result (λ t. SpellsWith c.args.language c.args.source.now (string_bytes t) c.args.parsed.now.program ps c.total-count.result)) c.grouping_pairs-pairs.ensures
-    (subst (λ (m : Tree). IfOk c.checked_text.result (λ t. SpellsWith c.args.language c.args.source.now (string_bytes t) m c.grouping_pairs-pairs.result.now c.total-count.result)) c.program-program.ensures c.checked_text.ensures.spells))
+    subst (λ (k : ℕ). IfOk c.checked_text.result (λ t. SpellsWith c.args.language c.args.source.now (string_bytes t) c.args.parsed.now.program c.args.parsed.now.pairs.items k)) c.fewest-count.ensures
+    (subst (λ (ps : List Pair). IfOk c.checked_text.result (λ t. SpellsWith c.args.language c.args.source.now (string_bytes t) c.args.parsed.now.program ps c.fewest-count.result)) c.grouping_pairs-pairs.ensures
+    (subst (λ (m : Tree). IfOk c.checked_text.result (λ t. SpellsWith c.args.language c.args.source.now (string_bytes t) m c.grouping_pairs-pairs.result.now c.fewest-count.result)) c.program-program.ensures c.checked_text.ensures.spells))

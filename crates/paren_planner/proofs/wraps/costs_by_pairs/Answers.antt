@@ -1,7 +1,7 @@
 use Rattle.paren_planner.proofs.Bytes.{derived_least}
 use Rattle.paren_planner.proofs.PassedNodes.{derived_passing, derived_few}
 use Rattle.paren_planner.proofs.Plans.{total_of}
-use Rattle.paren_planner.proofs.wraps.fewest_by_pairs.Goals as goal
+use Rattle.paren_planner.proofs.wraps.costs_by_pairs.Goals as goal
 
 pub weigh_by_pairs-requires : goal.weigh_by_pairs-requires
 weigh_by_pairs-requires c = λ m. derived_passing c.args.program.now c.args.pairs.now c.requires
