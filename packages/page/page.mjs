@@ -3,8 +3,8 @@ import { Refused, commandsOf, indexOf } from 'jslint/core';
 
 const at = (id) => document.getElementById(id);
 const [language, script, settings, panel, state] = ['language', 'script', 'settings', 'panel', 'state'].map(at);
-/** What the choice of a language says to a call. */
-const asked = () => ({ language: language.value || undefined });
+// A text that a module alone may be, and one that no script of the base profile is.
+const OF_MODULES = "import 'a'", OF_2022 = 'async () => {}';
 const tabs = [...document.querySelectorAll('[role=tab]')];
 const HEADS = ['row', 'expression', 'any', 'not {', 'statement', 'for', 'for, not {', 'new', 'new, not {', 'new, statement'];
 // How much of a line is shown before and after the place that a report speaks of.
@@ -48,8 +48,23 @@ function located(text, index, place, name, message) {
   return element('li', {}, button, ' ', element('strong', {}, name), ` ${message}`, element('pre', {}, `${line}\n`, caret));
 }
 
+/** Whether the settings leave the language of a text. */
+function isLeft(jslint, text) {
+  try {
+    jslint.check(text, { settings: settings.value });
+    return true;
+  } catch {
+    return false;
+  }
+}
+
+/** The language for a command that reads no settings: what is chosen, or what they say. */
+function asked(jslint) {
+  return { language: language.value || (isLeft(jslint, OF_MODULES) ? 'module' : isLeft(jslint, OF_2022) ? '2022' : undefined) };
+}
+
 function reports(jslint, text) {
-  const found = jslint.check(text, { settings: settings.value, ...asked() });
+  const found = jslint.check(text, { settings: settings.value, language: language.value || undefined });
   if (found.length === 0) return [element('p', { className: 'fine' }, 'No report.')];
   return [element('ul', { className: 'reports' }, ...found.map((it) => located(text, it.index, `${it.line}:${it.column}`, it.rule, it.message)))];
 }
@@ -75,23 +90,24 @@ function rowOf(kind, cells) {
 }
 
 function costs(jslint, text) {
-  const table = jslint.cost(text, asked()), rows = table.trimEnd().split('\n').slice(1, -1);
-  const { pairs, least } = jslint.verify(text, table, asked());
+  const table = jslint.cost(text, asked(jslint)), rows = table.trimEnd().split('\n').slice(1, -1);
+  const { pairs, least } = jslint.verify(text, table, asked(jslint));
   const told = `The script has ${pairs} grouping pair${pairs === 1 ? '' : 's'}. No text with its tree has fewer than ${least}, which this table shows; it was checked just now.`;
   return [element('p', {}, told), element('table', {}, rowOf('th', HEADS), ...rows.map((it) => rowOf('td', cellsOf(it))))];
 }
 
 const SHOWN = {
   'tab-check': reports,
-  'tab-fix': (jslint, text) => [element('pre', {}, jslint.fix(text, asked()))],
-  'tab-unwrap': (jslint, text) => [element('pre', {}, jslint.unwrap(text, asked()))],
-  'tab-tree': (jslint, text) => [branch(jslint.tree(text, asked()), null)],
+  'tab-fix': (jslint, text) => [element('pre', {}, jslint.fix(text, asked(jslint)))],
+  'tab-unwrap': (jslint, text) => [element('pre', {}, jslint.unwrap(text, asked(jslint)))],
+  'tab-tree': (jslint, text) => [branch(jslint.tree(text, asked(jslint)), null)],
   'tab-cost': costs,
 };
 
 function refused(error, text) {
   const told = element('p', { className: 'refused' }, element('strong', {}, error instanceof Refused ? 'Refused: ' : 'Failed: '), error.message);
-  if (typeof error.line !== 'number') return [told];
+  // (the place in settings is none in the script)
+  if (typeof error.line !== 'number' || error.code === 'settings') return [told];
   const index = Math.min(indexOf(text, error.line, error.column), text.length);
   return [told, element('ul', { className: 'reports' }, located(text, index, `${error.line}:${error.column}`, '', ''))];
 }

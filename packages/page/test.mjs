@@ -94,6 +94,13 @@ async function type(browser, field, text) {
   return browser.evaluate(SHOWN);
 }
 
+/** Chooses a language, and waits for the answer. */
+async function choose(browser, language) {
+  await browser.evaluate(`{ const it = document.getElementById('language'); document.getElementById('state').textContent = 'typed'; it.value = '${language}'; it.dispatchEvent(new Event('input')); }`);
+  await browser.until("document.getElementById('state').textContent !== 'typed'");
+  return browser.evaluate(SHOWN);
+}
+
 async function click(browser, tab) {
   await browser.evaluate(`document.getElementById('tab-${tab}').click()`);
   await browser.picture(tab);
@@ -113,6 +120,24 @@ async function answers(browser) {
   expect('a character of two units', await type(browser, 'script', "'\u{1f600}'; debugger;"), /1:6 no-debugger/);
   expect('settings', await type(browser, 'settings', '[rules]\nno-debugger = false\n'), 'No report.');
   expect('refused settings', await type(browser, 'settings', 'x'), 'Refused: bad settings at 1:2');
+  await type(browser, 'settings', '');
+}
+
+async function languages(browser) {
+  expect('a module in the base profile', await type(browser, 'script', 'export let a = (1);'), /^Refused: syntax error at 1:1\s/);
+  expect('a module', await choose(browser, 'module'), /1:12 prefer-const[^]*1:16 no-extra-parens/);
+  expect('its fixed text', await click(browser, 'fix'), 'export let a = 1;\n');
+  expect('a script of 2022', await choose(browser, '2022'), /^Refused: syntax error at 1:1\s/);
+  await choose(browser, '');
+  for (const [text, tab, wanted] of [['source-type = "module"', 'unwrap', 'export let a = 1;'], ['edition = 2022', 'tree', /^Refused: syntax error/], ['source-type = "module"', 'cost', /^The script has 1 grouping pair/]]) {
+    await click(browser, tab);
+    expect(`settings, ${tab}`, await type(browser, 'settings', text), wanted);
+  }
+  await click(browser, 'check');
+  expect('settings, check', await browser.evaluate(SHOWN), /1:12 prefer-const/);
+  expect('words that leave no language', await choose(browser, '2020'), /^Refused: syntax error at 1:1\s/);
+  expect('for a script that is taken', await type(browser, 'script', 'a;'), 'Refused: bad settings');
+  await choose(browser, '');
   await type(browser, 'settings', '');
 }
 
@@ -160,6 +185,7 @@ async function main(page) {
     await browser.open(pathToFileURL(resolve(page)).href);
     await browser.until('document.documentElement?.dataset.ready');
     await answers(browser);
+    await languages(browser);
     await refusals(browser);
     await keys(browser);
     const wrong = browser.events.filter((it) => it.method === 'Runtime.exceptionThrown' || (it.method === 'Log.entryAdded' && it.params.entry.level === 'error'));

@@ -55,6 +55,7 @@ class Checker:
         if answer and self.has_ends:
             self.add_ends(came.found, text, settings, language)
         if self.has_suppressions and TURNS_OFF in text:
+            language = language or self.languages.language_of(settings)
             came.list = suppressed(came.found, text.decode(), lambda it: self.fixed(it, language))
         return came
 

@@ -3,7 +3,7 @@
        jslint-files fix --write|--diff [--edition 2020|2022] [--module] [--drop-comments] [--hints] [--unsupported error|note] [--project] [--stdin NAME] [--summary] [--jobs N]
                     [--files-from FILE] [--] [FILE ..]
        jslint-files unwrap --write|--diff [the same, but for --drop-comments] [--] [FILE ..]
-       jslint-files --explain RULE|E1..E21
+       jslint-files --explain RULE|E1..E35
        jslint-files --help|--version
 
 `fix` drops comments. So `fix --write` refuses a script that has any, and says how many, unless --drop-comments is there. `unwrap` keeps them.
@@ -88,7 +88,11 @@ class Run:
             languages = Languages(self.engine, options, self.project, settings_for)
             self.worker = Checker(self.engine, settings_for, languages, has_hints(options), is_noted, options['suppressions'], has_ends)
         else:
-            self.worker = Rewriter(self.engine, options, Languages(self.engine, options, self.project).of, is_noted)
+            languages = Languages(self.engine, options, self.project)
+            if not languages.asked:
+                # (they may say the language)
+                self.settings()
+            self.worker = Rewriter(self.engine, options, languages.of, is_noted)
 
     def named(self, names):
         """The files, in their order."""

@@ -21,13 +21,16 @@ LITERAL = re.compile(
     % (JSON_STRING, JSON_STRING, JSON_STRING)
 )
 COMMENT = re.compile(rb'/[/*]')
+# What a script of 2022 may begin with.
+FIRST_LINE = re.compile(rb'#!(?:[^\r\n\xe2]|\xe2(?!\x80[\xa8\xa9]))*')
 COMMENT_END = {b'//': re.compile(rb'[\r\n]|\xe2\x80[\xa8\xa9]'), b'/*': re.compile(rb'\*/')}
 
 
 def comments(text, tree):
-    """Where the comments of a script begin: at each `//` or `/*` that isn't inside a comment, nor begins in a literal or a template's text."""
+    """Where the comments of a script begin: at each `//` or `/*` that isn't inside a comment, nor begins in a literal or a template's text, and at a line of `#!`."""
     literals = sorted((int(start), int(end)) for end, start in LITERAL.findall(tree))
-    starts, found, mark = [it[0] for it in literals], [], COMMENT.search(text)
+    first = FIRST_LINE.match(text)
+    starts, found, mark = [it[0] for it in literals], [0] if first else [], COMMENT.search(text, first.end() if first else 0)
     while mark:
         before, at = bisect.bisect_right(starts, mark.start()), mark.start()
         end = literals[before - 1][1] if before else 0
@@ -41,7 +44,7 @@ def comments(text, tree):
 
 def keep_comments(engine, text):
     """Refuses a script that has comments, at the first of them."""
-    if not COMMENT.search(text):
+    if not COMMENT.search(text) and not FIRST_LINE.match(text):
         return
     status, tree, err = engine.run('tree', text)
     if status or err:

@@ -82,7 +82,7 @@ const ROWS = [
   ['ClassDeclaration', 'statement', 'id name, superClass LeftHandSide?, body node'],
 ];
 
-// The kinds of the language of 2022, and older ones that have a flag more there. parse.js, early.js and ../definitions know these, nothing else yet.
+// The kinds of the language of 2022, and older ones that have a flag more there. parse.js, early.js, ../definitions and the maker of rows know these, nothing else.
 const ROWS_OF_2022 = [
   ['YieldExpression', 'expression', 'argument Assignment?', { rank: 'Assignment', flags: 'form', fields: 'argument delegate' }],
   ['AwaitExpression', 'expression', 'argument Unary', { rank: 'Unary' }],
@@ -99,6 +99,7 @@ const ROWS_OF_2022 = [
   ['ExportAllDeclaration', 'part', 'exported node?, source node'],
   ['FunctionExpression', 'expression', 'id name?, params binding.., body node', { rank: 'Primary', flags: 'form', fields: 'id params body generator async' }],
   ['FunctionDeclaration', 'statement', 'id name?, params binding.., body node', { flags: 'form', fields: 'id params body generator async' }],
+  ['ClassDeclaration', 'statement', 'id name?, superClass LeftHandSide?, body node'],
   ['ArrowFunctionExpression', 'expression', 'params binding.., body node', { rank: 'Assignment', flags: 'expression form', fields: 'params body async' }],
   ['ForOfStatement', 'statement', 'left node, right Assignment, body statement', { flags: 'form', fields: 'left right body await' }],
 ];

@@ -11,7 +11,7 @@ const fs = require('node:fs');
 const path = require('node:path');
 const { plainTree } = require('../definitions/model.js');
 const { treeJson } = require('../model/json.js');
-const { KINDS } = require('../model/kinds.js');
+const { KINDS, KINDS_OF_2022 } = require('../model/kinds.js');
 const { LIMITS, parse } = require('../model/parse.js');
 const { plan } = require('../model/plan.js');
 const { meant, written } = require('./worked.js');
@@ -58,7 +58,7 @@ const LEAST = { SequenceExpression: 2, VariableDeclaration: 1 };
 
 // Whether a node has the parts of its kind, and no gap in another's place.
 function isWhole({ kind, parts }) {
-  const fields = KINDS.get(kind).parts;
+  const fields = KINDS_OF_2022.get(kind).parts;
   if (kind === 'TemplateLiteral') return parts.length % 2 === 1 && !parts.includes(null);
   if (kind === 'TryStatement' && parts[1] === null && parts[2] === null) return false;
   const list = fields.findIndex((it) => it.isList);
@@ -70,7 +70,7 @@ function isWhole({ kind, parts }) {
 
 // Which views a node has.
 function views(node) {
-  const { family } = KINDS.get(node.kind);
+  const { family } = KINDS_OF_2022.get(node.kind);
   const isTarget = node.kind === 'Identifier' || node.kind === 'MemberExpression';
   const found = [family === 'expression', family === 'pattern' || isTarget, family === 'statement', /Function/.test(node.kind), /^Class[ED]/.test(node.kind)];
   const [expression, pattern, statement, isFunction, isClass] = found.map((it) => it && isWhole(node));
@@ -79,7 +79,7 @@ function views(node) {
 
 // The symbol of a node whose kind alone has one.
 function symbol(node) {
-  const { family, rank, text, flags } = KINDS.get(node.kind);
+  const { family, rank, text, flags } = KINDS.get(node.kind) ?? KINDS_OF_2022.get(node.kind);
   if (family !== 'expression' || rank === undefined || text !== undefined || flags.length > 0 || /^(Meta|Chain)/.test(node.kind)) return undefined;
   return isWhole(node) ? `(Some(${rank}), false)` : '(None, false)';
 }

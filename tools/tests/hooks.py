@@ -54,7 +54,7 @@ def hook_words(room):
         wanted = {'language': 'script', 'types': '[file]', 'exclude_types': '[symlink]', 'args': '[--]', 'require_serial': 'true'}
         same({key: it.get(key) for key in wanted}, wanted)
         is_well(os.access(f'{TOP}/{shlex.split(it["entry"])[0]}', os.X_OK), it)
-        same([bool(re.search(it['files'], name)) for name in ('a.js', 'b/c.js', '-h.js', 'a.mjs', 'a.jsx', 'a.js.txt', 'js')], [True] * 3 + [False] * 4)
+        same([bool(re.search(it['files'], name)) for name in ('a.js', 'b/c.js', '-h.js', 'a.mjs', 'a.jsx', 'a.js.txt', 'js', 'a.cjs')], [True] * 4 + [False] * 4)
     room.put('jslint.toml', '[rules]\nno-unused-vars = false\n')
     os.makedirs(room.path('.git'))
     names = ['-h.js', 'b.js', 'check']
@@ -70,6 +70,8 @@ def hook_words(room):
     same(call('jslint-unwrap', *names), (0, '', ''))
     same([room.text(it) for it in names], [UNWRAPPED] * 3)
     same(call('jslint-unwrap', 'm.js'), (2, '', 'm.js:1:1: syntax error\n'))
+    room.put('package.json', '{"type": "module"}')
+    same([call(it, 'm.js') for it in found], [(0, '', '')] * 2)
 
 
 def by_pre_commit(room):
@@ -83,7 +85,7 @@ def by_pre_commit(room):
     git('add', '.', at='hooks')
     git('commit', '-q', '-m', 'hooks', at='hooks')
     tag = git('rev-parse', 'HEAD', at='hooks')[1].strip()
-    for name, text in [('a.js', KEPT), ('-h.js', WRONG), ('two words.js', WRONG), ('b.mjs', WRONG), ('jslint.toml', '[rules]\nno-unused-vars = false\nprefer-const = false\n')]:
+    for name, text in [('a.js', KEPT), ('-h.js', WRONG), ('two words.js', WRONG), ('b.mjs', WRONG), ('c.cjs', WRONG), ('jslint.toml', '[rules]\nno-unused-vars = false\nprefer-const = false\n')]:
         room.put(f'project/{name}', text)
     room.put('project/.pre-commit-config.yaml', f'repos:\n- repo: {room.folder}/hooks\n  rev: {tag}\n  hooks:\n  - id: jslint\n  - id: jslint-unwrap\n')
     git('init', '-q')
@@ -93,10 +95,10 @@ def by_pre_commit(room):
     call = lambda *words: room.run([asked, 'run', '--color', 'never', '--verbose', *words], at='project', **how)
     status, out, _ = call('jslint')
     is_well(status == 1, out)
-    same(sorted(it for it in out.splitlines() if '.js:' in it), sorted(f'{it}: no-extra-parens unnecessary parentheses' for it in ('-h.js:1:9', 'a.js:2:9', 'two words.js:1:9')))
+    same(sorted(it for it in out.splitlines() if 'js:' in it), sorted(f'{it}: no-extra-parens unnecessary parentheses' for it in ('-h.js:1:9', 'a.js:2:9', 'b.mjs:1:9', 'two words.js:1:9')))
     status, out, _ = call('jslint-unwrap')
     is_well(status == 1 and 'files were modified by this hook' in out, out)
-    same([room.text(f'project/{it}') for it in ('a.js', '-h.js', 'two words.js', 'b.mjs')], [UNWRAPPED, 'let x = 1;\n', 'let x = 1;\n', WRONG])
+    same([room.text(f'project/{it}') for it in ('a.js', '-h.js', 'two words.js', 'b.mjs', 'c.cjs')], [UNWRAPPED, *['let x = 1;\n'] * 3, WRONG])
     git('add', '.')
     same([call()[0], call('--all-files')[0]], [0, 0])
     room.put('project/bad.js', REFUSED)
@@ -110,6 +112,7 @@ def action():
     text = text_of(ACTION)
     script = re.search(r'^( +)run: \|\n((?:\1  .*\n|\n)+)', text, re.M)
     inputs = dict(re.findall(r"^  (\w+):\n    description: .*\n    default: '?(.*?)'?$", text, re.M))
+    inputs = {name: json.loads(it) if it.startswith('"') else it for name, it in inputs.items()}
     passed = dict(re.findall(r'^ +([A-Z]+): \$\{\{ inputs\.(\w+) \}\}$', text, re.M))
     same(sorted(passed.values()), sorted(inputs))
     # (no input may stand in the script itself, where a shell would read it)
@@ -123,7 +126,7 @@ def action_script(room):
     text, given = action()
     room.put('script', text)
     room.git('init', '-q')
-    for name, content in [('a.js', KEPT), ('sub/-h.js', WRONG), ('ok.js', RIGHT), ('m.mjs', MODULE), ('sub/jslint.toml', '[rules]\nprefer-const = false\n'), ('none.toml', '[rules]\nno-unused-vars = false\n')]:
+    for name, content in [('a.js', KEPT), ('sub/-h.js', WRONG), ('ok.js', RIGHT), ('m.mjs', MODULE), ('m.cjs', MODULE), ('sub/jslint.toml', '[rules]\nprefer-const = false\n'), ('none.toml', '[rules]\nno-unused-vars = false\n')]:
         room.put(name, content)
     room.git('add', '.')
     room.put('untracked.js', WRONG)
@@ -139,9 +142,10 @@ def action_script(room):
     same(call(FILES='ok.js'), (0, '', ''))
     same(call(FILES='no such file'), (0, '', ''))
     same(call(FILES=' \n'), (2, '::error title=jslint::the input files names no pattern\n', ''))
-    same(call(FILES='*.mjs'), (2, f'::error file=m.mjs,line=1,col=1,title=jslint::{PERHAPS}\n', ''))
-    same(call(FILES='*.mjs', UNSUPPORTED='note'), (0, f'::notice file=m.mjs,line=1,col=1,title=jslint::{PERHAPS}\n', ''))
-    same(call(FILES='*.mjs', UNSUPPORTED=''), (2, '', 'jslint-files: --unsupported is error or note\n'))
+    same(call(FILES='*.mjs'), (0, '', ''))
+    same(call(FILES='*.cjs'), (2, f'::error file=m.cjs,line=1,col=1,title=jslint::{PERHAPS}\n', ''))
+    same(call(FILES='*.cjs', UNSUPPORTED='note'), (0, f'::notice file=m.cjs,line=1,col=1,title=jslint::{PERHAPS}\n', ''))
+    same(call(FILES='*.cjs', UNSUPPORTED=''), (2, '', 'jslint-files: --unsupported is error or note\n'))
     same(call(SETTINGS='none.toml')[1].count('prefer-const'), 2)
     same(call(SETTINGS='none'), (2, '', 'jslint-files: none: read failed: missing\n'))
     for it in ('$(touch made)', '`touch made`', '"; touch made; "', '--help'):

@@ -25,7 +25,7 @@ PACKED = {
     'LICENSE-APACHE', 'LICENSE-MIT', 'README.md', 'bin/eslint-json.mjs', 'bin/jslint-lsp.mjs', 'bin/jslint.mjs', 'bin/streams.mjs', 'core.mjs', 'eslint-json.d.mts', 'eslint-json.mjs',
     'jslint.d.mts', 'jslint.mjs', 'jslint.wasm', 'package.json', 'worker.mjs', 'lib/hints.json', 'lib/texts.json',
     *(f'lib/{it}.mjs' for it in (
-        'actions', 'beside', 'changes', 'checking', 'connection', 'document', 'editor', 'edits', 'engine', 'frames', 'hints', 'ignore', 'jobs', 'progress', 'protocol', 'rewriting', 'server',
+        'actions', 'beside', 'changes', 'checking', 'connection', 'document', 'editor', 'edits', 'engine', 'frames', 'hints', 'ignore', 'jobs', 'languages', 'progress', 'protocol', 'rewriting', 'server',
         'settings', 'shown', 'thread', 'workspace')),
 }
 # Where the libraries are, or why there are none.
@@ -144,7 +144,7 @@ def python_example(room):
     with open(f'{folder}/jslint.py', encoding='utf-8') as file:
         said = file.read()
     wanted = re.findall(r'^    (jslint\.\S.*?)  +(\S.*)$', said, re.M)
-    is_well(len(wanted) == 7, wanted)
+    is_well(len(wanted) == 8, wanted)
     asked = '\n'.join(f'print(repr({call}))' for call, _ in wanted)
     out, _ = ran([sys.executable, '-c', f'import jslint\n{asked}'], cwd=folder)
     for found, (call, want) in zip(out.splitlines(), wanted):

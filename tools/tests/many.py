@@ -97,8 +97,10 @@ def settings_refused(room):
         else:
             room.put('x/jslint.toml', text)
         same(project(room), (2, '', f'jslint-files: {place}: {said}\n'), repr(text)[:60])
+        # (settings say the language of what is rewritten too)
+        same(project(room, 'unwrap', '--write'), (2, '', f'jslint-files: {place}: {said}\n'), repr(text)[:60])
     same(project(room, 'a.js'), (1, f'a.js:{FOUND_BUG}', ''))
-    same(project(room, 'unwrap', '--write'), (0, '', ''))
+    same(project(room, 'unwrap', '--write', '--edition', '2020'), (0, '', ''))
 
 
 def ignore_files(room):
@@ -111,14 +113,14 @@ def ignore_files(room):
     os.symlink('..', room.path('x/up'))
     os.symlink('loop', room.path('x/loop'))
     os.symlink('../a.js', room.path('x/z.js'))
-    all_of = ['.hidden/i.js', 'a.js', 'inner/b.min.js', 'x/f.js', 'x/keep.min.js', 'y.js/j.js']
+    all_of = ['.hidden/i.js', 'a.js', 'inner/b.min.js', 'x/f.js', 'x/h.mjs', 'x/keep.min.js', 'y.js/j.js']
     same(names_in(project(room)[1]), all_of)
     same(names_in(project(room, '.')[1]), all_of)
-    same(names_in(project(room, 'x', 'out/c.js', 'x/f.js')[1]), ['x/f.js', 'x/keep.min.js', 'out/c.js'])
-    same(names_in(project(room, './x/', 'x/up/inner')[1]), ['./x/f.js', './x/keep.min.js', 'x/up/inner/b.min.js'])
+    same(names_in(project(room, 'x', 'out/c.js', 'x/f.js')[1]), ['x/f.js', 'x/h.mjs', 'x/keep.min.js', 'out/c.js'])
+    same(names_in(project(room, './x/', 'x/up/inner')[1]), ['./x/f.js', './x/h.mjs', './x/keep.min.js', 'x/up/inner/b.min.js'])
     same(project(room, 'out', 'node_modules/d')[:2], (1, f'node_modules/d/e.js:{FOUND_BUG}'))
     same(project(room, 'x/loop', 'none')[1], 'x/loop:1:1: read failed: links in a circle\nnone:1:1: read failed: missing\n')
-    same(names_in(project(room, '--files-from', '-', given=b'x\na.js\n')[1]), ['x/f.js', 'x/keep.min.js', 'a.js'])
+    same(names_in(project(room, '--files-from', '-', given=b'x\na.js\n')[1]), ['x/f.js', 'x/h.mjs', 'x/keep.min.js', 'a.js'])
     same(project(room, '--files-from', '-', given=b''), (0, '', ''))
     same(files(room, 'x'), (2, 'x:1:1: read failed: a folder\n', ''))
     room.put('.git/info/exclude', 'f.js\na.js\n')
@@ -156,6 +158,66 @@ def ignore_as_git(room):
             differ += [(lines, it)] * (ignored != (it in wanted))
     same(differ[:5], [])
     is_well(tried > 100 or 'ROUNDS' in os.environ, tried)
+
+
+def languages(room):
+    """A module is one by its name, by the nearest package.json or by the settings; words go before all of these. `fix` and `unwrap` read it as `check` does."""
+    repository(room)
+    module, of_2022, base = 'export let a = (1);\n', 'f(async () => (1));\n', 'async = (a);\n'
+    room.put('jslint.toml', '[rules]\nno-undef = false\nprefer-const = false\n')
+    put(room, ['m.mjs', 'x.js', 'esm/x.js', 'esm/in/x.mjs', 'esm/none/x.js', 'esm/old/x.js', 'esm/old/x.mjs', 'said/x.js', 'both/x.js', 'c.cjs'], module)
+    put(room, ['y.js', 'new/y.js', 'esm/y.js'], of_2022)
+    for folder, text in [('esm', '{"type": "module"}'), ('esm/none', '{"name": "none"}'), ('both', '\ufeff{ "type" : "module", "x": [{}] }'), ('new', '{"type": ["module"]}')]:
+        room.put(f'{folder}/package.json', text)
+    for folder, text in [('esm/old', 'source-type = "script"'), ('said', 'source-type = "module"'), ('new', 'edition = 2022'), ('both', 'edition = 2022')]:
+        room.put(f'{folder}/jslint.toml', f'{text}\nrules = {{ no-undef = false, prefer-const = false }}\n')
+    pair = lambda it: f'{it}:1:{"15" if it.endswith("y.js") else "16"}: no-extra-parens unnecessary parentheses\n'
+    refused = lambda it: f'{it}:1:{"12" if it.endswith("y.js") else "1"}: syntax error\n'
+    verdicts = {'both/x.js': pair, 'esm/in/x.mjs': pair, 'esm/none/x.js': refused, 'esm/old/x.js': refused, 'esm/old/x.mjs': refused, 'esm/x.js': pair, 'esm/y.js': pair, 'm.mjs': pair, 'new/y.js': pair,
+                'said/x.js': pair, 'x.js': refused, 'y.js': refused}
+    same(project(room), (2, ''.join(say(it) for it, say in verdicts.items()), ''))
+    # (without --project nothing is looked for but the name)
+    same(files(room, 'm.mjs', 'esm/x.js', 'c.cjs', '--settings', 'jslint.toml'), (2, pair('m.mjs') + refused('esm/x.js') + refused('c.cjs'), ''))
+    same(files(room, '--settings', 'said/jslint.toml', 'x.js', 'c.cjs'), (1, pair('x.js') + pair('c.cjs'), ''))
+    same(files(room, '--settings', 'esm/old/jslint.toml', 'm.mjs'), (2, refused('m.mjs'), ''))
+    same(project(room, 'esm/y.js', 'm.mjs', '--edition', '2020'), (2, refused('esm/y.js') + refused('m.mjs'), ''))
+    same(project(room, 'x.js', 'y.js', '--module'), (1, pair('x.js') + pair('y.js'), ''))
+    same(files(room, '--edition=2022', 'y.js', 'm.mjs', '--settings', 'jslint.toml'), (2, pair('y.js') + refused('m.mjs'), ''))
+    same(files(room, '--module', '--settings', 'esm/old/jslint.toml', 'x.js'), (2, '', 'jslint-files: esm/old/jslint.toml: bad settings\n'))
+    same(project(room, '--stdin', 'esm/new.js', given=module.encode()), (1, pair('esm/new.js'), ''))
+    same(files(room, 'unwrap', '--stdin', 'new.mjs', given=module.encode()), (0, module.replace('(1)', '1'), ''))
+    for command in ('fix', 'unwrap'):
+        status, out, err = project(room, command, '--diff')
+        same((status, re.findall(r'^\+\+\+ (.*)$', out, re.M), err), (2, [it for it, say in verdicts.items() if say is pair], ''.join(say(it) for it, say in verdicts.items() if say is refused)))
+    same(project(room, 'unwrap', '--write', 'said', 'both', 'new', 'm.mjs'), (0, '', ''))
+    same([room.text(it) for it in ('said/x.js', 'both/x.js', 'm.mjs', 'new/y.js')], [module.replace('(1)', '1')] * 3 + [of_2022.replace('(1)', '1')])
+    # (a package.json that can't be read is said, and nothing of its modules)
+    os.symlink('package.json', room.path('old.json'))
+    os.replace(room.path('old.json'), room.path('esm/package.json'))
+    same(project(room, 'esm/x.js'), (2, '', f'jslint-files: {os.path.realpath(room.folder)}/esm/package.json: read failed: links in a circle\n'))
+    room.put('base.js', base)
+    same([files(room, *words, 'base.js')[0] for words in ([], ['--edition', '2020'], ['--edition', '2022'], ['--module'])], [1, 1, 1, 1])
+
+
+def first_lines(room):
+    """A line of `#!` is a comment, which `unwrap` keeps, and `fix` drops only where that is asked for; comments turn reports off in modules too."""
+    repository(room)
+    text = '#!/usr/bin//env node\r\nexport let a = (1); // b\r\n'
+    for name, it in [('a.mjs', text), ('b.mjs', '#!/usr/bin/env node\nexport let a = (1);\n'), ('c.mjs', '#!\u2028/* a */ export let a = (1);\n')]:
+        room.put(name, it)
+    lost = 'not rewritten: fix drops {}; --drop-comments permits it, and unwrap keeps comments\n'
+    same(files(room, 'fix', '--write', 'a.mjs', 'b.mjs', 'c.mjs'), (2, '', ''.join(f'{name}.mjs:1:1: {lost.format(it)}' for name, it in [('a', '2 comments'), ('b', 'a comment'), ('c', '2 comments')])))
+    same(files(room, 'unwrap', '--write', 'a.mjs'), (0, '', ''))
+    same(room.text('a.mjs'), text.replace('(1)', '1'))
+    same(files(room, 'fix', '--write', '--drop-comments', 'a.mjs', 'b.mjs'), (0, '', ''))
+    same([room.text(it) for it in ('a.mjs', 'b.mjs')], ['export let a = 1;\r\n', 'export let a = 1;\n'])
+    room.put('d.mjs', '#!a\ndebugger; // jslint-disable-line\nexport {};\n')
+    same(files(room, '--suppressions', 'd.mjs'), (0, '', ''))
+    room.put('d.js', room.text('d.mjs'))
+    room.put('jslint.toml', 'source-type = "module"\n')
+    same(project(room, '--suppressions', 'd.js'), (0, '', ''))
+    same(files(room, '--suppressions', '--settings', 'jslint.toml', 'd.js'), (0, '', ''))
+    same(files(room, '--suppressions', 'd.js'), (2, 'd.js:1:1: syntax error\n', ''))
 
 
 def no_pattern_takes_long(_):
@@ -259,7 +321,7 @@ def words(room):
         ('--max-warnings x a.js', '--max-warnings takes a number'), ('--max-warnings -1 a.js', '--max-warnings takes a number'), ('--ends a.js', '--ends is for --format json'), ('--project=x a.js', '--project=x is no option; a file of that name stands behind --'),
         ('--stdin b.js a.js', '--stdin stands for the only script'), ('--stdin b.js --files-from a.js', '--stdin stands for the only script'), ('fix --stdin b.js --write', '--stdin writes to standard output: --write is for files'),
         ('fix --format json a.js', '--format is for check'), ('unwrap --suppressions --write a.js', '--suppressions is for check'), ('fix --explain no-var', '--explain is for check'), ('--summary', 'no file is named (--help)'),
-        ('--explain no-such', f'no-such is no rule and no early error: --explain takes one of {", ".join(RULES)}, or E1 to E21'), ('--explain E22', f'E22 is no rule and no early error: --explain takes one of {", ".join(RULES)}, or E1 to E21'),
+        ('--explain no-such', f'no-such is no rule and no early error: --explain takes one of {", ".join(RULES)}, or E1 to E35'), ('--explain E36', f'E36 is no rule and no early error: --explain takes one of {", ".join(RULES)}, or E1 to E35'),
         ('--stdin', '--stdin needs a value'), ('--max-warnings', '--max-warnings needs a value'), ('fix --write --diff a.js', 'fix wants --write or --diff, and not both'),
     ]
     for text, said in rows:
@@ -504,12 +566,15 @@ def hint_rows(room):
     """The rows of the language server, by the program's own places: the same table says the same in Python."""
     with open(f'{TOP}/packages/npm/test/lsp/hints.rows.json', encoding='utf-8') as file:
         rows = json.load(file)
-    for number, it in enumerate(rows):
-        room.put(f'{number}.js', it['text'])
-    found = {it['filePath'].rsplit('/', 1)[1]: it['messages'] for it in json.loads(files(room, '--format', 'json', '--hints', *(f'{it}.js' for it in range(len(rows))))[1])}
+    found = {}
+    for language, words in [(None, []), ('2022', ['--edition', '2022']), ('module', ['--module'])]:
+        names = {f'{number}.js': it['text'] for number, it in enumerate(rows) if it.get('language') == language}
+        for name, text in names.items():
+            room.put(name, text)
+        found.update((it['filePath'].rsplit('/', 1)[1], it['messages']) for it in json.loads(files(room, '--format', 'json', '--hints', *words, *names)[1]))
     for number, it in enumerate(rows):
         fatal = [each for each in found[f'{number}.js'] if each.get('fatal')]
-        row = hints.hint_of(it['text'], fatal[0]['message'], fatal[0]['line'], len(it['text'].encode('utf-16-le')) and column_of(it['text'], fatal[0])) if fatal else {'id': 'accepted', 'hint': None}
+        row = hints.hint_of(it['text'], fatal[0]['message'], fatal[0]['line'], len(it['text'].encode('utf-16-le')) and column_of(it['text'], fatal[0]), it.get('language')) if fatal else {'id': 'accepted', 'hint': None}
         same(row and row.get('id', row.get('number')), it['id'], it['text'])
         is_well(not fatal or fatal[0].get('hint') == (row and row['hint']), it['text'])
     is_well(len(rows) > 80)
@@ -738,6 +803,6 @@ def works(process):
 
 
 TESTS = [
-    settings_nearest, settings_refused, ignore_files, ignore_as_git, no_pattern_takes_long, odd_folders, unpermitted, recipe, standard_input, words, gone_folder, streams, long_files, form_pretty, progress, form_junit,
+    settings_nearest, settings_refused, ignore_files, ignore_as_git, languages, first_lines, no_pattern_takes_long, odd_folders, unpermitted, recipe, standard_input, words, gone_folder, streams, long_files, form_pretty, progress, form_junit,
     form_json_ends, ends_unknown, ends_time, form_sarif, sarif_check, hint_rows, hint_time, unsupported, suppressions, counts, explained, library_and_program, which_library, no_build, shared_library, too_long_for_memory, interrupted,
 ]

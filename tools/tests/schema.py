@@ -104,7 +104,7 @@ def as_program(room):
     with open(f'{TOP}/docs/rules/README.md', encoding='utf-8') as file:
         page = file.read()
     same(sorted(it['properties']['rules']['properties']), sorted(re.findall(r'^\| \[([\w-]+)\]', page, re.M)))
-    same(sorted(it['properties']), sorted(re.findall(r'^\| `([\w-]+)` \| (?:an array|a table|`true`)', page, re.M)))
+    same(sorted(it['properties']), sorted(re.findall(r'^\| `([\w-]+)` \| ', page.partition('\n## A settings file\n')[2].partition('\n## ')[0], re.M)))
     with open(f'{os.path.dirname(recipes.BIN)}/{PLACE}', encoding='utf-8') as file:
         same(json.load(file), it)
 
@@ -122,11 +122,13 @@ def by_validator(_):
 
 
 def words(_):
-    """Each key has a description and a default, which it takes itself; those of the rules are the words that `jslint-files` has for them."""
+    """Each key has a description, and a default, which it takes itself; those of the language have none, since without them both of their values are left. Those
+    of the rules are the words that `jslint-files` has for them."""
     it = schema()
     rules = it['properties'].pop('rules')['properties']
     keys = [*it['properties'].items(), *rules.items()]
-    same([key for key, each in keys if not each.get('description') or 'default' not in each or not is_valid(each, each['default'])], [])
+    same([key for key, each in keys if not each.get('description') or 'default' in each and not is_valid(each, each['default'])], [])
+    same([key for key, each in keys if 'default' not in each], ['edition', 'source-type'])
     recipes.sys.path.insert(0, f'{TOP}/tools')
     from jslint_files.rules import RULES
     same({key: each['description'] for key, each in rules.items()}, RULES)

@@ -65,9 +65,9 @@ def each_name(_):
 def a_kind(_):
     """The way of a kind from its production to the function that reads it, and the function's promise."""
     found = said('MetaProperty')['MetaProperty']
-    at = next(re.match(r'(\S+):(\d+)  new_target$', it) for it in found['code'] if it.endswith('  new_target'))
+    at = next(re.match(r'(\S+):(\d+)  meta_property$', it) for it in found['code'] if it.endswith('  meta_property'))
     is_well(at[1] == 'crates/recursive_descent/src/primary.rt' and 'Kind::MetaProperty' in lines_of(at[1])[int(at[2]) - 1], at[0])
-    is_well(any(re.search(r'primary\.rt:\d+  new_target: ensures ', it) for it in found['contract']), found['contract'])
+    is_well(any(re.search(r'primary\.rt:\d+  meta_property: ensures ', it) for it in found['contract']), found['contract'])
     is_well(any(re.fullmatch(r'crates/language/specs/Expressions\.antt:\d+  expressions', it) for it in found['definition']), found['definition'])
     is_well(found['production'][0].startswith('docs/DEFINITIONS.md:') and 'NewTarget' in found['production'][0], found['production'])
     is_well(re.search(r'\bviews \d', found['rows'][0]), found['rows'])

@@ -12,10 +12,10 @@ const COMMANDS = ['check', 'fix', 'unwrap', 'tree', 'cost', 'verify', 'same'];
 
 /** Takes a flag, or an option with its value, out of words before `--`: whether it is there, its value, or null where that is missing. */
 function taken(words, name, hasValue) {
-  const marks = words.indexOf('--'), at = words.indexOf(name);
+  const marks = words.indexOf('--'), at = words.findIndex((it) => it === name || (hasValue && it.startsWith(`${name}=`)));
   if (at < 0 || (marks >= 0 && marks < at)) return undefined;
-  const [, value = null] = words.splice(at, hasValue ? 2 : 1);
-  return hasValue ? value : true;
+  const isSpaced = words[at] === name, [word, value = null] = words.splice(at, hasValue && isSpaced ? 2 : 1);
+  return !hasValue || (isSpaced ? value : word.slice(name.length + 1));
 }
 
 /** The command, the names of its files and what is said of the language, or null where these are no words of the program. */

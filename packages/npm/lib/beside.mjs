@@ -1,4 +1,4 @@
-// The files beside scripts that say how they are to be read: jslint.toml and the ignore files, looked for from the script's folder up.
+// The files beside scripts that say how they are to be read: jslint.toml, package.json and the ignore files, looked for from the script's folder up.
 import { lstatSync, readFileSync, readdirSync, statSync } from 'node:fs';
 import path from 'node:path';
 import { unread } from '../bin/streams.mjs';
@@ -6,6 +6,8 @@ import { isIgnored, patternsOf, verdict } from './ignore.mjs';
 import { saysModule } from './languages.mjs';
 
 export const SETTINGS = 'jslint.toml';
+// What says whether scripts are modules.
+export const PACKAGE = 'package.json';
 // (what the first says goes before what the second says; the third is in the top folder of a repository alone)
 export const IGNORES = ['.jslintignore', '.gitignore', '.git/info/exclude'];
 // The commands take no longer text.
@@ -91,7 +93,7 @@ export class Beside {
   isModule(script, openText) {
     if (!script.endsWith('.js')) return script.endsWith('.mjs');
     for (const folder of this.foldersOf(script)) {
-      const file = path.join(folder, 'package.json'), text = openText(file) ?? this.texts.of(file)?.text;
+      const file = path.join(folder, PACKAGE), text = openText(file) ?? this.texts.of(file)?.text;
       if (text !== undefined) return saysModule(text);
     }
     return false;

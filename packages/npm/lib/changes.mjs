@@ -61,8 +61,8 @@ function differsInOneWord(a, b, word, other) {
 
 const withoutBlanks = (text) => text.replace(/\s+/g, '');
 
-/** Whether a stretch has characters that may begin a comment. */
-export const mayHaveComments = (text) => /\/[/*]/.test(text);
+/** Whether a stretch has characters that may begin a comment, or begins with a line of `#!`, which `fix` drops too. */
+export const mayHaveComments = (text) => /^#!|\/[/*]/.test(text);
 
 /** Judges changes of one accepted text. What is worked out of the text itself is kept for the following change. */
 export class Judge {

@@ -6,7 +6,7 @@ const OF_MODULES = "import 'a'", OF_2022 = 'async () => {}';
 /** Whether a package.json says that the scripts beside it and below it are modules. */
 export function saysModule(text) {
   try {
-    return JSON.parse(text)?.type === 'module';
+    return JSON.parse(text.replace(/^\ufeff/, ''))?.type === 'module';
   } catch {
     return false;
   }

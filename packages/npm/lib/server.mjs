@@ -1,5 +1,5 @@
 // The language server: what each method of the protocol does, and when it may.
-import { IGNORES, SETTINGS } from './beside.mjs';
+import { IGNORES, PACKAGE, SETTINGS } from './beside.mjs';
 import { Actions, KINDS } from './actions.mjs';
 import { Checking } from './checking.mjs';
 import { Connection } from './connection.mjs';
@@ -125,7 +125,7 @@ export class Server {
   }
 
   initialized() {
-    const { watch, configure } = this.editor.can, watchers = [SETTINGS, ...IGNORES].map((name) => ({ globPattern: `**/${name}` }));
+    const { watch, configure } = this.editor.can, watchers = [SETTINGS, PACKAGE, ...IGNORES].map((name) => ({ globPattern: `**/${name}` }));
     const registrations = [
       ...(watch ? [{ id: 'files', method: 'workspace/didChangeWatchedFiles', registerOptions: { watchers } }] : []),
       ...(configure ? [{ id: 'settings', method: 'workspace/didChangeConfiguration', registerOptions: { section: NAME } }] : []),

@@ -56,10 +56,22 @@ test('what can not be written ends with status 2', () => {
 
 test('check takes settings, and verify a table', () => {
   withFiles({ 'a.js': 'debugger; (({})).a;', 's.toml': '[rules]\nno-debugger = false\nno-extra-parens = false\n' }, (path) => {
-    assert.deepEqual(ran('jslint', ['check', '--settings', path('s.toml'), '--', path('a.js')]), [0, '', '']);
+    for (const words of [['--settings', path('s.toml')], [`--settings=${path('s.toml')}`]]) assert.deepEqual(ran('jslint', ['check', ...words, '--', path('a.js')]), [0, '', '']);
     const [, table] = ran('jslint', ['cost', path('a.js')]);
     writeFileSync(path('table'), table);
     assert.deepEqual(ran('jslint', ['verify', path('a.js'), path('table')]), [0, 'pairs 2 least 1\n', '']);
+  });
+});
+
+test('each command takes a language, and refuses words that make no sense', () => {
+  withFiles({ 'm.mjs': 'export let a = (1);\n', 'a.js': 'async () => await (1);\n' }, (path) => {
+    assert.deepEqual(ran('jslint', ['fix', '--module', path('m.mjs')]), [0, 'export let a = 1;\n', '']);
+    assert.deepEqual(ran('jslint', ['unwrap', path('m.mjs'), '--module', '--edition', '2022']), [0, 'export let a = 1;\n', '']);
+    assert.deepEqual(ran('jslint', ['same', '--module', path('m.mjs'), path('m.mjs')]), [0, '', '']);
+    for (const words of [['--edition', '2022'], ['--edition=2022']]) assert.deepEqual(ran('jslint', ['unwrap', ...words, path('a.js')]), [0, 'async () => await 1;\n', '']);
+    assert.deepEqual(ran('jslint', ['fix', '--edition', '2022', path('m.mjs')]), [2, '', 'jslint: syntax error at 1:1\n']);
+    for (const words of [['--edition', '2021'], ['--edition=']]) assert.deepEqual(ran('jslint', ['fix', ...words, path('a.js')]), [2, '', 'jslint: --edition is 2020 or 2022\n']);
+    assert.deepEqual(ran('jslint', ['check', '--module', '--edition=2020', path('m.mjs')]), [2, '', "jslint: --module doesn't go with --edition 2020\n"]);
   });
 });
 

@@ -223,6 +223,39 @@ test('settings: the nearest, as they are typed, refused with a line, ignored fil
   }, { capabilities: LITERALS });
 });
 
+test('languages: a module by its name, by package.json or by the settings', async () => {
+  for (const [name, text] of [['package.json', '\ufeff{"type": "module"}'], ['none/package.json', '{"name": "none"}'], ['said/package.json', '{'], ['said/jslint.toml', 'source-type = "module"\n'],
+    ['old/jslint.toml', 'source-type = "script"\n'], ['new/package.json', '[]'], ['new/jslint.toml', 'edition = 2022\n']]) put(`languages/${name}`, text);
+  const module = 'export let a = (1);\n', ofTwo = 'export {};\nasync () => (1);\n';
+  await withClient(async (client) => {
+    const opened = async (name, text) => codes(await client.open(uriOf(`languages/${name}`), text));
+    const unwrapped = async (name, text) => edited(text, await formatted(client, `languages/${name}`));
+    for (const name of ['a.mjs', 'a.js', 'none/a.mjs', 'said/a.js']) {
+      assert.deepEqual(await opened(name, module), ['prefer-const', 'no-extra-parens'], name);
+      assert.equal(await unwrapped(name, module), 'export let a = 1;\n', name);
+      const found = await actionsAt(client, `languages/${name}`, range(0, 0, 0, 19));
+      const made = found.filter((it) => /^(Change let|Take out this)/.test(it.title)).map((it) => edited(module, it.edit.changes[uriOf(`languages/${name}`)]));
+      assert.deepEqual(made, ['export const a = (1);\n', 'export let a = 1;\n'], name);
+    }
+    for (const name of ['none/a.js', 'old/a.js', 'old/a.mjs', 'a.cjs', 'new/a.js']) {
+      assert.deepEqual(await opened(name, module), ['syntax'], name);
+      await assert.rejects(unwrapped(name, module), /syntax error.*perhaps.*module/, name);
+    }
+    assert.deepEqual(await opened('new/b.js', ofTwo.slice(11)), ['no-extra-parens']);
+    assert.equal(await unwrapped('new/b.js', ofTwo.slice(11)), 'async () => 1;\n');
+    assert.deepEqual(await opened('b.js', ofTwo), ['no-extra-parens']);
+    // (the package says it from now on)
+    const script = client.diagnostics(uriOf('languages/none/a.js'), (it) => it.diagnostics.length === 2);
+    put('languages/none/package.json', '{"type": "module", "name": "none"}');
+    client.notify('workspace/didChangeWatchedFiles', { changes: [{ uri: uriOf('languages/none/package.json'), type: 2 }] });
+    await script;
+  }, { capabilities: LITERALS });
+  await withClient(async (client) => {
+    await client.open(uriOf('languages/c.js'), '#!a\nif ((a)) b');
+    assert.equal(edited('#!a\nif ((a)) b', await formatted(client, 'languages/c.js')), '#!a\nif (a) b');
+  }, { more: { initializationOptions: { format: 'layout' } } });
+});
+
 test('settings on the disk that are refused, and mended', async () => {
   put('disk/jslint.toml', 'no\n');
   await withClient(async (client) => {
@@ -277,7 +310,7 @@ test('what the editor is asked to watch', async () => {
     await client.open(uriOf('w.js'), '1;');
     const [asked] = client.heard.filter((it) => it.method === 'client/registerCapability');
     assert.deepEqual(asked.params.registrations.map((it) => [it.method, it.registerOptions.section ?? it.registerOptions.watchers.map((each) => each.globPattern)]), [
-      ['workspace/didChangeWatchedFiles', ['**/jslint.toml', '**/.jslintignore', '**/.gitignore', '**/.git/info/exclude']], ['workspace/didChangeConfiguration', 'jslint'],
+      ['workspace/didChangeWatchedFiles', ['**/jslint.toml', '**/package.json', '**/.jslintignore', '**/.gitignore', '**/.git/info/exclude']], ['workspace/didChangeConfiguration', 'jslint'],
     ]);
     const found = client.diagnostics(uriOf('w.js'), (it) => it.diagnostics.length === 1);
     client.notify('workspace/didChangeConfiguration', { settings: { jslint: { settings: null } } });

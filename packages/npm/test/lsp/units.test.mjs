@@ -137,14 +137,14 @@ test('settings: what is put in is read', () => {
 
 const rows = JSON.parse(readFileSync(new URL('hints.rows.json', import.meta.url), 'utf8'));
 test('hints: each row', () => {
-  for (const { text, id } of rows) {
+  for (const { text, id, language } of rows) {
     let found = 'accepted';
     try {
-      fix(text);
+      fix(text, { language });
     } catch (error) {
       assert.ok(error instanceof Refused);
       const index = indexOf(text, error.line, error.column);
-      found = (error.code === 'early' ? earlyHint(error.number, text, index)?.number : syntaxHint(text, index)?.id) ?? null;
+      found = (error.code === 'early' ? earlyHint(error.number, text, index, language)?.number : syntaxHint(text, index, language)?.id) ?? null;
     }
     assert.equal(found, id, text);
   }
