@@ -1,8 +1,9 @@
 'use strict';
 // A search for derivations, one case for each constructor of Step, Spells and Runs.
-//   const d = new Derive(model);  d.derive(text, plainTree, {places, language}) -> [{pairs, open}]
+//   const d = new Derive(model);  d.derive(text, plainTree, {places, language, bounds}) -> [{pairs, open}]
 // pairs: [{left, right}] in order; open: the least o. All readings of the text are searched
-// (at `/` punctuator or regular expression, at `}` punctuator or template part).
+// (at `/` punctuator or regular expression, at `}` punctuator or template part). To `bounds` comes each place behind an expression:
+// {role, node, cursor, goesOn}: the position's role, or, where the expression begins another one and goes on, the role of that.
 
 const path = require('path');
 const antt = require('./antt.js');
@@ -72,6 +73,7 @@ class Derive {
     this.places = options.places !== false;
     this.reading = new Reading(m, text, options.language);
     this.found = new Map();
+    this.bounds = options.bounds ?? null;
     this.budget = options.budget ?? 3e6;
     const root = tree.spec ?? m.tree(tree);
     this.ids = new Map();
@@ -120,7 +122,7 @@ class Derive {
     // direct
     if (!this.hopeless(a, n, c)) {
       for (let ways = m.ways(a, n); ways !== null; ways = ways.t) {
-        for (const x of this.runs(ways.h, n.a[5], c)) if (this.placed(a, n, c, x.c)) out.push(x);
+        for (const x of this.runs(ways.h, n.a[5], c, a)) if (this.placed(a, n, c, x.c)) out.push(x);
       }
     }
     // reserved_key, reserved_word
@@ -140,7 +142,13 @@ class Derive {
     this.found.set(key, out);
     return out;
   }
-  runs(qs, ps, c) {
+  bound(role, node, cursor, within) {
+    if (cursor.t === null || within?.$.name === 'chain_part') return;
+    const goesOn = within?.$.name === 'expr';
+    this.bounds.push({ role: goesOn ? within : role, node, cursor, goesOn });
+  }
+  // `within`: the position of the node that begins here
+  runs(qs, ps, c, within = null) {
     const { m, reading } = this;
     // steps with one way on, without recursion
     for (;;) {
@@ -152,6 +160,7 @@ class Derive {
         case 'tok': {
           if (c.t === null || !m.is_token(q.a[0], q.a[1], c.t.v)) return [];
           const next = reading.over(c);
+          within = null;
           if (next.length === 1) { c = next[0]; qs = qs.t; continue; }
           return next.flatMap((d) => this.runs(qs.t, ps, d));
         }
@@ -195,6 +204,7 @@ class Derive {
           const [n, rest] = ps.a;
           const found = this.spells(q.a[0], n, c);
           if (found.length === 0) return [];
+          if (this.bounds !== null && q.a[0].$.name === 'expr') for (const x of found) this.bound(q.a[0], n, x.c, within);
           const out = [];
           for (const x of found) for (const y of this.runs(qs.t, rest, x.c)) out.push({ c: y.c, P: join(x.P, y.P), o: Math.max(x.o, y.o) });
           return out;

@@ -1,10 +1,14 @@
 'use strict';
 // Holds the definitions of the languages against the model:
-//   node languages.js CASES.jsonl [--sections A,B] [--mutants N] [--trees N] [--seed S] [--jobs I/K] [--bare]
-// CASES: rows {text, language, section, answer}; those of the sections alone. --bare looks at derivations and early errors alone, not at fixed texts.
+//   node languages.js CASES.jsonl [--sections A,B] [--mutants N] [--trees N] [--seed S] [--jobs I/K] [--bare] [--early] [--tokens]
+// CASES: rows {text, language, section, answer}; those of the sections alone, and those of planted.jsonl. --bare looks at derivations and early
+// errors alone, not at fixed texts; --early at early errors alone; --tokens at the tokens too, of texts of at most 30 characters.
+// Exit status 1 where anything disagrees. plant_languages.js asks `firstOf` of other definitions.
 // For each row {text, language} (base, script, module), and for mutants of the texts:
 // - what the model takes (early errors aside) has just one derivation, with the model's places and pairs;
-// - the same tree isn't derived by tokens of the base language, unless the base language takes the text with it;
+// - the same tree isn't derived by tokens of the base language, unless the base language takes the text with it; as a tree of one language it is
+//   none of another;
+// - where an expression of it ends, the tokens can't go on (`stops`), and where one goes on, they can;
 // - a text of the base language has its tree in the language of 2022 too, unless the model refuses it there;
 // - its fixed text has the same tree, the fewest pairs, one derivation, and is fixed to itself; the least early error is the model's;
 // - trees of parsers with a check left out aren't derived, whether the model takes the text or not;
@@ -17,6 +21,7 @@ const Module = require('node:module');
 const antt = require('./antt.js');
 const { Model, CRATES, PLAIN_MODEL, FLAGS, FORM, PROGRAM_TEXT: TEXT, plainTree, bareText, copyTree, nodesOf } = require('./model.js');
 const { Derive, TooMuch } = require('./derive.js');
+const { compareReading } = require('./reading.js');
 const { parseOnly } = require(path.join(PLAIN_MODEL, 'parse.js'));
 const { earlyErrors } = require(path.join(PLAIN_MODEL, 'early.js'));
 const { randomSource } = require(path.join(PLAIN_MODEL, 'random.js'));
@@ -89,20 +94,22 @@ const optionsOf = (language) => ({ ...LIMITS, ...(language === 'base' ? {} : { e
 
 const random = randomSource(Number(option('seed', 1)) + 77);
 const TREES = Number(option('trees', 0));
-const BARE = process.argv.includes('--bare');
-const model = new Model(CRATES);
+const has = (name) => process.argv.includes('--' + name);
+const how = { bare: has('bare'), early: has('early'), tokens: has('tokens'), first: false };
+let model, derive;
+const use = (crates) => { model = new Model(crates); derive = new Derive(model); };
 const KINDS = fs.readFileSync(path.join(__dirname, '../../crates/tree/src/kind.rt'), 'utf8').match(/pub enum Kind \{[^]*?\n\}/)[0].match(/^    \w+(?=,$)/gm).map((k) => k.trim());
-const derive = new Derive(model);
 const parsers = relaxed().concat(require('./relaxed.js').relaxed().map((p) => ({ ...p, seen: 0, taken: 0 })));
 const counts = {};
 const count = (k) => { counts[k] = (counts[k] ?? 0) + 1; };
 let said = 0;
 let lastError = 'none';
-const say = (what, language, text, more = '') => { said += 1; count('DISAGREEMENT: ' + what); console.log(what, '|', language, '|', JSON.stringify(text), '|', String(more).slice(0, 600)); };
-function tryDerive(text, plain, language, places = true) {
+class Disagreement extends Error {}
+const say = (what, language, text, more = '') => { const line = [what, language, JSON.stringify(text), String(more).slice(0, 600)].join(' | '); if (how.first) throw new Disagreement(line); said += 1; count('DISAGREEMENT: ' + what); console.log(line); };
+function tryDerive(text, plain, language, places = true, bounds = null) {
   plain = { ...plain, text: TEXT[language], spec: undefined };
   try {
-    return derive.derive(text, plain, { places, language, budget: 4e5 });
+    return derive.derive(text, plain, { places, language, bounds, budget: 4e5 });
   } catch (error) { if (error instanceof TooMuch) { count('given up'); return null; } throw error; }
 }
 function check(text, language) {
@@ -113,17 +120,8 @@ function check(text, language) {
     count('texts taken');
     plain = plainTree(r.tree);
     own = bareText(plain);
-    const want = r.pairs.map((p) => `${p.left}-${p.right}`).join(' ');
     const spec = model.tree({ ...plain, text: TEXT[language] });
-    (function lean(n) { if (!model.is_lean(n.spec)) say('not lean', language, text, n.kind); n.parts.forEach((p) => p !== null && lean(p)); })({ ...plain, spec });
-    for (const places of [true, false]) {
-      const d = tryDerive(text, plain, language, places);
-      if (d === null) continue;
-      count('derivations searched');
-      if (d.length !== 1) say(d.length === 0 ? 'no derivation' : 'several lists of pairs', language, text, places + own);
-      else if (d[0].key !== want) say('other pairs', language, text, d[0].key + ' / ' + want);
-      else if (d[0].open !== r.openParens) say('other number of open parentheses', language, text, d[0].open + ' / ' + r.openParens);
-    }
+    if (!how.early) checkDerivations(r, spec);
     // early errors: the least, by place and number
     const e = model.least_error(spec);
     const mine = e.a.length === 0 ? 'none' : `E${e.a[0][0]} ${e.a[0][1]}`;
@@ -132,8 +130,27 @@ function check(text, language) {
     lastError = mine;
     count(mine === 'none' ? 'no early error' : 'early ' + mine.split(' ')[0]);
     if (mine !== theirs) say('least early error', language, text, mine + ' / ' + theirs);
+    if (how.early) return plain;
+    if (!how.bare) checkFixed(r, spec);
+  }
+  return how.early ? plain : others(text, language, plain, own);
+
+  function checkDerivations(r, spec) {
+    const want = r.pairs.map((p) => `${p.left}-${p.right}`).join(' ');
+    (function lean(n) { if (!model.is_lean(n.spec)) say('not lean', language, text, n.kind); n.parts.forEach((p) => p !== null && lean(p)); })({ ...plain, spec });
+    for (const places of [true, false]) {
+      const bounds = places ? [] : null;
+      const d = tryDerive(text, plain, language, places, bounds);
+      if (bounds !== null) checkBounds(bounds, text, language);
+      if (d === null) continue;
+      count('derivations searched');
+      if (d.length !== 1) say(d.length === 0 ? 'no derivation' : 'several lists of pairs', language, text, places + own);
+      else if (d[0].key !== want) say('other pairs', language, text, d[0].key + ' / ' + want);
+      else if (d[0].open !== r.openParens) say('other number of open parentheses', language, text, d[0].open + ' / ' + r.openParens);
+    }
+  }
+  function checkFixed(r, spec) {
     // the fixed text is read again: the same tree, with the fewest pairs, and fixed to itself
-    if (BARE) return others(text, language, plain, own);
     const fixed = antt.text(model.fixed_text(spec));
     const again = parseOnly(fixed, optionsOf(language));
     count('fixed texts');
@@ -146,7 +163,37 @@ function check(text, language) {
       if (d !== null && (d.length !== 1 || String(d[0].pairs.length) !== least)) say('the fixed text derives otherwise', language, text, JSON.stringify(fixed));
     }
   }
-  return others(text, language, plain, own);
+}
+// What is read behind an operand can't go on where an expression ends, and goes on where it does. Behind the end, on its line, stands no
+// name but an operator, or an `of` behind which no `=>` stands (`Apart` in Promises, which is a type, and so written here by hand).
+function checkBounds(bounds, text, language) {
+  for (const { role, node, cursor, goesOn } of bounds) {
+    const last = cursor.b.v, t = cursor.t.v;
+    if (t.class === model.classes.regexp || (t.class === model.classes.template && t.text.h === 125)) continue;
+    count('bounds of expressions');
+    const [rank, hasIn] = role.a;
+    if (model.stops(rank, hasIn, model.edge(node), last, t) === goesOn) say(goesOn ? 'an expression goes on that stops' : 'an expression stops that goes on', language, text, `${node.a[0].$.name} before ${antt.text(t.text)}`);
+    if (goesOn || t.class !== model.classes.name || t.after_break || model.operation(t).$.name !== 'op_none') continue;
+    if (antt.text(t.text) !== 'of' || derive.reading.over(cursor).some((c) => c.t !== null && model.is_mark(antt.codes('=>'), c.t.v))) say('a name behind an expression', language, text, antt.text(t.text));
+  }
+}
+// the trees of parsers with a check left out, one of each kind; kept, since plant_languages.js asks again and again
+const wrong = new Map();
+function wrongTrees(text, language) {
+  const key = language + ' ' + text;
+  if (!wrong.has(key)) {
+    const found = new Map();
+    for (const p of parsers) {
+      try {
+        const q = p.parseOnly(text, optionsOf(language));
+        if (!q.ok) continue;
+        const tree = plainTree(q.tree), b = bareText(tree);
+        if (!found.has(b)) found.set(b, { p, tree, b });
+      } catch { continue; }
+    }
+    wrong.set(key, [...found.values()]);
+  }
+  return wrong.get(key);
 }
 // the same tree in the other languages, and other trees in this one
 function others(text, language, plain, own) {
@@ -158,6 +205,7 @@ function others(text, language, plain, own) {
       if (d === null) continue;
       count('other languages');
       if ((d.length > 0) !== same) say(same ? 'not derived in ' + other : 'derived in ' + other, language, text, own);
+      if (model.is_tree_of(model.languages[other], model.tree({ ...plain, text: TEXT[language] }))) say('a tree of ' + other + ' too', language, text);
     }
   }
   // other trees of the same text: a flag, a form, a kind, a text or a part changed
@@ -183,12 +231,7 @@ function others(text, language, plain, own) {
     }
   }
   const seen = new Set([own]);
-  for (const p of parsers) {
-    let q;
-    try { q = p.parseOnly(text, optionsOf(language)); } catch { continue; }
-    if (!q.ok) continue;
-    let tree, b;
-    try { tree = plainTree(q.tree); b = bareText(tree); } catch { continue; }
+  for (const { p, tree, b } of wrongTrees(text, language)) {
     if (seen.has(b)) continue;
     seen.add(b);
     p.seen += 1;
@@ -230,26 +273,44 @@ function tryWrong() {
     const d = tryDerive(text, tree, 'module', false);
     if (d !== null && d.length > 0) { derived += 1; say('a wrong tree is derived', 'module', text, bareText(tree)); }
   }
-  console.log(`wrong trees made by hand: ${WRONG.length}, ${derived} derived`);
+  return derived;
 }
 
 const pieces = (text) => text.match(/\s+|#?[$\w]+|'[^']*'|"[^"]*"|=>|\*\*|\+\+|--|\?\.|\?\?|\|\||&&|\.\.\.|\$\{|[^]/g) ?? [];
+const rowsOf = (cases) => [cases, path.join(__dirname, 'planted.jsonl')].flatMap((file) => fs.readFileSync(file, 'utf8').split('\n').filter((l) => l !== '').map((l) => JSON.parse(l)));
+// a row; its tree, where the model takes the text
+function checkRow(row) {
+  if (how.tokens && row.text.length <= 30) for (const x of compareReading(model, row.text, { count })) say(x.what, row.language, row.text, x.detail);
+  const plain = check(row.text, row.language);
+  const answer = plain === null ? 'syntax' : lastError === 'none' ? 'accepted' : `early error ${lastError.replace(' ', ' at ')}`;
+  if (row.answer !== undefined && !row.answer.startsWith(answer)) say('the row says otherwise', row.language, row.text, `${answer} / ${row.answer}`);
+  return plain;
+}
+// The first disagreement of the definitions in these crates with some rows, and with the trees made by hand; null where there is none.
+function firstOf(crates, rows, looks) {
+  Object.assign(how, { bare: false, early: false, tokens: false, first: true }, looks);
+  try {
+    use(crates);
+    for (const row of rows) checkRow(row);
+    if (!how.early) tryWrong();
+    return null;
+  } catch (error) { if (error instanceof Disagreement) return error.message; throw error; }
+}
 function main() {
-  const rows = fs.readFileSync(process.argv[2], 'utf8').split('\n').filter((l) => l !== '').map((l) => JSON.parse(l));
+  use(CRATES);
+  const rows = rowsOf(process.argv[2]);
   const [part, of] = option('jobs', '0/1').split('/').map(Number);
   const taken = [];
-  const sections = option('sections', null)?.split(',');
+  const sections = option('sections', null)?.split(/,(?! )/);
   let agree = 0; let differ = 0;
   rows.forEach((row, i) => {
     if (i % of !== part || (sections !== undefined && sections !== null && !sections.includes(row.section))) return;
     const before = said;
-    const plain = check(row.text, row.language);
-    const answer = plain === null ? 'syntax' : lastError === 'none' ? 'accepted' : `early error ${lastError.replace(' ', ' at ')}`;
-    if (row.answer !== undefined && !row.answer.startsWith(answer)) say('the row says otherwise', row.language, row.text, `${answer} / ${row.answer}`);
+    const plain = checkRow(row);
     if (said === before) agree += 1; else differ += 1;
     if (plain !== null && row.text.length < 120) taken.push({ ...row, plain, own: bareText(plain) });
   });
-  if (part === 0) tryWrong();
+  if (part === 0 && !how.early) { const derived = tryWrong(); console.log(`wrong trees made by hand: ${WRONG.length}, ${derived} derived`); }
   console.log(`rows: ${agree} agree, ${differ} don't`);
   const source = randomSource(Number(option('seed', 1)));
   const pool = rows.flatMap((r) => pieces(r.text)).filter((p) => p.trim() !== '');
@@ -275,5 +336,7 @@ function main() {
   }
   console.log(counts);
   console.log('checks that saw no tree:', parsers.filter((p) => p.seen === 0).map((p) => p.name).join('; '));
+  process.exitCode = said === 0 ? 0 : 1;
 }
-main();
+module.exports = { rowsOf, firstOf };
+if (require.main === module) main();

@@ -24,6 +24,8 @@ const NAMES = {
   is_keyword: ['is_keyword', 'Vocabulary', 'language'],
   // a search that the definitions have themselves
   spelled: ['spelled', 'Search', 'language'],
+  // where expressions end
+  edge: ['edge', 'Edges', 'language'], stops: ['stops', 'Continuations', 'language'], operation: ['operation', 'Continuations', 'language'],
   // costs and layout
   least: ['least', 'Cost', 'language'], cells: ['cells', 'Cost', 'language'], fixed_text: ['fixed_text', 'Layout', 'language'], layout: ['layout', 'Layout', 'language'],
   fits: ['fits', 'LayoutFits', 'language'], printed: ['printed', 'Printed', 'language'], items_text: ['items_text', 'Printed', 'language'], stand_apart: ['stand_apart', 'Readable', 'language'],

@@ -5,10 +5,10 @@
 // FOLDER: a folder of crates. A fault whose text isn't found any more is named. Exit status 1 where one isn't seen.
 
 const fs = require('fs');
-const os = require('os');
 const path = require('path');
 const { spawn } = require('child_process');
 const { CRATES } = require('./model.js');
+const { copyOf, filesBelow, chosen } = require('./planting.js');
 
 const argv = process.argv.slice(2);
 const value = (name, d) => { const i = argv.indexOf(name); return i < 0 ? d : argv[i + 1]; };
@@ -152,46 +152,43 @@ const FAULTS = [
 let bad = 0;
 
 function plant(fault) {
-  const dir = fs.mkdtempSync(path.join(os.tmpdir(), 'plant-'));
-  for (const c of crates) for (const part of ['specs', 'src']) fs.cpSync(path.join(folder, c, part), path.join(dir, c, part), { recursive: true });
+  const dir = copyOf(folder, crates);
   const hit = [];
-  const walk = (d) => {
-    for (const e of fs.readdirSync(d, { withFileTypes: true })) {
-      const p = path.join(d, e.name);
-      if (e.isDirectory()) { walk(p); continue; }
-      if (!p.endsWith('.antt') || /Rows|Examples|Nest/.test(e.name)) continue;
-      let s = fs.readFileSync(p, 'utf8');
-      if (fault !== null && s.includes(fault[1])) { hit.push(path.relative(dir, p).split(path.sep)[0]); for (let k = 1; k < fault.length; k += 2) s = s.split(fault[k]).join(fault[k + 1]); }
-      fs.chmodSync(p, 0o644);
-      fs.writeFileSync(p, s);
-    }
-  };
-  walk(dir);
+  for (const p of fault === null ? [] : filesBelow(dir)) {
+    if (!p.endsWith('.antt') || /Rows|Examples|Nest/.test(path.basename(p))) continue;
+    let s = fs.readFileSync(p, 'utf8');
+    if (!s.includes(fault[1])) continue;
+    hit.push(path.relative(dir, p).split(path.sep)[0]);
+    for (let k = 1; k < fault.length; k += 2) s = s.split(fault[k]).join(fault[k + 1]);
+    fs.writeFileSync(p, s);
+  }
   return { dir, hit };
 }
-function one(fault) {
+// what run.js prints
+function run(args) {
   return new Promise((resolve) => {
-    const { dir, hit } = plant(fault);
-    if (fault !== null && hit.length === 0) { fs.rmSync(dir, { recursive: true }); bad += 1; resolve(`not applicable   ${fault[0]}`); return; }
-    const parts = fault === null ? 'odd,programs,generated,early,tokens' : hit.some((c) => c === 'tokens' || c === 'source_text') || fault[0].startsWith('code points') ? 'tokens,odd' : hit.includes('early_errors') ? 'odd,early' : 'odd,programs,generated';
-    const p = spawn(process.execPath, [path.join(__dirname, 'run.js'), '--specs', dir, '--n', n, '--jobs', '1', '--only', parts, '--fast', '--first']);
+    const p = spawn(process.execPath, [path.join(__dirname, 'run.js'), ...args]);
     let out = '';
     p.stdout.on('data', (d) => { out += d; }); p.stderr.on('data', (d) => { out += d; });
-    p.on('close', () => {
-      fs.rmSync(dir, { recursive: true });
-      const kinds = [...out.matchAll(/^\* ([^\n]*)/gm)].map((m) => m[1]).filter((k) => !k.startsWith('example'));
-      const broken = !/kinds of disagreement/.test(out);
-      if (broken || (kinds.length > 0) === (fault === null)) bad += 1;
-      resolve(broken ? `BROKEN           ${fault?.[0]}: ${out.slice(0, 300)}` : `${kinds.length > 0 ? 'seen  ' : 'NOT SEEN'}  ${fault === null ? '(nothing planted)' : fault[0]}${kinds.length > 0 ? '   ' + kinds.slice().sort((a, b) => a.length - b.length)[0].slice(0, 150) : ''}`);
-    });
+    p.on('close', () => resolve(out));
   });
 }
+async function one(fault) {
+  const { dir, hit } = plant(fault);
+  if (fault !== null && hit.length === 0) { fs.rmSync(dir, { recursive: true }); bad += 1; return `not applicable   ${fault[0]}`; }
+  const parts = fault === null ? 'odd,programs,generated,early,tokens' : hit.some((c) => c === 'tokens' || c === 'source_text') || fault[0].startsWith('code points') ? 'tokens,odd' : hit.includes('early_errors') ? 'odd,early' : 'odd,programs,generated';
+  const out = await run(['--specs', dir, '--n', n, '--jobs', '1', '--only', parts, '--fast', '--first']);
+  fs.rmSync(dir, { recursive: true });
+  const kinds = [...out.matchAll(/^\* ([^\n]*)/gm)].map((m) => m[1]).filter((k) => !k.startsWith('example'));
+  const broken = !/kinds of disagreement/.test(out);
+  if (broken || (kinds.length > 0) === (fault === null)) bad += 1;
+  return broken ? `BROKEN           ${fault?.[0]}: ${out.slice(0, 300)}` : `${kinds.length > 0 ? 'seen  ' : 'NOT SEEN'}  ${fault === null ? '(nothing planted)' : fault[0]}${kinds.length > 0 ? '   ' + kinds.slice().sort((a, b) => a.length - b.length)[0].slice(0, 150) : ''}`;
+}
 (async () => {
-  const only = value('--only', null);            // faults whose name has this text
-  const queue = [null, ...FAULTS.filter((f) => only === null || only.split('|').some((w) => f[0].includes(w)))].reverse();
-  const count = queue.length - 1;
+  const faults = chosen(FAULTS, value('--only', null));            // those whose name has this text
+  const queue = [null, ...faults];
   const next = async () => { while (queue.length > 0) console.log(await one(queue.shift())); };
   await Promise.all(Array.from({ length: Number(value('--jobs', '4')) }, next));
-  console.log(`${count} faults, and nothing planted; of these ${bad} otherwise than they should`);
+  console.log(`${faults.length} faults, and nothing planted; of these ${bad} otherwise than they should`);
   process.exitCode = bad === 0 ? 0 : 1;
 })();

@@ -5,9 +5,9 @@
 // Exit status 1 where a fault isn't seen, or where its text isn't found any more.
 
 const fs = require('node:fs');
-const os = require('node:os');
 const path = require('node:path');
 const { spawnSync } = require('node:child_process');
+const { copyOf } = require('./planting.js');
 
 const at = process.argv.indexOf('--n');
 const n = at < 0 ? '600' : process.argv[at + 1];
@@ -57,8 +57,7 @@ const FAULTS = [
 let bad = 0;
 const faults = FAULTS.filter(([, file]) => NAMES.includes(file.split('/')[0]));
 for (const [what, file, old, other] of faults) {
-  const folder = fs.mkdtempSync(path.join(os.tmpdir(), 'plant-'));
-  for (const crate of NAMES) for (const part of ['src', 'specs']) fs.cpSync(path.join(CRATES, crate, part), path.join(folder, crate, part), { recursive: true });
+  const folder = copyOf(CRATES, NAMES);
   const target = path.join(folder, file);
   const text = fs.readFileSync(target, 'utf8');
   if (!text.includes(old)) { console.log(`not found: ${what}`); bad += 1; continue; }
