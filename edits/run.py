@@ -2,9 +2,13 @@
 it must accept. Those of a crate are in `CRATE.edits`; form.py says in which form, verdicts.py how they are tried.
 
     run.py [--built] [--anew] [CRATE | CRATE/NAME | CRATE/refused | CRATE/accepted ..]
+    run.py --quarter [--built] [--anew] [CRATE ..]
     run.py --fit [CRATE ..]
 
 Tries those that are named, or all, and says of each why it was refused, or that it was accepted. The exit status is 0 where each is what it must be.
+
+With `--quarter` each crate has a quarter of its wrong bodies tried, and all that mean the same. Which quarter has its turn is told by a sum of the sources of
+the crate and of those below it: it is another one after most changes, and for the same files the same one on every machine.
 
 With `--fit` it only says which edits can't be read, or don't fit their crate: each old text has to stand just once in its file, each accepted edit has to be
 of another function, and a crate with edits has at least three of those. That takes a second and no toolchain, and comes first where no edits are named.
@@ -18,6 +22,7 @@ A crate is proved beside its wrong bodies, so it takes what its check takes; kep
 """
 import collections
 import concurrent.futures
+import hashlib
 import os
 import re
 import shutil
@@ -28,7 +33,8 @@ sys.dont_write_bytecode = True
 import form
 import verdicts
 
-OPTIONS = ('--anew', '--built', '--fit')
+OPTIONS = ('--anew', '--built', '--fit', '--quarter')
+TURNS = 4
 # How many bodies that mean the same each crate with edits has at least.
 LEAST_ACCEPTED = 3
 # Of a crate its name and its folder, which is all that it takes to see where edits stand.
@@ -80,6 +86,18 @@ def lacking(word):
     return None if is_found else f'{word}: {crate} has no such edit'
 
 
+def quarter(edits, turn):
+    """The names of a quarter of the wrong bodies among the edits: in four turns each has one."""
+    wrong = [it.name for it in edits if it.must_be == 'refused']
+    return sorted(wrong, key=lambda it: hashlib.sha256(it.encode()).digest())[turn::TURNS]
+
+
+def in_turn(crate):
+    """Words that name the quarter of the crate's wrong bodies that has its turn, and all that mean the same."""
+    turn = int(verdicts.KeptHere.sources(crate), 16) % TURNS
+    return [f'{crate.name}/accepted', *[f'{crate.name}/{it}' for it in quarter(form.edits_of(crate.name).values(), turn)]]
+
+
 def tried_crate(crate, words, is_built, kept_by_runs):
     """Tries the crate's edits, over a copy of what its check kept, if it may be taken, and prints each. How many ended as they must, of wrong bodies and of
     those that mean the same; a line for each that didn't; and how many ended in earlier runs."""
@@ -98,15 +116,17 @@ def tried_crate(crate, words, is_built, kept_by_runs):
     return ended, lines, earlier.used
 
 
-def try_all(names, words, is_built, is_anew):
+def try_all(names, words, options):
     """Tries the edits of these crates, or those of them that are named, and says how many ended as they must. The exit status."""
+    is_built = '--built' in options
     toolchain = verdicts.load()
     toolchain.rtlib.guarded()
     crates = [it for it in toolchain.rtlib.crates_below(form.ROOT) if it.name in names]
     for crate in crates if not is_built else []:
         if any(it.build_rlib(verdicts.ONE_JOB, anew=False) for it in crate.below()):
             sys.exit(f'{crate.name}: a library below it is not proved')
-    kept = verdicts.earlier_of(toolchain.rtlib.crates_below(form.ROOT), is_built, is_anew)
+    kept = verdicts.earlier_of(toolchain.rtlib.crates_below(form.ROOT), is_built, '--anew' in options)
+    words = [word for it in crates for word in in_turn(it)] if '--quarter' in options else words
     crates.sort(key=lambda it: -it.count(b'\n'))
     with concurrent.futures.ThreadPoolExecutor(int(os.environ.get('RT_JOBS') or toolchain.processors())) as pool:
         found = list(pool.map(lambda it: tried_crate(it, words, is_built, kept), crates))
@@ -133,7 +153,9 @@ def main(words):
     if is_fit or faults:
         print(*faults, f'edits/run.py: edits of {len(names)} crates, {len(faults)} faults', sep='\n')
         return 1 if faults else 0
-    return try_all(names, words, '--built' in options, '--anew' in options)
+    if '--quarter' in options and any('/' in it for it in words):
+        sys.exit('edits/run.py: --quarter is of whole crates, so it takes no names of edits')
+    return try_all(names, words, options)
 
 
 if __name__ == '__main__':

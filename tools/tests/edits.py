@@ -91,6 +91,7 @@ def what_is_named(room):
     begin(room)
     for word, why in [('large', 'large has no edits'), ('small/four', 'small has no such edit'), ('small/', 'small has no such edit')]:
         same(said(room, word), (1, '', f'{word}: {why}\n'))
+    same(said(room, '--quarter', 'small/three_for_one'), (1, '', 'edits/run.py: --quarter is of whole crates, so it takes no names of edits\n'))
     room.put(PLACE, EDITS.replace('refused: three_for_one', 'three_for_one'))
     same(said(room, 'small'), (1, '', f'{PLACE}:1: no line of an edit: three_for_one\n'))
     room.put('edits/large.edits', EDITS)
@@ -100,4 +101,16 @@ def what_is_named(room):
     same(said(room, '--fit'), (1, '', 'edits/small: no file of edits, which are in CRATE.edits\n'))
 
 
-TESTS = [fitting, what_is_named]
+def in_turns(room):
+    """In four turns each wrong body of the repository has one, and no other edit has."""
+    count = """import collections, form, run
+for edits in [form.edits_of(it).values() for it in form.crates()]:
+    seen = collections.Counter(it for turn in range(4) for it in run.quarter(edits, turn))
+    assert seen == {it.name: 1 for it in edits if it.must_be == 'refused'}, seen
+    sizes = {len(run.quarter(edits, turn)) for turn in range(4)}
+    assert max(sizes) - min(sizes) < 2, sizes
+"""
+    same(room.run([sys.executable, '-B', '-c', count], PYTHONPATH=f'{TOP}/edits'), (0, '', ''))
+
+
+TESTS = [fitting, what_is_named, in_turns]
