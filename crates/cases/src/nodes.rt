@@ -1,7 +1,7 @@
 //! What calls answer for trees that are written down.
 
 use crate::case::Case;
-use crate::finished::{push_difference_of_text, push_nodes, push_row_counts};
+use crate::finished::{push_difference, push_nodes, push_row_counts};
 use crate::placed::push_places;
 use crate::print::show;
 use crate::refusals::push_refusal;
@@ -22,7 +22,7 @@ pub(crate) fn push_of_tree(
     let high = row.text(2).parse::<u32>().unwrap_or(u32::MAX);
     match script(alloc, row.text(1), high) {
         Ok(program) => {
-            push_difference_of_text(alloc, row.text(1), out)?;
+            push_difference(alloc, &program, out)?;
             push_tree(alloc, call, row, &program, out)
         }
         Err(fault) => push_refusal(row.text(1), fault, out),

@@ -1,7 +1,7 @@
 //! A tree as one line of text.
 
 use std::alloc::AllocError;
-use tree::{BoxedNode, Flags, Form, Kind, Node, Span};
+use tree::{Flags, Form, Node, Span};
 
 /// A word, if it is to be shown.
 pub(crate) fn word(is_shown: bool, word: &str) -> &str {
@@ -38,25 +38,20 @@ fn push_flags(flags: Flags, out: &mut String) -> Result<(), AllocError> {
 }
 
 /// The kind, the place and the text of a node, and the flags that are set.
-fn push_head(
-    kind: Kind,
-    span: Span,
-    text: &str,
-    flags: Flags,
-    out: &mut String,
-) -> Result<(), AllocError> {
-    let Span { start, end } = span;
-    write!(out, "{kind:?} {start}-{end}")?;
+fn push_head(node: Node, out: &mut String) -> Result<(), AllocError> {
+    let Span { start, end } = node.span();
+    let text = node.text();
+    write!(out, "{:?} {start}-{end}", node.kind())?;
     out.push_str(word(!text.is_empty(), " "))?;
     out.push_str(text)?;
-    push_flags(flags, out)
+    push_flags(node.flags(), out)
 }
 
 /// A node and its parts, in parentheses; `_` for a gap.
 #[tactic(auto, using(tree::proofs::PartWalk::part_steps))]
 pub(crate) fn show(node: Node, out: &mut String) -> Result<(), AllocError> {
     out.push_str("(")?;
-    push_head(node.kind(), node.span(), node.text(), node.flags(), out)?;
+    push_head(node, out)?;
     for index in 0..node.part_count() {
         out.push_str(" ")?;
         match node.part(index) {
@@ -65,26 +60,4 @@ pub(crate) fn show(node: Node, out: &mut String) -> Result<(), AllocError> {
         }
     }
     out.push_str(")")
-}
-
-/// The same of a node as the parser makes it.
-#[cycle(boxed)]
-pub(crate) fn show_boxed(node: &BoxedNode, out: &mut String) -> Result<(), AllocError> {
-    out.push_str("(")?;
-    push_head(node.kind(), node.span(), node.text(), node.flags(), out)?;
-    show_boxed_parts(&node.parts, out)?;
-    out.push_str(")")
-}
-
-/// Its parts, each after a space.
-#[cycle(boxed)]
-fn show_boxed_parts(parts: &[Option<BoxedNode>], out: &mut String) -> Result<(), AllocError> {
-    for part in parts {
-        out.push_str(" ")?;
-        match part {
-            Some(part) => show_boxed(part, out)?,
-            None => out.push_str("_")?,
-        }
-    }
-    Ok(())
 }

@@ -6,7 +6,7 @@ use crate::kinds::{kind, set_flag};
 use productions::{MeasuredParts, finish_node};
 use source_text::Fault;
 use std::alloc::Global;
-use tree::{Flags, Kind, Program, Span};
+use tree::{Flags, Kind, Program, Span, TreeBuilder};
 
 /// A node whose `)` wasn't read yet.
 #[derive(Drop)]
@@ -15,13 +15,14 @@ struct Open<'s> {
     text: &'s str,
     flags: Flags,
     start: usize,
-    nodes: MeasuredParts<'s>,
+    nodes: MeasuredParts,
 }
 
 /// What was read.
 #[derive(Drop)]
 struct Reader<'s> {
-    alloc: Global,
+    /// The nodes so far.
+    tree: TreeBuilder<'s>,
     /// The greatest height that a node may have.
     high: u32,
     /// Where the last part ends.
@@ -38,7 +39,7 @@ impl<'s> Reader<'s> {
             text: "",
             flags: Flags::PLAIN,
             start: self.end,
-            nodes: MeasuredParts::new(self.alloc),
+            nodes: MeasuredParts::new(),
         };
         self.opened.push(open)?;
         Ok(())
@@ -55,7 +56,13 @@ impl<'s> Reader<'s> {
             end: self.end,
         };
         let node = finish_node(
-            open.kind, open.text, open.flags, span, open.nodes, self.high,
+            &mut self.tree,
+            open.kind,
+            open.text,
+            open.flags,
+            span,
+            open.nodes,
+            self.high,
         )?;
         if let Some(outer) = self.opened.last_mut() {
             outer.nodes.push(node)?;
@@ -66,7 +73,7 @@ impl<'s> Reader<'s> {
     /// Adds a missing part to the open node.
     fn push_gap(&mut self) -> Result<(), Fault> {
         match self.opened.last_mut() {
-            Some(open) => open.nodes.push_gap(),
+            Some(open) => open.nodes.push_gap(&mut self.tree),
             None => Ok(()),
         }
     }
@@ -102,31 +109,52 @@ impl<'s> Reader<'s> {
     }
 }
 
-/// The parts of a script, each this high at most, and where the last one ends.
+/// The parts of a script, which wait in the tree, and where the last one ends.
+#[derive(Drop)]
+pub(crate) struct Sketch<'s> {
+    pub(crate) tree: TreeBuilder<'s>,
+    pub(crate) nodes: MeasuredParts,
+    pub(crate) end: usize,
+}
+
+/// The parts of a script, each this high at most, behind what waits in a tree.
 pub(crate) fn parts<'s>(
     alloc: Global,
+    tree: TreeBuilder<'s>,
     text: &'s str,
     high: u32,
-) -> Result<(MeasuredParts<'s>, usize), Fault> {
+) -> Result<Sketch<'s>, Fault> {
     let mut reader = Reader {
-        alloc,
+        tree,
         high,
         end: 0,
         opened: Vec::new(alloc),
     };
     reader.read(text)?;
-    match reader.opened.pop() {
-        Some(script) => Ok((script.nodes, reader.end)),
-        None => Ok((MeasuredParts::new(alloc), 0)),
+    let Reader {
+        tree,
+        end,
+        mut opened,
+        ..
+    } = reader;
+    let nodes = match opened.pop() {
+        Some(script) => script.nodes,
+        None => MeasuredParts::new(),
+    };
+    Ok(Sketch { tree, nodes, end })
+}
+
+/// The script of all that waits in a tree.
+pub(crate) fn program<'s>(tree: TreeBuilder<'s>, span: Span) -> Result<Program<'s>, Fault> {
+    match Program::build(tree, "", span) {
+        Ok(program) => Ok(program),
+        Err(_) => Err(Fault::OutOfMemory),
     }
 }
 
 /// The script of these parts.
 pub(crate) fn script<'s>(alloc: Global, text: &'s str, high: u32) -> Result<Program<'s>, Fault> {
-    let (nodes, end) = parts(alloc, text, high)?;
+    let Sketch { tree, end, .. } = parts(alloc, TreeBuilder::new(alloc), text, high)?;
     let end = end.saturating_add(1);
-    match Program::build(alloc, "", nodes.into_parts(), Span { start: 0, end }) {
-        Ok(program) => Ok(program),
-        Err(_) => Err(Fault::OutOfMemory),
-    }
+    program(tree, Span { start: 0, end })
 }

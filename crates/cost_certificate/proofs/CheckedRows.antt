@@ -1,8 +1,9 @@
 -- Rows that were passed, and those behind them.
 use Rattle.std.proofs.Common.{◌≡◌, ℕ, zero, suc, ◌+◌, ◌<◌, ◌≤◌, true, false, cond, List, [], ◌∷◌, ◌++◌, length, drop, Option, Some, None, refl, sym, ap, ◌∙◌, subst, append_assoc, arith}
-use Rattle.std.specs.Prelude.{map, slice_get, slice_index_or}
+use Rattle.std.specs.Prelude.{map, option_map, slice_get}
 use Rattle.std.specs.Option.{option_or}
 use Rattle.std.proofs.lemmas.List.{map-append, length-append}
+use Rattle.std.proofs.lemmas.Option.{slice_get-map}
 use Rattle.source_text.specs.declared.fault.Reason.TheVariants as reason
 use Rattle.tree.specs.declared.kind.Kind.{Kind}
 use Rattle.tree.specs.Tree.{Tree, kind_of}
@@ -56,6 +57,14 @@ passed_join t xs ys r p q m f em ef h g =
       fault = ap shown_any ef ∙ or_shown p.fault q.fault ∙ (λ j. or_else (h.fault j) (g.fault j)) ∙ ap (λ k. or_else (rows_fault t xs (suc r)) (rows_fault t ys k)) start ∙ sym (rows_fault-append t xs ys (suc r));
     }
 
+or_none : {A : Type 0} (x : Option A) → x ≡ option_or x None
+or_none None = refl
+or_none (Some x) = refl
+
+-- rows behind them in which nothing is wrong
+pub passed_on : (t : Table) (xs ys : List Tree) (r next : ℕ) (p : RowCheck) → IsPassed t xs r p → IsPassed t ys p.next (record { next = next; misshapen = None; fault = None }) → IsPassed t (xs ++ ys) r (record { next = next; misshapen = p.misshapen; fault = p.fault })
+passed_on t xs ys r next p h g = passed_join t xs ys r p (record { next = next; misshapen = None; fault = None }) p.misshapen p.fault (or_none p.misshapen) (or_none p.fault) h g
+
 -- the same list
 pub passed_same : (t : Table) (xs ys : List Tree) (r : ℕ) (p : RowCheck) → xs ≡ ys → IsPassed t xs r p → IsPassed t ys r p
 passed_same t xs ys r p e h = subst (λ zs. IsPassed t zs r p) e h
@@ -73,26 +82,39 @@ drop_all [] (suc i) h = refl
 drop_all (k ∷ ks) zero h = absurd (omega (arith, h))
 drop_all (k ∷ ks) (suc i) h = drop_all ks i (omega (arith, h))
 
-kind_at : (rows : List Row) (i : ℕ) (d : Row) → i < length rows → slice_get (map (λ x. x.0) (map shown_row rows)) i ≡ Some (slice_index_or rows i d).kind
-kind_at [] i d h = absurd (omega (arith, h))
-kind_at (x ∷ xs) zero d h = refl
-kind_at (x ∷ xs) (suc i) d h = kind_at xs i d (omega (arith, h))
+drop_past : (js : List Kind) (i : ℕ) → slice_get js i ≡ None → drop i js ≡ []
+drop_past [] zero h = refl
+drop_past [] (suc i) h = refl
+drop_past (k ∷ ks) zero h = absurd (cc)
+drop_past (k ∷ ks) (suc i) h = drop_past ks i h
+
+abbrev RowOf : Type 0
+RowOf = Kind × List (Option ℕ)
+
+kinds_at : (rows : List RowOf) (i : ℕ) (o : Option RowOf) → o ≡ slice_get rows i → slice_get (map (λ x. x.0) rows) i ≡ option_map (λ x. x.0) o
+kinds_at rows i o h = slice_get-map (λ x. x.0) rows i ∙ ap (option_map (λ x. x.0)) (sym h)
 
 pub kinds_length : (rows : List Row) → length (map (λ x. x.0) (map shown_row rows)) ≡ length rows
 kinds_length [] = refl
 kinds_length (x ∷ xs) = ap suc (kinds_length xs)
 
 -- a row of the node's type
-pub row_matched : (rows : List Row) (i : ℕ) (d : Row) (k : Kind) → i < length rows → same_type (slice_index_or rows i d).kind k ≡ true → Matched (map (λ x. x.0) (map shown_row rows)) (k ∷ []) i None (suc i)
-row_matched rows i d k h e = λ ls.
-    let js = map (λ x. x.0) (map shown_row rows) in
-    ap (λ u. shape_fault u (k ∷ ls) (suc i)) (drop_at js i (slice_index_or rows i d).kind (kind_at rows i d h)) ∙ ap (λ b. cond b (shape_fault (drop (suc i) js) ls (suc (suc i))) (Some (suc i, reason.Shape))) e
+pub row_matched : (rows : List RowOf) (i : ℕ) (x : RowOf) (k : Kind) → Some x ≡ slice_get rows i → same_type x.0 k ≡ true → Matched (map (λ x. x.0) rows) (k ∷ []) i None (i + 1)
+row_matched rows i x k h e = λ ls.
+    let js = map (λ x. x.0) rows in
+    let z : suc i ≡ i + 1 = omega arith in
+    ap (λ u. shape_fault u (k ∷ ls) (suc i)) (drop_at js i x.0 (kinds_at rows i (Some x) h)) ∙ ap (λ b. cond b (shape_fault (drop (suc i) js) ls (suc (suc i))) (Some (suc i, reason.Shape))) e
+    ∙ ap (λ m. shape_fault (drop m js) ls (suc m)) z
 
 -- one of another type
-pub row_mismatched : (rows : List Row) (i n : ℕ) (d : Row) (k : Kind) → i < length rows → same_type (slice_index_or rows i d).kind k ≡ false → Matched (map (λ x. x.0) (map shown_row rows)) (k ∷ []) i (Some i) n
-row_mismatched rows i n d k h e = λ ls.
-    let js = map (λ x. x.0) (map shown_row rows) in
-    ap (λ u. shape_fault u (k ∷ ls) (suc i)) (drop_at js i (slice_index_or rows i d).kind (kind_at rows i d h)) ∙ ap (λ b. cond b (shape_fault (drop (suc i) js) ls (suc (suc i))) (Some (suc i, reason.Shape))) e
+pub row_mismatched : (rows : List RowOf) (i n : ℕ) (x : RowOf) (k : Kind) → Some x ≡ slice_get rows i → same_type x.0 k ≡ false → Matched (map (λ x. x.0) rows) (k ∷ []) i (Some i) n
+row_mismatched rows i n x k h e = λ ls.
+    let js = map (λ x. x.0) rows in
+    ap (λ u. shape_fault u (k ∷ ls) (suc i)) (drop_at js i x.0 (kinds_at rows i (Some x) h)) ∙ ap (λ b. cond b (shape_fault (drop (suc i) js) ls (suc (suc i))) (Some (suc i, reason.Shape))) e
+
+-- none
+pub row_missing : (rows : List RowOf) (i n : ℕ) (k : Kind) → None ≡ slice_get rows i → Matched (map (λ x. x.0) rows) (k ∷ []) i (Some i) n
+row_missing rows i n k h = λ ls. ap (λ u. shape_fault u (k ∷ ls) (suc i)) (drop_past (map (λ x. x.0) rows) i (kinds_at rows i None h))
 
 -- what was passed of these nodes, with others behind
 pub record Before (t : Table) (r : ℕ) (p : RowCheck) (rest whole : List Tree) : Type 0 where

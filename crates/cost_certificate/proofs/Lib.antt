@@ -6,6 +6,8 @@ pub mod Faultless
 pub mod CheckedRows
 pub mod CellRows
 pub mod Bounds
+pub mod WeighedNodes
+pub mod FreeLeaves
 pub mod FaultAnswers
 pub mod Numerals
 pub mod LinesAndWords

@@ -35,9 +35,10 @@ type_name _ = []
 
 abbrev pub row_kinds : List Kind
 row_kinds =
-    kind.SequenceExpression ∷ kind.AssignmentExpression ∷ kind.ArrowFunctionExpression ∷ kind.ConditionalExpression ∷ kind.LogicalExpression ∷ kind.BinaryExpression ∷
-    kind.UnaryExpression ∷ kind.UpdateExpression ∷ kind.ChainExpression ∷ kind.CallExpression ∷ kind.ImportExpression ∷ kind.MemberExpression ∷
-    kind.TaggedTemplateExpression ∷ kind.NewExpression ∷ kind.MetaProperty ∷ kind.Identifier ∷ kind.Literal ∷ kind.ThisExpression ∷
+    kind.Identifier ∷ kind.MemberExpression ∷ kind.Literal ∷ kind.BinaryExpression ∷ kind.AssignmentExpression ∷ kind.CallExpression ∷ kind.ThisExpression ∷
+    kind.SequenceExpression ∷ kind.ArrowFunctionExpression ∷ kind.ConditionalExpression ∷ kind.LogicalExpression ∷
+    kind.UnaryExpression ∷ kind.UpdateExpression ∷ kind.ChainExpression ∷ kind.ImportExpression ∷
+    kind.TaggedTemplateExpression ∷ kind.NewExpression ∷ kind.MetaProperty ∷
     kind.ArrayExpression ∷ kind.ObjectExpression ∷ kind.FunctionExpression ∷ kind.ClassExpression ∷ kind.TemplateLiteral ∷ kind.AwaitExpression ∷
     kind.YieldExpression ∷ []
 

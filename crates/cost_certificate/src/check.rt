@@ -47,7 +47,7 @@ pub fn check_table(program: &Program, table: &CostTable) -> Result<u32, BadTable
     if let Some(fault) = judged.passed.fault {
         return Err(fault);
     }
-    let bound = least(judged.weighed, Position::Script);
+    let bound = least(judged.weighed.costs(), Position::Script);
     if is_above(Some(table.total()), bound) {
         return bad(0, Reason::Total);
     }

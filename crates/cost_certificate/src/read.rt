@@ -1,11 +1,12 @@
 //! A table, from its text.
 
-ghost use Rattle.std.specs.Prelude.{◌≡◌, ◌≤◌, Err, IfOk, length};
+ghost use Rattle.std.specs.Prelude.{◌≡◌, ◌≤◌, ◌++◌, ◌∷◌, [], false, Err, IfOk, OnOk, length, option_map};
 ghost use Rattle.source_text.specs.declared.fault.Fault.TheVariants.{BadTable};
 ghost use Rattle.source_text.specs.declared.fault.Reason.TheVariants.{Form};
-ghost use Rattle.cost_certificate.specs.Forms.{cells_in, is_number, is_short, number_of, read_text, row_in, split_words, total_in};
+ghost use Rattle.cost_certificate.specs.Forms.{cells_in, is_number, is_short, number_of, read_text, row_in, total_in};
 ghost use Rattle.cost_certificate.specs.Listed.{listed};
 ghost use Rattle.cost_certificate.specs.Read.{IsHeader, LeavesOut, Reads};
+ghost use Rattle.cost_certificate.specs.SaidRows.{said, said_row};
 ghost use Rattle.cost_certificate.specs.Words.{format_of, words_after};
 
 use crate::table_words::{
@@ -13,8 +14,9 @@ use crate::table_words::{
 };
 use crate::types::all_zero;
 use cost_table::CostTable;
+use language::Rank;
 use source_text::{Fault, Reason};
-use std::alloc::Global;
+use std::alloc::{AllocError, Global};
 use tree::Kind;
 
 /// Whether a row ends where its cells would begin, and may.
@@ -39,11 +41,9 @@ fn is_left_out(format: Format, cells: [Option<u32>; 8]) -> bool
 
 /// The eight cells that words say, each behind a space.
 fn row_cells(text: &[u8], format: Format) -> Option<[Option<u32>; 8]>
+    requires { LeavesOut text.now (format_of format) false }
     ensures { result ≡ cells_in (format_of format) (words_after text.now) }
 {
-    if leaves_out(text, format) {
-        return Some([Some(0u32); 8]);
-    }
     let mut cells = [None; 8];
     let mut rest = text;
     for index in 0..8usize {
@@ -76,11 +76,19 @@ fn is_numbered(word: &[u8], expected: u32) -> bool
     }
 }
 
-/// The row that a line is, with this number.
-fn row(line: &[u8], expected: u32, format: Format) -> Option<(Kind, [Option<u32>; 8])>
-    ensures { result ≡ row_in (format_of format) expected (split_words line.now) }
+/// What a line says of a row.
+#[derive(Clone, Copy)]
+enum RowLine {
+    /// The kind alone: all cells are zeros, and none is written.
+    Zeros(Kind),
+    /// The kind and the cells.
+    Cells(Kind, [Option<u32>; 8]),
+}
+
+/// The row that a line is, with this number, by its first word and what stands behind that.
+fn row(first: &[u8], rest: &[u8], expected: u32, format: Format) -> Option<RowLine>
+    ensures { option_map said result ≡ row_in (format_of format) expected (first.now ∷ words_after rest.now) }
 {
-    let (first, rest) = split_word(line);
     if rest.is_empty() {
         return None;
     }
@@ -91,17 +99,29 @@ fn row(line: &[u8], expected: u32, format: Format) -> Option<(Kind, [Option<u32>
     let Some(kind) = kind_named(second) else {
         return None;
     };
+    if leaves_out(rest, format) {
+        return Some(RowLine::Zeros(kind));
+    }
     let Some(cells) = row_cells(rest, format) else {
         return None;
     };
-    Some((kind, cells))
+    Some(RowLine::Cells(kind, cells))
 }
 
-/// The total that a line is.
-fn total(line: &[u8]) -> Option<u32>
-    ensures { result ≡ total_in (split_words line.now) }
+/// Puts the row that a line says behind those of a table.
+fn push_line(table: &mut CostTable, line: RowLine) -> Result<(), AllocError>
+    ensures { OnOk result (table.new.rows.items ≡ table.old.rows.items ++ said_row line ∷ []) }
 {
-    let (first, rest) = split_word(line);
+    match line {
+        RowLine::Zeros(kind) => table.push_free(kind, Rank::Primary),
+        RowLine::Cells(kind, cells) => table.push_row(kind, cells),
+    }
+}
+
+/// The total that a line is, by its first word and what stands behind that.
+fn total(first: &[u8], rest: &[u8]) -> Option<u32>
+    ensures { result ≡ total_in (first.now ∷ words_after rest.now) }
+{
     if !word_is(first, "total") {
         return None;
     }
@@ -156,18 +176,18 @@ pub fn read_table(alloc: Global, text: &[u8]) -> Result<CostTable, Fault>
     let mut expected = 1u32;
     'lines: while let Some(length) = line_length(rest) {
         let (line, others) = split_line(rest, length);
-        if let Some(total) = total(line) {
+        let (first, words) = split_word(line);
+        if let Some(total) = total(first, words) {
             if !others.is_empty() {
                 return bad(expected + 1);
             }
             table.set_total(total);
             return Ok(table);
         }
-        let Some(found) = row(line, expected, format) else {
+        let Some(found) = row(first, words, expected, format) else {
             return bad(expected);
         };
-        let cells = found.1;
-        table.push_row(found.0, cells)?;
+        push_line(&mut table, found)?;
         rest = others;
         expected += 1;
     }

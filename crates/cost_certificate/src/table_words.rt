@@ -6,6 +6,7 @@ ghost use Rattle.cost_certificate.specs.Forms.{cell_of, digits_value, number_of,
 ghost use Rattle.cost_certificate.specs.Types.{kind_named as is_kind_named};
 ghost use Rattle.cost_certificate.specs.Words.{IsLine, words_after};
 
+use memchr::memchr;
 use tree::Kind;
 
 /// The format of a text: with all cells of each row, or without those of a row that has none but zeros.
@@ -27,12 +28,7 @@ pub(crate) fn line_length(text: &[u8]) -> Option<usize>
     ensures { IsLine text.now result }
 {
     let end = text.len().min(LONGEST + 1);
-    for index in 0..end {
-        if text[index] == b'\n' {
-            return Some(index);
-        }
-    }
-    None
+    memchr(b'\n', &text[..end])
 }
 
 /// A first line of so many bytes, and what stands behind its line feed.
@@ -126,26 +122,26 @@ pub(crate) fn cell(word: &[u8]) -> Option<Option<u32>>
     }
 }
 
-/// The kinds that can have a row.
+/// The kinds that can have a row, the frequent ones first.
 const ROW_KINDS: [Kind; 25] = [
-    Kind::SequenceExpression,
+    Kind::Identifier,
+    Kind::MemberExpression,
+    Kind::Literal,
+    Kind::BinaryExpression,
     Kind::AssignmentExpression,
+    Kind::CallExpression,
+    Kind::ThisExpression,
+    Kind::SequenceExpression,
     Kind::ArrowFunctionExpression,
     Kind::ConditionalExpression,
     Kind::LogicalExpression,
-    Kind::BinaryExpression,
     Kind::UnaryExpression,
     Kind::UpdateExpression,
     Kind::ChainExpression,
-    Kind::CallExpression,
     Kind::ImportExpression,
-    Kind::MemberExpression,
     Kind::TaggedTemplateExpression,
     Kind::NewExpression,
     Kind::MetaProperty,
-    Kind::Identifier,
-    Kind::Literal,
-    Kind::ThisExpression,
     Kind::ArrayExpression,
     Kind::ObjectExpression,
     Kind::FunctionExpression,

@@ -1,16 +1,18 @@
 -- Rows that are packed: one more whose numbers stand apart, and all the other way round.
-use Rattle.std.proofs.Common.{◌≡◌, ℕ, ◌-◌, ◌<◌, ◌≤◌, List, [], ◌∷◌, ◌++◌, length, reverse, None, Ok, Err, refl, sym, ap, ◌∙◌, subst, arith, append_assoc}
-use Rattle.std.specs.Prelude.{All, map, Result, OnErr}
-use Rattle.std.proofs.lemmas.List.{map-append, map_push, reverse-append, reverse-reverse, get_or_append_left, get_or_push}
+use Rattle.std.proofs.Common.{◌≡◌, ℕ, ◌<◌, ◌≤◌, List, [], ◌∷◌, ◌++◌, length, reverse, Option, Some, None, Ok, Err, refl, sym, ap, ◌∙◌, subst, arith, append_assoc}
+use Rattle.std.specs.Prelude.{All, map, option_map, slice_get, slice_index_or, Result, OnErr}
+use Rattle.std.proofs.lemmas.Option.{slice_get-map, slice_get_read}
+use Rattle.std.proofs.lemmas.List.{length-map, map-append, map_push, reverse-append, reverse-reverse, get_or_append_left, get_or_push}
 use Rattle.std.proofs.lemmas.List.Elements.{All-nil, All-cons, All-append, All-head, All-tail}
 use Rattle.tree.specs.declared.kind.Kind.{Kind}
 use Rattle.cost_table.specs.declared.costs.Costs as own
+use Rattle.cost_table.specs.declared.packed_row.CellShape.{CellShape}
 use Rattle.cost_table.specs.declared.packed_row.Place.{Place}
 use Rattle.cost_table.specs.declared.packed_row.PackedRow.{PackedRow}
 use Rattle.cost_table.specs.declared.packed_row.PackedRow.TheVariants.{Same, Apart}
-use Rattle.cost_table.specs.Costs.{same_everywhere}
-use Rattle.cost_table.specs.Packed.{index_of, unpacked, IsPacked}
-use Rattle.cost_table.specs.Rows.{row_with}
+use Rattle.cost_table.specs.Costs.{eight, same_everywhere}
+use Rattle.cost_table.specs.Packed.{index_of, shaped, unpacked, IsPacked}
+use Rattle.cost_table.specs.Rows.{row_with, shown}
 
 -- One more row
 
@@ -62,6 +64,13 @@ All-turned P (x ∷ xs) h =
     subst (All P) (sym (reverse-append (x ∷ []) xs)) (All-append P (reverse xs) (x ∷ []) (All-turned P xs (All-tail P x xs h)) (All-cons P x [] (All-head P x xs h) (All-nil P)))
 
 -- A row by its index
+
+pub zeros_found : (apart : List own.Costs) (qs : List PackedRow) (i n : ℕ) (p : PackedRow) (k j : Kind) (s : CellShape) (m : ℕ) (xs : List (Option ℕ)) → n ≡ length (map (unpacked apart) qs) → i < n → p ≡ slice_index_or qs i p → p ≡ Same k s m → m ≡ 0 → k ≡ j →
+    eight (shaped s 0) ≡ xs → slice_get (map shown (map (unpacked apart) qs)) i ≡ Some (j, xs)
+zeros_found apart qs i n p k j s m xs l h a e z same zeros =
+    slice_get-map shown (map (unpacked apart) qs) i
+    ∙ ap (option_map shown) (slice_get-map (unpacked apart) qs i ∙ ap (option_map (unpacked apart)) (slice_get_read qs n i p (l ∙ length-map qs (unpacked apart)) h a ∙ ap (λ x. Some x) e))
+    ∙ (λ t. Some (k, eight (shaped s (z t)))) ∙ (λ t. Some (same t, zeros t))
 
 -- After a refusal
 

@@ -3,8 +3,10 @@ use Rattle.std.specs.Prelude.{ℕ, ◌+◌, ◌*◌, ◌<◌, cond, List, ◌++�
 use Rattle.language.specs.declared.Rank.{Rank}
 use Rattle.language.specs.declared.Rank.TheVariants.{Member}
 use Rattle.language.specs.Vocabulary.{takes}
+use Rattle.spelling_table.specs.Outlines.{leaf}
 use Rattle.cost_table.specs.declared.costs.StartCosts.{StartCosts}
 use Rattle.cost_table.specs.declared.costs.Costs as own
+use Rattle.cost_table.specs.declared.node_costs.NodeCosts.{NodeCosts}
 use Rattle.cost_table.specs.declared.packed_row.FilledStarts.{FilledStarts}
 use Rattle.cost_table.specs.declared.packed_row.FilledStarts.TheVariants.{Each, NotStatement, OnlyAny, Nowhere}
 use Rattle.cost_table.specs.declared.packed_row.CellShape.{CellShape}
@@ -29,6 +31,9 @@ shaped s m = record { has_in = filled s.has_in m; without_in = filled s.without_
 -- of a node at this symbol that costs nothing wherever it may stand
 abbrev pub free_shape : Rank → CellShape
 free_shape z = record { has_in = Each; without_in = Each; at_member = cond (takes Member z) Each Nowhere }
+
+abbrev pub free_node : Rank → NodeCosts
+free_node z = record { outline = Some (leaf z); costs = shaped (free_shape z) 0 }
 
 -- the place that two halves of 32 bits say
 abbrev pub index_of : Place → ℕ

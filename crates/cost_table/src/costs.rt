@@ -85,6 +85,23 @@ impl Costs {
         }
     }
 
+    /// Those of a node at a symbol which costs nothing wherever it may stand.
+    pub(crate) fn free(rank: Rank) -> Costs
+        ensures { result ≡ shaped (free_shape rank) 0 }
+    {
+        let nothing = StartCosts::same(Some(0u32));
+        let at_member = if accepts_rank(Rank::Member, rank) {
+            nothing
+        } else {
+            StartCosts::same(None)
+        };
+        Costs {
+            has_in: nothing,
+            without_in: nothing,
+            at_member,
+        }
+    }
+
     /// Whether each number is 0.
     pub fn is_nothing(&self) -> bool
         ensures { result ≡ true → self.now ≡ same_everywhere (Some 0) }

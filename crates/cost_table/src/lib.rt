@@ -13,6 +13,8 @@ mod pair_count;
 mod table;
 
 pub use costs::{Costs, StartCosts};
-pub use node_costs::{NodeCosts, added, fitting, is_free, is_plain_outline, least, uses, widest};
+pub use node_costs::{
+    NodeCosts, added, fitting, is_free, is_plain_outline, least, slot_takes, uses, widest,
+};
 pub use pair_count::{exceeds, is_zero, sum};
 pub use table::{CostTable, Row};

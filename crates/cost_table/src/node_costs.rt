@@ -7,6 +7,7 @@ ghost use Rattle.spelling_table.specs.Outlines.{role_of, slot_of};
 ghost use Rattle.spelling_table.specs.Requirements.{fits_outline};
 ghost use Rattle.spellings.specs.Wherever.{with_own as role_with_own};
 ghost use Rattle.cost_table.specs.Costs.{each_start, started_at, same_everywhere, sums as sums_of};
+ghost use Rattle.cost_table.specs.Packed.{free_node};
 ghost use Rattle.cost_table.specs.Weighed.{cost_of, direct_cost, least_of, settled_at, uses as uses_of, fitting as fitting_costs, is_plain_outline, slot_free};
 
 use crate::costs::{Costs, StartCosts};
@@ -20,6 +21,18 @@ use spelling_table::{FirstToken, Outline, Position, Slot, fits, resolve_slot};
 pub struct NodeCosts {
     pub outline: Option<Outline>,
     pub costs: Costs,
+}
+
+impl NodeCosts {
+    /// Those of a node at a symbol which costs nothing wherever it may stand.
+    pub fn free(rank: Rank) -> NodeCosts
+        ensures { result ≡ free_node rank }
+    {
+        NodeCosts {
+            outline: Some(Outline::leaf(rank)),
+            costs: Costs::free(rank),
+        }
+    }
 }
 
 /// The position with another symbol, In and start, where it has them.
@@ -91,7 +104,7 @@ fn direct_cost(part: &NodeCosts, position: Position) -> Option<u32>
 }
 
 /// Whether what asks for no more than its symbol may stand at a slot, wherever the node above stands.
-fn slot_takes(slot: Slot, rank: Rank) -> bool
+pub fn slot_takes(slot: Slot, rank: Rank) -> bool
     ensures { result ≡ slot_free (slot_of slot) rank }
 {
     match slot {

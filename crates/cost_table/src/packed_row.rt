@@ -4,7 +4,7 @@ ghost use Rattle.std.specs.Prelude.{◌≡◌, true, cond, Some, IfSome};
 ghost use Rattle.cost_table.specs.declared.packed_row.FilledStarts.TheVariants.{Each, Nowhere};
 ghost use Rattle.spelling_table.specs.Outlines.{role_of};
 ghost use Rattle.cost_table.specs.Costs.{started_at, eight, cost_at as cost_of_costs};
-ghost use Rattle.cost_table.specs.Packed.{filled, free_shape, shaped, index_of, unpacked};
+ghost use Rattle.cost_table.specs.Packed.{filled, free_shape, shaped, index_of};
 ghost use Rattle.cost_table.specs.Weighed.{cost_of};
 
 use crate::costs::{Costs, StartCosts};
@@ -149,6 +149,25 @@ impl CellShape {
         self.without_in
     }
 
+    /// Whether the cells of a row are those of a node at a symbol which costs the same wherever it may stand.
+    pub(crate) fn fills_row(self, rank: Rank) -> bool
+        ensures { result ≡ true → (m : _) → eight (shaped self m) ≡ eight (shaped (free_shape rank) m) }
+    {
+        if !matches!(self.has_in, FilledStarts::Each) {
+            return false;
+        }
+        if !matches!(
+            self.without_in,
+            FilledStarts::Each | FilledStarts::NotStatement
+        ) {
+            return false;
+        }
+        if accepts_rank(Rank::Member, rank) {
+            return matches!(self.at_member, FilledStarts::Each);
+        }
+        matches!(self.at_member, FilledStarts::Nowhere)
+    }
+
     /// The eight cells of a row.
     pub(crate) fn cells(self, number: u32) -> [Option<u32>; 8]
         ensures { result ≡ eight (shaped self number) }
@@ -219,16 +238,4 @@ pub(crate) enum PackedRow {
     Same(Kind, CellShape, u32),
     /// The place of its numbers among those that stand apart.
     Apart(Kind, Place),
-}
-
-impl PackedRow {
-    /// The kind of the row's node.
-    pub(crate) fn kind(self) -> Kind
-        ensures { (apart : _) → result ≡ (unpacked apart self).kind }
-    {
-        match self {
-            PackedRow::Same(kind, _, _) => kind,
-            PackedRow::Apart(kind, _) => kind,
-        }
-    }
 }

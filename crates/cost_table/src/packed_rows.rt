@@ -1,15 +1,16 @@
 //! The rows of a table, packed.
 
-ghost use Rattle.std.specs.Prelude.{◌≡◌, ◌+◌, ◌<◌, [], ◌∷◌, ◌++◌, length, reverse, slice_get, slice_index_or, OnOk, OnErr, IfSome};
+ghost use Rattle.std.specs.Prelude.{◌≡◌, ◌+◌, ◌<◌, true, Some, [], ◌∷◌, ◌++◌, length, map, reverse, slice_get, slice_index_or, OnOk, OnErr, IfSome};
 ghost use Rattle.spelling_table.specs.Outlines.{role_of};
 ghost use Rattle.cost_table.specs.Costs.{eight};
-ghost use Rattle.cost_table.specs.Packed.{in_order, shaped};
-ghost use Rattle.cost_table.specs.Rows.{row_with};
+ghost use Rattle.cost_table.specs.Packed.{free_shape, in_order, shaped};
+ghost use Rattle.cost_table.specs.Rows.{row_with, shown};
 ghost use Rattle.cost_table.specs.Weighed.{cost_of};
 
 use crate::costs::Costs;
 use crate::node_costs::cost_at;
 use crate::packed_row::{CellShape, PackedRow, Place};
+use language::Rank;
 use segmented_vec::SegmentedVec;
 use spelling_table::Position;
 use std::alloc::{AllocError, Global};
@@ -106,22 +107,29 @@ impl PackedRows {
         self.turned.len() + self.packed.len()
     }
 
-    /// The kind of a row, by its index, counted from 0.
-    pub(crate) fn kind(&self, index: usize) -> Kind
+    /// The kind of a row and its cells, by its index, counted from 0.
+    pub(crate) fn row(&self, index: usize) -> (Kind, [Option<u32>; 8])
         requires { index < length self.now.items }
-        ensures { (r : _) → result ≡ (slice_index_or self.now.items index r).kind }
-    {
-        packed_at(&self.turned, &self.packed, index).kind()
-    }
-
-    /// The cells of a row, by its index.
-    pub(crate) fn cells(&self, index: usize) -> [Option<u32>; 8]
-        requires { index < length self.now.items }
-        ensures { (r : _) → result ≡ eight (slice_index_or self.now.items index r).costs }
+        ensures kind { (r : _) → result.0 ≡ (slice_index_or self.now.items index r).kind }
+        ensures cells { (r : _) → result.1 ≡ eight (slice_index_or self.now.items index r).costs }
     {
         match *packed_at(&self.turned, &self.packed, index) {
-            PackedRow::Same(_, shape, number) => shape.cells(number),
-            PackedRow::Apart(_, place) => self.apart[place.index()].cells(),
+            PackedRow::Same(kind, shape, number) => (kind, shape.cells(number)),
+            PackedRow::Apart(kind, place) => (kind, self.apart[place.index()].cells()),
+        }
+    }
+
+    /// Whether it is seen at once that there is a row of this kind, by its index, which says that a node at this symbol costs nothing
+    /// wherever it may stand.
+    pub(crate) fn is_free(&self, index: usize, kind: Kind, rank: Rank) -> bool
+        ensures { result ≡ true → slice_get (map shown self.now.items) index ≡ Some (kind, eight (shaped (free_shape rank) 0)) }
+    {
+        if index >= self.len() {
+            return false;
+        }
+        match *packed_at(&self.turned, &self.packed, index) {
+            PackedRow::Same(own, shape, 0) => own == kind && shape.fills_row(rank),
+            _ => false,
         }
     }
 

@@ -1,10 +1,10 @@
 //! Cost tables.
 
-ghost use Rattle.std.specs.Prelude.{◌≡◌, ◌-◌, ◌≤◌, [], ◌∷◌, ◌++◌, length, reverse, slice_get, slice_index_or, OnOk, OnErr, IfSome};
+ghost use Rattle.std.specs.Prelude.{◌≡◌, ◌-◌, ◌≤◌, true, Some, [], ◌∷◌, ◌++◌, length, map, reverse, slice_get, slice_index_or, OnOk, OnErr, IfSome};
 ghost use Rattle.spelling_table.specs.Outlines.{role_of};
 ghost use Rattle.cost_table.specs.Costs.{eight, of_cells};
 ghost use Rattle.cost_table.specs.Packed.{free_shape, shaped};
-ghost use Rattle.cost_table.specs.Rows.{row_with};
+ghost use Rattle.cost_table.specs.Rows.{row_with, shown};
 ghost use Rattle.cost_table.specs.Weighed.{cost_of};
 
 use crate::costs::Costs;
@@ -106,7 +106,15 @@ impl CostTable {
         ensures cells { (r : _) → result.1 ≡ eight (slice_index_or self.now.rows.items (number - 1) r).costs }
     {
         let index = number - 1;
-        (self.rows.kind(index), self.rows.cells(index))
+        self.rows.row(index)
+    }
+
+    /// Whether it is seen at once that there is a row of this kind, by its index, counted from 0, which says that a node at this symbol
+    /// costs nothing wherever it may stand.
+    pub fn is_free_row(&self, index: usize, kind: Kind, rank: Rank) -> bool
+        ensures { result ≡ true → slice_get (map shown self.now.rows.items) index ≡ Some (kind, eight (shaped (free_shape rank) 0)) }
+    {
+        self.rows.is_free(index, kind, rank)
     }
 
     /// The number of all pairs of the script.

@@ -5,7 +5,7 @@ use Rattle.tree.specs.declared.kind.Kind.TheVariants.{ArrayExpression, ObjectExp
 use Rattle.tree.specs.declared.kind.Flags.{Flags}
 use Rattle.tree.specs.Tree.{Tree, node, Parts, none, part, gap}
 use Rattle.language.specs.Later.{is_later, has_later, some_has_later}
-use Rattle.covers.specs.Patterns.{pattern_kind, pattern_text, chosen, pattern_tree, pattern_parts}
+use Rattle.tree.specs.Patterns.{pattern_kind, pattern_text, chosen, pattern_tree, pattern_parts}
 
 node_later : (k : Kind) (w : List ℕ) (g : Flags) (st en : ℕ) (ps : Parts) → is_later (node (pattern_kind k) (pattern_text k w) g st en (chosen k ps (pattern_parts 0 ps) (pattern_parts 1 ps))) ≡ is_later (node k w g st en ps)
 node_later AssignmentExpression w g st en ps = refl

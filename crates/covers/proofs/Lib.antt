@@ -1,2 +1,1 @@
 pub mod BasePatterns
-pub mod Patterns

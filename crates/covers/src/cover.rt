@@ -1,34 +1,33 @@
 //! Covers, and what they are at last.
 
-ghost use Rattle.std.specs.Prelude.{◌≡◌, ◌&&◌};
-ghost use Rattle.tree.specs.Tree.{parts_with_gaps};
-ghost use Rattle.covers.specs.Patterns.{pattern_tree, pattern_parts};
+ghost use Rattle.std.specs.Prelude.{◌≡◌, ◌&&◌, IfOk};
+ghost use Rattle.tree.specs.Tree.{Parts, push, join};
+ghost use Rattle.tree.specs.Patterns.{pattern_tree, pattern_parts};
 ghost use Rattle.covers.specs.Shapes.{Becomes, is_bound, is_pattern, is_target, shape_of};
 
-use crate::conversions::{make_pattern, make_patterns};
 use crate::shape::CoverShape;
 use productions::{MeasuredNode, MeasuredParts};
 use source_text::Fault;
-use tree::{BoxedNode, Parts};
+use tree::TreeBuilder;
 
 /// What was read where an expression, a pattern, a target or parameters may stand.
 #[derive(Drop)]
-pub struct Cover<'s> {
+pub struct Cover {
     /// It as an expression. A name with a default in an object, which is in no expression, is a property whose form is
     /// Shorthand and whose value is an assignment to the name.
-    pub node: MeasuredNode<'s>,
+    pub node: MeasuredNode,
     /// What else it may be.
     pub shape: CoverShape,
 }
 
-impl<'s> Cover<'s> {
+impl Cover {
     /// An expression that is no array, no object and no assignment.
     #[inline(always)]
-    pub fn plain(node: MeasuredNode<'s>) -> Cover<'s>
-        ensures same { result.node ≡ node.entry }
-        ensures shape { result.shape ≡ shape_of node.entry }
+    pub fn plain(node: MeasuredNode) -> Cover
+        ensures same { result.node ≡ node }
+        ensures shape { result.shape ≡ shape_of node }
     {
-        let shape = CoverShape::of(node.node());
+        let shape = CoverShape::of(&node);
         Cover { node, shape }
     }
 
@@ -36,8 +35,8 @@ impl<'s> Cover<'s> {
     ///
     /// # Errors
     /// `Syntax` where a name in it has a default.
-    pub fn to_expression(self, at: usize) -> Result<MeasuredNode<'s>, Fault>
-        ensures { Becomes self.entry.node self.entry.shape.is_expression at result }
+    pub fn to_expression(self, at: usize) -> Result<MeasuredNode, Fault>
+        ensures { Becomes self.node self.shape.is_expression at result }
     {
         match self.shape.is_expression {
             true => Ok(self.node),
@@ -49,11 +48,12 @@ impl<'s> Cover<'s> {
     ///
     /// # Errors
     /// `Syntax` where it is anything else.
-    pub fn to_target(self, at: usize) -> Result<MeasuredNode<'s>, Fault>
-        ensures { Becomes (pattern_tree self.entry.node) (is_target self.entry.shape.assigned) at result }
+    pub fn to_target(self, tree: &mut TreeBuilder<'_>, at: usize) -> Result<MeasuredNode, Fault>
+        ensures made { Becomes (pattern_tree self.node) (is_target self.shape.assigned) at result }
+        ensures waits { (base : Parts) → tree.old ≡ push base self.node → IfOk result (λ made. tree.new ≡ push base made) }
     {
         match self.shape.assigned.is_target() {
-            true => Ok(as_pattern_node(self.node)),
+            true => Ok(self.node.into_pattern(tree)),
             false => Err(Fault::Syntax(at)),
         }
     }
@@ -62,11 +62,12 @@ impl<'s> Cover<'s> {
     ///
     /// # Errors
     /// `Syntax` where it is neither.
-    pub fn to_pattern(self, at: usize) -> Result<MeasuredNode<'s>, Fault>
-        ensures { Becomes (pattern_tree self.entry.node) (is_pattern self.entry.shape.assigned) at result }
+    pub fn to_pattern(self, tree: &mut TreeBuilder<'_>, at: usize) -> Result<MeasuredNode, Fault>
+        ensures made { Becomes (pattern_tree self.node) (is_pattern self.shape.assigned) at result }
+        ensures waits { (base : Parts) → tree.old ≡ push base self.node → IfOk result (λ made. tree.new ≡ push base made) }
     {
         match self.shape.assigned.is_pattern() {
-            true => Ok(as_pattern_node(self.node)),
+            true => Ok(self.node.into_pattern(tree)),
             false => Err(Fault::Syntax(at)),
         }
     }
@@ -75,34 +76,15 @@ impl<'s> Cover<'s> {
     ///
     /// # Errors
     /// `Syntax` where it is neither.
-    pub fn to_binding(self, at: usize) -> Result<MeasuredNode<'s>, Fault>
-        ensures { Becomes (pattern_tree self.entry.node) (self.entry.shape.binds && is_pattern self.entry.shape.assigned) at result }
+    pub fn to_binding(self, tree: &mut TreeBuilder<'_>, at: usize) -> Result<MeasuredNode, Fault>
+        ensures made { Becomes (pattern_tree self.node) (self.shape.binds && is_pattern self.shape.assigned) at result }
+        ensures waits { (base : Parts) → tree.old ≡ push base self.node → IfOk result (λ made. tree.new ≡ push base made) }
     {
         match self.shape.binds {
-            true => self.to_pattern(at),
+            true => self.to_pattern(tree, at),
             false => Err(Fault::Syntax(at)),
         }
     }
-}
-
-/// The pattern that a node becomes, of the same height.
-#[tactic(auto, using(crate::proofs::Patterns::same_height))]
-fn as_pattern_node<'s>(node: MeasuredNode<'s>) -> MeasuredNode<'s>
-    ensures { result ≡ pattern_tree node.entry }
-{
-    let height = node.height();
-    let mut syntax = node.into_node();
-    make_pattern(&mut syntax);
-    MeasuredNode::of_height(syntax, height)
-}
-
-/// The patterns that all parts become.
-fn as_pattern_items<'s>(parts: Vec<Option<BoxedNode<'s>>>) -> Vec<Option<BoxedNode<'s>>>
-    ensures { parts_with_gaps result.items ≡ pattern_parts 0 (parts_with_gaps parts.entry.items) }
-{
-    let mut parts = parts;
-    make_patterns(&mut parts, 0);
-    parts
 }
 
 /// The parameters that covers are, the last perhaps behind `...`, where `shape` is that of all of them as elements; `at` is the
@@ -110,17 +92,17 @@ fn as_pattern_items<'s>(parts: Vec<Option<BoxedNode<'s>>>) -> Vec<Option<BoxedNo
 ///
 /// # Errors
 /// `Syntax` where one is no name and no pattern that is bound, with a default or without.
-pub fn to_parameters<'s>(
-    covers: MeasuredParts<'s>,
+pub fn to_parameters(
+    tree: &mut TreeBuilder<'_>,
+    covers: MeasuredParts,
     shape: CoverShape,
     at: usize,
-) -> Result<MeasuredParts<'s>, Fault>
-    ensures { Becomes (pattern_parts 0 covers.entry) (is_bound shape) at result }
+) -> Result<MeasuredParts, Fault>
+    ensures made { Becomes (pattern_parts 0 covers) (is_bound shape) at result }
+    ensures waits { (base : Parts) → tree.old ≡ join base covers → IfOk result (λ parameters. tree.new ≡ join base parameters) }
 {
     if !shape.is_bound() {
         return Err(Fault::Syntax(at));
     }
-    let height = covers.height();
-    let items = as_pattern_items(covers.into_parts().into_items());
-    Ok(MeasuredParts::of_height(Parts::from_items(items), height))
+    Ok(covers.into_patterns(tree))
 }

@@ -6,7 +6,6 @@
 //! - Contract: a cover becomes what its shape permits, and is else refused at the place that was handed in.
 //! - Begin at: `cover.rt`, `Cover`; `shape.rt`, `CoverShape`; `list.rt` for lists, item by item.
 
-mod conversions;
 mod cover;
 mod list;
 mod shape;

@@ -2,9 +2,9 @@
 //! declarators, cases and members. `at` is the place that a syntax error names.
 
 ghost use Rattle.std.specs.Prelude.{◌≡◌, false, IfOk, IfErr, option_map};
-ghost use Rattle.tree.specs.Tree.{none, push, push_gap, part_count};
+ghost use Rattle.tree.specs.Tree.{Parts, none, push, push_gap, join, part_count};
 ghost use Rattle.covers.specs.Lists.{opening, closing, reads, nothing_seen, seen_with, with_hole, separated, is_ended, is_surplus, takes};
-ghost use Rattle.covers.specs.Patterns.{pattern_parts};
+ghost use Rattle.tree.specs.Patterns.{pattern_parts};
 ghost use Rattle.covers.specs.Refusals.{IsRefusedAt, IsMemory, IsTaken};
 ghost use Rattle.covers.specs.Shapes.{Becomes, is_bound};
 
@@ -13,8 +13,7 @@ use crate::shape::CoverShape;
 use language::Edge;
 use productions::{MeasuredNode, MeasuredParts};
 use source_text::Fault;
-use std::alloc::Global;
-use tree::Span;
+use tree::{Span, TreeBuilder};
 
 /// What is listed.
 #[derive(Clone, Copy, Debug, PartialEq, Eq)]
@@ -95,8 +94,8 @@ impl ListKind {
 
 /// An item of a list, as it is read.
 #[derive(Drop)]
-pub struct ListItem<'s> {
-    pub node: MeasuredNode<'s>,
+pub struct ListItem {
+    pub node: MeasuredNode,
     /// What it may be, without its `...`.
     pub shape: CoverShape,
     /// `...` stands before it.
@@ -107,10 +106,10 @@ pub struct ListItem<'s> {
     pub edge: Edge,
 }
 
-impl<'s> ListItem<'s> {
+impl ListItem {
     /// A node that is an expression, or none at all, and no pattern.
-    pub fn plain(node: MeasuredNode<'s>) -> ListItem<'s>
-        ensures { result ≡ record { node = node.entry; shape = CoverShape.VALUE; spreads = false; is_flagged = false; edge = Edge.Closed } }
+    pub fn plain(node: MeasuredNode) -> ListItem
+        ensures { result ≡ record { node = node; shape = CoverShape.VALUE; spreads = false; is_flagged = false; edge = Edge.Closed } }
     {
         ListItem {
             node,
@@ -151,7 +150,7 @@ impl ListSummary {
     };
 
     /// The summary with one more item; after `...`, what parentheses hold is no expression.
-    fn with(self, item: &ListItem<'_>, listed: ListKind) -> ListSummary
+    fn with(self, item: &ListItem, listed: ListKind) -> ListSummary
         ensures { result ≡ seen_with self item.now listed }
     {
         let shape = match (item.spreads, listed) {
@@ -187,9 +186,9 @@ impl ListSummary {
 
 /// A list, as far as it is read.
 #[derive(Drop)]
-pub struct ListBuilder<'s> {
+pub struct ListBuilder {
     pub listed: ListKind,
-    pub nodes: MeasuredParts<'s>,
+    pub nodes: MeasuredParts,
     pub seen: ListSummary,
     /// From the first item to the last.
     pub inside: Span,
@@ -197,9 +196,9 @@ pub struct ListBuilder<'s> {
     pub span: Span,
 }
 
-impl<'s> ListBuilder<'s> {
+impl ListBuilder {
     /// A list without items, from this place on.
-    pub fn new(alloc: Global, listed: ListKind, start: usize) -> ListBuilder<'s>
+    pub fn new(listed: ListKind, start: usize) -> ListBuilder
         ensures listed { result.listed ≡ listed }
         ensures empty { result.nodes ≡ none }
         ensures seen { result.seen ≡ nothing_seen }
@@ -209,7 +208,7 @@ impl<'s> ListBuilder<'s> {
         let span = Span { start, end: start };
         ListBuilder {
             listed,
-            nodes: MeasuredParts::new(alloc),
+            nodes: MeasuredParts::new(),
             seen: ListSummary::NOTHING,
             inside: span,
             span,
@@ -237,17 +236,18 @@ impl<'s> ListBuilder<'s> {
         }
     }
 
-    /// A hole of an array; as it was where memory is refused.
+    /// A hole of an array, which waits behind what waited; as it was where there is no number for it.
     ///
     /// # Errors
     /// `OutOfMemory`.
-    pub fn push_hole(&mut self) -> Result<(), Fault>
+    pub fn push_hole(&mut self, tree: &mut TreeBuilder<'_>) -> Result<(), Fault>
         ensures listed { self.new.listed ≡ self.old.listed }
         ensures pushed { IfOk result (λ _. self.new ≡ record self.old { nodes = push_gap self.old.nodes; seen = with_hole self.old.seen }) }
         ensures kept { IfErr result (λ _. self.new ≡ self.old) }
         ensures refused { IfErr result IsMemory }
+        ensures waits { IfOk result (λ _. tree.new ≡ push_gap tree.old) }
     {
-        self.nodes.push_gap()?;
+        self.nodes.push_gap(tree)?;
         self.seen.is_rest = false;
         Ok(())
     }
@@ -256,11 +256,11 @@ impl<'s> ListBuilder<'s> {
     ///
     /// # Errors
     /// `Syntax` where no reading of the items is left, or a case is the second `default` (13.12); `OutOfMemory`.
-    pub fn push(&mut self, item: ListItem<'s>, at: usize) -> Result<(), Fault>
+    pub fn push(&mut self, item: ListItem, at: usize) -> Result<(), Fault>
         ensures listed { self.new.listed ≡ self.old.listed }
-        ensures pushed { IfOk result (λ _. self.new ≡ record self.old { nodes = push self.old.nodes item.entry.node; seen = seen_with self.old.seen item.entry self.old.listed }) }
+        ensures pushed { IfOk result (λ _. self.new ≡ record self.old { nodes = push self.old.nodes item.node; seen = seen_with self.old.seen item self.old.listed }) }
         ensures kept { IfErr result (λ _. self.new ≡ self.old) }
-        ensures taken { IsTaken (takes self.old.listed self.old.seen item.entry) at result }
+        ensures taken { IsTaken (takes self.old.listed self.old.seen item) at result }
         ensures refused { IfErr result (IsRefusedAt at) }
     {
         let seen = self.seen.with(&item, self.listed);
@@ -273,7 +273,7 @@ impl<'s> ListBuilder<'s> {
     }
 
     /// Whether the list can't take this item: a second `default`, or a setter's rest.
-    fn is_surplus(&self, item: &ListItem<'_>) -> bool
+    fn is_surplus(&self, item: &ListItem) -> bool
         ensures { result ≡ is_surplus self.now.listed self.now.seen item.now }
     {
         match self.listed {
@@ -287,10 +287,15 @@ impl<'s> ListBuilder<'s> {
     ///
     /// # Errors
     /// `Syntax` where one is no name and no pattern that is bound, with a default or without.
-    pub fn into_parameters(self, at: usize) -> Result<MeasuredParts<'s>, Fault>
-        ensures made { Becomes (pattern_parts 0 self.entry.nodes) (is_bound self.entry.seen.shape) at result }
+    pub fn into_parameters(
+        self,
+        tree: &mut TreeBuilder<'_>,
+        at: usize,
+    ) -> Result<MeasuredParts, Fault>
+        ensures made { Becomes (pattern_parts 0 self.nodes) (is_bound self.seen.shape) at result }
         ensures refused { IfErr result (IsRefusedAt at) }
+        ensures waits { (base : Parts) → tree.old ≡ join base self.nodes → IfOk result (λ parameters. tree.new ≡ join base parameters) }
     {
-        to_parameters(self.nodes, self.seen.shape, at)
+        to_parameters(tree, self.nodes, self.seen.shape, at)
     }
 }

@@ -3,7 +3,8 @@
 ghost use Rattle.std.specs.Prelude.{◌≡◌};
 ghost use Rattle.covers.specs.Shapes.{is_element, is_pattern, is_target, is_bound, is_either, shape_of, defaulted, simple, grouped, unassigned, initialized, together, with_element, with_rest};
 
-use tree::{BoxedNode, Kind};
+use productions::MeasuredNode;
+use tree::Kind;
 
 /// What a cover may be.
 #[derive(Clone, Copy, Debug, PartialEq, Eq)]
@@ -82,12 +83,12 @@ impl CoverShape {
 
     /// Of an expression that is no array, no object and no assignment: a name, a member outside an optional chain, or another.
     #[inline(always)]
-    pub fn of(expression: &BoxedNode<'_>) -> CoverShape
+    pub fn of(expression: &MeasuredNode) -> CoverShape
         ensures { result ≡ shape_of expression.now }
     {
         match expression.kind() {
             Kind::Identifier => CoverShape::NAME,
-            Kind::MemberExpression if !expression.flags().optional => CoverShape::TARGET,
+            Kind::MemberExpression if !expression.is_optional() => CoverShape::TARGET,
             _ => CoverShape::VALUE,
         }
     }

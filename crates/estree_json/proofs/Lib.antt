@@ -6,4 +6,5 @@ pub mod Lists
 pub mod Objects
 pub mod Floatless
 pub mod Sent
+pub mod Identifiers
 pub mod SentTexts

@@ -1,5 +1,5 @@
 -- What a line of the table of members makes of an object.
-use Rattle.std.specs.Prelude.{◌≡◌, ℕ, zero, suc, ◌-◌, Bool, true, false, List, [], ◌∷◌, length, take, drop, Option, Some, None, codes}
+use Rattle.std.specs.Prelude.{◌≡◌, ℕ, zero, suc, ◌-◌, Bool, true, List, [], ◌∷◌, length, take, drop, Option, Some, None, codes}
 use Rattle.tree.specs.declared.kind.Kind.{Kind}
 use Rattle.serde_json.specs.Data.{Data, null, boolean, number, unsigned, string, array, Members, no_members, member, put}
 use Rattle.serde_json.specs.View.{items_of}

@@ -8,6 +8,7 @@
 mod estree;
 mod events;
 mod fields;
+mod identifier;
 mod member;
 mod node;
 mod serialize;

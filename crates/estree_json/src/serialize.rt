@@ -15,6 +15,7 @@ use crate::events::{
     serialize_null,
 };
 use crate::fields::{is_set, method_kind, property_kind, source_type};
+use crate::identifier::serialize_identifier;
 use crate::member::{
     boolean_member, directive_member, end_member, literal_member, null_member, regex_member,
     start_member, template_member, text_member, type_member,
@@ -22,6 +23,7 @@ use crate::member::{
 use crate::table::{Member, member_table};
 use serde::Serializer;
 use std::ops::Range;
+use tree::Kind;
 
 /// The object of a node.
 #[cycle(send)]
@@ -32,6 +34,9 @@ pub(crate) fn serialize_node<S: Serializer>(
 ) -> Result<(), SerializeRefused>
     ensures { OnOk result (Sends (node_json estree.entry.is_last (node_tree estree.entry.node)) (S.written out.old) (S.written out.new)) }
 {
+    if estree.node.kind() == Kind::Identifier {
+        return serialize_identifier(out, error, estree.node);
+    }
     begin_object(out, error)?;
     for line in member_table(estree.node.kind()) {
         serialize_member(out, error, estree, line)?;

@@ -206,6 +206,7 @@ fn takes_atom(slot: &Slot) -> bool
 }
 
 /// Whether a node of this kind may be seen at once to be a leaf.
+#[inline(always)]
 fn may_be_leaf(kind: Kind) -> bool {
     matches!(kind, Kind::Identifier | Kind::Literal)
 }

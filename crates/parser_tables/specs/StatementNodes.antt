@@ -15,7 +15,7 @@ use Rattle.tree.specs.Tree.{Tree, node, Parts, part, none, plain, push, join, pa
 use Rattle.tokens.specs.declared.token.Token.{Token as Scanned}
 use Rattle.covers.specs.declared.shape.CoverShape.{CoverShape}
 use Rattle.covers.specs.declared.list.ListBuilder.{ListBuilder as ListOf}
-use Rattle.covers.specs.Patterns.{pattern_tree, pattern_parts}
+use Rattle.tree.specs.Patterns.{pattern_tree, pattern_parts}
 use Rattle.covers.specs.Shapes.{is_bound, is_pattern}
 use Rattle.parser_tables.specs.declared.symbol_lists.Symbol.{Symbol}
 use Rattle.parser_tables.specs.declared.symbol_lists.Symbol.TheVariants as piece

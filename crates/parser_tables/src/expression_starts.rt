@@ -1,12 +1,12 @@
 //! What the first token of an expression begins (ECMA-262 12.2 to 12.5, 14.1, 14.2, 14.6).
 #![tactic(auto, using(crate::proofs::Refusals::refusals))]
 
-ghost use Rattle.std.specs.Prelude.{◌≡◌, ◌≢◌, ◌<◌, ◌+◌, ◌-◌, IfErr, IfSome, true};
+ghost use Rattle.std.specs.Prelude.{◌≡◌, ◌≢◌, ◌<◌, ◌+◌, ◌-◌, IfErr, IfOk, IfSome, true};
 ghost use Rattle.language.specs.Token.{as_read};
 ghost use Rattle.language.specs.ExpressionStart.{expression_start_by, expression_start};
 ghost use Rattle.parser_tables.specs.ExpressionStarts.{coded_start, coded_in, coded_name, coded_word, stood};
 ghost use Rattle.tokens.specs.Scanned.{token_of};
-ghost use Rattle.tree.specs.Tree.{height};
+ghost use Rattle.tree.specs.Tree.{Parts, height, push, join};
 ghost use Rattle.parser_tables.specs.Tests.{continues_super};
 ghost use Rattle.parser_tables.specs.Moves.{BeginsList};
 ghost use Rattle.parser_tables.specs.Items.{listed_kind, listed_node, listed_part, is_grouped, group_levels, list_group};
@@ -25,7 +25,7 @@ use productions::{MeasuredNode, finish_plain};
 use source_text::Fault;
 use token_cursor::is_punctuator;
 use tokens::{Token, TokenClass};
-use tree::{Kind, Pair};
+use tree::{Kind, Pair, TreeBuilder};
 
 /// What an expression begins with.
 #[derive(Clone, Copy)]
@@ -173,15 +173,21 @@ fn list_node_kind(list: ListKind) -> Kind
 }
 
 /// An array, an object or a template (12.2.5, 12.2.6, 12.2.9), or the pattern that it covers; `high` is the greatest height.
-pub fn finish_list<'s>(list: ListBuilder<'s>, high: u32) -> Result<Operand<'s>, Fault>
-    ensures made { MakesAs (listed_part list.entry) (height (listed_node list.entry)) high result }
+pub fn finish_list(
+    tree: &mut TreeBuilder<'_>,
+    list: ListBuilder,
+    high: u32,
+) -> Result<Operand, Fault>
+    ensures made { MakesAs (listed_part list) (height (listed_node list)) high result }
     ensures refused { IfErr result IsLimit }
+    ensures waits { (base : Parts) → tree.old ≡ join base list.nodes → IfOk result (λ part. tree.new ≡ push base part.cover.node) }
 {
     let shape = match list.listed {
         ListKind::Template => CoverShape::VALUE,
         _ => list.seen.shape,
     };
-    let node = finish_plain(list_node_kind(list.listed), list.span, list.nodes, high)?;
+    let kind = list_node_kind(list.listed);
+    let node = finish_plain(tree, kind, list.span, list.nodes, high)?;
     Ok(Operand::primary(node, shape))
 }
 
@@ -209,9 +215,15 @@ pub fn token_node_text(kind: Kind, text: &str) -> &str
 }
 
 /// What parentheses group (12.2.10): an expression, or several with commas between them.
-pub fn finish_group<'s>(list: ListBuilder<'s>, at: usize, high: u32) -> Result<Operand<'s>, Fault>
-    ensures made { YieldsWhere (list_group list.entry) (λ place. place ≡ at) (is_grouped list.entry) (group_levels list.entry.nodes) high result }
+pub fn finish_group(
+    tree: &mut TreeBuilder<'_>,
+    list: ListBuilder,
+    at: usize,
+    high: u32,
+) -> Result<Operand, Fault>
+    ensures made { YieldsWhere (list_group list) (λ place. place ≡ at) (is_grouped list) (group_levels list.nodes) high result }
     ensures refused { IfErr result (IsStop at) }
+    ensures waits { (base : Parts) → tree.old ≡ join base list.nodes → IfOk result (λ part. tree.new ≡ push base part.cover.node) }
 {
     let start = list.span.start;
     let seen = list.seen;
@@ -220,7 +232,13 @@ pub fn finish_group<'s>(list: ListBuilder<'s>, at: usize, high: u32) -> Result<O
         return Err(Fault::Syntax(at));
     }
     if count > 1 {
-        let node = finish_plain(Kind::SequenceExpression, list.inside, list.nodes, high)?;
+        let node = finish_plain(
+            tree,
+            Kind::SequenceExpression,
+            list.inside,
+            list.nodes,
+            high,
+        )?;
         return Ok(group_operand(node, CoverShape::VALUE, start));
     }
     match list.nodes.into_only() {
@@ -230,8 +248,8 @@ pub fn finish_group<'s>(list: ListBuilder<'s>, at: usize, high: u32) -> Result<O
 }
 
 /// The operand that parentheses from this place on hold, in bytes (12.2.10).
-fn group_operand<'s>(node: MeasuredNode<'s>, shape: CoverShape, start: usize) -> Operand<'s>
-    ensures { result ≡ group_part node.entry shape start }
+fn group_operand(node: MeasuredNode, shape: CoverShape, start: usize) -> Operand
+    ensures { result ≡ group_part node shape start }
 {
     Operand {
         cover: Cover { node, shape },

@@ -1,22 +1,22 @@
 //! What was read where an expression may stand.
 
-ghost use Rattle.std.specs.Prelude.{◌≡◌, true, false};
+ghost use Rattle.std.specs.Prelude.{◌≡◌, IfOk, true, false};
 ghost use Rattle.std.specs.Bool.{OnTrue, OnFalse};
-ghost use Rattle.tree.specs.Tree.{kind_of};
+ghost use Rattle.tree.specs.Tree.{Parts, push, kind_of};
 ghost use Rattle.covers.specs.Shapes.{Becomes, is_target};
-ghost use Rattle.covers.specs.Patterns.{pattern_tree};
+ghost use Rattle.tree.specs.Patterns.{pattern_tree};
 ghost use Rattle.parser_tables.specs.Operands.{plain_part, primary_part, is_group, is_lone_string};
 
 use covers::{Cover, CoverShape};
 use language::{Edge, Rank};
 use productions::MeasuredNode;
 use source_text::Fault;
-use tree::Kind;
+use tree::{Kind, TreeBuilder};
 
 /// What was read where an expression may stand.
 #[derive(Drop)]
-pub struct Operand<'s> {
-    pub cover: Cover<'s>,
+pub struct Operand {
+    pub cover: Cover,
     /// Where its first token begins, parentheses round it included.
     pub start: usize,
     /// The symbol at which it stands; `Grouped` in parentheses.
@@ -25,13 +25,13 @@ pub struct Operand<'s> {
     pub edge: Edge,
 }
 
-impl<'s> Operand<'s> {
+impl Operand {
     /// An expression that is no array, no object and no assignment.
     #[inline(always)]
-    pub fn plain(node: MeasuredNode<'s>, rank: Rank, edge: Edge) -> Operand<'s>
-        ensures { result ≡ plain_part node.entry rank edge }
+    pub fn plain(node: MeasuredNode, rank: Rank, edge: Edge) -> Operand
+        ensures { result ≡ plain_part node rank edge }
     {
-        let start = node.node().span().start;
+        let start = node.start();
         let cover = Cover::plain(node);
         Operand {
             cover,
@@ -42,10 +42,10 @@ impl<'s> Operand<'s> {
     }
 
     /// What stands at Primary, with its shape.
-    pub fn primary(node: MeasuredNode<'s>, shape: CoverShape) -> Operand<'s>
-        ensures { result ≡ primary_part node.entry shape }
+    pub fn primary(node: MeasuredNode, shape: CoverShape) -> Operand
+        ensures { result ≡ primary_part node shape }
     {
-        let start = node.node().span().start;
+        let start = node.start();
         Operand {
             cover: Cover { node, shape },
             start,
@@ -58,8 +58,8 @@ impl<'s> Operand<'s> {
     ///
     /// # Errors
     /// `Syntax` where it isn't one.
-    pub fn into_expression(self, at: usize) -> Result<MeasuredNode<'s>, Fault>
-        ensures { Becomes self.entry.cover.node self.entry.cover.shape.is_expression at result }
+    pub fn into_expression(self, at: usize) -> Result<MeasuredNode, Fault>
+        ensures { Becomes self.cover.node self.cover.shape.is_expression at result }
     {
         self.cover.to_expression(at)
     }
@@ -68,10 +68,11 @@ impl<'s> Operand<'s> {
     ///
     /// # Errors
     /// `Syntax` where it is none.
-    pub fn target(self, at: usize) -> Result<MeasuredNode<'s>, Fault>
-        ensures { Becomes (pattern_tree self.entry.cover.node) (is_target self.entry.cover.shape.assigned) at result }
+    pub fn target(self, tree: &mut TreeBuilder<'_>, at: usize) -> Result<MeasuredNode, Fault>
+        ensures made { Becomes (pattern_tree self.cover.node) (is_target self.cover.shape.assigned) at result }
+        ensures waits { (base : Parts) → tree.old ≡ push base self.cover.node → IfOk result (λ made. tree.new ≡ push base made) }
     {
-        self.cover.to_target(at)
+        self.cover.to_target(tree, at)
     }
 
     /// Whether it is a node of this kind that stands in no parentheses.
@@ -82,7 +83,7 @@ impl<'s> Operand<'s> {
         if is_group(self.rank) {
             return false;
         }
-        if self.cover.node.node().kind() == kind {
+        if self.cover.node.kind() == kind {
             return true;
         }
         false
@@ -92,14 +93,7 @@ impl<'s> Operand<'s> {
     pub fn is_lone_string(&self) -> bool
         ensures { result ≡ is_lone_string self.now }
     {
-        if !self.is_ungrouped(Kind::Literal) {
-            return false;
-        }
-        let raw = self.cover.node.node().text();
-        match raw.as_bytes().first() {
-            Some(quote) => *quote == b'\'' || *quote == b'"',
-            None => false,
-        }
+        self.cover.node.is_string() && !is_group(self.rank)
     }
 }
 

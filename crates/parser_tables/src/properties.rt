@@ -23,8 +23,8 @@ pub fn property_flags(computed: bool, is_static: bool, form: Form) -> Flags
 }
 
 /// A property of this shape.
-pub fn property_item<'s>(node: MeasuredNode<'s>, shape: CoverShape) -> ListItem<'s>
-    ensures { result ≡ property_item node.entry shape }
+pub fn property_item(node: MeasuredNode, shape: CoverShape) -> ListItem
+    ensures { result ≡ property_item node shape }
 {
     ListItem {
         node,

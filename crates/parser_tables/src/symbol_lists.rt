@@ -14,14 +14,13 @@ use crate::statements::StatementKind;
 use covers::{ListBuilder, ListKind};
 use language::Edge;
 use productions::MeasuredParts;
-use std::alloc::Global;
 use token_cursor::is_punctuator;
 use tokens::{Token, TokenClass};
 
 /// What was read of a statement, a case, a handler, a function or a class.
 #[derive(Drop)]
 pub struct PartialStatement<'s> {
-    pub nodes: MeasuredParts<'s>,
+    pub nodes: MeasuredParts,
     /// The right edge of the last part.
     pub edge: Edge,
     /// The word that declares in the head of a `for`.
@@ -30,15 +29,15 @@ pub struct PartialStatement<'s> {
 
 impl<'s> PartialStatement<'s> {
     /// No parts.
-    pub fn new(alloc: Global) -> PartialStatement<'s>
+    pub fn new() -> PartialStatement<'s>
         ensures { result ≡ partial_of none }
     {
-        PartialStatement::of(MeasuredParts::new(alloc))
+        PartialStatement::of(MeasuredParts::new())
     }
 
     /// These parts.
-    pub fn of(nodes: MeasuredParts<'s>) -> PartialStatement<'s>
-        ensures { result ≡ partial_of nodes.entry }
+    pub fn of(nodes: MeasuredParts) -> PartialStatement<'s>
+        ensures { result ≡ partial_of nodes }
     {
         PartialStatement {
             nodes,
@@ -276,7 +275,7 @@ pub fn is_in_or_of(token: &Token<'_>) -> bool
 
 /// Whether the declarators may stand in the head of a `for`: before `in` or `of` (`each`) one without a value, before `;` none that is a pattern
 /// without one.
-pub fn fits_for_head(each: bool, list: &ListBuilder<'_>) -> bool
+pub fn fits_for_head(each: bool, list: &ListBuilder) -> bool
     ensures { result ≡ fits_head each list.now }
 {
     match each {

@@ -21,3 +21,4 @@ pub mod ReadRefusals
 pub mod RemainingArms
 pub mod SeenClasses
 pub mod SeenNames
+pub mod WaitingNodes

@@ -9,7 +9,7 @@ use Rattle.tree.specs.declared.kind.Kind.TheVariants.{UpdateExpression, UnaryExp
 use Rattle.tree.specs.declared.kind.Flags.{Flags}
 use Rattle.tree.specs.Tree.{Tree, node, part, none, plain}
 use Rattle.covers.specs.declared.shape.CoverShape.{CoverShape}
-use Rattle.covers.specs.Patterns.{pattern_tree}
+use Rattle.tree.specs.Patterns.{pattern_tree}
 use Rattle.covers.specs.Shapes.{defaulted, is_pattern, is_target, value}
 use Rattle.parser_tables.specs.declared.operand.Operand.{Operand}
 use Rattle.grammar.specs.declared.infix.InfixOperator.{InfixOperator}

@@ -31,7 +31,7 @@ use Rattle.language.specs.Claims.{max_open}
 use Rattle.covers.specs.declared.shape.CoverShape.{CoverShape}
 use Rattle.covers.specs.declared.shape.TargetForm.{TargetForm}
 use Rattle.covers.specs.declared.shape.TargetForm.TheVariants as assigned
-use Rattle.covers.specs.Patterns.{pattern_tree, pattern_parts}
+use Rattle.tree.specs.Patterns.{pattern_tree, pattern_parts}
 use Rattle.covers.specs.Shapes.{is_bound, is_element}
 use Rattle.parser_tables.specs.declared.operand.Operand.{Operand}
 use Rattle.parser_tables.specs.declared.expression_context.ExpressionContext.{ExpressionContext}

@@ -20,7 +20,7 @@ use Rattle.token_cursor.proofs.SeenTokens.{seen_determined}
 use Rattle.language.proofs.climbing.Spine.{Grows}
 use Rattle.language.proofs.climbing.OperatorLoop.{Leads}
 use Rattle.language.specs.Promises.{Apart}
-use Rattle.covers.specs.Patterns.{pattern_tree}
+use Rattle.tree.specs.Patterns.{pattern_tree}
 use Rattle.covers.specs.Shapes.{is_element, is_target, is_pattern as is_listed}
 use Rattle.parser_tables.specs.declared.operand.Operand.{Operand}
 use Rattle.parser_tables.specs.declared.expression_context.ExpressionContext.{ExpressionContext}

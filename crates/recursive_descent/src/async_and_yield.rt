@@ -4,7 +4,7 @@
 ghost use Rattle.std.specs.Prelude.{◌≡◌, ◌≤◌, false, codes, IfOk, IfErr};
 ghost use Rattle.token_cursor.specs.CursorState.{IsPlaceHere, Passes};
 ghost use Rattle.token_cursor.specs.Refusals.{IsRefusal};
-ghost use Rattle.tree.specs.Tree.{height, none, push};
+ghost use Rattle.tree.specs.Tree.{height, none, push, Parts, join};
 ghost use Rattle.language.specs.declared.Rank.TheVariants.{Call};
 ghost use Rattle.language.specs.declared.Edge.TheVariants.{Other};
 ghost use Rattle.parser_tables.specs.Operands.{plain_part};
@@ -21,17 +21,19 @@ ghost use Rattle.parser_tables.specs.Outcomes.{YieldsWhere};
 ghost use Rattle.recursive_descent.specs.Complete.{ArrowComplete, KeywordExpressionComplete};
 
 use crate::parser::Parser;
+use crate::private_names::rare_token_node;
+use crate::token_tests::span_from;
 use covers::{ListBuilder, ListKind};
 use grammar::accepts_rank;
 use language::{Edge, Rank, Start};
 use parser_tables::{
-    ExpressionContext, ExpressionStart, FunctionOrClass, Operand, begins_no_operand,
+    ExpressionContext, ExpressionStart, FunctionOrClass, Operand, begins_no_operand, span_of,
 };
 use productions::{MeasuredNode, MeasuredParts, finish_node, finish_plain};
 use source_text::Fault;
-use token_cursor::{is_identifier, is_name_token, is_punctuator};
+use token_cursor::{Cursor, is_identifier, is_name_token, is_punctuator};
 use tokens::{Goal, Token, TokenClass};
-use tree::{Flags, Form, Kind};
+use tree::{Flags, Form, Kind, NodeText, TreeBuilder};
 
 /// What an expression is that begins with `async`.
 #[derive(Clone, Copy)]
@@ -91,9 +93,10 @@ impl<'t, 's> Parser<'t, 's> {
         &mut self,
         position: ExpressionContext,
         high: u32,
-    ) -> Result<Operand<'s>, Fault>
+    ) -> Result<Operand, Fault>
         ensures text { self.new.cursor.text ≡ self.old.cursor.text }
         ensures forward { self.old.cursor.last.stop ≤ self.new.cursor.last.stop }
+        ensures waits { IfOk result (λ made. self.new.tree ≡ push self.old.tree made.cover.node) }
         ensures derived { IfOk result (λ made. Adds self.old.cursor self.new.cursor self.old.pairs.items self.new.pairs.items (NamedAsync self.old.cursor.text position made)) }
         ensures low { IfOk result (λ made. height made.cover.node ≤ high) }
         ensures complete { AsyncComplete self.old.cursor self.new.cursor self.old.pairs.items self.new.pairs.items high position result }
@@ -109,12 +112,12 @@ impl<'t, 's> Parser<'t, 's> {
             }
             AsyncStart::Parameter => {
                 let name = self.identifier()?;
-                let parameter = self.rare_token_node(Kind::Identifier, name, high)?;
+                let parameter = rare_token_node(&mut self.tree, Kind::Identifier, name, high)?;
                 self.arrow_of_name(parameter, start, Form::Async, position.has_in, high)
             }
             AsyncStart::Parentheses => self.async_call(token, position, high),
             AsyncStart::Name => {
-                let node = self.rare_token_node(Kind::Identifier, token, high)?;
+                let node = rare_token_node(&mut self.tree, Kind::Identifier, token, high)?;
                 if self.sees_arrow() && accepts_rank(position.rank, Rank::Assignment) {
                     return self.arrow_of_name(node, start, Form::Init, position.has_in, high);
                 }
@@ -129,22 +132,22 @@ impl<'t, 's> Parser<'t, 's> {
     #[inline(never)]
     fn arrow_of_name(
         &mut self,
-        parameter: MeasuredNode<'s>,
+        parameter: MeasuredNode,
         start: usize,
         form: Form,
         has_in: bool,
         high: u32,
-    ) -> Result<Operand<'s>, Fault>
+    ) -> Result<Operand, Fault>
         ensures text { self.new.cursor.text ≡ self.old.cursor.text }
         ensures forward { self.old.cursor.last.stop ≤ self.new.cursor.last.stop }
+        ensures waits { (base : Parts) → self.old.tree ≡ push base parameter → IfOk result (λ made. self.new.tree ≡ push base made.cover.node) }
         ensures passes { IfOk result (λ _. Passes self.old.cursor self.new.cursor) }
-        ensures derived { IfOk result (λ made. Adds self.old.cursor self.new.cursor self.old.pairs.items self.new.pairs.items (ArrowAt self.old.cursor.text form has_in (push none parameter.entry) start made)) }
+        ensures derived { IfOk result (λ made. Adds self.old.cursor self.new.cursor self.old.pairs.items self.new.pairs.items (ArrowAt self.old.cursor.text form has_in (push none parameter) start made)) }
         ensures low { IfOk result (λ made. height made.cover.node ≤ high) }
-        ensures complete { ArrowComplete self.old.cursor self.new.cursor self.old.pairs.items self.new.pairs.items high (push none parameter.entry) start form has_in result }
+        ensures complete { ArrowComplete self.old.cursor self.new.cursor self.old.pairs.items self.new.pairs.items high (push none parameter) start form has_in result }
         ensures refused { IfErr result (IsRefusal self.new.cursor.text) }
     {
-        let mut parameters = MeasuredParts::new(self.alloc);
-        parameters.push(parameter)?;
+        let parameters = MeasuredParts::one(parameter);
         self.arrow_function(parameters, start, form, has_in, high)
     }
 
@@ -157,9 +160,10 @@ impl<'t, 's> Parser<'t, 's> {
         token: Token<'s>,
         position: ExpressionContext,
         high: u32,
-    ) -> Result<Operand<'s>, Fault>
+    ) -> Result<Operand, Fault>
         ensures text { self.new.cursor.text ≡ self.old.cursor.text }
         ensures forward { self.old.cursor.last.stop ≤ self.new.cursor.last.stop }
+        ensures waits { IfOk result (λ made. self.new.tree ≡ push self.old.tree made.cover.node) }
         ensures passes { IfOk result (λ _. Passes self.old.cursor self.new.cursor) }
         ensures derived { IfOk result (λ made. Adds self.old.cursor self.new.cursor self.old.pairs.items self.new.pairs.items (AsyncAt self.old.cursor.text position token.entry made)) }
         ensures low { IfOk result (λ made. height made.cover.node ≤ high) }
@@ -170,33 +174,12 @@ impl<'t, 's> Parser<'t, 's> {
         let list = self.open(ListKind::AsyncArguments, inner)?;
         let list = self.list(list, inner)?;
         if self.sees_arrow() {
-            let parameters = list.into_parameters(self.cursor.next_start())?;
+            let at = self.cursor.next_start();
+            let parameters = list.into_parameters(&mut self.tree, at)?;
             let has_in = position.has_in;
             return self.arrow_function(parameters, token.start, Form::Async, has_in, high);
         }
-        self.call_of_async(token, list, high)
-    }
-
-    /// The call of a function that is called `async`, with these arguments (13.3.6).
-    fn call_of_async(
-        &self,
-        token: Token<'s>,
-        list: ListBuilder<'s>,
-        high: u32,
-    ) -> Result<Operand<'s>, Fault>
-        ensures made { let call = async_call_node (token_of token.entry) self.now.cursor.last.stop list.entry.nodes in YieldsWhere (plain_part call Call Other) (IsPlaceHere self.now.cursor) list.entry.seen.shape.is_expression (height call) high result }
-        ensures refused { IfErr result (IsRefusal self.now.cursor.text) }
-    {
-        if !list.seen.shape.is_expression {
-            return Err(self.syntax_error());
-        }
-        let callee = self.rare_token_node(Kind::Identifier, token, high.saturating_sub(1))?;
-        let mut nodes = MeasuredParts::new(self.alloc);
-        nodes.push(callee)?;
-        nodes.append(list.nodes)?;
-        let span = self.span_from(token.start);
-        let node = finish_plain(Kind::CallExpression, span, nodes, high)?;
-        Ok(Operand::plain(node, Rank::Call, Edge::Other))
+        call_of_async(&self.cursor, &mut self.tree, token, list, high)
     }
 
     /// Whether behind `yield` no operand begins ahead, whichever goal reads the token there.
@@ -232,19 +215,21 @@ impl<'t, 's> Parser<'t, 's> {
         token: Token<'s>,
         position: ExpressionContext,
         high: u32,
-    ) -> Result<Operand<'s>, Fault>
+    ) -> Result<Operand, Fault>
         ensures text { self.new.cursor.text ≡ self.old.cursor.text }
         ensures forward { self.old.cursor.last.stop ≤ self.new.cursor.last.stop }
+        ensures waits { IfOk result (λ made. self.new.tree ≡ push self.old.tree made.cover.node) }
         ensures derived { IfOk result (λ made. Adds self.old.cursor self.new.cursor self.old.pairs.items self.new.pairs.items (WordedAt self.old.cursor.text position token.entry ExpressionStart.Yield made)) }
         ensures low { IfOk result (λ made. height made.cover.node ≤ high) }
         ensures complete { KeywordExpressionComplete self.old.cursor self.new.cursor self.old.pairs.items self.new.pairs.items high token.entry ExpressionStart.Yield position result }
         ensures refused { IfErr result (IsRefusal self.new.cursor.text) }
     {
         let kind = Kind::YieldExpression;
-        let mut nodes = MeasuredParts::new(self.alloc);
+        let mut nodes = MeasuredParts::new();
         if self.sees_no_operand() {
-            nodes.push_gap()?;
-            let node = finish_plain(kind, self.span_from(token.start), nodes, high)?;
+            nodes.push_gap(&mut self.tree)?;
+            let span = span_from(&self.cursor, token.start);
+            let node = finish_plain(&mut self.tree, kind, span, nodes, high)?;
             return Ok(Operand::plain(node, Rank::Assignment, Edge::Arrow));
         }
         let mut flags = Flags::PLAIN;
@@ -253,7 +238,36 @@ impl<'t, 's> Parser<'t, 's> {
         let operand = self.expression(place, high.saturating_sub(1))?;
         let edge = operand.edge;
         nodes.push(self.into_expression(operand)?)?;
-        let node = finish_node(kind, "", flags, self.span_from(token.start), nodes, high)?;
+        let span = span_from(&self.cursor, token.start);
+        let node = finish_node(&mut self.tree, kind, "", flags, span, nodes, high)?;
         Ok(Operand::plain(node, Rank::Assignment, edge))
     }
+}
+
+/// The call of a function that is called `async`, with these arguments (13.3.6).
+fn call_of_async<'s>(
+    cursor: &Cursor<'_, 's>,
+    tree: &mut TreeBuilder<'s>,
+    token: Token<'s>,
+    list: ListBuilder,
+    high: u32,
+) -> Result<Operand, Fault>
+    ensures made { let call = async_call_node (token_of token.entry) cursor.now.last.stop list.nodes in YieldsWhere (plain_part call Call Other) (IsPlaceHere cursor.now) list.seen.shape.is_expression (height call) high result }
+    ensures waits { (base : Parts) → tree.old ≡ join base list.nodes → IfOk result (λ part. tree.new ≡ push base part.cover.node) }
+    ensures refused { IfErr result (IsRefusal cursor.now.text) }
+{
+    if !list.seen.shape.is_expression {
+        return Err(cursor.syntax_error());
+    }
+    let inner = high.saturating_sub(1);
+    let arguments = list.nodes;
+    let text = NodeText::Borrowed(token.text);
+    let kind = Kind::Identifier;
+    let at = span_of(&token);
+    let callee = MeasuredNode::leaf_before(tree, &arguments, kind, text, at, inner)?;
+    let mut nodes = MeasuredParts::one(callee);
+    nodes.append(arguments)?;
+    let span = span_from(cursor, token.start);
+    let node = finish_plain(tree, Kind::CallExpression, span, nodes, high)?;
+    Ok(Operand::plain(node, Rank::Call, Edge::Other))
 }

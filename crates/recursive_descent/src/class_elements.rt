@@ -4,7 +4,7 @@
 ghost use Rattle.std.specs.Prelude.{◌≡◌, ◌≤◌, true, false, codes, IfOk, IfErr};
 ghost use Rattle.token_cursor.specs.CursorState.{Passes};
 ghost use Rattle.token_cursor.specs.Refusals.{IsRefusal};
-ghost use Rattle.tree.specs.Tree.{height};
+ghost use Rattle.tree.specs.Tree.{height, Parts, push};
 ghost use Rattle.std.specs.Bool.{OnTrue, OnFalse};
 ghost use Rattle.language.specs.Token.{Token as Read};
 ghost use Rattle.language.specs.Edges.{key_goes_on};
@@ -20,6 +20,7 @@ ghost use Rattle.recursive_descent.specs.Spelled.{OfLanguage};
 
 use crate::parser::Parser;
 use crate::properties::PropertyName;
+use crate::token_tests::span_from;
 use covers::ListItem;
 use parser_tables::{ExpressionContext, StatementContext, StatementListEnd, property_flags};
 use productions::{MeasuredParts, finish_node, finish_plain};
@@ -64,11 +65,12 @@ impl<'t, 's> Parser<'t, 's> {
     /// Reads a static block, which stands ahead.
     #[cycle(grammar)]
     #[inline(never)]
-    pub(crate) fn static_block(&mut self, start: usize, high: u32) -> Result<ListItem<'s>, Fault>
+    pub(crate) fn static_block(&mut self, start: usize, high: u32) -> Result<ListItem, Fault>
         requires here { BeginsBy self.old.cursor start }
         requires ahead { BeginsStaticBlock self.old.cursor.text self.old.cursor.last }
         ensures text { self.new.cursor.text ≡ self.old.cursor.text }
         ensures forward { self.old.cursor.last.stop ≤ self.new.cursor.last.stop }
+        ensures waits { IfOk result (λ item. self.new.tree ≡ push self.old.tree item.node) }
         ensures passes { IfOk result (λ _. Passes self.old.cursor self.new.cursor) }
         ensures derived { IfOk result (λ item. Adds self.old.cursor self.new.cursor self.old.pairs.items self.new.pairs.items (ItemReads self.old.cursor.text (defined true) item)) }
         ensures low { IfOk result (λ item. height item.node ≤ high) }
@@ -82,7 +84,8 @@ impl<'t, 's> Parser<'t, 's> {
         let inner = high.saturating_sub(1);
         let items = self.statements(StatementListEnd::ClosingBrace, context, inner)?;
         self.expect_punctuator("}")?;
-        let node = finish_plain(Kind::StaticBlock, self.span_from(start), items, high)?;
+        let span = span_from(&self.cursor, start);
+        let node = finish_plain(&mut self.tree, Kind::StaticBlock, span, items, high)?;
         Ok(ListItem::plain(node))
     }
 
@@ -95,10 +98,11 @@ impl<'t, 's> Parser<'t, 's> {
         is_static: bool,
         start: usize,
         high: u32,
-    ) -> Result<ListItem<'s>, Fault>
+    ) -> Result<ListItem, Fault>
         requires { is_of_2022 self.old.cursor.text.language ≡ true }
         ensures text { self.new.cursor.text ≡ self.old.cursor.text }
         ensures forward { self.old.cursor.last.stop ≤ self.new.cursor.last.stop }
+        ensures waits { (base : Parts) → self.old.tree ≡ push base key.entry.node → IfOk result (λ item. self.new.tree ≡ push base item.node) }
         ensures derived { IfOk result (λ item. Adds self.old.cursor self.new.cursor self.old.pairs.items self.new.pairs.items (FieldAt self.old.cursor.text key.entry is_static start item)) }
         ensures low { IfOk result (λ item. height item.node ≤ high) }
         ensures own { IfOk result (λ item. OfLanguage self.old.cursor.text key.entry.node → OfLanguage self.old.cursor.text item.node) }
@@ -107,19 +111,26 @@ impl<'t, 's> Parser<'t, 's> {
     {
         let flags = property_flags(key.computed, is_static, Form::Init);
         let mut ending = StatementEnd::AfterKey(key_of_field(&key, is_static));
-        let mut nodes = MeasuredParts::new(self.alloc);
-        nodes.push(key.node)?;
+        let mut nodes = MeasuredParts::one(key.node);
         if self.accept_punctuator("=") {
             let inner = high.saturating_sub(1);
             let value = self.expression(ExpressionContext::ASSIGNMENT, inner)?;
             ending = StatementEnd::AfterValue(value.edge);
             nodes.push(self.into_expression(value)?)?;
         } else {
-            nodes.push_gap()?;
+            nodes.push_gap(&mut self.tree)?;
         }
         self.cursor.semicolon(ending)?;
-        let span = self.span_from(start);
-        let node = finish_node(Kind::PropertyDefinition, "", flags, span, nodes, high)?;
+        let span = span_from(&self.cursor, start);
+        let node = finish_node(
+            &mut self.tree,
+            Kind::PropertyDefinition,
+            "",
+            flags,
+            span,
+            nodes,
+            high,
+        )?;
         Ok(ListItem::plain(node))
     }
 }

@@ -6,7 +6,7 @@ ghost use Rattle.std.specs.Prelude.{◌≡◌, ◌≤◌, [], codes, IfOk, IfErr
 ghost use Rattle.token_cursor.specs.CursorState.{Passes};
 ghost use Rattle.recursive_descent.specs.Follows.{NamedAt, NotNamed};
 ghost use Rattle.recursive_descent.specs.Soundness.{Adds, ArrowAt};
-ghost use Rattle.tree.specs.Tree.{height, node, plain};
+ghost use Rattle.tree.specs.Tree.{height, node, plain, Parts, push, join};
 ghost use Rattle.productions.specs.Made.{Makes};
 ghost use Rattle.recursive_descent.specs.SoundnessOfStatements.{ClosureAt};
 ghost use Rattle.token_cursor.specs.Refusals.{IsRefusal};
@@ -19,13 +19,16 @@ ghost use Rattle.parser_tables.specs.StatementSymbols.{function_or_class_form};
 ghost use Rattle.recursive_descent.specs.Spelled.{OfLanguage, AllOfLanguage};
 
 use crate::parser::Parser;
+use crate::primary::token_node;
+use crate::token_tests::span_from;
 use language::{Edge, Rank};
 use parser_tables::{
     ExpressionContext, FunctionOrClass, Operand, PartialStatement, StatementContext, body_symbols,
 };
 use productions::{MeasuredNode, MeasuredParts, finish_node};
 use source_text::Fault;
-use tree::{Flags, Form, Kind};
+use token_cursor::Cursor;
+use tree::{Flags, Form, Kind, TreeBuilder};
 
 impl<'t, 's> Parser<'t, 's> {
     /// Reads the name of a function or a class, which is its first part; a gap if it is left out or is a method's.
@@ -33,9 +36,10 @@ impl<'t, 's> Parser<'t, 's> {
         &mut self,
         closure: FunctionOrClass,
         high: u32,
-    ) -> Result<MeasuredParts<'s>, Fault>
+    ) -> Result<MeasuredParts, Fault>
         ensures text { self.new.cursor.text ≡ self.old.cursor.text }
         ensures forward { self.old.cursor.last.stop ≤ self.new.cursor.last.stop }
+        ensures waits { IfOk result (λ nodes. self.new.tree ≡ join self.old.tree nodes) }
         ensures same_open { self.new.cursor.opened ≡ self.old.cursor.opened }
         ensures same_pairs { self.new.pairs.items ≡ self.old.pairs.items }
         ensures named { IfOk result (NamedAt closure self.old.cursor self.new.cursor high) }
@@ -49,10 +53,11 @@ impl<'t, 's> Parser<'t, 's> {
         };
         if has_name {
             let name = self.identifier()?;
-            return MeasuredParts::one(self.alloc, self.token_node(Kind::Identifier, name, high)?);
+            let name = token_node(&mut self.tree, Kind::Identifier, name, high)?;
+            return Ok(MeasuredParts::one(name));
         }
-        let mut nodes = MeasuredParts::new(self.alloc);
-        nodes.push_gap()?;
+        let mut nodes = MeasuredParts::new();
+        nodes.push_gap(&mut self.tree)?;
         Ok(nodes)
     }
 
@@ -64,9 +69,10 @@ impl<'t, 's> Parser<'t, 's> {
         closure: FunctionOrClass,
         start: usize,
         high: u32,
-    ) -> Result<MeasuredNode<'s>, Fault>
+    ) -> Result<MeasuredNode, Fault>
         ensures text { self.new.cursor.text ≡ self.old.cursor.text }
         ensures forward { self.old.cursor.last.stop ≤ self.new.cursor.last.stop }
+        ensures waits { IfOk result (λ n. self.new.tree ≡ push self.old.tree n) }
         ensures derived { IfOk result (λ n. Adds self.old.cursor self.new.cursor self.old.pairs.items self.new.pairs.items (ClosureAt self.old.cursor.text closure start n)) }
         ensures low { IfOk result (λ n. height n ≤ high) }
         ensures own { IfOk result (λ n. FormOfLanguage self.old.cursor.text (function_or_class_form closure) → OfLanguage self.old.cursor.text n) }
@@ -76,8 +82,16 @@ impl<'t, 's> Parser<'t, 's> {
         let inner = high.saturating_sub(1);
         let mut built = PartialStatement::of(self.function_or_class_name(closure, inner)?);
         self.read_symbols(closure.symbols(), &mut built, StatementContext::BODY, inner)?;
-        let span = self.span_from(start);
-        finish_node(closure.kind(), "", closure.flags(), span, built.nodes, high)
+        let span = span_from(&self.cursor, start);
+        finish_node(
+            &mut self.tree,
+            closure.kind(),
+            "",
+            closure.flags(),
+            span,
+            built.nodes,
+            high,
+        )
     }
 
     /// Goes past the words of a function that stand behind its first: `function` behind `async`, and the `*` of a generator; answers what is
@@ -89,6 +103,7 @@ impl<'t, 's> Parser<'t, 's> {
         requires first { FirstWordOf self.old.cursor closure }
         ensures text { self.new.cursor.text ≡ self.old.cursor.text }
         ensures forward { self.old.cursor.last.stop ≤ self.new.cursor.last.stop }
+        ensures same_tree { self.new.tree ≡ self.old.tree }
         ensures same_open { self.new.cursor.opened ≡ self.old.cursor.opened }
         ensures same_pairs { self.new.pairs.items ≡ self.old.pairs.items }
         ensures refused { IfErr result (IsRefusal self.new.cursor.text) }
@@ -111,6 +126,7 @@ impl<'t, 's> Parser<'t, 's> {
         requires first { FirstWord self.old.cursor form }
         ensures text { self.new.cursor.text ≡ self.old.cursor.text }
         ensures forward { self.old.cursor.last.stop ≤ self.new.cursor.last.stop }
+        ensures same_tree { self.new.tree ≡ self.old.tree }
         ensures same_open { self.new.cursor.opened ≡ self.old.cursor.opened }
         ensures same_pairs { self.new.pairs.items ≡ self.old.pairs.items }
         ensures refused { IfErr result (IsRefusal self.new.cursor.text) }
@@ -127,6 +143,7 @@ impl<'t, 's> Parser<'t, 's> {
     pub(crate) fn starred(&mut self, form: Form) -> Form
         ensures text { self.new.cursor.text ≡ self.old.cursor.text }
         ensures forward { self.old.cursor.last.stop ≤ self.new.cursor.last.stop }
+        ensures same_tree { self.new.tree ≡ self.old.tree }
         ensures same_open { self.new.cursor.opened ≡ self.old.cursor.opened }
         ensures same_pairs { self.new.pairs.items ≡ self.old.pairs.items }
         ensures starred { StarredAt self.old.cursor self.new.cursor form result }
@@ -145,19 +162,20 @@ impl<'t, 's> Parser<'t, 's> {
     #[inline(never)]
     pub(crate) fn arrow_function(
         &mut self,
-        parameters: MeasuredParts<'s>,
+        parameters: MeasuredParts,
         start: usize,
         form: Form,
         has_in: bool,
         high: u32,
-    ) -> Result<Operand<'s>, Fault>
+    ) -> Result<Operand, Fault>
         ensures text { self.new.cursor.text ≡ self.old.cursor.text }
         ensures forward { self.old.cursor.last.stop ≤ self.new.cursor.last.stop }
+        ensures waits { (base : Parts) → self.old.tree ≡ join base parameters → IfOk result (λ part. self.new.tree ≡ push base part.cover.node) }
         ensures passes { IfOk result (λ _. Passes self.old.cursor self.new.cursor) }
-        ensures derived { IfOk result (λ part. Adds self.old.cursor self.new.cursor self.old.pairs.items self.new.pairs.items (ArrowAt self.old.cursor.text form has_in parameters.entry start part)) }
+        ensures derived { IfOk result (λ part. Adds self.old.cursor self.new.cursor self.old.pairs.items self.new.pairs.items (ArrowAt self.old.cursor.text form has_in parameters start part)) }
         ensures low { IfOk result (λ part. height part.cover.node ≤ high) }
-        ensures own { IfOk result (λ part. AllOfLanguage self.old.cursor.text parameters.entry → FormOfLanguage self.old.cursor.text form → OfLanguage self.old.cursor.text part.cover.node) }
-        ensures complete { ArrowComplete self.old.cursor self.new.cursor self.old.pairs.items self.new.pairs.items high parameters.entry start form has_in result }
+        ensures own { IfOk result (λ part. AllOfLanguage self.old.cursor.text parameters → FormOfLanguage self.old.cursor.text form → OfLanguage self.old.cursor.text part.cover.node) }
+        ensures complete { ArrowComplete self.old.cursor self.new.cursor self.old.pairs.items self.new.pairs.items high parameters start form has_in result }
         ensures refused { IfErr result (IsRefusal self.new.cursor.text) }
     {
         self.expect_punctuator("=>")?;
@@ -165,29 +183,55 @@ impl<'t, 's> Parser<'t, 's> {
         let mut built = PartialStatement::of(parameters);
         if self.sees_punctuator("{") {
             self.read_symbols(body_symbols(), &mut built, StatementContext::BODY, inner)?;
-            let node = self.arrow_node(built.nodes, start, arrow_flags(form, false), high)?;
+            let flags = arrow_flags(form, false);
+            let node = arrow_node(
+                &self.cursor,
+                &mut self.tree,
+                built.nodes,
+                start,
+                flags,
+                high,
+            )?;
             return Ok(Operand::plain(node, Rank::Assignment, Edge::Arrow));
         }
         let body = self.expression(ExpressionContext::concise_body(has_in), inner)?;
         let edge = body.edge;
         built.nodes.push(self.into_expression(body)?)?;
-        let node = self.arrow_node(built.nodes, start, arrow_flags(form, true), high)?;
+        let flags = arrow_flags(form, true);
+        let node = arrow_node(
+            &self.cursor,
+            &mut self.tree,
+            built.nodes,
+            start,
+            flags,
+            high,
+        )?;
         Ok(Operand::plain(node, Rank::Assignment, edge))
     }
+}
 
-    /// The node of an arrow function that begins here.
-    fn arrow_node(
-        &self,
-        nodes: MeasuredParts<'s>,
-        start: usize,
-        flags: Flags,
-        high: u32,
-    ) -> Result<MeasuredNode<'s>, Fault>
-        ensures made { Makes (node Kind.ArrowFunctionExpression [] flags start self.now.cursor.last.stop nodes.entry) high result }
-    {
-        let span = self.span_from(start);
-        finish_node(Kind::ArrowFunctionExpression, "", flags, span, nodes, high)
-    }
+/// The node of an arrow function that begins here.
+fn arrow_node(
+    cursor: &Cursor<'_, '_>,
+    tree: &mut TreeBuilder<'_>,
+    nodes: MeasuredParts,
+    start: usize,
+    flags: Flags,
+    high: u32,
+) -> Result<MeasuredNode, Fault>
+    ensures made { Makes (node Kind.ArrowFunctionExpression [] flags start cursor.now.last.stop nodes) high result }
+    ensures waits { (base : Parts) → tree.old ≡ join base nodes → IfOk result (λ n. tree.new ≡ push base n) }
+{
+    let span = span_from(cursor, start);
+    finish_node(
+        tree,
+        Kind::ArrowFunctionExpression,
+        "",
+        flags,
+        span,
+        nodes,
+        high,
+    )
 }
 
 /// The flags of an arrow function (14.2) of this form, whose body is an expression or not.

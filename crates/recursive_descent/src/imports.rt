@@ -4,7 +4,7 @@
 ghost use Rattle.std.specs.Prelude.{◌≡◌, ◌≤◌, true, codes, IfOk, IfErr};
 ghost use Rattle.token_cursor.specs.CursorState.{Passes};
 ghost use Rattle.token_cursor.specs.Refusals.{IsLimit, IsRefusal};
-ghost use Rattle.tree.specs.Tree.{Parts, height, parts_height, join};
+ghost use Rattle.tree.specs.Tree.{Parts, height, parts_height, join, push};
 ghost use Rattle.std.specs.Bool.{OnTrue, OnFalse};
 ghost use Rattle.tokens.specs.declared.token.Goal.TheVariants.{Div};
 ghost use Rattle.token_cursor.specs.Seen.{SeesBy, MissesBy};
@@ -16,12 +16,14 @@ ghost use Rattle.parser_tables.specs.Tokens.{single_node};
 ghost use Rattle.recursive_descent.specs.ModuleItems.{is_quoted, is_module_name, name_kind, BindingAt, BindingComplete, ClauseAt, ClauseComplete, ItemComplete, ModuleNameAt, ModuleNameComplete, ReadWhole, SecondAt, SecondComplete, SourceAt, SourceComplete, SpecifierAt, SpecifierComplete, SpecifiersAt, SpecifiersComplete};
 
 use crate::parser::Parser;
+use crate::private_names::rare_token_node;
+use crate::token_tests::span_from;
 use language::Edge;
 use productions::{MeasuredNode, MeasuredParts, finish_node, finish_plain};
 use source_text::Fault;
 use token_cursor::{StatementEnd, is_identifier, is_identifier_name};
 use tokens::{Goal, Token, TokenClass};
-use tree::{Flags, Form, Kind};
+use tree::{Flags, Form, Kind, TreeBuilder};
 
 /// The flags of a specifier in which one name stands for both.
 const ONE_NAME: Flags = Flags {
@@ -35,9 +37,10 @@ impl<'t, 's> Parser<'t, 's> {
         &mut self,
         start: usize,
         high: u32,
-    ) -> Result<MeasuredNode<'s>, Fault>
+    ) -> Result<MeasuredNode, Fault>
         ensures text { self.new.cursor.text ≡ self.old.cursor.text }
         ensures forward { self.old.cursor.last.stop ≤ self.new.cursor.last.stop }
+        ensures waits { IfOk result (λ n. self.new.tree ≡ push self.old.tree n) }
         ensures same_open { self.new.cursor.opened ≡ self.old.cursor.opened }
         ensures same_pairs { self.new.pairs.items ≡ self.old.pairs.items }
         ensures derived { IfOk result (ReadWhole self.old.cursor self.new.cursor (codes "import") start) }
@@ -46,7 +49,7 @@ impl<'t, 's> Parser<'t, 's> {
         ensures refused { IfErr result (IsRefusal self.new.cursor.text) }
     {
         let inner = high.saturating_sub(1);
-        let mut nodes = MeasuredParts::new(self.alloc);
+        let mut nodes = MeasuredParts::new();
         if !self.sees_string() {
             self.import_clause(&mut nodes, inner)?;
             self.expect_word("from")?;
@@ -54,13 +57,15 @@ impl<'t, 's> Parser<'t, 's> {
         nodes.push(self.module_source(inner)?)?;
         self.cursor
             .semicolon(StatementEnd::AfterExpression(Edge::Closed))?;
-        finish_plain(Kind::ImportDeclaration, self.span_from(start), nodes, high)
+        let span = span_from(&self.cursor, start);
+        finish_plain(&mut self.tree, Kind::ImportDeclaration, span, nodes, high)
     }
 
     /// Reads an ImportClause: a default name, all names as one, or names in braces.
-    fn import_clause(&mut self, nodes: &mut MeasuredParts<'s>, high: u32) -> Result<(), Fault>
+    fn import_clause(&mut self, nodes: &mut MeasuredParts, high: u32) -> Result<(), Fault>
         ensures text { self.new.cursor.text ≡ self.old.cursor.text }
         ensures forward { self.old.cursor.last.stop ≤ self.new.cursor.last.stop }
+        ensures waits { (base : Parts) → self.old.tree ≡ join base nodes.old → IfOk result (λ _. self.new.tree ≡ join base nodes.new) }
         ensures same_open { self.new.cursor.opened ≡ self.old.cursor.opened }
         ensures same_pairs { self.new.pairs.items ≡ self.old.pairs.items }
         ensures derived { IfOk result (λ _. (ps : Parts) × (nodes.new ≡ join nodes.old ps) × ClauseAt self.old.cursor self.new.cursor ps) }
@@ -84,14 +89,10 @@ impl<'t, 's> Parser<'t, 's> {
     }
 
     /// Reads the name that a specifier binds, which is its one part; the specifier begins here.
-    fn import_binding(
-        &mut self,
-        kind: Kind,
-        start: usize,
-        high: u32,
-    ) -> Result<MeasuredNode<'s>, Fault>
+    fn import_binding(&mut self, kind: Kind, start: usize, high: u32) -> Result<MeasuredNode, Fault>
         ensures text { self.new.cursor.text ≡ self.old.cursor.text }
         ensures forward { self.old.cursor.last.stop ≤ self.new.cursor.last.stop }
+        ensures waits { IfOk result (λ n. self.new.tree ≡ push self.old.tree n) }
         ensures same_open { self.new.cursor.opened ≡ self.old.cursor.opened }
         ensures same_pairs { self.new.pairs.items ≡ self.old.pairs.items }
         ensures derived { IfOk result (BindingAt kind start self.old.cursor self.new.cursor) }
@@ -100,21 +101,23 @@ impl<'t, 's> Parser<'t, 's> {
         ensures refused { IfErr result (IsRefusal self.new.cursor.text) }
     {
         let name = self.identifier()?;
-        let local = self.rare_token_node(Kind::Identifier, name, high.saturating_sub(1))?;
-        let mut nodes = MeasuredParts::new(self.alloc);
-        nodes.push(local)?;
-        finish_plain(kind, self.span_from(start), nodes, high)
+        let inner = high.saturating_sub(1);
+        let local = rare_token_node(&mut self.tree, Kind::Identifier, name, inner)?;
+        let nodes = MeasuredParts::one(local);
+        let span = span_from(&self.cursor, start);
+        finish_plain(&mut self.tree, kind, span, nodes, high)
     }
 
     /// Reads specifiers in their braces, of an import or an export.
     pub(crate) fn specifiers(
         &mut self,
         kind: Kind,
-        nodes: &mut MeasuredParts<'s>,
+        nodes: &mut MeasuredParts,
         high: u32,
     ) -> Result<(), Fault>
         ensures text { self.new.cursor.text ≡ self.old.cursor.text }
         ensures forward { self.old.cursor.last.stop ≤ self.new.cursor.last.stop }
+        ensures waits { (base : Parts) → self.old.tree ≡ join base nodes.old → IfOk result (λ _. self.new.tree ≡ join base nodes.new) }
         ensures same_open { self.new.cursor.opened ≡ self.old.cursor.opened }
         ensures same_pairs { self.new.pairs.items ≡ self.old.pairs.items }
         ensures derived { IfOk result (λ _. (ps : Parts) × (nodes.new ≡ join nodes.old ps) × SpecifiersAt kind self.old.cursor self.new.cursor ps) }
@@ -134,9 +137,10 @@ impl<'t, 's> Parser<'t, 's> {
     }
 
     /// Reads an ImportSpecifier or an ExportSpecifier: one name, or two with `as` between them.
-    fn specifier(&mut self, kind: Kind, high: u32) -> Result<MeasuredNode<'s>, Fault>
+    fn specifier(&mut self, kind: Kind, high: u32) -> Result<MeasuredNode, Fault>
         ensures text { self.new.cursor.text ≡ self.old.cursor.text }
         ensures forward { self.old.cursor.last.stop ≤ self.new.cursor.last.stop }
+        ensures waits { IfOk result (λ n. self.new.tree ≡ push self.old.tree n) }
         ensures passes { IfOk result (λ _. Passes self.old.cursor self.new.cursor) }
         ensures same_open { self.new.cursor.opened ≡ self.old.cursor.opened }
         ensures same_pairs { self.new.pairs.items ≡ self.old.pairs.items }
@@ -147,22 +151,25 @@ impl<'t, 's> Parser<'t, 's> {
     {
         let inner = high.saturating_sub(1);
         let token = self.module_name_token()?;
-        let mut nodes = MeasuredParts::new(self.alloc);
-        nodes.push(self.module_name_node(token, inner)?)?;
+        let name = module_name_node(&mut self.tree, token, inner)?;
+        let mut nodes = MeasuredParts::one(name);
         if self.accept_word("as") {
             nodes.push(self.second_name(kind, inner)?)?;
-            return finish_plain(kind, self.span_from(token.start), nodes, high);
+            let span = span_from(&self.cursor, token.start);
+            return finish_plain(&mut self.tree, kind, span, nodes, high);
         }
         if matches!(kind, Kind::ImportSpecifier) && !is_identifier(&token) {
             return Err(self.syntax_error());
         }
-        finish_node(kind, "", ONE_NAME, self.span_from(token.start), nodes, high)
+        let span = span_from(&self.cursor, token.start);
+        finish_node(&mut self.tree, kind, "", ONE_NAME, span, nodes, high)
     }
 
     /// Reads the name behind the `as` of a specifier: what an import binds, or any that an export has.
-    fn second_name(&mut self, kind: Kind, high: u32) -> Result<MeasuredNode<'s>, Fault>
+    fn second_name(&mut self, kind: Kind, high: u32) -> Result<MeasuredNode, Fault>
         ensures text { self.new.cursor.text ≡ self.old.cursor.text }
         ensures forward { self.old.cursor.last.stop ≤ self.new.cursor.last.stop }
+        ensures waits { IfOk result (λ n. self.new.tree ≡ push self.old.tree n) }
         ensures same_open { self.new.cursor.opened ≡ self.old.cursor.opened }
         ensures same_pairs { self.new.pairs.items ≡ self.old.pairs.items }
         ensures derived { IfOk result (SecondAt kind self.old.cursor self.new.cursor) }
@@ -173,7 +180,7 @@ impl<'t, 's> Parser<'t, 's> {
         match kind {
             Kind::ImportSpecifier => {
                 let local = self.identifier()?;
-                self.rare_token_node(Kind::Identifier, local, high)
+                rare_token_node(&mut self.tree, Kind::Identifier, local, high)
             }
             _ => self.module_name(high),
         }
@@ -183,6 +190,7 @@ impl<'t, 's> Parser<'t, 's> {
     fn module_name_token(&mut self) -> Result<Token<'s>, Fault>
         ensures text { self.new.cursor.text ≡ self.old.cursor.text }
         ensures forward { self.old.cursor.last.stop ≤ self.new.cursor.last.stop }
+        ensures same_tree { self.new.tree ≡ self.old.tree }
         ensures passes { IfOk result (λ _. Passes self.old.cursor self.new.cursor) }
         ensures same_open { self.new.cursor.opened ≡ self.old.cursor.opened }
         ensures same_pairs { self.new.pairs.items ≡ self.old.pairs.items }
@@ -200,23 +208,11 @@ impl<'t, 's> Parser<'t, 's> {
         Ok(token)
     }
 
-    /// The node of a ModuleExportName.
-    fn module_name_node(&self, token: Token<'s>, high: u32) -> Result<MeasuredNode<'s>, Fault>
-        ensures made { Makes (single_node (name_kind token.entry.class) (token_of token.entry)) high result }
-        ensures low { IfOk result (λ n. height n ≤ high) }
-        ensures refused { IfErr result IsLimit }
-    {
-        let kind = match token.class {
-            TokenClass::StringLiteral => Kind::Literal,
-            _ => Kind::Identifier,
-        };
-        self.rare_token_node(kind, token, high)
-    }
-
     /// Reads a ModuleExportName (16.2).
-    pub(crate) fn module_name(&mut self, high: u32) -> Result<MeasuredNode<'s>, Fault>
+    pub(crate) fn module_name(&mut self, high: u32) -> Result<MeasuredNode, Fault>
         ensures text { self.new.cursor.text ≡ self.old.cursor.text }
         ensures forward { self.old.cursor.last.stop ≤ self.new.cursor.last.stop }
+        ensures waits { IfOk result (λ n. self.new.tree ≡ push self.old.tree n) }
         ensures passes { IfOk result (λ _. Passes self.old.cursor self.new.cursor) }
         ensures same_open { self.new.cursor.opened ≡ self.old.cursor.opened }
         ensures same_pairs { self.new.pairs.items ≡ self.old.pairs.items }
@@ -226,7 +222,7 @@ impl<'t, 's> Parser<'t, 's> {
         ensures refused { IfErr result (IsRefusal self.new.cursor.text) }
     {
         let token = self.module_name_token()?;
-        self.module_name_node(token, high)
+        module_name_node(&mut self.tree, token, high)
     }
 
     /// Whether a string stands ahead.
@@ -241,9 +237,10 @@ impl<'t, 's> Parser<'t, 's> {
     }
 
     /// Reads the string behind `from`, or of an import without a clause.
-    pub(crate) fn module_source(&mut self, high: u32) -> Result<MeasuredNode<'s>, Fault>
+    pub(crate) fn module_source(&mut self, high: u32) -> Result<MeasuredNode, Fault>
         ensures text { self.new.cursor.text ≡ self.old.cursor.text }
         ensures forward { self.old.cursor.last.stop ≤ self.new.cursor.last.stop }
+        ensures waits { IfOk result (λ n. self.new.tree ≡ push self.old.tree n) }
         ensures passes { IfOk result (λ _. Passes self.old.cursor self.new.cursor) }
         ensures same_open { self.new.cursor.opened ≡ self.old.cursor.opened }
         ensures same_pairs { self.new.pairs.items ≡ self.old.pairs.items }
@@ -257,4 +254,22 @@ impl<'t, 's> Parser<'t, 's> {
         }
         self.module_name(high)
     }
+}
+
+/// The node of a ModuleExportName.
+fn module_name_node<'s>(
+    tree: &mut TreeBuilder<'s>,
+    token: Token<'s>,
+    high: u32,
+) -> Result<MeasuredNode, Fault>
+    ensures made { Makes (single_node (name_kind token.entry.class) (token_of token.entry)) high result }
+    ensures waits { IfOk result (λ n. tree.new ≡ push tree.old n) }
+    ensures low { IfOk result (λ n. height n ≤ high) }
+    ensures refused { IfErr result IsLimit }
+{
+    let kind = match token.class {
+        TokenClass::StringLiteral => Kind::Literal,
+        _ => Kind::Identifier,
+    };
+    rare_token_node(tree, kind, token, high)
 }

@@ -32,16 +32,16 @@
 //! - 4: `expression` (loop), `infix`, `declarator`; in expressions, lists
 //! - 3: `leftmost_operand`, `optional_chain` (loop); in primary, subscripts
 //! - 2: `subscript`, `arrow_of_name`; in subscripts, async_and_yield
-//! - 1: `parenthesized`, `bracketed_list`, `token_or_prefix`, `arrow_function`, `binary_rest`, `update_or_comma`,
+//! - 1: `parenthesized`, `bracketed_list`, `one_token`, `arrow_function`, `binary_rest`, `update_or_comma`,
 //!   `call_expression`, `index_member`, `other_subscript`, `spread_item`, `property_or_member`, `property_value`,
 //!   `async_call`; in primary, functions_and_classes, expressions, subscripts, lists, properties, async_and_yield
 //! - 0: `arguments`, `property_name`, `prefix_expression`, `field`, `static_block`; in subscripts, properties,
 //!   primary, class_elements
 //!
 //! Some are one arm of another and have its contract for that arm: `special_item` and `spread_item` of `item`;
-//! `bracketed_list` and `token_or_prefix` of `leftmost_operand`; `prefix_expression` of `token_or_prefix`;
-//! `super_expression`, `new_expression` and `import_call` of `keyword_expression`; `call_expression`,
-//! `index_member` and `other_subscript` of `subscript`; `update_or_comma` of `infix`. A function keeps the locals
+//! `bracketed_list`, `one_token` and `prefix_expression` of `leftmost_operand`; `super_expression`,
+//! `new_expression` and `import_call` of `keyword_expression`; `call_expression`, `index_member` and
+//! `other_subscript` of `subscript`; `update_or_comma` of `infix`. A function keeps the locals
 //! of all its arms on the stack, and sets them to zero where it begins. So those on the way of each level of a nest
 //! have few: `expression`, `leftmost_operand`, `parenthesized`, `list`, `item` for a pair. Measure before you add
 //! an arm to one of these (docs/PERFORMANCE.md).
@@ -50,7 +50,7 @@
 //! `new_expression`, `import_call` and `function_or_class` may pass nothing (their clauses have no `passes`). A
 //! list's loop ends since `item` or what separates items passes a token, or it is a hole before a comma.
 //!
-//! # Two clauses
+//! # The clauses
 //!
 //! - `derived`: `Adds s e old new Is`: as many parentheses are open as before, what was added to the pairs is a
 //!   list, and `Is o s e P` holds for o = `max_open` - opened and the pairs of that list that group (`grouping`,
@@ -63,6 +63,10 @@
 //!   to some turn.
 //! - `low` (the height of what is answered) and the skeleton (`text`, `forward`, `passes`, `refused`) are clauses
 //!   of their own.
+//! - `waits`: what is answered, a node or parts, waits last in `tree`, behind what waited before; and so does what is
+//!   handed in to go on with. `same_tree`: no node is made. So each node becomes a part of the next, in the order of
+//!   the text, or is answered, and none is left behind. A callee that is called `async` is made when its arguments
+//!   wait already (`leaf_before`). The steps of a proof are in `proofs/reading/WaitingNodes.antt`.
 //!
 //! Four things look right and are false. That an expression at a position is the only thing there: `a` and `a.b`
 //! both begin at one place, so say that it can't go on. That a parenthesis counts where it closes: it counts while

@@ -13,7 +13,7 @@ ghost use Rattle.token_cursor.specs.CursorState.{IsSyntaxHere};
 ghost use Rattle.tokens.specs.declared.token.Goal.TheVariants.{Div, TemplateTail};
 ghost use Rattle.tokens.specs.Scanned.{token_of};
 ghost use Rattle.language.specs.Token.{as_read, Token as Read};
-ghost use Rattle.tree.specs.Tree.{part_count, height, parts_height};
+ghost use Rattle.tree.specs.Tree.{part_count, height, parts_height, Parts, push, join};
 ghost use Rattle.covers.specs.Lists.{is_ended};
 ghost use Rattle.parser_tables.specs.Tests.{is_later_part, is_template};
 ghost use Rattle.token_cursor.specs.Seen.{ReadsHere, Sees, Misses, MissesBy, SeesBy, TokenHere};
@@ -25,25 +25,28 @@ ghost use Rattle.recursive_descent.specs.SoundnessOfLists.{SoFarAt, ListAt, Item
 ghost use Rattle.language.specs.declared.Start.{Start};
 ghost use Rattle.tree.specs.declared.kind.Pair.{Pair};
 ghost use Rattle.token_cursor.specs.Refusals.{IsLimit, IsRefusal};
-ghost use Rattle.covers.specs.Patterns.{pattern_tree};
+ghost use Rattle.tree.specs.Patterns.{pattern_tree};
 ghost use Rattle.covers.specs.Shapes.{is_pattern};
 ghost use Rattle.recursive_descent.specs.Spelled.{OfLanguage, AllOfLanguage};
 
 use crate::parser::Parser;
 use crate::template_elements::{is_later_part, template_element};
+use crate::token_tests::span_from;
 use covers::{ListBuilder, ListItem, ListKind};
 use language::{Edge, Rank};
 use parser_tables::{ExpressionContext, Operand, PartialStatement, StatementContext, case_symbols};
 use productions::{MeasuredNode, MeasuredParts, finish_plain};
 use source_text::Fault;
+use token_cursor::Cursor;
 use tokens::{Goal, Token, TokenClass};
-use tree::Kind;
+use tree::{Kind, TreeBuilder};
 
 impl<'t, 's> Parser<'t, 's> {
     /// Goes past what stands before the first item, which is no higher than `high`.
-    pub(crate) fn open(&mut self, listed: ListKind, high: u32) -> Result<ListBuilder<'s>, Fault>
+    pub(crate) fn open(&mut self, listed: ListKind, high: u32) -> Result<ListBuilder, Fault>
         ensures text { self.new.cursor.text ≡ self.old.cursor.text }
         ensures forward { self.old.cursor.last.stop ≤ self.new.cursor.last.stop }
+        ensures waits { IfOk result (λ list. self.new.tree ≡ join self.old.tree list.nodes) }
         ensures passes { IfOk result (λ _. IsOpened listed → Passes self.old.cursor self.new.cursor) }
         ensures same_open { self.new.cursor.opened ≡ self.old.cursor.opened }
         ensures same_pairs { self.new.pairs.items ≡ self.old.pairs.items }
@@ -57,7 +60,7 @@ impl<'t, 's> Parser<'t, 's> {
         ensures refused { IfErr result (IsRefusal self.new.cursor.text) }
     {
         let start = self.cursor.next_start();
-        let mut list = ListBuilder::new(self.alloc, listed, start);
+        let mut list = ListBuilder::new(listed, start);
         match listed.opener() {
             Some(mark) => {
                 self.expect_punctuator(mark)?;
@@ -74,6 +77,7 @@ impl<'t, 's> Parser<'t, 's> {
     fn pass_semicolons(&mut self)
         ensures text { self.new.cursor.text ≡ self.old.cursor.text }
         ensures forward { self.old.cursor.last.stop ≤ self.new.cursor.last.stop }
+        ensures same_tree { self.new.tree ≡ self.old.tree }
         ensures same_open { self.new.cursor.opened ≡ self.old.cursor.opened }
         ensures same_pairs { self.new.pairs.items ≡ self.old.pairs.items }
         ensures passed { Semicolons self.old.cursor.text self.old.cursor.last self.new.cursor.last }
@@ -83,9 +87,10 @@ impl<'t, 's> Parser<'t, 's> {
     }
 
     /// Whether another item stands ahead; in a class body it goes past each `;` before it (14.6).
-    fn has_item(&mut self, list: &ListBuilder<'s>) -> bool
+    fn has_item(&mut self, list: &ListBuilder) -> bool
         ensures text { self.new.cursor.text ≡ self.old.cursor.text }
         ensures forward { self.old.cursor.last.stop ≤ self.new.cursor.last.stop }
+        ensures same_tree { self.new.tree ≡ self.old.tree }
         ensures same_open { self.new.cursor.opened ≡ self.old.cursor.opened }
         ensures same_pairs { self.new.pairs.items ≡ self.old.pairs.items }
         ensures passed { PassedBefore list.now.listed self.old.cursor self.new.cursor }
@@ -110,9 +115,10 @@ impl<'t, 's> Parser<'t, 's> {
     }
 
     /// Whether another item may follow the last; it goes past the comma between them.
-    fn is_separated(&mut self, list: &mut ListBuilder<'s>) -> bool
+    fn is_separated(&mut self, list: &mut ListBuilder) -> bool
         ensures text { self.new.cursor.text ≡ self.old.cursor.text }
         ensures forward { self.old.cursor.last.stop ≤ self.new.cursor.last.stop }
+        ensures same_tree { self.new.tree ≡ self.old.tree }
         ensures passes { OnTrue result ((IsUnseparated list.old.listed → ⊥) → Passes self.old.cursor self.new.cursor) }
         ensures listed { list.new.listed ≡ list.old.listed }
         ensures separated { list.new ≡ after_item list.old result }
@@ -136,29 +142,26 @@ impl<'t, 's> Parser<'t, 's> {
     /// The items of a list, the first of which stands ahead, and what stands behind the last.
     #[cycle(grammar)]
     #[inline(never)]
-    pub(crate) fn list(
-        &mut self,
-        list: ListBuilder<'s>,
-        high: u32,
-    ) -> Result<ListBuilder<'s>, Fault>
+    pub(crate) fn list(&mut self, list: ListBuilder, high: u32) -> Result<ListBuilder, Fault>
         ensures text { self.new.cursor.text ≡ self.old.cursor.text }
         ensures forward { self.old.cursor.last.stop ≤ self.new.cursor.last.stop }
-        ensures derived { IfOk result (λ whole. Adds self.old.cursor self.new.cursor self.old.pairs.items self.new.pairs.items (λ o m e Q. (f : Start) (s : Read) (P : ListOf Pair) → SoFarAt self.old.cursor.text f list.entry o s m P → ListAt self.old.cursor.text f whole o s e (P ++ Q))) }
-        ensures seen { IfOk result (λ whole. SeenRight list.entry → SeenRight whole) }
-        ensures inside { IfOk result (λ whole. list.entry.listed ≡ ListKind.ParenthesizedItems → BeginsBy self.old.cursor whole.inside.start) }
-        ensures same { IfOk result (λ whole. (whole.listed ≡ list.entry.listed) × (whole.span.start ≡ list.entry.span.start)) }
-        ensures low { IfOk result (λ whole. parts_height list.entry.nodes ≤ high → parts_height whole.nodes ≤ high) }
-        ensures own { IfOk result (λ whole. AllOfLanguage self.old.cursor.text list.entry.nodes → AllOfLanguage self.old.cursor.text whole.nodes) }
-        ensures complete { ListComplete self.old.cursor self.new.cursor self.old.pairs.items self.new.pairs.items high list.entry result }
+        ensures waits { (base : Parts) → self.old.tree ≡ join base list.nodes → IfOk result (λ whole. self.new.tree ≡ join base whole.nodes) }
+        ensures derived { IfOk result (λ whole. Adds self.old.cursor self.new.cursor self.old.pairs.items self.new.pairs.items (λ o m e Q. (f : Start) (s : Read) (P : ListOf Pair) → SoFarAt self.old.cursor.text f list o s m P → ListAt self.old.cursor.text f whole o s e (P ++ Q))) }
+        ensures seen { IfOk result (λ whole. SeenRight list → SeenRight whole) }
+        ensures inside { IfOk result (λ whole. list.listed ≡ ListKind.ParenthesizedItems → BeginsBy self.old.cursor whole.inside.start) }
+        ensures same { IfOk result (λ whole. (whole.listed ≡ list.listed) × (whole.span.start ≡ list.span.start)) }
+        ensures low { IfOk result (λ whole. parts_height list.nodes ≤ high → parts_height whole.nodes ≤ high) }
+        ensures own { IfOk result (λ whole. AllOfLanguage self.old.cursor.text list.nodes → AllOfLanguage self.old.cursor.text whole.nodes) }
+        ensures complete { ListComplete self.old.cursor self.new.cursor self.old.pairs.items self.new.pairs.items high list result }
         ensures refused { IfErr result (IsRefusal self.new.cursor.text) }
     {
         let mut list = list;
         if !matches!(list.listed, ListKind::Sequence { .. }) {
-            list.inside = self.span_from(self.operand_start());
+            list.inside = span_from(&self.cursor, self.operand_start());
         }
         'items: while self.has_item(&list) {
             self.item(&mut list, high)?;
-            list.inside = self.span_from(list.inside.start);
+            list.inside = span_from(&self.cursor, list.inside.start);
             if !self.is_separated(&mut list) {
                 break;
             }
@@ -166,7 +169,7 @@ impl<'t, 's> Parser<'t, 's> {
         if let Some(mark) = list.listed.closer() {
             self.expect_punctuator(mark)?;
         }
-        list.span = self.span_from(list.span.start);
+        list.span = span_from(&self.cursor, list.span.start);
         Ok(list)
     }
 
@@ -174,9 +177,10 @@ impl<'t, 's> Parser<'t, 's> {
     /// little of the stack.
     #[cycle(grammar)]
     #[inline(never)]
-    fn item(&mut self, list: &mut ListBuilder<'s>, high: u32) -> Result<(), Fault>
+    fn item(&mut self, list: &mut ListBuilder, high: u32) -> Result<(), Fault>
         ensures text { self.new.cursor.text ≡ self.old.cursor.text }
         ensures forward { self.old.cursor.last.stop ≤ self.new.cursor.last.stop }
+        ensures waits { (base : Parts) → self.old.tree ≡ join base list.old.nodes → IfOk result (λ _. self.new.tree ≡ join base list.new.nodes) }
         ensures passes { IfOk result (λ _. IsUnseparated list.old.listed → Passes self.old.cursor self.new.cursor) }
         ensures listed { list.new.listed ≡ list.old.listed }
         ensures derived { IfOk result (λ _. Adds self.old.cursor self.new.cursor self.old.pairs.items self.new.pairs.items (ItemAt self.old.cursor.text list.old list.new)) }
@@ -187,7 +191,7 @@ impl<'t, 's> Parser<'t, 's> {
     {
         let start = self.cursor.next_start();
         match list.listed {
-            ListKind::Elements if self.sees_punctuator(",") => list.push_hole(),
+            ListKind::Elements if self.sees_punctuator(",") => list.push_hole(&mut self.tree),
             ListKind::Properties
             | ListKind::Members
             | ListKind::Template
@@ -199,7 +203,7 @@ impl<'t, 's> Parser<'t, 's> {
                     return self.spread_item(list, high);
                 }
                 let part = self.expression(ExpressionContext::ASSIGNMENT, high)?;
-                let item = self.element(part, false, start, high)?;
+                let item = element(&self.cursor, &mut self.tree, part, false, start, high)?;
                 list.push(item, self.cursor.next_start())
             }
         }
@@ -208,10 +212,11 @@ impl<'t, 's> Parser<'t, 's> {
     /// Reads one item of a list whose items aren't elements alone: properties, members, cases and the like.
     #[cycle(grammar)]
     #[inline(never)]
-    fn special_item(&mut self, list: &mut ListBuilder<'s>, high: u32) -> Result<(), Fault>
+    fn special_item(&mut self, list: &mut ListBuilder, high: u32) -> Result<(), Fault>
         requires apart { is_apart list.old.listed ≡ true }
         ensures text { self.new.cursor.text ≡ self.old.cursor.text }
         ensures forward { self.old.cursor.last.stop ≤ self.new.cursor.last.stop }
+        ensures waits { (base : Parts) → self.old.tree ≡ join base list.old.nodes → IfOk result (λ _. self.new.tree ≡ join base list.new.nodes) }
         ensures passes { IfOk result (λ _. IsUnseparated list.old.listed → Passes self.old.cursor self.new.cursor) }
         ensures listed { list.new.listed ≡ list.old.listed }
         ensures derived { IfOk result (λ _. Adds self.old.cursor self.new.cursor self.old.pairs.items self.new.pairs.items (ItemAt self.old.cursor.text list.old list.new)) }
@@ -242,14 +247,15 @@ impl<'t, 's> Parser<'t, 's> {
             }
             ListKind::Cases { returns } => {
                 let is_default = self.is_default()?;
-                let mut built = PartialStatement::new(self.alloc);
+                let mut built = PartialStatement::new();
                 if is_default {
-                    built.nodes.push_gap()?;
+                    built.nodes.push_gap(&mut self.tree)?;
                 }
                 let context = StatementContext::item(returns);
                 self.read_symbols(case_symbols(is_default), &mut built, context, inner)?;
-                let span = self.span_from(start);
+                let span = span_from(&self.cursor, start);
                 let mut item = ListItem::plain(finish_plain(
+                    &mut self.tree,
                     Kind::SwitchCase,
                     span,
                     built.nodes,
@@ -260,7 +266,7 @@ impl<'t, 's> Parser<'t, 's> {
             }
             ListKind::Sequence { has_in } => {
                 let part = self.expression(ExpressionContext::at(Rank::Assignment, has_in), high)?;
-                let item = self.element(part, false, start, high)?;
+                let item = element(&self.cursor, &mut self.tree, part, false, start, high)?;
                 list.push(item, self.cursor.next_start())
             }
             _ => Err(self.syntax_error()),
@@ -270,11 +276,12 @@ impl<'t, 's> Parser<'t, 's> {
     /// Reads an item that begins with `...`, which stands ahead.
     #[cycle(grammar)]
     #[inline(never)]
-    fn spread_item(&mut self, list: &mut ListBuilder<'s>, high: u32) -> Result<(), Fault>
+    fn spread_item(&mut self, list: &mut ListBuilder, high: u32) -> Result<(), Fault>
         requires element { is_apart list.old.listed ≡ false }
         requires spreads { Sees self.old.cursor.text TokenClass.Punctuator (codes "...") self.old.cursor.last }
         ensures text { self.new.cursor.text ≡ self.old.cursor.text }
         ensures forward { self.old.cursor.last.stop ≤ self.new.cursor.last.stop }
+        ensures waits { (base : Parts) → self.old.tree ≡ join base list.old.nodes → IfOk result (λ _. self.new.tree ≡ join base list.new.nodes) }
         ensures passes { IfOk result (λ _. IsUnseparated list.old.listed → Passes self.old.cursor self.new.cursor) }
         ensures listed { list.new.listed ≡ list.old.listed }
         ensures derived { IfOk result (λ _. Adds self.old.cursor self.new.cursor self.old.pairs.items self.new.pairs.items (ItemAt self.old.cursor.text list.old list.new)) }
@@ -286,43 +293,17 @@ impl<'t, 's> Parser<'t, 's> {
         let start = self.cursor.next_start();
         self.expect_punctuator("...")?;
         let part = self.expression(ExpressionContext::ASSIGNMENT, high.saturating_sub(1))?;
-        let item = self.element(part, true, start, high)?;
+        let item = element(&self.cursor, &mut self.tree, part, true, start, high)?;
         list.push(item, self.cursor.next_start())
-    }
-
-    /// The item that an expression between commas makes: a SpreadElement if `...` stood before it.
-    pub(crate) fn element(
-        &self,
-        part: Operand<'s>,
-        spreads: bool,
-        start: usize,
-        high: u32,
-    ) -> Result<ListItem<'s>, Fault>
-        ensures made { Yields (element_item spreads start self.now.cursor.last.stop part.entry) (element_levels spreads part.entry.cover.node) high result }
-        ensures refused { IfErr result IsLimit }
-    {
-        let shape = part.cover.shape;
-        let edge = part.edge;
-        let mut node = part.cover.node;
-        if spreads {
-            let nodes = MeasuredParts::only(self.alloc, node)?;
-            node = finish_plain(Kind::SpreadElement, self.span_from(start), nodes, high)?;
-        }
-        Ok(ListItem {
-            node,
-            shape,
-            spreads,
-            is_flagged: false,
-            edge,
-        })
     }
 
     /// Reads a declarator (13.3): what is bound, and its value or a gap.
     #[cycle(grammar)]
     #[inline(never)]
-    fn declarator(&mut self, has_in: bool, high: u32) -> Result<ListItem<'s>, Fault>
+    fn declarator(&mut self, has_in: bool, high: u32) -> Result<ListItem, Fault>
         ensures text { self.new.cursor.text ≡ self.old.cursor.text }
         ensures forward { self.old.cursor.last.stop ≤ self.new.cursor.last.stop }
+        ensures waits { IfOk result (λ item. self.new.tree ≡ push self.old.tree item.node) }
         ensures passes { IfOk result (λ _. Passes self.old.cursor self.new.cursor) }
         ensures derived { IfOk result (λ item. Adds self.old.cursor self.new.cursor self.old.pairs.items self.new.pairs.items (ItemReads self.old.cursor.text (ListKind.Declarators has_in) item)) }
         ensures low { IfOk result (λ item. height item.node ≤ high) }
@@ -334,7 +315,8 @@ impl<'t, 's> Parser<'t, 's> {
         let inner = high.saturating_sub(1);
         let part = self.leftmost_operand(ExpressionContext::at(Rank::Primary, true), inner)?;
         let is_name = part.is_ungrouped(Kind::Identifier);
-        let mut nodes = MeasuredParts::one(self.alloc, self.bound(part)?)?;
+        let name = bound(&self.cursor, &mut self.tree, part)?;
+        let mut nodes = MeasuredParts::one(name);
         let has_value = self.accept_punctuator("=");
         let mut edge = Edge::Closed;
         if has_value {
@@ -342,27 +324,21 @@ impl<'t, 's> Parser<'t, 's> {
             edge = value.edge;
             nodes.push(self.into_expression(value)?)?;
         } else {
-            nodes.push_gap()?;
+            nodes.push_gap(&mut self.tree)?;
         }
-        let node = finish_plain(Kind::VariableDeclarator, self.span_from(start), nodes, high)?;
+        let span = span_from(&self.cursor, start);
+        let node = finish_plain(&mut self.tree, Kind::VariableDeclarator, span, nodes, high)?;
         let mut item = ListItem::plain(node);
         item.is_flagged = !is_name && !has_value;
         item.edge = edge;
         Ok(item)
     }
 
-    /// What was read, as what is bound.
-    pub(crate) fn bound(&self, part: Operand<'s>) -> Result<MeasuredNode<'s>, Fault>
-        ensures bound { BecomesHere (pattern_tree part.entry.cover.node) (part.entry.cover.shape.binds && is_pattern part.entry.cover.shape.assigned) self.now.cursor result }
-        ensures refused { IfErr result (IsRefusal self.now.cursor.text) }
-    {
-        part.cover.to_binding(self.cursor.next_start())
-    }
-
     /// Goes past `default` or `case`, and answers whether it was `default`.
     fn is_default(&mut self) -> Result<bool, Fault>
         ensures text { self.new.cursor.text ≡ self.old.cursor.text }
         ensures forward { self.old.cursor.last.stop ≤ self.new.cursor.last.stop }
+        ensures same_tree { self.new.tree ≡ self.old.tree }
         ensures passes { IfOk result (λ _. Passes self.old.cursor self.new.cursor) }
         ensures refused { IfErr result (IsRefusal self.new.cursor.text) }
         ensures same_open { self.new.cursor.opened ≡ self.old.cursor.opened }
@@ -378,9 +354,10 @@ impl<'t, 's> Parser<'t, 's> {
     }
 
     /// Reads the first part of a template (12.2.9).
-    fn first_template_element(&mut self, high: u32) -> Result<ListItem<'s>, Fault>
+    fn first_template_element(&mut self, high: u32) -> Result<ListItem, Fault>
         ensures text { self.new.cursor.text ≡ self.old.cursor.text }
         ensures forward { self.old.cursor.last.stop ≤ self.new.cursor.last.stop }
+        ensures waits { IfOk result (λ item. self.new.tree ≡ push self.old.tree item.node) }
         ensures passes { IfOk result (λ _. Passes self.old.cursor self.new.cursor) }
         ensures same_open { self.new.cursor.opened ≡ self.old.cursor.opened }
         ensures same_pairs { self.new.pairs.items ≡ self.old.pairs.items }
@@ -392,13 +369,14 @@ impl<'t, 's> Parser<'t, 's> {
         ensures refused { IfErr result (IsRefusal self.new.cursor.text) }
     {
         let token = self.cursor.take(Goal::Div)?;
-        template_element(self.alloc, token, high)
+        template_element(&mut self.tree, self.alloc, token, high)
     }
 
     /// Takes the token of the next part of a template, which begins with `}` (11.8.6).
     fn template_element_token(&mut self) -> Result<Token<'s>, Fault>
         ensures text { self.new.cursor.text ≡ self.old.cursor.text }
         ensures forward { self.old.cursor.last.stop ≤ self.new.cursor.last.stop }
+        ensures same_tree { self.new.tree ≡ self.old.tree }
         ensures same_open { self.new.cursor.opened ≡ self.old.cursor.opened }
         ensures same_pairs { self.new.pairs.items ≡ self.old.pairs.items }
         ensures ahead { IfOk result (λ token. IsAhead Goal.TemplateTail self.old.cursor.text self.old.cursor.last.stop (token_of token)) }
@@ -418,9 +396,10 @@ impl<'t, 's> Parser<'t, 's> {
     }
 
     /// Reads the next part of a template (12.2.9), after an expression in it.
-    fn next_template_element(&mut self, high: u32) -> Result<ListItem<'s>, Fault>
+    fn next_template_element(&mut self, high: u32) -> Result<ListItem, Fault>
         ensures text { self.new.cursor.text ≡ self.old.cursor.text }
         ensures forward { self.old.cursor.last.stop ≤ self.new.cursor.last.stop }
+        ensures waits { IfOk result (λ item. self.new.tree ≡ push self.old.tree item.node) }
         ensures same_open { self.new.cursor.opened ≡ self.old.cursor.opened }
         ensures same_pairs { self.new.pairs.items ≡ self.old.pairs.items }
         ensures plain { IfOk result (λ item. (item.shape.is_expression ≡ true) × (item.spreads ≡ false)) }
@@ -430,6 +409,49 @@ impl<'t, 's> Parser<'t, 's> {
         ensures refused { IfErr result (IsRefusal self.new.cursor.text) }
     {
         let token = self.template_element_token()?;
-        template_element(self.alloc, token, high)
+        template_element(&mut self.tree, self.alloc, token, high)
     }
+}
+
+/// The item that an expression between commas makes: a SpreadElement if `...` stood before it.
+pub(crate) fn element(
+    cursor: &Cursor<'_, '_>,
+    tree: &mut TreeBuilder<'_>,
+    part: Operand,
+    spreads: bool,
+    start: usize,
+    high: u32,
+) -> Result<ListItem, Fault>
+    ensures made { Yields (element_item spreads start cursor.now.last.stop part) (element_levels spreads part.cover.node) high result }
+    ensures waits { (base : Parts) → tree.old ≡ push base part.cover.node → IfOk result (λ item. tree.new ≡ push base item.node) }
+    ensures refused { IfErr result IsLimit }
+{
+    let shape = part.cover.shape;
+    let edge = part.edge;
+    let mut node = part.cover.node;
+    if spreads {
+        let nodes = MeasuredParts::one(node);
+        let span = span_from(cursor, start);
+        node = finish_plain(tree, Kind::SpreadElement, span, nodes, high)?;
+    }
+    Ok(ListItem {
+        node,
+        shape,
+        spreads,
+        is_flagged: false,
+        edge,
+    })
+}
+
+/// What was read, as what is bound.
+pub(crate) fn bound(
+    cursor: &Cursor<'_, '_>,
+    tree: &mut TreeBuilder<'_>,
+    part: Operand,
+) -> Result<MeasuredNode, Fault>
+    ensures bound { BecomesHere (pattern_tree part.cover.node) (part.cover.shape.binds && is_pattern part.cover.shape.assigned) cursor.now result }
+    ensures waits { (base : Parts) → tree.old ≡ push base part.cover.node → IfOk result (λ n. tree.new ≡ push base n) }
+    ensures refused { IfErr result (IsRefusal cursor.now.text) }
+{
+    part.cover.to_binding(tree, cursor.next_start())
 }

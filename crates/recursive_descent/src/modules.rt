@@ -5,7 +5,7 @@ ghost use Rattle.std.specs.Prelude.{◌≡◌, ◌≤◌, ◌⊎◌, true, codes
 ghost use Rattle.token_cursor.specs.CursorState.{IsAhead, Passes};
 ghost use Rattle.token_cursor.specs.Refusals.{IsRefusal};
 ghost use Rattle.tokens.specs.Scanned.{token_of};
-ghost use Rattle.tree.specs.Tree.{height, parts_height};
+ghost use Rattle.tree.specs.Tree.{height, parts_height, push, join};
 ghost use Rattle.tokens.specs.declared.token.Goal.TheVariants.{Div};
 ghost use Rattle.language.specs.Statements.{module_prologue};
 ghost use Rattle.std.specs.Bool.{OnTrue, OnFalse};
@@ -20,6 +20,7 @@ ghost use Rattle.recursive_descent.specs.Later.{ModuleComplete, item_of_module};
 ghost use Rattle.recursive_descent.specs.ModuleItems.{begins_declaration, begins_default, BehindComplete, DefaultBegun, DefaultComplete, ExportBehind, ExportComplete, ItemAt, ItemComplete, ModuleItemComplete, ReadBehind, ReadWhole};
 
 use crate::parser::Parser;
+use crate::token_tests::span_from;
 use language::Edge;
 use parser_tables::{ExpressionContext, FunctionOrClass, StatementContext, StatementListEnd};
 use productions::{MeasuredNode, MeasuredParts, finish_plain};
@@ -30,8 +31,9 @@ use tree::{Form, Kind};
 
 impl<'t, 's> Parser<'t, 's> {
     /// Reads a ModuleItemList (16.2), up to the end of the text, with its directives (14.1.1).
-    pub(crate) fn module_items(&mut self, high: u32) -> Result<MeasuredParts<'s>, Fault>
+    pub(crate) fn module_items(&mut self, high: u32) -> Result<MeasuredParts, Fault>
         ensures text { self.new.cursor.text ≡ self.old.cursor.text }
+        ensures waits { IfOk result (λ nodes. self.new.tree ≡ join self.old.tree nodes) }
         ensures derived { IfOk result (λ nodes. Adds self.old.cursor self.new.cursor self.old.pairs.items self.new.pairs.items (λ o s e P. RunsIn self.old.cursor.text o (anywhere (module_prologue true nodes)) nodes s e P)) }
         ensures ended { IfOk result (λ _. SeesBy self.new.cursor.text Div (ends StatementListEnd.EndOfText) self.new.cursor.last) }
         ensures low { IfOk result (λ nodes. parts_height nodes ≤ high) }
@@ -39,10 +41,10 @@ impl<'t, 's> Parser<'t, 's> {
         ensures refused { IfErr result (IsRefusal self.new.cursor.text) }
     {
         let mut context = StatementContext::SCRIPT;
-        let mut nodes = MeasuredParts::new(self.alloc);
+        let mut nodes = MeasuredParts::new();
         'items: while !self.sees_text_end() {
             let item = self.module_item(context, high)?;
-            context.is_prologue = context.is_prologue && item.node().flags().directive;
+            context.is_prologue = context.is_prologue && item.is_directive();
             nodes.push(item)?;
         }
         Ok(nodes)
@@ -57,13 +59,10 @@ impl<'t, 's> Parser<'t, 's> {
     }
 
     /// Reads a ModuleItem (16.2): an import, an export, or an item as in a script.
-    fn module_item(
-        &mut self,
-        context: StatementContext,
-        high: u32,
-    ) -> Result<MeasuredNode<'s>, Fault>
+    fn module_item(&mut self, context: StatementContext, high: u32) -> Result<MeasuredNode, Fault>
         ensures text { self.new.cursor.text ≡ self.old.cursor.text }
         ensures forward { self.old.cursor.last.stop ≤ self.new.cursor.last.stop }
+        ensures waits { IfOk result (λ n. self.new.tree ≡ push self.old.tree n) }
         ensures passes { IfOk result (λ _. Passes self.old.cursor self.new.cursor) }
         ensures derived { IfOk result (λ n. Adds self.old.cursor self.new.cursor self.old.pairs.items self.new.pairs.items (λ o s e P. SpellsIn self.old.cursor.text o (item_of_module context n) n s e P)) }
         ensures low { IfOk result (λ n. height n ≤ high) }
@@ -97,9 +96,10 @@ impl<'t, 's> Parser<'t, 's> {
     }
 
     /// Reads an ExportDeclaration after `export`.
-    fn export_item(&mut self, start: usize, high: u32) -> Result<MeasuredNode<'s>, Fault>
+    fn export_item(&mut self, start: usize, high: u32) -> Result<MeasuredNode, Fault>
         ensures text { self.new.cursor.text ≡ self.old.cursor.text }
         ensures forward { self.old.cursor.last.stop ≤ self.new.cursor.last.stop }
+        ensures waits { IfOk result (λ n. self.new.tree ≡ push self.old.tree n) }
         ensures derived { IfOk result (λ n. Adds self.old.cursor self.new.cursor self.old.pairs.items self.new.pairs.items (ItemAt self.old.cursor.text (codes "export") start n)) }
         ensures low { IfOk result (λ n. height n ≤ high) }
         ensures complete { ExportComplete self.old.cursor self.new.cursor self.old.pairs.items self.new.pairs.items high start result }
@@ -118,9 +118,10 @@ impl<'t, 's> Parser<'t, 's> {
     }
 
     /// Reads the rest of an export of all names of a module after `export *`.
-    fn export_all(&mut self, start: usize, high: u32) -> Result<MeasuredNode<'s>, Fault>
+    fn export_all(&mut self, start: usize, high: u32) -> Result<MeasuredNode, Fault>
         ensures text { self.new.cursor.text ≡ self.old.cursor.text }
         ensures forward { self.old.cursor.last.stop ≤ self.new.cursor.last.stop }
+        ensures waits { IfOk result (λ n. self.new.tree ≡ push self.old.tree n) }
         ensures same_open { self.new.cursor.opened ≡ self.old.cursor.opened }
         ensures same_pairs { self.new.pairs.items ≡ self.old.pairs.items }
         ensures derived { IfOk result (ReadBehind self.old.cursor self.new.cursor TokenClass.Punctuator (codes "*") start) }
@@ -129,23 +130,30 @@ impl<'t, 's> Parser<'t, 's> {
         ensures refused { IfErr result (IsRefusal self.new.cursor.text) }
     {
         let inner = high.saturating_sub(1);
-        let mut nodes = MeasuredParts::new(self.alloc);
+        let mut nodes = MeasuredParts::new();
         match self.accept_word("as") {
             true => nodes.push(self.module_name(inner)?)?,
-            false => nodes.push_gap()?,
+            false => nodes.push_gap(&mut self.tree)?,
         }
         self.expect_word("from")?;
         nodes.push(self.module_source(inner)?)?;
         self.cursor
             .semicolon(StatementEnd::AfterExpression(Edge::Closed))?;
-        let span = self.span_from(start);
-        finish_plain(Kind::ExportAllDeclaration, span, nodes, high)
+        let span = span_from(&self.cursor, start);
+        finish_plain(
+            &mut self.tree,
+            Kind::ExportAllDeclaration,
+            span,
+            nodes,
+            high,
+        )
     }
 
     /// Reads NamedExports, whose `{` stands ahead, perhaps from another module: `from` belongs to them behind a line break too.
-    fn export_list(&mut self, start: usize, high: u32) -> Result<MeasuredNode<'s>, Fault>
+    fn export_list(&mut self, start: usize, high: u32) -> Result<MeasuredNode, Fault>
         ensures text { self.new.cursor.text ≡ self.old.cursor.text }
         ensures forward { self.old.cursor.last.stop ≤ self.new.cursor.last.stop }
+        ensures waits { IfOk result (λ n. self.new.tree ≡ push self.old.tree n) }
         ensures same_open { self.new.cursor.opened ≡ self.old.cursor.opened }
         ensures same_pairs { self.new.pairs.items ≡ self.old.pairs.items }
         ensures derived { IfOk result (ReadWhole self.old.cursor self.new.cursor (codes "export") start) }
@@ -154,25 +162,32 @@ impl<'t, 's> Parser<'t, 's> {
         ensures refused { IfErr result (IsRefusal self.new.cursor.text) }
     {
         let inner = high.saturating_sub(1);
-        let mut nodes = MeasuredParts::new(self.alloc);
-        nodes.push_gap()?;
+        let mut nodes = MeasuredParts::new();
+        nodes.push_gap(&mut self.tree)?;
         self.specifiers(Kind::ExportSpecifier, &mut nodes, inner)?;
         let mut ending = StatementEnd::AfterExport;
         if self.accept_word("from") {
             nodes.push(self.module_source(inner)?)?;
             ending = StatementEnd::AfterExpression(Edge::Closed);
         } else {
-            nodes.push_gap()?;
+            nodes.push_gap(&mut self.tree)?;
         }
         self.cursor.semicolon(ending)?;
-        let span = self.span_from(start);
-        finish_plain(Kind::ExportNamedDeclaration, span, nodes, high)
+        let span = span_from(&self.cursor, start);
+        finish_plain(
+            &mut self.tree,
+            Kind::ExportNamedDeclaration,
+            span,
+            nodes,
+            high,
+        )
     }
 
     /// Reads the declaration behind `export`.
-    fn export_declaration(&mut self, start: usize, high: u32) -> Result<MeasuredNode<'s>, Fault>
+    fn export_declaration(&mut self, start: usize, high: u32) -> Result<MeasuredNode, Fault>
         ensures text { self.new.cursor.text ≡ self.old.cursor.text }
         ensures forward { self.old.cursor.last.stop ≤ self.new.cursor.last.stop }
+        ensures waits { IfOk result (λ n. self.new.tree ≡ push self.old.tree n) }
         ensures derived { IfOk result (λ n. Adds self.old.cursor self.new.cursor self.old.pairs.items self.new.pairs.items (ItemAt self.old.cursor.text (codes "export") start n)) }
         ensures low { IfOk result (λ n. height n ≤ high) }
         ensures complete { Misses self.old.cursor.text TokenClass.Punctuator (codes "*") self.old.cursor.last → Misses self.old.cursor.text TokenClass.Punctuator (codes "{") self.old.cursor.last → Misses self.old.cursor.text TokenClass.IdentifierName (codes "default") self.old.cursor.last → ExportComplete self.old.cursor self.new.cursor self.old.pairs.items self.new.pairs.items high start result }
@@ -183,11 +198,16 @@ impl<'t, 's> Parser<'t, 's> {
         }
         let inner = high.saturating_sub(1);
         let declaration = self.statement(StatementContext::item(false), inner)?;
-        let mut nodes = MeasuredParts::new(self.alloc);
-        nodes.push(declaration)?;
-        nodes.push_gap()?;
-        let span = self.span_from(start);
-        finish_plain(Kind::ExportNamedDeclaration, span, nodes, high)
+        let mut nodes = MeasuredParts::one(declaration);
+        nodes.push_gap(&mut self.tree)?;
+        let span = span_from(&self.cursor, start);
+        finish_plain(
+            &mut self.tree,
+            Kind::ExportNamedDeclaration,
+            span,
+            nodes,
+            high,
+        )
     }
 
     /// Whether a declaration begins ahead: of variables, a function or a class.
@@ -206,9 +226,10 @@ impl<'t, 's> Parser<'t, 's> {
 
     /// Reads what stands behind `export default`. Its first token, for an async function its first two, say whether it is a function or a
     /// class that is declared; so an expression may then begin with anything.
-    fn export_default(&mut self, start: usize, high: u32) -> Result<MeasuredNode<'s>, Fault>
+    fn export_default(&mut self, start: usize, high: u32) -> Result<MeasuredNode, Fault>
         ensures text { self.new.cursor.text ≡ self.old.cursor.text }
         ensures forward { self.old.cursor.last.stop ≤ self.new.cursor.last.stop }
+        ensures waits { IfOk result (λ n. self.new.tree ≡ push self.old.tree n) }
         ensures derived { IfOk result (λ n. Adds self.old.cursor self.new.cursor self.old.pairs.items self.new.pairs.items (ExportBehind self.old.cursor.text TokenClass.IdentifierName (codes "default") start n)) }
         ensures low { IfOk result (λ n. height n ≤ high) }
         ensures complete { DefaultComplete self.old.cursor self.new.cursor self.old.pairs.items self.new.pairs.items high start result }
@@ -229,10 +250,15 @@ impl<'t, 's> Parser<'t, 's> {
                 value
             }
         };
-        let mut nodes = MeasuredParts::new(self.alloc);
-        nodes.push(exported)?;
-        let span = self.span_from(start);
-        finish_plain(Kind::ExportDefaultDeclaration, span, nodes, high)
+        let nodes = MeasuredParts::one(exported);
+        let span = span_from(&self.cursor, start);
+        finish_plain(
+            &mut self.tree,
+            Kind::ExportDefaultDeclaration,
+            span,
+            nodes,
+            high,
+        )
     }
 
     /// The function or the class that begins ahead and whose name may be missing, with its first token.

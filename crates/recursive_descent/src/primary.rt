@@ -14,14 +14,13 @@ ghost use Rattle.parser_tables.specs.ExpressionStarts.{coded_in, opens_at, MetaA
 ghost use Rattle.std.specs.Bool.{OnTrue, OnFalse};
 ghost use Rattle.tokens.specs.Scanned.{token_of};
 ghost use Rattle.tokens.specs.declared.token.Goal.TheVariants.{Div};
-ghost use Rattle.tree.specs.Tree.{height};
+ghost use Rattle.tree.specs.Tree.{height, push};
 ghost use Rattle.productions.specs.Made.{Makes};
 ghost use Rattle.token_cursor.specs.Seen.{SeesBy, MissesBy};
 ghost use Rattle.parser_tables.specs.Tests.{continues_super};
 ghost use Rattle.token_cursor.specs.CursorState.{Passes};
 ghost use Rattle.parser_tables.specs.Moves.{BeginsList};
 ghost use Rattle.recursive_descent.specs.Follows.{target_node, NotTarget};
-ghost use Rattle.recursive_descent.specs.Arms.{is_short};
 ghost use Rattle.token_cursor.specs.Seen.{ReadsHere};
 ghost use Rattle.parser_tables.specs.Outcomes.{BeginsBy, RefusedUnder};
 ghost use Rattle.token_cursor.specs.CursorState.{IsPlaceHere};
@@ -31,7 +30,9 @@ ghost use Rattle.token_cursor.specs.Refusals.{IsLimit, IsRefusal};
 ghost use Rattle.parser_tables.specs.Tokens.{single_node, single_text};
 ghost use Rattle.recursive_descent.specs.Spelled.{OfLanguage};
 
+use crate::expressions::prefix_operand;
 use crate::parser::Parser;
+use crate::token_tests::span_from;
 use covers::{ListBuilder, ListKind};
 use grammar::accepts_rank;
 use language::{Edge, Rank};
@@ -44,7 +45,7 @@ use productions::{MeasuredNode, MeasuredParts, finish_plain};
 use source_text::Fault;
 use token_cursor::{is_name_token, is_punctuator};
 use tokens::{Goal, Token, TokenClass};
-use tree::{Form, Kind, NodeText};
+use tree::{Form, Kind, NodeText, TreeBuilder};
 
 impl<'t, 's> Parser<'t, 's> {
     /// The token ahead and what it begins; none if no expression at the position begins with it.
@@ -91,9 +92,10 @@ impl<'t, 's> Parser<'t, 's> {
         &mut self,
         position: ExpressionContext,
         high: u32,
-    ) -> Result<Operand<'s>, Fault>
+    ) -> Result<Operand, Fault>
         ensures text { self.new.cursor.text ≡ self.old.cursor.text }
         ensures forward { self.old.cursor.last.stop ≤ self.new.cursor.last.stop }
+        ensures waits { IfOk result (λ part. self.new.tree ≡ push self.old.tree part.cover.node) }
         ensures passes { IfOk result (λ _. Passes self.old.cursor self.new.cursor) }
         ensures derived { IfOk result (λ part. Adds self.old.cursor self.new.cursor self.old.pairs.items self.new.pairs.items (ReadAt self.old.cursor.text position part)) }
         ensures low { IfOk result (λ part. height part.cover.node ≤ high) }
@@ -110,9 +112,10 @@ impl<'t, 's> Parser<'t, 's> {
         match opening {
             ExpressionStart::List(what) => self.bracketed_list(token, what, position, high),
             ExpressionStart::Parenthesis => self.parenthesized(position, high),
-            ExpressionStart::Prefix(_, _) | ExpressionStart::OneToken(_) => {
-                self.token_or_prefix(token, opening, position, high)
-            }
+            ExpressionStart::Prefix(own, side) => self.prefix_expression(
+                token, own, side, position, high,
+            ),
+            ExpressionStart::OneToken(kind) => self.one_token(token, kind, position, high),
             _ => {
                 self.advance(token);
                 self.keyword_expression(token, opening, position, high)
@@ -129,13 +132,14 @@ impl<'t, 's> Parser<'t, 's> {
         what: ListKind,
         position: ExpressionContext,
         high: u32,
-    ) -> Result<Operand<'s>, Fault>
+    ) -> Result<Operand, Fault>
         requires ahead { IsAhead Goal.RegExp self.old.cursor.text self.old.cursor.last.stop (token_of token) }
         requires list { BeginsList (ExpressionStart.List what) }
         requires coded { coded_in self.old.cursor.text.language (as_read (token_of token)) ≡ Some (ExpressionStart.List what) }
         requires stands { opens_at position (as_read (token_of token)) ≡ true }
         ensures text { self.new.cursor.text ≡ self.old.cursor.text }
         ensures forward { self.old.cursor.last.stop ≤ self.new.cursor.last.stop }
+        ensures waits { IfOk result (λ part. self.new.tree ≡ push self.old.tree part.cover.node) }
         ensures passes { IfOk result (λ _. Passes self.old.cursor self.new.cursor) }
         ensures derived { IfOk result (λ part. Adds self.old.cursor self.new.cursor self.old.pairs.items self.new.pairs.items (ReadAt self.old.cursor.text position part)) }
         ensures low { IfOk result (λ part. height part.cover.node ≤ high) }
@@ -145,27 +149,25 @@ impl<'t, 's> Parser<'t, 's> {
     {
         let list = self.open(what, high.saturating_sub(1))?;
         let list = self.list(list, high.saturating_sub(1))?;
-        finish_list(list, high)
+        finish_list(&mut self.tree, list, high)
     }
 
-    /// Reads a prefix operator with its operand, a node of one token, or an arrow function whose parameter is that
-    /// token.
+    /// Reads what is one token, which stands ahead: a name, a literal, `this` (12.1, 12.2). A name before `=>` is an arrow function's parameter.
     #[cycle(grammar)]
-    #[inline(never)]
-    fn token_or_prefix(
+    #[inline(always)]
+    fn one_token(
         &mut self,
         token: Token<'s>,
-        opening: ExpressionStart,
+        kind: Kind,
         position: ExpressionContext,
         high: u32,
-    ) -> Result<Operand<'s>, Fault>
+    ) -> Result<Operand, Fault>
         requires ahead { IsAhead Goal.RegExp self.old.cursor.text self.old.cursor.last.stop (token_of token) }
         requires real { token.class ≢ TokenClass.End }
-        requires coded { coded_in self.old.cursor.text.language (as_read (token_of token)) ≡ Some opening }
-        requires stands { opens_at position (as_read (token_of token)) ≡ true }
-        requires short { is_short opening ≡ true }
+        requires coded { coded_in self.old.cursor.text.language (as_read (token_of token)) ≡ Some (ExpressionStart.OneToken kind) }
         ensures text { self.new.cursor.text ≡ self.old.cursor.text }
         ensures forward { self.old.cursor.last.stop ≤ self.new.cursor.last.stop }
+        ensures waits { IfOk result (λ part. self.new.tree ≡ push self.old.tree part.cover.node) }
         ensures passes { IfOk result (λ _. Passes self.old.cursor self.new.cursor) }
         ensures derived { IfOk result (λ part. Adds self.old.cursor self.new.cursor self.old.pairs.items self.new.pairs.items (ReadAt self.old.cursor.text position part)) }
         ensures low { IfOk result (λ part. height part.cover.node ≤ high) }
@@ -173,25 +175,14 @@ impl<'t, 's> Parser<'t, 's> {
         ensures complete { OperandComplete self.old.cursor self.new.cursor self.old.pairs.items self.new.pairs.items high position result }
         ensures refused { IfErr result (IsRefusal self.new.cursor.text) }
     {
-        match opening {
-            ExpressionStart::Prefix(own, side) => self.prefix_expression(
-                token, own, side, position, high,
-            ),
-            ExpressionStart::OneToken(kind) => {
-                self.advance(token);
-                let node = self.token_node(kind, token, high)?;
-                if is_name(kind)
-                    && self.sees_arrow()
-                    && accepts_rank(position.rank, Rank::Assignment)
-                {
-                    let parameter = MeasuredParts::one(self.alloc, node)?;
-                    let start = token.start;
-                    return self.arrow_function(parameter, start, Form::Init, position.has_in, high);
-                }
-                Ok(Operand::plain(node, Rank::Primary, Edge::Other))
-            }
-            _ => Err(self.syntax_error()),
+        self.advance(token);
+        let node = token_node(&mut self.tree, kind, token, high)?;
+        if is_name(kind) && self.sees_arrow() && accepts_rank(position.rank, Rank::Assignment) {
+            let parameter = MeasuredParts::one(node);
+            let start = token.start;
+            return self.arrow_function(parameter, start, Form::Init, position.has_in, high);
         }
+        Ok(Operand::plain(node, Rank::Primary, Edge::Other))
     }
 
     /// Reads a prefix operator, which stands ahead, with its operand (12.4, 12.5).
@@ -204,13 +195,14 @@ impl<'t, 's> Parser<'t, 's> {
         side: Rank,
         position: ExpressionContext,
         high: u32,
-    ) -> Result<Operand<'s>, Fault>
+    ) -> Result<Operand, Fault>
         requires ahead { IsAhead Goal.RegExp self.old.cursor.text self.old.cursor.last.stop (token_of token) }
         requires real { token.class ≢ TokenClass.End }
         requires coded { coded_in self.old.cursor.text.language (as_read (token_of token)) ≡ Some (ExpressionStart.Prefix own side) }
         requires stands { opens_at position (as_read (token_of token)) ≡ true }
         ensures text { self.new.cursor.text ≡ self.old.cursor.text }
         ensures forward { self.old.cursor.last.stop ≤ self.new.cursor.last.stop }
+        ensures waits { IfOk result (λ part. self.new.tree ≡ push self.old.tree part.cover.node) }
         ensures passes { IfOk result (λ _. Passes self.old.cursor self.new.cursor) }
         ensures derived { IfOk result (λ part. Adds self.old.cursor self.new.cursor self.old.pairs.items self.new.pairs.items (ReadAt self.old.cursor.text position part)) }
         ensures low { IfOk result (λ part. height part.cover.node ≤ high) }
@@ -221,25 +213,12 @@ impl<'t, 's> Parser<'t, 's> {
         self.advance(token);
         let place = ExpressionContext::at(side, true);
         let operand = self.expression(place, high.saturating_sub(1))?;
-        self.prefix_operand(operand, token.text, token.start, high)
-    }
-
-    /// A node that is one token; `this` has no text.
-    #[inline(always)]
-    pub(crate) fn token_node(
-        &self,
-        kind: Kind,
-        token: Token<'s>,
-        high: u32,
-    ) -> Result<MeasuredNode<'s>, Fault>
-        ensures made { Makes (single_node kind (token_of token.entry)) high result }
-        ensures refused { IfErr result IsLimit }
-    {
-        MeasuredNode::leaf(
-            self.alloc,
-            kind,
-            NodeText::Borrowed(token_node_text(kind, token.text)),
-            span_of(&token),
+        prefix_operand(
+            &self.cursor,
+            &mut self.tree,
+            operand,
+            token.text,
+            token.start,
             high,
         )
     }
@@ -264,9 +243,10 @@ impl<'t, 's> Parser<'t, 's> {
         opening: ExpressionStart,
         position: ExpressionContext,
         high: u32,
-    ) -> Result<Operand<'s>, Fault>
+    ) -> Result<Operand, Fault>
         ensures text { self.new.cursor.text ≡ self.old.cursor.text }
         ensures forward { self.old.cursor.last.stop ≤ self.new.cursor.last.stop }
+        ensures waits { IfOk result (λ part. self.new.tree ≡ push self.old.tree part.cover.node) }
         ensures derived { IfOk result (λ part. Adds self.old.cursor self.new.cursor self.old.pairs.items self.new.pairs.items (WordedAt self.old.cursor.text position token.entry opening part)) }
         ensures low { IfOk result (λ part. height part.cover.node ≤ high) }
         ensures own { IfOk result (λ part. coded_in self.old.cursor.text.language (as_read (token_of token.entry)) ≡ Some opening → OfLanguage self.old.cursor.text part.cover.node) }
@@ -302,9 +282,10 @@ impl<'t, 's> Parser<'t, 's> {
         token: Token<'s>,
         position: ExpressionContext,
         high: u32,
-    ) -> Result<Operand<'s>, Fault>
+    ) -> Result<Operand, Fault>
         ensures text { self.new.cursor.text ≡ self.old.cursor.text }
         ensures forward { self.old.cursor.last.stop ≤ self.new.cursor.last.stop }
+        ensures waits { IfOk result (λ part. self.new.tree ≡ push self.old.tree part.cover.node) }
         ensures derived { IfOk result (λ part. Adds self.old.cursor self.new.cursor self.old.pairs.items self.new.pairs.items (WordedAt self.old.cursor.text position token.entry ExpressionStart.Super part)) }
         ensures low { IfOk result (λ part. height part.cover.node ≤ high) }
         ensures own { IfOk result (λ part. OfLanguage self.old.cursor.text part.cover.node) }
@@ -317,7 +298,7 @@ impl<'t, 's> Parser<'t, 's> {
         if self.cursor.is_of_2022() {
             self.refuse_private_name()?;
         }
-        let node = self.token_node(Kind::Super, token, high.saturating_sub(1))?;
+        let node = token_node(&mut self.tree, Kind::Super, token, high.saturating_sub(1))?;
         self.subscript(Operand::plain(node, Rank::Primary, Edge::Other), high)
     }
 
@@ -329,9 +310,10 @@ impl<'t, 's> Parser<'t, 's> {
         token: Token<'s>,
         position: ExpressionContext,
         high: u32,
-    ) -> Result<Operand<'s>, Fault>
+    ) -> Result<Operand, Fault>
         ensures text { self.new.cursor.text ≡ self.old.cursor.text }
         ensures forward { self.old.cursor.last.stop ≤ self.new.cursor.last.stop }
+        ensures waits { IfOk result (λ part. self.new.tree ≡ push self.old.tree part.cover.node) }
         ensures derived { IfOk result (λ part. Adds self.old.cursor self.new.cursor self.old.pairs.items self.new.pairs.items (WordedAt self.old.cursor.text position token.entry ExpressionStart.New part)) }
         ensures low { IfOk result (λ part. height part.cover.node ≤ high) }
         ensures own { IfOk result (λ part. coded_in self.old.cursor.text.language (as_read (token_of token.entry)) ≡ Some ExpressionStart.New → OfLanguage self.old.cursor.text part.cover.node) }
@@ -343,18 +325,14 @@ impl<'t, 's> Parser<'t, 's> {
         }
         let inner = high.saturating_sub(1);
         let callee = self.expression(ExpressionContext::at(Rank::New, true), inner)?;
-        let mut nodes = MeasuredParts::one(self.alloc, self.into_expression(callee)?)?;
+        let mut nodes = MeasuredParts::one(self.into_expression(callee)?);
         let mut rank = Rank::New;
         if self.sees_punctuator("(") {
             nodes.append(self.arguments(inner)?)?;
             rank = Rank::Member;
         }
-        let node = finish_plain(
-            Kind::NewExpression,
-            self.span_from(token.start),
-            nodes,
-            high,
-        )?;
+        let span = span_from(&self.cursor, token.start);
+        let node = finish_plain(&mut self.tree, Kind::NewExpression, span, nodes, high)?;
         Ok(Operand::plain(node, rank, Edge::Other))
     }
 
@@ -366,9 +344,10 @@ impl<'t, 's> Parser<'t, 's> {
         token: Token<'s>,
         position: ExpressionContext,
         high: u32,
-    ) -> Result<Operand<'s>, Fault>
+    ) -> Result<Operand, Fault>
         ensures text { self.new.cursor.text ≡ self.old.cursor.text }
         ensures forward { self.old.cursor.last.stop ≤ self.new.cursor.last.stop }
+        ensures waits { IfOk result (λ part. self.new.tree ≡ push self.old.tree part.cover.node) }
         ensures derived { IfOk result (λ part. Adds self.old.cursor self.new.cursor self.old.pairs.items self.new.pairs.items (WordedAt self.old.cursor.text position token.entry ExpressionStart.Import part)) }
         ensures low { IfOk result (λ part. height part.cover.node ≤ high) }
         ensures own { IfOk result (λ part. OfLanguage self.old.cursor.text part.cover.node) }
@@ -381,14 +360,10 @@ impl<'t, 's> Parser<'t, 's> {
         let inner = high.saturating_sub(1);
         self.expect_punctuator("(")?;
         let source = self.expression(ExpressionContext::ASSIGNMENT, inner)?;
-        let nodes = MeasuredParts::only(self.alloc, self.into_expression(source)?)?;
+        let nodes = MeasuredParts::one(self.into_expression(source)?);
         self.expect_punctuator(")")?;
-        let node = finish_plain(
-            Kind::ImportExpression,
-            self.span_from(token.start),
-            nodes,
-            high,
-        )?;
+        let span = span_from(&self.cursor, token.start);
+        let node = finish_plain(&mut self.tree, Kind::ImportExpression, span, nodes, high)?;
         Ok(Operand::plain(node, Rank::Call, Edge::Other))
     }
 
@@ -398,9 +373,10 @@ impl<'t, 's> Parser<'t, 's> {
         first: Token<'s>,
         name: &'static str,
         high: u32,
-    ) -> Result<Operand<'s>, Fault>
+    ) -> Result<Operand, Fault>
         ensures text { self.new.cursor.text ≡ self.old.cursor.text }
         ensures forward { self.old.cursor.last.stop ≤ self.new.cursor.last.stop }
+        ensures waits { IfOk result (λ part. self.new.tree ≡ push self.old.tree part.cover.node) }
         ensures same_open { self.new.cursor.opened ≡ self.old.cursor.opened }
         ensures same_pairs { self.new.pairs.items ≡ self.old.pairs.items }
         ensures target { IfOk result (λ part. ReadsHere self.old.cursor.text TokenClass.IdentifierName name.now self.old.cursor.last self.new.cursor.last × (part ≡ plain_part (target_node (token_of first.entry) self.new.cursor.last) Rank.Member Edge.Other) × (2 ≤ high)) }
@@ -409,11 +385,11 @@ impl<'t, 's> Parser<'t, 's> {
     {
         let second = self.expect_word(name)?;
         let inner = high.saturating_sub(1);
-        let meta = self.token_node(Kind::Identifier, first, inner)?;
-        let property = self.token_node(Kind::Identifier, second, inner)?;
-        let nodes = MeasuredParts::two(self.alloc, meta, property)?;
-        let span = self.span_from(first.start);
-        let node = finish_plain(Kind::MetaProperty, span, nodes, high)?;
+        let meta = token_node(&mut self.tree, Kind::Identifier, first, inner)?;
+        let property = token_node(&mut self.tree, Kind::Identifier, second, inner)?;
+        let nodes = MeasuredParts::two(meta, property);
+        let span = span_from(&self.cursor, first.start);
+        let node = finish_plain(&mut self.tree, Kind::MetaProperty, span, nodes, high)?;
         Ok(Operand::plain(node, Rank::Member, Edge::Other))
     }
 
@@ -430,13 +406,10 @@ impl<'t, 's> Parser<'t, 's> {
     /// Reads an expression in parentheses, or an arrow function whose parameters they hold (12.2.10, 14.2).
     #[cycle(grammar)]
     #[inline(never)]
-    fn parenthesized(
-        &mut self,
-        position: ExpressionContext,
-        high: u32,
-    ) -> Result<Operand<'s>, Fault>
+    fn parenthesized(&mut self, position: ExpressionContext, high: u32) -> Result<Operand, Fault>
         ensures text { self.new.cursor.text ≡ self.old.cursor.text }
         ensures forward { self.old.cursor.last.stop ≤ self.new.cursor.last.stop }
+        ensures waits { IfOk result (λ part. self.new.tree ≡ push self.old.tree part.cover.node) }
         ensures passes { IfOk result (λ _. Passes self.old.cursor self.new.cursor) }
         ensures derived { IfOk result (λ part. Adds self.old.cursor self.new.cursor self.old.pairs.items self.new.pairs.items (ReadAt self.old.cursor.text position part)) }
         ensures low { IfOk result (λ part. height part.cover.node ≤ high) }
@@ -450,17 +423,18 @@ impl<'t, 's> Parser<'t, 's> {
         let at = self.leave();
         let end = self.cursor.last_end().saturating_sub(1);
         if self.sees_arrow() && accepts_rank(position.rank, Rank::Assignment) {
-            let parameters = list.into_parameters(at)?;
+            let parameters = list.into_parameters(&mut self.tree, at)?;
             return self.arrow_function(parameters, start, Form::Init, position.has_in, high);
         }
         self.close_pair(place, start, end);
-        finish_group(list, at, high)
+        finish_group(&mut self.tree, list, at, high)
     }
 
     /// Opens the parenthesis that stands ahead, with a pair that doesn't group yet: answers the pair's index and the
     /// place of the parenthesis in bytes.
     fn enter(&mut self) -> Result<(usize, usize), Fault>
         ensures text { self.new.cursor.text ≡ self.old.cursor.text }
+        ensures same_tree { self.new.tree ≡ self.old.tree }
         ensures last { self.new.cursor.last ≡ self.old.cursor.last }
         ensures opened { IfOk result (λ _. (self.old.cursor.opened < max_open) × (self.new.cursor.opened ≡ self.old.cursor.opened + 1)) }
         ensures place { IfOk result (λ places. (places.0 ≡ vec_len self.old.pairs) × IsPlaceHere self.old.cursor places.1) }
@@ -478,6 +452,7 @@ impl<'t, 's> Parser<'t, 's> {
     /// Counts the last open parenthesis as closed, and answers where the next token begins, in bytes.
     fn leave(&mut self) -> usize
         ensures text { self.new.cursor.text ≡ self.old.cursor.text }
+        ensures same_tree { self.new.tree ≡ self.old.tree }
         ensures last { self.new.cursor.last ≡ self.old.cursor.last }
         ensures place { IsPlace self.new.cursor.text.bytes result }
         ensures here { IsPlaceHere self.new.cursor result }
@@ -491,12 +466,34 @@ impl<'t, 's> Parser<'t, 's> {
     /// Makes the pair at this index a grouping pair, with the places of its parentheses in bytes.
     fn close_pair(&mut self, place: usize, left: usize, right: usize)
         ensures cursor { self.new.cursor ≡ self.old.cursor }
+        ensures same_tree { self.new.tree ≡ self.old.tree }
         ensures pairs { place < vec_len self.old.pairs → self.new.pairs.items ≡ set self.old.pairs.items place (record { left = left; right = right }) }
     {
         if place < self.pairs.len() {
             self.pairs[place] = grouping_pair(left, right);
         }
     }
+}
+
+/// A node that is one token; `this` has no text.
+#[inline(always)]
+pub(crate) fn token_node<'s>(
+    tree: &mut TreeBuilder<'s>,
+    kind: Kind,
+    token: Token<'s>,
+    high: u32,
+) -> Result<MeasuredNode, Fault>
+    ensures made { Makes (single_node kind (token_of token.entry)) high result }
+    ensures waits { IfOk result (λ n. tree.new ≡ push tree.old n) }
+    ensures refused { IfErr result IsLimit }
+{
+    MeasuredNode::leaf(
+        tree,
+        kind,
+        NodeText::Borrowed(token_node_text(kind, token.text)),
+        span_of(&token),
+        high,
+    )
 }
 
 /// Whether the kind is Identifier.

@@ -4,7 +4,7 @@
 ghost use Rattle.std.specs.Prelude.{◌≡◌, ◌≤◌, ◌||◌, true, false, codes, IfOk, IfErr};
 ghost use Rattle.token_cursor.specs.CursorState.{Passes};
 ghost use Rattle.token_cursor.specs.Refusals.{IsLimit, IsRefusal};
-ghost use Rattle.tree.specs.Tree.{height};
+ghost use Rattle.tree.specs.Tree.{height, push};
 ghost use Rattle.tokens.specs.Scanned.{token_of};
 ghost use Rattle.language.specs.Token.{Token as Read, same_class};
 ghost use Rattle.token_cursor.specs.SourceText.{SeenNext};
@@ -17,13 +17,15 @@ ghost use Rattle.recursive_descent.specs.Complete.{KeywordExpressionComplete};
 ghost use Rattle.recursive_descent.specs.Later.{MemberNameAt, NoMemberName};
 
 use crate::parser::Parser;
+use crate::primary::token_node;
+use crate::token_tests::span_from;
 use language::{Edge, Rank};
 use parser_tables::{ExpressionContext, ExpressionStart, Operand};
 use productions::{MeasuredNode, MeasuredParts, finish_node};
 use source_text::Fault;
 use token_cursor::{is_private_name, is_punctuator};
 use tokens::{Goal, Token, TokenClass};
-use tree::{Flags, Kind};
+use tree::{Flags, Kind, TreeBuilder};
 
 /// The kind of the node of a name behind a dot.
 #[inline(always)]
@@ -36,12 +38,28 @@ pub(crate) fn member_kind(name: &Token<'_>) -> Kind
     }
 }
 
+/// A node of one token on a way that few texts go, where a call costs less than its room.
+#[inline(never)]
+pub(crate) fn rare_token_node<'s>(
+    tree: &mut TreeBuilder<'s>,
+    kind: Kind,
+    token: Token<'s>,
+    high: u32,
+) -> Result<MeasuredNode, Fault>
+    ensures made { Makes (single_node kind (token_of token.entry)) high result }
+    ensures waits { IfOk result (λ n. tree.new ≡ push tree.old n) }
+    ensures refused { IfErr result IsLimit }
+{
+    token_node(tree, kind, token, high)
+}
+
 impl<'t, 's> Parser<'t, 's> {
     /// Takes the name behind a `.` or `?.` that was passed: an IdentifierName or a private name.
     #[inline(always)]
     pub(crate) fn member_name(&mut self) -> Result<Token<'s>, Fault>
         ensures text { self.new.cursor.text ≡ self.old.cursor.text }
         ensures forward { self.old.cursor.last.stop ≤ self.new.cursor.last.stop }
+        ensures same_tree { self.new.tree ≡ self.old.tree }
         ensures passes { IfOk result (λ _. Passes self.old.cursor self.new.cursor) }
         ensures same_open { self.new.cursor.opened ≡ self.old.cursor.opened }
         ensures same_pairs { self.new.pairs.items ≡ self.old.pairs.items }
@@ -61,20 +79,6 @@ impl<'t, 's> Parser<'t, 's> {
         }
         self.advance(token);
         Ok(token)
-    }
-
-    /// A node of one token on a way that few texts go, where a call costs less than its room.
-    #[inline(never)]
-    pub(crate) fn rare_token_node(
-        &self,
-        kind: Kind,
-        token: Token<'s>,
-        high: u32,
-    ) -> Result<MeasuredNode<'s>, Fault>
-        ensures made { Makes (single_node kind (token_of token.entry)) high result }
-        ensures refused { IfErr result IsLimit }
-    {
-        self.token_node(kind, token, high)
     }
 
     /// Refuses a private name behind a `.` that stands ahead: `super` has none. In its brackets and arguments one may stand first.
@@ -103,24 +107,24 @@ impl<'t, 's> Parser<'t, 's> {
         token: Token<'s>,
         position: ExpressionContext,
         high: u32,
-    ) -> Result<Operand<'s>, Fault>
+    ) -> Result<Operand, Fault>
         ensures text { self.new.cursor.text ≡ self.old.cursor.text }
         ensures forward { self.old.cursor.last.stop ≤ self.new.cursor.last.stop }
+        ensures waits { IfOk result (λ part. self.new.tree ≡ push self.old.tree part.cover.node) }
         ensures derived { IfOk result (λ part. Adds self.old.cursor self.new.cursor self.old.pairs.items self.new.pairs.items (WordedAt self.old.cursor.text position token.entry ExpressionStart.PrivateName part)) }
         ensures low { IfOk result (λ part. height part.cover.node ≤ high) }
         ensures complete { KeywordExpressionComplete self.old.cursor self.new.cursor self.old.pairs.items self.new.pairs.items high token.entry ExpressionStart.PrivateName position result }
         ensures refused { IfErr result (IsRefusal self.new.cursor.text) }
     {
         let inner = high.saturating_sub(1);
-        let left = self.rare_token_node(Kind::PrivateIdentifier, token, inner)?;
+        let left = rare_token_node(&mut self.tree, Kind::PrivateIdentifier, token, inner)?;
         self.expect_word("in")?;
         let right = self.expression(ExpressionContext::at(Rank::Shift, position.has_in), inner)?;
         let edge = right.edge;
-        let mut nodes = MeasuredParts::new(self.alloc);
-        nodes.push(left)?;
-        nodes.push(self.into_expression(right)?)?;
-        let span = self.span_from(token.start);
+        let nodes = MeasuredParts::two(left, self.into_expression(right)?);
+        let span = span_from(&self.cursor, token.start);
         let node = finish_node(
+            &mut self.tree,
             Kind::BinaryExpression,
             "in",
             Flags::PLAIN,

@@ -22,11 +22,14 @@ ghost use Rattle.recursive_descent.specs.Soundness.{Adds};
 ghost use Rattle.recursive_descent.specs.SoundnessOfLists.{NamedSo, defined, ItemReads, ValueAt};
 ghost use Rattle.token_cursor.specs.Refusals.{IsLimit, IsRefusal};
 ghost use Rattle.parser_tables.specs.Tokens.{key_node};
-ghost use Rattle.tree.specs.Tree.{height};
+ghost use Rattle.tree.specs.Tree.{height, Parts, push};
 ghost use Rattle.recursive_descent.specs.Spelled.{OfLanguage};
 ghost use Rattle.recursive_descent.specs.Later.{FormOfLanguage};
 
+use crate::lists::element;
 use crate::parser::Parser;
+use crate::primary::token_node;
+use crate::token_tests::span_from;
 use covers::{CoverShape, ListItem};
 use parser_tables::{
     ExpressionContext, FunctionOrClass, is_constructor, method_form, property_flags, property_item,
@@ -37,12 +40,12 @@ use token_cursor::{
     begins_key, is_identifier, is_key_class, is_name_token, is_private_name, is_punctuator,
 };
 use tokens::{Goal, Token, TokenClass};
-use tree::{Flags, Form, Kind};
+use tree::{Flags, Form, Kind, TreeBuilder};
 
 /// A PropertyName (12.2.6) that was read, and what its property must know of it.
 #[derive(Drop)]
 pub(crate) struct PropertyName<'s> {
-    pub(crate) node: MeasuredNode<'s>,
+    pub(crate) node: MeasuredNode,
     // It stands in brackets.
     pub(crate) computed: bool,
     // The token that it is, if it is one.
@@ -93,6 +96,7 @@ impl<'t, 's> Parser<'t, 's> {
     fn modifier(&mut self, word: &str) -> Option<Option<Token<'s>>>
         ensures text { self.new.cursor.text ≡ self.old.cursor.text }
         ensures forward { self.old.cursor.last.stop ≤ self.new.cursor.last.stop }
+        ensures same_tree { self.new.tree ≡ self.old.tree }
         ensures same_open { self.new.cursor.opened ≡ self.old.cursor.opened }
         ensures same_pairs { self.new.pairs.items ≡ self.old.pairs.items }
         ensures modified { Modified self.old.cursor.text word.now self.old.cursor.last self.new.cursor.last result }
@@ -123,6 +127,7 @@ impl<'t, 's> Parser<'t, 's> {
     fn accessor(&mut self, is_static: bool) -> Modifiers<'s>
         ensures text { self.new.cursor.text ≡ self.old.cursor.text }
         ensures forward { self.old.cursor.last.stop ≤ self.new.cursor.last.stop }
+        ensures same_tree { self.new.tree ≡ self.old.tree }
         ensures same_open { self.new.cursor.opened ≡ self.old.cursor.opened }
         ensures same_pairs { self.new.pairs.items ≡ self.old.pairs.items }
         ensures handed { result.is_static ≡ is_static }
@@ -146,6 +151,7 @@ impl<'t, 's> Parser<'t, 's> {
         requires { is_of_2022 self.old.cursor.text.language ≡ true }
         ensures text { self.new.cursor.text ≡ self.old.cursor.text }
         ensures forward { self.old.cursor.last.stop ≤ self.new.cursor.last.stop }
+        ensures same_tree { self.new.tree ≡ self.old.tree }
         ensures same_open { self.new.cursor.opened ≡ self.old.cursor.opened }
         ensures same_pairs { self.new.pairs.items ≡ self.old.pairs.items }
         ensures handed { result.is_static ≡ is_static }
@@ -183,6 +189,7 @@ impl<'t, 's> Parser<'t, 's> {
     fn modifiers(&mut self, in_class: bool) -> Modifiers<'s>
         ensures text { self.new.cursor.text ≡ self.old.cursor.text }
         ensures forward { self.old.cursor.last.stop ≤ self.new.cursor.last.stop }
+        ensures same_tree { self.new.tree ≡ self.old.tree }
         ensures same_open { self.new.cursor.opened ≡ self.old.cursor.opened }
         ensures same_pairs { self.new.pairs.items ≡ self.old.pairs.items }
         ensures modified { Modifying self.old.cursor.text self.old.cursor.last self.new.cursor.last in_class result.is_static result.form result.name }
@@ -202,6 +209,7 @@ impl<'t, 's> Parser<'t, 's> {
     fn key_token(&mut self, in_class: bool) -> Result<Token<'s>, Fault>
         ensures text { self.new.cursor.text ≡ self.old.cursor.text }
         ensures forward { self.old.cursor.last.stop ≤ self.new.cursor.last.stop }
+        ensures same_tree { self.new.tree ≡ self.old.tree }
         ensures passes { IfOk result (λ _. Passes self.old.cursor self.new.cursor) }
         ensures refused { IfErr result (IsRefusal self.new.cursor.text) }
         ensures same_open { self.new.cursor.opened ≡ self.old.cursor.opened }
@@ -231,6 +239,7 @@ impl<'t, 's> Parser<'t, 's> {
     fn plain_property_name(&mut self, in_class: bool, high: u32) -> Result<PropertyName<'s>, Fault>
         ensures text { self.new.cursor.text ≡ self.old.cursor.text }
         ensures forward { self.old.cursor.last.stop ≤ self.new.cursor.last.stop }
+        ensures waits { IfOk result (λ key. self.new.tree ≡ push self.old.tree key.node) }
         ensures passes { IfOk result (λ _. Passes self.old.cursor self.new.cursor) }
         ensures refused { IfErr result (IsRefusal self.new.cursor.text) }
         ensures same_open { self.new.cursor.opened ≡ self.old.cursor.opened }
@@ -242,33 +251,7 @@ impl<'t, 's> Parser<'t, 's> {
     {
         let token = self.key_token(in_class)?;
         let is_constructor = in_class && is_constructor(&token);
-        self.property_name_of(token, is_constructor, high)
-    }
-
-    /// The PropertyName that a token makes: a name, a string or a number.
-    fn property_name_of(
-        &self,
-        token: Token<'s>,
-        is_constructor: bool,
-        high: u32,
-    ) -> Result<PropertyName<'s>, Fault>
-        ensures made { let node = key_node (token_of token.entry) in
-            MakesAs (record { node = node; computed = false; token = Some token.entry; is_constructor = is_constructor }) (height node) high result }
-        ensures refused { IfErr result IsLimit }
-    {
-        let node = match token.class {
-            TokenClass::IdentifierName | TokenClass::Keyword => {
-                self.token_node(Kind::Identifier, token, high)?
-            }
-            TokenClass::PrivateName => self.token_node(Kind::PrivateIdentifier, token, high)?,
-            _ => self.token_node(Kind::Literal, token, high)?,
-        };
-        Ok(PropertyName {
-            node,
-            computed: false,
-            token: Some(token),
-            is_constructor,
-        })
+        property_name_of(&mut self.tree, token, is_constructor, high)
     }
 
     /// Reads the modifiers of a property or a member, and its PropertyName (12.2.6, 14.3, 14.6).
@@ -281,6 +264,7 @@ impl<'t, 's> Parser<'t, 's> {
     ) -> Result<(Modifiers<'s>, PropertyName<'s>), Fault>
         ensures text { self.new.cursor.text ≡ self.old.cursor.text }
         ensures forward { self.old.cursor.last.stop ≤ self.new.cursor.last.stop }
+        ensures waits { IfOk result (λ named. self.new.tree ≡ push self.old.tree named.1.node) }
         ensures passes { IfOk result (λ _. Passes self.old.cursor self.new.cursor) }
         ensures derived { IfOk result (λ named. Adds self.old.cursor self.new.cursor self.old.pairs.items self.new.pairs.items (NamedSo self.old.cursor.text in_class named.0 named.1)) }
         ensures low { IfOk result (λ named. height named.1.node ≤ high) }
@@ -291,7 +275,7 @@ impl<'t, 's> Parser<'t, 's> {
     {
         let modifiers = self.modifiers(in_class);
         if let Some(token) = modifiers.name {
-            let key = self.property_name_of(token, false, high)?;
+            let key = property_name_of(&mut self.tree, token, false, high)?;
             return Ok((modifiers, key));
         }
         if !self.accept_punctuator("[") {
@@ -317,9 +301,10 @@ impl<'t, 's> Parser<'t, 's> {
         &mut self,
         in_class: bool,
         high: u32,
-    ) -> Result<ListItem<'s>, Fault>
+    ) -> Result<ListItem, Fault>
         ensures text { self.new.cursor.text ≡ self.old.cursor.text }
         ensures forward { self.old.cursor.last.stop ≤ self.new.cursor.last.stop }
+        ensures waits { IfOk result (λ item. self.new.tree ≡ push self.old.tree item.node) }
         ensures passes { IfOk result (λ _. Passes self.old.cursor self.new.cursor) }
         ensures derived { IfOk result (λ item. Adds self.old.cursor self.new.cursor self.old.pairs.items self.new.pairs.items (ItemReads self.old.cursor.text (defined in_class) item)) }
         ensures low { IfOk result (λ item. height item.node ≤ high) }
@@ -332,7 +317,7 @@ impl<'t, 's> Parser<'t, 's> {
         if !in_class && self.accept_punctuator("...") {
             let argument = self.expression(ExpressionContext::ASSIGNMENT, inner)?;
             let shape = argument.cover.shape.simple();
-            let mut item = self.element(argument, true, start, high)?;
+            let mut item = element(&self.cursor, &mut self.tree, argument, true, start, high)?;
             item.shape = shape;
             return Ok(item);
         }
@@ -356,8 +341,9 @@ impl<'t, 's> Parser<'t, 's> {
             inner,
         )?;
         let (kind, flags) = method_kind(in_class, &key, modifiers);
-        let nodes = MeasuredParts::two(self.alloc, key.node, function)?;
-        let node = finish_node(kind, "", flags, self.span_from(start), nodes, high)?;
+        let nodes = MeasuredParts::two(key.node, function);
+        let span = span_from(&self.cursor, start);
+        let node = finish_node(&mut self.tree, kind, "", flags, span, nodes, high)?;
         Ok(ListItem::plain(node))
     }
 
@@ -369,9 +355,10 @@ impl<'t, 's> Parser<'t, 's> {
         key: PropertyName<'s>,
         start: usize,
         high: u32,
-    ) -> Result<ListItem<'s>, Fault>
+    ) -> Result<ListItem, Fault>
         ensures text { self.new.cursor.text ≡ self.old.cursor.text }
         ensures forward { self.old.cursor.last.stop ≤ self.new.cursor.last.stop }
+        ensures waits { (base : Parts) → self.old.tree ≡ push base key.entry.node → IfOk result (λ item. self.new.tree ≡ push base item.node) }
         ensures derived { IfOk result (λ item. Adds self.old.cursor self.new.cursor self.old.pairs.items self.new.pairs.items (ValueAt self.old.cursor.text key.entry start item)) }
         ensures low { IfOk result (λ item. height item.node ≤ high) }
         ensures own { IfOk result (λ item. OfLanguage self.old.cursor.text key.entry.node → OfLanguage self.old.cursor.text item.node) }
@@ -383,15 +370,9 @@ impl<'t, 's> Parser<'t, 's> {
             let value = self.expression(ExpressionContext::ASSIGNMENT, inner)?;
             let shape = value.cover.shape;
             let flags = property_flags(key.computed, false, Form::Init);
-            let nodes = MeasuredParts::two(self.alloc, key.node, value.cover.node)?;
-            let node = finish_node(
-                Kind::Property,
-                "",
-                flags,
-                self.span_from(start),
-                nodes,
-                high,
-            )?;
+            let nodes = MeasuredParts::two(key.node, value.cover.node);
+            let span = span_from(&self.cursor, start);
+            let node = finish_node(&mut self.tree, Kind::Property, "", flags, span, nodes, high)?;
             return Ok(property_item(node, shape));
         }
         let Some(token) = key.token else {
@@ -401,12 +382,13 @@ impl<'t, 's> Parser<'t, 's> {
             return Err(self.syntax_error());
         }
         let mut shape = CoverShape::NAME;
-        let mut value = self.token_node(Kind::Identifier, token, inner)?;
+        let mut value = token_node(&mut self.tree, Kind::Identifier, token, inner)?;
         if self.accept_punctuator("=") {
             let right = self.expression(ExpressionContext::ASSIGNMENT, inner.saturating_sub(1))?;
-            let nodes = MeasuredParts::two(self.alloc, value, self.into_expression(right)?)?;
-            let span = self.span_from(token.start);
+            let nodes = MeasuredParts::two(value, self.into_expression(right)?);
+            let span = span_from(&self.cursor, token.start);
             value = finish_node(
+                &mut self.tree,
                 Kind::AssignmentExpression,
                 "=",
                 Flags::PLAIN,
@@ -417,15 +399,9 @@ impl<'t, 's> Parser<'t, 's> {
             shape = CoverShape::NAME.defaulted().initialized();
         }
         let flags = property_flags(false, false, Form::Shorthand);
-        let nodes = MeasuredParts::two(self.alloc, key.node, value)?;
-        let node = finish_node(
-            Kind::Property,
-            "",
-            flags,
-            self.span_from(start),
-            nodes,
-            high,
-        )?;
+        let nodes = MeasuredParts::two(key.node, value);
+        let span = span_from(&self.cursor, start);
+        let node = finish_node(&mut self.tree, Kind::Property, "", flags, span, nodes, high)?;
         Ok(property_item(node, shape))
     }
 }
@@ -442,4 +418,31 @@ fn method_kind(in_class: bool, key: &PropertyName<'_>, modifiers: Modifiers<'_>)
         false => Kind::Property,
     };
     (kind, property_flags(key.computed, is_static, form))
+}
+
+/// The PropertyName that a token makes: a name, a string or a number.
+fn property_name_of<'s>(
+    tree: &mut TreeBuilder<'s>,
+    token: Token<'s>,
+    is_constructor: bool,
+    high: u32,
+) -> Result<PropertyName<'s>, Fault>
+    ensures made { let node = key_node (token_of token.entry) in
+        MakesAs (record { node = node; computed = false; token = Some token.entry; is_constructor = is_constructor }) (height node) high result }
+    ensures waits { IfOk result (λ key. tree.new ≡ push tree.old key.node) }
+    ensures refused { IfErr result IsLimit }
+{
+    let node = match token.class {
+        TokenClass::IdentifierName | TokenClass::Keyword => {
+            token_node(tree, Kind::Identifier, token, high)?
+        }
+        TokenClass::PrivateName => token_node(tree, Kind::PrivateIdentifier, token, high)?,
+        _ => token_node(tree, Kind::Literal, token, high)?,
+    };
+    Ok(PropertyName {
+        node,
+        computed: false,
+        token: Some(token),
+        is_constructor,
+    })
 }

@@ -16,7 +16,7 @@ use parser_tables::{StatementContext, StatementListEnd};
 use source_text::{Fault, Source};
 use std::alloc::Global;
 use token_cursor::Cursor;
-use tree::{BuildError, Pair, Parts, Program, Span};
+use tree::{BuildError, Pair, Program, Span, TreeBuilder};
 
 /// A script or module, with the pairs of parentheses that group, in order of their `(`.
 #[derive(Drop)]
@@ -39,9 +39,10 @@ pub fn read<'s>(alloc: Global, source: &Source<'s>, language: Language) -> Resul
     let mut parser = Parser {
         cursor: Cursor::new(source, language),
         pairs: Vec::new(alloc),
+        tree: TreeBuilder::new(alloc),
         alloc,
     };
-    let items = match language {
+    match language {
         Language::Module => parser.module_items(MAX_HEIGHT - 1)?,
         Language::Base | Language::Script => parser.statements(
             StatementListEnd::EndOfText,
@@ -52,6 +53,7 @@ pub fn read<'s>(alloc: Global, source: &Source<'s>, language: Language) -> Resul
     let Parser {
         cursor: _,
         mut pairs,
+        tree,
         alloc: _,
     } = parser;
     pairs.retain(|pair| pair.left < pair.right);
@@ -59,7 +61,7 @@ pub fn read<'s>(alloc: Global, source: &Source<'s>, language: Language) -> Resul
         start: 0,
         end: source.text().len(),
     };
-    let program = finished(alloc, language, items.into_parts(), span)?;
+    let program = finished(tree, language, span)?;
     Ok(Script { program, pairs })
 }
 
@@ -74,17 +76,16 @@ fn program_text(language: Language) -> &'static str
     }
 }
 
-/// The finished script or module of these items. `OutOfMemory` says also that it is too large to be finished.
+/// The finished script or module of what waits. `OutOfMemory` says also that it is too large to be finished.
 fn finished<'s>(
-    alloc: Global,
+    items: TreeBuilder<'s>,
     language: Language,
-    items: Parts<'s>,
     span: Span,
 ) -> Result<Program<'s>, Fault>
     ensures built { IfOk result (λ program. program ≡ program_tree (program_text language) items.entry span) }
     ensures refused { IfErr result (λ fault. fault ≡ OutOfMemory) }
 {
-    match Program::build(alloc, program_text(language), items, span) {
+    match Program::build(items, program_text(language), span) {
         Ok(program) => Ok(program),
         Err(BuildError::Memory | BuildError::TooLarge) => Err(Fault::OutOfMemory),
     }

@@ -17,10 +17,13 @@ ghost use Rattle.parser_tables.specs.Outcomes.{BecomesHere, RefusedUnless, Refus
 ghost use Rattle.token_cursor.specs.CursorState.{IsPlaceHere};
 ghost use Rattle.parser_tables.specs.StatementNodes.{fits_head, head_levels, head_node, list_levels, put_node, takes_head, takes_list, takes_put, with_list, with_part};
 ghost use Rattle.recursive_descent.specs.Expectations.{expected_if, expected_always, ExpectedAt, NotExpected, LabelAt, NotLabel, TokensAt, NotTokens, WordedAt, NotWorded, ElseAt, FinallyAt, CatchAt, NoCatch, HeritageAt, HeadAt};
-ghost use Rattle.tree.specs.Tree.{parts_height};
+ghost use Rattle.tree.specs.Tree.{parts_height, Parts, push, join};
 ghost use Rattle.recursive_descent.specs.Spelled.{AllOfLanguage};
 
+use crate::lists::bound;
 use crate::parser::Parser;
+use crate::primary::token_node;
+use crate::token_tests::span_from;
 use covers::{ListBuilder, ListKind};
 use language::Rank;
 use parser_tables::{
@@ -29,9 +32,9 @@ use parser_tables::{
 };
 use productions::{MeasuredNode, finish_node, finish_plain};
 use source_text::Fault;
-use token_cursor::StatementEnd;
+use token_cursor::{Cursor, StatementEnd};
 use tokens::Goal;
-use tree::{Flags, Kind};
+use tree::{Flags, Kind, TreeBuilder};
 
 /// What is to be read for a symbol of a statement, once its own tokens are passed.
 #[derive(Clone, Copy)]
@@ -106,6 +109,7 @@ impl<'t, 's> Parser<'t, 's> {
     fn label_symbol(&mut self, built: &mut PartialStatement<'s>, high: u32) -> Result<(), Fault>
         ensures text { self.new.cursor.text ≡ self.old.cursor.text }
         ensures forward { self.old.cursor.last.stop ≤ self.new.cursor.last.stop }
+        ensures waits { (base : Parts) → self.old.tree ≡ join base built.old.nodes → IfOk result (λ _. self.new.tree ≡ join base built.new.nodes) }
         ensures same_open { self.new.cursor.opened ≡ self.old.cursor.opened }
         ensures same_pairs { self.new.pairs.items ≡ self.old.pairs.items }
         ensures read { IfOk result (λ _. LabelAt self.old.cursor self.new.cursor built.old built.new high) }
@@ -113,12 +117,11 @@ impl<'t, 's> Parser<'t, 's> {
         ensures refused { IfErr result (IsRefusal self.new.cursor.text) }
     {
         if !self.sees_identifier() || self.sees_line_break() {
-            return built.nodes.push_gap();
+            return built.nodes.push_gap(&mut self.tree);
         }
         let label = self.identifier()?;
-        built
-            .nodes
-            .push(self.token_node(Kind::Identifier, label, high)?)
+        let name = token_node(&mut self.tree, Kind::Identifier, label, high)?;
+        built.nodes.push(name)
     }
 
     /// Reads a symbol that consists of tokens alone: a mark, a word, a semicolon, a label.
@@ -130,6 +133,7 @@ impl<'t, 's> Parser<'t, 's> {
     ) -> Result<(), Fault>
         ensures text { self.new.cursor.text ≡ self.old.cursor.text }
         ensures forward { self.old.cursor.last.stop ≤ self.new.cursor.last.stop }
+        ensures waits { (base : Parts) → self.old.tree ≡ join base built.old.nodes → IfOk result (λ _. self.new.tree ≡ join base built.new.nodes) }
         ensures same_open { self.new.cursor.opened ≡ self.old.cursor.opened }
         ensures same_pairs { self.new.pairs.items ≡ self.old.pairs.items }
         ensures read { IfOk result (λ _. TokensAt piece self.old.cursor self.new.cursor built.old built.new high) }
@@ -162,6 +166,7 @@ impl<'t, 's> Parser<'t, 's> {
     fn else_symbol(&mut self) -> Expected
         ensures text { self.new.cursor.text ≡ self.old.cursor.text }
         ensures forward { self.old.cursor.last.stop ≤ self.new.cursor.last.stop }
+        ensures same_tree { self.new.tree ≡ self.old.tree }
         ensures same_open { self.new.cursor.opened ≡ self.old.cursor.opened }
         ensures same_pairs { self.new.pairs.items ≡ self.old.pairs.items }
         ensures handler { IfHandler result ⊥ }
@@ -177,6 +182,7 @@ impl<'t, 's> Parser<'t, 's> {
     fn finally_symbol(&mut self, context: StatementContext) -> Expected
         ensures text { self.new.cursor.text ≡ self.old.cursor.text }
         ensures forward { self.old.cursor.last.stop ≤ self.new.cursor.last.stop }
+        ensures same_tree { self.new.tree ≡ self.old.tree }
         ensures same_open { self.new.cursor.opened ≡ self.old.cursor.opened }
         ensures same_pairs { self.new.pairs.items ≡ self.old.pairs.items }
         ensures handler { IfHandler result ⊥ }
@@ -192,6 +198,7 @@ impl<'t, 's> Parser<'t, 's> {
     fn catch_symbol(&mut self) -> Result<Expected, Fault>
         ensures text { self.new.cursor.text ≡ self.old.cursor.text }
         ensures forward { self.old.cursor.last.stop ≤ self.new.cursor.last.stop }
+        ensures same_tree { self.new.tree ≡ self.old.tree }
         ensures same_open { self.new.cursor.opened ≡ self.old.cursor.opened }
         ensures same_pairs { self.new.pairs.items ≡ self.old.pairs.items }
         ensures handler { IfOk result (λ want. IfHandler want (Passes self.old.cursor self.new.cursor)) }
@@ -213,6 +220,7 @@ impl<'t, 's> Parser<'t, 's> {
     fn heritage_symbol(&mut self) -> Expected
         ensures text { self.new.cursor.text ≡ self.old.cursor.text }
         ensures forward { self.old.cursor.last.stop ≤ self.new.cursor.last.stop }
+        ensures same_tree { self.new.tree ≡ self.old.tree }
         ensures same_open { self.new.cursor.opened ≡ self.old.cursor.opened }
         ensures same_pairs { self.new.pairs.items ≡ self.old.pairs.items }
         ensures handler { IfHandler result ⊥ }
@@ -232,6 +240,7 @@ impl<'t, 's> Parser<'t, 's> {
     ) -> Result<Expected, Fault>
         ensures text { self.new.cursor.text ≡ self.old.cursor.text }
         ensures forward { self.old.cursor.last.stop ≤ self.new.cursor.last.stop }
+        ensures same_tree { self.new.tree ≡ self.old.tree }
         ensures handler { IfOk result (λ want. IfHandler want (Passes self.old.cursor self.new.cursor)) }
         ensures same_open { self.new.cursor.opened ≡ self.old.cursor.opened }
         ensures same_pairs { self.new.pairs.items ≡ self.old.pairs.items }
@@ -252,6 +261,7 @@ impl<'t, 's> Parser<'t, 's> {
     fn for_head_symbol(&mut self, built: &mut PartialStatement<'s>) -> Expected
         ensures text { self.new.cursor.text ≡ self.old.cursor.text }
         ensures forward { self.old.cursor.last.stop ≤ self.new.cursor.last.stop }
+        ensures same_tree { self.new.tree ≡ self.old.tree }
         ensures handler { IfHandler result ⊥ }
         ensures same_open { self.new.cursor.opened ≡ self.old.cursor.opened }
         ensures same_pairs { self.new.pairs.items ≡ self.old.pairs.items }
@@ -278,6 +288,7 @@ impl<'t, 's> Parser<'t, 's> {
     ) -> Result<Expected, Fault>
         ensures text { self.new.cursor.text ≡ self.old.cursor.text }
         ensures forward { self.old.cursor.last.stop ≤ self.new.cursor.last.stop }
+        ensures waits { (base : Parts) → self.old.tree ≡ join base built.old.nodes → IfOk result (λ _. self.new.tree ≡ join base built.new.nodes) }
         ensures same_open { self.new.cursor.opened ≡ self.old.cursor.opened }
         ensures same_pairs { self.new.pairs.items ≡ self.old.pairs.items }
         ensures handler { IfOk result (λ want. IfHandler want (Passes self.old.cursor self.new.cursor)) }
@@ -317,101 +328,6 @@ impl<'t, 's> Parser<'t, 's> {
         }
     }
 
-    /// The node that a symbol makes of its expression: a pattern in the head of a `for` with `in` or `of` ahead
-    /// (`each`), or a binding.
-    fn symbol_node(
-        &self,
-        piece: Symbol,
-        each: bool,
-        part: Operand<'s>,
-    ) -> Result<MeasuredNode<'s>, Fault>
-        ensures made { BecomesHere (put_node piece each part.entry.cover.node) (takes_put piece each part.entry.cover.shape) self.now.cursor result }
-        ensures refused { IfErr result (IsRefusal self.now.cursor.text) }
-    {
-        match piece {
-            Symbol::ForHead if each => part.cover.to_pattern(self.cursor.next_start()),
-            Symbol::Binding => self.bound(part),
-            _ => self.into_expression(part),
-        }
-    }
-
-    /// Adds the expression that was read for a symbol.
-    fn add_expression(
-        &self,
-        built: &mut PartialStatement<'s>,
-        piece: Symbol,
-        each: bool,
-        part: Operand<'s>,
-    ) -> Result<(), Fault>
-        ensures put { IfOk result (λ _. built.new ≡ with_part built.old (put_node piece each part.entry.cover.node) part.entry.edge) }
-        ensures fits { IfOk result (λ _. takes_put piece each part.entry.cover.shape ≡ true) }
-        ensures failed { IfErr result (RefusedUnless (IsPlaceHere self.now.cursor) (takes_put piece each part.entry.cover.shape)) }
-        ensures refused { IfErr result (IsRefusal self.now.cursor.text) }
-    {
-        built.edge = part.edge;
-        let node = self.symbol_node(piece, each, part)?;
-        built.nodes.push(node)
-    }
-
-    /// Adds the list that was read for a symbol; no part may be higher than `high`.
-    fn add_list(
-        &self,
-        built: &mut PartialStatement<'s>,
-        list: ListBuilder<'s>,
-        each: bool,
-        high: u32,
-    ) -> Result<(), Fault>
-        ensures put { IfOk result (λ _. built.new ≡ with_list built.old list.entry self.now.cursor.last.stop) }
-        ensures fits { IfOk result (λ _. (takes_list built.old.word each list.entry ≡ true) × (list_levels list.entry ≤ high)) }
-        ensures failed { IfErr result (RefusedWhere (IsPlaceHere self.now.cursor) (takes_list built.old.word each list.entry) (list_levels list.entry) high) }
-        ensures refused { IfErr result (IsRefusal self.now.cursor.text) }
-    {
-        built.edge = list.seen.edge;
-        let at = self.cursor.next_start();
-        match list.listed {
-            ListKind::Declarators { has_in: true } if list.seen.is_flagged => Err(
-                self.syntax_error(),
-            ),
-            ListKind::Declarators { has_in: false } => self.add_for_declaration(
-                built, list, each, high,
-            ),
-            ListKind::Parameters | ListKind::NoParameter | ListKind::OneParameter => {
-                built.nodes.append(list.into_parameters(at)?)
-            }
-            ListKind::Members => {
-                let body = finish_plain(Kind::ClassBody, list.span, list.nodes, high)?;
-                built.nodes.push(body)
-            }
-            ListKind::Declarators { .. } | ListKind::Cases { .. } => built.nodes.append(list.nodes),
-            _ => Err(self.syntax_error()),
-        }
-    }
-
-    /// Adds the declaration in the head of a `for` (13.7.4, 13.7.5).
-    fn add_for_declaration(
-        &self,
-        built: &mut PartialStatement<'s>,
-        list: ListBuilder<'s>,
-        each: bool,
-        high: u32,
-    ) -> Result<(), Fault>
-        ensures put { IfOk result (λ _. built.new ≡ with_part built.old (head_node built.old.word self.now.cursor.last.stop list.entry.nodes) built.old.edge) }
-        ensures fits { IfOk result (λ _. (takes_head built.old.word each list.entry ≡ true) × (head_levels list.entry.nodes ≤ high)) }
-        ensures failed { IfErr result (RefusedWhere (IsPlaceHere self.now.cursor) (takes_head built.old.word each list.entry) (head_levels list.entry.nodes) high) }
-        ensures refused { IfErr result (IsRefusal self.now.cursor.text) }
-    {
-        let Some(word) = built.word else {
-            return Err(self.syntax_error());
-        };
-        if !fits_for_head(each, &list) {
-            return Err(self.syntax_error());
-        }
-        let span = self.span_from(word.start);
-        let kind = Kind::VariableDeclaration;
-        let node = finish_node(kind, word.text, Flags::PLAIN, span, list.nodes, high)?;
-        built.nodes.push(node)
-    }
-
     /// The symbols of a handler after `catch` (13.15): with a parameter if `(` stands ahead.
     fn catch_symbols(&self) -> &'static [Symbol]
         ensures { CatchParts self.now.cursor.text self.now.cursor.last (map piece_of result.now) }
@@ -439,6 +355,7 @@ impl<'t, 's> Parser<'t, 's> {
     ) -> Result<(), Fault>
         ensures text { self.new.cursor.text ≡ self.old.cursor.text }
         ensures forward { self.old.cursor.last.stop ≤ self.new.cursor.last.stop }
+        ensures waits { (base : Parts) → self.old.tree ≡ join base built.old.nodes → IfOk result (λ _. self.new.tree ≡ join base built.new.nodes) }
         ensures derived { IfOk result (λ _. Adds self.old.cursor self.new.cursor self.old.pairs.items self.new.pairs.items (BuiltAt self.old.cursor.text context.returns (map piece_of pieces.now) built.old built.new)) }
         ensures low { IfOk result (λ _. parts_height built.old.nodes ≤ high → parts_height built.new.nodes ≤ high) }
         ensures own { IfOk result (λ _. AllOfLanguage self.old.cursor.text built.old.nodes → AllOfLanguage self.old.cursor.text built.new.nodes) }
@@ -449,18 +366,18 @@ impl<'t, 's> Parser<'t, 's> {
         'each: for piece in pieces {
             match self.expected(*piece, built, context, high)? {
                 Expected::Nothing => {}
-                Expected::Gap => built.nodes.push_gap()?,
+                Expected::Gap => built.nodes.push_gap(&mut self.tree)?,
                 Expected::Expression(position) => {
                     let part = self.expression(position, high)?;
                     let each = self.sees_in_or_of();
-                    self.add_expression(built, *piece, each, part)?;
+                    add_expression(&self.cursor, &mut self.tree, built, *piece, each, part)?;
                 }
                 Expected::Binding => {
                     let part = self.leftmost_operand(
                         ExpressionContext::at(Rank::Primary, true),
                         high,
                     )?;
-                    self.add_expression(built, *piece, false, part)?;
+                    add_expression(&self.cursor, &mut self.tree, built, *piece, false, part)?;
                 }
                 Expected::Statement => {
                     built.nodes.push(self.statement(context.inside(), high)?)?;
@@ -469,18 +386,18 @@ impl<'t, 's> Parser<'t, 's> {
                     let left = self.expect_punctuator("{")?;
                     let list = self.statements(StatementListEnd::ClosingBrace, context, inner)?;
                     self.expect_punctuator("}")?;
-                    let span = self.span_from(left);
-                    built
-                        .nodes
-                        .push(finish_plain(Kind::BlockStatement, span, list, high)?)?;
+                    let span = span_from(&self.cursor, left);
+                    let kind = Kind::BlockStatement;
+                    let block = finish_plain(&mut self.tree, kind, span, list, high)?;
+                    built.nodes.push(block)?;
                 }
                 Expected::Handler(start) => {
-                    let mut caught = PartialStatement::new(self.alloc);
+                    let mut caught = PartialStatement::new();
                     self.read_symbols(self.catch_symbols(), &mut caught, context, inner)?;
-                    let span = self.span_from(start);
-                    built
-                        .nodes
-                        .push(finish_plain(Kind::CatchClause, span, caught.nodes, high)?)?;
+                    let span = span_from(&self.cursor, start);
+                    let kind = Kind::CatchClause;
+                    let handler = finish_plain(&mut self.tree, kind, span, caught.nodes, high)?;
+                    built.nodes.push(handler)?;
                 }
                 Expected::Items(until) => {
                     let context = StatementContext::item(context.returns);
@@ -491,10 +408,113 @@ impl<'t, 's> Parser<'t, 's> {
                     let list = self.open(listed, limit)?;
                     let list = self.list(list, limit)?;
                     let each = self.sees_in_or_of();
-                    self.add_list(built, list, each, high)?;
+                    add_list(&self.cursor, &mut self.tree, built, list, each, high)?;
                 }
             }
         }
         Ok(())
     }
+}
+
+/// The node that a symbol makes of its expression: a pattern in the head of a `for` with `in` or `of` ahead
+/// (`each`), or a binding.
+fn symbol_node(
+    cursor: &Cursor<'_, '_>,
+    tree: &mut TreeBuilder<'_>,
+    piece: Symbol,
+    each: bool,
+    part: Operand,
+) -> Result<MeasuredNode, Fault>
+    ensures made { BecomesHere (put_node piece each part.cover.node) (takes_put piece each part.cover.shape) cursor.now result }
+    ensures waits { (base : Parts) → tree.old ≡ push base part.cover.node → IfOk result (λ n. tree.new ≡ push base n) }
+    ensures refused { IfErr result (IsRefusal cursor.now.text) }
+{
+    match piece {
+        Symbol::ForHead if each => part.cover.to_pattern(tree, cursor.next_start()),
+        Symbol::Binding => bound(cursor, tree, part),
+        _ => part.into_expression(cursor.next_start()),
+    }
+}
+
+/// Adds the expression that was read for a symbol.
+fn add_expression(
+    cursor: &Cursor<'_, '_>,
+    tree: &mut TreeBuilder<'_>,
+    built: &mut PartialStatement<'_>,
+    piece: Symbol,
+    each: bool,
+    part: Operand,
+) -> Result<(), Fault>
+    ensures put { IfOk result (λ _. built.new ≡ with_part built.old (put_node piece each part.cover.node) part.edge) }
+    ensures fits { IfOk result (λ _. takes_put piece each part.cover.shape ≡ true) }
+    ensures failed { IfErr result (RefusedUnless (IsPlaceHere cursor.now) (takes_put piece each part.cover.shape)) }
+    ensures waits { (base : Parts) → tree.old ≡ push (join base built.old.nodes) part.cover.node → IfOk result (λ _. tree.new ≡ join base built.new.nodes) }
+    ensures refused { IfErr result (IsRefusal cursor.now.text) }
+{
+    built.edge = part.edge;
+    let node = symbol_node(cursor, tree, piece, each, part)?;
+    built.nodes.push(node)
+}
+
+/// Adds the list that was read for a symbol; no part may be higher than `high`.
+fn add_list<'s>(
+    cursor: &Cursor<'_, 's>,
+    tree: &mut TreeBuilder<'s>,
+    built: &mut PartialStatement<'s>,
+    list: ListBuilder,
+    each: bool,
+    high: u32,
+) -> Result<(), Fault>
+    ensures put { IfOk result (λ _. built.new ≡ with_list built.old list cursor.now.last.stop) }
+    ensures fits { IfOk result (λ _. (takes_list built.old.word each list ≡ true) × (list_levels list ≤ high)) }
+    ensures failed { IfErr result (RefusedWhere (IsPlaceHere cursor.now) (takes_list built.old.word each list) (list_levels list) high) }
+    ensures waits { (base : Parts) → tree.old ≡ join (join base built.old.nodes) list.nodes → IfOk result (λ _. tree.new ≡ join base built.new.nodes) }
+    ensures refused { IfErr result (IsRefusal cursor.now.text) }
+{
+    built.edge = list.seen.edge;
+    let at = cursor.next_start();
+    match list.listed {
+        ListKind::Declarators { has_in: true } if list.seen.is_flagged => Err(
+            cursor.syntax_error(),
+        ),
+        ListKind::Declarators { has_in: false } => add_for_declaration(
+            cursor, tree, built, list, each, high,
+        ),
+        ListKind::Parameters | ListKind::NoParameter | ListKind::OneParameter => {
+            built.nodes.append(list.into_parameters(tree, at)?)
+        }
+        ListKind::Members => {
+            let body = finish_plain(tree, Kind::ClassBody, list.span, list.nodes, high)?;
+            built.nodes.push(body)
+        }
+        ListKind::Declarators { .. } | ListKind::Cases { .. } => built.nodes.append(list.nodes),
+        _ => Err(cursor.syntax_error()),
+    }
+}
+
+/// Adds the declaration in the head of a `for` (13.7.4, 13.7.5).
+fn add_for_declaration<'s>(
+    cursor: &Cursor<'_, 's>,
+    tree: &mut TreeBuilder<'s>,
+    built: &mut PartialStatement<'s>,
+    list: ListBuilder,
+    each: bool,
+    high: u32,
+) -> Result<(), Fault>
+    ensures put { IfOk result (λ _. built.new ≡ with_part built.old (head_node built.old.word cursor.now.last.stop list.nodes) built.old.edge) }
+    ensures fits { IfOk result (λ _. (takes_head built.old.word each list ≡ true) × (head_levels list.nodes ≤ high)) }
+    ensures failed { IfErr result (RefusedWhere (IsPlaceHere cursor.now) (takes_head built.old.word each list) (head_levels list.nodes) high) }
+    ensures waits { (base : Parts) → tree.old ≡ join (join base built.old.nodes) list.nodes → IfOk result (λ _. tree.new ≡ join base built.new.nodes) }
+    ensures refused { IfErr result (IsRefusal cursor.now.text) }
+{
+    let Some(word) = built.word else {
+        return Err(cursor.syntax_error());
+    };
+    if !fits_for_head(each, &list) {
+        return Err(cursor.syntax_error());
+    }
+    let span = span_from(cursor, word.start);
+    let kind = Kind::VariableDeclaration;
+    let node = finish_node(tree, kind, word.text, Flags::PLAIN, span, list.nodes, high)?;
+    built.nodes.push(node)
 }

@@ -22,10 +22,11 @@ ghost use Rattle.token_cursor.specs.Refusals.{IsRefusal};
 ghost use Rattle.parser_tables.specs.Operands.{is_group, is_lone_string};
 ghost use Rattle.parser_tables.specs.StatementNodes.{expression_statement_node, expression_statement_height, NoExpressionStatement};
 ghost use Rattle.token_cursor.specs.StatementEnds.{IsEnd};
-ghost use Rattle.tree.specs.Tree.{kind_of, height, parts_height};
+ghost use Rattle.tree.specs.Tree.{kind_of, height, parts_height, Parts, push, join};
 ghost use Rattle.recursive_descent.specs.Spelled.{OfLanguage, AllOfLanguage};
 
 use crate::parser::Parser;
+use crate::token_tests::span_from;
 use parser_tables::{
     ExpressionContext, FunctionOrClass, Operand, PartialStatement, StatementContext, StatementKind,
     StatementListEnd, StatementStart, ends_statements, statement_start_of, statement_symbols,
@@ -56,9 +57,10 @@ impl<'t, 's> Parser<'t, 's> {
         until: StatementListEnd,
         context: StatementContext,
         high: u32,
-    ) -> Result<MeasuredParts<'s>, Fault>
+    ) -> Result<MeasuredParts, Fault>
         ensures text { self.new.cursor.text ≡ self.old.cursor.text }
         ensures forward { self.old.cursor.last.stop ≤ self.new.cursor.last.stop }
+        ensures waits { IfOk result (λ nodes. self.new.tree ≡ join self.old.tree nodes) }
         ensures derived { IfOk result (λ nodes. Adds self.old.cursor self.new.cursor self.old.pairs.items self.new.pairs.items (StatementsAt self.old.cursor.text context nodes)) }
         ensures ended { IfOk result (λ _. SeesBy self.new.cursor.text Div (ends until) self.new.cursor.last) }
         ensures low { IfOk result (λ nodes. parts_height nodes ≤ high) }
@@ -67,10 +69,10 @@ impl<'t, 's> Parser<'t, 's> {
         ensures refused { IfErr result (IsRefusal self.new.cursor.text) }
     {
         let mut context = context;
-        let mut nodes = MeasuredParts::new(self.alloc);
+        let mut nodes = MeasuredParts::new();
         'statements: while !self.sees_end(until) {
             let statement = self.statement(context, high)?;
-            context.is_prologue = context.is_prologue && statement.node().flags().directive;
+            context.is_prologue = context.is_prologue && statement.is_directive();
             nodes.push(statement)?;
         }
         Ok(nodes)
@@ -83,9 +85,10 @@ impl<'t, 's> Parser<'t, 's> {
         &mut self,
         context: StatementContext,
         high: u32,
-    ) -> Result<MeasuredNode<'s>, Fault>
+    ) -> Result<MeasuredNode, Fault>
         ensures text { self.new.cursor.text ≡ self.old.cursor.text }
         ensures forward { self.old.cursor.last.stop ≤ self.new.cursor.last.stop }
+        ensures waits { IfOk result (λ n. self.new.tree ≡ push self.old.tree n) }
         ensures passes { IfOk result (λ _. Passes self.old.cursor self.new.cursor) }
         ensures derived { IfOk result (λ n. Adds self.old.cursor self.new.cursor self.old.pairs.items self.new.pairs.items (StatementAt self.old.cursor.text (context_role context) n)) }
         ensures low { IfOk result (λ n. height n ≤ high) }
@@ -95,7 +98,7 @@ impl<'t, 's> Parser<'t, 's> {
     {
         let (token, beginning) = self.peek_statement_start(context, high)?;
         let inner = high.saturating_sub(1);
-        let mut built = PartialStatement::new(self.alloc);
+        let mut built = PartialStatement::new();
         let mut what = match beginning {
             StatementStart::OfKind(what) => {
                 self.advance(token);
@@ -137,8 +140,16 @@ impl<'t, 's> Parser<'t, 's> {
             StatementKind::Variable => token.text,
             _ => "",
         };
-        let span = self.span_from(token.start);
-        finish_node(what.kind(), text, Flags::PLAIN, span, built.nodes, high)
+        let span = span_from(&self.cursor, token.start);
+        finish_node(
+            &mut self.tree,
+            what.kind(),
+            text,
+            Flags::PLAIN,
+            span,
+            built.nodes,
+            high,
+        )
     }
 
     /// Reads a `for await` (14.7.5 of the 13th edition) behind its `for`, where `await` stands ahead.
@@ -149,9 +160,10 @@ impl<'t, 's> Parser<'t, 's> {
         start: usize,
         context: StatementContext,
         high: u32,
-    ) -> Result<MeasuredNode<'s>, Fault>
+    ) -> Result<MeasuredNode, Fault>
         ensures text { self.new.cursor.text ≡ self.old.cursor.text }
         ensures forward { self.old.cursor.last.stop ≤ self.new.cursor.last.stop }
+        ensures waits { IfOk result (λ n. self.new.tree ≡ push self.old.tree n) }
         ensures derived { IfOk result (λ n. Adds self.old.cursor self.new.cursor self.old.pairs.items self.new.pairs.items (ForAwaitAt self.old.cursor.text context.returns start n)) }
         ensures low { IfOk result (λ n. height n ≤ high) }
         ensures own { IfOk result (λ n. OfLanguage self.old.cursor.text n) }
@@ -162,15 +174,23 @@ impl<'t, 's> Parser<'t, 's> {
             return Err(self.syntax_error());
         }
         let inner = high.saturating_sub(1);
-        let mut built = PartialStatement::new(self.alloc);
+        let mut built = PartialStatement::new();
         let head = statement_symbols(StatementKind::For, context.returns);
         self.read_symbols(head, &mut built, context, inner)?;
         let rest = statement_symbols(StatementKind::ForOf, context.returns);
         self.read_symbols(rest, &mut built, context, inner)?;
         let mut flags = Flags::PLAIN;
         flags.form = Form::Async;
-        let span = self.span_from(start);
-        finish_node(Kind::ForOfStatement, "", flags, span, built.nodes, high)
+        let span = span_from(&self.cursor, start);
+        finish_node(
+            &mut self.tree,
+            Kind::ForOfStatement,
+            "",
+            flags,
+            span,
+            built.nodes,
+            high,
+        )
     }
 
     /// The token ahead and the statement that it begins; refused if no height is left for a node.
@@ -229,7 +249,7 @@ impl<'t, 's> Parser<'t, 's> {
     }
 
     /// Whether what was read is a label (13.13): a name without parentheses, with a `:` ahead.
-    fn is_label(&self, part: &Operand<'s>) -> bool
+    fn is_label(&self, part: &Operand) -> bool
         ensures label { OnTrue result ((kind_of part.now.cover.node ≡ Kind.Identifier) × (is_group part.now.rank ≡ false) × Sees self.now.cursor.text TokenClass.Punctuator (codes ":") self.now.cursor.last) }
         ensures no_label { OnFalse result (kind_of part.now.cover.node ≡ Kind.Identifier → is_group part.now.rank ≡ false → Misses self.now.cursor.text TokenClass.Punctuator (codes ":") self.now.cursor.last) }
     {
@@ -243,28 +263,37 @@ impl<'t, 's> Parser<'t, 's> {
     /// (14.1.1).
     fn expression_statement(
         &mut self,
-        part: Operand<'s>,
+        part: Operand,
         context: StatementContext,
         high: u32,
-    ) -> Result<MeasuredNode<'s>, Fault>
+    ) -> Result<MeasuredNode, Fault>
         ensures text { self.new.cursor.text ≡ self.old.cursor.text }
         ensures forward { self.old.cursor.last.stop ≤ self.new.cursor.last.stop }
+        ensures waits { (base : Parts) → self.old.tree ≡ push base part.cover.node → IfOk result (λ n. self.new.tree ≡ push base n) }
         ensures same_open { self.new.cursor.opened ≡ self.old.cursor.opened }
         ensures same_pairs { self.new.pairs.items ≡ self.old.pairs.items }
-        ensures made { IfOk result (λ n. n ≡ expression_statement_node (context.is_item && (context.is_prologue && is_lone_string part.entry)) part.entry.start self.new.cursor.last.stop part.entry.cover.node) }
-        ensures fits { IfOk result (λ n. (part.entry.cover.shape.is_expression ≡ true) × (expression_statement_height part.entry ≤ high)) }
-        ensures ends { IfOk result (λ _. IsEnd self.old.cursor.text (StatementEnd.AfterExpression part.entry.edge) self.old.cursor.last self.new.cursor.last) }
-        ensures failed { IfErr result (NoExpressionStatement self.old.cursor part.entry high) }
+        ensures made { IfOk result (λ n. n ≡ expression_statement_node (context.is_item && (context.is_prologue && is_lone_string part)) part.start self.new.cursor.last.stop part.cover.node) }
+        ensures fits { IfOk result (λ n. (part.cover.shape.is_expression ≡ true) × (expression_statement_height part ≤ high)) }
+        ensures ends { IfOk result (λ _. IsEnd self.old.cursor.text (StatementEnd.AfterExpression part.edge) self.old.cursor.last self.new.cursor.last) }
+        ensures failed { IfErr result (NoExpressionStatement self.old.cursor part high) }
         ensures refused { IfErr result (IsRefusal self.new.cursor.text) }
     {
         let start = part.start;
         let edge = part.edge;
         let mut flags = Flags::PLAIN;
         flags.directive = context.is_item && context.is_prologue && part.is_lone_string();
-        let nodes = MeasuredParts::only(self.alloc, self.into_expression(part)?)?;
+        let nodes = MeasuredParts::one(self.into_expression(part)?);
         self.cursor.semicolon(StatementEnd::AfterExpression(edge))?;
-        let span = self.span_from(start);
-        finish_node(Kind::ExpressionStatement, "", flags, span, nodes, high)
+        let span = span_from(&self.cursor, start);
+        finish_node(
+            &mut self.tree,
+            Kind::ExpressionStatement,
+            "",
+            flags,
+            span,
+            nodes,
+            high,
+        )
     }
 
     /// Which `for` it is, by the token after what stands first in its parentheses (13.7).

@@ -13,12 +13,14 @@ ghost use Rattle.recursive_descent.specs.Subscripts.{link_kind, link_flags, link
 ghost use Rattle.token_cursor.specs.Seen.{SeesBy, MissesBy, Sees};
 ghost use Rattle.parser_tables.specs.Tests.{is_link, is_template};
 ghost use Rattle.recursive_descent.specs.Soundness.{Adds, Links, ArgumentsAt, GoesOn};
-ghost use Rattle.tree.specs.Tree.{height, parts_height};
+ghost use Rattle.tree.specs.Tree.{height, parts_height, Parts, push, join};
 ghost use Rattle.token_cursor.specs.Refusals.{IsRefusal};
 ghost use Rattle.recursive_descent.specs.Spelled.{OfLanguage, AllOfLanguage};
 
 use crate::parser::Parser;
+use crate::primary::token_node;
 use crate::private_names::member_kind;
+use crate::token_tests::span_from;
 use covers::ListKind;
 use grammar::accepts_rank;
 use language::{Edge, Rank};
@@ -142,6 +144,7 @@ impl<'t, 's> Parser<'t, 's> {
     fn subscript_start(&mut self) -> Result<(Subscript, bool), Fault>
         ensures text { self.new.cursor.text ≡ self.old.cursor.text }
         ensures forward { self.old.cursor.last.stop ≤ self.new.cursor.last.stop }
+        ensures same_tree { self.new.tree ≡ self.old.tree }
         ensures same_open { self.new.cursor.opened ≡ self.old.cursor.opened }
         ensures same_pairs { self.new.pairs.items ≡ self.old.pairs.items }
         ensures linked { IfOk result (λ found. LinkedAt self.old.cursor self.new.cursor found.0 found.1) }
@@ -166,14 +169,15 @@ impl<'t, 's> Parser<'t, 's> {
     /// What was read with a member, arguments or a template behind it, which stand ahead.
     #[cycle(grammar)]
     #[inline(never)]
-    pub(crate) fn subscript(&mut self, left: Operand<'s>, high: u32) -> Result<Operand<'s>, Fault>
+    pub(crate) fn subscript(&mut self, left: Operand, high: u32) -> Result<Operand, Fault>
         ensures text { self.new.cursor.text ≡ self.old.cursor.text }
         ensures forward { self.old.cursor.last.stop ≤ self.new.cursor.last.stop }
+        ensures waits { (base : Parts) → self.old.tree ≡ push base left.cover.node → IfOk result (λ part. self.new.tree ≡ push base part.cover.node) }
         ensures passes { IfOk result (λ _. Passes self.old.cursor self.new.cursor) }
-        ensures derived { IfOk result (λ part. Adds self.old.cursor self.new.cursor self.old.pairs.items self.new.pairs.items (Links self.old.cursor.text left.entry part)) }
+        ensures derived { IfOk result (λ part. Adds self.old.cursor self.new.cursor self.old.pairs.items self.new.pairs.items (Links self.old.cursor.text left part)) }
         ensures low { IfOk result (λ part. height part.cover.node ≤ high) }
-        ensures own { IfOk result (λ part. OfLanguage self.old.cursor.text left.entry.cover.node → OfLanguage self.old.cursor.text part.cover.node) }
-        ensures complete { SubscriptComplete self.old.cursor self.new.cursor self.old.pairs.items self.new.pairs.items high left.entry result }
+        ensures own { IfOk result (λ part. OfLanguage self.old.cursor.text left.cover.node → OfLanguage self.old.cursor.text part.cover.node) }
+        ensures complete { SubscriptComplete self.old.cursor self.new.cursor self.old.pairs.items self.new.pairs.items high left result }
         ensures refused { IfErr result (IsRefusal self.new.cursor.text) }
     {
         if self.sees_punctuator(".") {
@@ -188,15 +192,16 @@ impl<'t, 's> Parser<'t, 's> {
 
     /// Reads a member by name (12.3.2), with its `.` ahead, from the object before it.
     #[inline(never)]
-    pub(crate) fn dot_member(&mut self, left: Operand<'s>, high: u32) -> Result<Operand<'s>, Fault>
+    pub(crate) fn dot_member(&mut self, left: Operand, high: u32) -> Result<Operand, Fault>
         requires dot { Sees self.old.cursor.text TokenClass.Punctuator (codes ".") self.old.cursor.last }
         ensures text { self.new.cursor.text ≡ self.old.cursor.text }
         ensures forward { self.old.cursor.last.stop ≤ self.new.cursor.last.stop }
+        ensures waits { (base : Parts) → self.old.tree ≡ push base left.cover.node → IfOk result (λ part. self.new.tree ≡ push base part.cover.node) }
         ensures passes { IfOk result (λ _. Passes self.old.cursor self.new.cursor) }
-        ensures derived { IfOk result (λ part. Adds self.old.cursor self.new.cursor self.old.pairs.items self.new.pairs.items (Links self.old.cursor.text left.entry part)) }
+        ensures derived { IfOk result (λ part. Adds self.old.cursor self.new.cursor self.old.pairs.items self.new.pairs.items (Links self.old.cursor.text left part)) }
         ensures low { IfOk result (λ part. height part.cover.node ≤ high) }
-        ensures own { IfOk result (λ part. OfLanguage self.old.cursor.text left.entry.cover.node → OfLanguage self.old.cursor.text part.cover.node) }
-        ensures complete { SubscriptComplete self.old.cursor self.new.cursor self.old.pairs.items self.new.pairs.items high left.entry result }
+        ensures own { IfOk result (λ part. OfLanguage self.old.cursor.text left.cover.node → OfLanguage self.old.cursor.text part.cover.node) }
+        ensures complete { SubscriptComplete self.old.cursor self.new.cursor self.old.pairs.items self.new.pairs.items high left result }
         ensures refused { IfErr result (IsRefusal self.new.cursor.text) }
     {
         if !accepts_rank(Rank::Call, left.rank) {
@@ -205,32 +210,37 @@ impl<'t, 's> Parser<'t, 's> {
         let start = left.start;
         let is_call = matches!(left.rank, Rank::Call);
         let inner = high.saturating_sub(1);
-        let mut nodes = MeasuredParts::one(self.alloc, self.into_expression(left)?)?;
+        let mut nodes = MeasuredParts::one(self.into_expression(left)?);
         self.expect_punctuator(".")?;
         let name = self.member_name()?;
-        nodes.push(self.token_node(member_kind(&name), name, inner)?)?;
-        let span = self.span_from(start);
+        nodes.push(token_node(&mut self.tree, member_kind(&name), name, inner)?)?;
+        let span = span_from(&self.cursor, start);
         let flags = Subscript::Name.flags(false);
-        let node = finish_node(Kind::MemberExpression, "", flags, span, nodes, high)?;
+        let node = finish_node(
+            &mut self.tree,
+            Kind::MemberExpression,
+            "",
+            flags,
+            span,
+            nodes,
+            high,
+        )?;
         Ok(Operand::plain(node, Subscript::Name.rank(is_call), Edge::Other))
     }
 
     /// Reads a call (12.3.6), with its `(` ahead, from the callee before it.
     #[cycle(grammar)]
     #[inline(never)]
-    pub(crate) fn call_expression(
-        &mut self,
-        left: Operand<'s>,
-        high: u32,
-    ) -> Result<Operand<'s>, Fault>
+    pub(crate) fn call_expression(&mut self, left: Operand, high: u32) -> Result<Operand, Fault>
         requires calls { LinkedAt self.old.cursor self.old.cursor Subscript.Arguments false }
         ensures text { self.new.cursor.text ≡ self.old.cursor.text }
         ensures forward { self.old.cursor.last.stop ≤ self.new.cursor.last.stop }
+        ensures waits { (base : Parts) → self.old.tree ≡ push base left.cover.node → IfOk result (λ part. self.new.tree ≡ push base part.cover.node) }
         ensures passes { IfOk result (λ _. Passes self.old.cursor self.new.cursor) }
-        ensures derived { IfOk result (λ part. Adds self.old.cursor self.new.cursor self.old.pairs.items self.new.pairs.items (Links self.old.cursor.text left.entry part)) }
+        ensures derived { IfOk result (λ part. Adds self.old.cursor self.new.cursor self.old.pairs.items self.new.pairs.items (Links self.old.cursor.text left part)) }
         ensures low { IfOk result (λ part. height part.cover.node ≤ high) }
-        ensures own { IfOk result (λ part. OfLanguage self.old.cursor.text left.entry.cover.node → OfLanguage self.old.cursor.text part.cover.node) }
-        ensures complete { SubscriptComplete self.old.cursor self.new.cursor self.old.pairs.items self.new.pairs.items high left.entry result }
+        ensures own { IfOk result (λ part. OfLanguage self.old.cursor.text left.cover.node → OfLanguage self.old.cursor.text part.cover.node) }
+        ensures complete { SubscriptComplete self.old.cursor self.new.cursor self.old.pairs.items self.new.pairs.items high left result }
         ensures refused { IfErr result (IsRefusal self.new.cursor.text) }
     {
         if !accepts_rank(Rank::Call, left.rank) {
@@ -239,24 +249,26 @@ impl<'t, 's> Parser<'t, 's> {
         let start = left.start;
         let callee = self.into_expression(left)?;
         let arguments = self.arguments(high.saturating_sub(1))?;
-        let mut nodes = MeasuredParts::with_room(self.alloc, callee, arguments.len())?;
+        let mut nodes = MeasuredParts::one(callee);
         nodes.append(arguments)?;
-        let node = finish_plain(Kind::CallExpression, self.span_from(start), nodes, high)?;
+        let span = span_from(&self.cursor, start);
+        let node = finish_plain(&mut self.tree, Kind::CallExpression, span, nodes, high)?;
         Ok(Operand::plain(node, Rank::Call, Edge::Other))
     }
 
     /// Reads a member by index (12.3.2), with its `[` ahead, from the object before it.
     #[cycle(grammar)]
     #[inline(never)]
-    fn index_member(&mut self, left: Operand<'s>, high: u32) -> Result<Operand<'s>, Fault>
+    fn index_member(&mut self, left: Operand, high: u32) -> Result<Operand, Fault>
         requires indexes { LinkedAt self.old.cursor self.old.cursor Subscript.Index false }
         ensures text { self.new.cursor.text ≡ self.old.cursor.text }
         ensures forward { self.old.cursor.last.stop ≤ self.new.cursor.last.stop }
+        ensures waits { (base : Parts) → self.old.tree ≡ push base left.cover.node → IfOk result (λ part. self.new.tree ≡ push base part.cover.node) }
         ensures passes { IfOk result (λ _. Passes self.old.cursor self.new.cursor) }
-        ensures derived { IfOk result (λ part. Adds self.old.cursor self.new.cursor self.old.pairs.items self.new.pairs.items (Links self.old.cursor.text left.entry part)) }
+        ensures derived { IfOk result (λ part. Adds self.old.cursor self.new.cursor self.old.pairs.items self.new.pairs.items (Links self.old.cursor.text left part)) }
         ensures low { IfOk result (λ part. height part.cover.node ≤ high) }
-        ensures own { IfOk result (λ part. OfLanguage self.old.cursor.text left.entry.cover.node → OfLanguage self.old.cursor.text part.cover.node) }
-        ensures complete { SubscriptComplete self.old.cursor self.new.cursor self.old.pairs.items self.new.pairs.items high left.entry result }
+        ensures own { IfOk result (λ part. OfLanguage self.old.cursor.text left.cover.node → OfLanguage self.old.cursor.text part.cover.node) }
+        ensures complete { SubscriptComplete self.old.cursor self.new.cursor self.old.pairs.items self.new.pairs.items high left result }
         ensures refused { IfErr result (IsRefusal self.new.cursor.text) }
     {
         if !accepts_rank(Rank::Call, left.rank) {
@@ -265,28 +277,37 @@ impl<'t, 's> Parser<'t, 's> {
         let start = left.start;
         let is_call = matches!(left.rank, Rank::Call);
         let inner = high.saturating_sub(1);
-        let mut nodes = MeasuredParts::one(self.alloc, self.into_expression(left)?)?;
+        let mut nodes = MeasuredParts::one(self.into_expression(left)?);
         self.expect_punctuator("[")?;
         let index = self.expression(ExpressionContext::EXPRESSION, inner)?;
         nodes.push(self.into_expression(index)?)?;
         self.expect_punctuator("]")?;
-        let span = self.span_from(start);
+        let span = span_from(&self.cursor, start);
         let flags = Subscript::Index.flags(false);
-        let node = finish_node(Kind::MemberExpression, "", flags, span, nodes, high)?;
+        let node = finish_node(
+            &mut self.tree,
+            Kind::MemberExpression,
+            "",
+            flags,
+            span,
+            nodes,
+            high,
+        )?;
         Ok(Operand::plain(node, Subscript::Index.rank(is_call), Edge::Other))
     }
 
     /// Reads a tagged template, what stands after `?.`, or another member or call, from the expression before it.
     #[cycle(grammar)]
     #[inline(never)]
-    fn other_subscript(&mut self, left: Operand<'s>, high: u32) -> Result<Operand<'s>, Fault>
+    fn other_subscript(&mut self, left: Operand, high: u32) -> Result<Operand, Fault>
         ensures text { self.new.cursor.text ≡ self.old.cursor.text }
         ensures forward { self.old.cursor.last.stop ≤ self.new.cursor.last.stop }
+        ensures waits { (base : Parts) → self.old.tree ≡ push base left.cover.node → IfOk result (λ part. self.new.tree ≡ push base part.cover.node) }
         ensures passes { IfOk result (λ _. Passes self.old.cursor self.new.cursor) }
-        ensures derived { IfOk result (λ part. Adds self.old.cursor self.new.cursor self.old.pairs.items self.new.pairs.items (Links self.old.cursor.text left.entry part)) }
+        ensures derived { IfOk result (λ part. Adds self.old.cursor self.new.cursor self.old.pairs.items self.new.pairs.items (Links self.old.cursor.text left part)) }
         ensures low { IfOk result (λ part. height part.cover.node ≤ high) }
-        ensures own { IfOk result (λ part. OfLanguage self.old.cursor.text left.entry.cover.node → OfLanguage self.old.cursor.text part.cover.node) }
-        ensures complete { SubscriptComplete self.old.cursor self.new.cursor self.old.pairs.items self.new.pairs.items high left.entry result }
+        ensures own { IfOk result (λ part. OfLanguage self.old.cursor.text left.cover.node → OfLanguage self.old.cursor.text part.cover.node) }
+        ensures complete { SubscriptComplete self.old.cursor self.new.cursor self.old.pairs.items self.new.pairs.items high left result }
         ensures refused { IfErr result (IsRefusal self.new.cursor.text) }
     {
         if !accepts_rank(Rank::Call, left.rank) {
@@ -294,13 +315,13 @@ impl<'t, 's> Parser<'t, 's> {
         }
         let start = left.start;
         let is_call = matches!(left.rank, Rank::Call);
-        let mut nodes = MeasuredParts::one(self.alloc, self.into_expression(left)?)?;
+        let mut nodes = MeasuredParts::one(self.into_expression(left)?);
         let inner = high.saturating_sub(1);
         let (found, optional) = self.subscript_start()?;
         match found {
             Subscript::Name => {
                 let name = self.member_name()?;
-                nodes.push(self.token_node(member_kind(&name), name, inner)?)?;
+                nodes.push(token_node(&mut self.tree, member_kind(&name), name, inner)?)?;
             }
             Subscript::Index => {
                 self.expect_punctuator("[")?;
@@ -312,20 +333,29 @@ impl<'t, 's> Parser<'t, 's> {
             Subscript::Quasi => {
                 let list = self.open(ListKind::Template, inner.saturating_sub(1))?;
                 let list = self.list(list, inner.saturating_sub(1))?;
-                nodes.push(finish_list(list, inner)?.cover.node)?;
+                nodes.push(finish_list(&mut self.tree, list, inner)?.cover.node)?;
             }
         }
-        let span = self.span_from(start);
-        let node = finish_node(found.kind(), "", found.flags(optional), span, nodes, high)?;
+        let span = span_from(&self.cursor, start);
+        let node = finish_node(
+            &mut self.tree,
+            found.kind(),
+            "",
+            found.flags(optional),
+            span,
+            nodes,
+            high,
+        )?;
         Ok(Operand::plain(node, found.rank(is_call), Edge::Other))
     }
 
     /// Arguments in their parentheses, which stand ahead (12.3.8).
     #[cycle(grammar)]
     #[inline(never)]
-    pub(crate) fn arguments(&mut self, high: u32) -> Result<MeasuredParts<'s>, Fault>
+    pub(crate) fn arguments(&mut self, high: u32) -> Result<MeasuredParts, Fault>
         ensures text { self.new.cursor.text ≡ self.old.cursor.text }
         ensures forward { self.old.cursor.last.stop ≤ self.new.cursor.last.stop }
+        ensures waits { IfOk result (λ nodes. self.new.tree ≡ join self.old.tree nodes) }
         ensures passes { IfOk result (λ _. Passes self.old.cursor self.new.cursor) }
         ensures derived { IfOk result (λ nodes. Adds self.old.cursor self.new.cursor self.old.pairs.items self.new.pairs.items (ArgumentsAt self.old.cursor.text nodes)) }
         ensures low { IfOk result (λ nodes. parts_height nodes ≤ high) }
@@ -340,20 +370,17 @@ impl<'t, 's> Parser<'t, 's> {
     /// An optional chain (12.3.9) from what stands before its first `?.`, which stands ahead.
     #[cycle(grammar)]
     #[inline(never)]
-    pub(crate) fn optional_chain(
-        &mut self,
-        left: Operand<'s>,
-        high: u32,
-    ) -> Result<Operand<'s>, Fault>
+    pub(crate) fn optional_chain(&mut self, left: Operand, high: u32) -> Result<Operand, Fault>
         requires chains { Sees self.old.cursor.text TokenClass.Punctuator (codes "?.") self.old.cursor.last }
         ensures text { self.new.cursor.text ≡ self.old.cursor.text }
         ensures forward { self.old.cursor.last.stop ≤ self.new.cursor.last.stop }
+        ensures waits { (base : Parts) → self.old.tree ≡ push base left.cover.node → IfOk result (λ part. self.new.tree ≡ push base part.cover.node) }
         ensures passes { IfOk result (λ _. Passes self.old.cursor self.new.cursor) }
-        ensures derived { IfOk result (λ part. Adds self.old.cursor self.new.cursor self.old.pairs.items self.new.pairs.items (λ o m e Q. (i : Bool) → GoesOn self.old.cursor.text i left.entry part o m e Q)) }
+        ensures derived { IfOk result (λ part. Adds self.old.cursor self.new.cursor self.old.pairs.items self.new.pairs.items (λ o m e Q. (i : Bool) → GoesOn self.old.cursor.text i left part o m e Q)) }
         ensures rank { IfOk result (λ part. part.rank ≡ Rank.LeftHandSide) }
         ensures low { IfOk result (λ part. height part.cover.node ≤ high) }
-        ensures own { IfOk result (λ part. OfLanguage self.old.cursor.text left.entry.cover.node → OfLanguage self.old.cursor.text part.cover.node) }
-        ensures complete { ChainComplete self.old.cursor self.new.cursor self.old.pairs.items self.new.pairs.items high left.entry result }
+        ensures own { IfOk result (λ part. OfLanguage self.old.cursor.text left.cover.node → OfLanguage self.old.cursor.text part.cover.node) }
+        ensures complete { ChainComplete self.old.cursor self.new.cursor self.old.pairs.items self.new.pairs.items high left result }
         ensures refused { IfErr result (IsRefusal self.new.cursor.text) }
     {
         let start = left.start;
@@ -365,8 +392,9 @@ impl<'t, 's> Parser<'t, 's> {
             }
             part = self.subscript(part, inner)?;
         }
-        let nodes = MeasuredParts::only(self.alloc, self.into_expression(part)?)?;
-        let node = finish_plain(Kind::ChainExpression, self.span_from(start), nodes, high)?;
+        let nodes = MeasuredParts::one(self.into_expression(part)?);
+        let span = span_from(&self.cursor, start);
+        let node = finish_plain(&mut self.tree, Kind::ChainExpression, span, nodes, high)?;
         Ok(Operand::plain(node, Rank::LeftHandSide, Edge::Other))
     }
 

@@ -9,13 +9,14 @@ ghost use Rattle.tree.specs.NodeText.{text_bytes};
 ghost use Rattle.language.specs.Later.{has_later};
 ghost use Rattle.recursive_descent.specs.TemplateElements.{front, back, Holds, part_node};
 ghost use Rattle.token_cursor.specs.Refusals.{IsLimit};
+ghost use Rattle.tree.specs.Tree.{push};
 
 use covers::ListItem;
 use productions::MeasuredNode;
 use source_text::Fault;
 use std::alloc::Global;
 use tokens::{Token, TokenClass, template_value};
-use tree::{Kind, NodeText, Span};
+use tree::{Kind, NodeText, Span, TreeBuilder};
 
 /// Whether the token begins with `}`.
 fn is_after_brace(token: &Token<'_>) -> bool
@@ -111,26 +112,23 @@ fn raw_of<'s>(alloc: Global, text: &'s str) -> Result<NodeText<'s>, Fault>
 /// # Errors
 /// `TooDeep` where `high` is 0, `OutOfMemory`.
 pub(crate) fn template_element<'s>(
+    tree: &mut TreeBuilder<'s>,
     alloc: Global,
     token: Token<'s>,
     high: u32,
-) -> Result<ListItem<'s>, Fault>
+) -> Result<ListItem, Fault>
     ensures made { IfOk result (λ item. (first last : Bool) (word : List ℕ) → Holds token.entry.text.now first last word → token.entry.end ≡ token.entry.start + length token.entry.text.now → (item.node ≡ part_node token.entry.start word) × (item.is_flagged ≡ last)) }
     ensures plain { IfOk result (λ item. (item.shape.is_expression ≡ true) × (item.spreads ≡ false)) }
     ensures own { IfOk result (λ item. has_later item.node ≡ false) }
+    ensures waits { IfOk result (λ item. tree.new ≡ push tree.old item.node) }
     ensures deep { IfErr result (λ fault. fault ≡ Fault.TooDeep → high ≡ 0) }
     ensures refused { IfErr result IsLimit }
 {
     let (text, is_tail) = without_delimiters(token.text);
     let span = span_inside(&token, text);
     let raw = raw_of(alloc, text)?;
-    let mut item = ListItem::plain(MeasuredNode::leaf(
-        alloc,
-        Kind::TemplateElement,
-        raw,
-        span,
-        high,
-    )?);
+    let kind = Kind::TemplateElement;
+    let mut item = ListItem::plain(MeasuredNode::leaf(tree, kind, raw, span, high)?);
     item.is_flagged = is_tail;
     Ok(item)
 }

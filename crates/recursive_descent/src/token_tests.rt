@@ -17,6 +17,7 @@ ghost use Rattle.token_cursor.specs.Seen.{ReadsHere, Sees, Misses, NameHere, NoN
 
 use crate::parser::Parser;
 use source_text::Fault;
+use token_cursor::Cursor;
 use tokens::{Token, TokenClass};
 use tree::Span;
 
@@ -35,6 +36,7 @@ impl<'t, 's> Parser<'t, 's> {
         requires ahead { IsAheadBySome self.old.cursor.text self.old.cursor.last.stop (token_of token) }
         requires real { token.class ≢ TokenClass.End }
         ensures text { self.new.cursor.text ≡ self.old.cursor.text }
+        ensures same_tree { self.new.tree ≡ self.old.tree }
         ensures last { self.new.cursor.last ≡ unseen (as_read (token_of token.entry)) }
         ensures same_open { self.new.cursor.opened ≡ self.old.cursor.opened }
         ensures same_pairs { self.new.pairs.items ≡ self.old.pairs.items }
@@ -89,6 +91,7 @@ impl<'t, 's> Parser<'t, 's> {
     pub(crate) fn accept_punctuator(&mut self, mark: &str) -> bool
         ensures text { self.new.cursor.text ≡ self.old.cursor.text }
         ensures forward { self.old.cursor.last.stop ≤ self.new.cursor.last.stop }
+        ensures same_tree { self.new.tree ≡ self.old.tree }
         ensures passes { OnTrue result (Passes self.old.cursor self.new.cursor) }
         ensures same_open { self.new.cursor.opened ≡ self.old.cursor.opened }
         ensures same_pairs { self.new.pairs.items ≡ self.old.pairs.items }
@@ -103,6 +106,7 @@ impl<'t, 's> Parser<'t, 's> {
     pub(crate) fn accept_word(&mut self, word: &str) -> bool
         ensures text { self.new.cursor.text ≡ self.old.cursor.text }
         ensures forward { self.old.cursor.last.stop ≤ self.new.cursor.last.stop }
+        ensures same_tree { self.new.tree ≡ self.old.tree }
         ensures passes { OnTrue result (Passes self.old.cursor self.new.cursor) }
         ensures same_open { self.new.cursor.opened ≡ self.old.cursor.opened }
         ensures same_pairs { self.new.pairs.items ≡ self.old.pairs.items }
@@ -116,6 +120,7 @@ impl<'t, 's> Parser<'t, 's> {
     pub(crate) fn expect_punctuator(&mut self, mark: &str) -> Result<usize, Fault>
         ensures text { self.new.cursor.text ≡ self.old.cursor.text }
         ensures forward { self.old.cursor.last.stop ≤ self.new.cursor.last.stop }
+        ensures same_tree { self.new.tree ≡ self.old.tree }
         ensures passes { IfOk result (λ _. Passes self.old.cursor self.new.cursor) }
         ensures refused { IfErr result (IsRefusal self.new.cursor.text) }
         ensures same_open { self.new.cursor.opened ≡ self.old.cursor.opened }
@@ -131,6 +136,7 @@ impl<'t, 's> Parser<'t, 's> {
     pub(crate) fn expect_word(&mut self, word: &str) -> Result<Token<'s>, Fault>
         ensures text { self.new.cursor.text ≡ self.old.cursor.text }
         ensures forward { self.old.cursor.last.stop ≤ self.new.cursor.last.stop }
+        ensures same_tree { self.new.tree ≡ self.old.tree }
         ensures passes { IfOk result (λ _. Passes self.old.cursor self.new.cursor) }
         ensures refused { IfErr result (IsRefusal self.new.cursor.text) }
         ensures same_open { self.new.cursor.opened ≡ self.old.cursor.opened }
@@ -146,6 +152,7 @@ impl<'t, 's> Parser<'t, 's> {
     pub(crate) fn identifier_name(&mut self) -> Result<Token<'s>, Fault>
         ensures text { self.new.cursor.text ≡ self.old.cursor.text }
         ensures forward { self.old.cursor.last.stop ≤ self.new.cursor.last.stop }
+        ensures same_tree { self.new.tree ≡ self.old.tree }
         ensures passes { IfOk result (λ _. Passes self.old.cursor self.new.cursor) }
         ensures refused { IfErr result (IsRefusal self.new.cursor.text) }
         ensures same_open { self.new.cursor.opened ≡ self.old.cursor.opened }
@@ -162,6 +169,7 @@ impl<'t, 's> Parser<'t, 's> {
     pub(crate) fn identifier(&mut self) -> Result<Token<'s>, Fault>
         ensures text { self.new.cursor.text ≡ self.old.cursor.text }
         ensures forward { self.old.cursor.last.stop ≤ self.new.cursor.last.stop }
+        ensures same_tree { self.new.tree ≡ self.old.tree }
         ensures passes { IfOk result (λ _. Passes self.old.cursor self.new.cursor) }
         ensures refused { IfErr result (IsRefusal self.new.cursor.text) }
         ensures same_open { self.new.cursor.opened ≡ self.old.cursor.opened }
@@ -177,6 +185,7 @@ impl<'t, 's> Parser<'t, 's> {
     pub(crate) fn declaration_word(&mut self) -> Option<Token<'s>>
         ensures text { self.new.cursor.text ≡ self.old.cursor.text }
         ensures forward { self.old.cursor.last.stop ≤ self.new.cursor.last.stop }
+        ensures same_tree { self.new.tree ≡ self.old.tree }
         ensures same_open { self.new.cursor.opened ≡ self.old.cursor.opened }
         ensures same_pairs { self.new.pairs.items ≡ self.old.pairs.items }
         ensures accepted { IfSome result (λ token. NameHere self.old.cursor.text declares self.old.cursor.last self.new.cursor.last × (self.new.cursor.last ≡ as_read (token_of token))) }
@@ -184,14 +193,14 @@ impl<'t, 's> Parser<'t, 's> {
     {
         self.cursor.accept_declaration_word()
     }
+}
 
-    /// From a place to the end of the last token.
-    pub(crate) fn span_from(&self, start: usize) -> Span
-        ensures { result ≡ record { start = start; end = self.now.cursor.last.stop } }
-    {
-        Span {
-            start,
-            end: self.cursor.last_end(),
-        }
+/// From a place to the end of the last token.
+pub(crate) fn span_from(cursor: &Cursor<'_, '_>, start: usize) -> Span
+    ensures { result ≡ record { start = start; end = cursor.now.last.stop } }
+{
+    Span {
+        start,
+        end: cursor.last_end(),
     }
 }

@@ -88,12 +88,12 @@ mark_of false false true e f g n h r t m z k l = absurd (true_false _ refl k)
 mark_of false true d e f g n h r t m z k l = absurd (true_false _ refl k)
 mark_of true b d e f g n h r t m z k l = absurd (true_false _ refl k)
 
-name_class : (goal : Goal) (c : ℕ) (cs : List ℕ) → IsTrue (is_identifier_start c) → IdentifierName ≡ class_of goal (c ∷ cs)
+pub name_class : (goal : Goal) (c : ℕ) (cs : List ℕ) → IsTrue (is_identifier_start c) → IdentifierName ≡ class_of goal (c ∷ cs)
 name_class goal c cs h =
     none_of (is_decimal_digit c) (one_of "'\"" c) (one_of "`" c) (one_of "}" c) (one_of "/" c) (one_of "." c) (one_of "#" c) (is_mark c)
     (if reads_regexps goal then LexicalClass.RegularExpressionLiteral else Punctuator) (if reads_template_parts goal then Template else Punctuator) (if begins_with is_decimal_digit cs then NumericLiteral else Punctuator) (start_plain c h)
 
-mark_class : (goal : Goal) (c : ℕ) (cs : List ℕ) → IsTrue (is_mark c) → Punctuator ≡ class_of goal (c ∷ cs)
+pub mark_class : (goal : Goal) (c : ℕ) (cs : List ℕ) → IsTrue (is_mark c) → Punctuator ≡ class_of goal (c ∷ cs)
 mark_class goal c cs h =
     mark_of (is_decimal_digit c) (one_of "'\"" c) (one_of "`" c) (one_of "}" c) (one_of "/" c) (one_of "." c) (one_of "#" c) (is_mark c)
     (if reads_regexps goal then LexicalClass.RegularExpressionLiteral else Punctuator) (if reads_template_parts goal then Template else Punctuator) (if begins_with is_decimal_digit cs then NumericLiteral else Punctuator) IdentifierName (others c h) h where

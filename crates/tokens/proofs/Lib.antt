@@ -7,6 +7,8 @@ pub mod TriviaSteps
 pub mod Names
 pub mod PrivateNames
 pub mod Hashbangs
+pub mod PlainRuns
+pub mod QuickLexemes
 pub mod Sets
 pub mod Classes
 pub mod TokenUniqueness

@@ -1,9 +1,11 @@
 -- Names: the longest.
-use Rattle.std.proofs.Common.{◌≡◌, ℕ, ◌+◌, ◌<◌, Bool, true, false, not, ◌&&◌, ◌||◌, ◌==◌, nat_eq, get_or, length, List, [], ◌∷◌, ◌++◌, IsTrue, IsFalse, refl, sym, ap, ◌∙◌, subst, arith}
+use Rattle.std.proofs.Common.{◌≡◌, ℕ, ◌+◌, ◌<◌, ◌≤◌, Bool, true, false, not, ◌&&◌, ◌||◌, ◌==◌, nat_eq, get_or, length, List, [], ◌∷◌, ◌++◌, IsTrue, IsFalse, refl, sym, ap, ◌∙◌, subst, arith, inl, inr}
 use Rattle.std.specs.Char.{is_ascii, is_ascii_alphabetic, is_ascii_alphanumeric}
 use Rattle.std.specs.List.{list_all}
 use Rattle.std.specs.Str.{IsUtf8}
+use Rattle.std.proofs.lemmas.Bool.{cases_lt}
 use Rattle.std.proofs.lemmas.Bool.Decides.{nat_tests}
+use Rattle.source_text.specs.Source.{IsPlace}
 use Rattle.unicode_ident.specs.Ident.{is_xid_continue}
 use Rattle.unicode_ident.proofs.IdentLemmas.{is_xid_start-ascii, is_xid_continue-ascii}
 use Rattle.tokens.specs.Alphabet.{one_of, is_among, begins_with, is_identifier_start, is_identifier_part}
@@ -11,10 +13,10 @@ use Rattle.tokens.specs.declared.name.TheConstants.{PARTS}
 use Rattle.tokens.specs.Lexical.{IdentifierName, none_longer, is_token}
 use Rattle.tokens.specs.Reading.{behind}
 use Rattle.tokens.specs.Scanned.{Passed, AllPass, IsRun, IsWordAt, NoWordAt}
-use Rattle.tokens.proofs.PassedCharacters.{pass_ascii, passed_on}
+use Rattle.tokens.proofs.PassedCharacters.{behind_end, no_ascii_far, pass_byte, passed_on}
 use Rattle.tokens.proofs.Beginnings.{true_false}
 use Rattle.tokens.proofs.Sets.{agree}
-use Rattle.tokens.proofs.TriviaSteps.{all_append, all_goes_on}
+use Rattle.tokens.proofs.TriviaSteps.{all_append, over_byte}
 use Rattle.tokens.proofs.Longest.{none_is_longer}
 
 -- the identifier characters of ASCII
@@ -42,12 +44,45 @@ is_small c lt = grind (arith, nat_tests)
 pub over_part : (text bytes : List ℕ) (at stop : ℕ) → IsUtf8 text → bytes ≡ text → AllPass is_identifier_part text at stop → stop < length bytes →
     (one_of "$_" (get_or bytes stop 0) || is_ascii_alphanumeric (get_or bytes stop 0)) ≡ true → AllPass is_identifier_part text at (stop + 1)
 over_part text bytes at stop u e h lt part =
-    let c = get_or text stop 0 in
-    let is : (one_of "$_" c || is_ascii_alphanumeric c) ≡ true = subst (λ x. (one_of "$_" (get_or x stop 0) || is_ascii_alphanumeric (get_or x stop 0)) ≡ true) e part in
-    let low = part_is_small c is in
-    let within : stop < length text = subst (λ x. stop < length x) e lt in
-    all_goes_on is_identifier_part text at stop (stop + 1) c h (pass_ascii text stop u h.passed.place within low)
-    (subst IsTrue (sym (sym (ascii_part c (is_small c low)) ∙ is)) refl)
+    let c = get_or bytes stop 0 in
+    let low = part_is_small c part in
+    over_byte is_identifier_part text bytes at stop u e h lt low (sym (ascii_part c (is_small c low)) ∙ part)
+
+-- where the run of those of ASCII stops
+pub parts_stop : (text bytes : List ℕ) (at : ℕ) → IsUtf8 text → bytes ≡ text → IsPlace text at →
+    (at < length bytes → (one_of "$_" (get_or bytes at 0) || is_ascii_alphanumeric (get_or bytes at 0)) ≡ false) → IsFalse (begins_with (λ c. is_ascii c && is_identifier_part c) (behind text at))
+parts_stop text bytes at u e p none =
+    elim (cases_lt at (length bytes)) [
+      | inl lt ↦ elim (cases_lt (get_or bytes at 0) 128) [
+        | inl low ↦
+            let c = get_or bytes at 0 in
+            let q = pass_byte text bytes at u e p lt low in
+            ap (begins_with (λ x. is_ascii x && is_identifier_part x)) q.split ∙ second (is_ascii c) (is_identifier_part c) (sym (ascii_part c (is_small c low)) ∙ none lt)
+        | inr far ↦ both_begin is_ascii is_identifier_part (behind text at)
+            (no_ascii_far text at u p (subst (λ (x : List ℕ). at < length x) e lt) (subst (λ (x : List ℕ). 128 ≤ get_or x at 0) e far))
+      ]
+      | inr ge ↦ ap (begins_with (λ x. is_ascii x && is_identifier_part x)) (behind_end text at (subst (λ (x : List ℕ). length x ≤ at) e ge))
+    ] where
+      second : (a b : Bool) → b ≡ false → (a && b) ≡ false
+      second a b h = grind (arith, nat_tests)
+
+      first : (a b : Bool) → a ≡ false → (a && b) ≡ false
+      first a b h = grind (arith, nat_tests)
+
+      both_begin : (f g : ℕ → Bool) (cs : List ℕ) → IsFalse (begins_with f cs) → IsFalse (begins_with (λ x. f x && g x) cs)
+      both_begin f g [] h = refl
+      both_begin f g (c ∷ cs) h = first (f c) (g c) h
+
+-- a run of those of ASCII is one of all where a character of ASCII follows it
+pub ascii_run : (text : List ℕ) (at stop more c : ℕ) → AllPass is_identifier_part text at stop → IsFalse (begins_with (λ x. is_ascii x && is_identifier_part x) (behind text stop)) →
+    Passed text stop more (c ∷ []) → c < 128 → IsRun is_identifier_part text at stop
+ascii_run text at stop more c h s p lt =
+    record {
+      run = h;
+      ends = ap (begins_with is_identifier_part) p.split ∙ ends (is_ascii c) (is_identifier_part c) (is_small c lt) (sym (ap (begins_with (λ x. is_ascii x && is_identifier_part x)) p.split) ∙ s);
+    } where
+      ends : (a b : Bool) → a ≡ true → (a && b) ≡ false → b ≡ false
+      ends a b h k = grind (arith, nat_tests)
 
 pub parts_joined : (text : List ℕ) (at mid stop : ℕ) → AllPass is_identifier_part text at mid → AllPass is_identifier_part text mid stop → AllPass is_identifier_part text at stop
 parts_joined text at mid stop h k =

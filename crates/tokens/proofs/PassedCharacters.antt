@@ -1,5 +1,5 @@
 -- What is passed from one place of a text to another, as characters.
-use Rattle.std.proofs.Common.{◌≡◌, ℕ, ◌+◌, ◌-◌, ◌<◌, ◌≤◌, List, [], ◌∷◌, ◌++◌, length, get_or, take, drop, refl, sym, ap, ◌∙◌, arith, append_assoc, append-nil, length-append, IsFalse, inl, inr}
+use Rattle.std.proofs.Common.{◌≡◌, ℕ, ◌+◌, ◌-◌, ◌<◌, ◌≤◌, List, [], ◌∷◌, ◌++◌, length, get_or, take, drop, refl, sym, ap, ◌∙◌, subst, arith, append_assoc, append-nil, length-append, IsFalse, inl, inr}
 use Rattle.std.specs.Prelude.{slice_range, encode_utf8_all, Option, Some, None, IfSome, IfNone}
 use Rattle.std.specs.Char.{encode_utf8, len_utf8, is_ascii}
 use Rattle.std.specs.Str.{chars, IsUtf8}
@@ -49,6 +49,10 @@ pass_ascii text at u p lt h =
       reaches = omega arith;
       place = IsCharBoundary-after_ascii text at u lt h;
     }
+
+-- the same, by the bytes of the text
+pub pass_byte : (text bytes : List ℕ) (at : ℕ) → IsUtf8 text → bytes ≡ text → IsPlace text at → at < length bytes → get_or bytes at 0 < 128 → Passed text at (at + 1) (get_or bytes at 0 ∷ [])
+pass_byte text bytes at u e p = subst (λ (x : List ℕ). at < length x → get_or x at 0 < 128 → Passed text at (at + 1) (get_or x at 0 ∷ [])) (sym e) (pass_ascii text at u p)
 
 -- where no ASCII character stands
 pub no_ascii_end : (text : List ℕ) (at : ℕ) → length text ≤ at → IsFalse (begins_with is_ascii (behind text at))

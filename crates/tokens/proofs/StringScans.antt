@@ -247,7 +247,7 @@ abbrev pub all_before : List ℕ → Option (List ℕ) → Option (List ℕ)
 all_before [] o = o
 all_before (c ∷ w) o = before c (all_before w o)
 
-all_before_append : (v w : List ℕ) (o : Option (List ℕ)) → all_before (v ++ w) o ≡ all_before v (all_before w o)
+pub all_before_append : (v w : List ℕ) (o : Option (List ℕ)) → all_before (v ++ w) o ≡ all_before v (all_before w o)
 all_before_append [] w o = refl
 all_before_append (c ∷ v) w o = ap (before c) (all_before_append v w o)
 

@@ -1,6 +1,7 @@
 -- Separators, step by step, and where they end.
-use Rattle.std.proofs.Common.{◌≡◌, ℕ, ◌-◌, ◌<◌, length, Bool, true, false, not, ◌&&◌, ◌||◌, List, [], ◌∷◌, ◌++◌, IsTrue, IsFalse, refl, sym, ap, ◌∙◌, subst, arith, append_assoc, append-nil, inl, inr, ◌⊎◌, if◌then◌else◌}
+use Rattle.std.proofs.Common.{◌≡◌, ℕ, ◌+◌, ◌-◌, ◌<◌, length, get_or, Bool, true, false, not, ◌&&◌, ◌||◌, ◌==◌, List, [], ◌∷◌, ◌++◌, IsTrue, IsFalse, refl, sym, ap, ◌∙◌, subst, arith, append_assoc, append-nil, inl, inr, ◌⊎◌, if◌then◌else◌}
 use Rattle.std.specs.List.{list_all, list_any}
+use Rattle.std.specs.Str.{IsUtf8}
 use Rattle.std.proofs.lemmas.Bool.Decides.{nat_tests}
 use Rattle.source_text.specs.Lines.{is_line_terminator}
 use Rattle.tokens.specs.Alphabet.{one_of, begins_with, is_empty, is_white_space}
@@ -9,7 +10,7 @@ use Rattle.tokens.specs.Closers.{closes_from, is_plain}
 use Rattle.tokens.specs.Reading.{behind}
 use Rattle.tokens.specs.Scanned.{Passed, AllPass, IsRun, IsBlockRest, NoBlockRest, IsCommentRest, NoCommentRest, IsSeparator, IsSolid, IsGap}
 use Rattle.source_text.specs.Source.{IsPlace}
-use Rattle.tokens.proofs.PassedCharacters.{passed_none, passed_on, passed_ordered}
+use Rattle.tokens.proofs.PassedCharacters.{pass_byte, passed_none, passed_on, passed_ordered}
 use Rattle.tokens.proofs.Beginnings.{true_false}
 
 pub any_append : (test : ℕ → Bool) (v w : List ℕ) → list_any test (v ++ w) ≡ (list_any test v || list_any test w)
@@ -50,6 +51,17 @@ all_weaker test weaker f (c ∷ w) h = both (test c) (list_all test w) (weaker c
 pub all_shrinks : {test : ℕ → Bool} (text : List ℕ) (at stop more : ℕ) → at < stop → AllPass test text stop more → length text - more < length text - at
 all_shrinks text at stop more lt h = let o = passed_ordered text stop more h.word h.passed in let i = h.passed.place.0 in omega arith
 
+-- over one more byte of ASCII
+pub over_byte : (test : ℕ → Bool) (text bytes : List ℕ) (at stop : ℕ) → IsUtf8 text → bytes ≡ text → AllPass test text at stop → stop < length bytes → get_or bytes stop 0 < 128 →
+    IsTrue (test (get_or bytes stop 0)) → AllPass test text at (stop + 1)
+over_byte test text bytes at stop u e h lt low t = all_goes_on test text at stop (stop + 1) (get_or bytes stop 0) h (pass_byte text bytes stop u e h.passed.place lt low) t
+
+plain_no_line : (c : ℕ) → IsTrue (is_plain c) → IsTrue (not (is_line_terminator c))
+plain_no_line c h = grind (arith, nat_tests)
+
+plain_no_star : (c : ℕ) → IsTrue (is_plain c) → one_of "*" c ≡ false
+plain_no_star c h = grind (arith, nat_tests)
+
 -- plain characters end no line
 pub plain_lines : (text : List ℕ) (at stop more : ℕ) → AllPass (λ c. not (is_line_terminator c)) text at stop → AllPass is_plain text stop more →
     AllPass (λ c. not (is_line_terminator c)) text at more
@@ -57,10 +69,8 @@ plain_lines text at stop more h p =
     record {
       word = h.word ++ p.word;
       passed = passed_on text at stop more h.word p.word h.passed p.passed;
-      all = all_append (λ c. not (is_line_terminator c)) h.word p.word h.all (all_weaker is_plain (λ c. not (is_line_terminator c)) (λ c k. second (one_of "*" c) (is_line_terminator c) k) p.word p.all);
-    } where
-      second : (a b : Bool) → IsTrue (not (a || b)) → IsTrue (not b)
-      second a b h = grind (arith, nat_tests)
+      all = all_append (λ c. not (is_line_terminator c)) h.word p.word h.all (all_weaker is_plain (λ c. not (is_line_terminator c)) plain_no_line p.word p.all);
+    }
 
 -- a comment's rest behind its `/*`, as far as it has been read
 pub record InBlock (text : List ℕ) (at stop : ℕ) (has_line_break starred : Bool) : Type 0 where
@@ -163,27 +173,25 @@ block_plain text at stop more has_line_break false h p e =
       word = h.word ++ p.word;
       passed = passed_on text at stop more h.word p.word h.passed p.passed;
       unclosed = λ m. ap (closes_from false) (append_assoc h.word p.word m) ∙ h.unclosed (p.word ++ m) ∙ passes p.word m p.all;
-      breaks = h.breaks ∙ none_more (list_any is_line_terminator h.word) ∙ ap (λ x. list_any is_line_terminator h.word || x) (sym (none_any is_line_terminator p.word (all_weaker is_plain (λ c. not (is_line_terminator c)) (λ c k. second (one_of "*" c) (is_line_terminator c) k) p.word p.all)))
+      breaks = h.breaks ∙ none_more (list_any is_line_terminator h.word) ∙ ap (λ x. list_any is_line_terminator h.word || x) (sym (none_any is_line_terminator p.word (all_weaker is_plain (λ c. not (is_line_terminator c)) plain_no_line p.word p.all)))
           ∙ sym (any_append is_line_terminator h.word p.word);
     } where
-      second : (a b : Bool) → IsTrue (not (a || b)) → IsTrue (not b)
-      second a b h = grind (arith, nat_tests)
-
       none_more : (a : Bool) → a ≡ (a || false)
       none_more true = refl
       none_more false = refl
 
-      first : (a b d : Bool) → IsTrue (not (a || b) && d) → a ≡ false
-      first a b d h = grind (arith, nat_tests)
+      first : (a d : Bool) → IsTrue (a && d) → IsTrue a
+      first true d h = refl
+      first false d h = h
 
-      rest : (a b d : Bool) → IsTrue (not (a || b) && d) → IsTrue d
-      rest a b d h = grind (arith, nat_tests)
+      rest : (a d : Bool) → IsTrue (a && d) → IsTrue d
+      rest true d h = h
+      rest false d h = cc
 
       passes : (w m : List ℕ) → IsTrue (list_all is_plain w) → closes_from false (w ++ m) ≡ closes_from false m
       passes [] m h = refl
       passes (c ∷ w) m h =
-          ap (λ s. closes_from s (w ++ m)) (first (one_of "*" c) (is_line_terminator c) (list_all is_plain w) h)
-          ∙ passes w m (rest (one_of "*" c) (is_line_terminator c) (list_all is_plain w) h)
+          ap (λ s. closes_from s (w ++ m)) (plain_no_star c (first (is_plain c) (list_all is_plain w) h)) ∙ passes w m (rest (is_plain c) (list_all is_plain w) h)
 
 -- over the `/` that closes it
 pub block_closes : (text : List ℕ) (at stop more c : ℕ) (has_line_break starred : Bool) → InBlock text at stop has_line_break starred → Passed text stop more (c ∷ []) →
@@ -301,10 +309,33 @@ pub blank_goes_on : (text : List ℕ) (at stop more c : ℕ) (has_line_break : B
     IsGap text at more (has_line_break || is_line_terminator c)
 blank_goes_on text at stop more c has_line_break g p h = gap_goes_on text at stop more has_line_break (is_line_terminator c) g (blank_separator text stop more c p h)
 
+-- over a byte that is a space or a tab
+pub over_space : (text bytes : List ℕ) (at stop : ℕ) → IsUtf8 text → bytes ≡ text → IsGap text at stop false → stop < length bytes → ((get_or bytes stop 0 == 9) || (get_or bytes stop 0 == 32)) ≡ true →
+    IsGap text at (stop + 1) false
+over_space text bytes at stop u e g lt s =
+    let c = get_or bytes stop 0 in
+    subst (λ b. IsGap text at (stop + 1) b) (no_line c s)
+    (blank_goes_on text at stop (stop + 1) c false g (pass_byte text bytes stop u e g.passed.place lt (low c s)) (white c s)) where
+      no_line : (c : ℕ) → ((c == 9) || (c == 32)) ≡ true → is_line_terminator c ≡ false
+      no_line c s = grind (arith, nat_tests)
+
+      low : (c : ℕ) → ((c == 9) || (c == 32)) ≡ true → c < 128
+      low c s = grind (arith, nat_tests)
+
+      white : (c : ℕ) → ((c == 9) || (c == 32)) ≡ true → IsTrue (is_blank c)
+      white c s = grind (arith, nat_tests)
+
 -- separators behind separators
 pub gap_joins : (text : List ℕ) (at stop more : ℕ) (has_line_break new : Bool) → IsGap text at stop has_line_break → IsGap text stop more new → IsGap text at more (has_line_break || new)
 gap_joins text at stop more has_line_break new g s =
     gap_goes_on text at stop more has_line_break new g (record { word = s.gap; passed = s.passed; separated = s.separated; breaks = s.breaks })
+
+-- spaces and tabs behind separators
+pub gap_spaces : (text : List ℕ) (at stop more : ℕ) (has_line_break : Bool) → IsGap text at stop has_line_break → IsGap text stop more false → IsGap text at more has_line_break
+gap_spaces text at stop more has_line_break g s = subst (λ b. IsGap text at more b) (or_false has_line_break) (gap_joins text at stop more has_line_break false g s) where
+  or_false : (a : Bool) → (a || false) ≡ a
+  or_false true = refl
+  or_false false = refl
 
 pub gap_shrinks : (text : List ℕ) (at stop more : ℕ) (has_line_break : Bool) → at < stop → IsGap text stop more has_line_break → length text - more < length text - at
 gap_shrinks text at stop more has_line_break lt g = let o = passed_ordered text stop more g.gap g.passed in let i = g.passed.place.0 in omega arith

@@ -5,10 +5,12 @@ use Rattle.source_text.specs.Source.{IsPlace}
 use Rattle.source_text.specs.Lines.{is_line_terminator}
 use Rattle.tokens.specs.declared.token.Token.{Token}
 use Rattle.tokens.specs.Alphabet.{begins_with, is_white_space}
-use Rattle.tokens.specs.Comments.{is_comment, Separators}
+use Rattle.tokens.specs.Comments.{begins_comment, is_comment, Separators}
 use Rattle.tokens.specs.PunctuatorSets.{front, tail}
 use Rattle.tokens.specs.Closers.{closes_from, ends_part}
 use Rattle.tokens.specs.Lexical.{LexicalClass, is_token}
+use Rattle.tokens.specs.Goals.{Goal}
+use Rattle.tokens.specs.TokenStarts.{class_of}
 use Rattle.tokens.specs.Tokens.{LexicalToken, size}
 use Rattle.tokens.specs.Reading.{behind}
 
@@ -27,6 +29,12 @@ pub record IsWordAt (class : LexicalClass) (text : List ℕ) (at stop : ℕ) : T
   pub word : List ℕ
   pub passed : Passed text at stop word
   pub longest : IsTrue (is_token class word (behind text stop))
+
+-- the word of the class that the goal reads at a place where no comment begins
+pub record IsLexemeAt (goal : Goal) (text : List ℕ) (at : ℕ) (class : LexicalClass) (stop : ℕ) : Type 0 where
+  pub read : class ≡ class_of goal (behind text at)
+  pub word : IsWordAt class text at stop
+  pub no_comment : begins_comment (behind text at) ≡ false
 
 -- no word of the class stands at a place
 abbrev pub NoWordAt : LexicalClass → List ℕ → ℕ → Type 0

@@ -12,6 +12,7 @@ mod escape;
 mod laws;
 mod name;
 mod number;
+mod plain;
 mod punctuator;
 mod regexp;
 mod scanner;

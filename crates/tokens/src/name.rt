@@ -1,13 +1,14 @@
 //! Names (ECMA-262 11.6.1), and private names (12.6 of the 13th edition).
 
-ghost use Rattle.std.specs.Prelude.{◌≡◌, ◌<◌, ◌||◌, [], ◌∷◌, ℕ, IfSome, IfNone};
-ghost use Rattle.std.specs.Char.{is_ascii_alphabetic, is_ascii_alphanumeric};
+ghost use Rattle.std.specs.Prelude.{◌≡◌, ◌<◌, ◌&&◌, ◌||◌, [], ◌∷◌, ℕ, IfSome, IfNone, IsFalse};
+ghost use Rattle.std.specs.Char.{is_ascii, is_ascii_alphabetic, is_ascii_alphanumeric};
 ghost use Rattle.source_text.specs.Source.{IsPlace};
-ghost use Rattle.tokens.specs.Alphabet.{is_identifier_start, is_identifier_part, one_of};
+ghost use Rattle.tokens.specs.Alphabet.{begins_with, is_identifier_start, is_identifier_part, one_of};
+ghost use Rattle.tokens.specs.Reading.{behind};
 ghost use Rattle.tokens.specs.Scanned.{AllPass, IsRun, IsWordAt, NoWordAt, Passed};
 
 use crate::TokenClass;
-use crate::character::{CharAt, char_at};
+use crate::character::{CharAt, ascii_char_at, char_at};
 use unicode_ident::{is_xid_continue, is_xid_start};
 
 /// The IdentifierPart characters of ASCII, each at its own place: `$`, the digits, the letters and `_`. A comma is at every other place.
@@ -117,7 +118,8 @@ pub(crate) fn parts_end(text: &str, at: usize) -> usize
 #[inline]
 fn ascii_parts_end(text: &str, at: usize) -> usize
     requires { IsPlace text.now at }
-    ensures { AllPass is_identifier_part text.now at result }
+    ensures run { AllPass is_identifier_part text.now at result }
+    ensures stops { IsFalse (begins_with (λ c. is_ascii c && is_identifier_part c) (behind text.now result)) }
 {
     let bytes = text.as_bytes();
     let mut end = at;
@@ -125,4 +127,17 @@ fn ascii_parts_end(text: &str, at: usize) -> usize
         end += 1;
     }
     end
+}
+
+/// Where the IdentifierPart characters from this place on end, in bytes; none where no character of ASCII follows those of ASCII.
+#[inline(always)]
+pub(crate) fn ascii_run_end(text: &str, at: usize) -> Option<usize>
+    requires { IsPlace text.now at }
+    ensures { IfSome result (λ e. IsRun is_identifier_part text.now at e) }
+{
+    let end = ascii_parts_end(text, at);
+    match ascii_char_at(text, end) {
+        Some(_) => Some(end),
+        None => None,
+    }
 }

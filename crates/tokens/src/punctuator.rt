@@ -71,7 +71,7 @@ fn is_single_punctuator(b: char) -> bool
 
 /// Whether the character is a digit, or the second one of some punctuator.
 #[inline]
-fn goes_on(c: char) -> bool
+pub(crate) fn goes_on(c: char) -> bool
     ensures { result ≡ goes_on c }
 {
     matches!(

@@ -1,25 +1,25 @@
 //! The next token of a text.
 
 ghost use Rattle.std.specs.Prelude.{◌≡◌, ◌≢◌, ◌≤◌, ◌<◌, ◌++◌, ◌∷◌, ◌==◌, ◌&&◌, ℕ, List, [], slice_range, IsTrue, IfOk, IfErr, IfNone, IfSome, OnErr};
-ghost use Rattle.std.specs.Str.{chars};
+ghost use Rattle.std.specs.Str.{IsUtf8, chars};
 ghost use Rattle.source_text.specs.Source.{IsPlace};
 ghost use Rattle.tokens.specs.Tokens.{LexicalToken, IsTokenAt};
 ghost use Rattle.tokens.specs.Reading.{behind, Reads};
-ghost use Rattle.tokens.specs.Alphabet.{begins_with, is_decimal_digit};
-ghost use Rattle.tokens.specs.TokenStarts.{class_by, class_of, is_mark};
+ghost use Rattle.tokens.specs.Alphabet.{begins_with, is_decimal_digit, is_identifier_start, one_of};
+ghost use Rattle.tokens.specs.TokenStarts.{begins_so, class_by, class_of, is_mark, is_operator, start_at};
 ghost use Rattle.tokens.specs.Goals.{reads_regexps, reads_template_parts};
-ghost use Rattle.tokens.specs.Scanned.{IsWordAt, NoWordAt, Passed, token_of};
+ghost use Rattle.tokens.specs.Scanned.{IsLexemeAt, IsWordAt, NoWordAt, Passed, token_of};
 ghost use Rattle.tokens.specs.Strings.{is_string};
 
 use crate::ascii::is_in;
-use crate::character::{CharAt, char_at};
-use crate::name::{name_end, private_name_end};
+use crate::character::{CharAt, ascii_char_at, char_at};
+use crate::name::{ascii_run_end, name_end, private_name_end};
 use crate::number::number_end;
-use crate::punctuator::punctuator_end;
+use crate::punctuator::{goes_on, punctuator_end};
 use crate::regexp::regexp_end;
 use crate::string::string_end;
 use crate::template::template_end;
-use crate::trivia::{comment_begins, skip_trivia};
+use crate::trivia::{blanks, comment_begins, skip_trivia};
 use crate::{Goal, Token, TokenClass};
 use source_text::Source;
 
@@ -189,12 +189,165 @@ fn lexeme_at(text: &str, at: usize, goal: Goal) -> Option<Lexeme>
     Some(Lexeme { class, end })
 }
 
+/// What a character begins, as far as it shows it by itself.
+#[derive(Clone, Copy)]
+enum Start {
+    /// A name.
+    Name,
+    /// A punctuator with which no longer one begins.
+    Mark,
+    /// `}`: such a punctuator, or a part of a template.
+    Brace,
+    /// A punctuator with which longer ones begin, or a number behind a point.
+    Operator,
+    /// Something else.
+    Other,
+}
+
+/// What each character of ASCII begins: `a` stands for a name, `(` for a punctuator with which no longer one begins, `.` for one with which
+/// longer ones do, `}` for itself, `0` for something else.
+static STARTS: [u8; 128] = *b"\
+    00000000000000000000000000000000\
+    0.00a..0((..(..00000000000((....\
+    0aaaaaaaaaaaaaaaaaaaaaaaaaa(0(.a\
+    0aaaaaaaaaaaaaaaaaaaaaaaaaa(.}(0";
+
+/// What a row of the table stands for.
+#[inline]
+fn start_at(row: u8) -> Start
+    ensures { result ≡ start_at row }
+{
+    match row {
+        b'a' => Start::Name,
+        b'(' => Start::Mark,
+        b'.' => Start::Operator,
+        b'}' => Start::Brace,
+        _ => Start::Other,
+    }
+}
+
+/// What a character of ASCII begins.
+#[inline]
+fn start_of(c: char) -> Start
+    requires { c < 128 }
+    ensures { IsTrue (begins_so result c) }
+{
+    start_at(STARTS[c as usize])
+}
+
+/// The name that begins with this character, if all its characters are of ASCII.
+#[inline(always)]
+fn ascii_name(text: &str, first: CharAt) -> Option<Lexeme>
+    requires place { IsPlace text.now first.end }
+    requires start { IsTrue (is_identifier_start first.c) }
+    ensures { (goal : Goal) (at : ℕ) → Passed text.now at first.end (first.c ∷ []) → IfSome result (λ w. IsLexemeAt goal text.now at w.class w.end) }
+{
+    let Some(end) = ascii_run_end(text, first.end) else {
+        return None;
+    };
+    Some(Lexeme {
+        class: TokenClass::IdentifierName,
+        end,
+    })
+}
+
+/// The punctuator that is this character, with which no longer one begins.
+#[inline]
+fn mark(first: CharAt) -> Option<Lexeme>
+    requires { IsTrue (one_of "{()[];,:~" first.c) }
+    ensures { (text : List ℕ) (goal : Goal) (at : ℕ) → IsUtf8 text → Passed text at first.end (first.c ∷ []) → IfSome result (λ w. IsLexemeAt goal text at w.class w.end) }
+{
+    Some(Lexeme {
+        class: TokenClass::Punctuator,
+        end: first.end,
+    })
+}
+
+/// The punctuator `}`, if the goal reads no part of a template there.
+#[inline]
+fn closing_brace(first: CharAt, goal: Goal) -> Option<Lexeme>
+    requires { IsTrue (one_of "}" first.c) }
+    ensures { (text : List ℕ) (at : ℕ) → IsUtf8 text → Passed text at first.end (first.c ∷ []) → IfSome result (λ w. IsLexemeAt goal text at w.class w.end) }
+{
+    let is_part = reads_template_parts(goal);
+    if is_part {
+        return None;
+    }
+    Some(Lexeme {
+        class: TokenClass::Punctuator,
+        end: first.end,
+    })
+}
+
+/// The punctuator that is this character, if the character behind it shows that no longer one begins here, nor a number.
+#[inline(always)]
+fn lone_operator(text: &str, first: CharAt) -> Option<Lexeme>
+    requires place { IsPlace text.now first.end }
+    requires operator { IsTrue (is_operator first.c) }
+    ensures { (goal : Goal) (at : ℕ) → Passed text.now at first.end (first.c ∷ []) → IfSome result (λ w. IsLexemeAt goal text.now at w.class w.end) }
+{
+    let Some(next) = ascii_char_at(text, first.end) else {
+        return None;
+    };
+    if goes_on(next.c) {
+        return None;
+    }
+    Some(Lexeme {
+        class: TokenClass::Punctuator,
+        end: first.end,
+    })
+}
+
+/// The token at a place, if it is a name of ASCII or a punctuator of one character and the character behind it shows that.
+#[inline(always)]
+fn quick_lexeme(text: &str, at: usize, goal: Goal) -> Option<Lexeme>
+    requires { IsPlace text.now at }
+    ensures { IfSome result (λ w. IsLexemeAt goal text.now at w.class w.end) }
+{
+    let Some(first) = ascii_char_at(text, at) else {
+        return None;
+    };
+    match start_of(first.c) {
+        Start::Name => ascii_name(text, first),
+        Start::Mark => mark(first),
+        Start::Brace => closing_brace(first, goal),
+        Start::Operator => lone_operator(text, first),
+        Start::Other => None,
+    }
+}
+
 /// The token that the goal reads at a place (ECMA-262 clause 11): behind white space, line terminators and comments
 /// the longest of its class, or the end of the text. Its text is a slice of the source; nothing is allocated.
 ///
 /// # Errors
 /// `ScanFault` where the goal reads none, with the place behind the separators: also where a `/*` there has no end.
 pub fn scan<'s>(source: &Source<'s>, at: usize, goal: Goal) -> Result<Token<'s>, ScanFault>
+    requires { IsPlace source.now at }
+    ensures ok { IfOk result (λ t. Reads source.now goal at (token_of t)) }
+    ensures within { IfOk result (λ t. (at ≤ t.start) × (t.start ≤ t.end) × IsPlace source.now t.start × IsPlace source.now t.end) }
+    ensures goes_on { IfOk result (λ t. t.class ≢ TokenClass.End → t.start < t.end) }
+    ensures slice { IfOk result (λ t. t.text.now ≡ slice_range source.now t.start t.end) }
+    ensures string { IfOk result (λ t. t.class ≡ TokenClass.StringLiteral → IsTrue (is_string (chars t.text.now))) }
+    ensures err { OnErr result ((t : LexicalToken) (rest : List ℕ) → IsTokenAt goal at (behind source.now at) t rest → ⊥) }
+    ensures fault_place { IfErr result (λ f. (at ≤ f.at) × IsPlace source.now f.at) }
+{
+    let text = source.text();
+    let blank = blanks(text, at);
+    let Some(word) = quick_lexeme(text, blank.end, goal) else {
+        return scan_any(source, at, goal);
+    };
+    Ok(Token {
+        class: word.class,
+        text: &text[blank.end..word.end],
+        start: blank.end,
+        end: word.end,
+        after_break: blank.has_line_break,
+    })
+}
+
+/// The same as `scan`, without the quick look for a name or a punctuator behind white space.
+#[inline(never)]
+fn scan_any<'s>(source: &Source<'s>, at: usize, goal: Goal) -> Result<Token<'s>, ScanFault>
     requires { IsPlace source.now at }
     ensures ok { IfOk result (λ t. Reads source.now goal at (token_of t)) }
     ensures within { IfOk result (λ t. (at ≤ t.start) × (t.start ≤ t.end) × IsPlace source.now t.start × IsPlace source.now t.end) }

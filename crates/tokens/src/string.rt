@@ -1,13 +1,15 @@
 //! Strings (ECMA-262 11.8.4).
 
-ghost use Rattle.std.specs.Prelude.{◌≡◌, ◌==◌, ◌||◌, IfSome, IfNone};
+ghost use Rattle.std.specs.Prelude.{◌≡◌, ◌==◌, ◌||◌, IfSome, IfNone, IsTrue};
 ghost use Rattle.source_text.specs.Source.{IsPlace};
+ghost use Rattle.tokens.specs.Alphabet.{one_of};
 ghost use Rattle.tokens.specs.Escaped.{IsStringRest, NoStringRest};
 ghost use Rattle.tokens.specs.Scanned.{IsWordAt, NoWordAt};
 
 use crate::TokenClass;
 use crate::character::char_at;
 use crate::escape::character_value;
+use crate::plain::plain_end;
 
 /// Where the string at this place ends, in bytes; none if there is none (11.8.4).
 pub(crate) fn string_end(text: &str, at: usize) -> Option<usize>
@@ -34,11 +36,12 @@ fn ends_line(c: char) -> bool
 
 /// Where a string ends, in bytes, that was opened by this quote before the place; none if it isn't closed.
 fn closed_end(text: &str, at: usize, quote: char) -> Option<usize>
-    requires { IsPlace text.now at }
+    requires place { IsPlace text.now at }
+    requires quote { IsTrue (one_of "'\"" quote) }
     ensures some { IfSome result (λ e. IsStringRest quote text.now at e) }
     ensures none { IfNone result (NoStringRest quote text.now at) }
 {
-    let mut end = at;
+    let mut end = plain_end(text, at);
     while let Some(step) = char_at(text, end) {
         if step.c == quote {
             return Some(step.end);
@@ -49,7 +52,7 @@ fn closed_end(text: &str, at: usize, quote: char) -> Option<usize>
         let Some(character_value) = character_value(text, step.c, step.end) else {
             return None;
         };
-        end = character_value.end;
+        end = plain_end(text, character_value.end);
     }
     None
 }

@@ -1,6 +1,6 @@
 //! White space, line terminators and comments (ECMA-262 11.2 to 11.4), and the line of `#!` (12.5 of the 14th edition).
 
-ghost use Rattle.std.specs.Prelude.{◌≡◌, ◌<◌, ◌||◌, not, IfSome, IfNone, IsTrue};
+ghost use Rattle.std.specs.Prelude.{◌≡◌, ◌==◌, ◌<◌, ◌||◌, false, not, IfSome, IfNone, IsTrue};
 ghost use Rattle.source_text.specs.Lines.{is_line_terminator};
 ghost use Rattle.source_text.specs.Source.{IsPlace};
 ghost use Rattle.source_text.specs.Spaces.{is_white_space};
@@ -13,6 +13,7 @@ ghost use Rattle.tokens.specs.Reading.{behind};
 ghost use Rattle.tokens.specs.Scanned.{AllPass, IsBlockRest, IsCommentRest, IsGap, IsRun, IsSeparator, IsSolid, NoBlockRest, NoCommentRest};
 
 use crate::character::{ascii_char_at, char_at};
+use crate::plain::plain_end;
 use source_text::{is_line_terminator, is_space};
 
 /// The place behind separators, and whether a line terminator is among them.
@@ -56,13 +57,13 @@ fn skip_all_trivia(text: &str, at: usize) -> Trivia
 }
 
 /// Skips the white space and line terminators of ASCII.
-#[inline]
-fn blanks(text: &str, at: usize) -> Trivia
+#[inline(always)]
+pub(crate) fn blanks(text: &str, at: usize) -> Trivia
     requires { IsPlace text.now at }
     ensures { IsGap text.now at result.end result.has_line_break }
 {
     let mut gap = Trivia {
-        end: at,
+        end: spaces_end(text, at),
         has_line_break: false,
     };
     while let Some(step) = ascii_char_at(text, gap.end) {
@@ -70,11 +71,33 @@ fn blanks(text: &str, at: usize) -> Trivia
             return gap;
         }
         gap = Trivia {
-            end: step.end,
+            end: spaces_end(text, step.end),
             has_line_break: gap.has_line_break | is_line_terminator(step.c),
         };
     }
     gap
+}
+
+/// Where the run of spaces and tabs from this place on ends, in bytes.
+#[inline(always)]
+fn spaces_end(text: &str, at: usize) -> usize
+    requires { IsPlace text.now at }
+    ensures { IsGap text.now at result false }
+{
+    let bytes = text.as_bytes();
+    let mut end = at;
+    while end < bytes.len() && is_space_byte(bytes[end]) {
+        end += 1;
+    }
+    end
+}
+
+/// Whether a byte is a space or a tab.
+#[inline]
+fn is_space_byte(byte: u8) -> bool
+    ensures { result ≡ ((byte == 9) || (byte == 32)) }
+{
+    matches!(byte, b' ' | b'\t')
 }
 
 /// Whether a character of ASCII is white space or a line terminator (11.2, 11.3).
@@ -83,6 +106,9 @@ fn is_ascii_blank(c: char) -> bool
     requires { c < 128 }
     ensures { result ≡ (is_white_space c || is_line_terminator c) }
 {
+    if c > ' ' {
+        return false;
+    }
     matches!(c, ' ' | '\t'..='\r')
 }
 
@@ -199,22 +225,6 @@ pub fn hashbang_end(text: &str) -> usize
     line_end(text, second.end)
 }
 
-/// Where the run of characters of ASCII ends, in bytes, that neither end a line nor are `*`.
-#[inline]
-fn plain_end(text: &str, at: usize) -> usize
-    requires { IsPlace text.now at }
-    ensures { AllPass is_plain text.now at result }
-{
-    let mut end = at;
-    while let Some(step) = ascii_char_at(text, end) {
-        if !is_ascii_plain(step.c) {
-            return end;
-        }
-        end = step.end;
-    }
-    end
-}
-
 /// The same as `plain_end`, but this place itself after a `*`.
 #[inline]
 fn plain_unless(text: &str, at: usize, starred: bool) -> usize
@@ -226,15 +236,6 @@ fn plain_unless(text: &str, at: usize, starred: bool) -> usize
         return at;
     }
     plain_end(text, at)
-}
-
-/// Whether a character of ASCII is none of LF, CR and `*`.
-#[inline]
-fn is_ascii_plain(c: char) -> bool
-    requires { c < 128 }
-    ensures { result ≡ is_plain c }
-{
-    !matches!(c, '\n' | '\r' | '*')
 }
 
 /// The rest of a MultiLineComment (11.4) after its `/*`; none if no `*/` follows.

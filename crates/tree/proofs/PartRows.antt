@@ -1,5 +1,5 @@
 -- The parts of a node in a finished tree hold the rows that they have.
-use Rattle.std.proofs.Common.{◌≡◌, ℕ, zero, suc, ◌+◌, ◌-◌, ◌<◌, ◌≤◌, cond, List, [], ◌∷◌, ◌++◌, length, map, Option, Some, None, option_map, slice_get, get_or, refl, sym, ap, ◌∙◌, subst, arith, append_assoc, length-append, append-nil}
+use Rattle.std.proofs.Common.{◌≡◌, ℕ, zero, suc, ◌+◌, ◌-◌, ◌<◌, ◌≤◌, cond, List, [], ◌∷◌, length, Option, Some, None, option_map, slice_get, get_or, refl, sym, ap, ◌∙◌, subst, arith, length-append, append-nil}
 use Rattle.tree.specs.Tree.{Tree, Parts, node, none, part, gap, kind_of, flags_of, parts_of, part_count, part_at, parts_take, node_total, parts_total}
 use Rattle.tree.specs.Flat.{run_of, numbers_of, runs_of, parts_runs, tree_at}
 use Rattle.tree.specs.Growth.{node_rows, node_runs}
@@ -20,39 +20,22 @@ use Rattle.tree.specs.Places.{run_parts}
 use Rattle.std.specs.Prelude.{Bool, true, false, is_some}
 use Rattle.tree.specs.declared.node.Node.{Node}
 use Rattle.tree.specs.Node.{node_tree, node_row}
-use Rattle.tree.specs.HeldRows.{IsNamed, StandsFrom, PlaceHoldsRows, PlaceHoldsRowsFrom, HoldsRows, HoldsRowsFrom, use_below, row_below}
+use Rattle.tree.specs.HeldRows.{IsNamed, PlaceHoldsRows, PlaceHoldsRowsFrom, HoldsRows, use_below, row_below}
+use Rattle.tree.specs.Standing.{StandsFrom}
 use Rattle.tree.proofs.FlatTrees.{Pool}
+use Rattle.tree.proofs.StandingLists.{first_of, last_of, only_of}
+use Rattle.tree.proofs.StandingNodes.{mapped}
 use Rattle.tree.proofs.Parents.{length-runs, length-parts_runs}
-
--- Lists in lists
-
-module _ {X : Type 0} where
-  first_of : (xs ys zs : List X) (i : ℕ) → StandsFrom xs i (ys ++ zs) → StandsFrom xs i ys
-  first_of xs ys zs i h = (h.0, zs ++ h.1, h.2 ∙ ap (λ u. h.0 ++ u) (append_assoc ys zs h.1), h.3)
-
-  last_of : (xs ys zs : List X) (i j : ℕ) → j ≡ i + length ys → StandsFrom xs i (ys ++ zs) → StandsFrom xs j zs
-  last_of xs ys zs i j e h =
-      (h.0 ++ ys, h.1, h.2 ∙ ap (λ u. h.0 ++ u) (append_assoc ys zs h.1) ∙ sym (append_assoc h.0 ys (zs ++ h.1)), omega (arith, e, h.3, length-append h.0 ys))
-
-  there : (before ys : List X) (y : X) (k : ℕ) → length before ≡ k → slice_get (before ++ y ∷ ys) k ≡ Some y
-  there [] ys y zero h = refl
-  there [] ys y (suc k) h = absurd (omega (arith, h))
-  there (x ∷ before) ys y zero h = absurd (omega (arith, h))
-  there (x ∷ before) ys y (suc k) h = there before ys y k (omega (arith, h))
-
-  -- the only one that stands there
-  only_of : (xs : List X) (y : X) (k : ℕ) → StandsFrom xs k (y ∷ []) → slice_get xs k ≡ Some y
-  only_of xs y k h = ap (λ u. slice_get u k) h.2 ∙ there h.0 h.1 y k h.3
 
 -- Numbers
 
 mutual
-  length-rows : (a : NodeUse) (r : ℕ) (t : Tree) → length (row_list a r t) ≡ node_total t
+  pub length-rows : (a : NodeUse) (r : ℕ) (t : Tree) → length (row_list a r t) ≡ node_total t
   length-rows a r (node k w g s e ps) =
       let A : ParentUse = record { node_use = a; kind = k; flags = g } in
       omega (arith, length-append (parts_row_list A (part_count ps) 0 (r + own_rows a k) ps) (cond (has_row a k) (Some r) None ∷ []), length-parts_rows A (part_count ps) 0 (r + own_rows a k) ps)
 
-  length-parts_rows : (a : ParentUse) (c i r : ℕ) (ps : Parts) → length (parts_row_list a c i r ps) ≡ parts_total ps
+  pub length-parts_rows : (a : ParentUse) (c i r : ℕ) (ps : Parts) → length (parts_row_list a c i r ps) ≡ parts_total ps
   length-parts_rows a c i r none = refl
   length-parts_rows a c i r (gap ps) = length-parts_rows a c (i + 1) r ps
   length-parts_rows a c i r (part t ps) =
@@ -119,22 +102,16 @@ own_run_there : (runs : List Pool) (first k : ℕ) (t : Tree) → k + 1 ≡ firs
 own_run_there runs first k (node q w g s e ps) n h =
     only_of runs (numbers_of first ps) k (last_of runs (parts_runs first ps) (numbers_of first ps ∷ []) first k (omega (arith, n, length-parts_runs first ps)) h)
 
--- what is mapped from the node with a number
-mapped : {Y : Type 0} (f : FlatNode → Y) (es : List FlatNode) (k : ℕ) (e : FlatNode) (y : Y) → k < length es → e ≡ get_or es k e → slice_get (map f es) k ≡ Some y → f e ≡ y
-mapped f [] k e y l h g = absurd (omega (arith, l))
-mapped f (x ∷ es) zero e y l h g = let v : f x ≡ y = cc in ap f h ∙ v
-mapped f (x ∷ es) (suc k) e y l h g = mapped f es k e y (omega (arith, l)) h g
-
 same_part : (ps : Parts) (j : ℕ) (t u : Tree) → part_at ps j ≡ Some t → part_at ps j ≡ Some u → t ≡ u
 same_part ps j t u h g = cc
 
 -- a part of a node that holds the rows that it has, and the number of its first
-pub part_numbered : (p q : FlatRef) (j : ℕ) (k : NodeNumber) (a : NodeUse) (h : PlaceHoldsRows a p) → q.tree.now ≡ p.tree.now → k.number < length p.tree.now.nodes → q.node.now ≡ get_or p.tree.now.nodes k.number q.node.now →
+pub part_numbered : (p q : FlatRef) (j : ℕ) (k : NodeNumber) (a : NodeUse) (h : PlaceHoldsRows a p) → q.tree.now ≡ p.tree.now → k.number < length p.tree.now.nodes.items → q.node.now ≡ get_or p.tree.now.nodes.items k.number q.node.now →
     slice_get (run_of p.tree.now.parts.items p.node.now) j ≡ Some (Some k) → part_at (parts_of (place_tree p)) j ≡ Some (place_tree q) → PlaceHoldsRowsFrom (use_below a (place_tree p) j (place_tree q)) (row_below a h.row (place_tree p) j) q
 part_numbered p q j k a h e l m f g =
     let n = place_tree p in
     let ps = parts_of n in
-    let es = p.tree.now.nodes in
+    let es = p.tree.now.nodes.items in
     let pool = p.tree.now.parts.items in
     let A : ParentUse = record { node_use = a; kind = kind_of n; flags = flags_of n } in
     let own = cond (has_row a (kind_of n)) (Some h.row) None in
@@ -151,8 +128,8 @@ part_numbered p q j k a h e l m f g =
       record {
         first = x.first;
         row = x.row;
-        rows = subst (λ (t : FlatTree). StandsFrom (node_rows t.nodes) x.first (row_list (use_below a n j (place_tree q)) x.row (place_tree q))) (sym e) rows;
-        runs = subst (λ (t : FlatTree). StandsFrom (node_runs t.parts.items t.nodes) x.first (runs_of x.first (place_tree q))) (sym e) runs;
+        rows = subst (λ (t : FlatTree). StandsFrom (node_rows t.nodes.items) x.first (row_list (use_below a n j (place_tree q)) x.row (place_tree q))) (sym e) rows;
+        runs = subst (λ (t : FlatTree). StandsFrom (node_runs t.parts.items t.nodes.items) x.first (runs_of x.first (place_tree q))) (sym e) runs;
         own_row = mapped (λ (d : FlatNode). d.row) es k.number q.node.now (cond (has_row (use_below a n j (place_tree q)) (kind_of (place_tree q))) (Some x.row) None) l m
             (own_row_there (node_rows es) (use_below a n j (place_tree q)) x.row x.first k.number (place_tree q) number rows);
         own_run = ap (λ (t : FlatTree). run_of t.parts.items q.node.now) e
@@ -162,9 +139,9 @@ part_numbered p q j k a h e l m f g =
     )
 
 -- the last node of a whole tree
-pub whole_holds : (q : FlatRef) → IsWhole q.tree.now → q.node.now ≡ get_or q.tree.now.nodes (length q.tree.now.nodes - 1) q.node.now → place_tree q ≡ whole_tree q.tree.now → PlaceHoldsRowsFrom NotEvaluated 1 q
+pub whole_holds : (q : FlatRef) → IsWhole q.tree.now → q.node.now ≡ get_or q.tree.now.nodes.items (length q.tree.now.nodes.items - 1) q.node.now → place_tree q ≡ whole_tree q.tree.now → PlaceHoldsRowsFrom NotEvaluated 1 q
 whole_holds q w m x =
-    let es = q.tree.now.nodes in
+    let es = q.tree.now.nodes.items in
     let pool = q.tree.now.parts.items in
     let filled = w.filled in
     let count = node_count q.tree.now w in
@@ -188,7 +165,7 @@ whole_holds q w m x =
 named_numbered : (p : FlatRef) (l : FlatList) (j : ℕ) (q : FlatRef) → l.tree.now ≡ p.tree.now → l.parts.now ≡ run_of p.tree.now.parts.items p.node.now → run_parts l ≡ parts_of (place_tree p) →
     Some (place_tree q) ≡ part_at (run_parts l) j → IsNamed l j q → (a : NodeUse) (held : PlaceHoldsRows a p) → PlaceHoldsRowsFrom (use_below a (place_tree p) j (place_tree q)) (row_below a held.row (place_tree p) j) q
 named_numbered p l j q e r s t h a held =
-    part_numbered p q j h.number a held (h.within ∙ e) (subst (λ (f : FlatTree). h.number.number < length f.nodes) e h.low) (subst (λ (f : FlatTree). q.node.now ≡ get_or f.nodes h.number.number q.node.now) e h.node)
+    part_numbered p q j h.number a held (h.within ∙ e) (subst (λ (f : FlatTree). h.number.number < length f.nodes.items) e h.low) (subst (λ (f : FlatTree). q.node.now ≡ get_or f.nodes.items h.number.number q.node.now) e h.node)
     (ap (λ (os : Pool). slice_get os j) (sym r) ∙ h.is) (ap (λ (ps : Parts). part_at ps j) (sym s) ∙ sym t)
 
 pub named_holds : (p : FlatRef) (l : FlatList) (j : ℕ) (o : Option FlatRef) → l.tree.now ≡ p.tree.now → l.parts.now ≡ run_of p.tree.now.parts.items p.node.now → run_parts l ≡ parts_of (place_tree p) →
@@ -203,11 +180,11 @@ named_holds_from p l j None e r s t h = tt
 named_holds_from p l j (Some q) e r s t h = λ a row held.
     subst (λ i. PlaceHoldsRowsFrom (use_below a (place_tree p) j (place_tree q)) (row_below a i (place_tree p) j) q) held.1 (named_numbered p l j q e r s t h a held.0)
 
-pub root_holds : (f : FlatTree) (q : FlatRef) (n : ℕ) → IsWhole f → n ≡ length f.nodes → q.tree.now ≡ f → q.node.now ≡ get_or f.nodes (n - 1) q.node.now → place_tree q ≡ tree_at f.parts.items f.nodes (n - 1) → PlaceHoldsRowsFrom NotEvaluated 1 q
+pub root_holds : (f : FlatTree) (q : FlatRef) (n : ℕ) → IsWhole f → n ≡ length f.nodes.items → q.tree.now ≡ f → q.node.now ≡ get_or f.nodes.items (n - 1) q.node.now → place_tree q ≡ tree_at f.parts.items f.nodes.items (n - 1) → PlaceHoldsRowsFrom NotEvaluated 1 q
 root_holds f q n w e t m x =
     whole_holds q (subst IsWhole (sym t) w)
-    (m ∙ ap (λ i. get_or f.nodes (i - 1) q.node.now) e ∙ ap (λ (g : FlatTree). get_or g.nodes (length g.nodes - 1) q.node.now) (sym t))
-    (x ∙ ap (λ i. tree_at f.parts.items f.nodes (i - 1)) e ∙ ap whole_tree (sym t))
+    (m ∙ ap (λ i. get_or f.nodes.items (i - 1) q.node.now) e ∙ ap (λ (g : FlatTree). get_or g.nodes.items (length g.nodes.items - 1) q.node.now) (sym t))
+    (x ∙ ap (λ i. tree_at f.parts.items f.nodes.items (i - 1)) e ∙ ap whole_tree (sym t))
 
 -- a node has a row where it is asked
 pub has_its_row : (a : NodeUse) (n : Node) → HoldsRows a n → is_some (node_row n) ≡ has_row a (kind_of (node_tree n))

@@ -1,15 +1,12 @@
 -- A whole tree in a vector of nodes.
 use Rattle.std.proofs.Common.{◌≡◌, ℕ, ◌+◌, ◌-◌, ◌<◌, List, [], ◌∷◌, ◌++◌, length, map, Option, Some, None, slice_get, get_or, take, drop, refl, sym, ap, ◌∙◌, arith, subst}
-use Rattle.std.proofs.lemmas.Option.{slice_get-get_or, get_or_from_slice_get}
+use Rattle.std.proofs.lemmas.Option.{slice_get-get_or}
 use Rattle.tree.specs.Tree.{Tree, node_total, parts_with_gaps}
 use Rattle.tree.specs.declared.flat_node.FlatNode.{FlatNode}
 use Rattle.tree.specs.declared.flat_tree.FlatTree.{FlatTree}
-use Rattle.tree.specs.declared.flat_builder.FlatBuilder.{FlatBuilder}
 use Rattle.tree.specs.Flat.{named, run_of, flat_tree, trees, tree_at, no_tree, AreBefore, AreLinked, post_order, runs_of}
-use Rattle.tree.specs.declared.node_use.NodeUse.{NodeUse}
-use Rattle.tree.specs.declared.node_use.NodeUse.TheVariants.{NotEvaluated}
-use Rattle.tree.specs.NodeUses.{row_list, rows_of}
-use Rattle.tree.specs.Growth.{grown_trees, node_rows, node_runs, held, row_at, Pushes}
+use Rattle.tree.specs.NodeUses.{rows_of}
+use Rattle.tree.specs.Growth.{node_rows, node_runs, held, row_at}
 use Rattle.std.proofs.lemmas.List.{length-map}
 use Rattle.tree.specs.Whole.{whole_tree, IsWhole}
 use Rattle.tree.specs.AlikeNodes.{IsAlike, AreAlike}
@@ -17,40 +14,20 @@ use Rattle.tree.proofs.FlatTrees.{Pool, length-trees}
 use Rattle.tree.proofs.Grown.{length-post_order}
 
 -- a whole tree has as many nodes as the vector
-pub node_count : (f : FlatTree) → IsWhole f → length f.nodes ≡ node_total (whole_tree f)
-node_count f h = omega (arith, length-trees f.parts.items [] f.nodes, ap length h.nodes, length-post_order (whole_tree f))
+pub node_count : (f : FlatTree) → IsWhole f → length f.nodes.items ≡ node_total (whole_tree f)
+node_count f h = omega (arith, length-trees f.parts.items [] f.nodes.items, ap length h.nodes, length-post_order (whole_tree f))
 
 -- and its nodes are those of the vector
-pub node_named : (f : FlatTree) (i : ℕ) → IsWhole f → i < length f.nodes → slice_get (post_order (whole_tree f)) i ≡ Some (tree_at f.parts.items f.nodes i)
+pub node_named : (f : FlatTree) (i : ℕ) → IsWhole f → i < length f.nodes.items → slice_get (post_order (whole_tree f)) i ≡ Some (tree_at f.parts.items f.nodes.items i)
 node_named f i h l =
-    ap (λ (ts : List Tree). slice_get ts i) (sym h.nodes) ∙ slice_get-get_or (trees f.parts.items [] f.nodes) i no_tree (omega (arith, length-trees f.parts.items [] f.nodes, l))
+    ap (λ (ts : List Tree). slice_get ts i) (sym h.nodes) ∙ slice_get-get_or (trees f.parts.items [] f.nodes.items) i no_tree (omega (arith, length-trees f.parts.items [] f.nodes.items, l))
 
 -- and their rows are those of the tree
-pub row_named : (f : FlatTree) (i : ℕ) → IsWhole f → i < length f.nodes → slice_get (rows_of (whole_tree f)) i ≡ Some (row_at f.nodes i)
+pub row_named : (f : FlatTree) (i : ℕ) → IsWhole f → i < length f.nodes.items → slice_get (rows_of (whole_tree f)) i ≡ Some (row_at f.nodes.items i)
 row_named f i h l =
-    let there : slice_get (node_rows f.nodes) i ≡ Some (get_or (node_rows f.nodes) i None) =
-    slice_get-get_or (node_rows f.nodes) i None (omega (arith, l, length-map f.nodes (λ (e : FlatNode). e.row))) in
+    let there : slice_get (node_rows f.nodes.items) i ≡ Some (get_or (node_rows f.nodes.items) i None) =
+    slice_get-get_or (node_rows f.nodes.items) i None (omega (arith, l, length-map f.nodes.items (λ (e : FlatNode). e.row))) in
     ap (λ (rs : List (Option ℕ)). slice_get rs i) (sym h.rows) ∙ there ∙ ap Some (sym (ap held there))
-
--- what is pushed onto nothing is whole
-pub last_pushed : (old new : FlatBuilder) (k : ℕ) (a : NodeUse) (t : Tree) → Pushes old new k a t → tree_at new.parts.items new.nodes (length new.nodes - 1) ≡ t
-last_pushed old new k a t h =
-    let at : length new.nodes - 1 ≡ k = omega (arith, h.last) in
-    ap (tree_at new.parts.items new.nodes) at ∙ get_or_from_slice_get (grown_trees new) k t no_tree h.shows
-
-pub all_shown : (old new : FlatBuilder) (k : ℕ) (a : NodeUse) (t : Tree) (f : FlatTree) → Pushes old new k a t → f.nodes ≡ new.nodes → f.parts.items ≡ new.parts.items → whole_tree f ≡ t
-all_shown old new k a t f h n p =
-    ap (λ (os : Pool). tree_at os f.nodes (length f.nodes - 1)) p ∙ ap (λ (es : List FlatNode). tree_at new.parts.items es (length es - 1)) n ∙ last_pushed old new k a t h
-
-pub all_whole : (old new : FlatBuilder) (k : ℕ) (t : Tree) (f : FlatTree) → Pushes old new k NotEvaluated t → old.nodes ≡ [] → old.next_row ≡ 1 → f.nodes ≡ new.nodes → f.parts.items ≡ new.parts.items → IsWhole f
-all_whole old new k t f h o x n p = record {
-  filled = omega (arith, ap length n, h.last);
-  nodes = ap (λ (os : Pool). trees os [] f.nodes) p ∙ ap (λ (es : List FlatNode). trees new.parts.items [] es) n ∙ h.nodes
-      ∙ ap (λ (es : List FlatNode). trees old.parts.items [] es ++ post_order t) o ∙ ap post_order (sym (all_shown old new k NotEvaluated t f h n p));
-  runs = ap (λ (os : Pool). node_runs os f.nodes) p ∙ ap (node_runs new.parts.items) n ∙ h.runs
-      ∙ ap (λ (es : List FlatNode). node_runs old.parts.items es ++ runs_of (length es) t) o ∙ ap (runs_of 0) (sym (all_shown old new k NotEvaluated t f h n p));
-  rows = ap node_rows n ∙ h.rows ∙ ap (λ (es : List FlatNode). node_rows es ++ row_list NotEvaluated old.next_row t) o ∙ ap (λ i. row_list NotEvaluated i t) x ∙ ap rows_of (sym (all_shown old new k NotEvaluated t f h n p));
-}
 
 -- Nodes that are the same but for who owns their texts show the same trees
 
@@ -110,11 +87,11 @@ alike_more [] (z ∷ ys) x y h a = absurd h
 alike_more (z ∷ xs) [] x y h a = absurd h
 alike_more (z ∷ xs) (u ∷ ys) x y h a = (h.0, alike_more xs ys x y h.1 a)
 
-pub copied_whole : (f c : FlatTree) → IsWhole f → AreAlike c.nodes f.nodes → c.parts.items ≡ f.parts.items → (whole_tree c ≡ whole_tree f) × IsWhole c
+pub copied_whole : (f c : FlatTree) → IsWhole f → AreAlike c.nodes.items f.nodes.items → c.parts.items ≡ f.parts.items → (whole_tree c ≡ whole_tree f) × IsWhole c
 copied_whole f c h a p =
-    let n = same_length c.nodes f.nodes a in
-    let all : trees c.parts.items [] c.nodes ≡ trees f.parts.items [] f.nodes =
-    same_trees c.parts.items [] c.nodes f.nodes a ∙ ap (λ (os : Pool). trees os [] f.nodes) p in
+    let n = same_length c.nodes.items f.nodes.items a in
+    let all : trees c.parts.items [] c.nodes.items ≡ trees f.parts.items [] f.nodes.items =
+    same_trees c.parts.items [] c.nodes.items f.nodes.items a ∙ ap (λ (os : Pool). trees os [] f.nodes.items) p in
     let whole : whole_tree c ≡ whole_tree f =
-    ap (λ (ts : List Tree). get_or ts (length c.nodes - 1) no_tree) all ∙ ap (λ i. get_or (trees f.parts.items [] f.nodes) (i - 1) no_tree) n in
-    (whole, record { filled = omega (arith, n, h.filled); nodes = all ∙ h.nodes ∙ ap post_order (sym whole); runs = same_runs c.parts.items c.nodes f.nodes a ∙ ap (λ (os : Pool). node_runs os f.nodes) p ∙ h.runs ∙ ap (runs_of 0) (sym whole); rows = same_rows c.nodes f.nodes a ∙ h.rows ∙ ap rows_of (sym whole) })
+    ap (λ (ts : List Tree). get_or ts (length c.nodes.items - 1) no_tree) all ∙ ap (λ i. get_or (trees f.parts.items [] f.nodes.items) (i - 1) no_tree) n in
+    (whole, record { filled = omega (arith, n, h.filled); nodes = all ∙ h.nodes ∙ ap post_order (sym whole); runs = same_runs c.parts.items c.nodes.items f.nodes.items a ∙ ap (λ (os : Pool). node_runs os f.nodes.items) p ∙ h.runs ∙ ap (runs_of 0) (sym whole); rows = same_rows c.nodes.items f.nodes.items a ∙ h.rows ∙ ap rows_of (sym whole) })

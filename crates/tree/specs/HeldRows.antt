@@ -1,5 +1,5 @@
 -- The rows that a node of a finished tree and those below it hold: the rows of nodes that stand so.
-use Rattle.std.specs.Prelude.{◌≡◌, ℕ, zero, suc, ◌+◌, cond, List, ◌++◌, length, slice_index_or, ◌<◌, Option, Some, None}
+use Rattle.std.specs.Prelude.{◌≡◌, ℕ, zero, suc, ◌+◌, cond, length, slice_index_or, ◌<◌, Option, Some, None}
 use Rattle.std.specs.List.{slice_get}
 use Rattle.tree.specs.declared.flat_ref.FlatRef.{FlatRef}
 use Rattle.tree.specs.declared.flat_list.FlatList.{FlatList}
@@ -11,25 +11,22 @@ use Rattle.tree.specs.Flat.{numbers_of, runs_of, run_of}
 use Rattle.tree.specs.Growth.{node_rows, node_runs}
 use Rattle.tree.specs.NodeUses.{row_list, has_row, use_in, own_rows, rows_before}
 use Rattle.tree.specs.Places.{place_tree, place_row}
+use Rattle.tree.specs.Standing.{StandsFrom}
 
 -- a node is the one that a list of parts names at this place
 pub record IsNamed (l : FlatList) (i : ℕ) (p : FlatRef) : Type 0 where
   pub number : NodeNumber
   pub is : slice_get l.parts.now i ≡ Some (Some number)
-  pub low : number.number < length l.tree.now.nodes
-  pub node : p.node.now ≡ slice_index_or l.tree.now.nodes number.number p.node.now
+  pub low : number.number < length l.tree.now.nodes.items
+  pub node : p.node.now ≡ slice_index_or l.tree.now.nodes.items number.number p.node.now
   pub within : p.tree.now ≡ l.tree.now
-
--- these stand in a list from a place on
-abbrev pub StandsFrom : {X : Type 0} → List X → ℕ → List X → Type 0
-StandsFrom {X} xs i ys = (before : List X) × (behind : List X) × (xs ≡ before ++ (ys ++ behind)) × (length before ≡ i)
 
 -- a node that stands so holds the row that it has, and each below it the row that it has
 pub record PlaceHoldsRows (a : NodeUse) (p : FlatRef) : Type 0 where
   pub first : ℕ
   pub row : ℕ
-  pub rows : StandsFrom (node_rows p.tree.now.nodes) first (row_list a row (place_tree p))
-  pub runs : StandsFrom (node_runs p.tree.now.parts.items p.tree.now.nodes) first (runs_of first (place_tree p))
+  pub rows : StandsFrom (node_rows p.tree.now.nodes.items) first (row_list a row (place_tree p))
+  pub runs : StandsFrom (node_runs p.tree.now.parts.items p.tree.now.nodes.items) first (runs_of first (place_tree p))
   pub own_row : place_row p ≡ cond (has_row a (kind_of (place_tree p))) (Some row) None
   pub own_run : run_of p.tree.now.parts.items p.node.now ≡ numbers_of first (parts_of (place_tree p))
 

@@ -7,11 +7,11 @@ use Rattle.tree.specs.declared.flat_tree.FlatTree.{FlatTree}
 
 -- each node but the last is a part of just one, which stands after it
 abbrev pub HasOneParent : FlatTree → ℕ → Type 0
-HasOneParent f j = (i : ℕ) × (j < i) × (parents j 0 (node_runs f.parts.items f.nodes) ≡ i ∷ [])
+HasOneParent f j = (i : ℕ) × (j < i) × (parents j 0 (node_runs f.parts.items f.nodes.items) ≡ i ∷ [])
 
 abbrev pub AllButTheLastHaveOneParent : Type 0
-AllButTheLastHaveOneParent = (f : FlatTree) → IsWhole f → (j : ℕ) → j + 1 < length f.nodes → HasOneParent f j
+AllButTheLastHaveOneParent = (f : FlatTree) → IsWhole f → (j : ℕ) → j + 1 < length f.nodes.items → HasOneParent f j
 
 -- and the last is a part of none
 abbrev pub TheLastHasNoParent : Type 0
-TheLastHasNoParent = (f : FlatTree) → IsWhole f → (j : ℕ) → j + 1 ≡ length f.nodes → parents j 0 (node_runs f.parts.items f.nodes) ≡ []
+TheLastHasNoParent = (f : FlatTree) → IsWhole f → (j : ℕ) → j + 1 ≡ length f.nodes.items → parents j 0 (node_runs f.parts.items f.nodes.items) ≡ []

@@ -1,7 +1,7 @@
 pub mod Kinds
 pub mod Tree
+pub mod Patterns
 pub mod TreeCode
-pub mod Sizes
 pub mod Node
 pub mod NodeText
 pub mod Same
@@ -12,9 +12,15 @@ pub mod Linked
 pub mod PartNumber
 pub mod Places
 pub mod Growth
-pub mod Finished
-pub mod Whole
+pub mod Labels
+pub mod Standing
+pub mod Building
 pub mod TooLarge
+pub mod Repatterned
+pub mod Numbering
+pub mod Moved
+pub mod Witness
+pub mod Whole
 pub mod AlikeNodes
 pub mod NodeUses
 pub mod Laws

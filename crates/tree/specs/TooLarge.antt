@@ -1,14 +1,11 @@
 -- Trees that four bytes don't number.
-use Rattle.std.specs.Prelude.{ℕ, ◌+◌, ◌-◌, ◌≤◌, max, length}
-use Rattle.tree.specs.Tree.{Tree, Parts, node, none, part, gap, start_of, stop_of, node_total, parts_total, part_count}
-use Rattle.tree.specs.NodeUses.{rows_in, parts_rows}
+use Rattle.std.specs.Prelude.{◌≡◌, ℕ, ◌+◌, ◌<◌, max, length, Option, Some, None}
+use Rattle.tree.specs.Tree.{Tree, Parts, node, none, part, gap, node_total, parts_total, part_count}
+use Rattle.tree.specs.Labels.{Label}
+use Rattle.tree.specs.Building.{AreNodesOf, most}
+use Rattle.tree.specs.declared.build_error.BuildError.{BuildError}
+use Rattle.tree.specs.declared.build_error.BuildError.TheVariants.{TooLarge}
 use Rattle.tree.specs.declared.flat_builder.FlatBuilder.{FlatBuilder}
-use Rattle.tree.specs.declared.node_use.ParentUse.{ParentUse}
-use Rattle.tree.specs.declared.node_use.NodeUse.{NodeUse}
-
--- 2 ^ 32 - 2
-abbrev pub most : ℕ
-most = 4294967294
 
 abbrev mutual
   -- how many parts the nodes of a tree have, gaps included
@@ -30,20 +27,19 @@ abbrev mutual
   parts_last_place (part tree rest) = max (last_place tree) (parts_last_place rest)
   parts_last_place (gap rest) = parts_last_place rest
 
--- so many nodes or parts, or so late a place
+-- more nodes or parts than are numbered, or a later place
 abbrev pub IsTooLarge : Tree → Type 0
-IsTooLarge tree = most ≤ max (max (node_total tree) (part_total tree)) (last_place tree)
+IsTooLarge tree = most < max (max (node_total tree) (part_total tree)) (last_place tree)
 
--- so many more nodes, parts and rows, with places up to one, are too many behind what is there
-abbrev pub Overflows : FlatBuilder → ℕ → ℕ → ℕ → ℕ → Type 0
-Overflows g nodes parts rows place = most ≤ max (max (length g.nodes + nodes) (length g.parts.items + parts)) (max (g.next_row + rows - 1) place)
+-- the same of some parts and all below them
+abbrev pub AreTooLarge : Parts → Type 0
+AreTooLarge parts = most < max (max (parts_total parts) (parts_part_total parts)) (parts_last_place parts)
 
--- a node whose parts wait is one too many
-abbrev pub NodeOverflows : FlatBuilder → ℕ → Tree → Type 0
-NodeOverflows g waiting tree = Overflows g 0 (length g.pending.items - waiting) 0 (max (start_of tree) (stop_of tree))
+-- one more node with this label and so many parts is too many for what is there, or too late
+abbrev pub Overflows : FlatBuilder → Label → ℕ → Type 0
+Overflows g l count = most < max (max (length g.nodes.items + 1) (length g.parts.items + count)) (max l.start l.stop)
 
-abbrev pub TreeOverflows : FlatBuilder → NodeUse → Tree → Type 0
-TreeOverflows g a tree = Overflows g (node_total tree) (part_total tree) (rows_in a tree) (last_place tree)
-
-abbrev pub PartsOverflow : FlatBuilder → ParentUse → ℕ → Parts → Type 0
-PartsOverflow g a count parts = Overflows g (parts_total parts) (parts_part_total parts) (parts_rows a count 0 parts) (parts_last_place parts)
+-- all nodes of these parts are there while no call was refused; and the parts are too large where one was refused for that
+pub record Holds (g : FlatBuilder) (refused : Option BuildError) (w : Parts) : Type 0 where
+  pub nodes : refused ≡ None → AreNodesOf g w
+  pub too_large : refused ≡ Some TooLarge → AreTooLarge w

@@ -1,13 +1,152 @@
-//! The vector of nodes while it is filled.
+//! The vectors of the finished tree while they are filled.
 
-use crate::flat_node::FlatNodes;
+ghost use Rattle.std.specs.Prelude.{◌≡◌, ◌+◌, ◌-◌, ◌≤◌, ◌<◌, ◌++◌, length, max, min, IfErr, IfOk};
+ghost use Rattle.tree.specs.Building.{Adds, AddsGap, Finishes, given_label, most};
+ghost use Rattle.tree.specs.Labels.{node_label};
+ghost use Rattle.tree.specs.TooLarge.{Overflows};
+ghost use Rattle.tree.specs.declared.build_error.BuildError.TheVariants.{Memory, TooLarge};
+
+use crate::build_error::BuildError;
+use crate::flat_node::{FlatNode, FlatNodes, NodeNumber};
+use crate::kind::{Flags, Kind, Span};
+use crate::node_text::NodeText;
 use crate::part_number::PartNumber;
+use std::alloc::AllocError;
 
-/// Nodes so far, each behind its parts; the parts of all of them; and the nodes whose own node isn't there yet.
+/// The most nodes or parts of a tree, and its greatest place: four bytes hold one more.
+pub(crate) const MAX_NUMBER: usize = 4_294_967_294;
+
+/// Nodes so far, each behind its parts; the parts of all of them; and the parts that wait for their node.
 #[derive(Drop)]
 pub(crate) struct FlatBuilder<'s> {
     pub nodes: FlatNodes<'s>,
     pub parts: Vec<PartNumber>,
-    pub pending: Vec<PartNumber>,
-    pub next_row: u32,
+    pub waiting: Vec<PartNumber>,
+}
+
+/// A node but for its parts.
+#[derive(Drop)]
+pub(crate) struct NodeLabel<'s> {
+    pub kind: Kind,
+    pub text: NodeText<'s>,
+    pub flags: Flags,
+    pub span: Span,
+}
+
+/// One more node without parts, which waits for its own.
+#[inline(always)]
+pub(crate) fn push_leaf<'s>(
+    building: &mut FlatBuilder<'s>,
+    label: NodeLabel<'s>,
+) -> Result<(), BuildError>
+    requires { length building.old.parts.items ≤ most }
+    ensures pushed { IfOk result (λ _. Finishes building.old building.new (given_label label.entry) (length building.old.waiting.items)) }
+    ensures refused { IfErr result (λ error. error ≡ TooLarge → Overflows building.old (given_label label.entry) 0) }
+{
+    let first = building.parts.len();
+    push_node(building, label, first, 0)
+}
+
+/// A hole, or what is missing, waits.
+#[inline(always)]
+pub(crate) fn push_hole(building: &mut FlatBuilder<'_>) -> Result<(), BuildError>
+    ensures pushed { IfOk result (λ _. AddsGap building.old building.new) }
+    ensures refused { IfErr result (λ error. error ≡ Memory) }
+{
+    building.waiting.reserve(1)?;
+    building.waiting.push_reserved(PartNumber::gap());
+    Ok(())
+}
+
+/// One more node, whose parts are the last so many that wait; it waits in their place. All are its parts where there are no more.
+#[inline(always)]
+pub(crate) fn push_parent<'s>(
+    building: &mut FlatBuilder<'s>,
+    label: NodeLabel<'s>,
+    count: usize,
+) -> Result<(), BuildError>
+    ensures pushed { IfOk result (λ _. Finishes building.old building.new (given_label label.entry) (length building.old.waiting.items - count)) }
+    ensures refused { IfErr result (λ error. error ≡ TooLarge → Overflows building.old (given_label label.entry) (min count (length building.old.waiting.items))) }
+{
+    let first = building.parts.len();
+    let kept = building.waiting.len().saturating_sub(count);
+    let count = building.waiting.len() - kept;
+    append(&mut building.parts, &building.waiting[kept..])?;
+    building.waiting.truncate(kept);
+    if building.parts.len() > MAX_NUMBER {
+        return Err(BuildError::TooLarge);
+    }
+    push_node(building, label, first, count)
+}
+
+/// One more node, whose parts stand from a place on in the list of all; it waits.
+#[inline(always)]
+fn push_node<'s>(
+    building: &mut FlatBuilder<'s>,
+    label: NodeLabel<'s>,
+    first: usize,
+    count: usize,
+) -> Result<(), BuildError>
+    requires { first + count ≤ most }
+    ensures pushed { IfOk result (λ _. Adds building.old building.new (given_label label.entry) first count) }
+    ensures refused { IfErr result (λ error. error ≡ TooLarge → Overflows building.old (given_label label.entry) 0) }
+{
+    let number = building.nodes.len();
+    if number >= MAX_NUMBER {
+        return Err(BuildError::TooLarge);
+    }
+    building.nodes.reserve(1)?;
+    building.waiting.reserve(1)?;
+    let node = flat_node(label, first, count)?;
+    let own = NodeNumber {
+        number: number as u32,
+    };
+    building.waiting.push_reserved(PartNumber::of(own));
+    building.nodes.push_reserved(node);
+    Ok(())
+}
+
+/// The node with this label, whose parts stand from a place on in the list of all. It has no row yet.
+#[inline(always)]
+pub(crate) fn flat_node<'s>(
+    label: NodeLabel<'s>,
+    first: usize,
+    count: usize,
+) -> Result<FlatNode<'s>, BuildError>
+    requires { first + count ≤ most }
+    ensures label { IfOk result (λ node. node_label node ≡ given_label label.entry) }
+    ensures places { IfOk result (λ node. (node.first ≡ first) × (node.count ≡ count)) }
+    ensures refused { IfErr result (λ _. most < max label.entry.span.start label.entry.span.end) }
+{
+    let NodeLabel {
+        kind,
+        text,
+        flags,
+        span,
+    } = label;
+    if span.start > MAX_NUMBER || span.end > MAX_NUMBER {
+        return Err(BuildError::TooLarge);
+    }
+    Ok(FlatNode {
+        kind,
+        flags,
+        text,
+        start: span.start as u32,
+        end: span.end as u32,
+        first: first as u32,
+        count: count as u32,
+        row: None,
+    })
+}
+
+/// Adds a node's parts to those of all. They are few: one by one takes less than a copy of them all.
+#[inline(always)]
+fn append(parts: &mut Vec<PartNumber>, waiting: &[PartNumber]) -> Result<(), AllocError>
+    ensures { IfOk result (λ _. parts.new.items ≡ parts.old.items ++ waiting.now) }
+{
+    parts.reserve(waiting.len())?;
+    for part in waiting {
+        parts.push_reserved(*part);
+    }
+    Ok(())
 }

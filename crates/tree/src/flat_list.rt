@@ -13,7 +13,7 @@ use crate::part_number::PartNumber;
 pub(crate) struct FlatList<'t, 's> {
     tree: &'t FlatTree<'s>,
     parts: &'t [PartNumber],
-    ghost before: { AreBefore (length tree.now.nodes) parts.now } by { AreBefore-prop (length tree.now.nodes) parts.now },
+    ghost before: { AreBefore (length tree.now.nodes.items) parts.now } by { AreBefore-prop (length tree.now.nodes.items) parts.now },
 }
 
 impl<'t, 's> FlatList<'t, 's> {
@@ -26,8 +26,8 @@ impl<'t, 's> FlatList<'t, 's> {
 
     /// The parts with these numbers in a finished tree.
     pub(crate) fn new(tree: &'t FlatTree<'s>, parts: &'t [PartNumber]) -> FlatList<'t, 's>
-        requires { AreBefore (length tree.now.nodes) parts.now }
-        ensures parts { run_parts result ≡ parts_with_gaps (map (named (trees tree.now.parts.items [] tree.now.nodes)) parts.now) }
+        requires { AreBefore (length tree.now.nodes.items) parts.now }
+        ensures parts { run_parts result ≡ parts_with_gaps (map (named (trees tree.now.parts.items [] tree.now.nodes.items)) parts.now) }
         ensures within { result.tree.now ≡ tree.now }
         ensures run { result.parts.now ≡ parts.now }
     {

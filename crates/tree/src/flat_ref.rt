@@ -14,7 +14,7 @@ use crate::kind::{Flags, Kind, Span};
 pub(crate) struct FlatRef<'t, 's> {
     tree: &'t FlatTree<'s>,
     node: &'t FlatNode<'s>,
-    ghost linked: { IsLinked tree.now.parts.items (length tree.now.nodes) node.now } by { IsLinked-prop tree.now.parts.items (length tree.now.nodes) node.now },
+    ghost linked: { IsLinked tree.now.parts.items (length tree.now.nodes.items) node.now } by { IsLinked-prop tree.now.parts.items (length tree.now.nodes.items) node.now },
 }
 
 impl<'t, 's> FlatRef<'t, 's> {
@@ -31,13 +31,13 @@ impl<'t, 's> FlatRef<'t, 's> {
 
     /// The node with a number.
     pub(crate) fn new(tree: &'t FlatTree<'s>, number: usize) -> FlatRef<'t, 's>
-        requires { number < length tree.now.nodes }
-        ensures tree { place_tree result ≡ tree_at tree.now.parts.items tree.now.nodes number }
-        ensures row { place_row result ≡ row_at tree.now.nodes number }
+        requires { number < length tree.now.nodes.items }
+        ensures tree { place_tree result ≡ tree_at tree.now.parts.items tree.now.nodes.items number }
+        ensures row { place_row result ≡ row_at tree.now.nodes.items number }
         ensures within { result.tree.now ≡ tree.now }
-        ensures node { result.node.now ≡ slice_index_or tree.now.nodes number result.node.now }
+        ensures node { result.node.now ≡ slice_index_or tree.now.nodes.items number result.node.now }
     {
-        let node = tree.nodes.at(number);
+        let node = &tree.nodes[number];
         FlatRef { tree, node }
     }
 

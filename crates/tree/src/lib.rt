@@ -1,16 +1,14 @@
 #![tactic(auto)]
 
-//! The tree of a script, with ESTree's kinds of nodes: while a script is read (`BoxedNode`), and finished (`Program`).
+//! The tree of a script, with ESTree's kinds of nodes: while a script is read (`TreeBuilder`), and finished (`Program`).
 //! - May touch: nodes, their texts, places and parts, and memory. It knows no grammar.
-//! - Contract: `Program::build` shows the statements that it was made of, places included; each node holds its row.
-//! - Begin at: `kind.rt`, `Kind`; then `node.rt`, by which both forms are read, `build.rt`. Definitions:
+//! - Contract: `TreeBuilder` shows the nodes that were added to it, and `Program::build` those that waited; each node holds its row.
+//! - Begin at: `kind.rt`, `Kind`; then `tree_builder.rt`, and `node.rt`, by which the finished tree is read. Definitions:
 //!   `specs/Tree.antt`.
 
-mod boxed_node;
-mod build;
 mod build_error;
+mod callee;
 mod copy;
-mod finish_node;
 mod flat_builder;
 mod flat_list;
 mod flat_node;
@@ -24,18 +22,21 @@ mod node_text;
 mod node_use;
 mod part_access;
 mod part_number;
-mod parts;
+mod patterns;
 mod program;
 mod row_count;
+mod row_numbers;
+mod tree_builder;
 mod walk;
+mod witness;
 
-pub use boxed_node::BoxedNode;
 pub use build_error::BuildError;
 pub use copy::try_copy;
 pub use kind::{Flags, Form, Kind, Pair, Span};
 pub use node::Node;
 pub use node_list::NodeList;
 pub use node_text::NodeText;
-pub use parts::Parts;
 pub use program::Program;
+pub use tree_builder::TreeBuilder;
 pub use walk::{height, same_tree};
+pub use witness::{Witness, Witnessing};

@@ -1,10 +1,16 @@
 //! Where nodes stand, as far as it says which of them have rows.
 
-ghost use Rattle.std.specs.Prelude.{◌≡◌, ◌<◌};
+ghost use Rattle.std.specs.Prelude.{◌≡◌, ℕ, ◌+◌, ◌<◌, ◌≤◌, length};
+ghost use Rattle.std.specs.List.{slice_get};
+ghost use Rattle.tree.specs.Flat.{AreLinked, run_of};
+ghost use Rattle.tree.specs.Standing.{Stands, held_number};
+ghost use Rattle.tree.specs.Tree.{Tree};
 ghost use Rattle.tree.specs.NodeUses.{has_row as has_row_at, part_use as part_standing_at, property_use as keyed_at, key_use as key_at, value_use as value_at, member_use as selected_at, callee_use as linked_at, first_else as head_at, child_place as inner_at, looks as looks_at, contains_optional as chains_tree};
 
-use crate::boxed_node::BoxedNode;
+use crate::flat_list::section;
+use crate::flat_node::{FlatNode, FlatNodes, NodeNumber};
 use crate::kind::{Flags, Form, Kind};
+use crate::part_number::PartNumber;
 
 /// Where a node stands, as far as it says which nodes have rows.
 #[derive(Clone, Copy, Debug, PartialEq, Eq)]
@@ -52,20 +58,26 @@ pub(crate) fn has_row(node_use: NodeUse, kind: Kind) -> bool
 
 /// A part of a node, at its place among so many. Below which `?.` stand is looked at where a chain may end alone, so each part of a
 /// chain is passed once.
+#[inline(always)]
 pub(crate) fn child_place(
+    nodes: &FlatNodes<'_>,
+    pool: &[PartNumber],
     around: ParentUse,
     count: usize,
     index: usize,
-    part: &BoxedNode,
+    number: usize,
 ) -> ChildPlace
-    requires { index < count }
-    ensures { result ≡ inner_at around count index part.now }
+    requires inside { index < count }
+    requires there { number < length nodes.now.items }
+    requires linked { AreLinked pool.now 0 nodes.now.items }
+    ensures { (first : ℕ) (t : Tree) → Stands pool.now nodes.now.items first number t → result ≡ inner_at around count index t }
 {
+    let part = &nodes[number];
     ChildPlace {
         index,
         is_last: index + 1 == count,
         kind: part.kind,
-        is_chained: looks_below(around, index) && contains_optional(part),
+        is_chained: looks_below(around, index) && contains_optional(nodes, pool, number),
     }
 }
 
@@ -81,18 +93,34 @@ fn looks_below(around: ParentUse, index: usize) -> bool
 }
 
 /// Whether a `?.` stands in a member or a call, or in what it is of.
-fn contains_optional(syntax: &BoxedNode) -> bool
-    ensures { result ≡ chains_tree syntax.now }
+fn contains_optional(nodes: &FlatNodes<'_>, pool: &[PartNumber], number: usize) -> bool
+    requires there { number < length nodes.now.items }
+    requires linked { AreLinked pool.now 0 nodes.now.items }
+    ensures { (first : ℕ) (t : Tree) → Stands pool.now nodes.now.items first number t → result ≡ chains_tree t }
 {
-    if !syntax.kind.is_chain_part() {
+    let node = &nodes[number];
+    if !node.kind.is_chain_part() {
         return false;
     }
-    if syntax.flags.optional {
+    if node.flags.optional {
         return true;
     }
-    match syntax.parts.first() {
-        Some(Some(part)) => contains_optional(part),
-        _ => false,
+    match first_part(pool, node) {
+        Some(part) => contains_optional(nodes, pool, part.number as usize),
+        None => false,
+    }
+}
+
+/// The first part of a node; none for a gap, and where there are none.
+#[inline(always)]
+fn first_part(pool: &[PartNumber], node: &FlatNode<'_>) -> Option<NodeNumber>
+    requires { node.now.first + node.now.count ≤ length pool.now }
+    ensures { result ≡ held_number (slice_get (run_of pool.now node.now) 0) }
+{
+    let parts = section(pool, node.first as usize, node.count as usize);
+    match parts.first() {
+        Some(part) => part.number(),
+        None => None,
     }
 }
 

@@ -29,6 +29,9 @@ impl Model for PartNumber {
 
 impl PartNumber {
     ghost use Rattle.std.specs.Prelude.{◌≡◌, ◌<◌, Some, None};
+    ghost use Rattle.tree.specs.Building.{most};
+    ghost use Rattle.tree.specs.Flat.{IsBefore};
+    ghost use Rattle.tree.specs.Moved.{moved_up};
 
     /// The number of a part that is missing.
     pub(crate) fn gap() -> PartNumber
@@ -44,6 +47,19 @@ impl PartNumber {
     {
         PartNumber {
             number_plus_one: number.number + 1,
+        }
+    }
+
+    /// The number that the part has once its node moves up by one.
+    pub(crate) fn moved_up(self) -> PartNumber
+        requires { IsBefore most self }
+        ensures { result ≡ moved_up self }
+    {
+        match self.number() {
+            Some(node) => PartNumber::of(NodeNumber {
+                number: node.number + 1,
+            }),
+            None => self,
         }
     }
 

@@ -144,6 +144,7 @@ fn is_update(text: &[u8], row: TokenRow) -> bool
 }
 
 /// Whether no line may end after a token.
+#[inline(always)]
 fn binds_next(text: &[u8], row: TokenRow) -> bool
     ensures { result ≡ true → IsTrue (is_one_of_words ("return" ∷ "throw" ∷ "yield" ∷ []) (bytes_in text.now row.span)) }
 {
@@ -237,7 +238,7 @@ fn begin_alike(text: &[u8], comments: &[CommentRow], other: &[u8], others: &[Com
 }
 
 /// Takes the comments of a list from the front of another, which isn't shorter, and says whether they are there.
-#[inline]
+#[inline(always)]
 fn cancel_front(
     text: &[u8],
     comments: &mut Vec<CommentRow>,

@@ -16,7 +16,7 @@ use Rattle.tree.proofs.Shapes.{parts_height-push}
 use Rattle.covers.specs.declared.list.ListBuilder.{ListBuilder as ListOf}
 use Rattle.covers.specs.declared.list.ListKind.TheVariants as listed
 use Rattle.covers.specs.Lists.{opening}
-use Rattle.covers.specs.Patterns.{pattern_parts}
+use Rattle.tree.specs.Patterns.{pattern_parts}
 use Rattle.covers.specs.Shapes.{is_bound, Becomes}
 use Rattle.language.specs.declared.Rank.{Rank}
 use Rattle.language.specs.declared.Rank.TheVariants.{Call}

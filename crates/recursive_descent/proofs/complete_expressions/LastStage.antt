@@ -25,7 +25,7 @@ use Rattle.language.proofs.climbing.NamesBehind.{apart_inside}
 use Rattle.language.proofs.climbing.SpineContinuations.{makes}
 use Rattle.language.proofs.climbing.OperatorLoop.{whole_where_stops}
 use Rattle.language.proofs.table.Reaches.{reaches}
-use Rattle.covers.specs.Patterns.{pattern_tree, pattern_kind}
+use Rattle.tree.specs.Patterns.{pattern_tree, pattern_kind}
 use Rattle.covers.specs.Shapes.{is_element}
 use Rattle.parser_tables.specs.declared.operand.Operand.{Operand}
 use Rattle.parser_tables.specs.declared.expression_context.ExpressionContext.{ExpressionContext}

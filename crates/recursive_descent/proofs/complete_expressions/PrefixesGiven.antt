@@ -15,7 +15,7 @@ use Rattle.tree.specs.declared.kind.Pair.{Pair}
 use Rattle.tree.specs.Tree.{Tree, node, Parts, none, part, height, bare, bare_parts, kind_of, plain}
 use Rattle.tree.specs.Uses.{has_text, is_lean, used_flags}
 use Rattle.tree.proofs.Lean.{lean_flags, lean_text}
-use Rattle.covers.specs.Patterns.{pattern_tree}
+use Rattle.tree.specs.Patterns.{pattern_tree}
 use Rattle.language.specs.declared.Rank.{Rank}
 use Rattle.language.specs.declared.Rank.TheVariants.{Conditional, Unary, Update, LeftHandSide, New, Relational}
 use Rattle.language.specs.declared.Start.{Start}

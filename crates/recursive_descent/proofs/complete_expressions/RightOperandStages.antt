@@ -24,7 +24,7 @@ use Rattle.language.proofs.climbing.Turns.{not_conditional}
 use Rattle.language.proofs.climbing.OperatorLoop.{Leads, grows_height, stops_inside}
 use Rattle.language.proofs.climbing.BinaryTurns.{two_binds, two_powers, two_assigns}
 use Rattle.language.proofs.climbing.Conditionals.{ask_on, read_there}
-use Rattle.covers.specs.Patterns.{pattern_tree}
+use Rattle.tree.specs.Patterns.{pattern_tree}
 use Rattle.covers.specs.Shapes.{is_element, is_bound, is_target, is_pattern as is_listed, defaulted}
 use Rattle.covers.specs.declared.shape.CoverShape.{CoverShape}
 use Rattle.covers.specs.declared.shape.TargetForm.TheVariants as assigned

@@ -23,7 +23,7 @@ use Rattle.covers.specs.declared.list.ListKind.{ListKind}
 use Rattle.covers.specs.declared.list.ListKind.TheVariants as listed
 use Rattle.covers.specs.declared.list.ListBuilder.{ListBuilder as ListOf}
 use Rattle.covers.specs.Lists.{takes}
-use Rattle.covers.specs.Patterns.{pattern_tree}
+use Rattle.tree.specs.Patterns.{pattern_tree}
 use Rattle.covers.specs.Refusals.{IsTaken}
 use Rattle.covers.specs.Shapes.{is_target}
 use Rattle.parser_tables.specs.declared.operand.Operand.{Operand}

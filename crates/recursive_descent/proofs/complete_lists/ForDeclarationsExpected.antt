@@ -13,7 +13,7 @@ use Rattle.tree.specs.declared.kind.Pair.{Pair}
 use Rattle.tree.specs.Tree.{Tree, node, plain, Parts, none, part, gap, kind_of, part_count, parts_height, bare_parts}
 use Rattle.covers.specs.declared.list.ListKind.{ListKind}
 use Rattle.covers.specs.declared.list.ListKind.TheVariants as listed
-use Rattle.covers.specs.Patterns.{pattern_tree, pattern_parts}
+use Rattle.tree.specs.Patterns.{pattern_tree, pattern_parts}
 use Rattle.language.specs.declared.Edge.{Edge}
 use Rattle.language.specs.declared.Rank.TheVariants.{Expression, LeftHandSide}
 use Rattle.language.specs.declared.Start.TheVariants.{Any}

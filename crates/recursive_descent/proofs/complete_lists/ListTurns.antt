@@ -26,7 +26,7 @@ use Rattle.covers.specs.declared.list.ListKind.{ListKind}
 use Rattle.covers.specs.declared.list.ListKind.TheVariants as listed
 use Rattle.covers.specs.declared.list.ListBuilder.{ListBuilder as ListOf}
 use Rattle.covers.specs.Lists.{closing}
-use Rattle.covers.specs.Patterns.{pattern_parts}
+use Rattle.tree.specs.Patterns.{pattern_parts}
 use Rattle.recursive_descent.specs.Soundness.{RunsIn, all_read_as}
 use Rattle.recursive_descent.specs.SoundnessOfLists.{has_reading, seen_fits, stood_in, left_of, ClosedBy, case_count, is_chunked, is_stuck, stuck_at}
 use Rattle.recursive_descent.specs.Follows.{Semicolons, none_passed, one_more, FirstMisses, end_before}

@@ -23,9 +23,9 @@ use Rattle.covers.specs.declared.list.ListItem.{ListItem}
 use Rattle.covers.specs.declared.list.ListKind.TheVariants as listed
 use Rattle.covers.specs.declared.shape.CoverShape.{CoverShape}
 use Rattle.covers.specs.declared.shape.TargetForm.TheVariants as assigned
-use Rattle.covers.specs.Patterns.{pattern_tree}
+use Rattle.tree.specs.Patterns.{pattern_tree}
 use Rattle.covers.specs.Shapes as shapes
-use Rattle.covers.proofs.Patterns.{same_height}
+use Rattle.productions.proofs.PatternSummaries.{same_height}
 use Rattle.productions.specs.Made.{Makes}
 use Rattle.parser_tables.specs.declared.functions_and_classes.FunctionOrClass.TheVariants as closure
 use Rattle.parser_tables.specs.declared.operand.Operand.{Operand}

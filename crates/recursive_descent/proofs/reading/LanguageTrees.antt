@@ -4,7 +4,7 @@ use Rattle.tree.specs.declared.kind.Pair.{Pair}
 use Rattle.tree.specs.declared.kind.Kind.{Kind}
 use Rattle.tree.specs.declared.kind.Flags.{Flags}
 use Rattle.tree.specs.Tree.{Tree, node, Parts, none, part, gap, push, push_gap, join}
-use Rattle.covers.specs.Patterns.{pattern_tree}
+use Rattle.tree.specs.Patterns.{pattern_tree}
 use Rattle.covers.proofs.BasePatterns.{pattern_later}
 use Rattle.language.specs.declared.Language.TheVariants.{Base}
 use Rattle.language.specs.Later.{is_later, some_has_later}

@@ -37,7 +37,7 @@ use Rattle.language.proofs.table.LeftRecursiveWays.{between}
 use Rattle.language.proofs.table.NodeForms.{assign}
 use Rattle.language.specs.Expressions.{infix_pieces}
 use Rattle.language.specs.Grammar.{ways, spellings}
-use Rattle.covers.specs.Patterns.{pattern_tree}
+use Rattle.tree.specs.Patterns.{pattern_tree}
 use Rattle.covers.specs.Shapes.{is_element, is_target, is_pattern as is_listed}
 use Rattle.covers.specs.declared.shape.TargetForm.{TargetForm}
 use Rattle.covers.specs.declared.shape.TargetForm.TheVariants as assigned

@@ -1,16 +1,12 @@
--- Which arm of a choice is left: lists of more than expressions; what an operator or one token begins; arguments and an index behind an expression.
+-- Which arm of a choice is left: lists of more than expressions; arguments and an index behind an expression.
 use Rattle.std.specs.Prelude.{◌≡◌, ◌⊎◌, ◌&&◌, ℕ, List, Bool, true, false, not, Some, None, codes, bytes_eq, cond}
 use Rattle.std.proofs.Common.{refl, sym, ap, ◌∙◌, inl, inr}
 use Rattle.std.proofs.lemmas.Bool.{false≢true}
 use Rattle.std.proofs.lemmas.Slice.Eq.{bytes_eq-Decides}
 use Rattle.std.proofs.lemmas.Option.{none-some, same_Some}
-use Rattle.tree.specs.declared.kind.Kind.{Kind}
-use Rattle.language.specs.declared.Rank.{Rank}
 use Rattle.covers.specs.declared.list.ListKind.{ListKind}
 use Rattle.covers.specs.declared.list.ListKind.TheVariants as listed
-use Rattle.parser_tables.specs.declared.expression_starts.ExpressionStart.{ExpressionStart as Coded}
-use Rattle.parser_tables.specs.declared.expression_starts.ExpressionStart.TheVariants as code
-use Rattle.recursive_descent.specs.Arms.{is_apart, is_short}
+use Rattle.recursive_descent.specs.Arms.{is_apart}
 use Rattle.recursive_descent.specs.SoundnessOfLists.{asks_edge}
 use Rattle.recursive_descent.specs.Follows.{LinkedAt}
 use Rattle.recursive_descent.proofs.sound_lists.ReadItems.{lists_elements}
@@ -52,24 +48,6 @@ not_apart (listed.Sequence i) a b c d e f = absurd (d i refl)
 not_apart (listed.Declarators i) a b c d e f = absurd (e i refl)
 not_apart (listed.Cases r) a b c d e f = absurd (f r refl)
 not_apart _ a b c d e f = refl
-
-pub short_opening : {x : Coded} → ((own : Rank) × (side : Rank) × x ≡ code.Prefix own side) ⊎ ((k : Kind) × x ≡ code.OneToken k) → is_short x ≡ true
-short_opening (inl e) = ap is_short e.2
-short_opening (inr e) = ap is_short e.1
-
-pub no_short : {A : Type 0} (x : Coded) → is_short x ≡ true → ((own side : Rank) → x ≡ code.Prefix own side → ⊥) → ((k : Kind) → x ≡ code.OneToken k → ⊥) → A
-no_short (code.Prefix own side) h a b = absurd (a own side refl)
-no_short (code.OneToken k) h a b = absurd (b k refl)
-no_short (code.List w) h a b = absurd (false≢true h)
-no_short code.Parenthesis h a b = absurd (false≢true h)
-no_short code.Function h a b = absurd (false≢true h)
-no_short code.Class h a b = absurd (false≢true h)
-no_short code.Super h a b = absurd (false≢true h)
-no_short code.New h a b = absurd (false≢true h)
-no_short code.Import h a b = absurd (false≢true h)
-no_short code.Async h a b = absurd (false≢true h)
-no_short code.Yield h a b = absurd (false≢true h)
-no_short code.PrivateName h a b = absurd (false≢true h)
 
 -- what stands before arguments or an index
 abbrev pub is_enclosed : Subscript → Bool

@@ -16,7 +16,7 @@ use Rattle.tree.specs.Tree.{Tree, node, plain, Parts, none, part, kind_of, push}
 use Rattle.covers.specs.declared.shape.CoverShape.{CoverShape}
 use Rattle.covers.specs.declared.shape.TargetForm.{TargetForm}
 use Rattle.covers.specs.declared.shape.TargetForm.TheVariants as assigned
-use Rattle.covers.specs.Patterns.{pattern_tree}
+use Rattle.tree.specs.Patterns.{pattern_tree}
 use Rattle.covers.specs.Shapes.{is_element, is_bound, value, defaulted}
 use Rattle.covers.specs.Shapes as shapes
 use Rattle.language.specs.declared.Rank.{Rank}

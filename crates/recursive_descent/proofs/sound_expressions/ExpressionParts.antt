@@ -12,7 +12,7 @@ use Rattle.tree.specs.declared.kind.Pair.{Pair}
 use Rattle.tree.specs.Tree.{Tree, node, plain, Parts, none, part, kind_of}
 use Rattle.tree.specs.Uses.{implies}
 use Rattle.covers.specs.declared.shape.CoverShape.{CoverShape}
-use Rattle.covers.specs.Patterns.{pattern_tree}
+use Rattle.tree.specs.Patterns.{pattern_tree}
 use Rattle.covers.specs.Shapes.{shape_of, value, target}
 use Rattle.language.specs.declared.Rank.{Rank}
 use Rattle.language.specs.declared.Rank.TheVariants.{Expression, Assignment, Conditional, ShortCircuit, LeftHandSide, New, Call, Member}

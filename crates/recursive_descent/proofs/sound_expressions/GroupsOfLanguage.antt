@@ -2,7 +2,7 @@
 use Rattle.std.proofs.Common.{ℕ, [], refl}
 use Rattle.tree.specs.Tree.{Parts, none, part, gap, plain}
 use Rattle.tree.specs.declared.kind.Kind.TheVariants.{SequenceExpression}
-use Rattle.covers.specs.Patterns.{pattern_tree, pattern_parts}
+use Rattle.tree.specs.Patterns.{pattern_tree, pattern_parts}
 use Rattle.parser_tables.specs.Items.{group_node}
 use Rattle.token_cursor.specs.SourceText.{SourceText}
 use Rattle.recursive_descent.specs.Spelled.{OfLanguage, AllOfLanguage}

@@ -12,7 +12,7 @@ use Rattle.token_cursor.specs.CursorState.{CursorState, IsAhead}
 use Rattle.tree.specs.declared.kind.Kind.TheVariants.{UpdateExpression, SequenceExpression}
 use Rattle.tree.specs.declared.kind.Pair.{Pair}
 use Rattle.tree.specs.Tree.{Tree, node, plain, Parts, none, part, gap, bare_parts, flags_of}
-use Rattle.covers.specs.Patterns.{pattern_tree}
+use Rattle.tree.specs.Patterns.{pattern_tree}
 use Rattle.covers.specs.Shapes as shapes
 use Rattle.covers.specs.Lists.{closing}
 use Rattle.covers.specs.declared.list.ListKind.TheVariants as listed

@@ -16,7 +16,7 @@ use Rattle.tree.specs.Uses.{is_lean}
 use Rattle.covers.specs.declared.list.ListKind.TheVariants as listed
 use Rattle.covers.specs.declared.list.ListBuilder.{ListBuilder as ListOf}
 use Rattle.covers.specs.Lists.{opening, closing}
-use Rattle.covers.specs.Patterns.{pattern_parts}
+use Rattle.tree.specs.Patterns.{pattern_parts}
 use Rattle.covers.specs.Shapes.{is_bound, is_element}
 use Rattle.language.specs.declared.Rank.{Rank}
 use Rattle.language.specs.declared.Rank.TheVariants.{Expression, Assignment, New}

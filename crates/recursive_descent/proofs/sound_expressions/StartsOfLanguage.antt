@@ -35,9 +35,8 @@ use Rattle.parser_tables.specs.declared.expression_context.ExpressionContext.{Ex
 use Rattle.parser_tables.specs.declared.expression_starts.ExpressionStart.{ExpressionStart as Coded}
 use Rattle.parser_tables.specs.declared.expression_starts.ExpressionStart.TheVariants as code
 use Rattle.parser_tables.specs.declared.operand.Operand.{Operand}
-use Rattle.parser_tables.specs.ExpressionStarts.{coded_start, coded_in, opens_at, start_in, with_async}
+use Rattle.parser_tables.specs.ExpressionStarts.{coded_start, coded_in, start_in, with_async}
 use Rattle.parser_tables.specs.Items.{listed_kind, listed_node}
-use Rattle.recursive_descent.specs.Arms.{is_short}
 use Rattle.recursive_descent.specs.Follows.{target_node}
 use Rattle.parser_tables.specs.Tokens.{single_node}
 use Rattle.recursive_descent.proofs.sound_expressions.KeywordExpressions.{new_word}
@@ -98,11 +97,6 @@ list_language text l h = of l.listed
     of listed.Elements = of_node (λ b. refl) h
     of listed.Properties = of_node (λ b. refl) h
     of _ = of_node (λ b. refl) h
-
--- what is one token, or begins an operator, is no `import`
-pub short_stands : (text : SourceText) (p : ExpressionContext) (t : Token) {s : Token} (x : Coded) → is_short x ≡ true → Stands text p t x s → opens_at p t ≡ true
-short_stands text p t x short (inl h) = h
-short_stands text p t x short (inr h) = absurd (false≢true (sym (ap is_short h.0) ∙ short))
 
 -- what a word begins, with that word
 pub word_first : {s m e : CursorState} {old mid new : List Pair} (t : Scanned) {p : ExpressionContext} {y : Coded} {r : Operand} → m.text ≡ s.text → m.opened ≡ s.opened → mid ≡ old → SeenNext s.text s.last (as_read (token_of t)) m.last → coded_in s.text.language (as_read (token_of t)) ≡ Some y → Stands s.text p (as_read (token_of t)) y s.last →

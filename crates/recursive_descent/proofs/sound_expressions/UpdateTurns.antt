@@ -4,7 +4,7 @@ use Rattle.std.specs.Prelude.{Some}
 use Rattle.std.specs.Result.{IsErrAnd}
 use Rattle.std.proofs.lemmas.List.{append-nil}
 use Rattle.source_text.specs.declared.fault.Fault.{Fault}
-use Rattle.source_text.specs.declared.fault.Fault.TheVariants.{TooDeep, OutOfMemory}
+use Rattle.source_text.specs.declared.fault.Fault.TheVariants.{TooDeep}
 use Rattle.tokens.specs.declared.token.Goal.TheVariants.{Div}
 use Rattle.tokens.specs.Tokens.{LexicalToken}
 use Rattle.token_cursor.specs.CursorState.{CursorState, IsAhead}
@@ -22,7 +22,7 @@ use Rattle.language.specs.Claims.{max_open}
 use Rattle.token_cursor.proofs.SeenTokens.{seen_determined}
 use Rattle.language.proofs.table.OperatorTokens.{op_reads}
 use Rattle.language.proofs.climbing.OperatorLoop.{Leads, grows_height}
-use Rattle.covers.specs.Patterns.{pattern_tree}
+use Rattle.tree.specs.Patterns.{pattern_tree}
 use Rattle.covers.specs.Shapes.{is_target}
 use Rattle.parser_tables.specs.declared.operand.Operand.{Operand}
 use Rattle.parser_tables.specs.declared.expression_context.ExpressionContext.{ExpressionContext}
@@ -35,7 +35,7 @@ use Rattle.parser_tables.specs.Operators.{stops_by}
 use Rattle.parser_tables.specs.Operands.{plain_part}
 use Rattle.parser_tables.specs.Outcomes.{BecomesHere}
 use Rattle.recursive_descent.specs.Stages.{StageAs, Staged, InfixComplete}
-use Rattle.recursive_descent.proofs.complete_expressions.Agreement.{agrees_err, refuses_high, refuses_memory, refuses_unfit}
+use Rattle.recursive_descent.proofs.complete_expressions.Agreement.{agrees_err, refuses_high, refuses_unfit}
 use Rattle.token_cursor.proofs.TokensAhead.{ahead_read}
 use Rattle.recursive_descent.proofs.sound_expressions.BinaryNodes.{own_text}
 use Rattle.recursive_descent.proofs.reading.PatternEnds.{simple_itself}
@@ -110,8 +110,3 @@ module _ (s : CursorState) (p : ExpressionContext) (l : Operand) (v : LexicalTok
         let level : suc (parts_height nodes) ≡ suc (parts_height (part (pattern_tree l.cover.node) none)) = ap (λ ps. suc (parts_height ps)) nodes_are in
         agrees_err (Room s o (height n) high) (λ r. Staged s.text p o from to P r e.last Q old new a n) answer fault err
         (refuses_high (Room s o (height n) high) levels high fault deep above (λ (room : Room s o (height n) high). let fits = room.1 in omega arith))
-
--- memory is refused
-pub turn_memory : (s e : CursorState) (old new : List Pair) (high : ℕ) (p : ExpressionContext) (l : Operand) (answer : Result Operand Fault) (fault : Fault) → IsErrAnd answer (λ x. x ≡ fault) → fault ≡ OutOfMemory → InfixComplete s e old new high p l answer
-turn_memory s e old new high p l answer fault err is = λ a o n from to P Q R read stage own.
-    agrees_err (Room s o (height n) high) (λ r. Staged s.text p o from to P r e.last Q old new a n) answer fault err (refuses_memory (Room s o (height n) high) fault is)

@@ -32,7 +32,7 @@ use Rattle.covers.specs.declared.shape.TargetForm.{TargetForm}
 use Rattle.covers.specs.declared.shape.TargetForm.TheVariants as assigned
 use Rattle.covers.specs.declared.list.ListItem.{ListItem}
 use Rattle.covers.specs.declared.list.ListKind.TheVariants as listed
-use Rattle.covers.specs.Patterns.{pattern_tree}
+use Rattle.tree.specs.Patterns.{pattern_tree}
 use Rattle.covers.specs.Shapes.{is_pattern, is_element, value}
 use Rattle.token_cursor.specs.CursorState.{CursorState}
 use Rattle.parser_tables.specs.declared.operand.Operand.{Operand}

@@ -21,7 +21,7 @@ use Rattle.language.specs.Derivation.{done, step, within, missing, token, with_m
 use Rattle.language.proofs.list_loops.FirstPieces.{run_never}
 use Rattle.covers.specs.declared.list.ListKind.{ListKind}
 use Rattle.covers.specs.declared.list.ListKind.TheVariants as listed
-use Rattle.covers.specs.Patterns.{pattern_tree, pattern_parts}
+use Rattle.tree.specs.Patterns.{pattern_tree, pattern_parts}
 use Rattle.recursive_descent.specs.Soundness.{RunsIn, SpelledAs, read_as, all_read_as}
 use Rattle.recursive_descent.specs.SoundnessOfLists.{stood_in, left_of, has_reading, item_role, several, is_chunked}
 use Rattle.recursive_descent.specs.Follows.{Semicolons, none_passed, one_more}

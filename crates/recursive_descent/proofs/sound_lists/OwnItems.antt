@@ -7,7 +7,7 @@ use Rattle.tree.specs.Tree.{Tree, node, plain, Parts, none, part, gap, push_gap}
 use Rattle.covers.specs.declared.list.ListItem.{ListItem}
 use Rattle.covers.specs.declared.list.ListBuilder.{ListBuilder as ListOf}
 use Rattle.covers.specs.Lists.{with_hole}
-use Rattle.covers.specs.Patterns.{pattern_tree}
+use Rattle.tree.specs.Patterns.{pattern_tree}
 use Rattle.covers.specs.Shapes.{value}
 use Rattle.language.specs.declared.Edge.TheVariants.{Closed}
 use Rattle.language.specs.Token.{Token}

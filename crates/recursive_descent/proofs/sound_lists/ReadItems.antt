@@ -37,7 +37,7 @@ use Rattle.covers.specs.declared.list.ListKind.TheVariants as listed
 use Rattle.covers.specs.declared.list.ListBuilder.{ListBuilder as ListOf}
 use Rattle.covers.specs.Lists.{takes, with_hole}
 use Rattle.covers.specs.Refusals.{IsTaken}
-use Rattle.covers.specs.Patterns.{pattern_tree}
+use Rattle.tree.specs.Patterns.{pattern_tree}
 use Rattle.covers.specs.Shapes.{is_pattern, is_element, is_target, value}
 use Rattle.token_cursor.specs.CursorState.{CursorState}
 use Rattle.parser_tables.specs.declared.operand.Operand.{Operand}

@@ -19,7 +19,7 @@ use Rattle.covers.specs.declared.shape.TargetForm.{TargetForm}
 use Rattle.covers.specs.declared.shape.TargetForm.TheVariants as assigned
 use Rattle.covers.specs.declared.list.ListItem.{ListItem}
 use Rattle.covers.specs.declared.list.ListKind.TheVariants as listed
-use Rattle.covers.specs.Patterns.{pattern_tree}
+use Rattle.tree.specs.Patterns.{pattern_tree}
 use Rattle.covers.specs.Shapes as shapes
 use Rattle.language.specs.declared.Rank.TheVariants.{Assignment, Primary}
 use Rattle.language.specs.declared.Start.TheVariants.{Any}

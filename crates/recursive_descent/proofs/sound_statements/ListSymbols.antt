@@ -19,8 +19,8 @@ use Rattle.covers.specs.declared.list.ListKind.{ListKind}
 use Rattle.covers.specs.declared.list.ListKind.TheVariants as listed
 use Rattle.covers.specs.declared.list.ListBuilder.{ListBuilder as ListOf}
 use Rattle.covers.specs.Lists.{opening, closing}
-use Rattle.covers.specs.Patterns.{pattern_tree, pattern_parts, pattern_kind}
-use Rattle.covers.proofs.Patterns.{same_parts_height}
+use Rattle.tree.specs.Patterns.{pattern_tree, pattern_parts, pattern_kind}
+use Rattle.productions.proofs.PatternSummaries.{same_parts_height}
 use Rattle.language.specs.declared.Rank.TheVariants.{Expression}
 use Rattle.language.specs.declared.Start.{Start}
 use Rattle.language.specs.declared.Start.TheVariants.{Any}

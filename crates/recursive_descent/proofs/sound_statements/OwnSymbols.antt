@@ -9,7 +9,7 @@ use Rattle.tree.specs.Tree.{Tree, node, plain, Parts, none, join, push, push_gap
 use Rattle.covers.specs.declared.list.ListKind.{ListKind}
 use Rattle.covers.specs.declared.list.ListKind.TheVariants as listed
 use Rattle.covers.specs.declared.list.ListBuilder.{ListBuilder as ListOf}
-use Rattle.covers.specs.Patterns.{pattern_parts}
+use Rattle.tree.specs.Patterns.{pattern_parts}
 use Rattle.covers.proofs.BasePatterns.{pattern_parts_later}
 use Rattle.language.specs.declared.Edge.{Edge}
 use Rattle.parser_tables.specs.declared.symbol_lists.PartialStatement.{PartialStatement}

@@ -14,9 +14,9 @@ use Rattle.tree.specs.Tree.{Tree, Parts, none, part, join, push, kind_of, height
 use Rattle.tree.proofs.Shapes.{push-join}
 use Rattle.covers.specs.declared.shape.TargetForm.{TargetForm}
 use Rattle.covers.specs.declared.shape.TargetForm.TheVariants as assigned
-use Rattle.covers.specs.Patterns.{pattern_tree}
+use Rattle.tree.specs.Patterns.{pattern_tree}
 use Rattle.covers.specs.Shapes.{is_pattern, is_element}
-use Rattle.covers.proofs.Patterns.{same_height}
+use Rattle.productions.proofs.PatternSummaries.{same_height}
 use Rattle.language.specs.declared.Edge.{Edge}
 use Rattle.language.specs.declared.Rank.{Rank}
 use Rattle.language.specs.declared.Rank.TheVariants.{LeftHandSide, Primary}

@@ -8,6 +8,7 @@ use Rattle.language.specs.RowPositions.{rows}
 use Rattle.language.specs.Claims.{row_nodes, bound_at}
 use Rattle.cost_table.specs.Costs.{capped}
 use Rattle.cost_table.specs.Tables.{table_of}
+use Rattle.cost_table.specs.Weighed.{least_of}
 use Rattle.cost_certificate.specs.Checked.{shown}
 use Rattle.cost_certificate.specs.Faults.{first_fault}
 use Rattle.cost_certificate.specs.Walked.{wide_nodes, IsPassed}
@@ -64,7 +65,7 @@ returns-then-is_above-clause-answer c =
     let p = c.check_node-judged.result.passed in
     let h : IsPassed T (row_nodes n script) 0 p = script_passed T n p (subst (λ x. IsPassed T (wide_nodes x script) 0 p) c.root.ensures c.check_node-judged.ensures.passed) in
     let count = rows_are c.args.table.now.rows.items c.args.table.now.total in
-    let bound = c.least-bound.ensures ∙ c.check_node-judged.ensures.bounds Expression true Any ∙ ap (λ x. capped (bound_at T x script 1)) c.root.ensures in
+    let bound = c.least-bound.ensures ∙ ap (λ w. least_of w script) c.costs.ensures ∙ c.check_node-judged.ensures.bounds Expression true Any ∙ ap (λ x. capped (bound_at T x script 1)) c.root.ensures in
     answer_fault (first_fault T n) (0, reason.Total) T.total (record { row = 0; reason = reason.Total }) c.bad-then-is_above.result
     (total_last T n p c.least-bound.result true h c.in_default.is (omega (arith, count, c.if-judged-row_count.false, c.row_count.ensures)) c.in_default-fault.is (omega (arith, c.total.type_inv, c.total.ensures)) bound
     (ap (λ x. Rattle.cost_certificate.specs.Faults.is_above (Some x) c.least-bound.result) (sym c.total.ensures) ∙ sym c.is_above.ensures ∙ c.if-is_above.true)) refl c.bad-then-is_above.ensures
@@ -76,7 +77,7 @@ returns-clause-answer c =
     let p = c.check_node-judged.result.passed in
     let h : IsPassed T (row_nodes n script) 0 p = script_passed T n p (subst (λ x. IsPassed T (wide_nodes x script) 0 p) c.root.ensures c.check_node-judged.ensures.passed) in
     let count = rows_are c.args.table.now.rows.items c.args.table.now.total in
-    let bound = c.least-bound.ensures ∙ c.check_node-judged.ensures.bounds Expression true Any ∙ ap (λ x. capped (bound_at T x script 1)) c.root.ensures in
+    let bound = c.least-bound.ensures ∙ ap (λ w. least_of w script) c.costs.ensures ∙ c.check_node-judged.ensures.bounds Expression true Any ∙ ap (λ x. capped (bound_at T x script 1)) c.root.ensures in
     answer_total (first_fault T n) T.total c.total-2.result
     (total_last T n p c.least-bound.result false h c.in_default.is (omega (arith, count, c.if-judged-row_count.false, c.row_count.ensures)) c.in_default-fault.is (omega (arith, c.total.type_inv, c.total.ensures)) bound
     (ap (λ x. Rattle.cost_certificate.specs.Faults.is_above (Some x) c.least-bound.result) (sym c.total.ensures) ∙ sym c.is_above.ensures ∙ c.if-is_above.false)) c.total-2.ensures
@@ -88,7 +89,7 @@ returns-clause-bound c =
     let p = c.check_node-judged.result.passed in
     let h : IsPassed T (row_nodes n script) 0 p = script_passed T n p (subst (λ x. IsPassed T (wide_nodes x script) 0 p) c.root.ensures c.check_node-judged.ensures.passed) in
     let count = rows_are c.args.table.now.rows.items c.args.table.now.total in
-    let bound = c.least-bound.ensures ∙ c.check_node-judged.ensures.bounds Expression true Any ∙ ap (λ x. capped (bound_at T x script 1)) c.root.ensures in
+    let bound = c.least-bound.ensures ∙ ap (λ w. least_of w script) c.costs.ensures ∙ c.check_node-judged.ensures.bounds Expression true Any ∙ ap (λ x. capped (bound_at T x script 1)) c.root.ensures in
     let none = total_last T n p c.least-bound.result false h c.in_default.is (omega (arith, count, c.if-judged-row_count.false, c.row_count.ensures)) c.in_default-fault.is (omega (arith, c.total.type_inv, c.total.ensures)) bound
     (ap (λ x. Rattle.cost_certificate.specs.Faults.is_above (Some x) c.least-bound.result) (sym c.total.ensures) ∙ sym c.is_above.ensures ∙ c.if-is_above.false) in
     λ language text m P same d. subst (λ k. k ≤ length P) (sym c.total-2.ensures) (Rattle.cost_certificate.proofs.Faultless.faultless_bound T n none language text m P same d)

@@ -1,7 +1,8 @@
-use Rattle.std.proofs.Common.{◌≡◌, ◌∙◌, ℕ, ◌+◌, ◌<◌, ◌++◌, true, List, [], ◌∷◌, sym, ap, subst, refl, arith, rules, suc, Some}
+use Rattle.std.proofs.Common.{◌≡◌, ◌∙◌, ℕ, ◌+◌, ◌<◌, ◌++◌, true, [], sym, ap, subst, refl, arith, rules, suc, Some}
 use Rattle.tree.specs.Node.{node_tree, list_parts}
 use Rattle.tree.specs.Tree.{Parts, Tree, parts_of, part_at, part_count, node_total}
 use Rattle.tree.proofs.PartWalk.{part_smaller, parts_drop-some, parts_drop-gap, parts_drop-past}
+use Rattle.language.specs.declared.Rank.TheVariants.{Primary}
 use Rattle.language.specs.Grammar.{ways}
 use Rattle.language.specs.Expressions.{first_has_optional}
 use Rattle.language.specs.RowPositions.{first_roles, widest, rows, parts_rows}
@@ -13,14 +14,16 @@ use Rattle.spellings.specs.Spelled.{settled_roles}
 use Rattle.spellings.specs.Wherever.{with_own, spelled_by, chain_above}
 use Rattle.cost_table.specs.Costs.{sums, same_everywhere}
 use Rattle.cost_table.specs.Tables.{table_of}
-use Rattle.cost_table.specs.Weighed.{settled_at, fitting}
+use Rattle.cost_table.specs.Packed.{free_node}
+use Rattle.cost_table.specs.Weighed.{settled_at}
 use Rattle.cost_table.proofs.Sums.{zero-sums, zero-zero}
 use Rattle.cost_table.proofs.NodeRowNumbers.{chained_at}
 use Rattle.language.specs.Claims.{parts_bound}
-use Rattle.cost_certificate.specs.Walked.{wide_nodes, parts_wide_nodes, bounds_over, IsPassed, IsInside, IsBounded}
-use Rattle.cost_certificate.proofs.CheckedRows.{passed_same, one_passed}
-use Rattle.cost_certificate.proofs.CellRows.{own_fault, at_widest}
-use Rattle.cost_certificate.proofs.Bounds.{wide-length, rows_of, own_rows, nodes_inside, nodes_own, bounds_turn, bounds_skip, bounds_stop, bounds_finish, nodes_turn, nodes_skip, nodes_stop, nodes_finish, few_turn, few_skip, inside_some, inside_none, nodes_some, rows_some, nodes_none, bounded_inside, bounded_row}
+use Rattle.cost_certificate.specs.Walked.{wide_nodes, parts_wide_nodes, bounds_over, inside_of, weight_of, IsFreeLeaf, IsPassed, IsInside, IsBounded}
+use Rattle.cost_certificate.proofs.CheckedRows.{passed_on, passed_same}
+use Rattle.cost_certificate.proofs.WeighedNodes.{inside_fitted, bounded_hidden, bounded_free, passed_free}
+use Rattle.cost_certificate.proofs.FreeLeaves.{leaf_adds_nothing}
+use Rattle.cost_certificate.proofs.Bounds.{wide-length, rows_of, own_rows, nodes_inside, nodes_own, bounds_turn, bounds_skip, bounds_stop, bounds_finish, nodes_turn, nodes_skip, nodes_stop, nodes_finish, few_turn, few_skip, inside_none, nodes_some, rows_some, nodes_none}
 use Rattle.cost_certificate.proofs.check_rows.+judging.Goals as goal
 
 at_place : (ps qs : Parts) (i : ℕ) (u : Tree) → ps ≡ qs → Some u ≡ part_at ps i → Some u ≡ part_at qs i
@@ -45,12 +48,11 @@ pub check_inside-returns-clause-bounds : goal.check_inside-returns-clause-bounds
 check_inside-returns-clause-bounds t c =
     let T = table_of c.args.table.now.rows.items c.args.table.now.total in
     let a = role_of c.args.position in
-    let b = role_of c.widest-own.result in
     let n = node_tree c.args.node in
-    let costs = c.fitting.ensures ∙ ap (λ x. fitting b x c.check_parts-summed.result.sums) c.outline-outline.ensures in
-    subst (λ x. IsInside T a n (suc c.args.index) (record { outline = Some x; costs = c.fitting.result })) (sym c.outline-outline.ensures)
-    (inside_some T a b n (suc c.args.index) (spelled_by c.args.node c.widest-own.result c.in-Some.production) c.widest-own.ensures c.in-Some.ensures.ways
-    c.check_parts-summed.result.sums c.fitting.result c.check_parts-summed.ensures.sums costs)
+    let w = c.weigh_inside.result in
+    subst (λ b. IsInside T a n (suc c.args.index) (inside_of b w)) c.widest-own.ensures
+    (inside_fitted T a (role_of c.widest-own.result) n (suc c.args.index) (spelled_by c.args.node c.widest-own.result c.in-Some.production) c.check_parts-summed.result.sums (inside_of (role_of c.widest-own.result) w) c.widest-own.ensures c.in-Some.ensures.ways
+    c.check_parts-summed.ensures.sums c.weigh_inside.ensures)
 
 pub check_inside-returns-clause-passed : goal.check_inside-returns-clause-passed
 check_inside-returns-clause-passed t c =
@@ -65,7 +67,7 @@ check_node-check_inside-requires t c =
 
 pub check_node-returns-then-not-has_row-clause-bounds : goal.check_node-returns-then-not-has_row-clause-bounds
 check_node-returns-then-not-has_row-clause-bounds t c =
-    bounded_inside (table_of c.args.table.now.rows.items c.args.table.now.total) (role_of c.args.position) (node_tree c.args.node) (suc c.args.index) c.check_inside.result.weighed (sym c.has_row.ensures ∙ c.if-not-has_row.true) c.check_inside.ensures.bounds
+    bounded_hidden (table_of c.args.table.now.rows.items c.args.table.now.total) (role_of c.args.position) (node_tree c.args.node) (suc c.args.index) c.check_inside.result.weighed (sym c.has_row.ensures ∙ c.if-not-has_row.true) c.check_inside.ensures.bounds
 
 pub check_node-returns-then-not-has_row-clause-passed : goal.check_node-returns-then-not-has_row-clause-passed
 check_node-returns-then-not-has_row-clause-passed t c =
@@ -77,43 +79,37 @@ check_node-check_inside-inside-requires t c =
     let counts = own_rows (node_tree c.args.node) (role_of c.args.position) (sym c.has_row.ensures ∙ c.if-not-has_row.false) in
     (search rules, (c.requires.chain, omega (arith, few, counts)))
 
-pub check_node-misshapen-requires : goal.check_node-misshapen-requires
-check_node-misshapen-requires t c =
+pub check_node-check_row-requires : goal.check_node-check_row-requires
+check_node-check_row-requires t c =
     let few = c.requires.few in
     let counts = own_rows (node_tree c.args.node) (role_of c.args.position) (sym c.has_row.ensures ∙ c.if-not-has_row.false) in
     omega (arith, few, counts)
 
-pub check_node-fault-requires : goal.check_node-fault-requires
-check_node-fault-requires t c =
-    let few = c.requires.few in
-    let counts = own_rows (node_tree c.args.node) (role_of c.args.position) (sym c.has_row.ensures ∙ c.if-not-has_row.false) in
-    omega (arith, few, counts)
+pub check_node-returns-then-is_free_row-clause-bounds : goal.check_node-returns-then-is_free_row-clause-bounds
+check_node-returns-then-is_free_row-clause-bounds t c =
+    bounded_free (table_of c.args.table.now.rows.items c.args.table.now.total) (role_of c.args.position) (node_tree c.args.node) c.args.index c.in-Free.rank c.kind.result c.check_inside-inside.result.weighed (sym c.has_row.ensures ∙ c.if-not-has_row.false)
+    c.check_inside-inside.ensures.bounds c.in-Free.is (c.is_free_row.ensures c.if-is_free_row.true)
 
-pub check_node-returns-clause-bounds : goal.check_node-returns-clause-bounds
-check_node-returns-clause-bounds t c =
+pub check_node-returns-then-is_free_row-clause-passed : goal.check_node-returns-then-is_free_row-clause-passed
+check_node-returns-then-is_free_row-clause-passed t c =
     let T = table_of c.args.table.now.rows.items c.args.table.now.total in
     let a = role_of c.args.position in
     let n = node_tree c.args.node in
-    let w = c.check_inside-inside.result.weighed in
-    let next : suc (c.args.index + 1) ≡ suc (suc c.args.index) = omega arith in
-    let inside : IsInside T a n (suc (suc c.args.index)) w = subst (λ k. IsInside T a n k w) next c.check_inside-inside.ensures.bounds in
-    subst (λ o. IsBounded T a n (suc c.args.index) (record { outline = o; costs = c.row_costs-costs.result })) (sym c.of_symbol.ensures)
-    (bounded_row T a n (suc c.args.index) w.outline c.row_costs-costs.result w.costs (sym c.has_row.ensures ∙ c.if-not-has_row.false) inside c.row_costs-costs.ensures.costs c.row_costs-costs.ensures.small)
+    let row = sym c.has_row.ensures ∙ c.if-not-has_row.false in
+    passed_same T _ _ c.args.index c.check_inside-inside.result.passed (nodes_own n a row)
+    (passed_free T a n c.args.index c.in-Free.rank c.kind.result c.check_inside-inside.result.weighed (parts_wide_nodes (parts_of n) (first_roles (ways (widest a) n))) c.check_inside-inside.result.passed row
+    c.check_inside-inside.ensures.bounds c.in-Free.is (c.is_free_row.ensures c.if-is_free_row.true) c.kind.ensures c.check_inside-inside.ensures.passed)
+
+pub check_node-returns-clause-bounds : goal.check_node-returns-clause-bounds
+check_node-returns-clause-bounds t c = c.check_row.ensures.bounds (role_of c.args.position) (sym c.has_row.ensures ∙ c.if-not-has_row.false) c.check_inside-inside.ensures.bounds
 
 pub check_node-returns-clause-passed : goal.check_node-returns-clause-passed
 check_node-returns-clause-passed t c =
-    let T = table_of c.args.table.now.rows.items c.args.table.now.total in
     let a = role_of c.args.position in
     let n = node_tree c.args.node in
-    let w = c.check_inside-inside.result.weighed in
     let row = sym c.has_row.ensures ∙ c.if-not-has_row.false in
-    let next : suc (c.args.index + 1) ≡ suc (suc c.args.index) = omega arith in
-    let inside : IsInside T a n (suc (suc c.args.index)) w = subst (λ k. IsInside T a n k w) next c.check_inside-inside.ensures.bounds in
-    let fault = c.fault.ensures ∙ own_fault T n (suc c.args.index) c.row_costs-costs.result w.costs c.row_costs-costs.ensures.costs c.row_costs-costs.ensures.small (at_widest T a n (suc (suc c.args.index)) w.costs row inside.costs) in
-    passed_same T _ _ c.args.index c.joined.result (nodes_own n a row)
-    (c.joined.ensures.passed T (n ∷ []) (parts_wide_nodes (parts_of n) (first_roles (ways (widest a) n))) c.args.index
-    (one_passed T n c.args.index (record { next = c.args.index + 1; misshapen = c.misshapen.result; fault = c.fault.result }) refl c.misshapen.ensures.matched c.misshapen.ensures.within fault)
-    c.check_inside-inside.ensures.passed)
+    passed_same (table_of c.args.table.now.rows.items c.args.table.now.total) _ _ c.args.index c.check_row.result.passed (nodes_own n a row)
+    (c.check_row.ensures.passed a (parts_wide_nodes (parts_of n) (first_roles (ways (widest a) n))) row c.check_inside-inside.ensures.bounds c.check_inside-inside.ensures.passed)
 
 pub check_parts-loop-place-init : goal.check_parts-loop-place-init
 check_parts-loop-place-init t c =
@@ -181,7 +177,7 @@ check_parts-check_node-judged-requires t c =
     let e = c.in-Some-take.ensures in
     let few = c.loop-place.invariant.few in
     let counts = few_turn _ _ u a x (left_by c.loop-place.slots (list_parts c.parts-parts.result)) (left_by c.take.new.self (list_parts c.parts-parts.result)) p e in
-    let there = ap (rows u) c.resolve_slot.ensures in
+    let there = ap (rows u) c.resolve_slot-position.ensures in
     let above : c.holds_chain-is_chain.result ≡ true → first_has_optional ps ≡ true = λ h. c.requires.chain (ap (λ k. chain_above c.args.own k (outline_of c.args.production).front) (sym c.kind.ensures) ∙ sym c.holds_chain-is_chain.ensures ∙ h) in
     (search rules, (chained_at n u c.loop-place.place c.holds_chain-is_chain.result c.leads_chain-in_chain.result above (at_place _ _ c.loop-place.place (node_tree c.in-Some.part) c.parts-parts.ensures c.in-Some.ensures) c.leads_chain-in_chain.ensures, omega (arith, few, counts, there)))
 
@@ -192,12 +188,12 @@ check_parts-loop-place-preserved t c =
     let T = table_of c.args.table.now.rows.items c.args.table.now.total in
     let u = node_tree c.in-Some.part in
     let x = slot_of c.in-Some-take.slot in
-    let w = c.check_node-judged.result.weighed in
+    let w = weight_of c.check_node-judged.result.weighed in
     let p = parts_drop-some ps c.loop-place.place u (at_place _ _ c.loop-place.place (node_tree c.in-Some.part) c.parts-parts.ensures c.in-Some.ensures) in
     let e = c.in-Some-take.ensures in
     let r = suc c.loop-place.passed.next in
-    let q : IsBounded T (settled_at a x) u r w = subst (λ b. IsBounded T b u r w) c.resolve_slot.ensures c.check_node-judged.ensures.bounds in
-    let behind : IsPassed T (wide_nodes u (settled_at a x)) c.loop-place.passed.next c.check_node-judged.result.passed = subst (λ b. IsPassed T (wide_nodes u b) c.loop-place.passed.next c.check_node-judged.result.passed) c.resolve_slot.ensures c.check_node-judged.ensures.passed in
+    let q : IsBounded T (settled_at a x) u r w = subst (λ b. IsBounded T b u r w) c.resolve_slot-position.ensures c.check_node-judged.ensures.bounds in
+    let behind : IsPassed T (wide_nodes u (settled_at a x)) c.loop-place.passed.next c.check_node-judged.result.passed = subst (λ b. IsPassed T (wide_nodes u b) c.loop-place.passed.next c.check_node-judged.result.passed) c.resolve_slot-position.ensures c.check_node-judged.ensures.passed in
     let far = behind.next in
     let long = wide-length u (settled_at a x) in
     let to = c.joined-passed.ensures.next in
@@ -206,13 +202,46 @@ check_parts-loop-place-preserved t c =
     let counts = few_turn _ _ u a x (left_by c.loop-place.slots (list_parts c.parts-parts.result)) (left_by c.take.new.self (list_parts c.parts-parts.result)) p e in
     let b = c.loop-place.invariant.passed in
     record {
-      added = bounds_turn T _ _ _ _ _ u a x (left_by c.loop-place.slots (list_parts c.parts-parts.result)) (left_by c.take.new.self (list_parts c.parts-parts.result)) w c.loop-place.passed.next c.joined-passed.result.next c.loop-place.invariant.added p e q c.added-sums.ensures next;
-      whole = Rattle.cost_table.proofs.NodeRowNumbers.whole_turn _ _ _ c.added-sums.ensures;
+      added = bounds_turn T _ _ _ _ _ u a x (left_by c.loop-place.slots (list_parts c.parts-parts.result)) (left_by c.take.new.self (list_parts c.parts-parts.result)) w c.loop-place.passed.next c.joined-passed.result.next c.loop-place.invariant.added p e q c.with_part-sums.ensures next;
+      whole = Rattle.cost_table.proofs.NodeRowNumbers.whole_turn _ _ _ c.with_part-sums.ensures;
       few = omega (arith, few, counts, next);
       passed = record {
         nodes = b.nodes ++ wide_nodes u (settled_at a x);
         stand = nodes_turn b.nodes (wide_nodes u (settled_at a x)) _ _ _ u a x (left_by c.loop-place.slots (list_parts c.parts-parts.result)) (left_by c.take.new.self (list_parts c.parts-parts.result)) b.stand p e refl;
         passed = c.joined-passed.ensures.passed T b.nodes (wide_nodes u (settled_at a x)) c.args.index b.passed behind;
+      };
+    }
+
+pub check_parts-behind_free_leaf-requires : goal.check_parts-behind_free_leaf-requires
+check_parts-behind_free_leaf-requires t c = let few = c.loop-place.invariant.few in omega (arith, few)
+
+pub check_parts-loop-place-preserved-in-Some-behind_free_leaf : goal.check_parts-loop-place-preserved-in-Some-behind_free_leaf
+check_parts-loop-place-preserved-in-Some-behind_free_leaf t c =
+    let ps = parts_of (node_tree c.args.node) in
+    let a = role_of c.args.own in
+    let T = table_of c.args.table.now.rows.items c.args.table.now.total in
+    let u = node_tree c.in-Some.part in
+    let x = slot_of c.in-Some-take.slot in
+    let from = c.loop-place.passed.next in
+    let to = c.in-Some-behind_free_leaf.next in
+    let p = parts_drop-some ps c.loop-place.place u (at_place _ _ c.loop-place.place (node_tree c.in-Some.part) c.parts-parts.ensures c.in-Some.ensures) in
+    let e = c.in-Some-take.ensures in
+    let free : IsFreeLeaf T (settled_at a x) u from to = subst (λ b. IsFreeLeaf T b u from to) c.resolve_slot-position.ensures c.in-Some-behind_free_leaf.ensures in
+    let far = free.passed.next in
+    let long = wide-length u (settled_at a x) in
+    let next : to ≡ from + rows u (settled_at a x) = omega (arith, far, long) in
+    let few = c.loop-place.invariant.few in
+    let counts = few_turn _ _ u a x (left_by c.loop-place.slots (list_parts c.parts-parts.result)) (left_by c.take.new.self (list_parts c.parts-parts.result)) p e in
+    let b = c.loop-place.invariant.passed in
+    record {
+      added = bounds_turn T _ _ _ _ _ u a x (left_by c.loop-place.slots (list_parts c.parts-parts.result)) (left_by c.take.new.self (list_parts c.parts-parts.result)) (free_node Primary) from to c.loop-place.invariant.added p e free.bounds
+          (leaf_adds_nothing c.loop-place.sums x a c.loop-place.invariant.whole free.stands) next;
+      whole = c.loop-place.invariant.whole;
+      few = omega (arith, few, counts, next);
+      passed = record {
+        nodes = b.nodes ++ wide_nodes u (settled_at a x);
+        stand = nodes_turn b.nodes (wide_nodes u (settled_at a x)) _ _ _ u a x (left_by c.loop-place.slots (list_parts c.parts-parts.result)) (left_by c.take.new.self (list_parts c.parts-parts.result)) b.stand p e refl;
+        passed = passed_on T b.nodes (wide_nodes u (settled_at a x)) c.args.index to c.loop-place.passed b.passed free.passed;
       };
     }
 

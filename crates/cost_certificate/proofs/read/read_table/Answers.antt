@@ -1,7 +1,8 @@
 use Rattle.std.proofs.Common.{arith, ◌+◌, length, length-append, ap, sym, ◌∙◌, subst}
-use Rattle.std.specs.Prelude.{map}
+use Rattle.std.specs.Prelude.{map, option_map}
 use Rattle.cost_table.specs.Rows.{shown}
-use Rattle.cost_certificate.specs.Forms.{read_text, read_rows, split_lines, split_words}
+use Rattle.cost_certificate.specs.Forms.{read_text, read_rows, row_in, split_lines, split_words, total_in}
+use Rattle.cost_certificate.specs.SaidRows.{said}
 use Rattle.cost_certificate.specs.Words.{IsLine, format_of}
 use Rattle.cost_certificate.proofs.Fronts.{is_none, is_some}
 use Rattle.cost_certificate.proofs.RowLines.{behind_rows, first_line, row_on, bad_on, ends, total_on, more_on, row_eight, row_added, reads_bad, reads_table}
@@ -14,7 +15,7 @@ returns-then-not-is_empty-clause-table c =
     let rest = c.lines.rest.now in
     let first = first_line rest line others c.in-Some-line_length.length (subst (IsLine rest) c.in-Some-line_length.is c.line_length-in-lines.ensures) c.split_line-in-Some-line_length.ensures.line c.split_line-in-Some-line_length.ensures.behind in
     reads_bad (read_text c.args.text.now) (c.lines.expected + 1) c.bad-then-not-is_empty.result
-    (more_on (read_text c.args.text.now) (map shown c.lines.table.rows.items) (format_of c.in-Some-header.format) c.lines.expected c.in-Some-total.total rest line others c.lines.invariant.read first (sym c.total.ensures ∙ c.in-Some-total.is)
+    (more_on (read_text c.args.text.now) (map shown c.lines.table.rows.items) (format_of c.in-Some-header.format) c.lines.expected c.in-Some-total.total rest line others c.lines.invariant.read first (ap total_in c.split_word.ensures.words ∙ sym c.total.ensures ∙ c.in-Some-total.is)
     (is_some others c.is_empty.result c.is_empty.ensures c.if-not-is_empty.true))
     c.bad-then-not-is_empty.ensures
 
@@ -25,7 +26,7 @@ returns-in-Some-total-clause-table c =
     let rest = c.lines.rest.now in
     let first = first_line rest line others c.in-Some-line_length.length (subst (IsLine rest) c.in-Some-line_length.is c.line_length-in-lines.ensures) c.split_line-in-Some-line_length.ensures.line c.split_line-in-Some-line_length.ensures.behind in
     reads_table (read_text c.args.text.now) (format_of c.in-Some-header.format) c.lines.table.rows.items c.in-Some-total.total c.set_total.new.self
-    (total_on (read_text c.args.text.now) (map shown c.lines.table.rows.items) (format_of c.in-Some-header.format) c.lines.expected c.in-Some-total.total rest line others c.lines.invariant.read first (sym c.total.ensures ∙ c.in-Some-total.is)
+    (total_on (read_text c.args.text.now) (map shown c.lines.table.rows.items) (format_of c.in-Some-header.format) c.lines.expected c.in-Some-total.total rest line others c.lines.invariant.read first (ap total_in c.split_word.ensures.words ∙ sym c.total.ensures ∙ c.in-Some-total.is)
     (is_none others c.is_empty.result c.is_empty.ensures c.if-not-is_empty.false))
     c.set_total.ensures.rows c.set_total.ensures.total
 
@@ -36,7 +37,7 @@ returns-in_default-row-clause-table c =
     let rest = c.lines.rest.now in
     let first = first_line rest line others c.in-Some-line_length.length (subst (IsLine rest) c.in-Some-line_length.is c.line_length-in-lines.ensures) c.split_line-in-Some-line_length.ensures.line c.split_line-in-Some-line_length.ensures.behind in
     reads_bad (read_text c.args.text.now) c.lines.expected c.bad-in_default-row.result
-    (bad_on (read_text c.args.text.now) (map shown c.lines.table.rows.items) (format_of c.in-Some-header.format) c.lines.expected rest line others c.lines.invariant.read first (sym c.total.ensures ∙ c.in_default-total.is) (sym c.row.ensures ∙ c.in_default-row.is))
+    (bad_on (read_text c.args.text.now) (map shown c.lines.table.rows.items) (format_of c.in-Some-header.format) c.lines.expected rest line others c.lines.invariant.read first (ap total_in c.split_word.ensures.words ∙ sym c.total.ensures ∙ c.in_default-total.is) (ap (row_in (format_of c.in-Some-header.format) c.lines.expected) c.split_word.ensures.words ∙ sym c.row.ensures ∙ ap (option_map said) c.in_default-row.is))
     c.bad-in_default-row.ensures
 
 pub lines-preserved : goal.lines-preserved
@@ -46,17 +47,17 @@ lines-preserved c =
     let rest = c.lines.rest.now in
     let first = first_line rest line others c.in-Some-line_length.length (subst (IsLine rest) c.in-Some-line_length.is c.line_length-in-lines.ensures) c.split_line-in-Some-line_length.ensures.line c.split_line-in-Some-line_length.ensures.behind in
     let f = format_of c.in-Some-header.format in
-    let x = c.in-Some-row.found in
-    let found = sym c.row.ensures ∙ c.in-Some-row.is in
+    let x = said c.in-Some-row.found in
+    let found = ap (row_in f c.lines.expected) c.split_word.ensures.words ∙ sym c.row.ensures ∙ ap (option_map said) c.in-Some-row.is in
     let eight = row_eight f c.lines.expected (split_words line) x found in
     let few = eight.0 in
     let rows = c.lines.table.rows.items in
-    let added = c.in_ok-push_row.ensures.rows in
+    let added = c.in_ok-push_line.ensures in
     let count = c.lines.invariant.count in
     let more = ap length added ∙ length-append rows _ in
     record {
-      read = row_on (read_text c.args.text.now) (map shown rows) f c.lines.expected rest line others x c.lines.invariant.read first (sym c.total.ensures ∙ c.in_default-total.is) found
-          ∙ ap (λ xs. behind_rows xs (read_rows f (c.lines.expected + 1) (split_lines others).0 (split_lines others).1)) (sym (row_added rows c.push_row.new.self.rows.items x.0 x.1 added eight.1));
+      read = row_on (read_text c.args.text.now) (map shown rows) f c.lines.expected rest line others x c.lines.invariant.read first (ap total_in c.split_word.ensures.words ∙ sym c.total.ensures ∙ c.in_default-total.is) found
+          ∙ ap (λ xs. behind_rows xs (read_rows f (c.lines.expected + 1) (split_lines others).0 (split_lines others).1)) (sym (row_added rows c.push_line.new.table.rows.items c.in-Some-row.found added eight.1));
       count = omega (arith, count, more);
       few = omega (arith, few);
     }

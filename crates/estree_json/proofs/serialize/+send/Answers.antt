@@ -4,7 +4,9 @@ use Rattle.serde_json.specs.Data.{array, null}
 use Rattle.serde_json.specs.View.{items_of}
 use Rattle.tree.specs.Tree.{parts_of, part_at, part_count, text_of}
 use Rattle.tree.specs.Node.{node_tree}
+use Rattle.tree.proofs.KindsEqual.{kinds_equal}
 use Rattle.tree.proofs.PartWalk.{part_smaller}
+use Rattle.tree.specs.declared.kind.Kind.TheVariants.{Identifier}
 use Rattle.estree_json.specs.Texts.{literal_value, literal_regex, template_value}
 use Rattle.estree_json.specs.Json.{first_or_null, odd_ones, node_json, parts_json}
 use Rattle.estree_json.specs.Table.{from, by_lines, subject_of}
@@ -95,6 +97,12 @@ serialize_member-returns-in-TemplateValue g t c =
     let log = g.S.Serializer.written in
     rw c.in-TemplateValue.is (member_as c.template_member.result (codes "value") (template_value c.text-in-TemplateValue.result.now) (template_value (text_of (node_tree c.args.estree.node))) (log c.args.out.now) (log c.template_member.new.out) (ap template_value c.text-in-TemplateValue.ensures) c.template_member.ensures)
 
+pub serialize_node-serialize_identifier-requires : goal.serialize_node-serialize_identifier-requires
+serialize_node-serialize_identifier-requires g t c = sym c.kind.ensures ∙ (kinds_equal c.kind.result Identifier).0 (sym c.eq.ensures ∙ c.if-eq.true)
+
+pub serialize_node-returns-then-eq : goal.serialize_node-returns-then-eq
+serialize_node-returns-then-eq g t c = c.serialize_identifier.ensures c.args.estree.is_last
+
 pub serialize_node-loop-line-preserved : goal.serialize_node-loop-line-preserved
 serialize_node-loop-line-preserved g t c =
     let log = g.S.Serializer.written in
@@ -105,8 +113,8 @@ serialize_node-loop-line-preserved g t c =
 pub serialize_node-returns : goal.serialize_node-returns
 serialize_node-returns g t c =
     let log = g.S.Serializer.written in
-    node_sent c.end_object.result c.args.estree.is_last (node_tree c.args.estree.node) c.kind.result c.member_table-line-items.result.now c.loop-line.line-index (log c.args.out.now) (log c.begin_object.new.out) (log c.loop-line.out) (log c.end_object.new.out)
-    c.kind.ensures c.member_table-line-items.ensures.in_order c.in_ok-begin_object.ensures c.loop-line.invariant c.loop-line-test.false c.end_object.ensures
+    node_sent c.end_object.result c.args.estree.is_last (node_tree c.args.estree.node) c.kind-2.result c.member_table-line-items.result.now c.loop-line.line-index (log c.args.out.now) (log c.begin_object.new.out) (log c.loop-line.out) (log c.end_object.new.out)
+    c.kind-2.ensures c.member_table-line-items.ensures.in_order c.in_ok-begin_object.ensures c.loop-line.invariant c.loop-line-test.false c.end_object.ensures
 
 pub serialize_part-serialize_node-requires : goal.serialize_part-serialize_node-requires
 serialize_part-serialize_node-requires g t c κs within =

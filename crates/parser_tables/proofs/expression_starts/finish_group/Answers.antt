@@ -1,4 +1,7 @@
-use Rattle.std.proofs.Common.{◌≡◌, Bool, false, not, ◌&&◌, refl, ap, arith, rules}
+use Rattle.std.proofs.Common.{◌≡◌, Bool, false, not, ◌&&◌, refl, sym, ap, ◌∙◌, arith, rules}
+use Rattle.tree.specs.Tree.{push, join}
+use Rattle.tree.proofs.Joined.{join-one}
+use Rattle.parser_tables.specs.declared.operand.Operand.{Operand}
 use Rattle.parser_tables.specs.Items.{are_some}
 use Rattle.parser_tables.proofs.GroupSizes.{some_hole}
 use Rattle.parser_tables.proofs.expression_starts.finish_group.Goals as goal
@@ -10,3 +13,8 @@ returns-in-None-clause-made c =
 
 pub returns-in-Some-clause-made : goal.returns-in-Some-clause-made
 returns-in-Some-clause-made c = search rules
+
+-- the only part waits as it did
+pub returns-in-Some-clause-waits : goal.returns-in-Some-clause-waits
+returns-in-Some-clause-waits c base h =
+    h ∙ ap (join base) c.in-Some.ensures.only ∙ join-one base c.in-Some.node ∙ ap (λ (p : Operand). push base p.cover.node) (sym c.group_operand-in-Some.ensures)

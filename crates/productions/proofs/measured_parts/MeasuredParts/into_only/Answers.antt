@@ -1,9 +1,9 @@
-use Rattle.std.proofs.Common.{◌≡◌, ◌∙◌, arith}
-use Rattle.productions.proofs.Heights.{one_part}
+use Rattle.std.proofs.Common.{sym, ◌∙◌, arith}
+use Rattle.productions.proofs.Growing.{only_one}
 use Rattle.productions.proofs.measured_parts.MeasuredParts.into_only.Goals as goal
 
--- several parts aren't one
-pub returns-then-len-ne1-clause-none : goal.returns-then-len-ne1-clause-none
-returns-then-len-ne1-clause-none c t h =
-    let one = one_part c.into_items-items.result.items t (c.into_items-items.ensures ∙ c.self.view_is ∙ h) in
-    absurd (omega (arith, c.if-len-ne1.true, c.len.ensures, one))
+pub invariant_of-result : goal.invariant_of-result
+invariant_of-result c = only_one c.self.inside.shown.parts c.in-Some.summary (omega arith) (sym c.in-Some.is ∙ c.self.invariant.2)
+
+pub returns-clause-only : goal.returns-clause-only
+returns-clause-only c = sym c.self.view_is ∙ (only_one c.self.inside.shown.parts c.in-Some.summary (omega arith) (sym c.in-Some.is ∙ c.self.invariant.2)).0

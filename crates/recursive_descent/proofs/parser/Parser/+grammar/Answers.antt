@@ -6,7 +6,7 @@ use Rattle.std.proofs.Common.{rules, ◌≡◌, ◌≤◌, true, false, sym, ref
 use Rattle.std.specs.Prelude.{◌&&◌, not, [], Some, true, false, codes, IsTrue, IfOk, None, map}
 use Rattle.std.proofs.lemmas.Bool.{false≢true}
 use Rattle.tree.specs.declared.kind.Kind.TheVariants.{ForOfStatement, PropertyDefinition, StaticBlock, ChainExpression, SwitchCase, VariableDeclarator, ArrowFunctionExpression, Identifier, Property, AssignmentExpression, UpdateExpression, SequenceExpression, BlockStatement, CatchClause, CallExpression, ImportExpression, MemberExpression, NewExpression}
-use Rattle.tree.specs.Tree.{node, plain, kind_of, part, gap, none, push, push_gap, height, parts_height, flags_of, join}
+use Rattle.tree.specs.Tree.{Parts, node, plain, kind_of, part, gap, none, push, push_gap, height, parts_height, join}
 use Rattle.tokens.specs.Scanned.{token_of}
 use Rattle.tokens.specs.declared.token.TokenClass.TheVariants.{IdentifierName, Punctuator}
 use Rattle.covers.specs.Shapes.{initialized, is_target, value}
@@ -19,14 +19,15 @@ use Rattle.language.specs.declared.Rank.TheVariants.{LeftHandSide, Primary, Call
 use Rattle.language.specs.declared.Edge.TheVariants.{Other, Closed, Postfix}
 use Rattle.covers.specs.declared.list.ListItem.{ListItem}
 use Rattle.covers.specs.declared.list.ListKind.TheVariants.{Cases, Declarators, Elements, Members, Properties, Sequence}
-use Rattle.covers.specs.Patterns.{pattern_tree, pattern_parts}
+use Rattle.tree.specs.Patterns.{pattern_tree, pattern_parts}
 use Rattle.language.specs.Vocabulary.{is_target as is_simple, takes, is_identifier}
 use Rattle.recursive_descent.specs.Soundness.{Adds, ReadAt, WordedAt, ArrowAt, RunsIn, anywhere}
-use Rattle.recursive_descent.specs.Complete.{KeywordExpressionComplete, ArrowComplete}
+use Rattle.recursive_descent.specs.Complete.{KeywordExpressionComplete, ArrowComplete, SymbolsComplete}
+use Rattle.recursive_descent.specs.SoundnessOfStatements.{BuiltAt}
 use Rattle.parser_tables.specs.declared.expression_starts.ExpressionStart.TheVariants.{Super, New, Import}
 use Rattle.parser_tables.specs.Moves.{BeginsList}
 use Rattle.recursive_descent.specs.Arms.{is_apart}
-use Rattle.recursive_descent.proofs.reading.RemainingArms.{is_other_list, no_short, not_apart, of_elements, short_opening}
+use Rattle.recursive_descent.proofs.reading.RemainingArms.{is_other_list, not_apart, of_elements}
 use Rattle.parser_tables.specs.Outcomes.{BeginsBy}
 use Rattle.token_cursor.specs.CursorState.{IsPlaceHere, CursorState, Passes}
 use Rattle.parser_tables.specs.Items.{group_levels, is_grouped, list_group, after_item, item_from, with_item, listed_node, listed_part, property_item}
@@ -66,6 +67,7 @@ use Rattle.recursive_descent.proofs.sound_statements.FunctionsAndClasses.{closed
 use Rattle.recursive_descent.proofs.sound_expressions.ExpressionParts.{turn_on}
 use Rattle.recursive_descent.proofs.sound_properties.Definitions.{spread_item as rest_item, value_item, map_ok}
 use Rattle.recursive_descent.proofs.sound_properties.PropertyValues.{is_free, pair_value, lone_value, default_value}
+use Rattle.recursive_descent.proofs.reading.WaitingNodes.{waits_none, waits_one, waits_first, waits_two, waits_push, waits_on, waits_gap, waits_join, waits_behind, hole_waits, item_waits}
 use Rattle.recursive_descent.proofs.reading.PassedTokens.{passes_behind, passes_further}
 use Rattle.recursive_descent.proofs.sound_expressions.InfixTurns.{step_reads, sequence_reads, no_tag_there, in_there, sided_on, call_there, chain_there, dot_there, chain_reads, no_chain_there, linked_reads, meant_symbol}
 use Rattle.recursive_descent.proofs.sound_statements.StatementLists.{all_directive, and_true, still, push_low, statements_first, statements_on}
@@ -84,8 +86,8 @@ use Rattle.recursive_descent.proofs.sound_properties.MethodItems.{method_node, m
 use Rattle.covers.specs.Lists.{closing}
 use Rattle.recursive_descent.specs.declared.parser.Parser.{Parser}
 use Rattle.recursive_descent.proofs.sound_lists.ListEnds.{ItemsFrom, closed_list, last_follows, none_follows}
-use Rattle.recursive_descent.proofs.parser.Parser.+grammar.Goals.{declarator-else-has_value+in_ok-push_gap, declarator-else-not-is_name, declarator-then-has_value+in_ok-value+in_ok-into_expression+in_ok-push, declarator-then-not-is_name, property_or_member-else-not-in_class-via-else-not-in_class, property_or_member-else-not-in_class-via-then-not-in_class+else-accept_punctuator, property_or_member-else-not-matches, property_or_member-in-Method, property_or_member-in_default, property_or_member-then-not-matches, special_item-else-is_default, item-in_default-via-in-Elements+else-sees_punctuator, item-in_default-via-in_default, special_item-then-is_default+in_ok-push_gap-in-Cases, other_subscript-in-Arguments+in_ok-arguments-in-Arguments+in_ok-append-in-Arguments, index_member-in-Call, index_member-in_default, other_subscript-in-Call, other_subscript-in-Index+in_ok-expect_punctuator-in-Index+in_ok-index-in-Index+in_ok-into_expression-in-Index+in_ok-push-in-Index+in_ok-expect_punctuator-in-Index-2, other_subscript-in-Name+in_ok-name-in-Name+in_ok-token_node-in-Name+in_ok-push-in-Name, other_subscript-in-Quasi+in_ok-list-in-Quasi+in_ok-list-in-Quasi-2+in_ok-finish_list-in-Quasi+in_ok-push-in-Quasi, other_subscript-in_default, list-else-items-test, list-else-not-matches, list-in-Sequence, list-in-Some+in_ok-expect_punctuator, list-in_default, list-in_default-closer, list-then-items-test+in_ok-item+then-not-is_separated, list-then-not-matches, read_symbols-in-Binding+in_ok-part-in-Binding+in_ok-add_expression-in-Binding, read_symbols-in-Block+in_ok-left-in-Block+in_ok-list-in-Block+in_ok-expect_punctuator-in-Block+in_ok-finish_plain-in-Block+in_ok-push-in-Block, read_symbols-in-Expression+in_ok-part-in-Expression+in_ok-add_expression-in-Expression, read_symbols-in-Gap+in_ok-push_gap-in-Gap, read_symbols-in-Handler+in_ok-read_symbols-in-Handler+in_ok-finish_plain-in-Handler+in_ok-push-in-Handler, read_symbols-in-Items+in_ok-statements-in-Items+in_ok-append-in-Items, read_symbols-in-List+in_ok-list-in-List+in_ok-list-in-List-2+in_ok-add_list-in-List, read_symbols-in-Nothing, read_symbols-in-Statement+in_ok-statement-in-Statement+in_ok-push-in-Statement, binary_rest-in-Question+in_ok-part+in_ok-into_expression+in_ok-push+in_ok-expect_punctuator, binary_rest-in_default, statement-else-eq-2, statement-in-Expression+in_ok-part-in-Expression+else-not-is_label+in_ok-push-in-Expression, statement-in-OfKind+else-eq, statement-else-eq-via-then-eq+else-sees_await, statement-else-eq-via-else-eq, statement-in-Variable, statement-in_default, statement-then-eq-2+in_ok-what+in_ok-read_symbols-2, statements-else-context, statements-then-context, property_value-else-accept_punctuator-2, property_value-then-accept_punctuator-2+in_ok-right+in_ok-into_expression+in_ok-nodes-2+in_ok-value-3, new_expression-else-sees_punctuator, new_expression-then-sees_punctuator+in_ok-arguments+in_ok-append, token_or_prefix-else-is_name-via-else-is_name, token_or_prefix-else-is_name-via-then-is_name+else-sees_arrow, token_or_prefix-else-is_name-via-then-is_name+then-sees_arrow+else-accepts_rank, parenthesized-else-sees_arrow-via-else-sees_arrow, parenthesized-else-sees_arrow-via-then-sees_arrow+else-accepts_rank}
-use Rattle.recursive_descent.proofs.parser.Parser.+grammar.Goals.{property_or_member-then-in_class-2, property_or_member-else-in_class-2, property_or_member-then-not-is_of_2022, property_or_member-else-not-is_of_2022, property_or_member-else-in_class-via-then-in_class+else-begins_static_block, property_or_member-else-in_class-via-else-in_class, field-then-accept_punctuator+in_ok-value+in_ok-into_expression+in_ok-push-2, field-else-accept_punctuator+in_ok-push_gap}
+use Rattle.recursive_descent.proofs.parser.Parser.+grammar.Goals.{declarator-else-has_value+in_ok-push_gap, declarator-else-not-is_name, declarator-then-has_value+in_ok-value+in_ok-into_expression+in_ok-push, declarator-then-not-is_name, property_or_member-else-not-in_class-via-else-not-in_class, property_or_member-else-not-in_class-via-then-not-in_class+else-accept_punctuator, property_or_member-else-not-matches, property_or_member-in-Method, property_or_member-in_default, property_or_member-then-not-matches, special_item-else-is_default, item-in_default-via-in-Elements+else-sees_punctuator, item-in_default-via-in_default, special_item-then-is_default+in_ok-push_gap-in-Cases, other_subscript-in-Arguments+in_ok-arguments-in-Arguments+in_ok-append-in-Arguments, index_member-in-Call, index_member-in_default, other_subscript-in-Call, other_subscript-in-Index+in_ok-expect_punctuator-in-Index+in_ok-index-in-Index+in_ok-into_expression-in-Index+in_ok-push-in-Index+in_ok-expect_punctuator-in-Index-2, other_subscript-in-Name+in_ok-name-in-Name+in_ok-token_node-in-Name+in_ok-push-in-Name, other_subscript-in-Quasi+in_ok-list-in-Quasi+in_ok-list-in-Quasi-2+in_ok-finish_list-in-Quasi+in_ok-push-in-Quasi, other_subscript-in_default, list-else-items-test, list-else-not-matches, list-in-Sequence, list-in-Some+in_ok-expect_punctuator, list-in_default, list-in_default-closer, list-then-items-test+in_ok-item+then-not-is_separated, list-then-not-matches, read_symbols-in-Binding+in_ok-part-in-Binding+in_ok-add_expression-in-Binding, read_symbols-in-Block+in_ok-left-in-Block+in_ok-list-in-Block+in_ok-expect_punctuator-in-Block+in_ok-block-in-Block+in_ok-push-in-Block, read_symbols-in-Expression+in_ok-part-in-Expression+in_ok-add_expression-in-Expression, read_symbols-in-Gap+in_ok-push_gap-in-Gap, read_symbols-in-Handler+in_ok-read_symbols-in-Handler+in_ok-handler-in-Handler+in_ok-push-in-Handler, read_symbols-in-Items+in_ok-statements-in-Items+in_ok-append-in-Items, read_symbols-in-List+in_ok-list-in-List+in_ok-list-in-List-2+in_ok-add_list-in-List, read_symbols-in-Nothing, read_symbols-in-Statement+in_ok-statement-in-Statement+in_ok-push-in-Statement, binary_rest-in-Question+in_ok-part+in_ok-into_expression+in_ok-push+in_ok-expect_punctuator, binary_rest-in_default, statement-else-eq-2, statement-in-Expression+in_ok-part-in-Expression+else-not-is_label+in_ok-push-in-Expression, statement-in-OfKind+else-eq, statement-else-eq-via-then-eq+else-sees_await, statement-else-eq-via-else-eq, statement-in-Variable, statement-in_default, statement-then-eq-2+in_ok-what+in_ok-read_symbols-2, statements-else-context, statements-then-context, property_value-else-accept_punctuator-2, property_value-then-accept_punctuator-2+in_ok-right+in_ok-into_expression+in_ok-value-3, new_expression-else-sees_punctuator, new_expression-then-sees_punctuator+in_ok-arguments+in_ok-append, one_token-else-is_name-via-else-is_name, one_token-else-is_name-via-then-is_name+else-sees_arrow, one_token-else-is_name-via-then-is_name+then-sees_arrow+else-accepts_rank, parenthesized-else-sees_arrow-via-else-sees_arrow, parenthesized-else-sees_arrow-via-then-sees_arrow+else-accepts_rank}
+use Rattle.recursive_descent.proofs.parser.Parser.+grammar.Goals.{property_or_member-then-in_class-2, property_or_member-else-in_class-2, property_or_member-then-not-is_of_2022, property_or_member-else-not-is_of_2022, property_or_member-else-in_class-via-then-in_class+else-begins_static_block, property_or_member-else-in_class-via-else-in_class, field-then-accept_punctuator+in_ok-value+in_ok-into_expression+in_ok-push, field-else-accept_punctuator+in_ok-push_gap}
 use Rattle.language.specs.Continuations.{operation}
 use Rattle.recursive_descent.proofs.complete_expressions.Stages.{starts}
 use Rattle.recursive_descent.proofs.complete_expressions.LastStage.{concluded, stage_first, stage_next, stage_turned, same_room}
@@ -93,7 +95,7 @@ use Rattle.recursive_descent.proofs.complete_expressions.StageTurns.{turn_sided,
 use Rattle.recursive_descent.proofs.complete_subscripts.ChainsOnSpine.{turn_chain}
 use Rattle.recursive_descent.proofs.complete_expressions.SequenceTurns.{sequence_staged, sequence_refused, commas_refused, sequence_high}
 use Rattle.recursive_descent.proofs.complete_expressions.NoArrowTurns.{no_arrow}
-use Rattle.recursive_descent.proofs.sound_expressions.UpdateTurns.{own_there, stepping, step_staged, step_unfit, step_high, turn_memory}
+use Rattle.recursive_descent.proofs.sound_expressions.UpdateTurns.{own_there, stepping, step_staged, step_unfit, step_high}
 use Rattle.recursive_descent.proofs.complete_expressions.Agreement.{agrees_on, not_missed, agrees_err, refuses_high, refuses_memory, room_part, ends_behind, ends_before}
 use Rattle.recursive_descent.specs.Completeness.{Room, EndsWith, IsRead, IsFirst}
 use Rattle.recursive_descent.specs.Spelled.{OfLanguage, AllOfLanguage}
@@ -178,7 +180,7 @@ use Rattle.recursive_descent.proofs.complete_expressions.OneTokenGiven.{single_p
 use Rattle.recursive_descent.proofs.complete_expressions.StartsGiven.{begins_nothing}
 use Rattle.recursive_descent.proofs.sound_expressions.CodedStarts.{coded_plain}
 use Rattle.parser_tables.specs.declared.expression_starts.ExpressionStart.TheVariants.{List}
-use Rattle.recursive_descent.proofs.sound_expressions.StartsOfLanguage.{prefix_language, list_language, short_stands, word_first}
+use Rattle.recursive_descent.proofs.sound_expressions.StartsOfLanguage.{prefix_language, list_language, word_first}
 use Rattle.recursive_descent.proofs.sound_expressions.KeywordExpressions.{stands_plainly}
 use Rattle.parser_tables.specs.ExpressionStarts.{coded_in}
 use Rattle.recursive_descent.specs.Later.{FormOfLanguage}
@@ -214,6 +216,7 @@ expression-turns-init t c =
       forward = passed.0;
       within = passed.1;
       derived = c.in_ok-part.ensures.derived;
+      waits = c.in_ok-part.ensures.waits;
       low = c.in_ok-part.ensures.low;
       own = c.in_ok-part.ensures.own;
       complete = λ a o n to P g own. let u = starts c.args.self.now.cursor.text c.args.position a g in
@@ -239,6 +242,7 @@ expression-turns-preserved t c =
       forward = omega arith;
       within = v.within;
       derived = turn_on v.same v.derived c.in_ok-part-2.ensures.derived;
+      waits = c.in_ok-part-2.ensures.waits c.args.self.now.tree v.waits;
       low = c.in_ok-part-2.ensures.low;
       own = subst (λ x. OfLanguage x c.in_ok-part-2.part.cover.node) v.same (c.in_ok-part-2.ensures.own (subst (λ x. OfLanguage x c.turns.part.cover.node) (sym v.same) v.own));
       complete = λ a o n to P g own. let u = v.complete a o n to P g own in stage_next u (stage_turned c.infix.new.self.cursor c.infix.new.self.pairs.items c.args.high (Ok c.in_ok-part-2.part) v.same v.derived u own c.in_ok-part-2.ensures.complete);
@@ -251,6 +255,7 @@ statements-statements-init t c =
       same = refl;
       forward = omega arith;
       derived = statements_first c.args.context c.new-nodes.result c.new-nodes.ensures;
+      waits = waits_none c.new-nodes.ensures;
       items = refl;
       returns = refl;
       before = sym (ap (λ ps. c.args.context.is_prologue && all_directive ps) c.new-nodes.ensures ∙ and_true c.args.context.is_prologue);
@@ -268,7 +273,7 @@ statements-statements-preserved t c =
     let further = c.statement.ensures.forward in
     let context : c.if-context.context ≡ (c.statements.context.is_prologue && is_directive n) =
     elim c.if-context.branch [
-      | statements-then-context w ↦ w.context-is ∙ ap (λ f. f.directive) (w.flags.ensures ∙ ap flags_of w.node.ensures) ∙ sym (ap (λ x. x && is_directive n) w.if-context.true)
+      | statements-then-context w ↦ w.context-is ∙ w.is_directive.ensures ∙ sym (ap (λ x. x && is_directive n) w.if-context.true)
       | statements-else-context w ↦ w.context-is ∙ w.if-context.false ∙ sym (ap (λ x. x && is_directive n) w.if-context.false)
     ] in
     record {
@@ -276,6 +281,7 @@ statements-statements-preserved t c =
       forward = omega arith;
       derived = subst (λ ps. Adds c.args.self.now.cursor c.statement.new.self.cursor c.args.self.now.pairs.items c.statement.new.self.pairs.items (StatementsAt c.args.self.now.cursor.text c.args.context ps)) (sym pushed)
           (statements_on c.args.context c.statements.context c.statements.nodes n v.same v.items v.returns v.before v.derived c.in_ok-statement.ensures.derived);
+      waits = waits_push c.args.self.now.tree c.statements.nodes n v.waits c.in_ok-statement.ensures.waits pushed;
       items = v.items;
       returns = v.returns;
       before = context ∙ still c.statements.context.is_prologue c.args.context.is_prologue c.statements.nodes n v.before ∙ ap (λ ps. c.args.context.is_prologue && all_directive ps) (sym pushed);
@@ -321,19 +327,19 @@ pub for_await-returns-clause-derived : goal.for_await-returns-clause-derived
 for_await-returns-clause-derived t c =
     await_read c.args.self.now.cursor c.accept_await.new.self c.read_symbols.new.self.cursor c.read_symbols-2.new.self.cursor c.args.self.now.pairs.items c.args.self.now.pairs.items c.read_symbols.new.self.pairs.items c.read_symbols-2.new.self.pairs.items c.args.context.returns c.args.start c.args.high _ _ c.new-built.result c.read_symbols.new.built c.read_symbols-2.new.built
     c.finish_node.result c.if-not-accept_await.ensures.accepted c.accept_await.ensures.text c.accept_await.ensures.same_open refl (ap (λ d. d.nodes) c.new-built.ensures) (ap (λ d. d.edge) c.new-built.ensures) c.statement_symbols-head.ensures c.statement_symbols-rest.ensures c.in_ok-read_symbols.ensures.derived c.read_symbols.ensures.text c.in_ok-read_symbols-2.ensures.derived
-    (subst (λ x. Makes (node ForOfStatement [] (form_flags Async) x.start x.end c.read_symbols-2.new.built.nodes) c.args.high c.finish_node.result) c.span_from-span.ensures c.finish_node.ensures)
+    (subst (λ x. Makes (node ForOfStatement [] (form_flags Async) x.start x.end c.read_symbols-2.new.built.nodes) c.args.high c.finish_node.result) c.span_from-span.ensures c.finish_node.ensures.made)
 
 pub for_await-returns-clause-own : goal.for_await-returns-clause-own
 for_await-returns-clause-own t c =
     await_own c.args.start c.args.high _ c.read_symbols-2.new.built.nodes c.finish_node.result c.if-not-accept_await.ensures.accepted (own_twice c.accept_await.ensures.text c.read_symbols.ensures.text (ap (λ d. d.nodes) c.new-built.ensures) c.in_ok-read_symbols.ensures.own c.in_ok-read_symbols-2.ensures.own)
-    (subst (λ x. Makes (node ForOfStatement [] (form_flags Async) x.start x.end c.read_symbols-2.new.built.nodes) c.args.high c.finish_node.result) c.span_from-span.ensures c.finish_node.ensures)
+    (subst (λ x. Makes (node ForOfStatement [] (form_flags Async) x.start x.end c.read_symbols-2.new.built.nodes) c.args.high c.finish_node.result) c.span_from-span.ensures c.finish_node.ensures.made)
 
 pub for_await-returns-clause-complete : goal.for_await-returns-clause-complete
 for_await-returns-clause-complete t c =
     await_made c.args.self.now.cursor c.accept_await.new.self c.args.self.now.pairs.items c.args.self.now.pairs.items c.args.context.returns c.args.start c.args.high c.saturating_sub-inner.result _ c.new-built.result c.if-not-accept_await.ensures.accepted c.accept_await.ensures.text c.accept_await.ensures.same_open refl
     c.saturating_sub-inner.ensures (ap (λ d. d.nodes) c.new-built.ensures) (ap (λ d. d.edge) c.new-built.ensures) c.statement_symbols-head.ensures c.read_symbols.new.self.cursor c.read_symbols.new.self.pairs.items c.read_symbols.new.built c.read_symbols.ensures.text c.in_ok-read_symbols.ensures.derived.same_open c.in_ok-read_symbols.ensures.complete
     _ c.statement_symbols-rest.ensures c.read_symbols-2.new.self.cursor c.read_symbols-2.new.self.pairs.items c.read_symbols-2.new.built c.finish_node.result c.in_ok-read_symbols-2.ensures.complete
-    (subst (λ x. Makes (node ForOfStatement [] (form_flags Async) x.start x.end c.read_symbols-2.new.built.nodes) c.args.high c.finish_node.result) c.span_from-span.ensures c.finish_node.ensures)
+    (subst (λ x. Makes (node ForOfStatement [] (form_flags Async) x.start x.end c.read_symbols-2.new.built.nodes) c.args.high c.finish_node.result) c.span_from-span.ensures c.finish_node.ensures.made)
 
 pub optional_chain-links-init : goal.optional_chain-links-init
 optional_chain-links-init t c = record {
@@ -341,6 +347,7 @@ optional_chain-links-init t c = record {
   forward = c.in_ok-part.ensures.passes.0;
   within = c.in_ok-part.ensures.passes.1;
   derived = chain_first c.requires.chains c.in_ok-part.ensures.derived;
+  waits = c.in_ok-part.ensures.waits;
   own = c.in_ok-part.ensures.own;
   agrees = first_linked c.args.self.now.cursor c.subscript.new.self.cursor c.args.self.now.pairs.items c.subscript.new.self.pairs.items c.saturating_sub-inner.result c.args.left c.in_ok-part.part c.in_ok-part.ensures.complete;
 }
@@ -354,15 +361,16 @@ optional_chain-links-preserved t c =
       forward = omega arith;
       within = c.links.invariant.within;
       derived = chain_on c.links.invariant.same c.links.invariant.derived c.if-sees_template.ensures.missed c.in_ok-part-2.ensures.derived;
+      waits = λ base h. c.in_ok-part-2.ensures.waits base (c.links.invariant.waits base h);
       own = λ object. subst (λ x. OfLanguage x c.in_ok-part-2.part.cover.node) c.links.invariant.same (c.in_ok-part-2.ensures.own (subst (λ x. OfLanguage x c.links.part.cover.node) (sym c.links.invariant.same) (c.links.invariant.own object)));
       agrees = next_linked c.args.self.now.cursor c.links.self.cursor c.args.self.now.pairs.items c.links.self.pairs.items c.args.left c.links.part c.links.invariant.agrees c.links.invariant.same c.links.invariant.derived.same_open c.links-test.ensures.seen c.subscript-in-links.new.self.cursor c.subscript-in-links.new.self.pairs.items c.saturating_sub-inner.result c.in_ok-part-2.part c.in_ok-part-2.ensures.complete;
     }
 
 pub optional_chain-returns-clause-derived : goal.optional_chain-returns-clause-derived
 optional_chain-returns-clause-derived t c =
-    let parts = c.in_ok-nodes.ensures.made ∙ ap (λ n. part n none) c.in_ok-into_expression.ensures.settled.0 in
-    let span = c.span_from.ensures in
-    let tree : c.in_ok-node.node ≡ node ChainExpression [] plain c.args.left.start c.links.self.cursor.last.stop (part c.links.part.cover.node none) = c.in_ok-node.ensures.0 ∙ (λ i. node ChainExpression [] plain (span i).start (span i).end (parts i)) in
+    let parts = c.one-nodes.ensures ∙ ap (λ n. part n none) c.in_ok-into_expression.ensures.settled.0 in
+    let span = c.span_from-span.ensures in
+    let tree : c.in_ok-node.node ≡ node ChainExpression [] plain c.args.left.start c.links.self.cursor.last.stop (part c.links.part.cover.node none) = c.in_ok-node.ensures.made.0 ∙ (λ i. node ChainExpression [] plain (span i).start (span i).end (parts i)) in
     let result : c.plain.result ≡ plain_part (node ChainExpression [] plain c.args.left.start c.links.self.cursor.last.stop (part c.links.part.cover.node none)) LeftHandSide Other = c.plain.ensures ∙ ap (λ n. plain_part n LeftHandSide Other) tree in
     chain_returned c.links.part result (chain_whole c.links.invariant.derived)
 
@@ -379,29 +387,29 @@ pub optional_chain-returns-in_err-into_expression-clause-complete : goal.optiona
 optional_chain-returns-in_err-into_expression-clause-complete t c = chain_unsettled c.args.self.now.cursor c.links.self.cursor c.args.self.now.pairs.items c.links.self.pairs.items c.args.high c.args.left c.links.part c.links.invariant.agrees c.links.invariant.same c.links-test.ensures.missed _ c.in_err-into_expression.ensures.settled.1
 
 pub optional_chain-returns-in_err-node-clause-complete : goal.optional_chain-returns-in_err-node-clause-complete
-optional_chain-returns-in_err-node-clause-complete t c = chain_high c.args.self.now.cursor c.links.self.cursor c.args.self.now.pairs.items c.links.self.pairs.items c.args.high c.args.left c.links.part c.links.invariant.agrees c.links.invariant.same c.links-test.ensures.missed _ c.in_err-node.field-0.0 _ c.from_residual-in_err-node.ensures.1 (c.in_ok-nodes.ensures.made ∙ ap (λ n. part n none) c.in_ok-into_expression.ensures.settled.0) refl c.in_err-node.ensures.0 c.in_err-node.ensures.1
+optional_chain-returns-in_err-node-clause-complete t c = chain_high c.args.self.now.cursor c.links.self.cursor c.args.self.now.pairs.items c.links.self.pairs.items c.args.high c.args.left c.links.part c.links.invariant.agrees c.links.invariant.same c.links-test.ensures.missed _ c.in_err-node.field-0.0 _ c.from_residual-in_err-node.ensures.1 (c.one-nodes.ensures ∙ ap (λ n. part n none) c.in_ok-into_expression.ensures.settled.0) refl c.in_err-node.ensures.made.0 c.in_err-node.ensures.made.1
 
 pub optional_chain-returns-clause-complete : goal.optional_chain-returns-clause-complete
 optional_chain-returns-clause-complete t c =
-    let parts = c.in_ok-nodes.ensures.made ∙ ap (λ n. part n none) c.in_ok-into_expression.ensures.settled.0 in
-    let span = c.span_from.ensures in
-    let tree : c.in_ok-node.node ≡ node ChainExpression [] plain c.args.left.start c.links.self.cursor.last.stop (part c.links.part.cover.node none) = c.in_ok-node.ensures.0 ∙ (λ i. node ChainExpression [] plain (span i).start (span i).end (parts i)) in
+    let parts = c.one-nodes.ensures ∙ ap (λ n. part n none) c.in_ok-into_expression.ensures.settled.0 in
+    let span = c.span_from-span.ensures in
+    let tree : c.in_ok-node.node ≡ node ChainExpression [] plain c.args.left.start c.links.self.cursor.last.stop (part c.links.part.cover.node none) = c.in_ok-node.ensures.made.0 ∙ (λ i. node ChainExpression [] plain (span i).start (span i).end (parts i)) in
     let result : c.plain.result ≡ plain_part (node ChainExpression [] plain c.args.left.start c.links.self.cursor.last.stop (part c.links.part.cover.node none)) LeftHandSide Other = c.plain.ensures ∙ ap (λ n. plain_part n LeftHandSide Other) tree in
     chain_answered c.args.self.now.cursor c.links.self.cursor c.args.self.now.pairs.items c.links.self.pairs.items c.args.high c.args.left c.links.part c.links.invariant.agrees c.links.invariant.same c.links-test.ensures.missed c.plain.result refl result
 
 pub optional_chain-returns-clause-own : goal.optional_chain-returns-clause-own
 optional_chain-returns-clause-own t c = λ object.
-    let parts = c.in_ok-nodes.ensures.made ∙ ap (λ n. part n none) c.in_ok-into_expression.ensures.settled.0 in
-    let span = c.span_from.ensures in
-    let tree : c.in_ok-node.node ≡ node ChainExpression [] plain c.args.left.start c.links.self.cursor.last.stop (part c.links.part.cover.node none) = c.in_ok-node.ensures.0 ∙ (λ i. node ChainExpression [] plain (span i).start (span i).end (parts i)) in
+    let parts = c.one-nodes.ensures ∙ ap (λ n. part n none) c.in_ok-into_expression.ensures.settled.0 in
+    let span = c.span_from-span.ensures in
+    let tree : c.in_ok-node.node ≡ node ChainExpression [] plain c.args.left.start c.links.self.cursor.last.stop (part c.links.part.cover.node none) = c.in_ok-node.ensures.made.0 ∙ (λ i. node ChainExpression [] plain (span i).start (span i).end (parts i)) in
     chain_own (ap (λ (p : Operand). p.cover.node) c.plain.ensures ∙ tree) (c.links.invariant.own object)
 
 pub declarator-returns-clause-derived : goal.declarator-returns-clause-derived
 declarator-returns-clause-derived t c =
     let starts = c.next_start-start.ensures.starts in
-    let fits = c.in_ok-bound.ensures.bound.1 in
-    let target : c.in_ok-nodes.nodes ≡ part (pattern_tree c.in_ok-part.part.cover.node) none = c.in_ok-nodes.ensures.made ∙ ap (λ n. part n none) c.in_ok-bound.ensures.bound.0 in
-    let tree : c.plain-item.result.node ≡ node VariableDeclarator [] plain c.next_start-start.result c.if-has_value.self.cursor.last.stop c.if-has_value.nodes = ap (λ x. x.node) c.plain-item.ensures ∙ c.in_ok-node.ensures.0 ∙ (λ i. node VariableDeclarator [] plain (c.span_from.ensures i).start (c.span_from.ensures i).end c.if-has_value.nodes) in
+    let fits = c.in_ok-name.ensures.bound.1 in
+    let target : c.one-nodes.result ≡ part (pattern_tree c.in_ok-part.part.cover.node) none = c.one-nodes.ensures ∙ ap (λ n. part n none) c.in_ok-name.ensures.bound.0 in
+    let tree : c.plain-item.result.node ≡ node VariableDeclarator [] plain c.next_start-start.result c.if-has_value.self.cursor.last.stop c.if-has_value.nodes = ap (λ x. x.node) c.plain-item.ensures ∙ c.in_ok-node.ensures.made.0 ∙ (λ i. node VariableDeclarator [] plain (c.span_from-span.ensures i).start (c.span_from-span.ensures i).end c.if-has_value.nodes) in
     let it : ListItem = record { node = c.plain-item.result.node; shape = c.plain-item.result.shape; spreads = c.plain-item.result.spreads; is_flagged = c.if-not-is_name.item; edge = c.if-has_value.edge } in
     let shape = ap (λ x. x.shape) c.plain-item.ensures in
     let spreads = ap (λ x. x.spreads) c.plain-item.ensures in
@@ -434,8 +442,8 @@ declarator-returns-clause-derived t c =
 pub declarator-returns-clause-own : goal.declarator-returns-clause-own
 declarator-returns-clause-own t c =
     let text = c.args.self.now.cursor.text in
-    let target : c.in_ok-nodes.nodes ≡ part (pattern_tree c.in_ok-part.part.cover.node) none = c.in_ok-nodes.ensures.made ∙ ap (λ n. part n none) c.in_ok-bound.ensures.bound.0 in
-    let tree : c.plain-item.result.node ≡ node VariableDeclarator [] plain c.next_start-start.result c.if-has_value.self.cursor.last.stop c.if-has_value.nodes = ap (λ x. x.node) c.plain-item.ensures ∙ c.in_ok-node.ensures.0 ∙ (λ i. node VariableDeclarator [] plain (c.span_from.ensures i).start (c.span_from.ensures i).end c.if-has_value.nodes) in
+    let target : c.one-nodes.result ≡ part (pattern_tree c.in_ok-part.part.cover.node) none = c.one-nodes.ensures ∙ ap (λ n. part n none) c.in_ok-name.ensures.bound.0 in
+    let tree : c.plain-item.result.node ≡ node VariableDeclarator [] plain c.next_start-start.result c.if-has_value.self.cursor.last.stop c.if-has_value.nodes = ap (λ x. x.node) c.plain-item.ensures ∙ c.in_ok-node.ensures.made.0 ∙ (λ i. node VariableDeclarator [] plain (c.span_from-span.ensures i).start (c.span_from-span.ensures i).end c.if-has_value.nodes) in
     elim c.if-has_value.branch [
       | declarator-then-has_value+in_ok-value+in_ok-into_expression+in_ok-push w ↦
           let parts : c.if-has_value.nodes ≡ part (pattern_tree c.in_ok-part.part.cover.node) (part w.in_ok-value.value.cover.node none) = w.nodes-is ∙ w.in_ok-push.ensures.pushed ∙ (λ i. push (target i) (w.in_ok-into_expression.ensures.settled.0 i)) in
@@ -449,10 +457,10 @@ pub declarator-returns-in_err-part-clause-complete : goal.declarator-returns-in_
 declarator-returns-in_err-part-clause-complete t c =
     declarator_opening c.args.self.now.cursor c.leftmost_operand.new.self.cursor c.args.self.now.pairs.items c.leftmost_operand.new.self.pairs.items c.args.high c.args.has_in c.leftmost_operand.new.self.cursor c.leftmost_operand.new.self.pairs.items c.from_residual.result c.in_err-part.field-0.0 c.from_residual.ensures.1 c.at.ensures c.saturating_sub-inner.ensures c.in_err-part.ensures.complete
 
-pub declarator-returns-in_err-bound-clause-complete : goal.declarator-returns-in_err-bound-clause-complete
-declarator-returns-in_err-bound-clause-complete t c =
+pub declarator-returns-in_err-name-clause-complete : goal.declarator-returns-in_err-name-clause-complete
+declarator-returns-in_err-name-clause-complete t c =
     declarator_bound c.args.self.now.cursor c.leftmost_operand.new.self.cursor c.args.self.now.pairs.items c.leftmost_operand.new.self.pairs.items c.args.high c.args.has_in c.leftmost_operand.new.self.cursor c.leftmost_operand.new.self.pairs.items c.saturating_sub-inner.result c.in_ok-part.part c.at.ensures c.in_ok-part.ensures.complete
-    c.leftmost_operand.new.self.cursor c.from_residual-in_err-bound.result c.in_err-bound.field-0.0 c.from_residual-in_err-bound.ensures.1 c.in_err-bound.ensures.bound
+    c.leftmost_operand.new.self.cursor c.from_residual-in_err-name.result c.in_err-name.field-0.0 c.from_residual-in_err-name.ensures.1 c.in_err-name.ensures.bound
 
 pub declarator-returns-in_err-value-clause-complete : goal.declarator-returns-in_err-value-clause-complete
 declarator-returns-in_err-value-clause-complete t c =
@@ -472,29 +480,29 @@ declarator-returns-in_err-into_expression-clause-complete t c =
 pub declarator-returns-in_err-node-clause-complete : goal.declarator-returns-in_err-node-clause-complete
 declarator-returns-in_err-node-clause-complete t c =
     let here = c.accept_punctuator-has_value.ensures in
-    let target : c.in_ok-nodes.nodes ≡ part (pattern_tree c.in_ok-part.part.cover.node) none = c.in_ok-nodes.ensures.made ∙ ap (λ n. part n none) c.in_ok-bound.ensures.bound.0 in
-    let span = c.span_from.ensures in
+    let target : c.one-nodes.result ≡ part (pattern_tree c.in_ok-part.part.cover.node) none = c.one-nodes.ensures ∙ ap (λ n. part n none) c.in_ok-name.ensures.bound.0 in
+    let span = c.span_from-span.ensures in
     elim c.if-has_value.branch [
       | declarator-then-has_value+in_ok-value+in_ok-into_expression+in_ok-push w ↦
           let equals = subst (λ z. ReadsHere z Punctuator (codes "=") c.leftmost_operand.new.self.cursor.last c.accept_punctuator-has_value.new.self.cursor.last) c.leftmost_operand.ensures.text w.if-has_value.ensures.accepted in
           let parts : c.if-has_value.nodes ≡ part (pattern_tree c.in_ok-part.part.cover.node) (part w.in_ok-value.value.cover.node none) = w.nodes-is ∙ w.in_ok-push.ensures.pushed ∙ (λ i. push (target i) (w.in_ok-into_expression.ensures.settled.0 i)) in
           declarator_valued_made c.args.self.now.cursor c.if-has_value.self.cursor c.args.self.now.pairs.items c.if-has_value.self.pairs.items c.args.high c.args.has_in c.leftmost_operand.new.self.cursor c.leftmost_operand.new.self.pairs.items c.saturating_sub-inner.result c.in_ok-part.part c.at.ensures c.in_ok-part.ensures.complete
           c.accept_punctuator-has_value.new.self.cursor equals c.next_start-start.ensures.starts w.expression.new.self.cursor c.accept_punctuator-has_value.new.self.pairs.items w.expression.new.self.pairs.items w.at-then-has_value.ensures (here.text ∙ c.leftmost_operand.ensures.text) w.in_ok-value.value w.in_ok-value.ensures.complete c.from_residual-in_err-node.result c.in_err-node.field-0.0 _ c.from_residual-in_err-node.ensures.1
-          (λ j. node VariableDeclarator [] plain (span j).start (ap (λ (z : Parser). z.cursor.last.stop) w.self-is j) (parts j)) c.in_err-node.ensures
+          (λ j. node VariableDeclarator [] plain (span j).start (ap (λ (z : Parser). z.cursor.last.stop) w.self-is j) (parts j)) c.in_err-node.ensures.made
       | declarator-else-has_value+in_ok-push_gap w ↦
           let missed = subst (λ z. Misses z Punctuator (codes "=") c.leftmost_operand.new.self.cursor.last) c.leftmost_operand.ensures.text w.if-has_value.ensures.missed.0 in
           let last = ap (λ (z : Parser). z.cursor.last.stop) w.self-is ∙ ap (λ (z : Token). z.stop) w.if-has_value.ensures.missed.1 in
           let parts : c.if-has_value.nodes ≡ part (pattern_tree c.in_ok-part.part.cover.node) (gap none) = w.nodes-is ∙ w.in_ok-push_gap.ensures.pushed ∙ ap push_gap target in
           declarator_lone_made c.args.self.now.cursor c.if-has_value.self.cursor c.args.self.now.pairs.items c.if-has_value.self.pairs.items c.args.high c.args.has_in c.leftmost_operand.new.self.cursor c.leftmost_operand.new.self.pairs.items c.saturating_sub-inner.result c.in_ok-part.part c.at.ensures c.in_ok-part.ensures.complete
           missed c.next_start-start.ensures.starts c.from_residual-in_err-node.result c.in_err-node.field-0.0 _ c.from_residual-in_err-node.ensures.1
-          (λ j. node VariableDeclarator [] plain (span j).start ((ap (λ x. x.end) span ∙ last) j) (parts j)) c.in_err-node.ensures
+          (λ j. node VariableDeclarator [] plain (span j).start ((ap (λ x. x.end) span ∙ last) j) (parts j)) c.in_err-node.ensures.made
     ]
 
 pub declarator-returns-clause-complete : goal.declarator-returns-clause-complete
 declarator-returns-clause-complete t c =
     let here = c.accept_punctuator-has_value.ensures in
-    let target : c.in_ok-nodes.nodes ≡ part (pattern_tree c.in_ok-part.part.cover.node) none = c.in_ok-nodes.ensures.made ∙ ap (λ n. part n none) c.in_ok-bound.ensures.bound.0 in
-    let tree : c.plain-item.result.node ≡ node VariableDeclarator [] plain c.next_start-start.result c.if-has_value.self.cursor.last.stop c.if-has_value.nodes = ap (λ x. x.node) c.plain-item.ensures ∙ c.in_ok-node.ensures.0 ∙ (λ i. node VariableDeclarator [] plain (c.span_from.ensures i).start (c.span_from.ensures i).end c.if-has_value.nodes) in
+    let target : c.one-nodes.result ≡ part (pattern_tree c.in_ok-part.part.cover.node) none = c.one-nodes.ensures ∙ ap (λ n. part n none) c.in_ok-name.ensures.bound.0 in
+    let tree : c.plain-item.result.node ≡ node VariableDeclarator [] plain c.next_start-start.result c.if-has_value.self.cursor.last.stop c.if-has_value.nodes = ap (λ x. x.node) c.plain-item.ensures ∙ c.in_ok-node.ensures.made.0 ∙ (λ i. node VariableDeclarator [] plain (c.span_from-span.ensures i).start (c.span_from-span.ensures i).end c.if-has_value.nodes) in
     let it : ListItem = record { node = c.plain-item.result.node; shape = c.plain-item.result.shape; spreads = c.plain-item.result.spreads; is_flagged = c.if-not-is_name.item; edge = c.if-has_value.edge } in
     elim c.if-has_value.branch [
       | declarator-then-has_value+in_ok-value+in_ok-into_expression+in_ok-push w ↦
@@ -554,13 +562,17 @@ pub special_item-returns-in_ok-finish_plain-in-Cases-clause-own : goal.special_i
 special_item-returns-in_ok-finish_plain-in-Cases-clause-own t c =
     let d = c.in_ok-is_default-in-Cases.is_default in
     let it : ListItem = record { node = c.plain-item.result.node; shape = c.plain-item.result.shape; spreads = c.plain-item.result.spreads; is_flagged = d; edge = c.plain-item.result.edge } in
-    let tree : c.plain-item.result.node ≡ node SwitchCase [] plain c.next_start-start.result c.read_symbols.new.self.cursor.last.stop c.read_symbols.new.built.nodes = ap (λ (x : ListItem). x.node) c.plain-item.ensures ∙ c.in_ok-finish_plain-in-Cases.ensures.0 ∙ (λ i. node SwitchCase [] plain (c.span_from-span.ensures i).start (c.span_from-span.ensures i).end c.read_symbols.new.built.nodes) in
+    let tree : c.plain-item.result.node ≡ node SwitchCase [] plain c.next_start-start.result c.read_symbols.new.self.cursor.last.stop c.read_symbols.new.built.nodes = ap (λ (x : ListItem). x.node) c.plain-item.ensures ∙ c.in_ok-finish_plain-in-Cases.ensures.made.0 ∙ (λ i. node SwitchCase [] plain (c.span_from-span.ensures i).start (c.span_from-span.ensures i).end c.read_symbols.new.built.nodes) in
     let empty : c.if-is_default.built.nodes ≡ case_nodes d none = elim c.if-is_default.branch [
       | special_item-then-is_default+in_ok-push_gap-in-Cases w ↦ ap (λ x. x.nodes) w.built-is ∙ w.in_ok-push_gap-in-Cases.ensures.pushed ∙ ap push_gap (ap (λ x. x.nodes) c.new-built.ensures) ∙ ap (λ b. case_nodes b none) (sym w.if-is_default.true)
       | special_item-else-is_default w ↦ ap (λ x. x.nodes) w.built-is ∙ ap (λ x. x.nodes) c.new-built.ensures ∙ ap (λ b. case_nodes b none) (sym w.if-is_default.false)
     ] in
+    let there : c.if-is_default.self.cursor ≡ c.is_default.new.self.cursor = elim c.if-is_default.branch [
+      | special_item-then-is_default+in_ok-push_gap-in-Cases w ↦ ap (λ v. v.cursor) w.self-is
+      | special_item-else-is_default w ↦ ap (λ v. v.cursor) w.self-is
+    ] in
     own_item c.args.self.now.cursor.text c.args.list.now _ it c.push-in-Cases.result c.push-in-Cases.ensures.pushed
-    (subst (λ x. OfLanguage x c.plain-item.result.node) c.is_default.ensures.text (case_own c.is_default.new.self.cursor.text d tree empty c.in_ok-read_symbols-in-Cases.ensures.own))
+    (subst (λ x. OfLanguage x c.plain-item.result.node) (ap (λ z. z.text) there ∙ c.is_default.ensures.text) (case_own c.if-is_default.self.cursor.text d tree empty c.in_ok-read_symbols-in-Cases.ensures.own))
 
 pub special_item-returns-in_ok-item-in-Properties-clause-derived : goal.special_item-returns-in_ok-item-in-Properties-clause-derived
 special_item-returns-in_ok-item-in-Properties-clause-derived t c = taken_item c.args.list.now _ c.in_ok-item-in-Properties.item _ c.push.result (ap is_chunked c.in-Properties.is) c.push.ensures.pushed c.push.ensures.taken (not_covers c.args.list.now.listed Properties c.in-Properties.is refl) (of_text c.in_ok-item-in-Properties.item c.in-Properties.is c.in_ok-item-in-Properties.ensures.derived)
@@ -652,21 +664,31 @@ special_item-returns-in_ok-finish_plain-in-Cases-clause-low t c =
     let d = c.in_ok-is_default-in-Cases.is_default in
     let it : ListItem = record { node = c.plain-item.result.node; shape = c.plain-item.result.shape; spreads = c.plain-item.result.spreads; is_flagged = d; edge = c.plain-item.result.edge } in
     let tree : c.plain-item.result.node ≡ c.in_ok-finish_plain-in-Cases.field-0 = ap (λ (x : ListItem). x.node) c.plain-item.ensures in
-    low_item c.args.list.now _ it c.args.high c.push-in-Cases.result c.push-in-Cases.ensures.pushed (subst (λ x. height x ≤ c.args.high) (sym (tree ∙ c.in_ok-finish_plain-in-Cases.ensures.0)) c.in_ok-finish_plain-in-Cases.ensures.1)
+    low_item c.args.list.now _ it c.args.high c.push-in-Cases.result c.push-in-Cases.ensures.pushed (subst (λ x. height x ≤ c.args.high) (sym (tree ∙ c.in_ok-finish_plain-in-Cases.ensures.made.0)) c.in_ok-finish_plain-in-Cases.ensures.made.1)
 
 pub special_item-returns-in_ok-finish_plain-in-Cases-clause-derived : goal.special_item-returns-in_ok-finish_plain-in-Cases-clause-derived
 special_item-returns-in_ok-finish_plain-in-Cases-clause-derived t c =
     let d = c.in_ok-is_default-in-Cases.is_default in
     let it : ListItem = record { node = c.plain-item.result.node; shape = c.plain-item.result.shape; spreads = c.plain-item.result.spreads; is_flagged = d; edge = c.plain-item.result.edge } in
-    let tree : c.plain-item.result.node ≡ node SwitchCase [] plain c.next_start-start.result c.read_symbols.new.self.cursor.last.stop c.read_symbols.new.built.nodes = ap (λ (x : ListItem). x.node) c.plain-item.ensures ∙ c.in_ok-finish_plain-in-Cases.ensures.0 ∙ (λ i. node SwitchCase [] plain (c.span_from-span.ensures i).start (c.span_from-span.ensures i).end c.read_symbols.new.built.nodes) in
+    let tree : c.plain-item.result.node ≡ node SwitchCase [] plain c.next_start-start.result c.read_symbols.new.self.cursor.last.stop c.read_symbols.new.built.nodes = ap (λ (x : ListItem). x.node) c.plain-item.ensures ∙ c.in_ok-finish_plain-in-Cases.ensures.made.0 ∙ (λ i. node SwitchCase [] plain (c.span_from-span.ensures i).start (c.span_from-span.ensures i).end c.read_symbols.new.built.nodes) in
     let item : it ≡ record { node = node SwitchCase [] plain c.next_start-start.result c.read_symbols.new.self.cursor.last.stop c.read_symbols.new.built.nodes; shape = value; spreads = false; is_flagged = d; edge = Closed } =
     (λ i. record { node = tree i; shape = (c.plain-item.ensures i).shape; spreads = (c.plain-item.ensures i).spreads; is_flagged = d; edge = (c.plain-item.ensures i).edge }) in
     let empty : c.if-is_default.built.nodes ≡ case_nodes d none = elim c.if-is_default.branch [
       | special_item-then-is_default+in_ok-push_gap-in-Cases w ↦ ap (λ x. x.nodes) w.built-is ∙ w.in_ok-push_gap-in-Cases.ensures.pushed ∙ ap push_gap (ap (λ x. x.nodes) c.new-built.ensures) ∙ ap (λ b. case_nodes b none) (sym w.if-is_default.true)
       | special_item-else-is_default w ↦ ap (λ x. x.nodes) w.built-is ∙ ap (λ x. x.nodes) c.new-built.ensures ∙ ap (λ b. case_nodes b none) (sym w.if-is_default.false)
     ] in
+    let there : c.if-is_default.self.cursor ≡ c.is_default.new.self.cursor = elim c.if-is_default.branch [
+      | special_item-then-is_default+in_ok-push_gap-in-Cases w ↦ ap (λ v. v.cursor) w.self-is
+      | special_item-else-is_default w ↦ ap (λ v. v.cursor) w.self-is
+    ] in
+    let paired : c.if-is_default.self.pairs.items ≡ c.is_default.new.self.pairs.items = elim c.if-is_default.branch [
+      | special_item-then-is_default+in_ok-push_gap-in-Cases w ↦ ap (λ v. v.pairs.items) w.self-is
+      | special_item-else-is_default w ↦ ap (λ v. v.pairs.items) w.self-is
+    ] in
+    let read = subst (λ z. Adds z c.read_symbols.new.self.cursor c.is_default.new.self.pairs.items c.read_symbols.new.self.pairs.items (BuiltAt z.text c.item-context.result.returns (map piece_of c.case_symbols.result.now) c.if-is_default.built c.read_symbols.new.built)) there
+    (subst (λ ps. Adds c.if-is_default.self.cursor c.read_symbols.new.self.cursor ps c.read_symbols.new.self.pairs.items (BuiltAt c.if-is_default.self.cursor.text c.item-context.result.returns (map piece_of c.case_symbols.result.now) c.if-is_default.built c.read_symbols.new.built)) paired c.in_ok-read_symbols-in-Cases.ensures.derived) in
     taken_item c.args.list.now _ it _ c.push-in-Cases.result (ap is_chunked c.in-Cases.is) c.push-in-Cases.ensures.pushed c.push-in-Cases.ensures.taken (not_covers c.args.list.now.listed (Cases c.in-Cases.returns) c.in-Cases.is refl)
-    (of_text it c.in-Cases.is (case_taken c.in-Cases.returns d c.next_start-start.result c.if-is_default.built c.read_symbols.new.built c.item-context.result _ it c.item-context.ensures c.case_symbols.ensures c.next_start-start.ensures.starts c.in_ok-is_default-in-Cases.ensures.accepted c.is_default.ensures.text c.is_default.ensures.same_open c.is_default.ensures.same_pairs empty c.in_ok-read_symbols-in-Cases.ensures.derived item))
+    (of_text it c.in-Cases.is (case_taken c.in-Cases.returns d c.next_start-start.result c.if-is_default.built c.read_symbols.new.built c.item-context.result _ it c.item-context.ensures c.case_symbols.ensures c.next_start-start.ensures.starts c.in_ok-is_default-in-Cases.ensures.accepted c.is_default.ensures.text c.is_default.ensures.same_open c.is_default.ensures.same_pairs empty read item))
 
 pub list-items-init : goal.list-items-init
 list-items-init t c =
@@ -690,6 +712,7 @@ list-items-init t c =
       same = refl;
       forward = omega arith;
       derived = adds_none refl refl (λ o. further_first c.args.self.now.cursor.text c.args.list c.if-not-matches.list o c.args.self.now.cursor.last listed nodes seen);
+      waits = λ base h. h ∙ ap (join base) (sym nodes);
       listed = listed;
       start = ap (λ x. x.start) span;
       low = λ h. subst (λ x. parts_height x ≤ c.args.high) (sym nodes) h;
@@ -719,6 +742,7 @@ list-items-preserved t c =
       same = c.is_separated.ensures.text ∙ c.item.ensures.text ∙ c.has_item.ensures.text ∙ v.same;
       forward = omega arith;
       derived = further_item c.args.list c.items.list c.item.new.list k2 c.is_separated.new.list v.derived v.same c.items-test.ensures.passed c.has_item.ensures.text c.has_item.ensures.same_open c.has_item.ensures.same_pairs c.items-test.ensures.item.0 c.in_ok-item.ensures.derived c.item.ensures.text refl refl refl c.is_separated.ensures.same_open c.is_separated.ensures.same_pairs c.if-not-is_separated.ensures.comma (separated ∙ ap (after_item k2) c.if-not-is_separated.false);
+      waits = λ base h. c.is_separated.ensures.same_tree ∙ c.in_ok-item.ensures.waits base (c.has_item.ensures.same_tree ∙ v.waits base h) ∙ ap (join base) (sym (ap (λ x. x.nodes) separated ∙ after_nodes k2 c.is_separated.result));
       listed = c.is_separated.ensures.listed ∙ c.item.ensures.listed ∙ v.listed;
       start = ap (λ x. x.span.start) separated ∙ after_start k2 c.is_separated.result ∙ places.0 ∙ v.start;
       low = λ h. subst (λ x. parts_height x ≤ c.args.high) (sym (ap (λ x. x.nodes) separated ∙ after_nodes k2 c.is_separated.result)) (c.in_ok-item.ensures.low (v.low h));
@@ -740,14 +764,14 @@ list-returns-clause-seen t c = λ h. same_right c.items-test.list _ refl refl re
 pub arrow_function-returns-then-sees_punctuator-clause-derived : goal.arrow_function-returns-then-sees_punctuator-clause-derived
 arrow_function-returns-then-sees_punctuator-clause-derived t c =
     let tree : c.in_ok-node.node ≡ node ArrowFunctionExpression [] (bodied c.args.form) c.args.start c.read_symbols.new.self.cursor.last.stop c.read_symbols.new.built.nodes =
-    c.in_ok-node.ensures.made.0 ∙ ap (λ g. node ArrowFunctionExpression [] g c.args.start c.read_symbols.new.self.cursor.last.stop c.read_symbols.new.built.nodes) c.arrow_flags.ensures in
+    c.in_ok-node.ensures.made.0 ∙ ap (λ g. node ArrowFunctionExpression [] g c.args.start c.read_symbols.new.self.cursor.last.stop c.read_symbols.new.built.nodes) c.arrow_flags-flags.ensures in
     arrow_block c.of-built.result c.read_symbols.new.built c.in_ok-node.node c.plain.result c.expect_punctuator.ensures.text c.expect_punctuator.ensures.same_open c.expect_punctuator.ensures.same_pairs c.in_ok-expect_punctuator.ensures.accepted.0 c.of-built.ensures c.body_symbols.ensures c.in_ok-read_symbols.ensures.derived tree c.plain.ensures
 
 pub arrow_function-returns-clause-derived : goal.arrow_function-returns-clause-derived
 arrow_function-returns-clause-derived t c =
     let parts : c.push.new.self ≡ push c.args.parameters c.in_ok-into_expression.field-0 = c.in_ok-push.ensures.pushed ∙ ap (λ b. push b.nodes c.in_ok-into_expression.field-0) c.of-built.ensures in
     let tree : c.in_ok-node-2.node ≡ node ArrowFunctionExpression [] (concise c.args.form) c.args.start c.expression.new.self.cursor.last.stop c.push.new.self =
-    c.in_ok-node-2.ensures.made.0 ∙ ap (λ g. node ArrowFunctionExpression [] g c.args.start c.expression.new.self.cursor.last.stop c.push.new.self) c.arrow_flags-2.ensures in
+    c.in_ok-node-2.ensures.made.0 ∙ ap (λ g. node ArrowFunctionExpression [] g c.args.start c.expression.new.self.cursor.last.stop c.push.new.self) c.arrow_flags-flags-2.ensures in
     arrow_concise c.in_ok-body.body c.in_ok-node-2.node c.in_ok-into_expression.field-0 c.plain-2.result c.expect_punctuator.ensures.text c.expect_punctuator.ensures.same_open c.expect_punctuator.ensures.same_pairs c.in_ok-expect_punctuator.ensures.accepted.0 c.concise_body.ensures c.in_ok-body.ensures.derived c.in_ok-into_expression.ensures.settled.0 c.in_ok-into_expression.ensures.settled.1 parts tree c.plain-2.ensures
 
 pub arrow_function-returns-in_err-expect_punctuator-clause-complete : goal.arrow_function-returns-in_err-expect_punctuator-clause-complete
@@ -763,13 +787,13 @@ arrow_function-returns-in_err-read_symbols-clause-complete t c =
 pub arrow_function-returns-in_err-node-clause-complete : goal.arrow_function-returns-in_err-node-clause-complete
 arrow_function-returns-in_err-node-clause-complete t c =
     arrow_block_high c.args.self.now.cursor c.expect_punctuator.new.self.cursor c.args.self.now.pairs.items c.expect_punctuator.new.self.pairs.items c.args.high c.saturating_sub-inner.result c.args.parameters c.args.start c.args.form c.args.has_in c.expect_punctuator.ensures.text c.expect_punctuator.ensures.same_open c.expect_punctuator.ensures.same_pairs c.in_ok-expect_punctuator.ensures.accepted.0 c.saturating_sub-inner.ensures
-    c.read_symbols.new.self.cursor c.read_symbols.new.self.pairs.items c.from_residual-in_err-node.result c.in_err-node.field-0.0 true _ c.of-built.result c.read_symbols.new.built c.arrow_flags.result c.args.start c.read_symbols.new.self.cursor.last.stop c.from_residual-in_err-node.ensures.1 c.if-sees_punctuator.ensures.seen c.body_symbols.ensures c.of-built.ensures
+    c.read_symbols.new.self.cursor c.read_symbols.new.self.pairs.items c.from_residual-in_err-node.result c.in_err-node.field-0.0 true _ c.of-built.result c.read_symbols.new.built c.arrow_flags-flags.result c.args.start c.read_symbols.new.self.cursor.last.stop c.from_residual-in_err-node.ensures.1 c.if-sees_punctuator.ensures.seen c.body_symbols.ensures c.of-built.ensures
     c.in_ok-read_symbols.ensures.complete c.in_err-node.ensures.made
 
 pub arrow_function-returns-then-sees_punctuator-clause-complete : goal.arrow_function-returns-then-sees_punctuator-clause-complete
 arrow_function-returns-then-sees_punctuator-clause-complete t c =
     let tree : c.in_ok-node.node ≡ node ArrowFunctionExpression [] (bodied c.args.form) c.args.start c.read_symbols.new.self.cursor.last.stop c.read_symbols.new.built.nodes =
-    c.in_ok-node.ensures.made.0 ∙ ap (λ g. node ArrowFunctionExpression [] g c.args.start c.read_symbols.new.self.cursor.last.stop c.read_symbols.new.built.nodes) c.arrow_flags.ensures in
+    c.in_ok-node.ensures.made.0 ∙ ap (λ g. node ArrowFunctionExpression [] g c.args.start c.read_symbols.new.self.cursor.last.stop c.read_symbols.new.built.nodes) c.arrow_flags-flags.ensures in
     arrow_block_done c.args.self.now.cursor c.expect_punctuator.new.self.cursor c.args.self.now.pairs.items c.expect_punctuator.new.self.pairs.items c.args.high c.saturating_sub-inner.result c.args.parameters c.args.start c.args.form c.args.has_in c.expect_punctuator.ensures.text c.expect_punctuator.ensures.same_open c.expect_punctuator.ensures.same_pairs c.in_ok-expect_punctuator.ensures.accepted.0 c.saturating_sub-inner.ensures
     c.read_symbols.new.self.cursor c.read_symbols.new.self.pairs.items true _ c.of-built.result c.read_symbols.new.built c.in_ok-node.node c.plain.result c.if-sees_punctuator.ensures.seen c.body_symbols.ensures c.of-built.ensures c.in_ok-read_symbols.ensures.complete tree c.plain.ensures
 
@@ -786,14 +810,14 @@ arrow_function-returns-in_err-into_expression-clause-complete t c =
 pub arrow_function-returns-in_err-node-2-clause-complete : goal.arrow_function-returns-in_err-node-2-clause-complete
 arrow_function-returns-in_err-node-2-clause-complete t c =
     arrow_value_high c.args.self.now.cursor c.expect_punctuator.new.self.cursor c.args.self.now.pairs.items c.expect_punctuator.new.self.pairs.items c.args.high c.saturating_sub-inner.result c.args.parameters c.args.start c.args.form c.args.has_in c.expect_punctuator.ensures.text c.expect_punctuator.ensures.same_open c.expect_punctuator.ensures.same_pairs c.in_ok-expect_punctuator.ensures.accepted.0 c.saturating_sub-inner.ensures
-    c.expression.new.self.cursor c.expression.new.self.pairs.items c.from_residual-in_err-node-2.result c.in_err-node-2.field-0.0 c.concise_body.result c.in_ok-body.body c.in_ok-into_expression.field-0 c.push.new.self c.arrow_flags-2.result c.args.start c.expression.new.self.cursor.last.stop c.from_residual-in_err-node-2.ensures.1 c.if-sees_punctuator.ensures.missed
+    c.expression.new.self.cursor c.expression.new.self.pairs.items c.from_residual-in_err-node-2.result c.in_err-node-2.field-0.0 c.concise_body.result c.in_ok-body.body c.in_ok-into_expression.field-0 c.push.new.self c.arrow_flags-flags-2.result c.args.start c.expression.new.self.cursor.last.stop c.from_residual-in_err-node-2.ensures.1 c.if-sees_punctuator.ensures.missed
     c.concise_body.ensures c.in_ok-body.ensures.complete c.in_ok-into_expression.ensures.settled.0 (c.in_ok-push.ensures.pushed ∙ ap (λ b. push b.nodes c.in_ok-into_expression.field-0) c.of-built.ensures) c.in_err-node-2.ensures.made
 
 pub arrow_function-returns-clause-complete : goal.arrow_function-returns-clause-complete
 arrow_function-returns-clause-complete t c =
     let parts : c.push.new.self ≡ push c.args.parameters c.in_ok-into_expression.field-0 = c.in_ok-push.ensures.pushed ∙ ap (λ b. push b.nodes c.in_ok-into_expression.field-0) c.of-built.ensures in
     let tree : c.in_ok-node-2.node ≡ node ArrowFunctionExpression [] (concise c.args.form) c.args.start c.expression.new.self.cursor.last.stop c.push.new.self =
-    c.in_ok-node-2.ensures.made.0 ∙ ap (λ g. node ArrowFunctionExpression [] g c.args.start c.expression.new.self.cursor.last.stop c.push.new.self) c.arrow_flags-2.ensures in
+    c.in_ok-node-2.ensures.made.0 ∙ ap (λ g. node ArrowFunctionExpression [] g c.args.start c.expression.new.self.cursor.last.stop c.push.new.self) c.arrow_flags-flags-2.ensures in
     arrow_value_done c.args.self.now.cursor c.expect_punctuator.new.self.cursor c.args.self.now.pairs.items c.expect_punctuator.new.self.pairs.items c.args.high c.saturating_sub-inner.result c.args.parameters c.args.start c.args.form c.args.has_in c.expect_punctuator.ensures.text c.expect_punctuator.ensures.same_open c.expect_punctuator.ensures.same_pairs c.in_ok-expect_punctuator.ensures.accepted.0 c.saturating_sub-inner.ensures
     c.expression.new.self.cursor c.expression.new.self.pairs.items c.concise_body.result c.in_ok-body.body c.in_ok-into_expression.field-0 c.in_ok-node-2.node c.push.new.self c.plain-2.result c.if-sees_punctuator.ensures.missed c.concise_body.ensures c.in_ok-body.ensures.complete c.in_ok-into_expression.ensures.settled.0 parts tree c.plain-2.ensures
 
@@ -802,7 +826,7 @@ arrow_function-returns-then-sees_punctuator-clause-own t c = λ own form.
     let s = c.args.self.now.cursor in
     let begun : AllOfLanguage s.text c.of-built.result.nodes = subst (AllOfLanguage s.text) (sym (ap (λ b. b.nodes) c.of-built.ensures)) own in
     let tree : c.in_ok-node.node ≡ node ArrowFunctionExpression [] (bodied c.args.form) c.args.start c.read_symbols.new.self.cursor.last.stop c.read_symbols.new.built.nodes =
-    c.in_ok-node.ensures.made.0 ∙ ap (λ g. node ArrowFunctionExpression [] g c.args.start c.read_symbols.new.self.cursor.last.stop c.read_symbols.new.built.nodes) c.arrow_flags.ensures in
+    c.in_ok-node.ensures.made.0 ∙ ap (λ g. node ArrowFunctionExpression [] g c.args.start c.read_symbols.new.self.cursor.last.stop c.read_symbols.new.built.nodes) c.arrow_flags-flags.ensures in
     subst (OfLanguage s.text) (sym (ap (λ k. k.cover.node) c.plain.ensures)) (arrow_own c.args.form false c.args.start c.read_symbols.new.self.cursor.last.stop c.read_symbols.new.built.nodes c.in_ok-node.node tree (own_on c.expect_punctuator.ensures.text begun c.in_ok-read_symbols.ensures.own) form)
 
 pub arrow_function-returns-clause-own : goal.arrow_function-returns-clause-own
@@ -811,7 +835,7 @@ arrow_function-returns-clause-own t c = λ own form.
     let body : OfLanguage s.text c.in_ok-into_expression.field-0 = subst (OfLanguage s.text) (sym c.in_ok-into_expression.ensures.settled.0) (subst (λ x. OfLanguage x c.in_ok-body.body.cover.node) c.expect_punctuator.ensures.text c.in_ok-body.ensures.own) in
     let parts : c.push.new.self ≡ push c.args.parameters c.in_ok-into_expression.field-0 = c.in_ok-push.ensures.pushed ∙ ap (λ b. push b.nodes c.in_ok-into_expression.field-0) c.of-built.ensures in
     let tree : c.in_ok-node-2.node ≡ node ArrowFunctionExpression [] (concise c.args.form) c.args.start c.expression.new.self.cursor.last.stop c.push.new.self =
-    c.in_ok-node-2.ensures.made.0 ∙ ap (λ g. node ArrowFunctionExpression [] g c.args.start c.expression.new.self.cursor.last.stop c.push.new.self) c.arrow_flags-2.ensures in
+    c.in_ok-node-2.ensures.made.0 ∙ ap (λ g. node ArrowFunctionExpression [] g c.args.start c.expression.new.self.cursor.last.stop c.push.new.self) c.arrow_flags-flags-2.ensures in
     subst (OfLanguage s.text) (sym (ap (λ k. k.cover.node) c.plain-2.ensures)) (arrow_own c.args.form true c.args.start c.expression.new.self.cursor.last.stop c.push.new.self c.in_ok-node-2.node tree (subst (AllOfLanguage s.text) (sym parts) (of_push c.args.parameters c.in_ok-into_expression.field-0 own body)) form)
 
 pub parenthesized-returns-clause-derived : goal.parenthesized-returns-clause-derived
@@ -965,25 +989,25 @@ prefix_expression-returns-clause-low t c =
     yields_ok (prefixed_part (is_prefix_update t.text) t.text t.start e.last.stop r) (IsPlaceHere e) (takes_operand (is_prefix_update t.text) r.cover.shape) (height (prefixed_node (is_prefix_update t.text) t.text t.start e.last.stop r.cover.node)) c.args.high (λ part. height part.cover.node ≤ c.args.high) c.prefix_operand.result c.prefix_operand.ensures.made (λ fits low.
     prefix_low (is_prefix_update t.text) t.text t.start e.last.stop r c.args.high low)
 
-pub token_or_prefix-returns-else-is_name-clause-derived : goal.token_or_prefix-returns-else-is_name-clause-derived
-token_or_prefix-returns-else-is_name-clause-derived t c =
+pub one_token-returns-clause-derived : goal.one_token-returns-clause-derived
+one_token-returns-clause-derived t c =
     let s = c.args.self.now.cursor in
     let m = c.advance.new.self.cursor in
-    let coded = c.requires.coded ∙ ap Some c.in-OneToken.is in
-    let result = c.plain.ensures ∙ ap (λ n. plain_part n Primary Other) c.in_ok-node-in-OneToken.ensures.made.0 in
+    let coded = c.requires.coded in
+    let result = c.plain.ensures ∙ ap (λ n. plain_part n Primary Other) c.in_ok-node.ensures.made.0 in
     subst (λ part. Adds s m c.args.self.now.pairs.items c.advance.new.self.pairs.items (ReadAt s.text c.args.position part)) (sym result)
-    (single_read s m c.args.position (token_of c.args.token) c.in-OneToken.kind c.advance.ensures.same_open c.advance.ensures.same_pairs c.advance.ensures.reads coded)
+    (single_read s m c.args.position (token_of c.args.token) c.args.kind c.advance.ensures.same_open c.advance.ensures.same_pairs c.advance.ensures.reads coded)
 
-pub token_or_prefix-returns-then-accepts_rank-clause-derived : goal.token_or_prefix-returns-then-accepts_rank-clause-derived
-token_or_prefix-returns-then-accepts_rank-clause-derived t c =
+pub one_token-returns-then-accepts_rank-clause-derived : goal.one_token-returns-then-accepts_rank-clause-derived
+one_token-returns-then-accepts_rank-clause-derived t c =
     let s = c.args.self.now.cursor in
     let m = c.advance.new.self.cursor in
-    let coded = c.requires.coded ∙ ap Some c.in-OneToken.is in
-    let kind = name_kind c.in-OneToken.kind (sym c.is_name.ensures ∙ c.if-is_name.true) in
-    let parameter = c.in_ok-parameter-in-OneToken.ensures.made ∙ ap (λ n. part n none) c.in_ok-node-in-OneToken.ensures.made.0 in
+    let coded = c.requires.coded in
+    let kind = name_kind c.args.kind (sym c.is_name.ensures ∙ c.if-is_name.true) in
+    let parameter = c.one-parameter.ensures ∙ ap (λ n. part n none) c.in_ok-node.ensures.made.0 in
     let sign = c.if-sees_arrow.ensures.seen in
-    ok_map (λ r. Adds m c.arrow_function.new.self.cursor c.advance.new.self.pairs.items c.arrow_function.new.self.pairs.items (ArrowAt m.text Init c.args.position.has_in c.in_ok-parameter-in-OneToken.parameter c.args.token.start r)) (λ r. Adds s c.arrow_function.new.self.cursor c.args.self.now.pairs.items c.arrow_function.new.self.pairs.items (ReadAt s.text c.args.position r)) c.arrow_function.result c.arrow_function.ensures.derived (λ r a.
-    name_arrow s m c.arrow_function.new.self.cursor c.args.position (token_of c.args.token) c.in-OneToken.kind c.in_ok-parameter-in-OneToken.parameter c.args.token.start r sign.0 c.advance.ensures.text c.advance.ensures.same_open c.advance.ensures.same_pairs c.advance.ensures.reads coded kind parameter refl sign.1 sign.2 (sym c.accepts_rank.ensures ∙ c.if-accepts_rank.true) a)
+    ok_map (λ r. Adds m c.arrow_function.new.self.cursor c.advance.new.self.pairs.items c.arrow_function.new.self.pairs.items (ArrowAt m.text Init c.args.position.has_in c.one-parameter.result c.args.token.start r)) (λ r. Adds s c.arrow_function.new.self.cursor c.args.self.now.pairs.items c.arrow_function.new.self.pairs.items (ReadAt s.text c.args.position r)) c.arrow_function.result c.arrow_function.ensures.derived (λ r a.
+    name_arrow s m c.arrow_function.new.self.cursor c.args.position (token_of c.args.token) c.args.kind c.one-parameter.result c.args.token.start r sign.0 c.advance.ensures.text c.advance.ensures.same_open c.advance.ensures.same_pairs c.advance.ensures.reads coded kind parameter refl sign.1 sign.2 (sym c.accepts_rank.ensures ∙ c.if-accepts_rank.true) a)
 
 pub leftmost_operand-returns-in_default-clause-complete : goal.leftmost_operand-returns-in_default-clause-complete
 leftmost_operand-returns-in_default-clause-complete t c = λ a h o n to P g own. begins_nothing c.args.self.now.cursor.text c.in_default.ensures.none (opens_here c.args.self.now.cursor.text g own)
@@ -1027,19 +1051,19 @@ prefix_expression-returns-in_err-operand-clause-complete t c = λ a h o n to P g
     agrees_on (Room m o (height v.2.operand) c.saturating_sub.result) (Room s o (height n) c.args.high) (λ r. IsFirst a h r n × EndsWith s c.expression.new.self.cursor c.args.self.now.pairs.items c.expression.new.self.pairs.items to P) c.from_residual.result c.in_err-operand.field-0.0
     c.from_residual.ensures.1 (c.in_err-operand.ensures.complete as_expression o v.2.operand to P given (prefix_own v.2 c.advance.ensures.text own)) (room_part s m c.advance.ensures.same_open (λ l. let less = c.saturating_sub.ensures in omega arith))
 
-pub token_or_prefix-returns-then-accepts_rank-clause-complete : goal.token_or_prefix-returns-then-accepts_rank-clause-complete
-token_or_prefix-returns-then-accepts_rank-clause-complete t c = λ a h o n to P g own.
+pub one_token-returns-then-accepts_rank-clause-complete : goal.one_token-returns-then-accepts_rank-clause-complete
+one_token-returns-then-accepts_rank-clause-complete t c = λ a h o n to P g own.
     let s = c.args.self.now.cursor in
     let m = c.advance.new.self.cursor in
     let u = token_of c.args.token in
-    let k = c.in-OneToken.kind in
+    let k = c.args.kind in
     let kind = name_kind k (sym c.is_name.ensures ∙ c.if-is_name.true) in
-    let parameter = c.in_ok-parameter-in-OneToken.ensures.made ∙ ap (λ n. part n none) (c.in_ok-node-in-OneToken.ensures.made.0 ∙ ap (λ k. single_node k u) kind) in
+    let parameter = c.one-parameter.ensures ∙ ap (λ n. part n none) (c.in_ok-node.ensures.made.0 ∙ ap (λ k. single_node k u) kind) in
     let sign = c.if-sees_arrow.ensures.seen in
-    let last : m.last ≡ as_read u = c.advance.ensures.last ∙ single_place s.text.language u k (c.requires.coded ∙ ap Some c.in-OneToken.is) in
-    let v = single_given s.text u k c.requires.ahead (c.requires.coded ∙ ap Some c.in-OneToken.is) g own in
+    let last : m.last ≡ as_read u = c.advance.ensures.last ∙ single_place s.text.language u k c.requires.coded in
+    let v = single_given s.text u k c.requires.ahead c.requires.coded g own in
     let w = arrow_given u k v kind (sym c.accepts_rank.ensures ∙ c.if-accepts_rank.true) (arrow_before s m c.advance.ensures.text last sign.1) sign.2 in
-    arrow_agrees s m c.arrow_function.new.self.cursor c.args.self.now.pairs.items c.advance.new.self.pairs.items c.arrow_function.new.self.pairs.items c.args.position u c.in_ok-parameter-in-OneToken.parameter c.args.high c.arrow_function.result w own c.advance.ensures.text last c.advance.ensures.same_open c.advance.ensures.same_pairs parameter c.arrow_function.ensures.complete c.arrow_function.ensures.derived
+    arrow_agrees s m c.arrow_function.new.self.cursor c.args.self.now.pairs.items c.advance.new.self.pairs.items c.arrow_function.new.self.pairs.items c.args.position u c.one-parameter.result c.args.high c.arrow_function.result w own c.advance.ensures.text last c.advance.ensures.same_open c.advance.ensures.same_pairs parameter c.arrow_function.ensures.complete c.arrow_function.ensures.derived
 
 pub bracketed_list-returns-clause-complete : goal.bracketed_list-returns-clause-complete
 bracketed_list-returns-clause-complete t c = λ a h o n to P g own.
@@ -1074,21 +1098,21 @@ prefix_expression-returns-clause-complete t c = λ a h o n to P g own.
     agrees_where (Room s o (height n) c.args.high) (λ r. IsFirst a h r n × EndsWith s e c.args.self.now.pairs.items c.expression.new.self.pairs.items to P) (prefixed_part (is_prefix_update u.text) u.text u.start e.last.stop q) (IsPlaceHere e) (takes_operand (is_prefix_update u.text) q.cover.shape) (height (prefixed_node (is_prefix_update u.text) u.text u.start e.last.stop q.cover.node)) c.args.high
     c.prefix_operand.result c.prefix_operand.ensures.made first.0 (λ room. let low = room.1 in omega arith) (subst (λ x. IsFirst x h (prefixed_part (is_prefix_update u.text) u.text u.start e.last.stop q) n) (sym v.0) first.2, ends_behind c.advance.ensures.same_pairs answer.1)
 
-pub token_or_prefix-returns-else-is_name-clause-complete : goal.token_or_prefix-returns-else-is_name-clause-complete
-token_or_prefix-returns-else-is_name-clause-complete t c = λ a h o n to P g own.
+pub one_token-returns-clause-complete : goal.one_token-returns-clause-complete
+one_token-returns-clause-complete t c = λ a h o n to P g own.
     let s = c.args.self.now.cursor in
     let m = c.advance.new.self.cursor in
     let u = token_of c.args.token in
-    let k = c.in-OneToken.kind in
-    let last : m.last ≡ as_read u = c.advance.ensures.last ∙ single_place s.text.language u k (c.requires.coded ∙ ap Some c.in-OneToken.is) in
-    let v = single_given s.text u k c.requires.ahead (c.requires.coded ∙ ap Some c.in-OneToken.is) g own in
+    let k = c.args.kind in
+    let last : m.last ≡ as_read u = c.advance.ensures.last ∙ single_place s.text.language u k c.requires.coded in
+    let v = single_given s.text u k c.requires.ahead c.requires.coded g own in
     let without : k ≡ Identifier → IsTrue (takes c.args.position.rank Assignment) → NoArrow s.text (as_read u) =
     elim c.else-is_name.branch [
-      | token_or_prefix-else-is_name-via-then-is_name+then-sees_arrow+else-accepts_rank w ↦ λ e tk x y sign line. absurd (false≢true (sym (sym w.accepts_rank.ensures ∙ w.if-accepts_rank.false) ∙ tk))
-      | token_or_prefix-else-is_name-via-then-is_name+else-sees_arrow w ↦ λ e tk x y sign line. absurd (false≢true (sym line ∙ w.if-sees_arrow.ensures.missed x y (arrow_behind s m c.advance.ensures.text last sign)))
-      | token_or_prefix-else-is_name-via-else-is_name w ↦ λ e tk x y sign line. absurd (false≢true (sym (sym c.is_name.ensures ∙ w.if-is_name.false) ∙ ap is_identifier e))
+      | one_token-else-is_name-via-then-is_name+then-sees_arrow+else-accepts_rank w ↦ λ e tk x y sign line. absurd (false≢true (sym (sym w.accepts_rank.ensures ∙ w.if-accepts_rank.false) ∙ tk))
+      | one_token-else-is_name-via-then-is_name+else-sees_arrow w ↦ λ e tk x y sign line. absurd (false≢true (sym line ∙ w.if-sees_arrow.ensures.missed x y (arrow_behind s m c.advance.ensures.text last sign)))
+      | one_token-else-is_name-via-else-is_name w ↦ λ e tk x y sign line. absurd (false≢true (sym (sym c.is_name.ensures ∙ w.if-is_name.false) ∙ ap is_identifier e))
     ] in
-    token_read u k v without last c.advance.ensures.same_pairs c.plain.result (c.plain.ensures ∙ ap (λ n. plain_part n Primary Other) c.in_ok-node-in-OneToken.ensures.made.0)
+    token_read u k v without last c.advance.ensures.same_pairs c.plain.result (c.plain.ensures ∙ ap (λ n. plain_part n Primary Other) c.in_ok-node.ensures.made.0)
 
 pub leftmost_operand-returns-in_default-opening : goal.leftmost_operand-returns-in_default-opening
 leftmost_operand-returns-in_default-opening t c = record {
@@ -1097,6 +1121,7 @@ leftmost_operand-returns-in_default-opening t c = record {
   passes = search rules;
   derived = ok_map (λ r. Adds c.advance.new.self.cursor c.keyword_expression.new.self.cursor c.advance.new.self.pairs.items c.keyword_expression.new.self.pairs.items (WordedAt c.advance.new.self.cursor.text c.args.position c.in-Some.token c.in-Some.opening r)) (λ r. Adds c.args.self.now.cursor c.keyword_expression.new.self.cursor c.args.self.now.pairs.items c.keyword_expression.new.self.pairs.items (ReadAt c.args.self.now.cursor.text c.args.position r)) c.keyword_expression.result c.keyword_expression.ensures.derived (λ r a.
       word_first c.in-Some.token c.advance.ensures.text c.advance.ensures.same_open c.advance.ensures.same_pairs c.advance.ensures.reads c.in-Some.ensures.coded c.in-Some.ensures.stands a);
+  waits = waits_behind _ (λ (p : Operand). p.cover.node) c.keyword_expression.result c.advance.ensures.same_tree c.keyword_expression.ensures.waits;
   low = search rules;
   own = ok_map (λ r. coded_in c.advance.new.self.cursor.text.language (as_read (token_of c.in-Some.token)) ≡ Some c.in-Some.opening → OfLanguage c.advance.new.self.cursor.text r.cover.node) (λ r. OfLanguage c.args.self.now.cursor.text r.cover.node) c.keyword_expression.result c.keyword_expression.ensures.own (λ r f.
       subst (λ x. OfLanguage x r.cover.node) c.advance.ensures.text (f (ap (λ x. coded_in x.language (as_read (token_of c.in-Some.token))) c.advance.ensures.text ∙ c.in-Some.ensures.coded)));
@@ -1121,9 +1146,9 @@ other_subscript-returns-clause-derived t c =
     let value = c.in_ok-into_expression.ensures.settled.1 in
     let object : takes Call c.args.left.rank ≡ true = sym c.accepts_rank.ensures ∙ c.if-not-accepts_rank.false in
     let called : c.match-matches.matches ≡ is_call c.args.left.rank = elim c.match-matches.branch [ other_subscript-in-Call w ↦ w.matches-is ∙ call_is c.args.left.rank w.in-Call.is | other_subscript-in_default w ↦ w.matches-is ∙ call_is_not c.args.left.rank w.in_default.not-Call ] in
-    let one : c.in_ok-nodes.nodes ≡ part c.args.left.cover.node none = c.in_ok-nodes.ensures.made ∙ ap (λ n. part n none) c.in_ok-into_expression.ensures.settled.0 in
+    let one : c.one-nodes.result ≡ part c.args.left.cover.node none = c.one-nodes.ensures ∙ ap (λ n. part n none) c.in_ok-into_expression.ensures.settled.0 in
     let span = c.span_from-span.ensures in
-    let tree : c.in_ok-node.node ≡ node (link_kind found) [] (link_flags found optional) c.args.left.start c.match-found.self.cursor.last.stop c.match-found.nodes = c.in_ok-node.ensures.0 ∙ (λ i. node (c.kind.ensures i) [] (c.flags.ensures i) (span i).start (span i).end c.match-found.nodes) in
+    let tree : c.in_ok-node.node ≡ node (link_kind found) [] (link_flags found optional) c.args.left.start c.match-found.self.cursor.last.stop c.match-found.nodes = c.in_ok-node.ensures.made.0 ∙ (λ i. node (c.kind.ensures i) [] (c.flags.ensures i) (span i).start (span i).end c.match-found.nodes) in
     let made : c.plain.result ≡ plain_part (node (link_kind found) [] (link_flags found optional) c.args.left.start c.match-found.self.cursor.last.stop c.match-found.nodes) (link_rank found c.match-matches.matches) Other = c.plain.ensures ∙ (λ i. plain_part (tree i) (c.rank.ensures i) Other) in
     elim c.match-found.branch [
       | other_subscript-in-Name+in_ok-name-in-Name+in_ok-token_node-in-Name+in_ok-push-in-Name w ↦
@@ -1211,25 +1236,25 @@ other_subscript-returns-in_err-node-clause-complete t c =
     let found = c.in_ok-found.found in
     let optional = c.in_ok-found.optional in
     let passed = c.in_ok-found.ensures.linked in
-    let one : c.in_ok-nodes.nodes ≡ part c.args.left.cover.node none = c.in_ok-nodes.ensures.made ∙ ap (λ n. part n none) c.in_ok-into_expression.ensures.settled.0 in
+    let one : c.one-nodes.result ≡ part c.args.left.cover.node none = c.one-nodes.ensures ∙ ap (λ n. part n none) c.in_ok-into_expression.ensures.settled.0 in
     elim c.match-found.branch [
       | other_subscript-in-Name+in_ok-name-in-Name+in_ok-token_node-in-Name+in_ok-push-in-Name w ↦
           let nodes : c.match-found.nodes ≡ part c.args.left.cover.node (part (key_node (token_of w.in_ok-name-in-Name.name)) none) = w.nodes-is ∙ w.in_ok-push-in-Name.ensures.pushed ∙ (λ i. push (one i) ((w.in_ok-token_node-in-Name.ensures.made.0 ∙ w.member_kind.ensures w.in_ok-name-in-Name.ensures.named) i)) in
           linked_high c.args.high _ c.args.left _ c.in_err-node.field-0.0 c.from_residual-in_err-node.ensures.1 (link_once c.args.self.now.cursor c.subscript_start.new.self.cursor text passed
           (subst (λ v. Adds c.args.self.now.cursor v.cursor c.args.self.now.pairs.items v.pairs.items (BehindOn c.args.self.now.cursor.text found optional (part (key_node (token_of w.in_ok-name-in-Name.name)) none))) (sym w.self-is)
-          (name_read found optional (key_node (token_of w.in_ok-name-in-Name.name)) text opened same w.in-Name.is passed w.member_name.ensures.same_open w.member_name.ensures.same_pairs w.in_ok-name-in-Name.ensures.derived w.in_ok-name-in-Name.ensures.own))) c.in_err-node.ensures.0 c.in_err-node.ensures.1 (ap (λ ps. suc (parts_height ps)) nodes)
+          (name_read found optional (key_node (token_of w.in_ok-name-in-Name.name)) text opened same w.in-Name.is passed w.member_name.ensures.same_open w.member_name.ensures.same_pairs w.in_ok-name-in-Name.ensures.derived w.in_ok-name-in-Name.ensures.own))) c.in_err-node.ensures.made.0 c.in_err-node.ensures.made.1 (ap (λ ps. suc (parts_height ps)) nodes)
       | other_subscript-in-Index+in_ok-expect_punctuator-in-Index+in_ok-index-in-Index+in_ok-into_expression-in-Index+in_ok-push-in-Index+in_ok-expect_punctuator-in-Index-2 w ↦
           let index = w.in_ok-index-in-Index.index in
           let nodes : c.match-found.nodes ≡ part c.args.left.cover.node (part index.cover.node none) = w.nodes-is ∙ w.in_ok-push-in-Index.ensures.pushed ∙ (λ i. push (one i) (w.in_ok-into_expression-in-Index.ensures.settled.0 i)) in
           linked_high c.args.high _ c.args.left _ c.in_err-node.field-0.0 c.from_residual-in_err-node.ensures.1 (link_once c.args.self.now.cursor c.subscript_start.new.self.cursor text passed
           (subst (λ v. Adds c.args.self.now.cursor v.cursor c.args.self.now.pairs.items v.pairs.items (BehindOn c.args.self.now.cursor.text found optional (part index.cover.node none))) (sym w.self-is)
           (index_read found optional text opened same w.in-Index.is passed w.expect_punctuator.ensures.text w.expect_punctuator.ensures.same_open w.expect_punctuator.ensures.same_pairs w.in_ok-expect_punctuator-in-Index.ensures.accepted.0 refl refl refl w.expression.ensures.text w.in_ok-index-in-Index.ensures.derived w.in_ok-into_expression-in-Index.ensures.settled.1
-          w.expect_punctuator-in-Index.ensures.same_open w.expect_punctuator-in-Index.ensures.same_pairs w.in_ok-expect_punctuator-in-Index-2.ensures.accepted.0))) c.in_err-node.ensures.0 c.in_err-node.ensures.1 (ap (λ ps. suc (parts_height ps)) nodes)
+          w.expect_punctuator-in-Index.ensures.same_open w.expect_punctuator-in-Index.ensures.same_pairs w.in_ok-expect_punctuator-in-Index-2.ensures.accepted.0))) c.in_err-node.ensures.made.0 c.in_err-node.ensures.made.1 (ap (λ ps. suc (parts_height ps)) nodes)
       | other_subscript-in-Arguments+in_ok-arguments-in-Arguments+in_ok-append-in-Arguments w ↦
           let nodes : c.match-found.nodes ≡ part c.args.left.cover.node w.in_ok-arguments-in-Arguments.field-0 = w.nodes-is ∙ w.in_ok-append-in-Arguments.ensures.joined ∙ (λ i. join (one i) w.in_ok-arguments-in-Arguments.field-0) in
           linked_high c.args.high _ c.args.left _ c.in_err-node.field-0.0 c.from_residual-in_err-node.ensures.1 (link_once c.args.self.now.cursor c.subscript_start.new.self.cursor text passed
           (subst (λ v. Adds c.args.self.now.cursor v.cursor c.args.self.now.pairs.items v.pairs.items (BehindOn c.args.self.now.cursor.text found optional w.in_ok-arguments-in-Arguments.field-0)) (sym w.self-is)
-          (arguments_read_behind found optional text opened same w.in-Arguments.is passed w.in_ok-arguments-in-Arguments.ensures.derived))) c.in_err-node.ensures.0 c.in_err-node.ensures.1 (ap (λ ps. suc (parts_height ps)) nodes)
+          (arguments_read_behind found optional text opened same w.in-Arguments.is passed w.in_ok-arguments-in-Arguments.ensures.derived))) c.in_err-node.ensures.made.0 c.in_err-node.ensures.made.1 (ap (λ ps. suc (parts_height ps)) nodes)
       | other_subscript-in-Quasi+in_ok-list-in-Quasi+in_ok-list-in-Quasi-2+in_ok-finish_list-in-Quasi+in_ok-push-in-Quasi w ↦
           let template = w.in_ok-finish_list-in-Quasi.field-0.cover.node in
           let nodes : c.match-found.nodes ≡ part c.args.left.cover.node (part template none) = w.nodes-is ∙ w.in_ok-push-in-Quasi.ensures.pushed ∙ (λ i. push (one i) template) in
@@ -1237,7 +1262,7 @@ other_subscript-returns-in_err-node-clause-complete t c =
           linked_high c.args.high _ c.args.left _ c.in_err-node.field-0.0 c.from_residual-in_err-node.ensures.1 (link_once c.args.self.now.cursor c.subscript_start.new.self.cursor text passed
           (subst (λ v. Adds c.args.self.now.cursor v.cursor c.args.self.now.pairs.items v.pairs.items (BehindOn c.args.self.now.cursor.text found optional (part template none))) (sym w.self-is)
           (template_read found optional w.in_ok-list-in-Quasi.list w.in_ok-list-in-Quasi-2.list template text opened same w.in-Quasi.is passed w.open.ensures.text w.open.ensures.same_open w.open.ensures.same_pairs w.in_ok-list-in-Quasi.ensures.listed w.in_ok-list-in-Quasi.ensures.begun w.in_ok-list-in-Quasi.ensures.template
-          list.same.0 list.same.1 (ap (λ (p : Operand). p.cover.node) w.in_ok-finish_list-in-Quasi.ensures.made.0) list.derived))) c.in_err-node.ensures.0 c.in_err-node.ensures.1 (ap (λ ps. suc (parts_height ps)) nodes)
+          list.same.0 list.same.1 (ap (λ (p : Operand). p.cover.node) w.in_ok-finish_list-in-Quasi.ensures.made.0) list.derived))) c.in_err-node.ensures.made.0 c.in_err-node.ensures.made.1 (ap (λ ps. suc (parts_height ps)) nodes)
     ]
 
 pub other_subscript-returns-clause-complete : goal.other_subscript-returns-clause-complete
@@ -1251,9 +1276,9 @@ other_subscript-returns-clause-complete t c =
     let value = c.in_ok-into_expression.ensures.settled.1 in
     let object : takes Call c.args.left.rank ≡ true = sym c.accepts_rank.ensures ∙ c.if-not-accepts_rank.false in
     let called : c.match-matches.matches ≡ is_call c.args.left.rank = elim c.match-matches.branch [ other_subscript-in-Call w ↦ w.matches-is ∙ call_is c.args.left.rank w.in-Call.is | other_subscript-in_default w ↦ w.matches-is ∙ call_is_not c.args.left.rank w.in_default.not-Call ] in
-    let one : c.in_ok-nodes.nodes ≡ part c.args.left.cover.node none = c.in_ok-nodes.ensures.made ∙ ap (λ n. part n none) c.in_ok-into_expression.ensures.settled.0 in
+    let one : c.one-nodes.result ≡ part c.args.left.cover.node none = c.one-nodes.ensures ∙ ap (λ n. part n none) c.in_ok-into_expression.ensures.settled.0 in
     let span = c.span_from-span.ensures in
-    let tree : c.in_ok-node.node ≡ node (link_kind found) [] (link_flags found optional) c.args.left.start c.match-found.self.cursor.last.stop c.match-found.nodes = c.in_ok-node.ensures.0 ∙ (λ i. node (c.kind.ensures i) [] (c.flags.ensures i) (span i).start (span i).end c.match-found.nodes) in
+    let tree : c.in_ok-node.node ≡ node (link_kind found) [] (link_flags found optional) c.args.left.start c.match-found.self.cursor.last.stop c.match-found.nodes = c.in_ok-node.ensures.made.0 ∙ (λ i. node (c.kind.ensures i) [] (c.flags.ensures i) (span i).start (span i).end c.match-found.nodes) in
     let made : c.plain.result ≡ plain_part (node (link_kind found) [] (link_flags found optional) c.args.left.start c.match-found.self.cursor.last.stop c.match-found.nodes) (link_rank found c.match-matches.matches) Other = c.plain.ensures ∙ (λ i. plain_part (tree i) (c.rank.ensures i) Other) in
     elim c.match-found.branch [
       | other_subscript-in-Name+in_ok-name-in-Name+in_ok-token_node-in-Name+in_ok-push-in-Name w ↦
@@ -1292,9 +1317,9 @@ other_subscript-returns-clause-own t c = λ object.
     let at = c.subscript_start.ensures.text in
     let found = c.in_ok-found.found in
     let optional = c.in_ok-found.optional in
-    let one : c.in_ok-nodes.nodes ≡ part c.args.left.cover.node none = c.in_ok-nodes.ensures.made ∙ ap (λ n. part n none) c.in_ok-into_expression.ensures.settled.0 in
+    let one : c.one-nodes.result ≡ part c.args.left.cover.node none = c.one-nodes.ensures ∙ ap (λ n. part n none) c.in_ok-into_expression.ensures.settled.0 in
     let span = c.span_from-span.ensures in
-    let tree : c.in_ok-node.node ≡ node (link_kind found) [] (link_flags found optional) c.args.left.start c.match-found.self.cursor.last.stop c.match-found.nodes = c.in_ok-node.ensures.0 ∙ (λ i. node (c.kind.ensures i) [] (c.flags.ensures i) (span i).start (span i).end c.match-found.nodes) in
+    let tree : c.in_ok-node.node ≡ node (link_kind found) [] (link_flags found optional) c.args.left.start c.match-found.self.cursor.last.stop c.match-found.nodes = c.in_ok-node.ensures.made.0 ∙ (λ i. node (c.kind.ensures i) [] (c.flags.ensures i) (span i).start (span i).end c.match-found.nodes) in
     subst (OfLanguage text) (sym (ap (λ (p : Operand). p.cover.node) c.plain.ensures ∙ tree))
     (elim c.match-found.branch [
       | other_subscript-in-Name+in_ok-name-in-Name+in_ok-token_node-in-Name+in_ok-push-in-Name w ↦
@@ -1395,18 +1420,18 @@ property_name-returns-clause-complete t c =
 
 pub property_value-returns-then-accept_punctuator-clause-own : goal.property_value-returns-then-accept_punctuator-clause-own
 property_value-returns-then-accept_punctuator-clause-own t c = λ own.
-    let made = c.in_ok-node.ensures.0 ∙ (λ i. node Property [] (c.property_flags-flags.ensures i) c.span_from.result.start c.span_from.result.end (c.in_ok-nodes.ensures.made i)) in
+    let made = c.in_ok-node.ensures.made.0 ∙ (λ i. node Property [] (c.property_flags-flags.ensures i) c.span_from-span.result.start c.span_from-span.result.end (c.two-nodes.ensures i)) in
     property_owned {f = Init} refl (ap (λ (x : ListItem). x.node) c.property_item.ensures ∙ made) own (subst (λ z. OfLanguage z c.in_ok-value.value.cover.node) c.accept_punctuator.ensures.text c.in_ok-value.ensures.own)
 
 pub property_value-returns-clause-own : goal.property_value-returns-clause-own
 property_value-returns-clause-own t c = λ own.
-    let made = c.in_ok-node-2.ensures.0 ∙ (λ i. node Property [] (c.property_flags-flags-2.ensures i) c.span_from-2.result.start c.span_from-2.result.end (c.in_ok-nodes-3.ensures.made i)) in
+    let made = c.in_ok-node-2.ensures.made.0 ∙ (λ i. node Property [] (c.property_flags-flags-2.ensures i) c.span_from-span-2.result.start c.span_from-span-2.result.end (c.two-nodes-2.ensures i)) in
     let text = c.args.self.now.cursor.text in
     let name : OfLanguage text c.in_ok-value-2.value = subst (λ n. OfLanguage text n) (sym c.in_ok-value-2.ensures.made.0) (single_owned (token_of c.in-Some.token)) in
     let value : OfLanguage text c.if-accept_punctuator-2.value = elim c.if-accept_punctuator-2.branch [
-      | property_value-then-accept_punctuator-2+in_ok-right+in_ok-into_expression+in_ok-nodes-2+in_ok-value-3 w ↦
+      | property_value-then-accept_punctuator-2+in_ok-right+in_ok-into_expression+in_ok-value-3 w ↦
           let right : OfLanguage text w.in_ok-into_expression.field-0 = subst (λ n. OfLanguage text n) (sym w.in_ok-into_expression.ensures.settled.0) (subst (λ z. OfLanguage z w.in_ok-right.right.cover.node) (c.accept_punctuator-2.ensures.text ∙ c.accept_punctuator.ensures.text) w.in_ok-right.ensures.own) in
-          subst (λ n. OfLanguage text n) (sym w.value-is) (assignment_owned (w.in_ok-value-3.ensures.0 ∙ (λ i. node AssignmentExpression (codes "=") plain w.span_from-span.result.start w.span_from-span.result.end (w.in_ok-nodes-2.ensures.made i))) (subst (λ n. OfLanguage text n) (sym w.value.view_is) name) right)
+          subst (λ n. OfLanguage text n) (sym w.value-is) (assignment_owned (w.in_ok-value-3.ensures.made.0 ∙ (λ i. node AssignmentExpression (codes "=") plain w.span_from-span-then-accept_punctuator-2.result.start w.span_from-span-then-accept_punctuator-2.result.end (w.two-nodes-then-accept_punctuator-2.ensures i))) name right)
       | property_value-else-accept_punctuator-2 w ↦ subst (λ n. OfLanguage text n) (sym w.value-is) name
     ] in
     property_owned {f = Shorthand} refl (ap (λ (x : ListItem). x.node) c.property_item-2.ensures ∙ made) own value
@@ -1418,7 +1443,7 @@ property_value-returns-in_err-value-clause-complete t c =
 pub property_value-returns-in_err-node-clause-complete : goal.property_value-returns-in_err-node-clause-complete
 property_value-returns-in_err-node-clause-complete t c =
     value_made c.args.self.now.cursor c.expression.new.self.cursor c.args.self.now.pairs.items c.expression.new.self.pairs.items c.args.high c.args.key c.in_ok-value.value.cover.node _ c.from_residual-in_err-node.result c.in_err-node.field-0.0 c.from_residual-in_err-node.ensures.1 c.saturating_sub-inner.ensures
-    (λ i. node Property [] c.property_flags-flags.result c.span_from.result.start c.span_from.result.end (c.in_ok-nodes.ensures.made i)) c.in_ok-value.ensures.low c.in_err-node.ensures
+    (λ i. node Property [] c.property_flags-flags.result c.span_from-span.result.start c.span_from-span.result.end (c.two-nodes.ensures i)) c.in_ok-value.ensures.low c.in_err-node.ensures.made
 
 pub property_value-returns-then-accept_punctuator-clause-complete : goal.property_value-returns-then-accept_punctuator-clause-complete
 property_value-returns-then-accept_punctuator-clause-complete t c =
@@ -1449,26 +1474,26 @@ property_value-returns-in_err-into_expression-clause-complete t c =
 pub property_value-returns-in_err-value-3-clause-complete : goal.property_value-returns-in_err-value-3-clause-complete
 property_value-returns-in_err-value-3-clause-complete t c =
     let equals = subst (λ z. ReadsHere c.args.self.now.cursor.text Punctuator (codes "=") z c.accept_punctuator-2.new.self.cursor.last) c.if-accept_punctuator.ensures.missed.1 (subst (λ z. ReadsHere z Punctuator (codes "=") c.accept_punctuator.new.self.cursor.last c.accept_punctuator-2.new.self.cursor.last) c.accept_punctuator.ensures.text c.if-accept_punctuator-2.ensures.accepted) in
-    let left = c.value.view_is ∙ c.in_ok-value-2.ensures.made.0 in
+    let left = c.in_ok-value-2.ensures.made.0 in
     let settled = c.in_ok-into_expression.ensures.settled.0 in
     value_default_made c.args.self.now.cursor c.expression-then-accept_punctuator-2.new.self.cursor c.args.self.now.pairs.items c.expression-then-accept_punctuator-2.new.self.pairs.items c.args.high c.args.key c.if-accept_punctuator.ensures.missed.0 c.accept_punctuator-2.new.self.cursor equals (single_node Identifier (token_of c.in-Some.token)) c.in_ok-right.right.cover.node _ c.from_residual-in_err-value-3.result c.in_err-value-3.field-0.0 c.from_residual-in_err-value-3.ensures.1
-    c.saturating_sub-inner.ensures (λ i. node AssignmentExpression (codes "=") plain c.span_from-span.result.start c.span_from-span.result.end ((c.in_ok-nodes-2.ensures.made ∙ (λ j. part (left j) (part (settled j) none))) i)) refl
-    (subst (λ x. height c.in_ok-right.right.cover.node ≤ x) c.saturating_sub.ensures c.in_ok-right.ensures.low) c.in_err-value-3.ensures
+    c.saturating_sub-inner.ensures (λ i. node AssignmentExpression (codes "=") plain c.span_from-span-then-accept_punctuator-2.result.start c.span_from-span-then-accept_punctuator-2.result.end ((c.two-nodes-then-accept_punctuator-2.ensures ∙ (λ j. part (left j) (part (settled j) none))) i)) refl
+    (subst (λ x. height c.in_ok-right.right.cover.node ≤ x) c.saturating_sub.ensures c.in_ok-right.ensures.low) c.in_err-value-3.ensures.made
 
 pub property_value-returns-in_err-node-2-clause-complete : goal.property_value-returns-in_err-node-2-clause-complete
 property_value-returns-in_err-node-2-clause-complete t c =
     let low : height c.if-accept_punctuator-2.value ≤ c.saturating_sub-inner.result = elim c.if-accept_punctuator-2.branch [
-      | property_value-then-accept_punctuator-2+in_ok-right+in_ok-into_expression+in_ok-nodes-2+in_ok-value-3 w ↦ subst (λ x. height x ≤ c.saturating_sub-inner.result) (sym (w.value-is ∙ w.in_ok-value-3.ensures.0)) w.in_ok-value-3.ensures.1
+      | property_value-then-accept_punctuator-2+in_ok-right+in_ok-into_expression+in_ok-value-3 w ↦ subst (λ x. height x ≤ c.saturating_sub-inner.result) (sym (w.value-is ∙ w.in_ok-value-3.ensures.made.0)) w.in_ok-value-3.ensures.made.1
       | property_value-else-accept_punctuator-2 w ↦ subst (λ x. height x ≤ c.saturating_sub-inner.result) (sym (w.value-is ∙ c.in_ok-value-2.ensures.made.0)) c.in_ok-value-2.ensures.made.1
     ] in
     value_made c.args.self.now.cursor c.if-accept_punctuator-2.self.cursor c.args.self.now.pairs.items c.if-accept_punctuator-2.self.pairs.items c.args.high c.args.key c.if-accept_punctuator-2.value _ c.from_residual-in_err-node-2.result c.in_err-node-2.field-0.0 c.from_residual-in_err-node-2.ensures.1 c.saturating_sub-inner.ensures
-    (λ i. node Property [] c.property_flags-flags-2.result c.span_from-2.result.start c.span_from-2.result.end (c.in_ok-nodes-3.ensures.made i)) low c.in_err-node-2.ensures
+    (λ i. node Property [] c.property_flags-flags-2.result c.span_from-span-2.result.start c.span_from-span-2.result.end (c.two-nodes-2.ensures i)) low c.in_err-node-2.ensures.made
 
 pub property_value-returns-clause-complete : goal.property_value-returns-clause-complete
 property_value-returns-clause-complete t c =
     let made = c.property_item-2.ensures in
     elim c.if-accept_punctuator-2.branch [
-      | property_value-then-accept_punctuator-2+in_ok-right+in_ok-into_expression+in_ok-nodes-2+in_ok-value-3 w ↦
+      | property_value-then-accept_punctuator-2+in_ok-right+in_ok-into_expression+in_ok-value-3 w ↦
           let equals = subst (λ z. ReadsHere c.args.self.now.cursor.text Punctuator (codes "=") z c.accept_punctuator-2.new.self.cursor.last) c.if-accept_punctuator.ensures.missed.1 (subst (λ z. ReadsHere z Punctuator (codes "=") c.accept_punctuator.new.self.cursor.last c.accept_punctuator-2.new.self.cursor.last) c.accept_punctuator.ensures.text w.if-accept_punctuator-2.ensures.accepted) in
           let shape = w.shape-is ∙ w.initialized-shape.ensures ∙ ap initialized w.defaulted.ensures in
           value_default c.args.self.now.cursor c.if-accept_punctuator-2.self.cursor c.args.self.now.pairs.items c.if-accept_punctuator-2.self.pairs.items c.args.high c.args.key c.if-accept_punctuator.ensures.missed.0 c.accept_punctuator-2.new.self.cursor equals w.expression-then-accept_punctuator-2.new.self.cursor c.accept_punctuator-2.new.self.pairs.items w.expression-then-accept_punctuator-2.new.self.pairs.items refl (c.accept_punctuator-2.ensures.text ∙ c.accept_punctuator.ensures.text) w.saturating_sub.result w.in_ok-right.right w.in_ok-right.ensures.complete c.property_item-2.result (ap (λ x. x.cursor.last) w.self-is) (ap (λ x. x.shape) made ∙ shape) (ap (λ x. x.spreads) made)
@@ -1479,26 +1504,26 @@ property_value-returns-clause-complete t c =
 
 pub property_value-returns-then-accept_punctuator-clause-derived : goal.property_value-returns-then-accept_punctuator-clause-derived
 property_value-returns-then-accept_punctuator-clause-derived t c =
-    let span = c.span_from.ensures in
+    let span = c.span_from-span.ensures in
     let value = c.in_ok-value.value in
-    let tree : c.in_ok-node.node ≡ node Property [] (member_flags c.args.key.computed false Init) c.args.start c.expression.new.self.cursor.last.stop (part c.args.key.node (part value.cover.node none)) = c.in_ok-node.ensures.0 ∙ (λ i. node Property [] (c.property_flags-flags.ensures i) (span i).start (span i).end (c.in_ok-nodes.ensures.made i)) in
+    let tree : c.in_ok-node.node ≡ node Property [] (member_flags c.args.key.computed false Init) c.args.start c.expression.new.self.cursor.last.stop (part c.args.key.node (part value.cover.node none)) = c.in_ok-node.ensures.made.0 ∙ (λ i. node Property [] (c.property_flags-flags.ensures i) (span i).start (span i).end (c.two-nodes.ensures i)) in
     pair_value c.args.key c.args.start value c.property_item.result c.accept_punctuator.ensures.text c.accept_punctuator.ensures.same_open c.accept_punctuator.ensures.same_pairs c.if-accept_punctuator.ensures.accepted c.in_ok-value.ensures.derived (c.property_item.ensures ∙ ap (λ n. property_item n value.cover.shape) tree)
 
 pub property_value-returns-clause-derived : goal.property_value-returns-clause-derived
 property_value-returns-clause-derived t c =
     let key = c.args.key in
     let t = c.in-Some.token in
-    let span = c.span_from-2.ensures in
+    let span = c.span_from-span-2.ensures in
     let class : t.class ≡ IdentifierName = c.if-not-is_identifier.ensures.class in
     let free : is_free_name t.text.now ≡ true = is_free (same_class IdentifierName t.class) (is_free_name t.text.now) c.if-not-is_identifier.false c.is_identifier.ensures.is in
     let stays = c.if-accept_punctuator.ensures.missed.1 in
-    let tree : c.in_ok-node-2.node ≡ node Property [] (member_flags false false Shorthand) c.args.start c.if-accept_punctuator-2.self.cursor.last.stop (part key.node (part c.if-accept_punctuator-2.value none)) = c.in_ok-node-2.ensures.0 ∙ (λ i. node Property [] (c.property_flags-flags-2.ensures i) (span i).start (span i).end (c.in_ok-nodes-3.ensures.made i)) in
+    let tree : c.in_ok-node-2.node ≡ node Property [] (member_flags false false Shorthand) c.args.start c.if-accept_punctuator-2.self.cursor.last.stop (part key.node (part c.if-accept_punctuator-2.value none)) = c.in_ok-node-2.ensures.made.0 ∙ (λ i. node Property [] (c.property_flags-flags-2.ensures i) (span i).start (span i).end (c.two-nodes-2.ensures i)) in
     let it : c.property_item-2.result ≡ property_item (node Property [] (member_flags false false Shorthand) c.args.start c.if-accept_punctuator-2.self.cursor.last.stop (part key.node (part c.if-accept_punctuator-2.value none))) c.if-accept_punctuator-2.shape = c.property_item-2.ensures ∙ ap (λ n. property_item n c.if-accept_punctuator-2.shape) tree in
     elim c.if-accept_punctuator-2.branch [
-      | property_value-then-accept_punctuator-2+in_ok-right+in_ok-into_expression+in_ok-nodes-2+in_ok-value-3 w ↦
-          let own = w.span_from-span.ensures in
+      | property_value-then-accept_punctuator-2+in_ok-right+in_ok-into_expression+in_ok-value-3 w ↦
+          let own = w.span_from-span-then-accept_punctuator-2.ensures in
           let one = c.in_ok-value-2.ensures.made.0 in
-          let value : c.if-accept_punctuator-2.value ≡ node AssignmentExpression (codes "=") plain t.start w.expression-then-accept_punctuator-2.new.self.cursor.last.stop (part (single_node Identifier (token_of t)) (part w.in_ok-into_expression.field-0 none)) = w.value-is ∙ w.in_ok-value-3.ensures.0 ∙ (λ i. node AssignmentExpression (codes "=") plain (own i).start (own i).end ((w.in_ok-nodes-2.ensures.made ∙ ap (λ n. part n (part w.in_ok-into_expression.field-0 none)) (w.value.view_is ∙ one)) i)) in
+          let value : c.if-accept_punctuator-2.value ≡ node AssignmentExpression (codes "=") plain t.start w.expression-then-accept_punctuator-2.new.self.cursor.last.stop (part (single_node Identifier (token_of t)) (part w.in_ok-into_expression.field-0 none)) = w.value-is ∙ w.in_ok-value-3.ensures.made.0 ∙ (λ i. node AssignmentExpression (codes "=") plain (own i).start (own i).end ((w.two-nodes-then-accept_punctuator-2.ensures ∙ ap (λ n. part n (part w.in_ok-into_expression.field-0 none)) one) i)) in
           let shape = w.shape-is ∙ w.initialized-shape.ensures ∙ ap initialized w.defaulted.ensures in
           let last : c.if-accept_punctuator-2.self.cursor.last.stop ≡ w.expression-then-accept_punctuator-2.new.self.cursor.last.stop = ap (λ s. s.cursor.last.stop) w.self-is in
           subst (λ v. Adds c.args.self.now.cursor v.cursor c.args.self.now.pairs.items v.pairs.items (ValueAt c.args.self.now.cursor.text key c.args.start c.property_item-2.result)) (sym w.self-is)
@@ -1517,7 +1542,7 @@ binary_rest-returns-clause-rank t c = rank_of c.args.next.operator c.args.left c
 pub binary_rest-returns-clause-derived : goal.binary_rest-returns-clause-derived
 binary_rest-returns-clause-derived t c =
     let left = c.in_ok-left.ensures.taken in
-    let one = c.in_ok-nodes.ensures.made in
+    let one = c.one-nodes.ensures in
     let op = c.args.next.operator in
     let t = token_of c.args.next.token in
     let before : SidedFrom c.args.self.now.cursor c.match-next.self.cursor c.args.self.now.pairs.items c.match-next.self.pairs.items c.args.has_in c.args.left c.in_ok-left.left c.args.next.token.text.now c.match-next.nodes =
@@ -1535,7 +1560,7 @@ binary_rest-returns-clause-derived t c =
     let span = c.span_from-span.ensures in
     let sign = c.operator_text.ensures in
     let parts = c.in_ok-push-2.ensures.pushed ∙ ap (λ n. push c.match-next.nodes n) c.in_ok-into_expression-2.ensures.settled.0 in
-    let tree = c.in_ok-node.ensures.0 ∙ (λ k. node c.in_ok-left.left.kind (sign k) plain (span k).start (span k).end (parts k)) in
+    let tree = c.in_ok-node.ensures.made.0 ∙ (λ k. node c.in_ok-left.left.kind (sign k) plain (span k).start (span k).end (parts k)) in
     let right = c.in_ok-right.right in
     sided_whole right _ before c.at.ensures c.in_ok-right.ensures.derived c.in_ok-into_expression-2.ensures.settled.1 (ap (λ n. part_from n c.in_ok-left.left.shape c.args.left.start c.in_ok-left.left.own right.edge) tree)
 
@@ -1551,7 +1576,7 @@ binary_rest-returns-in_err-expect_punctuator-clause-complete t c = colon_refused
 pub binary_rest-returns-in_err-right-clause-complete : goal.binary_rest-returns-in_err-right-clause-complete
 binary_rest-returns-in_err-right-clause-complete t c =
     let left = c.in_ok-left.ensures.taken in
-    let one = c.in_ok-nodes.ensures.made in
+    let one = c.one-nodes.ensures in
     let rank_is = ap (λ (l : LeftOperand). l.right) left.0 in
     let ready : Ready c.args.self.now.cursor c.match-next.self.cursor c.args.self.now.pairs.items c.match-next.self.pairs.items c.args.next.token c.args.next.operator c.args.has_in (left_of c.args.next.operator c.args.left).right (left_of c.args.next.operator c.args.left).node c.match-next.nodes =
     elim c.match-next.branch [
@@ -1569,7 +1594,7 @@ binary_rest-returns-in_err-right-clause-complete t c =
 pub binary_rest-returns-in_err-into_expression-2-clause-complete : goal.binary_rest-returns-in_err-into_expression-2-clause-complete
 binary_rest-returns-in_err-into_expression-2-clause-complete t c =
     let left = c.in_ok-left.ensures.taken in
-    let one = c.in_ok-nodes.ensures.made in
+    let one = c.one-nodes.ensures in
     let rank_is = ap (λ (l : LeftOperand). l.right) left.0 in
     let ready : Ready c.args.self.now.cursor c.match-next.self.cursor c.args.self.now.pairs.items c.match-next.self.pairs.items c.args.next.token c.args.next.operator c.args.has_in (left_of c.args.next.operator c.args.left).right (left_of c.args.next.operator c.args.left).node c.match-next.nodes =
     elim c.match-next.branch [
@@ -1587,7 +1612,7 @@ binary_rest-returns-in_err-into_expression-2-clause-complete t c =
 pub binary_rest-returns-in_err-node-clause-complete : goal.binary_rest-returns-in_err-node-clause-complete
 binary_rest-returns-in_err-node-clause-complete t c =
     let left = c.in_ok-left.ensures.taken in
-    let one = c.in_ok-nodes.ensures.made in
+    let one = c.one-nodes.ensures in
     let rank_is = ap (λ (l : LeftOperand). l.right) left.0 in
     let ready : Ready c.args.self.now.cursor c.match-next.self.cursor c.args.self.now.pairs.items c.match-next.self.pairs.items c.args.next.token c.args.next.operator c.args.has_in (left_of c.args.next.operator c.args.left).right (left_of c.args.next.operator c.args.left).node c.match-next.nodes =
     elim c.match-next.branch [
@@ -1600,12 +1625,12 @@ binary_rest-returns-in_err-node-clause-complete t c =
           subst (λ k. Ready c.args.self.now.cursor k.cursor c.args.self.now.pairs.items k.pairs.items c.args.next.token c.args.next.operator c.args.has_in (left_of c.args.next.operator c.args.left).right (left_of c.args.next.operator c.args.left).node c.match-next.nodes) (sym w.self-is)
           (ready_one c.advance.ensures.text c.advance.ensures.same_open c.advance.ensures.same_pairs (passed c.args.self.now.cursor c.advance.new.self.cursor c.args.next.token c.requires.ahead c.advance.ensures.reads) w.in_default.not-Question (w.nodes-is ∙ one ∙ ap (λ (l : LeftOperand). part l.node none) left.0))
     ] in
-    sided_high c.args.self.now.cursor c.match-next.self.cursor c.expression-2.new.self.cursor c.args.self.now.pairs.items c.match-next.self.pairs.items c.expression-2.new.self.pairs.items c.args.high c.args.left c.args.next.token c.args.next.operator c.args.has_in ready c.at.result c.saturating_sub-inner.result c.requires.coded (c.at.ensures ∙ ap (λ q. right_at q c.args.has_in) rank_is) c.saturating_sub-inner.ensures c.expression-2.new.self.cursor c.expression-2.new.self.pairs.items _ c.in_err-node.field-0.0 c.from_residual-in_err-node.ensures.1 c.in_ok-right.right _ c.in_ok-right.ensures.complete c.in_ok-into_expression-2.ensures.settled.0 c.in_ok-push-2.ensures.pushed c.in_err-node.ensures.0 c.in_err-node.ensures.1 refl
+    sided_high c.args.self.now.cursor c.match-next.self.cursor c.expression-2.new.self.cursor c.args.self.now.pairs.items c.match-next.self.pairs.items c.expression-2.new.self.pairs.items c.args.high c.args.left c.args.next.token c.args.next.operator c.args.has_in ready c.at.result c.saturating_sub-inner.result c.requires.coded (c.at.ensures ∙ ap (λ q. right_at q c.args.has_in) rank_is) c.saturating_sub-inner.ensures c.expression-2.new.self.cursor c.expression-2.new.self.pairs.items _ c.in_err-node.field-0.0 c.from_residual-in_err-node.ensures.1 c.in_ok-right.right _ c.in_ok-right.ensures.complete c.in_ok-into_expression-2.ensures.settled.0 c.in_ok-push-2.ensures.pushed c.in_err-node.ensures.made.0 c.in_err-node.ensures.made.1 refl
 
 pub binary_rest-returns-clause-complete : goal.binary_rest-returns-clause-complete
 binary_rest-returns-clause-complete t c =
     let left = c.in_ok-left.ensures.taken in
-    let one = c.in_ok-nodes.ensures.made in
+    let one = c.one-nodes.ensures in
     let rank_is = ap (λ (l : LeftOperand). l.right) left.0 in
     let ready : Ready c.args.self.now.cursor c.match-next.self.cursor c.args.self.now.pairs.items c.match-next.self.pairs.items c.args.next.token c.args.next.operator c.args.has_in (left_of c.args.next.operator c.args.left).right (left_of c.args.next.operator c.args.left).node c.match-next.nodes =
     elim c.match-next.branch [
@@ -1620,14 +1645,14 @@ binary_rest-returns-clause-complete t c =
     ] in
     let span = c.span_from-span.ensures in
     let sign = c.operator_text.ensures in
-    let tree = c.in_ok-node.ensures.0 ∙ (λ k. node c.in_ok-left.left.kind (sign k) plain (span k).start (span k).end c.push-2.new.self) in
+    let tree = c.in_ok-node.ensures.made.0 ∙ (λ k. node c.in_ok-left.left.kind (sign k) plain (span k).start (span k).end c.push-2.new.self) in
     sided_answered c.args.self.now.cursor c.match-next.self.cursor c.expression-2.new.self.cursor c.args.self.now.pairs.items c.match-next.self.pairs.items c.expression-2.new.self.pairs.items c.args.high c.args.left c.args.next.token c.args.next.operator c.args.has_in ready c.at.result c.saturating_sub-inner.result c.requires.coded (c.at.ensures ∙ ap (λ q. right_at q c.args.has_in) rank_is) c.saturating_sub-inner.ensures c.in_ok-right.right (part_from c.in_ok-node.node c.in_ok-left.left.shape c.args.left.start c.in_ok-left.left.own c.in_ok-right.right.edge) c.in_ok-right.ensures.complete c.in_ok-into_expression-2.ensures.settled.0 c.in_ok-push-2.ensures.pushed left.0 tree refl refl
 
 pub binary_rest-returns-clause-own : goal.binary_rest-returns-clause-own
 binary_rest-returns-clause-own t c = λ own.
     let s = c.args.self.now.cursor in
     let left = c.in_ok-left.ensures.taken in
-    let one = c.in_ok-nodes.ensures.made in
+    let one = c.one-nodes.ensures in
     let first : AllOfLanguage s.text (part c.in_ok-left.left.node none) = of_part (left_language c.args.next.operator c.args.left left.0 own) of_none in
     let before : (c.match-next.self.cursor.text ≡ s.text) × AllOfLanguage s.text c.match-next.nodes = elim c.match-next.branch [
       | binary_rest-in-Question+in_ok-part+in_ok-into_expression+in_ok-push+in_ok-expect_punctuator w ↦ (
@@ -1640,7 +1665,7 @@ binary_rest-returns-clause-own t c = λ own.
     let right = c.in_ok-right.right in
     let second : OfLanguage s.text c.in_ok-into_expression-2.field-0 = subst (OfLanguage s.text) (sym c.in_ok-into_expression-2.ensures.settled.0) (subst (λ x. OfLanguage x right.cover.node) before.0 c.in_ok-right.ensures.own) in
     let sides : AllOfLanguage s.text c.push-2.new.self = subst (AllOfLanguage s.text) (sym c.in_ok-push-2.ensures.pushed) (of_push c.match-next.nodes c.in_ok-into_expression-2.field-0 before.1 second) in
-    subst (OfLanguage s.text) (sym c.in_ok-node.ensures.0) (sided_language (operation (as_read (token_of c.args.next.token))) c.args.next.token.text.now c.args.left c.requires.coded left.0 sides)
+    subst (OfLanguage s.text) (sym c.in_ok-node.ensures.made.0) (sided_language (operation (as_read (token_of c.args.next.token))) c.args.next.token.text.now c.args.left c.requires.coded left.0 sides)
 
 pub infix-binary_rest-requires : goal.infix-binary_rest-requires
 infix-binary_rest-requires t c = (search rules, (c.requires.ahead, (c.requires.real, (c.requires.coded, in_there c.args.position c.args.left.edge (token_of c.args.next.token) c.requires.coded (no_tag_there c.in-Binary.is) c.requires.goes))))
@@ -1669,45 +1694,45 @@ infix-returns-in-OpenParen-clause-derived t c = linked_reads c.args.self.now.cur
 pub infix-returns-in-OpenBracket-clause-derived : goal.infix-returns-in-OpenBracket-clause-derived
 infix-returns-in-OpenBracket-clause-derived t c = linked_reads c.args.self.now.cursor c.subscript.new.self.cursor c.args.self.now.pairs.items c.subscript.new.self.pairs.items c.args.position c.args.left (token_of c.args.next.token) c.subscript.result c.requires.ahead c.requires.coded (no_chain_there (inr (inr c.in-OpenBracket.is))) c.requires.goes c.subscript.ensures.derived
 
-pub update_or_comma-returns-in-PostUpdate-clause-derived : goal.update_or_comma-returns-in-PostUpdate-clause-derived
-update_or_comma-returns-in-PostUpdate-clause-derived t c =
-    let parts = c.in_ok-nodes-in-PostUpdate.ensures.made ∙ ap (λ n. part n none) c.in_ok-operand-in-PostUpdate.ensures.target.0 in
+pub update_or_comma-returns-in_ok-node-in-PostUpdate-clause-derived : goal.update_or_comma-returns-in_ok-node-in-PostUpdate-clause-derived
+update_or_comma-returns-in_ok-node-in-PostUpdate-clause-derived t c =
+    let parts = c.one-nodes.ensures ∙ ap (λ n. part n none) c.in_ok-operand-in-PostUpdate.ensures.target.0 in
     let span = c.span_from-span.ensures in
-    let tree = c.in_ok-node-in-PostUpdate.ensures.0 ∙ (λ k. node UpdateExpression c.args.next.token.text.now plain (span k).start (span k).end (parts k)) in
+    let tree = c.in_ok-node-in-PostUpdate.ensures.made.0 ∙ (λ k. node UpdateExpression c.args.next.token.text.now plain (span k).start (span k).end (parts k)) in
     step_reads c.args.self.now.cursor c.advance.new.self.cursor c.args.self.now.pairs.items c.advance.new.self.pairs.items c.args.position c.args.left (token_of c.args.next.token) c.plain.result c.requires.coded c.in-PostUpdate.is c.requires.goes c.in_ok-operand-in-PostUpdate.ensures.target.1
     c.advance.ensures.reads c.advance.ensures.same_open c.advance.ensures.same_pairs (c.plain.ensures ∙ ap (λ n. plain_part n Update Postfix) tree)
 
-pub update_or_comma-returns-in-Comma-clause-derived : goal.update_or_comma-returns-in-Comma-clause-derived
-update_or_comma-returns-in-Comma-clause-derived t c =
+pub update_or_comma-returns-in_ok-node-in-Comma-clause-derived : goal.update_or_comma-returns-in_ok-node-in-Comma-clause-derived
+update_or_comma-returns-in_ok-node-in-Comma-clause-derived t c =
     let begun = c.in_ok-list-in-Comma.ensures.begun in
     let list = c.in_ok-list-in-Comma-2.list in
     let pass = c.advance-in-Comma in
     let span = c.span_from-span-in-Comma.ensures in
-    let tree = c.in_ok-node-in-Comma.ensures.0 ∙ (λ k. node SequenceExpression [] plain (span k).start (span k).end list.nodes) in
+    let tree = c.in_ok-node-in-Comma.ensures.made.0 ∙ (λ k. node SequenceExpression [] plain (span k).start (span k).end list.nodes) in
     sequence_reads c.args.self.now.cursor pass.new.self.cursor c.list.new.self.cursor c.args.self.now.pairs.items pass.new.self.pairs.items c.list.new.self.pairs.items c.args.position c.args.left (token_of c.args.next.token) c.plain-in-Comma.result c.in_ok-list-in-Comma.list list
     c.requires.coded c.in-Comma.is c.requires.goes begun.0 begun.1 c.in_ok-list-in-Comma.ensures.listed c.in_ok-list-in-Comma-2.ensures.same.0 pass.ensures.text pass.ensures.same_open pass.ensures.same_pairs pass.ensures.reads
     c.in_ok-list-in-Comma-2.ensures.derived (c.plain-in-Comma.ensures ∙ ap (λ n. plain_part n Expression list.seen.edge) tree)
 
-pub update_or_comma-returns-in-PostUpdate-clause-own : goal.update_or_comma-returns-in-PostUpdate-clause-own
-update_or_comma-returns-in-PostUpdate-clause-own t c = λ own.
+pub update_or_comma-returns-in_ok-node-in-PostUpdate-clause-own : goal.update_or_comma-returns-in_ok-node-in-PostUpdate-clause-own
+update_or_comma-returns-in_ok-node-in-PostUpdate-clause-own t c = λ own.
     let s = c.args.self.now.cursor in
     let target = c.in_ok-operand-in-PostUpdate.ensures.target.0 in
-    let tree = ap (λ (p : Operand). p.cover.node) c.plain.ensures ∙ c.in_ok-node-in-PostUpdate.ensures.0 in
-    subst (OfLanguage s.text) (sym tree) (of_node (λ b. refl) (subst (AllOfLanguage s.text) (sym (c.in_ok-nodes-in-PostUpdate.ensures.made ∙ ap (λ n. part n none) target)) (of_part (pattern_of_language c.args.left.cover.node own) of_none)))
+    let tree = ap (λ (p : Operand). p.cover.node) c.plain.ensures ∙ c.in_ok-node-in-PostUpdate.ensures.made.0 in
+    subst (OfLanguage s.text) (sym tree) (of_node (λ b. refl) (subst (AllOfLanguage s.text) (sym (c.one-nodes.ensures ∙ ap (λ n. part n none) target)) (of_part (pattern_of_language c.args.left.cover.node own) of_none)))
 
-pub update_or_comma-returns-in-Comma-clause-own : goal.update_or_comma-returns-in-Comma-clause-own
-update_or_comma-returns-in-Comma-clause-own t c = λ own.
+pub update_or_comma-returns-in_ok-node-in-Comma-clause-own : goal.update_or_comma-returns-in_ok-node-in-Comma-clause-own
+update_or_comma-returns-in_ok-node-in-Comma-clause-own t c = λ own.
     let s = c.args.self.now.cursor in
     let first = c.in_ok-list-in-Comma.list in
     let list = c.in_ok-list-in-Comma-2.list in
     let same = c.advance-in-Comma.ensures.text in
-    let tree = ap (λ (p : Operand). p.cover.node) c.plain-in-Comma.ensures ∙ c.in_ok-node-in-Comma.ensures.0 in
+    let tree = ap (λ (p : Operand). p.cover.node) c.plain-in-Comma.ensures ∙ c.in_ok-node-in-Comma.ensures.made.0 in
     let begun : AllOfLanguage s.text first.nodes = subst (λ (l : ListBuilder). AllOfLanguage s.text l.nodes) (sym c.in_ok-list-in-Comma.ensures.begun.0) (of_part own of_none) in
     let whole : AllOfLanguage s.text list.nodes = subst (λ x. AllOfLanguage x list.nodes) same (c.in_ok-list-in-Comma-2.ensures.own (subst (λ x. AllOfLanguage x first.nodes) (sym same) begun)) in
     subst (OfLanguage s.text) (sym tree) (of_node (λ b. refl) whole)
 
 pub read_symbols-each-init : goal.read_symbols-each-init
-read_symbols-each-init t c = record { same = refl; forward = omega arith; derived = built_first; low = λ h. h; own = λ h. h; complete = left_first (map piece_of c.args.pieces.now) }
+read_symbols-each-init t c = record { same = refl; waits = λ base h. h; forward = omega arith; derived = built_first; low = λ h. h; own = λ h. h; complete = left_first (map piece_of c.args.pieces.now) }
 
 pub read_symbols-each-preserved : goal.read_symbols-each-preserved
 read_symbols-each-preserved t c =
@@ -1716,34 +1741,35 @@ read_symbols-each-preserved t c =
     let read = c.in_ok-expected.ensures.read in
     let text = c.args.self.now.cursor.text in
     let before : AllOfLanguage text c.args.built.now.nodes → AllOfLanguage text c.expected.new.built.nodes = λ h. expected_own text _ c.args.context.returns c.each.self.cursor c.expected.new.self.cursor c.each.built c.expected.new.built c.args.high _ read (v.own h) in
+    let ready : (base : Parts) → c.args.self.now.tree ≡ join base c.args.built.now.nodes → c.expected.new.self.tree ≡ join base c.expected.new.built.nodes = λ base h. c.in_ok-expected.ensures.waits base (v.waits base h) in
     elim c.match-branch-2.branch [
       | read_symbols-in-Nothing w ↦ rw (w.self-is, w.built-is) (
           let p = passed_piece c.expected.ensures.same_open c.expected.ensures.same_pairs (nothing_passed _ (rw w.in-Nothing.is at read)) in
           let further = c.expected.ensures.forward in
-          record { same = c.expected.ensures.text ∙ v.same; forward = omega arith; derived = piece_on c.args.pieces.now _ c.each.piece-index v.same c.each-test.true v.derived p; low = λ h. piece_low p (v.low h); own = before; complete = pieces_on c.args.pieces.now _ c.each.piece-index v.same c.each-test.true v.complete (nothing_same _ c.args.context.returns c.args.high c.expected.ensures.same_pairs (rw w.in-Nothing.is at read)) })
+          record { same = c.expected.ensures.text ∙ v.same; forward = omega arith; waits = ready; derived = piece_on c.args.pieces.now _ c.each.piece-index v.same c.each-test.true v.derived p; low = λ h. piece_low p (v.low h); own = before; complete = pieces_on c.args.pieces.now _ c.each.piece-index v.same c.each-test.true v.complete (nothing_same _ c.args.context.returns c.args.high c.expected.ensures.same_pairs (rw w.in-Nothing.is at read)) })
       | read_symbols-in-Gap+in_ok-push_gap-in-Gap w ↦ rw (w.self-is, w.built-is) (
           let p = passed_piece c.expected.ensures.same_open c.expected.ensures.same_pairs (gap_wanted _ c.expected.new.built (rw w.in-Gap.is at read) (ap (λ ps. record c.expected.new.built { nodes = ps }) w.in_ok-push_gap-in-Gap.ensures.pushed)) in
           let further = c.expected.ensures.forward in
-          record { same = c.expected.ensures.text ∙ v.same; forward = omega arith; derived = piece_on c.args.pieces.now _ c.each.piece-index v.same c.each-test.true v.derived p; low = λ h. piece_low p (v.low h); own = λ h. gap_own text w.in_ok-push_gap-in-Gap.ensures.pushed (before h); complete = pieces_on c.args.pieces.now _ c.each.piece-index v.same c.each-test.true v.complete (gap_missing _ c.args.context.returns c.args.high c.expected.new.built c.expected.ensures.same_pairs (rw w.in-Gap.is at read) (ap (λ ps. record c.expected.new.built { nodes = ps }) w.in_ok-push_gap-in-Gap.ensures.pushed)) })
+          record { same = c.expected.ensures.text ∙ v.same; forward = omega arith; waits = λ base h. waits_gap base c.expected.new.built.nodes (ready base h) w.in_ok-push_gap-in-Gap.ensures.waits w.in_ok-push_gap-in-Gap.ensures.pushed; derived = piece_on c.args.pieces.now _ c.each.piece-index v.same c.each-test.true v.derived p; low = λ h. piece_low p (v.low h); own = λ h. gap_own text w.in_ok-push_gap-in-Gap.ensures.pushed (before h); complete = pieces_on c.args.pieces.now _ c.each.piece-index v.same c.each-test.true v.complete (gap_missing _ c.args.context.returns c.args.high c.expected.new.built c.expected.ensures.same_pairs (rw w.in-Gap.is at read) (ap (λ ps. record c.expected.new.built { nodes = ps }) w.in_ok-push_gap-in-Gap.ensures.pushed)) })
       | read_symbols-in-Expression+in_ok-part-in-Expression+in_ok-add_expression-in-Expression w ↦ rw (w.self-is, w.built-is) (
           let q = c.expected.ensures in
           let p = expression_piece _ c.expected.new.built w.sees_in_or_of-each.result q.text w.expression.ensures.text q.same_open q.same_pairs (rw w.in-Expression.is at read) w.in_ok-part-in-Expression.ensures.derived w.sees_in_or_of-each.ensures.seen w.sees_in_or_of-each.ensures.missed w.in_ok-add_expression-in-Expression.ensures.fits w.in_ok-add_expression-in-Expression.ensures.put w.in_ok-part-in-Expression.ensures.low in
           let further = c.expected.ensures.forward in
           let behind = w.expression.ensures.forward in
-          record { same = w.expression.ensures.text ∙ q.text ∙ v.same; forward = omega arith; derived = piece_on c.args.pieces.now _ c.each.piece-index v.same c.each-test.true v.derived p; low = λ h. piece_low p (v.low h); own = λ h. part_own text _ w.sees_in_or_of-each.result w.in_ok-part-in-Expression.part.cover.node c.expected.new.built w.in_ok-add_expression-in-Expression.ensures.put (subst (λ x. OfLanguage x w.in_ok-part-in-Expression.part.cover.node) (q.text ∙ v.same) w.in_ok-part-in-Expression.ensures.own) (before h); complete = pieces_on c.args.pieces.now _ c.each.piece-index v.same c.each-test.true v.complete (value_same c.args.context.returns c.each.self.cursor c.expected.new.self.cursor w.expression.new.self.cursor c.expected.new.self.pairs.items w.expression.new.self.pairs.items c.each.built c.expected.new.built c.args.high w.in-Expression.position _ _ w.sees_in_or_of-each.result q.text w.expression.ensures.text (rw w.in-Expression.is at read) w.in_ok-part-in-Expression.ensures.complete w.sees_in_or_of-each.ensures.seen w.sees_in_or_of-each.ensures.missed q.same_pairs w.in_ok-part-in-Expression.ensures.derived w.in_ok-add_expression-in-Expression.ensures.put) })
+          record { same = w.expression.ensures.text ∙ q.text ∙ v.same; forward = omega arith; waits = λ base h. w.in_ok-add_expression-in-Expression.ensures.waits base (w.in_ok-part-in-Expression.ensures.waits ∙ ap (λ ps. push ps w.in_ok-part-in-Expression.part.cover.node) (ready base h)); derived = piece_on c.args.pieces.now _ c.each.piece-index v.same c.each-test.true v.derived p; low = λ h. piece_low p (v.low h); own = λ h. part_own text _ w.sees_in_or_of-each.result w.in_ok-part-in-Expression.part.cover.node c.expected.new.built w.in_ok-add_expression-in-Expression.ensures.put (subst (λ x. OfLanguage x w.in_ok-part-in-Expression.part.cover.node) (q.text ∙ v.same) w.in_ok-part-in-Expression.ensures.own) (before h); complete = pieces_on c.args.pieces.now _ c.each.piece-index v.same c.each-test.true v.complete (value_same c.args.context.returns c.each.self.cursor c.expected.new.self.cursor w.expression.new.self.cursor c.expected.new.self.pairs.items w.expression.new.self.pairs.items c.each.built c.expected.new.built c.args.high w.in-Expression.position _ _ w.sees_in_or_of-each.result q.text w.expression.ensures.text (rw w.in-Expression.is at read) w.in_ok-part-in-Expression.ensures.complete w.sees_in_or_of-each.ensures.seen w.sees_in_or_of-each.ensures.missed q.same_pairs w.in_ok-part-in-Expression.ensures.derived w.in_ok-add_expression-in-Expression.ensures.put) })
       | read_symbols-in-Binding+in_ok-part-in-Binding+in_ok-add_expression-in-Binding w ↦ rw (w.self-is, w.built-is) (
           let q = c.expected.ensures in
           let p = binding_piece _ c.expected.new.built q.text q.same_open q.same_pairs (rw w.in-Binding.is at read) w.at.ensures w.in_ok-part-in-Binding.ensures.derived w.in_ok-add_expression-in-Binding.ensures.fits w.in_ok-add_expression-in-Binding.ensures.put w.in_ok-part-in-Binding.ensures.low in
           let further = c.expected.ensures.forward in
           let behind = w.leftmost_operand.ensures.forward in
-          record { same = w.leftmost_operand.ensures.text ∙ q.text ∙ v.same; forward = omega arith; derived = piece_on c.args.pieces.now _ c.each.piece-index v.same c.each-test.true v.derived p; low = λ h. piece_low p (v.low h); own = λ h. part_own text _ false w.in_ok-part-in-Binding.part.cover.node c.expected.new.built w.in_ok-add_expression-in-Binding.ensures.put (subst (λ x. OfLanguage x w.in_ok-part-in-Binding.part.cover.node) (q.text ∙ v.same) w.in_ok-part-in-Binding.ensures.own) (before h); complete = pieces_on c.args.pieces.now _ c.each.piece-index v.same c.each-test.true v.complete (binding_same c.args.context.returns c.each.self.cursor c.expected.new.self.cursor c.each.built c.expected.new.built c.args.high w.at.result _ q.text (rw w.in-Binding.is at read) w.at.ensures w.leftmost_operand.new.self.cursor c.expected.new.self.pairs.items w.leftmost_operand.new.self.pairs.items _ w.in_ok-part-in-Binding.ensures.complete q.same_pairs w.in_ok-add_expression-in-Binding.ensures.put) })
+          record { same = w.leftmost_operand.ensures.text ∙ q.text ∙ v.same; forward = omega arith; waits = λ base h. w.in_ok-add_expression-in-Binding.ensures.waits base (w.in_ok-part-in-Binding.ensures.waits ∙ ap (λ ps. push ps w.in_ok-part-in-Binding.part.cover.node) (ready base h)); derived = piece_on c.args.pieces.now _ c.each.piece-index v.same c.each-test.true v.derived p; low = λ h. piece_low p (v.low h); own = λ h. part_own text _ false w.in_ok-part-in-Binding.part.cover.node c.expected.new.built w.in_ok-add_expression-in-Binding.ensures.put (subst (λ x. OfLanguage x w.in_ok-part-in-Binding.part.cover.node) (q.text ∙ v.same) w.in_ok-part-in-Binding.ensures.own) (before h); complete = pieces_on c.args.pieces.now _ c.each.piece-index v.same c.each-test.true v.complete (binding_same c.args.context.returns c.each.self.cursor c.expected.new.self.cursor c.each.built c.expected.new.built c.args.high w.at.result _ q.text (rw w.in-Binding.is at read) w.at.ensures w.leftmost_operand.new.self.cursor c.expected.new.self.pairs.items w.leftmost_operand.new.self.pairs.items _ w.in_ok-part-in-Binding.ensures.complete q.same_pairs w.in_ok-add_expression-in-Binding.ensures.put) })
       | read_symbols-in-Statement+in_ok-statement-in-Statement+in_ok-push-in-Statement w ↦ rw (w.self-is, w.built-is) (
           let q = c.expected.ensures in
           let p = statement_piece _ c.expected.new.built q.text q.same_open q.same_pairs (rw w.in-Statement.is at read) w.inside.ensures w.in_ok-statement-in-Statement.ensures.derived (ap (λ ps. record c.expected.new.built { nodes = ps }) w.in_ok-push-in-Statement.ensures.pushed) w.in_ok-statement-in-Statement.ensures.low in
           let further = c.expected.ensures.forward in
           let behind = w.statement.ensures.forward in
-          record { same = w.statement.ensures.text ∙ q.text ∙ v.same; forward = omega arith; derived = piece_on c.args.pieces.now _ c.each.piece-index v.same c.each-test.true v.derived p; low = λ h. piece_low p (v.low h); own = λ h. push_own text _ w.in_ok-push-in-Statement.ensures.pushed (subst (λ x. OfLanguage x w.in_ok-statement-in-Statement.field-0) (q.text ∙ v.same) w.in_ok-statement-in-Statement.ensures.own) (before h); complete = pieces_on c.args.pieces.now _ c.each.piece-index v.same c.each-test.true v.complete (statement_same c.args.context.returns c.each.self.cursor c.expected.new.self.cursor c.each.built c.expected.new.built c.args.high w.inside.result _ q.text (rw w.in-Statement.is at read) w.inside.ensures w.statement.new.self.cursor c.expected.new.self.pairs.items w.statement.new.self.pairs.items _ w.in_ok-statement-in-Statement.ensures.complete q.same_pairs (ap (λ ps. record c.expected.new.built { nodes = ps }) w.in_ok-push-in-Statement.ensures.pushed)) })
-      | read_symbols-in-Block+in_ok-left-in-Block+in_ok-list-in-Block+in_ok-expect_punctuator-in-Block+in_ok-finish_plain-in-Block+in_ok-push-in-Block w ↦ rw (w.self-is, w.built-is) (
+          record { same = w.statement.ensures.text ∙ q.text ∙ v.same; forward = omega arith; waits = λ base h. waits_push base c.expected.new.built.nodes w.in_ok-statement-in-Statement.field-0 (ready base h) w.in_ok-statement-in-Statement.ensures.waits w.in_ok-push-in-Statement.ensures.pushed; derived = piece_on c.args.pieces.now _ c.each.piece-index v.same c.each-test.true v.derived p; low = λ h. piece_low p (v.low h); own = λ h. push_own text _ w.in_ok-push-in-Statement.ensures.pushed (subst (λ x. OfLanguage x w.in_ok-statement-in-Statement.field-0) (q.text ∙ v.same) w.in_ok-statement-in-Statement.ensures.own) (before h); complete = pieces_on c.args.pieces.now _ c.each.piece-index v.same c.each-test.true v.complete (statement_same c.args.context.returns c.each.self.cursor c.expected.new.self.cursor c.each.built c.expected.new.built c.args.high w.inside.result _ q.text (rw w.in-Statement.is at read) w.inside.ensures w.statement.new.self.cursor c.expected.new.self.pairs.items w.statement.new.self.pairs.items _ w.in_ok-statement-in-Statement.ensures.complete q.same_pairs (ap (λ ps. record c.expected.new.built { nodes = ps }) w.in_ok-push-in-Statement.ensures.pushed)) })
+      | read_symbols-in-Block+in_ok-left-in-Block+in_ok-list-in-Block+in_ok-expect_punctuator-in-Block+in_ok-block-in-Block+in_ok-push-in-Block w ↦ rw (w.self-is, w.built-is) (
           let q = c.expected.ensures in
           let further = c.expected.ensures.forward in
           let behind = w.expect_punctuator.ensures.forward in
@@ -1751,36 +1777,36 @@ read_symbols-each-preserved t c =
           let last = w.expect_punctuator-in-Block.ensures.forward in
           let ahead : c.args.self.now.cursor.last.stop ≤ w.expect_punctuator-in-Block.new.self.cursor.last.stop = omega arith in
           let span = w.span_from-span.ensures in
-          let made = w.in_ok-finish_plain-in-Block.ensures.0 ∙ (λ i. node BlockStatement [] plain (span i).start (span i).end w.in_ok-list-in-Block.list) in
-          let low : height w.in_ok-finish_plain-in-Block.field-0 ≤ c.args.high = subst (λ n. height n ≤ c.args.high) (sym w.in_ok-finish_plain-in-Block.ensures.0) w.in_ok-finish_plain-in-Block.ensures.1 in
+          let made = w.in_ok-block-in-Block.ensures.made.0 ∙ (λ i. node BlockStatement [] plain (span i).start (span i).end w.in_ok-list-in-Block.list) in
+          let low : height w.in_ok-block-in-Block.block ≤ c.args.high = subst (λ n. height n ≤ c.args.high) (sym w.in_ok-block-in-Block.ensures.made.0) w.in_ok-block-in-Block.ensures.made.1 in
           let p = block_piece _ c.expected.new.built w.in-Block.context q.text w.expect_punctuator.ensures.text w.statements.ensures.text q.same_open q.same_pairs w.expect_punctuator.ensures.same_open w.expect_punctuator.ensures.same_pairs w.expect_punctuator-in-Block.ensures.same_open w.expect_punctuator-in-Block.ensures.same_pairs (rw w.in-Block.is at read)
           w.in_ok-left-in-Block.ensures.accepted.0 w.in_ok-left-in-Block.ensures.accepted.1 w.in_ok-list-in-Block.ensures.derived w.in_ok-expect_punctuator-in-Block.ensures.accepted.0 made (ap (λ ps. record c.expected.new.built { nodes = ps }) w.in_ok-push-in-Block.ensures.pushed) low in
-          record { same = w.expect_punctuator-in-Block.ensures.text ∙ w.statements.ensures.text ∙ w.expect_punctuator.ensures.text ∙ q.text ∙ v.same; forward = ahead; derived = piece_on c.args.pieces.now _ c.each.piece-index v.same c.each-test.true v.derived p; low = λ h. piece_low p (v.low h); own = λ h. push_own text _ w.in_ok-push-in-Block.ensures.pushed (block_own text made (subst (λ x. AllOfLanguage x w.in_ok-list-in-Block.list) (w.expect_punctuator.ensures.text ∙ q.text ∙ v.same) w.in_ok-list-in-Block.ensures.own)) (before h); complete = pieces_on c.args.pieces.now _ c.each.piece-index v.same c.each-test.true v.complete (block_same c.args.context.returns c.each.self.cursor c.expected.new.self.cursor c.each.built c.expected.new.built c.args.high w.in-Block.context _ q.text q.same_open (rw w.in-Block.is at read) w.expect_punctuator.new.self.cursor c.saturating_sub-inner.result w.expect_punctuator.ensures.text w.expect_punctuator.ensures.same_open w.in_ok-left-in-Block.ensures.accepted.0 c.saturating_sub-inner.ensures w.statements.new.self.cursor w.expect_punctuator.new.self.pairs.items w.statements.new.self.pairs.items _ w.in_ok-list-in-Block.ensures.complete q.same_pairs w.expect_punctuator.ensures.same_pairs w.expect_punctuator-in-Block.ensures.same_pairs w.statements.ensures.text w.in_ok-left-in-Block.ensures.accepted.1 w.in_ok-expect_punctuator-in-Block.ensures.accepted.0 made (ap (λ ps. record c.expected.new.built { nodes = ps }) w.in_ok-push-in-Block.ensures.pushed)) })
-      | read_symbols-in-Handler+in_ok-read_symbols-in-Handler+in_ok-finish_plain-in-Handler+in_ok-push-in-Handler w ↦ rw (w.self-is, w.built-is) (
+          record { same = w.expect_punctuator-in-Block.ensures.text ∙ w.statements.ensures.text ∙ w.expect_punctuator.ensures.text ∙ q.text ∙ v.same; forward = ahead; waits = λ base h. waits_push base c.expected.new.built.nodes w.in_ok-block-in-Block.block (ready base h) (w.in_ok-block-in-Block.ensures.waits c.expected.new.self.tree (w.expect_punctuator-in-Block.ensures.same_tree ∙ w.in_ok-list-in-Block.ensures.waits ∙ ap (λ ps. join ps w.in_ok-list-in-Block.list) w.expect_punctuator.ensures.same_tree)) w.in_ok-push-in-Block.ensures.pushed; derived = piece_on c.args.pieces.now _ c.each.piece-index v.same c.each-test.true v.derived p; low = λ h. piece_low p (v.low h); own = λ h. push_own text _ w.in_ok-push-in-Block.ensures.pushed (block_own text made (subst (λ x. AllOfLanguage x w.in_ok-list-in-Block.list) (w.expect_punctuator.ensures.text ∙ q.text ∙ v.same) w.in_ok-list-in-Block.ensures.own)) (before h); complete = pieces_on c.args.pieces.now _ c.each.piece-index v.same c.each-test.true v.complete (block_same c.args.context.returns c.each.self.cursor c.expected.new.self.cursor c.each.built c.expected.new.built c.args.high w.in-Block.context _ q.text q.same_open (rw w.in-Block.is at read) w.expect_punctuator.new.self.cursor c.saturating_sub-inner.result w.expect_punctuator.ensures.text w.expect_punctuator.ensures.same_open w.in_ok-left-in-Block.ensures.accepted.0 c.saturating_sub-inner.ensures w.statements.new.self.cursor w.expect_punctuator.new.self.pairs.items w.statements.new.self.pairs.items _ w.in_ok-list-in-Block.ensures.complete q.same_pairs w.expect_punctuator.ensures.same_pairs w.expect_punctuator-in-Block.ensures.same_pairs w.statements.ensures.text w.in_ok-left-in-Block.ensures.accepted.1 w.in_ok-expect_punctuator-in-Block.ensures.accepted.0 made (ap (λ ps. record c.expected.new.built { nodes = ps }) w.in_ok-push-in-Block.ensures.pushed)) })
+      | read_symbols-in-Handler+in_ok-read_symbols-in-Handler+in_ok-handler-in-Handler+in_ok-push-in-Handler w ↦ rw (w.self-is, w.built-is) (
           let q = c.expected.ensures in
           let span = w.span_from-span-in-Handler.ensures in
-          let made = w.in_ok-finish_plain-in-Handler.ensures.0 ∙ (λ i. node CatchClause [] plain (span i).start (span i).end w.read_symbols.new.built.nodes) in
-          let low : height w.in_ok-finish_plain-in-Handler.field-0 ≤ c.args.high = subst (λ n. height n ≤ c.args.high) (sym w.in_ok-finish_plain-in-Handler.ensures.0) w.in_ok-finish_plain-in-Handler.ensures.1 in
+          let made = w.in_ok-handler-in-Handler.ensures.made.0 ∙ (λ i. node CatchClause [] plain (span i).start (span i).end w.read_symbols.new.built.nodes) in
+          let low : height w.in_ok-handler-in-Handler.handler ≤ c.args.high = subst (λ n. height n ≤ c.args.high) (sym w.in_ok-handler-in-Handler.ensures.made.0) w.in_ok-handler-in-Handler.ensures.made.1 in
           let p = handler_piece _ c.expected.new.built w.in-Handler.start w.new-caught.result w.read_symbols.new.built q.text q.same_open q.same_pairs (rw w.in-Handler.is at read) w.catch_symbols.ensures w.new-caught.ensures w.in_ok-read_symbols-in-Handler.ensures.derived made (ap (λ ps. record c.expected.new.built { nodes = ps }) w.in_ok-push-in-Handler.ensures.pushed) low in
           let further = c.expected.ensures.forward in
           let behind = w.read_symbols.ensures.forward in
-          record { same = w.read_symbols.ensures.text ∙ q.text ∙ v.same; forward = omega arith; derived = piece_on c.args.pieces.now _ c.each.piece-index v.same c.each-test.true v.derived p; low = λ h. piece_low p (v.low h); own = λ h. push_own text _ w.in_ok-push-in-Handler.ensures.pushed (handler_own text made (ap (λ x. x.nodes) w.new-caught.ensures) (subst (λ x. AllOfLanguage x w.new-caught.result.nodes → AllOfLanguage x w.read_symbols.new.built.nodes) (q.text ∙ v.same) w.in_ok-read_symbols-in-Handler.ensures.own)) (before h); complete = pieces_on c.args.pieces.now _ c.each.piece-index v.same c.each-test.true v.complete (handler_same c.args.context.returns c.each.self.cursor c.expected.new.self.cursor c.each.built c.expected.new.built c.args.high w.in-Handler.start c.saturating_sub-inner.result w.new-caught.result _ _ q.text q.same_open (rw w.in-Handler.is at read) w.new-caught.ensures w.catch_symbols.ensures c.saturating_sub-inner.ensures w.read_symbols.new.self.cursor c.expected.new.self.pairs.items w.read_symbols.new.self.pairs.items w.read_symbols.new.built _ w.in_ok-read_symbols-in-Handler.ensures.complete q.same_pairs made (ap (λ ps. record c.expected.new.built { nodes = ps }) w.in_ok-push-in-Handler.ensures.pushed)) })
+          record { same = w.read_symbols.ensures.text ∙ q.text ∙ v.same; forward = omega arith; waits = λ base h. waits_push base c.expected.new.built.nodes w.in_ok-handler-in-Handler.handler (ready base h) (w.in_ok-handler-in-Handler.ensures.waits c.expected.new.self.tree (w.in_ok-read_symbols-in-Handler.ensures.waits c.expected.new.self.tree (waits_none (ap (λ x. x.nodes) w.new-caught.ensures)))) w.in_ok-push-in-Handler.ensures.pushed; derived = piece_on c.args.pieces.now _ c.each.piece-index v.same c.each-test.true v.derived p; low = λ h. piece_low p (v.low h); own = λ h. push_own text _ w.in_ok-push-in-Handler.ensures.pushed (handler_own text made (ap (λ x. x.nodes) w.new-caught.ensures) (subst (λ x. AllOfLanguage x w.new-caught.result.nodes → AllOfLanguage x w.read_symbols.new.built.nodes) (q.text ∙ v.same) w.in_ok-read_symbols-in-Handler.ensures.own)) (before h); complete = pieces_on c.args.pieces.now _ c.each.piece-index v.same c.each-test.true v.complete (handler_same c.args.context.returns c.each.self.cursor c.expected.new.self.cursor c.each.built c.expected.new.built c.args.high w.in-Handler.start c.saturating_sub-inner.result w.new-caught.result _ _ q.text q.same_open (rw w.in-Handler.is at read) w.new-caught.ensures w.catch_symbols.ensures c.saturating_sub-inner.ensures w.read_symbols.new.self.cursor c.expected.new.self.pairs.items w.read_symbols.new.self.pairs.items w.read_symbols.new.built _ w.in_ok-read_symbols-in-Handler.ensures.complete q.same_pairs made (ap (λ ps. record c.expected.new.built { nodes = ps }) w.in_ok-push-in-Handler.ensures.pushed)) })
       | read_symbols-in-Items+in_ok-statements-in-Items+in_ok-append-in-Items w ↦ rw (w.self-is, w.built-is) (
           let q = c.expected.ensures in
           let further = c.expected.ensures.forward in
           let behind = w.statements-in-Items.ensures.forward in
           let ahead : c.args.self.now.cursor.last.stop ≤ w.statements-in-Items.new.self.cursor.last.stop = omega arith in
           let p = items_piece _ c.expected.new.built {d = record c.expected.new.built { nodes = w.append.new.self }} w.in-Items.until q.text q.same_open q.same_pairs (rw w.in-Items.is at read) w.item-context.ensures w.in_ok-statements-in-Items.ensures.derived w.in_ok-append-in-Items.ensures.joined refl w.in_ok-statements-in-Items.ensures.low in
-          record { same = w.statements-in-Items.ensures.text ∙ q.text ∙ v.same; forward = ahead; derived = piece_on c.args.pieces.now _ c.each.piece-index v.same c.each-test.true v.derived p; low = λ h. piece_low p (v.low h); own = λ h. join_own text _ w.in_ok-append-in-Items.ensures.joined (subst (λ x. AllOfLanguage x w.in_ok-statements-in-Items.field-0) (q.text ∙ v.same) w.in_ok-statements-in-Items.ensures.own) (before h); complete = pieces_on c.args.pieces.now _ c.each.piece-index v.same c.each-test.true v.complete (items_same c.args.context.returns c.each.self.cursor c.expected.new.self.cursor c.each.built c.expected.new.built c.args.high w.in-Items.until w.item-context.result _ q.text (rw w.in-Items.is at read) w.item-context.ensures w.statements-in-Items.new.self.cursor c.expected.new.self.pairs.items w.statements-in-Items.new.self.pairs.items _ w.in_ok-statements-in-Items.ensures.complete q.same_pairs w.in_ok-append-in-Items.ensures.joined) })
+          record { same = w.statements-in-Items.ensures.text ∙ q.text ∙ v.same; forward = ahead; waits = λ base h. waits_join base c.expected.new.built.nodes w.in_ok-statements-in-Items.field-0 (ready base h) w.in_ok-statements-in-Items.ensures.waits w.in_ok-append-in-Items.ensures.joined; derived = piece_on c.args.pieces.now _ c.each.piece-index v.same c.each-test.true v.derived p; low = λ h. piece_low p (v.low h); own = λ h. join_own text _ w.in_ok-append-in-Items.ensures.joined (subst (λ x. AllOfLanguage x w.in_ok-statements-in-Items.field-0) (q.text ∙ v.same) w.in_ok-statements-in-Items.ensures.own) (before h); complete = pieces_on c.args.pieces.now _ c.each.piece-index v.same c.each-test.true v.complete (items_same c.args.context.returns c.each.self.cursor c.expected.new.self.cursor c.each.built c.expected.new.built c.args.high w.in-Items.until w.item-context.result _ q.text (rw w.in-Items.is at read) w.item-context.ensures w.statements-in-Items.new.self.cursor c.expected.new.self.pairs.items w.statements-in-Items.new.self.pairs.items _ w.in_ok-statements-in-Items.ensures.complete q.same_pairs w.in_ok-append-in-Items.ensures.joined) })
       | read_symbols-in-List+in_ok-list-in-List+in_ok-list-in-List-2+in_ok-add_list-in-List w ↦ rw (w.self-is, w.built-is) (
           let q = c.expected.ensures in
           let whole = w.in_ok-list-in-List-2.ensures in
-          let p = list_piece _ c.expected.new.built w.in_ok-list-in-List.list w.in_ok-list-in-List-2.list w.in-List.listed w.sees_in_or_of-each-in-List.result w.saturating_sub-limit.result q.text w.open.ensures.text w.list-in-List.ensures.text q.same_open q.same_pairs w.open.ensures.same_open w.open.ensures.same_pairs (rw w.in-List.is at read)
+          let p = list_piece _ c.expected.new.built w.in_ok-list-in-List.list w.in_ok-list-in-List-2.list w.in-List.listed w.sees_in_or_of-each-in-List.result w.saturating_sub-limit.result q.text w.open.ensures.text w.list.ensures.text q.same_open q.same_pairs w.open.ensures.same_open w.open.ensures.same_pairs (rw w.in-List.is at read)
           w.in_ok-list-in-List.ensures.listed w.in_ok-list-in-List.ensures.begun whole.same whole.seen whole.derived w.sees_in_or_of-each-in-List.ensures.seen w.sees_in_or_of-each-in-List.ensures.missed w.in_ok-add_list-in-List.ensures.put w.in_ok-add_list-in-List.ensures.fits whole.low (w.saturating_sub-limit.ensures ∙ ap (λ n. c.args.high - n) w.list_node_height.ensures) in
           let further = c.expected.ensures.forward in
           let behind = w.open.ensures.forward in
-          let later = w.list-in-List.ensures.forward in
-          record { same = w.list-in-List.ensures.text ∙ w.open.ensures.text ∙ q.text ∙ v.same; forward = omega arith; derived = piece_on c.args.pieces.now _ c.each.piece-index v.same c.each-test.true v.derived p; low = λ h. piece_low p (v.low h); own = λ h. with_list_own text w.in_ok-list-in-List-2.list w.list-in-List.new.self.cursor.last.stop c.expected.new.built w.in_ok-add_list-in-List.ensures.put (subst (λ x. AllOfLanguage x w.in_ok-list-in-List-2.list.nodes) (w.open.ensures.text ∙ q.text ∙ v.same) (w.in_ok-list-in-List-2.ensures.own (subst (λ x. AllOfLanguage x w.in_ok-list-in-List.list.nodes) (sym w.open.ensures.text) w.in_ok-list-in-List.ensures.own))) (before h); complete = pieces_on c.args.pieces.now _ c.each.piece-index v.same c.each-test.true v.complete (list_same c.args.context.returns c.each.self.cursor c.expected.new.self.cursor c.each.built c.expected.new.built c.args.high w.in-List.listed _ q.text (rw w.in-List.is at read) w.open.new.self.cursor w.saturating_sub-limit.result w.in_ok-list-in-List.list q.same_open w.open.ensures.text w.open.ensures.same_open w.in_ok-list-in-List.ensures.listed w.in_ok-list-in-List.ensures.begun (w.saturating_sub-limit.ensures ∙ ap (λ n. c.args.high - n) w.list_node_height.ensures) w.list-in-List.new.self.cursor w.open.new.self.pairs.items w.list-in-List.new.self.pairs.items w.in_ok-list-in-List-2.list w.sees_in_or_of-each-in-List.result w.list-in-List.ensures.text w.in_ok-list-in-List-2.ensures.complete w.in_ok-list-in-List-2.ensures.same w.in_ok-list-in-List-2.ensures.derived w.sees_in_or_of-each-in-List.ensures.seen w.sees_in_or_of-each-in-List.ensures.missed q.same_pairs w.open.ensures.same_pairs w.in_ok-add_list-in-List.ensures.put) })
+          let later = w.list.ensures.forward in
+          record { same = w.list.ensures.text ∙ w.open.ensures.text ∙ q.text ∙ v.same; forward = omega arith; waits = λ base h. w.in_ok-add_list-in-List.ensures.waits base (w.in_ok-list-in-List-2.ensures.waits c.expected.new.self.tree w.in_ok-list-in-List.ensures.waits ∙ ap (λ ps. join ps w.in_ok-list-in-List-2.list.nodes) (ready base h)); derived = piece_on c.args.pieces.now _ c.each.piece-index v.same c.each-test.true v.derived p; low = λ h. piece_low p (v.low h); own = λ h. with_list_own text w.in_ok-list-in-List-2.list w.list.new.self.cursor.last.stop c.expected.new.built w.in_ok-add_list-in-List.ensures.put (subst (λ x. AllOfLanguage x w.in_ok-list-in-List-2.list.nodes) (w.open.ensures.text ∙ q.text ∙ v.same) (w.in_ok-list-in-List-2.ensures.own (subst (λ x. AllOfLanguage x w.in_ok-list-in-List.list.nodes) (sym w.open.ensures.text) w.in_ok-list-in-List.ensures.own))) (before h); complete = pieces_on c.args.pieces.now _ c.each.piece-index v.same c.each-test.true v.complete (list_same c.args.context.returns c.each.self.cursor c.expected.new.self.cursor c.each.built c.expected.new.built c.args.high w.in-List.listed _ q.text (rw w.in-List.is at read) w.open.new.self.cursor w.saturating_sub-limit.result w.in_ok-list-in-List.list q.same_open w.open.ensures.text w.open.ensures.same_open w.in_ok-list-in-List.ensures.listed w.in_ok-list-in-List.ensures.begun (w.saturating_sub-limit.ensures ∙ ap (λ n. c.args.high - n) w.list_node_height.ensures) w.list.new.self.cursor w.open.new.self.pairs.items w.list.new.self.pairs.items w.in_ok-list-in-List-2.list w.sees_in_or_of-each-in-List.result w.list.ensures.text w.in_ok-list-in-List-2.ensures.complete w.in_ok-list-in-List-2.ensures.same w.in_ok-list-in-List-2.ensures.derived w.sees_in_or_of-each-in-List.ensures.seen w.sees_in_or_of-each-in-List.ensures.missed q.same_pairs w.open.ensures.same_pairs w.in_ok-add_list-in-List.ensures.put) })
     ]
 
 pub read_symbols-returns-in_err-expected-clause-complete : goal.read_symbols-returns-in_err-expected-clause-complete
@@ -1847,11 +1873,11 @@ read_symbols-returns-in_err-expect_punctuator-in-Block-clause-complete t c =
     pieces_err c.expect_punctuator-in-Block.new.self.cursor c.expect_punctuator-in-Block.new.self.pairs.items c.args.high _ c.from_residual-in_err-expect_punctuator-in-Block.result c.args.pieces.now _ c.each.piece-index c.in_err-expect_punctuator-in-Block.field-0.0 v.same c.each-test.true v.derived.same_open v.complete c.from_residual-in_err-expect_punctuator-in-Block.ensures.1
     (block_unclosed c.args.context.returns c.each.self.cursor c.expected.new.self.cursor c.each.built c.expected.new.built c.args.high c.in-Block.context _ c.expected.ensures.text c.expected.ensures.same_open (rw c.in-Block.is at c.in_ok-expected.ensures.read) c.expect_punctuator.new.self.cursor c.saturating_sub-inner.result c.expect_punctuator.ensures.text c.expect_punctuator.ensures.same_open c.in_ok-left-in-Block.ensures.accepted.0 c.saturating_sub-inner.ensures c.statements.new.self.cursor c.expect_punctuator.new.self.pairs.items c.statements.new.self.pairs.items _ c.in_ok-list-in-Block.ensures.complete c.in_err-expect_punctuator-in-Block.field-0.0 c.statements.ensures.text c.in_err-expect_punctuator-in-Block.ensures.missed.0)
 
-pub read_symbols-returns-in_err-finish_plain-in-Block-clause-complete : goal.read_symbols-returns-in_err-finish_plain-in-Block-clause-complete
-read_symbols-returns-in_err-finish_plain-in-Block-clause-complete t c =
+pub read_symbols-returns-in_err-block-in-Block-clause-complete : goal.read_symbols-returns-in_err-block-in-Block-clause-complete
+read_symbols-returns-in_err-block-in-Block-clause-complete t c =
     let v = c.each.invariant in
-    pieces_err c.expect_punctuator-in-Block.new.self.cursor c.expect_punctuator-in-Block.new.self.pairs.items c.args.high _ c.from_residual-in_err-finish_plain-in-Block.result c.args.pieces.now _ c.each.piece-index c.in_err-finish_plain-in-Block.field-0.0 v.same c.each-test.true v.derived.same_open v.complete c.from_residual-in_err-finish_plain-in-Block.ensures.1
-    (block_high c.args.context.returns c.each.self.cursor c.expected.new.self.cursor c.each.built c.expected.new.built c.args.high c.in-Block.context _ c.expected.ensures.text c.expected.ensures.same_open (rw c.in-Block.is at c.in_ok-expected.ensures.read) c.expect_punctuator.new.self.cursor c.saturating_sub-inner.result c.expect_punctuator.ensures.text c.expect_punctuator.ensures.same_open c.in_ok-left-in-Block.ensures.accepted.0 c.saturating_sub-inner.ensures c.statements.new.self.cursor c.expect_punctuator.new.self.pairs.items c.statements.new.self.pairs.items _ c.in_ok-list-in-Block.ensures.complete c.in_err-finish_plain-in-Block.field-0.0 c.in_err-finish_plain-in-Block.ensures.0 c.in_err-finish_plain-in-Block.ensures.1)
+    pieces_err c.expect_punctuator-in-Block.new.self.cursor c.expect_punctuator-in-Block.new.self.pairs.items c.args.high _ c.from_residual-in_err-block-in-Block.result c.args.pieces.now _ c.each.piece-index c.in_err-block-in-Block.field-0.0 v.same c.each-test.true v.derived.same_open v.complete c.from_residual-in_err-block-in-Block.ensures.1
+    (block_high c.args.context.returns c.each.self.cursor c.expected.new.self.cursor c.each.built c.expected.new.built c.args.high c.in-Block.context _ c.expected.ensures.text c.expected.ensures.same_open (rw c.in-Block.is at c.in_ok-expected.ensures.read) c.expect_punctuator.new.self.cursor c.saturating_sub-inner.result c.expect_punctuator.ensures.text c.expect_punctuator.ensures.same_open c.in_ok-left-in-Block.ensures.accepted.0 c.saturating_sub-inner.ensures c.statements.new.self.cursor c.expect_punctuator.new.self.pairs.items c.statements.new.self.pairs.items _ c.in_ok-list-in-Block.ensures.complete c.in_err-block-in-Block.field-0.0 c.in_err-block-in-Block.ensures.made.0 c.in_err-block-in-Block.ensures.made.1)
 
 pub read_symbols-returns-in_err-push-in-Block-clause-complete : goal.read_symbols-returns-in_err-push-in-Block-clause-complete
 read_symbols-returns-in_err-push-in-Block-clause-complete t c =
@@ -1864,11 +1890,11 @@ read_symbols-returns-in_err-read_symbols-in-Handler-clause-complete t c =
     pieces_err c.read_symbols.new.self.cursor c.read_symbols.new.self.pairs.items c.args.high _ c.from_residual-in_err-read_symbols-in-Handler.result c.args.pieces.now _ c.each.piece-index c.in_err-read_symbols-in-Handler.field-0.0 v.same c.each-test.true v.derived.same_open v.complete c.from_residual-in_err-read_symbols-in-Handler.ensures.1
     (handler_refused c.args.context.returns c.each.self.cursor c.expected.new.self.cursor c.each.built c.expected.new.built c.args.high c.in-Handler.start c.saturating_sub-inner.result c.new-caught.result _ _ c.expected.ensures.text c.expected.ensures.same_open (rw c.in-Handler.is at c.in_ok-expected.ensures.read) c.new-caught.ensures c.catch_symbols.ensures c.saturating_sub-inner.ensures c.read_symbols.new.self.cursor c.expected.new.self.pairs.items c.read_symbols.new.self.pairs.items c.read_symbols.new.built c.in_err-read_symbols-in-Handler.field-0.0 c.in_err-read_symbols-in-Handler.ensures.complete)
 
-pub read_symbols-returns-in_err-finish_plain-in-Handler-clause-complete : goal.read_symbols-returns-in_err-finish_plain-in-Handler-clause-complete
-read_symbols-returns-in_err-finish_plain-in-Handler-clause-complete t c =
+pub read_symbols-returns-in_err-handler-in-Handler-clause-complete : goal.read_symbols-returns-in_err-handler-in-Handler-clause-complete
+read_symbols-returns-in_err-handler-in-Handler-clause-complete t c =
     let v = c.each.invariant in
-    pieces_err c.read_symbols.new.self.cursor c.read_symbols.new.self.pairs.items c.args.high _ c.from_residual-in_err-finish_plain-in-Handler.result c.args.pieces.now _ c.each.piece-index c.in_err-finish_plain-in-Handler.field-0.0 v.same c.each-test.true v.derived.same_open v.complete c.from_residual-in_err-finish_plain-in-Handler.ensures.1
-    (handler_high c.args.context.returns c.each.self.cursor c.expected.new.self.cursor c.each.built c.expected.new.built c.args.high c.in-Handler.start c.saturating_sub-inner.result c.new-caught.result _ _ c.expected.ensures.text c.expected.ensures.same_open (rw c.in-Handler.is at c.in_ok-expected.ensures.read) c.new-caught.ensures c.catch_symbols.ensures c.saturating_sub-inner.ensures c.read_symbols.new.self.cursor c.expected.new.self.pairs.items c.read_symbols.new.self.pairs.items c.read_symbols.new.built c.in_err-finish_plain-in-Handler.field-0.0 c.in_ok-read_symbols-in-Handler.ensures.complete c.in_err-finish_plain-in-Handler.ensures.0 c.in_err-finish_plain-in-Handler.ensures.1)
+    pieces_err c.read_symbols.new.self.cursor c.read_symbols.new.self.pairs.items c.args.high _ c.from_residual-in_err-handler-in-Handler.result c.args.pieces.now _ c.each.piece-index c.in_err-handler-in-Handler.field-0.0 v.same c.each-test.true v.derived.same_open v.complete c.from_residual-in_err-handler-in-Handler.ensures.1
+    (handler_high c.args.context.returns c.each.self.cursor c.expected.new.self.cursor c.each.built c.expected.new.built c.args.high c.in-Handler.start c.saturating_sub-inner.result c.new-caught.result _ _ c.expected.ensures.text c.expected.ensures.same_open (rw c.in-Handler.is at c.in_ok-expected.ensures.read) c.new-caught.ensures c.catch_symbols.ensures c.saturating_sub-inner.ensures c.read_symbols.new.self.cursor c.expected.new.self.pairs.items c.read_symbols.new.self.pairs.items c.read_symbols.new.built c.in_err-handler-in-Handler.field-0.0 c.in_ok-read_symbols-in-Handler.ensures.complete c.in_err-handler-in-Handler.ensures.made.0 c.in_err-handler-in-Handler.ensures.made.1)
 
 pub read_symbols-returns-in_err-push-in-Handler-clause-complete : goal.read_symbols-returns-in_err-push-in-Handler-clause-complete
 read_symbols-returns-in_err-push-in-Handler-clause-complete t c =
@@ -1895,14 +1921,14 @@ read_symbols-returns-in_err-list-in-List-clause-complete t c =
 pub read_symbols-returns-in_err-list-in-List-2-clause-complete : goal.read_symbols-returns-in_err-list-in-List-2-clause-complete
 read_symbols-returns-in_err-list-in-List-2-clause-complete t c =
     let v = c.each.invariant in
-    pieces_err c.list-in-List.new.self.cursor c.list-in-List.new.self.pairs.items c.args.high _ c.from_residual-in_err-list-in-List-2.result c.args.pieces.now _ c.each.piece-index c.in_err-list-in-List-2.field-0.0 v.same c.each-test.true v.derived.same_open v.complete c.from_residual-in_err-list-in-List-2.ensures.1
-    (list_refused c.args.context.returns c.each.self.cursor c.expected.new.self.cursor c.each.built c.expected.new.built c.args.high c.in-List.listed _ c.expected.ensures.text (rw c.in-List.is at c.in_ok-expected.ensures.read) c.open.new.self.cursor c.saturating_sub-limit.result c.in_ok-list-in-List.list c.expected.ensures.same_open c.open.ensures.text c.open.ensures.same_open c.in_ok-list-in-List.ensures.listed c.in_ok-list-in-List.ensures.begun (c.saturating_sub-limit.ensures ∙ ap (λ n. c.args.high - n) c.list_node_height.ensures) c.list-in-List.new.self.cursor c.open.new.self.pairs.items c.list-in-List.new.self.pairs.items c.in_err-list-in-List-2.field-0.0 c.in_err-list-in-List-2.ensures.complete)
+    pieces_err c.list.new.self.cursor c.list.new.self.pairs.items c.args.high _ c.from_residual-in_err-list-in-List-2.result c.args.pieces.now _ c.each.piece-index c.in_err-list-in-List-2.field-0.0 v.same c.each-test.true v.derived.same_open v.complete c.from_residual-in_err-list-in-List-2.ensures.1
+    (list_refused c.args.context.returns c.each.self.cursor c.expected.new.self.cursor c.each.built c.expected.new.built c.args.high c.in-List.listed _ c.expected.ensures.text (rw c.in-List.is at c.in_ok-expected.ensures.read) c.open.new.self.cursor c.saturating_sub-limit.result c.in_ok-list-in-List.list c.expected.ensures.same_open c.open.ensures.text c.open.ensures.same_open c.in_ok-list-in-List.ensures.listed c.in_ok-list-in-List.ensures.begun (c.saturating_sub-limit.ensures ∙ ap (λ n. c.args.high - n) c.list_node_height.ensures) c.list.new.self.cursor c.open.new.self.pairs.items c.list.new.self.pairs.items c.in_err-list-in-List-2.field-0.0 c.in_err-list-in-List-2.ensures.complete)
 
 pub read_symbols-returns-in_err-add_list-in-List-clause-complete : goal.read_symbols-returns-in_err-add_list-in-List-clause-complete
 read_symbols-returns-in_err-add_list-in-List-clause-complete t c =
     let v = c.each.invariant in
-    pieces_err c.list-in-List.new.self.cursor c.list-in-List.new.self.pairs.items c.args.high _ c.from_residual-in_err-add_list-in-List.result c.args.pieces.now _ c.each.piece-index c.in_err-add_list-in-List.field-0.0 v.same c.each-test.true v.derived.same_open v.complete c.from_residual-in_err-add_list-in-List.ensures.1
-    (list_unput c.args.context.returns c.each.self.cursor c.expected.new.self.cursor c.each.built c.expected.new.built c.args.high c.in-List.listed _ c.expected.ensures.text (rw c.in-List.is at c.in_ok-expected.ensures.read) c.open.new.self.cursor c.saturating_sub-limit.result c.in_ok-list-in-List.list c.expected.ensures.same_open c.open.ensures.text c.open.ensures.same_open c.in_ok-list-in-List.ensures.listed c.in_ok-list-in-List.ensures.begun (c.saturating_sub-limit.ensures ∙ ap (λ n. c.args.high - n) c.list_node_height.ensures) c.list-in-List.new.self.cursor c.open.new.self.pairs.items c.list-in-List.new.self.pairs.items c.in_ok-list-in-List-2.list c.sees_in_or_of-each-in-List.result c.list-in-List.ensures.text c.in_ok-list-in-List-2.ensures.complete c.in_ok-list-in-List-2.ensures.same c.in_ok-list-in-List-2.ensures.derived c.sees_in_or_of-each-in-List.ensures.seen c.sees_in_or_of-each-in-List.ensures.missed (IsPlaceHere c.list-in-List.new.self.cursor) c.in_err-add_list-in-List.field-0.0 c.in_err-add_list-in-List.ensures.failed)
+    pieces_err c.list.new.self.cursor c.list.new.self.pairs.items c.args.high _ c.from_residual-in_err-add_list-in-List.result c.args.pieces.now _ c.each.piece-index c.in_err-add_list-in-List.field-0.0 v.same c.each-test.true v.derived.same_open v.complete c.from_residual-in_err-add_list-in-List.ensures.1
+    (list_unput c.args.context.returns c.each.self.cursor c.expected.new.self.cursor c.each.built c.expected.new.built c.args.high c.in-List.listed _ c.expected.ensures.text (rw c.in-List.is at c.in_ok-expected.ensures.read) c.open.new.self.cursor c.saturating_sub-limit.result c.in_ok-list-in-List.list c.expected.ensures.same_open c.open.ensures.text c.open.ensures.same_open c.in_ok-list-in-List.ensures.listed c.in_ok-list-in-List.ensures.begun (c.saturating_sub-limit.ensures ∙ ap (λ n. c.args.high - n) c.list_node_height.ensures) c.list.new.self.cursor c.open.new.self.pairs.items c.list.new.self.pairs.items c.in_ok-list-in-List-2.list c.sees_in_or_of-each-in-List.result c.list.ensures.text c.in_ok-list-in-List-2.ensures.complete c.in_ok-list-in-List-2.ensures.same c.in_ok-list-in-List-2.ensures.derived c.sees_in_or_of-each-in-List.ensures.seen c.sees_in_or_of-each-in-List.ensures.missed (IsPlaceHere c.list.new.self.cursor) c.in_err-add_list-in-List.field-0.0 c.in_err-add_list-in-List.ensures.failed)
 
 pub read_symbols-returns-clause-complete : goal.read_symbols-returns-clause-complete
 read_symbols-returns-clause-complete t c = let over = c.each-test.false in let end = c.each.auto.piece-index-end in pieces_ok c.args.high c.args.pieces.now c.each.piece-index (omega arith) c.each.invariant.complete
@@ -1918,20 +1944,20 @@ function_or_class-returns-in_err-read_symbols-clause-complete t c =
 
 pub function_or_class-returns-clause-complete : goal.function_or_class-returns-clause-complete
 function_or_class-returns-clause-complete t c =
-    let made = subst (λ n. Makes n c.args.high c.finish_node.result) (λ i. node (c.kind.ensures i) [] (c.flags.ensures i) (c.span_from-span.ensures i).start (c.span_from-span.ensures i).end c.read_symbols.new.built.nodes) c.finish_node.ensures in
+    let made = subst (λ n. Makes n c.args.high c.finish_node.result) (λ i. node (c.kind.ensures i) [] (c.flags.ensures i) (c.span_from-span.ensures i).start (c.span_from-span.ensures i).end c.read_symbols.new.built.nodes) c.finish_node.ensures.made in
     closure_made c.args.self.now.cursor c.function_or_class_name.new.self.cursor c.args.self.now.pairs.items c.function_or_class_name.new.self.pairs.items c.args.high c.saturating_sub-inner.result c.args.closure c.args.start _ _ c.of-built.result c.function_or_class_name.ensures.text c.function_or_class_name.ensures.same_open c.function_or_class_name.ensures.same_pairs c.saturating_sub-inner.ensures
     c.in_ok-function_or_class_name.ensures.named (ap (λ b. b.nodes) c.of-built.ensures) c.symbols.ensures c.read_symbols.new.self.cursor c.read_symbols.new.self.pairs.items true c.read_symbols.new.built c.finish_node.result c.in_ok-read_symbols.ensures.complete made
 
 pub function_or_class-returns-clause-derived : goal.function_or_class-returns-clause-derived
 function_or_class-returns-clause-derived t c =
-    let made = subst (λ n. Makes n c.args.high c.finish_node.result) (λ i. node (c.kind.ensures i) [] (c.flags.ensures i) (c.span_from-span.ensures i).start (c.span_from-span.ensures i).end c.read_symbols.new.built.nodes) c.finish_node.ensures in
+    let made = subst (λ n. Makes n c.args.high c.finish_node.result) (λ i. node (c.kind.ensures i) [] (c.flags.ensures i) (c.span_from-span.ensures i).start (c.span_from-span.ensures i).end c.read_symbols.new.built.nodes) c.finish_node.ensures.made in
     closed c.args.closure true c.args.start c.args.high c.saturating_sub-inner.result c.in_ok-function_or_class_name.field-0 c.of-built.result c.read_symbols.new.built c.finish_node.result c.function_or_class_name.ensures.text c.function_or_class_name.ensures.same_open c.function_or_class_name.ensures.same_pairs
     c.in_ok-function_or_class_name.ensures.named (ap (λ b. b.nodes) c.of-built.ensures) c.symbols.ensures c.in_ok-read_symbols.ensures.derived made
 
 pub function_or_class-returns-clause-own : goal.function_or_class-returns-clause-own
 function_or_class-returns-clause-own t c =
     let s = c.args.self.now.cursor in
-    let made = subst (λ n. Makes n c.args.high c.finish_node.result) (λ i. node (c.kind.ensures i) [] (c.flags.ensures i) (c.span_from-span.ensures i).start (c.span_from-span.ensures i).end c.read_symbols.new.built.nodes) c.finish_node.ensures in
+    let made = subst (λ n. Makes n c.args.high c.finish_node.result) (λ i. node (c.kind.ensures i) [] (c.flags.ensures i) (c.span_from-span.ensures i).start (c.span_from-span.ensures i).end c.read_symbols.new.built.nodes) c.finish_node.ensures.made in
     let named : AllOfLanguage s.text c.of-built.result.nodes = subst (AllOfLanguage s.text) (sym (ap (λ b. b.nodes) c.of-built.ensures)) (named_own c.args.closure c.args.self.now.cursor c.function_or_class_name.new.self.cursor _ c.in_ok-function_or_class_name.field-0 c.in_ok-function_or_class_name.ensures.named) in
     made_own c.args.closure _ _ c.args.high c.read_symbols.new.built.nodes c.finish_node.result (own_on c.function_or_class_name.ensures.text named c.in_ok-read_symbols.ensures.own) made
 
@@ -1959,7 +1985,7 @@ new_expression-returns-then-accept_punctuator-clause-derived t c =
 pub new_expression-returns-clause-derived : goal.new_expression-returns-clause-derived
 new_expression-returns-clause-derived t c =
     let callee = c.in_ok-callee.callee in
-    let first = c.in_ok-nodes.ensures.made ∙ ap (λ n. part n none) c.in_ok-into_expression.ensures.settled.0 in
+    let first = c.one-nodes.ensures ∙ ap (λ n. part n none) c.in_ok-into_expression.ensures.settled.0 in
     let tail : Adds c.expression.new.self.cursor c.if-sees_punctuator.self.cursor c.expression.new.self.pairs.items c.if-sees_punctuator.self.pairs.items (NewTail c.accept_punctuator.new.self.cursor.text callee.cover.node c.if-sees_punctuator.nodes c.if-sees_punctuator.rank) =
     elim c.if-sees_punctuator.branch [
       | new_expression-then-sees_punctuator+in_ok-arguments+in_ok-append w ↦
@@ -1969,8 +1995,8 @@ new_expression-returns-clause-derived t c =
           subst (λ v. Adds c.expression.new.self.cursor v.cursor c.expression.new.self.pairs.items v.pairs.items (NewTail c.accept_punctuator.new.self.cursor.text callee.cover.node c.if-sees_punctuator.nodes c.if-sees_punctuator.rank)) (sym w.self-is)
           (tail_alone callee.cover.node c.if-sees_punctuator.nodes c.if-sees_punctuator.rank c.expression.ensures.text (w.nodes-is ∙ first) w.rank-is w.if-sees_punctuator.ensures.missed)
     ] in
-    let span = c.span_from.ensures in
-    let tree = c.in_ok-node.ensures.0 ∙ (λ i. node NewExpression [] plain (span i).start (span i).end c.if-sees_punctuator.nodes) in
+    let span = c.span_from-span.ensures in
+    let tree = c.in_ok-node.ensures.made.0 ∙ (λ i. node NewExpression [] plain (span i).start (span i).end c.if-sees_punctuator.nodes) in
     worded_here c.args.token c.accept_punctuator.ensures.text c.if-accept_punctuator.ensures.missed.1 c.accept_punctuator.ensures.same_open c.accept_punctuator.ensures.same_pairs
     (new_worded c.args.token c.at.result c.args.position New c.if-sees_punctuator.rank c.if-sees_punctuator.nodes refl c.at.ensures c.in_ok-callee.ensures.derived c.in_ok-into_expression.ensures.settled.1 tail (c.plain.ensures ∙ ap (λ n. plain_part n c.if-sees_punctuator.rank Other) tree))
 
@@ -1982,9 +2008,9 @@ import_call-returns-clause-derived t c =
     let same_last : k.last ≡ s.last = elim c.else-is_of_2022.branch [ import_call-else-is_of_2022-via-then-is_of_2022+else-accept_punctuator w ↦ ap (λ (v : Parser). v.cursor.last) w.self-is ∙ w.if-accept_punctuator.ensures.missed.1 | import_call-else-is_of_2022-via-else-is_of_2022 w ↦ ap (λ (v : Parser). v.cursor.last) w.self-is ] in
     let same_open : k.opened ≡ s.opened = elim c.else-is_of_2022.branch [ import_call-else-is_of_2022-via-then-is_of_2022+else-accept_punctuator w ↦ ap (λ (v : Parser). v.cursor.opened) w.self-is ∙ w.accept_punctuator.ensures.same_open | import_call-else-is_of_2022-via-else-is_of_2022 w ↦ ap (λ (v : Parser). v.cursor.opened) w.self-is ] in
     let same_pairs : c.else-is_of_2022.self.pairs.items ≡ c.args.self.now.pairs.items = elim c.else-is_of_2022.branch [ import_call-else-is_of_2022-via-then-is_of_2022+else-accept_punctuator w ↦ ap (λ (v : Parser). v.pairs.items) w.self-is ∙ w.accept_punctuator.ensures.same_pairs | import_call-else-is_of_2022-via-else-is_of_2022 w ↦ ap (λ (v : Parser). v.pairs.items) w.self-is ] in
-    let parts = c.in_ok-nodes.ensures.made ∙ ap (λ n. part n none) c.in_ok-into_expression.ensures.settled.0 in
-    let span = c.span_from.ensures in
-    let tree = c.in_ok-node.ensures.0 ∙ (λ i. node ImportExpression [] plain (span i).start (span i).end (parts i)) in
+    let parts = c.one-nodes.ensures ∙ ap (λ n. part n none) c.in_ok-into_expression.ensures.settled.0 in
+    let span = c.span_from-span.ensures in
+    let tree = c.in_ok-node.ensures.made.0 ∙ (λ i. node ImportExpression [] plain (span i).start (span i).end (parts i)) in
     worded_here c.args.token same_text same_last same_open same_pairs
     (import_worded c.args.token c.args.position Import refl c.expect_punctuator.ensures.text (c.expression.ensures.text ∙ c.expect_punctuator.ensures.text) c.expect_punctuator.ensures.same_open c.expect_punctuator.ensures.same_pairs c.expect_punctuator-2.ensures.same_open c.expect_punctuator-2.ensures.same_pairs
     c.in_ok-expect_punctuator.ensures.accepted.0 c.in_ok-source.ensures.derived c.in_ok-into_expression.ensures.settled.1 c.in_ok-expect_punctuator-2.ensures.accepted.0 (c.plain.ensures ∙ ap (λ n. plain_part n Call Other) tree))
@@ -2143,7 +2169,7 @@ new_expression-returns-in_err-node-clause-complete t c = λ a h o n from to P ne
     let e = c.expression.new.self.cursor in
     let text_same : e.text ≡ s.text = c.expression.ensures.text ∙ c.accept_punctuator.ensures.text in
     let callee = c.in_ok-callee.callee in
-    let first = c.in_ok-nodes.ensures.made ∙ ap (λ n. part n none) c.in_ok-into_expression.ensures.settled.0 in
+    let first = c.one-nodes.ensures ∙ ap (λ n. part n none) c.in_ok-into_expression.ensures.settled.0 in
     let ends : EndsWith s e c.args.self.now.pairs.items c.expression.new.self.pairs.items k.mid k.A = ends_behind c.accept_punctuator.ensures.same_pairs answer.1 in
     let tail : TailRead h s.last n to s c.if-sees_punctuator.self.cursor c.args.self.now.pairs.items c.if-sees_punctuator.self.pairs.items P c.if-sees_punctuator.nodes c.if-sees_punctuator.rank =
     elim c.if-sees_punctuator.branch [
@@ -2157,7 +2183,7 @@ new_expression-returns-in_err-node-clause-complete t c = λ a h o n from to P ne
           let z = alone_given k.tail (missed_at e text_same answer.1.place w.if-sees_punctuator.ensures.missed) in
           subst (λ v. TailRead h s.last n to s v.cursor c.args.self.now.pairs.items v.pairs.items P c.if-sees_punctuator.nodes c.if-sees_punctuator.rank) (sym w.self-is) (tail_read_alone z (w.nodes-is ∙ first) answer.0.tree w.rank-is ends)
     ] in
-    let above = c.in_err-node.ensures in
+    let above = c.in_err-node.ensures.made in
     agrees_err (Room s o (height n) c.args.high) (FirstWith s c.if-sees_punctuator.self.cursor c.args.self.now.pairs.items c.if-sees_punctuator.self.pairs.items a h n to P) c.from_residual-in_err-node.result c.in_err-node.field-0.0 c.from_residual-in_err-node.ensures.1
     (refuses_high (Room s o (height n) c.args.high) (suc (parts_height c.if-sees_punctuator.nodes)) c.args.high c.in_err-node.field-0.0 above.0 above.1 (λ room. tail_low tail room.1))
 
@@ -2175,7 +2201,7 @@ new_expression-returns-clause-complete t c = λ a h o n from to P next coded wor
     let e = c.expression.new.self.cursor in
     let text_same : e.text ≡ s.text = c.expression.ensures.text ∙ c.accept_punctuator.ensures.text in
     let callee = c.in_ok-callee.callee in
-    let first = c.in_ok-nodes.ensures.made ∙ ap (λ n. part n none) c.in_ok-into_expression.ensures.settled.0 in
+    let first = c.one-nodes.ensures ∙ ap (λ n. part n none) c.in_ok-into_expression.ensures.settled.0 in
     let ends : EndsWith s e c.args.self.now.pairs.items c.expression.new.self.pairs.items k.mid k.A = ends_behind c.accept_punctuator.ensures.same_pairs answer.1 in
     let tail : TailRead h s.last n to s c.if-sees_punctuator.self.cursor c.args.self.now.pairs.items c.if-sees_punctuator.self.pairs.items P c.if-sees_punctuator.nodes c.if-sees_punctuator.rank =
     elim c.if-sees_punctuator.branch [
@@ -2189,8 +2215,8 @@ new_expression-returns-clause-complete t c = λ a h o n from to P next coded wor
           let z = alone_given k.tail (missed_at e text_same answer.1.place w.if-sees_punctuator.ensures.missed) in
           subst (λ v. TailRead h s.last n to s v.cursor c.args.self.now.pairs.items v.pairs.items P c.if-sees_punctuator.nodes c.if-sees_punctuator.rank) (sym w.self-is) (tail_read_alone z (w.nodes-is ∙ first) answer.0.tree w.rank-is ends)
     ] in
-    let span = c.span_from.ensures in
-    let tree = c.in_ok-node.ensures.0 ∙ (λ i. node NewExpression [] plain (span i).start (span i).end c.if-sees_punctuator.nodes) in
+    let span = c.span_from-span.ensures in
+    let tree = c.in_ok-node.ensures.made.0 ∙ (λ i. node NewExpression [] plain (span i).start (span i).end c.if-sees_punctuator.nodes) in
     (new_first c.in_ok-node.node c.plain.result u.start c.if-sees_punctuator.self.cursor.last.stop c.if-sees_punctuator.nodes tail.ps v.0 tail.tree tail.taken tree (sym (ap (λ (x : Token). x.start) w0.same)) (ap (λ (x : Token). x.stop) tail.ends.place) tail.same c.plain.ensures, tail.ends)
 
 pub import_call-returns-in_err-expect_punctuator-clause-complete : goal.import_call-returns-in_err-expect_punctuator-clause-complete
@@ -2310,11 +2336,11 @@ import_call-returns-in_err-node-clause-complete t c = λ a h o n from to P next 
     let e = c.expression.new.self.cursor in
     let text_same : e.text ≡ s.text = c.expression.ensures.text ∙ m_text in
     let source : c.in_ok-into_expression.field-0 ≡ v.source = c.in_ok-into_expression.ensures.settled.0 ∙ answer.0.tree in
-    let parts = c.in_ok-nodes.ensures.made ∙ ap (λ n. part n none) source in
-    let above = c.in_err-node.ensures in
+    let parts = c.one-nodes.ensures ∙ ap (λ n. part n none) source in
+    let above = c.in_err-node.ensures.made in
     let tall = ap parts_height parts in
     agrees_err (Room s o (height n) c.args.high) (FirstWith s c.expect_punctuator-2.new.self.cursor c.args.self.now.pairs.items c.expect_punctuator-2.new.self.pairs.items a h n to P) c.from_residual-in_err-node.result c.in_err-node.field-0.0 c.from_residual-in_err-node.ensures.1
-    (refuses_high (Room s o (height n) c.args.high) (suc (parts_height c.in_ok-nodes.nodes)) c.args.high c.in_err-node.field-0.0 above.0 above.1 (λ room. let l = room.1 in omega arith))
+    (refuses_high (Room s o (height n) c.args.high) (suc (parts_height c.one-nodes.result)) c.args.high c.in_err-node.field-0.0 above.0 above.1 (λ room. let l = room.1 in omega arith))
 
 pub import_call-returns-clause-complete : goal.import_call-returns-clause-complete
 import_call-returns-clause-complete t c = λ a h o n from to P next coded word g own.
@@ -2341,10 +2367,10 @@ import_call-returns-clause-complete t c = λ a h o n from to P next coded word g
     let e = c.expression.new.self.cursor in
     let text_same : e.text ≡ s.text = c.expression.ensures.text ∙ m_text in
     let source : c.in_ok-into_expression.field-0 ≡ v.source = c.in_ok-into_expression.ensures.settled.0 ∙ answer.0.tree in
-    let parts = c.in_ok-nodes.ensures.made ∙ ap (λ n. part n none) source in
+    let parts = c.one-nodes.ensures ∙ ap (λ n. part n none) source in
     let last : c.expect_punctuator-2.new.self.cursor.last ≡ to = same_mark e text_same answer.1.place c.in_ok-expect_punctuator-2.ensures.accepted.0 v.right in
-    let span = c.span_from.ensures in
-    let tree = c.in_ok-node.ensures.0 ∙ (λ i. node ImportExpression [] plain (span i).start (span i).end (parts i)) in (
+    let span = c.span_from-span.ensures in
+    let tree = c.in_ok-node.ensures.made.0 ∙ (λ i. node ImportExpression [] plain (span i).start (span i).end (parts i)) in (
       import_first v u.start c.expect_punctuator-2.new.self.cursor.last.stop c.in_ok-node.node c.plain.result v.source (sym (ap (λ (x : Token). x.start) w.same)) (ap (λ (x : Token). x.stop) last) refl tree c.plain.ensures,
       ends_before (ends_behind (c.expect_punctuator.ensures.same_pairs ∙ same_pairs) answer.1) last c.expect_punctuator-2.ensures.same_pairs,
     )
@@ -2471,7 +2497,7 @@ statement-returns-clause-complete t c =
           (main_read s.cursor m.cursor s.pairs.items m.pairs.items c.args.context t c.match-beginning.what b there c.args.high c.saturating_sub-inner.result _ c.saturating_sub-inner.ensures c.statement_symbols.ensures c.read_symbols.new.self.cursor c.read_symbols.new.self.pairs.items d (no_for c.match-beginning.what (sym c.eq-2.ensures ∙ w.if-eq-2.false)) c.in_ok-read_symbols.ensures.complete)
     ] in
     statement_whole s.cursor c.if-eq-2.self.cursor s.pairs.items c.if-eq-2.self.pairs.items c.args.high c.args.context (statement_node_kind c.if-eq-2.what) (headed_text c.if-eq-2.what t.text.now) t.start c.if-eq-2.built.nodes c.finish_node.result
-    (subst (λ n. Makes n c.args.high c.finish_node.result) (λ i. node (c.kind.ensures i) (word i) plain (c.span_from-span.ensures i).start (c.span_from-span.ensures i).end c.if-eq-2.built.nodes) c.finish_node.ensures) told
+    (subst (λ n. Makes n c.args.high c.finish_node.result) (λ i. node (c.kind.ensures i) (word i) plain (c.span_from-span.ensures i).start (c.span_from-span.ensures i).end c.if-eq-2.built.nodes) c.finish_node.ensures.made) told
 
 pub statement-function_words-requires : goal.statement-function_words-requires
 statement-function_words-requires t c = record {
@@ -2538,7 +2564,7 @@ statement-returns-clause-own t c =
       | statement-in_default w ↦ ap (λ x. x.now) w.text-is ∙ no_text c.if-eq-2.what t.text.now w.in_default.not-Variable
     ] in
     statement_own c.if-eq-2.what (headed_text c.if-eq-2.what t.text.now) _ _ c.args.high c.if-eq-2.built.nodes c.finish_node.result third
-    (subst (λ n. Makes n c.args.high c.finish_node.result) (λ i. node (c.kind.ensures i) (word i) plain (c.span_from-span.ensures i).start (c.span_from-span.ensures i).end c.if-eq-2.built.nodes) c.finish_node.ensures)
+    (subst (λ n. Makes n c.args.high c.finish_node.result) (λ i. node (c.kind.ensures i) (word i) plain (c.span_from-span.ensures i).start (c.span_from-span.ensures i).end c.if-eq-2.built.nodes) c.finish_node.ensures.made)
 
 pub statement-returns-then-not-is_label-clause-derived : goal.statement-returns-then-not-is_label-clause-derived
 statement-returns-then-not-is_label-clause-derived t c =
@@ -2589,12 +2615,12 @@ statement-returns-clause-derived t c =
       | statement-in_default w ↦ ap (λ x. x.now) w.text-is ∙ no_text c.if-eq-2.what t.text.now w.in_default.not-Variable
     ] in
     statement_made c.args.context (statement_node_kind c.if-eq-2.what) (headed_text c.if-eq-2.what t.text.now) t.start c.args.high c.if-eq-2.built.nodes c.finish_node.result
-    (subst (λ n. Makes n c.args.high c.finish_node.result) (λ i. node (c.kind.ensures i) (word i) plain (c.span_from-span.ensures i).start (c.span_from-span.ensures i).end c.if-eq-2.built.nodes) c.finish_node.ensures) whole
+    (subst (λ n. Makes n c.args.high c.finish_node.result) (λ i. node (c.kind.ensures i) (word i) plain (c.span_from-span.ensures i).start (c.span_from-span.ensures i).end c.if-eq-2.built.nodes) c.finish_node.ensures.made) whole
 
 pub field-returns-in_err-value-clause-complete : goal.field-returns-in_err-value-clause-complete
 field-returns-in_err-value-clause-complete t c =
     field_value_refused c.args.self.now.cursor c.expression.new.self.cursor c.args.self.now.pairs.items c.expression.new.self.pairs.items c.args.high c.args.key c.args.is_static c.args.start c.accept_punctuator.new.self.cursor c.if-accept_punctuator.ensures.accepted c.expression.new.self.cursor c.accept_punctuator.new.self.pairs.items c.expression.new.self.pairs.items refl c.accept_punctuator.ensures.text
-    c.from_residual-in_err-value.result c.in_err-value.field-0.0 c.from_residual-in_err-value.ensures.1 c.saturating_sub-inner.ensures c.accept_punctuator.ensures.same_open c.in_err-value.ensures.complete
+    c.from_residual.result c.in_err-value.field-0.0 c.from_residual.ensures.1 c.saturating_sub-inner.ensures c.accept_punctuator.ensures.same_open c.in_err-value.ensures.complete
 
 pub field-returns-in_err-into_expression-clause-complete : goal.field-returns-in_err-into_expression-clause-complete
 field-returns-in_err-into_expression-clause-complete t c =
@@ -2607,7 +2633,7 @@ field-returns-in_err-semicolon-clause-complete t c =
     let pairs = c.if-accept_punctuator.self.pairs.items in
     let behind = c.accept_punctuator.new.self.cursor in
     elim c.if-accept_punctuator.branch [
-      | field-then-accept_punctuator+in_ok-value+in_ok-into_expression+in_ok-push-2 w ↦
+      | field-then-accept_punctuator+in_ok-value+in_ok-into_expression+in_ok-push w ↦
           let r = w.in_ok-value.value in
           let y = w.expression.new.self.cursor in
           field_value_unended c.args.self.now.cursor end c.args.self.now.pairs.items pairs c.args.high c.args.key c.args.is_static c.args.start behind w.if-accept_punctuator.ensures.accepted y c.accept_punctuator.new.self.pairs.items w.expression.new.self.pairs.items refl c.accept_punctuator.ensures.text
@@ -2625,33 +2651,33 @@ field-returns-in_err-node-clause-complete t c =
     let end = c.semicolon.new.self in
     let pairs = c.if-accept_punctuator.self.pairs.items in
     let behind = c.accept_punctuator.new.self.cursor in
-    let key = c.in_ok-push.ensures.pushed ∙ ap (λ b. push b c.args.key.node) c.new-nodes.ensures in
+    let key = c.one-nodes.ensures in
     elim c.if-accept_punctuator.branch [
-      | field-then-accept_punctuator+in_ok-value+in_ok-into_expression+in_ok-push-2 w ↦
+      | field-then-accept_punctuator+in_ok-value+in_ok-into_expression+in_ok-push w ↦
           let r = w.in_ok-value.value in
           let y = w.expression.new.self.cursor in
-          let parts = w.nodes-is ∙ w.in_ok-push-2.ensures.pushed ∙ (λ i. push (key i) (w.in_ok-into_expression.ensures.settled.0 i)) in
+          let parts = w.nodes-is ∙ w.in_ok-push.ensures.pushed ∙ (λ i. push (key i) (w.in_ok-into_expression.ensures.settled.0 i)) in
           field_value_made c.args.self.now.cursor end c.args.self.now.pairs.items pairs c.args.high c.args.key c.args.is_static c.args.start behind w.if-accept_punctuator.ensures.accepted y c.accept_punctuator.new.self.pairs.items w.expression.new.self.pairs.items refl c.accept_punctuator.ensures.text
           w.saturating_sub-inner.result r w.in_ok-value.ensures.complete w.in_ok-value.ensures.derived.is.part.edge (w.expression.ensures.text ∙ c.accept_punctuator.ensures.text) tree c.from_residual-in_err-node.result c.in_err-node.field-0.0 c.from_residual-in_err-node.ensures.1
-          (λ i. node PropertyDefinition [] (c.property_flags-flags.ensures i) c.span_from-span.result.start c.span_from-span.result.end (parts i)) c.in_err-node.ensures
+          (λ i. node PropertyDefinition [] (c.property_flags-flags.ensures i) c.span_from-span.result.start c.span_from-span.result.end (parts i)) c.in_err-node.ensures.made
       | field-else-accept_punctuator+in_ok-push_gap w ↦
           let parts = w.nodes-is ∙ w.in_ok-push_gap.ensures.pushed ∙ ap push_gap key in
           field_made c.args.self.now.cursor end c.args.self.now.pairs.items pairs c.args.high c.args.key c.args.is_static c.args.start behind c.accept_punctuator.ensures.text w.if-accept_punctuator.ensures.missed.1 w.if-accept_punctuator.ensures.missed.0 c.key_of_field.result c.key_of_field.ensures
-          tree c.from_residual-in_err-node.result c.in_err-node.field-0.0 c.from_residual-in_err-node.ensures.1 (λ i. node PropertyDefinition [] (c.property_flags-flags.ensures i) c.span_from-span.result.start c.span_from-span.result.end (parts i)) c.in_err-node.ensures
+          tree c.from_residual-in_err-node.result c.in_err-node.field-0.0 c.from_residual-in_err-node.ensures.1 (λ i. node PropertyDefinition [] (c.property_flags-flags.ensures i) c.span_from-span.result.start c.span_from-span.result.end (parts i)) c.in_err-node.ensures.made
     ]
 
 pub field-returns-clause-derived : goal.field-returns-clause-derived
 field-returns-clause-derived t c =
     let span = c.span_from-span.ensures in
-    let made = c.in_ok-node.ensures.0 ∙ (λ i. node PropertyDefinition [] (c.property_flags-flags.ensures i) (span i).start (span i).end c.if-accept_punctuator.nodes) in
+    let made = c.in_ok-node.ensures.made.0 ∙ (λ i. node PropertyDefinition [] (c.property_flags-flags.ensures i) (span i).start (span i).end c.if-accept_punctuator.nodes) in
     let it = c.plain.ensures ∙ ap field_item made in
     let behind = c.accept_punctuator.new.self.cursor in
-    let key = c.in_ok-push.ensures.pushed ∙ ap (λ b. push b c.args.key.node) c.new-nodes.ensures in
+    let key = c.one-nodes.ensures in
     elim c.if-accept_punctuator.branch [
-      | field-then-accept_punctuator+in_ok-value+in_ok-into_expression+in_ok-push-2 w ↦
+      | field-then-accept_punctuator+in_ok-value+in_ok-into_expression+in_ok-push w ↦
           let n = w.in_ok-into_expression.field-0 in
           let y = w.expression.new.self.cursor in
-          let parts = w.nodes-is ∙ w.in_ok-push-2.ensures.pushed ∙ (λ i. push (key i) n) in
+          let parts = w.nodes-is ∙ w.in_ok-push.ensures.pushed ∙ (λ i. push (key i) n) in
           let ends = subst (λ v. IsEnd y.text v y.last c.semicolon.new.self.last) w.ending-is (subst (λ v. IsEnd v.cursor.text c.if-accept_punctuator.ending v.cursor.last c.semicolon.new.self.last) w.self-is c.in_ok-semicolon.ensures.ok) in
           field_valued c.args.key c.args.is_static c.args.start c.plain.result n c.accept_punctuator.ensures.text c.accept_punctuator.ensures.same_open c.accept_punctuator.ensures.same_pairs w.if-accept_punctuator.ensures.accepted w.expression.ensures.text w.in_ok-value.ensures.derived w.in_ok-into_expression.ensures.settled.0 w.in_ok-into_expression.ensures.settled.1
           (c.semicolon.ensures.same_open ∙ ap (λ v. v.cursor.opened) w.self-is) (ap (λ v. v.pairs.items) w.self-is) ends (it ∙ (λ i. field_item (node PropertyDefinition [] (member_flags c.args.key.computed c.args.is_static Init) c.args.start c.semicolon.new.self.last.stop (parts i))))
@@ -2665,16 +2691,16 @@ field-returns-clause-derived t c =
 pub field-returns-clause-complete : goal.field-returns-clause-complete
 field-returns-clause-complete t c =
     let span = c.span_from-span.ensures in
-    let made = ap (λ (x : ListItem). x.node) c.plain.ensures ∙ c.in_ok-node.ensures.0 ∙ (λ i. node PropertyDefinition [] (c.property_flags-flags.ensures i) (span i).start (span i).end c.if-accept_punctuator.nodes) in
+    let made = ap (λ (x : ListItem). x.node) c.plain.ensures ∙ c.in_ok-node.ensures.made.0 ∙ (λ i. node PropertyDefinition [] (c.property_flags-flags.ensures i) (span i).start (span i).end c.if-accept_punctuator.nodes) in
     let end = c.semicolon.new.self in
     let pairs = c.if-accept_punctuator.self.pairs.items in
     let behind = c.accept_punctuator.new.self.cursor in
-    let key = c.in_ok-push.ensures.pushed ∙ ap (λ b. push b c.args.key.node) c.new-nodes.ensures in
+    let key = c.one-nodes.ensures in
     elim c.if-accept_punctuator.branch [
-      | field-then-accept_punctuator+in_ok-value+in_ok-into_expression+in_ok-push-2 w ↦
+      | field-then-accept_punctuator+in_ok-value+in_ok-into_expression+in_ok-push w ↦
           let r = w.in_ok-value.value in
           let y = w.expression.new.self.cursor in
-          let parts = w.nodes-is ∙ w.in_ok-push-2.ensures.pushed ∙ (λ i. push (key i) (w.in_ok-into_expression.ensures.settled.0 i)) in
+          let parts = w.nodes-is ∙ w.in_ok-push.ensures.pushed ∙ (λ i. push (key i) (w.in_ok-into_expression.ensures.settled.0 i)) in
           let ends = subst (λ v. IsEnd y.text v y.last end.last) w.ending-is (subst (λ v. IsEnd v.cursor.text c.if-accept_punctuator.ending v.cursor.last end.last) w.self-is c.in_ok-semicolon.ensures.ok) in
           field_value_answered c.args.self.now.cursor end c.args.self.now.pairs.items pairs c.args.high c.args.key c.args.is_static c.args.start behind w.if-accept_punctuator.ensures.accepted y c.accept_punctuator.new.self.pairs.items w.expression.new.self.pairs.items refl c.accept_punctuator.ensures.text
           w.saturating_sub-inner.result r w.in_ok-value.ensures.complete w.in_ok-value.ensures.derived.is.part.edge (w.expression.ensures.text ∙ c.accept_punctuator.ensures.text) c.plain.result c.accept_punctuator.ensures.same_pairs (ap (λ v. v.pairs.items) w.self-is) ends
@@ -2700,12 +2726,12 @@ pub static_block-returns-in_err-node-clause-complete : goal.static_block-returns
 static_block-returns-in_err-node-clause-complete t c =
     block_made c.args.self.now.cursor c.expect_punctuator-2.new.self.cursor c.args.self.now.pairs.items c.expect_punctuator-2.new.self.pairs.items c.args.high c.requires.ahead c.expect_word.new.self.cursor c.in_ok-expect_word.ensures.accepted.0 c.expect_word.ensures.text c.expect_punctuator.new.self.cursor c.in_ok-expect_punctuator.ensures.accepted.0 (c.expect_punctuator.ensures.text ∙ c.expect_word.ensures.text)
     c.statements.new.self.cursor c.expect_punctuator.new.self.pairs.items c.statements.new.self.pairs.items c.item-context.result (ap (λ x. x.is_item) c.item-context.ensures) (ap (λ x. x.returns) c.item-context.ensures) (ap (λ x. x.is_prologue) c.item-context.ensures)
-    c.saturating_sub-inner.result c.in_ok-items.items c.in_ok-items.ensures.complete (c.statements.ensures.text ∙ c.expect_punctuator.ensures.text ∙ c.expect_word.ensures.text) (node StaticBlock [] plain c.span_from.result.start c.span_from.result.end c.in_ok-items.items) c.from_residual-in_err-node.result c.in_err-node.field-0.0 c.from_residual-in_err-node.ensures.1 refl c.in_err-node.ensures
+    c.saturating_sub-inner.result c.in_ok-items.items c.in_ok-items.ensures.complete (c.statements.ensures.text ∙ c.expect_punctuator.ensures.text ∙ c.expect_word.ensures.text) (node StaticBlock [] plain c.span_from-span.result.start c.span_from-span.result.end c.in_ok-items.items) c.from_residual-in_err-node.result c.in_err-node.field-0.0 c.from_residual-in_err-node.ensures.1 refl c.in_err-node.ensures.made
 
 pub static_block-returns-clause-derived : goal.static_block-returns-clause-derived
 static_block-returns-clause-derived t c =
-    let span = c.span_from.ensures in
-    let made = c.in_ok-node.ensures.0 ∙ (λ i. node StaticBlock [] plain (span i).start (span i).end c.in_ok-items.items) in
+    let span = c.span_from-span.ensures in
+    let made = c.in_ok-node.ensures.made.0 ∙ (λ i. node StaticBlock [] plain (span i).start (span i).end c.in_ok-items.items) in
     static_block_item c.args.start c.in_ok-items.items c.plain.result c.requires.here c.expect_word.ensures.text c.expect_word.ensures.same_open c.expect_word.ensures.same_pairs c.in_ok-expect_word.ensures.accepted.0 c.expect_punctuator.ensures.text c.expect_punctuator.ensures.same_open c.expect_punctuator.ensures.same_pairs c.in_ok-expect_punctuator.ensures.accepted.0
     (ap (λ x. x.is_item) c.item-context.ensures) (ap (λ x. x.returns) c.item-context.ensures) (ap (λ x. x.is_prologue) c.item-context.ensures) c.statements.ensures.text c.in_ok-items.ensures.derived c.expect_punctuator-2.ensures.same_open c.expect_punctuator-2.ensures.same_pairs c.in_ok-expect_punctuator-2.ensures.accepted.0 (c.plain.ensures ∙ ap field_item made)
 
@@ -2729,12 +2755,12 @@ property_or_member-returns-clause-derived t c =
     let key = c.in_ok-modifiers.key in
     let words = c.in_ok-modifiers.modifiers in
     let function = c.in_ok-function.function in
-    let span = c.span_from.ensures in
+    let span = c.span_from-span.ensures in
     let text : here.text ≡ start.text = elim c.else-not-in_class.branch [ property_or_member-else-not-in_class-via-then-not-in_class+else-accept_punctuator w ↦ ap (λ v. v.cursor.text) w.self-is ∙ w.accept_punctuator.ensures.text | property_or_member-else-not-in_class-via-else-not-in_class w ↦ ap (λ v. v.cursor.text) w.self-is ] in
     let opened : here.opened ≡ start.opened = elim c.else-not-in_class.branch [ property_or_member-else-not-in_class-via-then-not-in_class+else-accept_punctuator w ↦ ap (λ v. v.cursor.opened) w.self-is ∙ w.accept_punctuator.ensures.same_open | property_or_member-else-not-in_class-via-else-not-in_class w ↦ ap (λ v. v.cursor.opened) w.self-is ] in
     let same : c.else-not-in_class.self.pairs.items ≡ c.args.self.now.pairs.items = elim c.else-not-in_class.branch [ property_or_member-else-not-in_class-via-then-not-in_class+else-accept_punctuator w ↦ ap (λ v. v.pairs.items) w.self-is ∙ w.accept_punctuator.ensures.same_pairs | property_or_member-else-not-in_class-via-else-not-in_class w ↦ ap (λ v. v.pairs.items) w.self-is ] in
     let stays : here.last ≡ start.last = elim c.else-not-in_class.branch [ property_or_member-else-not-in_class-via-then-not-in_class+else-accept_punctuator w ↦ ap (λ v. v.cursor.last) w.self-is ∙ w.if-accept_punctuator.ensures.missed.1 | property_or_member-else-not-in_class-via-else-not-in_class w ↦ ap (λ v. v.cursor.last) w.self-is ] in
-    let tree : c.in_ok-node.node ≡ method_node c.args.in_class words key function c.next_start-start.result c.function_or_class.new.self.cursor.last.stop = c.in_ok-node.ensures.0 ∙ (λ i. node (c.method_kind-kind.ensures.kind i) [] (c.method_kind-kind.ensures.flags i) (span i).start (span i).end (c.in_ok-nodes.ensures.made i)) in
+    let tree : c.in_ok-node.node ≡ method_node c.args.in_class words key function c.next_start-start.result c.function_or_class.new.self.cursor.last.stop = c.in_ok-node.ensures.made.0 ∙ (λ i. node (c.method_kind-kind.ensures.kind i) [] (c.method_kind-kind.ensures.flags i) (span i).start (span i).end (c.two-nodes.ensures i)) in
     method_item c.args.in_class words key function c.next_start-start.result c.next_start-from.result c.plain.result c.next_start-start.ensures.starts text opened same stays c.property_name.ensures.text c.in_ok-modifiers.ensures.derived c.next_start-from.ensures.starts c.in_ok-function.ensures.derived (c.plain.ensures ∙ ap (λ n. property_item n value) tree)
 
 pub property_or_member-returns-then-accept_punctuator-clause-own : goal.property_or_member-returns-then-accept_punctuator-clause-own
@@ -2751,19 +2777,18 @@ property_or_member-static_block-requires t c =
     (search rules, (block_begins_at start here text stays c.next_start-start.ensures.starts begins, begins))
 
 pub property_or_member-field-requires : goal.property_or_member-field-requires
-property_or_member-field-requires t c = (
-  search rules,
-  elim c.if-not-matches.branch [
-    | property_or_member-then-not-matches w ↦ let e : false ≡ true = cc (c.if-not-is_method.true, w.is_method-is) in absurd (false≢true e)
-    | property_or_member-else-not-matches w ↦ elim c.if-not-is_of_2022.branch [
-      | property_or_member-then-not-is_of_2022 v ↦ let e : false ≡ true = cc (w.if-not-matches.false, v.value-is, v.if-not-is_of_2022.true) in absurd (false≢true e)
-      | property_or_member-else-not-is_of_2022 v ↦ elim c.if-in_class-2.branch [
-        | property_or_member-then-in_class-2 x ↦ sym x.is_of_2022.ensures ∙ not_untrue x.is_of_2022.result (sym x.value-is ∙ v.if-not-is_of_2022.false)
-        | property_or_member-else-in_class-2 x ↦ absurd (false≢true (sym x.if-in_class-2.false ∙ c.in-true.is))
+property_or_member-field-requires t c =
+    let of_2022 : is_of_2022 c.property_name.new.self.cursor.text.language ≡ true = elim c.if-not-matches.branch [
+      | property_or_member-then-not-matches w ↦ let e : false ≡ true = cc (c.if-not-is_method.true, w.is_method-is) in absurd (false≢true e)
+      | property_or_member-else-not-matches w ↦ elim c.if-not-is_of_2022.branch [
+        | property_or_member-then-not-is_of_2022 v ↦ let e : false ≡ true = cc (w.if-not-matches.false, v.value-is, v.if-not-is_of_2022.true) in absurd (false≢true e)
+        | property_or_member-else-not-is_of_2022 v ↦ elim c.if-in_class-2.branch [
+          | property_or_member-then-in_class-2 x ↦ sym x.is_of_2022.ensures ∙ not_untrue x.is_of_2022.result (sym x.value-is ∙ v.if-not-is_of_2022.false)
+          | property_or_member-else-in_class-2 x ↦ absurd (false≢true (sym x.if-in_class-2.false ∙ c.in-true.is))
+        ]
       ]
-    ]
-  ],
-)
+    ] in
+    (search rules, of_2022)
 
 pub property_or_member-returns-in-true-clause-derived : goal.property_or_member-returns-in-true-clause-derived
 property_or_member-returns-in-true-clause-derived t c =
@@ -2814,7 +2839,7 @@ property_or_member-returns-clause-own t c =
     let words = c.in_ok-modifiers.modifiers in
     let key = subst (λ z. OfLanguage z c.in_ok-modifiers.key.node) text c.in_ok-modifiers.ensures.own in
     let function = subst (λ z. OfLanguage z c.in_ok-function.function) (c.property_name.ensures.text ∙ text) (c.in_ok-function.ensures.own (method_language c.property_name.new.self.cursor.text words.form (subst (λ z. FormOfLanguage z words.form) (sym c.property_name.ensures.text) c.in_ok-modifiers.ensures.form))) in
-    method_owned c.args.in_class words.form words.is_static c.in_ok-modifiers.key.is_constructor (ap (λ (x : ListItem). x.node) c.plain.ensures ∙ c.in_ok-node.ensures.0 ∙ (λ i. node (c.method_kind-kind.ensures.kind i) [] (c.method_kind-kind.ensures.flags i) c.span_from.result.start c.span_from.result.end (c.in_ok-nodes.ensures.made i))) key function
+    method_owned c.args.in_class words.form words.is_static c.in_ok-modifiers.key.is_constructor (ap (λ (x : ListItem). x.node) c.plain.ensures ∙ c.in_ok-node.ensures.made.0 ∙ (λ i. node (c.method_kind-kind.ensures.kind i) [] (c.method_kind-kind.ensures.flags i) c.span_from-span.result.start c.span_from-span.result.end (c.two-nodes.ensures i))) key function
 
 pub property_or_member-returns-in-true-clause-complete : goal.property_or_member-returns-in-true-clause-complete
 property_or_member-returns-in-true-clause-complete t c =
@@ -2936,7 +2961,7 @@ property_or_member-returns-in_err-node-clause-complete t c =
       | property_or_member-else-not-matches w ↦ inr (inr (when_true w.sees_punctuator-is_method.result (sym w.is_method-is ∙ c.if-not-is_method.false) w.sees_punctuator-is_method.ensures.seen))
     ] in
     definition_made c.args.self.now.cursor c.function_or_class.new.self.cursor c.args.self.now.pairs.items c.function_or_class.new.self.pairs.items c.args.high c.args.in_class here text opened stays no_dots no_block c.property_name.new.self.cursor c.else-not-in_class.self.pairs.items c.property_name.new.self.pairs.items c.saturating_sub-inner.ensures c.in_ok-modifiers.modifiers c.in_ok-modifiers.key c.in_ok-modifiers.ensures.complete m_text (c.in_ok-modifiers.ensures.derived.same_open ∙ opened) called c.function_or_class.new.self.cursor c.function_or_class.new.self.pairs.items c.next_start-from.result c.in_ok-function.function _ c.from_residual-in_err-node.result c.in_err-node.field-0.0 c.from_residual-in_err-node.ensures.1
-    (λ i. node c.method_kind-kind.result.0 [] c.method_kind-kind.result.1 c.span_from.result.start c.span_from.result.end (c.in_ok-nodes.ensures.made i)) c.in_ok-modifiers.ensures.low c.in_ok-function.ensures.low c.in_err-node.ensures
+    (λ i. node c.method_kind-kind.result.0 [] c.method_kind-kind.result.1 c.span_from-span.result.start c.span_from-span.result.end (c.two-nodes.ensures i)) c.in_ok-modifiers.ensures.low c.in_ok-function.ensures.low c.in_err-node.ensures.made
 
 pub property_or_member-returns-clause-complete : goal.property_or_member-returns-clause-complete
 property_or_member-returns-clause-complete t c =
@@ -3034,21 +3059,21 @@ infix-returns-in-Binary-clause-complete t c =
     turn_sided c.args.self.now.cursor c.binary_rest.new.self.cursor c.args.self.now.pairs.items c.binary_rest.new.self.pairs.items c.args.high c.args.position c.args.left c.args.next.token c.args.next.operator c.binary_rest.result c.requires.ahead
     (own_there (token_of c.args.next.token) c.requires.coded (no_tag_there c.in-Binary.is)) c.requires.coded c.in-Binary.is c.requires.goes c.binary_rest.ensures.complete c.binary_rest.ensures.rank (meant_symbol (operation (as_read (token_of c.args.next.token))) c.args.next.token.text.now c.args.next.token.after_break c.requires.coded)
 
-pub update_or_comma-returns-in-PostUpdate-clause-complete : goal.update_or_comma-returns-in-PostUpdate-clause-complete
-update_or_comma-returns-in-PostUpdate-clause-complete t c = λ a o n from to P Q R read stage own.
+pub update_or_comma-returns-in_ok-node-in-PostUpdate-clause-complete : goal.update_or_comma-returns-in_ok-node-in-PostUpdate-clause-complete
+update_or_comma-returns-in_ok-node-in-PostUpdate-clause-complete t c = λ a o n from to P Q R read stage own.
     let u = stepping c.args.self.now.cursor c.args.position c.args.left (token_of c.args.next.token) c.requires.ahead c.requires.coded c.in-PostUpdate.is c.requires.goes a o n from to P Q R read stage in
-    let parts = c.in_ok-nodes-in-PostUpdate.ensures.made ∙ ap (λ n. part n none) c.in_ok-operand-in-PostUpdate.ensures.target.0 in
+    let parts = c.one-nodes.ensures ∙ ap (λ n. part n none) c.in_ok-operand-in-PostUpdate.ensures.target.0 in
     let span = c.span_from-span.ensures in
-    let tree = c.in_ok-node-in-PostUpdate.ensures.0 ∙ (λ k. node UpdateExpression c.args.next.token.text.now plain (span k).start (span k).end (parts k)) in
+    let tree = c.in_ok-node-in-PostUpdate.ensures.made.0 ∙ (λ k. node UpdateExpression c.args.next.token.text.now plain (span k).start (span k).end (parts k)) in
     step_staged c.args.self.now.cursor c.args.position c.args.left (token_of c.args.next.token) c.requires.ahead c.requires.coded c.in-PostUpdate.is c.requires.goes u c.plain.result c.advance.new.self.cursor c.args.self.now.pairs.items c.advance.new.self.pairs.items
     c.advance.ensures.last c.advance.ensures.same_pairs (c.plain.ensures ∙ ap (λ n. plain_part n Update Postfix) tree)
 
-pub update_or_comma-returns-in-Comma-clause-complete : goal.update_or_comma-returns-in-Comma-clause-complete
-update_or_comma-returns-in-Comma-clause-complete t c =
+pub update_or_comma-returns-in_ok-node-in-Comma-clause-complete : goal.update_or_comma-returns-in_ok-node-in-Comma-clause-complete
+update_or_comma-returns-in_ok-node-in-Comma-clause-complete t c =
     let list = c.in_ok-list-in-Comma-2.list in
     let pass = c.advance-in-Comma in
     let span = c.span_from-span-in-Comma.ensures in
-    let tree = c.in_ok-node-in-Comma.ensures.0 ∙ (λ k. node SequenceExpression [] plain (span k).start (span k).end list.nodes) in
+    let tree = c.in_ok-node-in-Comma.ensures.made.0 ∙ (λ k. node SequenceExpression [] plain (span k).start (span k).end list.nodes) in
     sequence_staged c.args.self.now.cursor c.args.high c.args.position c.args.left (token_of c.args.next.token) c.requires.ahead c.requires.coded c.in-Comma.is c.requires.goes pass.new.self.cursor c.in_ok-list-in-Comma.list c.in_ok-list-in-Comma.ensures.begun.0 pass.ensures.text pass.ensures.last pass.ensures.same_open c.list.new.self.cursor c.args.self.now.pairs.items pass.new.self.pairs.items c.list.new.self.pairs.items
     c.saturating_sub.result list pass.ensures.same_pairs c.in_ok-list-in-Comma-2.ensures.complete c.plain-in-Comma.result list.seen.edge (c.plain-in-Comma.ensures ∙ ap (λ n. plain_part n Expression list.seen.edge) tree)
 
@@ -3068,21 +3093,17 @@ pub infix-returns-in-OpenBracket-clause-complete : goal.infix-returns-in-OpenBra
 infix-returns-in-OpenBracket-clause-complete t c =
     turn_linked c.args.self.now.cursor c.subscript.new.self.cursor c.args.self.now.pairs.items c.subscript.new.self.pairs.items c.args.high c.args.position c.args.left (token_of c.args.next.token) c.args.next.operator c.subscript.result c.requires.ahead c.requires.coded (inr (inr c.in-OpenBracket.is)) c.requires.goes c.subscript.ensures.complete
 
-pub infix-returns-clause-complete : goal.infix-returns-clause-complete
-infix-returns-clause-complete t c = λ a o n from to P Q R read stage own. absurd (no_arrow c.args.self.now.cursor c.args.position c.args.left (token_of c.args.next.token) c.requires.ahead c.requires.coded c.in-FatArrow.is c.requires.goes a o n from to P Q R read stage)
+pub infix-returns-in-FatArrow-clause-complete : goal.infix-returns-in-FatArrow-clause-complete
+infix-returns-in-FatArrow-clause-complete t c = λ a o n from to P Q R read stage own. absurd (no_arrow c.args.self.now.cursor c.args.position c.args.left (token_of c.args.next.token) c.requires.ahead c.requires.coded c.in-FatArrow.is c.requires.goes a o n from to P Q R read stage)
 
 pub update_or_comma-returns-in_err-operand-in-PostUpdate-clause-complete : goal.update_or_comma-returns-in_err-operand-in-PostUpdate-clause-complete
 update_or_comma-returns-in_err-operand-in-PostUpdate-clause-complete t c =
     step_unfit c.args.self.now.cursor c.args.position c.args.left (token_of c.args.next.token) c.requires.ahead c.requires.coded c.in-PostUpdate.is c.requires.goes c.args.high c.args.self.now.cursor c.args.self.now.pairs.items c.args.self.now.pairs.items c.from_residual.result c.in_err-operand-in-PostUpdate.field-0.0 c.from_residual.ensures.1 (pattern_tree c.args.left.cover.node) c.in_err-operand-in-PostUpdate.ensures.target
 
-pub update_or_comma-returns-in_err-nodes-in-PostUpdate-clause-complete : goal.update_or_comma-returns-in_err-nodes-in-PostUpdate-clause-complete
-update_or_comma-returns-in_err-nodes-in-PostUpdate-clause-complete t c =
-    turn_memory c.args.self.now.cursor c.advance.new.self.cursor c.args.self.now.pairs.items c.advance.new.self.pairs.items c.args.high c.args.position c.args.left c.from_residual-in_err-nodes-in-PostUpdate.result c.in_err-nodes-in-PostUpdate.field-0.0 c.from_residual-in_err-nodes-in-PostUpdate.ensures.1 c.in_err-nodes-in-PostUpdate.ensures.refused
-
 pub update_or_comma-returns-in_err-node-in-PostUpdate-clause-complete : goal.update_or_comma-returns-in_err-node-in-PostUpdate-clause-complete
 update_or_comma-returns-in_err-node-in-PostUpdate-clause-complete t c =
     step_high c.args.self.now.cursor c.args.position c.args.left (token_of c.args.next.token) c.requires.ahead c.requires.coded c.in-PostUpdate.is c.requires.goes c.args.high c.advance.new.self.cursor c.args.self.now.pairs.items c.advance.new.self.pairs.items c.from_residual-in_err-node-in-PostUpdate.result c.in_err-node-in-PostUpdate.field-0.0 c.from_residual-in_err-node-in-PostUpdate.ensures.1 _
-    (c.in_ok-nodes-in-PostUpdate.ensures.made ∙ ap (λ n. part n none) c.in_ok-operand-in-PostUpdate.ensures.target.0) refl c.in_err-node-in-PostUpdate.ensures.0 c.in_err-node-in-PostUpdate.ensures.1
+    (c.one-nodes.ensures ∙ ap (λ n. part n none) c.in_ok-operand-in-PostUpdate.ensures.target.0) refl c.in_err-node-in-PostUpdate.ensures.made.0 c.in_err-node-in-PostUpdate.ensures.made.1
 
 pub update_or_comma-returns-in_err-list-in-Comma-clause-complete : goal.update_or_comma-returns-in_err-list-in-Comma-clause-complete
 update_or_comma-returns-in_err-list-in-Comma-clause-complete t c =
@@ -3100,7 +3121,7 @@ update_or_comma-returns-in_err-node-in-Comma-clause-complete t c =
     let pass = c.advance-in-Comma in
     sequence_high c.args.self.now.cursor c.args.high c.args.position c.args.left (token_of c.args.next.token) c.requires.ahead c.requires.coded c.in-Comma.is c.requires.goes pass.new.self.cursor c.in_ok-list-in-Comma.list c.in_ok-list-in-Comma.ensures.begun.0 pass.ensures.text pass.ensures.last pass.ensures.same_open c.list.new.self.cursor c.args.self.now.pairs.items pass.new.self.pairs.items c.list.new.self.pairs.items
     c.saturating_sub.result list pass.ensures.same_pairs c.in_ok-list-in-Comma-2.ensures.complete c.list.new.self.cursor c.list.new.self.pairs.items c.from_residual-in_err-node-in-Comma.result c.in_err-node-in-Comma.field-0.0 _ refl
-    c.from_residual-in_err-node-in-Comma.ensures.1 c.in_err-node-in-Comma.ensures.0 c.in_err-node-in-Comma.ensures.1
+    c.from_residual-in_err-node-in-Comma.ensures.1 c.in_err-node-in-Comma.ensures.made.0 c.in_err-node-in-Comma.ensures.made.1
 
 pub list-returns-in_err-item-clause-complete : goal.list-returns-in_err-item-clause-complete
 list-returns-in_err-item-clause-complete t c =
@@ -3191,7 +3212,17 @@ special_item-returns-in_err-is_default-in-Cases-clause-complete t c =
 
 pub special_item-returns-in_err-read_symbols-in-Cases-clause-complete : goal.special_item-returns-in_err-read_symbols-in-Cases-clause-complete
 special_item-returns-in_err-read_symbols-in-Cases-clause-complete t c =
-    case_refused c.args.self.now.cursor c.read_symbols.new.self.cursor c.args.self.now.pairs.items c.read_symbols.new.self.pairs.items c.args.list.now c.args.list.now c.args.high c.in-Cases.returns c.in-Cases.is c.is_default.new.self.cursor c.is_default.new.self.pairs.items c.in_ok-is_default-in-Cases.is_default c.if-is_default.built c.item-context.result c.saturating_sub-inner.result _ c.in_ok-is_default-in-Cases.ensures.accepted c.is_default.ensures.text c.item-context.ensures c.case_symbols.ensures c.saturating_sub-inner.ensures c.read_symbols.new.built c.from_residual-in_err-read_symbols-in-Cases.result c.in_err-read_symbols-in-Cases.field-0.0 c.is_default.ensures.same_open c.from_residual-in_err-read_symbols-in-Cases.ensures.1 c.in_err-read_symbols-in-Cases.ensures.complete
+    let there : c.if-is_default.self.cursor ≡ c.is_default.new.self.cursor = elim c.if-is_default.branch [
+      | special_item-then-is_default+in_ok-push_gap-in-Cases w ↦ ap (λ v. v.cursor) w.self-is
+      | special_item-else-is_default w ↦ ap (λ v. v.cursor) w.self-is
+    ] in
+    let paired : c.if-is_default.self.pairs.items ≡ c.is_default.new.self.pairs.items = elim c.if-is_default.branch [
+      | special_item-then-is_default+in_ok-push_gap-in-Cases w ↦ ap (λ v. v.pairs.items) w.self-is
+      | special_item-else-is_default w ↦ ap (λ v. v.pairs.items) w.self-is
+    ] in
+    let read = subst (λ z. SymbolsComplete z c.read_symbols.new.self.cursor c.is_default.new.self.pairs.items c.read_symbols.new.self.pairs.items c.saturating_sub-inner.result (map piece_of c.case_symbols.result.now) c.item-context.result.returns c.if-is_default.built c.read_symbols.new.built (Err c.in_err-read_symbols-in-Cases.field-0.0)) there
+    (subst (λ ps. SymbolsComplete c.if-is_default.self.cursor c.read_symbols.new.self.cursor ps c.read_symbols.new.self.pairs.items c.saturating_sub-inner.result (map piece_of c.case_symbols.result.now) c.item-context.result.returns c.if-is_default.built c.read_symbols.new.built (Err c.in_err-read_symbols-in-Cases.field-0.0)) paired c.in_err-read_symbols-in-Cases.ensures.complete) in
+    case_refused c.args.self.now.cursor c.read_symbols.new.self.cursor c.args.self.now.pairs.items c.read_symbols.new.self.pairs.items c.args.list.now c.args.list.now c.args.high c.in-Cases.returns c.in-Cases.is c.is_default.new.self.cursor c.is_default.new.self.pairs.items c.in_ok-is_default-in-Cases.is_default c.if-is_default.built c.item-context.result c.saturating_sub-inner.result _ c.in_ok-is_default-in-Cases.ensures.accepted c.is_default.ensures.text c.item-context.ensures c.case_symbols.ensures c.saturating_sub-inner.ensures c.read_symbols.new.built c.from_residual-in_err-read_symbols-in-Cases.result c.in_err-read_symbols-in-Cases.field-0.0 c.is_default.ensures.same_open c.from_residual-in_err-read_symbols-in-Cases.ensures.1 read
 
 pub special_item-returns-in_err-finish_plain-in-Cases-clause-complete : goal.special_item-returns-in_err-finish_plain-in-Cases-clause-complete
 special_item-returns-in_err-finish_plain-in-Cases-clause-complete t c =
@@ -3200,7 +3231,17 @@ special_item-returns-in_err-finish_plain-in-Cases-clause-complete t c =
       | special_item-then-is_default+in_ok-push_gap-in-Cases w ↦ ap (λ x. x.nodes) w.built-is ∙ w.in_ok-push_gap-in-Cases.ensures.pushed ∙ ap push_gap (ap (λ x. x.nodes) c.new-built.ensures) ∙ ap (λ b. case_nodes b none) (sym w.if-is_default.true)
       | special_item-else-is_default w ↦ ap (λ x. x.nodes) w.built-is ∙ ap (λ x. x.nodes) c.new-built.ensures ∙ ap (λ b. case_nodes b none) (sym w.if-is_default.false)
     ] in
-    case_too_high c.args.self.now.cursor c.read_symbols.new.self.cursor c.args.self.now.pairs.items c.read_symbols.new.self.pairs.items c.args.list.now c.args.list.now c.args.high c.in-Cases.returns c.in-Cases.is c.is_default.new.self.cursor c.is_default.new.self.pairs.items c.in_ok-is_default-in-Cases.is_default c.if-is_default.built c.item-context.result c.saturating_sub-inner.result _ c.in_ok-is_default-in-Cases.ensures.accepted c.is_default.ensures.text c.item-context.ensures c.case_symbols.ensures c.saturating_sub-inner.ensures c.read_symbols.new.built _ empty c.in_ok-read_symbols-in-Cases.ensures.complete c.next_start-start.result _ c.from_residual-in_err-finish_plain-in-Cases.result c.in_err-finish_plain-in-Cases.field-0.0 c.next_start-start.ensures.starts (λ i. node SwitchCase [] plain (c.span_from-span.ensures i).start (c.span_from-span.ensures i).end c.read_symbols.new.built.nodes) c.from_residual-in_err-finish_plain-in-Cases.ensures.1 c.in_err-finish_plain-in-Cases.ensures
+    let there : c.if-is_default.self.cursor ≡ c.is_default.new.self.cursor = elim c.if-is_default.branch [
+      | special_item-then-is_default+in_ok-push_gap-in-Cases w ↦ ap (λ v. v.cursor) w.self-is
+      | special_item-else-is_default w ↦ ap (λ v. v.cursor) w.self-is
+    ] in
+    let paired : c.if-is_default.self.pairs.items ≡ c.is_default.new.self.pairs.items = elim c.if-is_default.branch [
+      | special_item-then-is_default+in_ok-push_gap-in-Cases w ↦ ap (λ v. v.pairs.items) w.self-is
+      | special_item-else-is_default w ↦ ap (λ v. v.pairs.items) w.self-is
+    ] in
+    let read = subst (λ z. SymbolsComplete z c.read_symbols.new.self.cursor c.is_default.new.self.pairs.items c.read_symbols.new.self.pairs.items c.saturating_sub-inner.result (map piece_of c.case_symbols.result.now) c.item-context.result.returns c.if-is_default.built c.read_symbols.new.built (Ok tt)) there
+    (subst (λ ps. SymbolsComplete c.if-is_default.self.cursor c.read_symbols.new.self.cursor ps c.read_symbols.new.self.pairs.items c.saturating_sub-inner.result (map piece_of c.case_symbols.result.now) c.item-context.result.returns c.if-is_default.built c.read_symbols.new.built (Ok tt)) paired c.in_ok-read_symbols-in-Cases.ensures.complete) in
+    case_too_high c.args.self.now.cursor c.read_symbols.new.self.cursor c.args.self.now.pairs.items c.read_symbols.new.self.pairs.items c.args.list.now c.args.list.now c.args.high c.in-Cases.returns c.in-Cases.is c.is_default.new.self.cursor c.is_default.new.self.pairs.items c.in_ok-is_default-in-Cases.is_default c.if-is_default.built c.item-context.result c.saturating_sub-inner.result _ c.in_ok-is_default-in-Cases.ensures.accepted c.is_default.ensures.text c.item-context.ensures c.case_symbols.ensures c.saturating_sub-inner.ensures c.read_symbols.new.built _ empty read c.next_start-start.result _ c.from_residual-in_err-finish_plain-in-Cases.result c.in_err-finish_plain-in-Cases.field-0.0 c.next_start-start.ensures.starts (λ i. node SwitchCase [] plain (c.span_from-span.ensures i).start (c.span_from-span.ensures i).end c.read_symbols.new.built.nodes) c.from_residual-in_err-finish_plain-in-Cases.ensures.1 c.in_err-finish_plain-in-Cases.ensures.made
 
 pub special_item-returns-in_err-part-in-Sequence-clause-complete : goal.special_item-returns-in_err-part-in-Sequence-clause-complete
 special_item-returns-in_err-part-in-Sequence-clause-complete t c =
@@ -3251,10 +3292,20 @@ special_item-returns-in_ok-finish_plain-in-Cases-clause-complete t c =
       | special_item-else-is_default w ↦ ap (λ x. x.nodes) w.built-is ∙ ap (λ x. x.nodes) c.new-built.ensures ∙ ap (λ b. case_nodes b none) (sym w.if-is_default.false)
     ] in
     let it : ListItem = record { node = c.plain-item.result.node; shape = c.plain-item.result.shape; spreads = c.plain-item.result.spreads; is_flagged = d; edge = c.plain-item.result.edge } in
-    let tree : c.plain-item.result.node ≡ node SwitchCase [] plain c.next_start-start.result c.read_symbols.new.self.cursor.last.stop c.read_symbols.new.built.nodes = ap (λ (x : ListItem). x.node) c.plain-item.ensures ∙ c.in_ok-finish_plain-in-Cases.ensures.0 ∙ (λ i. node SwitchCase [] plain (c.span_from-span.ensures i).start (c.span_from-span.ensures i).end c.read_symbols.new.built.nodes) in
+    let tree : c.plain-item.result.node ≡ node SwitchCase [] plain c.next_start-start.result c.read_symbols.new.self.cursor.last.stop c.read_symbols.new.built.nodes = ap (λ (x : ListItem). x.node) c.plain-item.ensures ∙ c.in_ok-finish_plain-in-Cases.ensures.made.0 ∙ (λ i. node SwitchCase [] plain (c.span_from-span.ensures i).start (c.span_from-span.ensures i).end c.read_symbols.new.built.nodes) in
     let item : it ≡ record { node = node SwitchCase [] plain c.next_start-start.result c.read_symbols.new.self.cursor.last.stop c.read_symbols.new.built.nodes; shape = value; spreads = false; is_flagged = d; edge = Closed } =
     (λ i. record { node = tree i; shape = (c.plain-item.ensures i).shape; spreads = (c.plain-item.ensures i).spreads; is_flagged = d; edge = (c.plain-item.ensures i).edge }) in
-    case_taken_given c.args.self.now.cursor c.read_symbols.new.self.cursor c.args.self.now.pairs.items c.read_symbols.new.self.pairs.items c.args.list.now c.push-in-Cases.new.self c.args.high c.in-Cases.returns c.in-Cases.is c.is_default.new.self.cursor c.is_default.new.self.pairs.items c.in_ok-is_default-in-Cases.is_default c.if-is_default.built c.item-context.result c.saturating_sub-inner.result _ c.in_ok-is_default-in-Cases.ensures.accepted c.is_default.ensures.text c.item-context.ensures c.case_symbols.ensures c.saturating_sub-inner.ensures c.read_symbols.new.built _ empty c.in_ok-read_symbols-in-Cases.ensures.complete c.next_start-start.result _ it c.push-in-Cases.result c.next_start-start.ensures.starts item c.is_default.ensures.same_pairs c.push-in-Cases.ensures.pushed c.push-in-Cases.ensures.taken
+    let there : c.if-is_default.self.cursor ≡ c.is_default.new.self.cursor = elim c.if-is_default.branch [
+      | special_item-then-is_default+in_ok-push_gap-in-Cases w ↦ ap (λ v. v.cursor) w.self-is
+      | special_item-else-is_default w ↦ ap (λ v. v.cursor) w.self-is
+    ] in
+    let paired : c.if-is_default.self.pairs.items ≡ c.is_default.new.self.pairs.items = elim c.if-is_default.branch [
+      | special_item-then-is_default+in_ok-push_gap-in-Cases w ↦ ap (λ v. v.pairs.items) w.self-is
+      | special_item-else-is_default w ↦ ap (λ v. v.pairs.items) w.self-is
+    ] in
+    let read = subst (λ z. SymbolsComplete z c.read_symbols.new.self.cursor c.is_default.new.self.pairs.items c.read_symbols.new.self.pairs.items c.saturating_sub-inner.result (map piece_of c.case_symbols.result.now) c.item-context.result.returns c.if-is_default.built c.read_symbols.new.built (Ok tt)) there
+    (subst (λ ps. SymbolsComplete c.if-is_default.self.cursor c.read_symbols.new.self.cursor ps c.read_symbols.new.self.pairs.items c.saturating_sub-inner.result (map piece_of c.case_symbols.result.now) c.item-context.result.returns c.if-is_default.built c.read_symbols.new.built (Ok tt)) paired c.in_ok-read_symbols-in-Cases.ensures.complete) in
+    case_taken_given c.args.self.now.cursor c.read_symbols.new.self.cursor c.args.self.now.pairs.items c.read_symbols.new.self.pairs.items c.args.list.now c.push-in-Cases.new.self c.args.high c.in-Cases.returns c.in-Cases.is c.is_default.new.self.cursor c.is_default.new.self.pairs.items c.in_ok-is_default-in-Cases.is_default c.if-is_default.built c.item-context.result c.saturating_sub-inner.result _ c.in_ok-is_default-in-Cases.ensures.accepted c.is_default.ensures.text c.item-context.ensures c.case_symbols.ensures c.saturating_sub-inner.ensures c.read_symbols.new.built _ empty read c.next_start-start.result _ it c.push-in-Cases.result c.next_start-start.ensures.starts item c.is_default.ensures.same_pairs c.push-in-Cases.ensures.pushed c.push-in-Cases.ensures.taken
 
 pub special_item-returns-in_ok-item-in-Sequence-clause-complete : goal.special_item-returns-in_ok-item-in-Sequence-clause-complete
 special_item-returns-in_ok-item-in-Sequence-clause-complete t c =
@@ -3292,9 +3343,6 @@ item-spread_item-requires t c =
 pub spread_item-returns-in_err-expect_punctuator-clause-complete : goal.spread_item-returns-in_err-expect_punctuator-clause-complete
 spread_item-returns-in_err-expect_punctuator-clause-complete t c = absurd (not_missed c.in_err-expect_punctuator.ensures.missed.0 c.requires.spreads.1)
 
-pub token_or_prefix-returns-in_default-clause-complete : goal.token_or_prefix-returns-in_default-clause-complete
-token_or_prefix-returns-in_default-clause-complete t c = no_short c.args.opening c.requires.short c.in_default.not-Prefix c.in_default.not-OneToken
-
 pub super_expression-returns-then-not-sees_super_continuation-clause-complete : goal.super_expression-returns-then-not-sees_super_continuation-clause-complete
 super_expression-returns-then-not-sees_super_continuation-clause-complete t c = λ a h o n from to P next coded word g own.
     let s = c.args.self.now.cursor in
@@ -3328,21 +3376,21 @@ pub call_expression-returns-in_err-node-clause-complete : goal.call_expression-r
 call_expression-returns-in_err-node-clause-complete t c =
     let s = c.args.self.now.cursor in
     let passed = c.requires.calls in
-    let one : c.in_ok-nodes.nodes ≡ part c.args.left.cover.node none = c.in_ok-nodes.ensures.made ∙ ap (λ n. part n none) c.in_ok-callee.ensures.settled.0 in
+    let one : c.one-nodes.result ≡ part c.args.left.cover.node none = c.one-nodes.ensures ∙ ap (λ n. part n none) c.in_ok-callee.ensures.settled.0 in
     let nodes : c.append.new.self ≡ part c.args.left.cover.node c.in_ok-arguments.arguments = c.in_ok-append.ensures.joined ∙ (λ i. join (one i) c.in_ok-arguments.arguments) in
     let read = arguments_read_behind Arguments false refl refl refl refl passed c.in_ok-arguments.ensures.derived in
-    linked_high c.args.high _ c.args.left _ c.in_err-node.field-0.0 c.from_residual-in_err-node.ensures.1 (link_once s s refl passed read) c.in_err-node.ensures.0 c.in_err-node.ensures.1 (ap (λ ps. suc (parts_height ps)) nodes)
+    linked_high c.args.high _ c.args.left _ c.in_err-node.field-0.0 c.from_residual-in_err-node.ensures.1 (link_once s s refl passed read) c.in_err-node.ensures.made.0 c.in_err-node.ensures.made.1 (ap (λ ps. suc (parts_height ps)) nodes)
 
 pub call_expression-returns-clause-complete : goal.call_expression-returns-clause-complete
 call_expression-returns-clause-complete t c =
     let s = c.args.self.now.cursor in
     let passed = c.requires.calls in
-    let one : c.in_ok-nodes.nodes ≡ part c.args.left.cover.node none = c.in_ok-nodes.ensures.made ∙ ap (λ n. part n none) c.in_ok-callee.ensures.settled.0 in
+    let one : c.one-nodes.result ≡ part c.args.left.cover.node none = c.one-nodes.ensures ∙ ap (λ n. part n none) c.in_ok-callee.ensures.settled.0 in
     let nodes : c.append.new.self ≡ part c.args.left.cover.node c.in_ok-arguments.arguments = c.in_ok-append.ensures.joined ∙ (λ i. join (one i) c.in_ok-arguments.arguments) in
     let read = arguments_read_behind Arguments false refl refl refl refl passed c.in_ok-arguments.ensures.derived in
     let object : takes Call c.args.left.rank ≡ true = sym c.accepts_rank.ensures ∙ c.if-not-accepts_rank.false in
-    let span = c.span_from.ensures in
-    let tree : c.in_ok-node.node ≡ node CallExpression [] plain c.args.left.start c.arguments.new.self.cursor.last.stop c.append.new.self = c.in_ok-node.ensures.0 ∙ (λ i. node CallExpression [] plain (span i).start (span i).end c.append.new.self) in
+    let span = c.span_from-span.ensures in
+    let tree : c.in_ok-node.node ≡ node CallExpression [] plain c.args.left.start c.arguments.new.self.cursor.last.stop c.append.new.self = c.in_ok-node.ensures.made.0 ∙ (λ i. node CallExpression [] plain (span i).start (span i).end c.append.new.self) in
     let made : c.plain.result ≡ plain_part (node (link_kind Arguments) [] (link_flags Arguments false) c.args.left.start c.arguments.new.self.cursor.last.stop c.append.new.self) (link_rank Arguments (is_call c.args.left.rank)) Other = c.plain.ensures ∙ ap (λ n. plain_part n Call Other) tree in
     linked_answered c.args.high c.args.left c.plain.result (link_once s s refl passed read) refl nodes made
 
@@ -3350,21 +3398,21 @@ pub call_expression-returns-clause-derived : goal.call_expression-returns-clause
 call_expression-returns-clause-derived t c =
     let s = c.args.self.now.cursor in
     let passed = c.requires.calls in
-    let one : c.in_ok-nodes.nodes ≡ part c.args.left.cover.node none = c.in_ok-nodes.ensures.made ∙ ap (λ n. part n none) c.in_ok-callee.ensures.settled.0 in
+    let one : c.one-nodes.result ≡ part c.args.left.cover.node none = c.one-nodes.ensures ∙ ap (λ n. part n none) c.in_ok-callee.ensures.settled.0 in
     let nodes : c.append.new.self ≡ part c.args.left.cover.node c.in_ok-arguments.arguments = c.in_ok-append.ensures.joined ∙ (λ i. join (one i) c.in_ok-arguments.arguments) in
     let read = arguments_read_behind Arguments false refl refl refl refl passed c.in_ok-arguments.ensures.derived in
     let object : takes Call c.args.left.rank ≡ true = sym c.accepts_rank.ensures ∙ c.if-not-accepts_rank.false in
-    let span = c.span_from.ensures in
-    let tree : c.in_ok-node.node ≡ node CallExpression [] plain c.args.left.start c.arguments.new.self.cursor.last.stop c.append.new.self = c.in_ok-node.ensures.0 ∙ (λ i. node CallExpression [] plain (span i).start (span i).end c.append.new.self) in
+    let span = c.span_from-span.ensures in
+    let tree : c.in_ok-node.node ≡ node CallExpression [] plain c.args.left.start c.arguments.new.self.cursor.last.stop c.append.new.self = c.in_ok-node.ensures.made.0 ∙ (λ i. node CallExpression [] plain (span i).start (span i).end c.append.new.self) in
     let made : c.plain.result ≡ plain_part (node (link_kind Arguments) [] (link_flags Arguments false) c.args.left.start c.arguments.new.self.cursor.last.stop c.append.new.self) (link_rank Arguments (is_call c.args.left.rank)) Other = c.plain.ensures ∙ ap (λ n. plain_part n Call Other) tree in
     links_read Arguments false (is_call c.args.left.rank) c.in_ok-callee.ensures.settled.1 object refl nodes made read
 
 pub call_expression-returns-clause-own : goal.call_expression-returns-clause-own
 call_expression-returns-clause-own t c = λ object.
-    let one : c.in_ok-nodes.nodes ≡ part c.args.left.cover.node none = c.in_ok-nodes.ensures.made ∙ ap (λ n. part n none) c.in_ok-callee.ensures.settled.0 in
+    let one : c.one-nodes.result ≡ part c.args.left.cover.node none = c.one-nodes.ensures ∙ ap (λ n. part n none) c.in_ok-callee.ensures.settled.0 in
     let nodes : c.append.new.self ≡ part c.args.left.cover.node c.in_ok-arguments.arguments = c.in_ok-append.ensures.joined ∙ (λ i. join (one i) c.in_ok-arguments.arguments) in
-    let span = c.span_from.ensures in
-    let tree : c.in_ok-node.node ≡ node CallExpression [] plain c.args.left.start c.arguments.new.self.cursor.last.stop c.append.new.self = c.in_ok-node.ensures.0 ∙ (λ i. node CallExpression [] plain (span i).start (span i).end c.append.new.self) in
+    let span = c.span_from-span.ensures in
+    let tree : c.in_ok-node.node ≡ node CallExpression [] plain c.args.left.start c.arguments.new.self.cursor.last.stop c.append.new.self = c.in_ok-node.ensures.made.0 ∙ (λ i. node CallExpression [] plain (span i).start (span i).end c.append.new.self) in
     subst (OfLanguage c.args.self.now.cursor.text) (sym (ap (λ (p : Operand). p.cover.node) c.plain.ensures ∙ tree)) (link_own Arguments false nodes c.in_ok-arguments.ensures.own object)
 
 pub index_member-returns-in_err-expect_punctuator-clause-complete : goal.index_member-returns-in_err-expect_punctuator-clause-complete
@@ -3384,25 +3432,25 @@ index_member-returns-in_err-node-clause-complete t c =
     let s = c.args.self.now.cursor in
     let passed = c.requires.indexes in
     let index = c.in_ok-index.index in
-    let one : c.in_ok-nodes.nodes ≡ part c.args.left.cover.node none = c.in_ok-nodes.ensures.made ∙ ap (λ n. part n none) c.in_ok-into_expression.ensures.settled.0 in
+    let one : c.one-nodes.result ≡ part c.args.left.cover.node none = c.one-nodes.ensures ∙ ap (λ n. part n none) c.in_ok-into_expression.ensures.settled.0 in
     let nodes : c.push.new.self ≡ part c.args.left.cover.node (part index.cover.node none) = c.in_ok-push.ensures.pushed ∙ (λ i. push (one i) (c.in_ok-into_expression-2.ensures.settled.0 i)) in
     let read = index_read Index false refl refl refl refl passed c.expect_punctuator.ensures.text c.expect_punctuator.ensures.same_open c.expect_punctuator.ensures.same_pairs c.in_ok-expect_punctuator.ensures.accepted.0 refl refl refl c.expression.ensures.text c.in_ok-index.ensures.derived c.in_ok-into_expression-2.ensures.settled.1
     c.expect_punctuator-2.ensures.same_open c.expect_punctuator-2.ensures.same_pairs c.in_ok-expect_punctuator-2.ensures.accepted.0 in
-    linked_high c.args.high _ c.args.left _ c.in_err-node.field-0.0 c.from_residual-in_err-node.ensures.1 (link_once s s refl passed read) c.in_err-node.ensures.0 c.in_err-node.ensures.1 (ap (λ ps. suc (parts_height ps)) nodes)
+    linked_high c.args.high _ c.args.left _ c.in_err-node.field-0.0 c.from_residual-in_err-node.ensures.1 (link_once s s refl passed read) c.in_err-node.ensures.made.0 c.in_err-node.ensures.made.1 (ap (λ ps. suc (parts_height ps)) nodes)
 
 pub index_member-returns-clause-complete : goal.index_member-returns-clause-complete
 index_member-returns-clause-complete t c =
     let s = c.args.self.now.cursor in
     let passed = c.requires.indexes in
     let index = c.in_ok-index.index in
-    let one : c.in_ok-nodes.nodes ≡ part c.args.left.cover.node none = c.in_ok-nodes.ensures.made ∙ ap (λ n. part n none) c.in_ok-into_expression.ensures.settled.0 in
+    let one : c.one-nodes.result ≡ part c.args.left.cover.node none = c.one-nodes.ensures ∙ ap (λ n. part n none) c.in_ok-into_expression.ensures.settled.0 in
     let nodes : c.push.new.self ≡ part c.args.left.cover.node (part index.cover.node none) = c.in_ok-push.ensures.pushed ∙ (λ i. push (one i) (c.in_ok-into_expression-2.ensures.settled.0 i)) in
     let read = index_read Index false refl refl refl refl passed c.expect_punctuator.ensures.text c.expect_punctuator.ensures.same_open c.expect_punctuator.ensures.same_pairs c.in_ok-expect_punctuator.ensures.accepted.0 refl refl refl c.expression.ensures.text c.in_ok-index.ensures.derived c.in_ok-into_expression-2.ensures.settled.1
     c.expect_punctuator-2.ensures.same_open c.expect_punctuator-2.ensures.same_pairs c.in_ok-expect_punctuator-2.ensures.accepted.0 in
     let object : takes Call c.args.left.rank ≡ true = sym c.accepts_rank.ensures ∙ c.if-not-accepts_rank.false in
     let called : c.match-matches.matches ≡ is_call c.args.left.rank = elim c.match-matches.branch [ index_member-in-Call w ↦ w.matches-is ∙ call_is c.args.left.rank w.in-Call.is | index_member-in_default w ↦ w.matches-is ∙ call_is_not c.args.left.rank w.in_default.not-Call ] in
     let span = c.span_from-span.ensures in
-    let tree : c.in_ok-node.node ≡ node (link_kind Index) [] (link_flags Index false) c.args.left.start c.expect_punctuator-2.new.self.cursor.last.stop c.push.new.self = c.in_ok-node.ensures.0 ∙ (λ i. node MemberExpression [] (c.flags-flags.ensures i) (span i).start (span i).end c.push.new.self) in
+    let tree : c.in_ok-node.node ≡ node (link_kind Index) [] (link_flags Index false) c.args.left.start c.expect_punctuator-2.new.self.cursor.last.stop c.push.new.self = c.in_ok-node.ensures.made.0 ∙ (λ i. node MemberExpression [] (c.flags-flags.ensures i) (span i).start (span i).end c.push.new.self) in
     let made : c.plain.result ≡ plain_part (node (link_kind Index) [] (link_flags Index false) c.args.left.start c.expect_punctuator-2.new.self.cursor.last.stop c.push.new.self) (link_rank Index c.match-matches.matches) Other = c.plain.ensures ∙ (λ i. plain_part (tree i) (c.rank.ensures i) Other) in
     linked_answered c.args.high c.args.left c.plain.result (link_once s s refl passed read) called nodes made
 
@@ -3411,24 +3459,24 @@ index_member-returns-clause-derived t c =
     let s = c.args.self.now.cursor in
     let passed = c.requires.indexes in
     let index = c.in_ok-index.index in
-    let one : c.in_ok-nodes.nodes ≡ part c.args.left.cover.node none = c.in_ok-nodes.ensures.made ∙ ap (λ n. part n none) c.in_ok-into_expression.ensures.settled.0 in
+    let one : c.one-nodes.result ≡ part c.args.left.cover.node none = c.one-nodes.ensures ∙ ap (λ n. part n none) c.in_ok-into_expression.ensures.settled.0 in
     let nodes : c.push.new.self ≡ part c.args.left.cover.node (part index.cover.node none) = c.in_ok-push.ensures.pushed ∙ (λ i. push (one i) (c.in_ok-into_expression-2.ensures.settled.0 i)) in
     let read = index_read Index false refl refl refl refl passed c.expect_punctuator.ensures.text c.expect_punctuator.ensures.same_open c.expect_punctuator.ensures.same_pairs c.in_ok-expect_punctuator.ensures.accepted.0 refl refl refl c.expression.ensures.text c.in_ok-index.ensures.derived c.in_ok-into_expression-2.ensures.settled.1
     c.expect_punctuator-2.ensures.same_open c.expect_punctuator-2.ensures.same_pairs c.in_ok-expect_punctuator-2.ensures.accepted.0 in
     let object : takes Call c.args.left.rank ≡ true = sym c.accepts_rank.ensures ∙ c.if-not-accepts_rank.false in
     let called : c.match-matches.matches ≡ is_call c.args.left.rank = elim c.match-matches.branch [ index_member-in-Call w ↦ w.matches-is ∙ call_is c.args.left.rank w.in-Call.is | index_member-in_default w ↦ w.matches-is ∙ call_is_not c.args.left.rank w.in_default.not-Call ] in
     let span = c.span_from-span.ensures in
-    let tree : c.in_ok-node.node ≡ node (link_kind Index) [] (link_flags Index false) c.args.left.start c.expect_punctuator-2.new.self.cursor.last.stop c.push.new.self = c.in_ok-node.ensures.0 ∙ (λ i. node MemberExpression [] (c.flags-flags.ensures i) (span i).start (span i).end c.push.new.self) in
+    let tree : c.in_ok-node.node ≡ node (link_kind Index) [] (link_flags Index false) c.args.left.start c.expect_punctuator-2.new.self.cursor.last.stop c.push.new.self = c.in_ok-node.ensures.made.0 ∙ (λ i. node MemberExpression [] (c.flags-flags.ensures i) (span i).start (span i).end c.push.new.self) in
     let made : c.plain.result ≡ plain_part (node (link_kind Index) [] (link_flags Index false) c.args.left.start c.expect_punctuator-2.new.self.cursor.last.stop c.push.new.self) (link_rank Index c.match-matches.matches) Other = c.plain.ensures ∙ (λ i. plain_part (tree i) (c.rank.ensures i) Other) in
     links_read Index false c.match-matches.matches c.in_ok-into_expression.ensures.settled.1 object called nodes made read
 
 pub index_member-returns-clause-own : goal.index_member-returns-clause-own
 index_member-returns-clause-own t c = λ object.
     let index = c.in_ok-index.index in
-    let one : c.in_ok-nodes.nodes ≡ part c.args.left.cover.node none = c.in_ok-nodes.ensures.made ∙ ap (λ n. part n none) c.in_ok-into_expression.ensures.settled.0 in
+    let one : c.one-nodes.result ≡ part c.args.left.cover.node none = c.one-nodes.ensures ∙ ap (λ n. part n none) c.in_ok-into_expression.ensures.settled.0 in
     let nodes : c.push.new.self ≡ part c.args.left.cover.node (part index.cover.node none) = c.in_ok-push.ensures.pushed ∙ (λ i. push (one i) (c.in_ok-into_expression-2.ensures.settled.0 i)) in
     let span = c.span_from-span.ensures in
-    let tree : c.in_ok-node.node ≡ node (link_kind Index) [] (link_flags Index false) c.args.left.start c.expect_punctuator-2.new.self.cursor.last.stop c.push.new.self = c.in_ok-node.ensures.0 ∙ (λ i. node MemberExpression [] (c.flags-flags.ensures i) (span i).start (span i).end c.push.new.self) in
+    let tree : c.in_ok-node.node ≡ node (link_kind Index) [] (link_flags Index false) c.args.left.start c.expect_punctuator-2.new.self.cursor.last.stop c.push.new.self = c.in_ok-node.ensures.made.0 ∙ (λ i. node MemberExpression [] (c.flags-flags.ensures i) (span i).start (span i).end c.push.new.self) in
     subst (OfLanguage c.args.self.now.cursor.text) (sym (ap (λ (p : Operand). p.cover.node) c.plain.ensures ∙ tree)) (link_own Index false nodes (of_part (subst (λ x. OfLanguage x index.cover.node) c.expect_punctuator.ensures.text c.in_ok-index.ensures.own) of_none) object)
 
 pub index_member-returns-clause-passes : goal.index_member-returns-clause-passes
@@ -3437,13 +3485,13 @@ index_member-returns-clause-passes t c =
     let second = passes_further start c.expect_punctuator.new.self.cursor c.expression.new.self.cursor c.in_ok-expect_punctuator.ensures.passes c.expression.ensures.forward in
     passes_further start c.expression.new.self.cursor c.expect_punctuator-2.new.self.cursor second c.expect_punctuator-2.ensures.forward
 
-pub token_or_prefix-returns-in_err-node-in-OneToken-clause-complete : goal.token_or_prefix-returns-in_err-node-in-OneToken-clause-complete
-token_or_prefix-returns-in_err-node-in-OneToken-clause-complete t c = λ a h o n to P g own.
+pub one_token-returns-in_err-node-clause-complete : goal.one_token-returns-in_err-node-clause-complete
+one_token-returns-in_err-node-clause-complete t c = λ a h o n to P g own.
     let s = c.args.self.now.cursor in
     let up = has_height n in
-    let above = c.in_err-node-in-OneToken.ensures.made in
-    agrees_err (Room s o (height n) c.args.high) (FirstWith s c.advance.new.self.cursor c.args.self.now.pairs.items c.advance.new.self.pairs.items a h n to P) c.from_residual.result c.in_err-node-in-OneToken.field-0.0 c.from_residual.ensures.1
-    (refuses_high (Room s o (height n) c.args.high) 1 c.args.high c.in_err-node-in-OneToken.field-0.0 above.0 above.1 (λ room. let l = room.1 in omega arith))
+    let above = c.in_err-node.ensures.made in
+    agrees_err (Room s o (height n) c.args.high) (FirstWith s c.advance.new.self.cursor c.args.self.now.pairs.items c.advance.new.self.pairs.items a h n to P) c.from_residual.result c.in_err-node.field-0.0 c.from_residual.ensures.1
+    (refuses_high (Room s o (height n) c.args.high) 1 c.args.high c.in_err-node.field-0.0 above.0 above.1 (λ room. let l = room.1 in omega arith))
 
 pub private_in-returns-in_err-left-clause-complete : goal.private_in-returns-in_err-left-clause-complete
 private_in-returns-in_err-left-clause-complete t c = λ a h o n from to P next coded word g own.
@@ -3500,9 +3548,9 @@ private_in-returns-in_err-into_expression-clause-complete t c = λ a h o n from 
 pub private_in-returns-clause-derived : goal.private_in-returns-clause-derived
 private_in-returns-clause-derived t c =
     let span = c.span_from-span.ensures in
-    let parts = c.in_ok-push-2.ensures.pushed ∙ ap (λ ps. push ps c.in_ok-into_expression.field-0) (c.in_ok-push.ensures.pushed ∙ ap (λ ps. push ps c.in_ok-left.left) c.new-nodes.ensures) in
+    let parts = c.two-nodes.ensures in
     private_worded c.args.token c.args.position c.at.result c.in_ok-left.left c.in_ok-into_expression.field-0 c.in_ok-node.node c.expect_word.ensures.text c.expect_word.ensures.same_open c.expect_word.ensures.same_pairs c.in_ok-left.ensures.made.0 c.in_ok-expect_word.ensures.accepted.0 c.at.ensures c.in_ok-right.ensures.derived
-    c.in_ok-into_expression.ensures.settled.1 c.in_ok-into_expression.ensures.settled.0 (c.in_ok-node.ensures.0 ∙ (λ i. node BinaryExpression (codes "in") plain (span i).start (span i).end (parts i))) c.plain.ensures
+    c.in_ok-into_expression.ensures.settled.1 c.in_ok-into_expression.ensures.settled.0 (c.in_ok-node.ensures.made.0 ∙ (λ i. node BinaryExpression (codes "in") plain (span i).start (span i).end (parts i))) c.plain.ensures
 
 pub private_in-returns-clause-complete : goal.private_in-returns-clause-complete
 private_in-returns-clause-complete t c = λ a h o n from to P next coded word g own.
@@ -3518,15 +3566,15 @@ private_in-returns-clause-complete t c = λ a h o n from to P next coded word g 
     let inner = private_own v c.expect_word.ensures.text own in
     let answer = c.in_ok-right.ensures.complete as_expression o v.operand to P there inner in
     let span = c.span_from-span.ensures in
-    let parts = c.in_ok-push-2.ensures.pushed ∙ ap (λ ps. push ps c.in_ok-into_expression.field-0) (c.in_ok-push.ensures.pushed ∙ ap (λ ps. push ps c.in_ok-left.left) c.new-nodes.ensures) in
-    let same = c.in_ok-node.ensures.0 ∙ (λ i. node BinaryExpression (codes "in") plain (span i).start (span i).end (parts i))
+    let parts = c.two-nodes.ensures in
+    let same = c.in_ok-node.ensures.made.0 ∙ (λ i. node BinaryExpression (codes "in") plain (span i).start (span i).end (parts i))
     ∙ (λ i. node BinaryExpression (codes "in") plain u.start (answer.1.place i).stop (part (c.in_ok-left.ensures.made.0 i) (part ((c.in_ok-into_expression.ensures.settled.0 ∙ answer.0.tree) i) none))) ∙ sym v.tree in
     (private_first c.in_ok-right.right.edge c.plain.result given.0 same v.tree v.taken c.plain.ensures, ends_behind c.expect_word.ensures.same_pairs answer.1)
 
 pub yield_expression-returns-in_err-node-clause-complete : goal.yield_expression-returns-in_err-node-clause-complete
 yield_expression-returns-in_err-node-clause-complete t c = λ a h o n from to P next coded word g own.
     let s = c.args.self.now.cursor in
-    let above = c.in_err-node.ensures in
+    let above = c.in_err-node.ensures.made in
     let low = ap parts_height (c.in_ok-push_gap.ensures.pushed ∙ ap push_gap c.new-nodes.ensures) in
     let one = has_height n in
     agrees_err (Room s o (height n) c.args.high) (FirstWith s s c.args.self.now.pairs.items c.args.self.now.pairs.items a h n to P) c.from_residual-in_err-node.result c.in_err-node.field-0.0 c.from_residual-in_err-node.ensures.1
@@ -3534,9 +3582,9 @@ yield_expression-returns-in_err-node-clause-complete t c = λ a h o n from to P 
 
 pub yield_expression-returns-then-sees_no_operand-clause-derived : goal.yield_expression-returns-then-sees_no_operand-clause-derived
 yield_expression-returns-then-sees_no_operand-clause-derived t c =
-    let span = c.span_from.ensures in
+    let span = c.span_from-span.ensures in
     let parts = c.in_ok-push_gap.ensures.pushed ∙ ap push_gap c.new-nodes.ensures in
-    yield_bare c.args.token c.args.position c.if-sees_no_operand.ensures.seen (c.in_ok-node.ensures.0 ∙ (λ i. node YieldExpression [] plain (span i).start (span i).end (parts i))) c.plain.ensures
+    yield_bare c.args.token c.args.position c.if-sees_no_operand.ensures.seen (c.in_ok-node.ensures.made.0 ∙ (λ i. node YieldExpression [] plain (span i).start (span i).end (parts i))) c.plain.ensures
 
 pub yield_expression-returns-then-sees_no_operand-clause-complete : goal.yield_expression-returns-then-sees_no_operand-clause-complete
 yield_expression-returns-then-sees_no_operand-clause-complete t c = λ a h o n from to P next coded word g own.
@@ -3546,9 +3594,9 @@ yield_expression-returns-then-sees_no_operand-clause-complete t c = λ a h o n f
     let w = word_here s.text u next (ap is_worded opens) in
     let given = yield_given s.text w.read (w.begins ∙ opens) g in
     let v = yield_alone_given given.1 c.if-sees_no_operand.ensures.seen in
-    let span = c.span_from.ensures in
+    let span = c.span_from-span.ensures in
     let parts = c.in_ok-push_gap.ensures.pushed ∙ ap push_gap c.new-nodes.ensures in
-    let same = c.in_ok-node.ensures.0 ∙ (λ i. node YieldExpression [] plain (span i).start (span i).end (parts i)) ∙ (λ i. node YieldExpression [] plain (sym w.same i).start (sym v.place i).stop (gap none)) ∙ sym v.tree in
+    let same = c.in_ok-node.ensures.made.0 ∙ (λ i. node YieldExpression [] plain (span i).start (span i).end (parts i)) ∙ (λ i. node YieldExpression [] plain (sym w.same i).start (sym v.place i).stop (gap none)) ∙ sym v.tree in
     (yield_first {x = Init} Arrow c.plain.result given.0 same v.tree v.taken c.plain.ensures, ends_same (sym v.pairs) (ends_none (sym v.place) refl))
 
 pub yield_expression-returns-in_err-operand-clause-complete : goal.yield_expression-returns-in_err-operand-clause-complete
@@ -3585,10 +3633,10 @@ yield_expression-returns-in_err-into_expression-clause-complete t c = λ a h o n
 
 pub yield_expression-returns-clause-derived : goal.yield_expression-returns-clause-derived
 yield_expression-returns-clause-derived t c =
-    let span = c.span_from-2.ensures in
+    let span = c.span_from-span-2.ensures in
     let parts = c.in_ok-push.ensures.pushed ∙ ap (λ ps. push ps c.in_ok-into_expression.field-0) c.new-nodes.ensures in
     yield_worded c.args.token c.args.position c.at-place.result c.starred-flags.result c.in_ok-into_expression.field-0 c.in_ok-node-2.node c.starred-flags.ensures.text c.starred-flags.ensures.same_open c.starred-flags.ensures.same_pairs c.if-sees_no_operand.ensures.missed c.starred-flags.ensures.starred c.at-place.ensures c.in_ok-operand.ensures.derived
-    c.in_ok-into_expression.ensures.settled.1 c.in_ok-into_expression.ensures.settled.0 (c.in_ok-node-2.ensures.0 ∙ (λ i. node YieldExpression [] (record plain { form = c.starred-flags.result }) (span i).start (span i).end (parts i))) c.plain-2.ensures
+    c.in_ok-into_expression.ensures.settled.1 c.in_ok-into_expression.ensures.settled.0 (c.in_ok-node-2.ensures.made.0 ∙ (λ i. node YieldExpression [] (record plain { form = c.starred-flags.result }) (span i).start (span i).end (parts i))) c.plain-2.ensures
 
 pub yield_expression-returns-clause-complete : goal.yield_expression-returns-clause-complete
 yield_expression-returns-clause-complete t c = λ a h o n from to P next coded word g own.
@@ -3604,9 +3652,9 @@ yield_expression-returns-clause-complete t c = λ a h o n from to P next coded w
     let less = c.saturating_sub.ensures in
     let tall = yield_low v in
     let answer = c.in_ok-operand.ensures.complete as_expression o v.operand to P there inner in
-    let span = c.span_from-2.ensures in
+    let span = c.span_from-span-2.ensures in
     let parts = c.in_ok-push.ensures.pushed ∙ ap (λ ps. push ps c.in_ok-into_expression.field-0) c.new-nodes.ensures in
-    let same = c.in_ok-node-2.ensures.0 ∙ (λ i. node YieldExpression [] (record plain { form = c.starred-flags.result }) (span i).start (span i).end (parts i))
+    let same = c.in_ok-node-2.ensures.made.0 ∙ (λ i. node YieldExpression [] (record plain { form = c.starred-flags.result }) (span i).start (span i).end (parts i))
     ∙ (λ i. node YieldExpression [] (record plain { form = c.starred-flags.result }) (sym w.same i).start (answer.1.place i).stop (part ((c.in_ok-into_expression.ensures.settled.0 ∙ answer.0.tree) i) none)) ∙ sym v.tree in
     (yield_first {x = c.starred-flags.result} c.in_ok-operand.operand.edge c.plain-2.result given.0 same v.tree v.taken c.plain-2.ensures, ends_behind c.starred-flags.ensures.same_pairs answer.1)
 
@@ -3619,18 +3667,18 @@ prefix_expression-returns-clause-own t c =
     yields_ok (prefixed_part (is_prefix_update u.text) u.text u.start e.last.stop r) (IsPlaceHere e) (takes_operand (is_prefix_update u.text) r.cover.shape) (height (prefixed_node (is_prefix_update u.text) u.text u.start e.last.stop r.cover.node)) c.args.high (λ part. OfLanguage s.text part.cover.node) c.prefix_operand.result c.prefix_operand.ensures.made (λ fits low.
     prefix_language s.text u c.args.own c.args.side c.requires.ahead c.requires.coded u.start e.last.stop r (subst (λ x. OfLanguage x r.cover.node) c.advance.ensures.text c.in_ok-operand.ensures.own))
 
-pub token_or_prefix-returns-else-is_name-clause-own : goal.token_or_prefix-returns-else-is_name-clause-own
-token_or_prefix-returns-else-is_name-clause-own t c =
+pub one_token-returns-clause-own : goal.one_token-returns-clause-own
+one_token-returns-clause-own t c =
     let s = c.args.self.now.cursor in
-    subst (λ part. OfLanguage s.text part.cover.node) (sym (c.plain.ensures ∙ ap (λ n. plain_part n Primary Other) c.in_ok-node-in-OneToken.ensures.made.0)) (single_language s.text s.text.language (token_of c.args.token) c.in-OneToken.kind (c.requires.coded ∙ ap Some c.in-OneToken.is))
+    subst (λ part. OfLanguage s.text part.cover.node) (sym (c.plain.ensures ∙ ap (λ n. plain_part n Primary Other) c.in_ok-node.ensures.made.0)) (single_language s.text s.text.language (token_of c.args.token) c.args.kind c.requires.coded)
 
-pub token_or_prefix-returns-then-accepts_rank-clause-own : goal.token_or_prefix-returns-then-accepts_rank-clause-own
-token_or_prefix-returns-then-accepts_rank-clause-own t c =
+pub one_token-returns-then-accepts_rank-clause-own : goal.one_token-returns-then-accepts_rank-clause-own
+one_token-returns-then-accepts_rank-clause-own t c =
     let s = c.args.self.now.cursor in
     let m = c.advance.new.self.cursor in
-    let parameter = c.in_ok-parameter-in-OneToken.ensures.made ∙ ap (λ n. part n none) c.in_ok-node-in-OneToken.ensures.made.0 in
-    let first = single_language m.text s.text.language (token_of c.args.token) c.in-OneToken.kind (c.requires.coded ∙ ap Some c.in-OneToken.is) in
-    ok_map (λ r. AllOfLanguage m.text c.in_ok-parameter-in-OneToken.parameter → FormOfLanguage m.text Init → OfLanguage m.text r.cover.node) (λ r. OfLanguage s.text r.cover.node) c.arrow_function.result c.arrow_function.ensures.own (λ r f.
+    let parameter = c.one-parameter.ensures ∙ ap (λ n. part n none) c.in_ok-node.ensures.made.0 in
+    let first = single_language m.text s.text.language (token_of c.args.token) c.args.kind c.requires.coded in
+    ok_map (λ r. AllOfLanguage m.text c.one-parameter.result → FormOfLanguage m.text Init → OfLanguage m.text r.cover.node) (λ r. OfLanguage s.text r.cover.node) c.arrow_function.result c.arrow_function.ensures.own (λ r f.
     subst (λ x. OfLanguage x r.cover.node) c.advance.ensures.text (f (subst (AllOfLanguage m.text) (sym parameter) (of_part first of_none)) (λ b. refl)))
 
 pub bracketed_list-returns-clause-own : goal.bracketed_list-returns-clause-own
@@ -3643,11 +3691,11 @@ bracketed_list-returns-clause-own t c =
 pub leftmost_operand-bracketed_list-requires : goal.leftmost_operand-bracketed_list-requires
 leftmost_operand-bracketed_list-requires t c = (search rules, (c.in-Some.ensures.ahead, (subst BeginsList c.in-List.is c.in-Some.ensures.list, (c.in-Some.ensures.coded ∙ ap Some c.in-List.is, stands_plainly c.args.self.now.cursor.text c.args.position (as_read (token_of c.in-Some.token)) _ c.in-List.is (λ e. cc) c.in-Some.ensures.stands))))
 
-pub leftmost_operand-token_or_prefix-requires : goal.leftmost_operand-token_or_prefix-requires
-leftmost_operand-token_or_prefix-requires t c = (search rules, (c.in-Some.ensures.ahead, (c.in-Some.ensures.real, (c.in-Some.ensures.coded, (short_stands c.args.self.now.cursor.text c.args.position (as_read (token_of c.in-Some.token)) c.in-Some.opening (short_opening c.in-Prefix.is) c.in-Some.ensures.stands, short_opening c.in-Prefix.is)))))
+pub leftmost_operand-prefix_expression-requires : goal.leftmost_operand-prefix_expression-requires
+leftmost_operand-prefix_expression-requires t c = (search rules, (c.in-Some.ensures.ahead, (c.in-Some.ensures.real, (c.in-Some.ensures.coded ∙ ap Some c.in-Prefix.is, stands_plainly c.args.self.now.cursor.text c.args.position (as_read (token_of c.in-Some.token)) _ c.in-Prefix.is (λ e. cc) c.in-Some.ensures.stands))))
 
-pub token_or_prefix-prefix_expression-requires : goal.token_or_prefix-prefix_expression-requires
-token_or_prefix-prefix_expression-requires t c = (search rules, (c.requires.ahead, (c.requires.real, (c.requires.coded ∙ ap Some c.in-Prefix.is, c.requires.stands))))
+pub leftmost_operand-one_token-requires : goal.leftmost_operand-one_token-requires
+leftmost_operand-one_token-requires t c = (search rules, (c.in-Some.ensures.ahead, (c.in-Some.ensures.real, c.in-Some.ensures.coded ∙ ap Some c.in-OneToken.is)))
 
 pub keyword_expression-returns-in-Yield-clause-derived : goal.keyword_expression-returns-in-Yield-clause-derived
 keyword_expression-returns-in-Yield-clause-derived t c = subst (λ x. IfOk c.yield_expression.result (λ part. Adds c.args.self.now.cursor c.yield_expression.new.self.cursor c.args.self.now.pairs.items c.yield_expression.new.self.pairs.items (WordedAt c.args.self.now.cursor.text c.args.position c.args.token x part))) (sym c.in-Yield.is) c.yield_expression.ensures.derived
@@ -3703,7 +3751,7 @@ pub new_expression-returns-clause-own : goal.new_expression-returns-clause-own
 new_expression-returns-clause-own t c = λ coded.
     let s = c.args.self.now.cursor in
     let callee = c.in_ok-callee.callee in
-    let first = c.in_ok-nodes.ensures.made ∙ ap (λ n. part n none) c.in_ok-into_expression.ensures.settled.0 in
+    let first = c.one-nodes.ensures ∙ ap (λ n. part n none) c.in_ok-into_expression.ensures.settled.0 in
     let before : OfLanguage s.text callee.cover.node = subst (λ x. OfLanguage x callee.cover.node) c.accept_punctuator.ensures.text c.in_ok-callee.ensures.own in
     let all : AllOfLanguage s.text c.if-sees_punctuator.nodes =
     elim c.if-sees_punctuator.branch [
@@ -3712,8 +3760,8 @@ new_expression-returns-clause-own t c = λ coded.
           (of_part before (subst (λ x. AllOfLanguage x w.in_ok-arguments.field-0) (c.expression.ensures.text ∙ c.accept_punctuator.ensures.text) w.in_ok-arguments.ensures.own))
       | new_expression-else-sees_punctuator w ↦ subst (AllOfLanguage s.text) (sym (w.nodes-is ∙ first)) (of_part before of_none)
     ] in
-    let span = c.span_from.ensures in
-    let tree = c.in_ok-node.ensures.0 ∙ (λ i. node NewExpression [] plain (span i).start (span i).end c.if-sees_punctuator.nodes) in
+    let span = c.span_from-span.ensures in
+    let tree = c.in_ok-node.ensures.made.0 ∙ (λ i. node NewExpression [] plain (span i).start (span i).end c.if-sees_punctuator.nodes) in
     subst (λ r. OfLanguage s.text r.cover.node) (sym (c.plain.ensures ∙ ap (λ n. plain_part n c.if-sees_punctuator.rank Other) tree)) (of_node (λ b. refl) all)
 
 pub super_expression-returns-in_err-refuse_private_name-clause-complete : goal.super_expression-returns-in_err-refuse_private_name-clause-complete
@@ -3741,8 +3789,8 @@ import_call-returns-clause-own t c =
     let same_open : k.opened ≡ s.opened = elim c.else-is_of_2022.branch [ import_call-else-is_of_2022-via-then-is_of_2022+else-accept_punctuator w ↦ ap (λ (v : Parser). v.cursor.opened) w.self-is ∙ w.accept_punctuator.ensures.same_open | import_call-else-is_of_2022-via-else-is_of_2022 w ↦ ap (λ (v : Parser). v.cursor.opened) w.self-is ] in
     let same_pairs : c.else-is_of_2022.self.pairs.items ≡ c.args.self.now.pairs.items = elim c.else-is_of_2022.branch [ import_call-else-is_of_2022-via-then-is_of_2022+else-accept_punctuator w ↦ ap (λ (v : Parser). v.pairs.items) w.self-is ∙ w.accept_punctuator.ensures.same_pairs | import_call-else-is_of_2022-via-else-is_of_2022 w ↦ ap (λ (v : Parser). v.pairs.items) w.self-is ] in
     let source : OfLanguage s.text c.in_ok-into_expression.field-0 = subst (OfLanguage s.text) (sym c.in_ok-into_expression.ensures.settled.0) (subst (λ x. OfLanguage x c.in_ok-source.source.cover.node) (c.expect_punctuator.ensures.text ∙ same_text) c.in_ok-source.ensures.own) in
-    let span = c.span_from.ensures in
-    let tree = c.in_ok-node.ensures.0 ∙ (λ i. node ImportExpression [] plain (span i).start (span i).end (c.in_ok-nodes.ensures.made i)) in
+    let span = c.span_from-span.ensures in
+    let tree = c.in_ok-node.ensures.made.0 ∙ (λ i. node ImportExpression [] plain (span i).start (span i).end (c.one-nodes.ensures i)) in
     subst (λ r. OfLanguage s.text r.cover.node) (sym (c.plain.ensures ∙ ap (λ n. plain_part n Call Other) tree)) (of_node (λ b. refl) (of_part source of_none))
 
 pub import_call-returns-then-accept_punctuator-clause-derived : goal.import_call-returns-then-accept_punctuator-clause-derived
@@ -3772,7 +3820,7 @@ async_call-returns-in_err-parameters-clause-complete t c =
     let sign = c.if-sees_arrow.ensures.seen in
     async_unbound c.args.self.now.cursor c.open.new.self.cursor c.args.self.now.pairs.items c.open.new.self.pairs.items c.args.high c.saturating_sub-inner.result c.args.position c.args.token c.in_ok-list.list c.in_ok-list.ensures.listed c.open.ensures.text c.open.ensures.same_open c.open.ensures.same_pairs c.saturating_sub-inner.ensures c.in_ok-list.ensures.begun
     c.list.new.self.cursor c.list.new.self.pairs.items c.in_ok-list-2.list c.in_ok-list-2.ensures.same.0 c.in_ok-list-2.ensures.complete sign.0 (c.list.ensures.text ∙ c.open.ensures.text) sign.1 sign.2
-    c.list.new.self.cursor c.list.new.self.pairs.items c.from_residual-in_err-parameters.result c.in_err-parameters.field-0.0 (pattern_parts 0 c.in_ok-list-2.list.nodes) c.next_start.result c.from_residual-in_err-parameters.ensures.1 c.in_err-parameters.ensures.made
+    c.list.new.self.cursor c.list.new.self.pairs.items c.from_residual-in_err-parameters.result c.in_err-parameters.field-0.0 (pattern_parts 0 c.in_ok-list-2.list.nodes) c.next_start-at.result c.from_residual-in_err-parameters.ensures.1 c.in_err-parameters.ensures.made
 
 pub async_call-returns-then-sees_arrow-clause-derived : goal.async_call-returns-then-sees_arrow-clause-derived
 async_call-returns-then-sees_arrow-clause-derived t c =
@@ -3814,14 +3862,14 @@ pub arrow_of_name-returns-clause-derived : goal.arrow_of_name-returns-clause-der
 arrow_of_name-returns-clause-derived t c =
     let s = c.args.self.now in
     let e = c.arrow_function.new.self in
-    let parts = c.in_ok-push.ensures.pushed ∙ ap (λ ps. push ps c.args.parameter) c.new-parameters.ensures in
+    let parts = c.one-parameters.ensures in
     subst (λ ps. IfOk c.arrow_function.result (λ made. Adds s.cursor e.cursor s.pairs.items e.pairs.items (ArrowAt s.cursor.text c.args.form c.args.has_in ps c.args.start made))) parts c.arrow_function.ensures.derived
 
 pub arrow_of_name-returns-clause-complete : goal.arrow_of_name-returns-clause-complete
 arrow_of_name-returns-clause-complete t c =
     let s = c.args.self.now in
     let e = c.arrow_function.new.self in
-    let parts = c.in_ok-push.ensures.pushed ∙ ap (λ ps. push ps c.args.parameter) c.new-parameters.ensures in
+    let parts = c.one-parameters.ensures in
     subst (λ ps. ArrowComplete s.cursor e.cursor s.pairs.items e.pairs.items c.args.high ps c.args.start c.args.form c.args.has_in c.arrow_function.result) parts c.arrow_function.ensures.complete
 
 pub async_expression-function_form-requires : goal.async_expression-function_form-requires
@@ -3899,3 +3947,365 @@ async_expression-returns-else-sees_arrow-clause-complete t c =
       | async_expression-else-sees_arrow-via-then-sees_arrow+else-accepts_rank w ↦ absurd (false≢true (sym w.if-accepts_rank.false ∙ w.accepts_rank.ensures ∙ tk))
       | async_expression-else-sees_arrow-via-else-sees_arrow w ↦ absurd (false≢true (sym line ∙ w.if-sees_arrow.ensures.missed (behind_in s.text x) x sign))
     ]) c.in_ok-node-in-Name.ensures.made.0 c.plain-in-Name.ensures refl refl
+
+-- What waits behind what waited before.
+pub arguments-returns-clause-waits : goal.arguments-returns-clause-waits
+arguments-returns-clause-waits t c = c.in_ok-list-2.ensures.waits c.args.self.now.tree c.in_ok-list.ensures.waits
+
+pub arrow_function-returns-then-sees_punctuator-clause-waits : goal.arrow_function-returns-then-sees_punctuator-clause-waits
+arrow_function-returns-then-sees_punctuator-clause-waits t c = λ base h.
+    let first = c.expect_punctuator.ensures.same_tree ∙ h ∙ ap (λ b. join base b.nodes) (sym c.of-built.ensures) in
+    c.in_ok-node.ensures.waits base (c.in_ok-read_symbols.ensures.waits base first) ∙ ap (λ (p : Operand). push base p.cover.node) (sym c.plain.ensures)
+
+pub arrow_function-returns-clause-waits : goal.arrow_function-returns-clause-waits
+arrow_function-returns-clause-waits t c = λ base h.
+    let first = c.expect_punctuator.ensures.same_tree ∙ h ∙ ap (λ b. join base b.nodes) (sym c.of-built.ensures) in
+    let whole = waits_on base c.of-built.result.nodes c.in_ok-into_expression.field-0 first c.in_ok-body.ensures.waits c.in_ok-into_expression.ensures.settled.0 c.in_ok-push.ensures.pushed in
+    c.in_ok-node-2.ensures.waits base whole ∙ ap (λ (p : Operand). push base p.cover.node) (sym c.plain-2.ensures)
+
+pub arrow_of_name-returns-clause-waits : goal.arrow_of_name-returns-clause-waits
+arrow_of_name-returns-clause-waits t c = λ base h. c.arrow_function.ensures.waits base (waits_one base h c.one-parameters.ensures)
+
+pub async_call-returns-then-sees_arrow-clause-waits : goal.async_call-returns-then-sees_arrow-clause-waits
+async_call-returns-then-sees_arrow-clause-waits t c =
+    let old = c.args.self.now.tree in
+    c.arrow_function.ensures.waits old (c.in_ok-parameters.ensures.waits old (c.in_ok-list-2.ensures.waits old c.in_ok-list.ensures.waits))
+
+pub async_call-returns-clause-waits : goal.async_call-returns-clause-waits
+async_call-returns-clause-waits t c = let old = c.args.self.now.tree in c.call_of_async.ensures.waits old (c.in_ok-list-2.ensures.waits old c.in_ok-list.ensures.waits)
+
+pub async_expression-returns-in_ok-node-in-Function-clause-waits : goal.async_expression-returns-in_ok-node-in-Function-clause-waits
+async_expression-returns-in_ok-node-in-Function-clause-waits t c =
+    c.in_ok-node-in-Function.ensures.waits ∙ ap (λ ps. push ps c.in_ok-node-in-Function.node) c.function_form.ensures.same_tree ∙ ap (λ (p : Operand). push c.args.self.now.tree p.cover.node) (sym c.plain.ensures)
+
+pub async_expression-returns-in_ok-parameter-in-Parameter-clause-waits : goal.async_expression-returns-in_ok-parameter-in-Parameter-clause-waits
+async_expression-returns-in_ok-parameter-in-Parameter-clause-waits t c =
+    c.arrow_of_name.ensures.waits c.args.self.now.tree (c.in_ok-parameter-in-Parameter.ensures.waits ∙ ap (λ ps. push ps c.in_ok-parameter-in-Parameter.parameter) c.identifier.ensures.same_tree)
+
+pub async_expression-returns-then-accepts_rank-clause-waits : goal.async_expression-returns-then-accepts_rank-clause-waits
+async_expression-returns-then-accepts_rank-clause-waits t c = c.arrow_of_name-then-accepts_rank.ensures.waits c.args.self.now.tree c.in_ok-node-in-Name.ensures.waits
+
+pub async_expression-returns-else-sees_arrow-clause-waits : goal.async_expression-returns-else-sees_arrow-clause-waits
+async_expression-returns-else-sees_arrow-clause-waits t c = c.in_ok-node-in-Name.ensures.waits ∙ ap (λ (p : Operand). push c.args.self.now.tree p.cover.node) (sym c.plain-in-Name.ensures)
+
+pub binary_rest-returns-clause-waits : goal.binary_rest-returns-clause-waits
+binary_rest-returns-clause-waits t c = λ base h.
+    let first = waits_one base (c.advance.ensures.same_tree ∙ c.in_ok-left.ensures.waits base h) c.one-nodes.ensures in
+    let before : c.match-next.self.tree ≡ join base c.match-next.nodes = elim c.match-next.branch [
+      | binary_rest-in-Question+in_ok-part+in_ok-into_expression+in_ok-push+in_ok-expect_punctuator w ↦
+          ap (λ k. k.tree) w.self-is ∙ w.expect_punctuator.ensures.same_tree
+          ∙ waits_on base c.one-nodes.result w.in_ok-into_expression.field-0 first w.in_ok-part.ensures.waits w.in_ok-into_expression.ensures.settled.0 (w.nodes-is ∙ w.in_ok-push.ensures.pushed)
+      | binary_rest-in_default w ↦ ap (λ k. k.tree) w.self-is ∙ first ∙ ap (join base) (sym w.nodes-is)
+    ] in
+    c.in_ok-node.ensures.waits base (waits_on base c.match-next.nodes c.in_ok-into_expression-2.field-0 before c.in_ok-right.ensures.waits c.in_ok-into_expression-2.ensures.settled.0 c.in_ok-push-2.ensures.pushed)
+
+pub bracketed_list-returns-clause-waits : goal.bracketed_list-returns-clause-waits
+bracketed_list-returns-clause-waits t c = let old = c.args.self.now.tree in c.finish_list.ensures.waits old (c.in_ok-list-2.ensures.waits old c.in_ok-list.ensures.waits)
+
+pub call_expression-returns-clause-waits : goal.call_expression-returns-clause-waits
+call_expression-returns-clause-waits t c = λ base h.
+    let first = waits_first base h c.in_ok-callee.ensures.settled.0 c.one-nodes.ensures in
+    let whole = waits_join base c.one-nodes.result c.in_ok-arguments.arguments first c.in_ok-arguments.ensures.waits c.in_ok-append.ensures.joined in
+    c.in_ok-node.ensures.waits base whole ∙ ap (λ (p : Operand). push base p.cover.node) (sym c.plain.ensures)
+
+pub declarator-returns-clause-waits : goal.declarator-returns-clause-waits
+declarator-returns-clause-waits t c =
+    let old = c.args.self.now.tree in
+    let first = waits_one old (c.in_ok-name.ensures.waits old c.in_ok-part.ensures.waits) c.one-nodes.ensures in
+    let equals = c.accept_punctuator-has_value.ensures.same_tree in
+    let whole : c.if-has_value.self.tree ≡ join old c.if-has_value.nodes = elim c.if-has_value.branch [
+      | declarator-then-has_value+in_ok-value+in_ok-into_expression+in_ok-push w ↦
+          ap (λ v. v.tree) w.self-is ∙ waits_on old c.one-nodes.result w.in_ok-into_expression.field-0 (equals ∙ first) w.in_ok-value.ensures.waits w.in_ok-into_expression.ensures.settled.0 (w.nodes-is ∙ w.in_ok-push.ensures.pushed)
+      | declarator-else-has_value+in_ok-push_gap w ↦
+          ap (λ v. v.tree) w.self-is ∙ waits_gap old c.one-nodes.result (equals ∙ first) w.in_ok-push_gap.ensures.waits (w.nodes-is ∙ w.in_ok-push_gap.ensures.pushed)
+    ] in
+    c.in_ok-node.ensures.waits old whole ∙ ap (λ (i : ListItem). push old i.node) (sym c.plain-item.ensures)
+
+pub field-returns-clause-waits : goal.field-returns-clause-waits
+field-returns-clause-waits t c = λ base h.
+    let first = waits_one base h c.one-nodes.ensures in
+    let equals = c.accept_punctuator.ensures.same_tree in
+    let whole : c.if-accept_punctuator.self.tree ≡ join base c.if-accept_punctuator.nodes = elim c.if-accept_punctuator.branch [
+      | field-then-accept_punctuator+in_ok-value+in_ok-into_expression+in_ok-push w ↦
+          ap (λ v. v.tree) w.self-is ∙ waits_on base c.one-nodes.result w.in_ok-into_expression.field-0 (equals ∙ first) w.in_ok-value.ensures.waits w.in_ok-into_expression.ensures.settled.0 (w.nodes-is ∙ w.in_ok-push.ensures.pushed)
+      | field-else-accept_punctuator+in_ok-push_gap w ↦
+          ap (λ v. v.tree) w.self-is ∙ waits_gap base c.one-nodes.result (equals ∙ first) w.in_ok-push_gap.ensures.waits (w.nodes-is ∙ w.in_ok-push_gap.ensures.pushed)
+    ] in
+    c.in_ok-node.ensures.waits base whole ∙ ap (λ (i : ListItem). push base i.node) (sym c.plain.ensures)
+
+pub for_await-returns-clause-waits : goal.for_await-returns-clause-waits
+for_await-returns-clause-waits t c =
+    let old = c.args.self.now.tree in
+    c.finish_node.ensures.waits old (c.in_ok-read_symbols-2.ensures.waits old (c.in_ok-read_symbols.ensures.waits old (waits_none (ap (λ d. d.nodes) c.new-built.ensures))))
+
+pub function_or_class-returns-clause-waits : goal.function_or_class-returns-clause-waits
+function_or_class-returns-clause-waits t c =
+    let old = c.args.self.now.tree in
+    c.finish_node.ensures.waits old (c.in_ok-read_symbols.ensures.waits old (c.in_ok-function_or_class_name.ensures.waits ∙ ap (λ b. join old b.nodes) (sym c.of-built.ensures)))
+
+pub import_call-returns-then-accept_punctuator-clause-waits : goal.import_call-returns-then-accept_punctuator-clause-waits
+import_call-returns-then-accept_punctuator-clause-waits t c = waits_behind _ (λ (p : Operand). p.cover.node) c.meta_property.result c.accept_punctuator.ensures.same_tree c.meta_property.ensures.waits
+
+pub import_call-returns-clause-waits : goal.import_call-returns-clause-waits
+import_call-returns-clause-waits t c =
+    let old = c.args.self.now.tree in
+    let same : c.else-is_of_2022.self.tree ≡ old = elim c.else-is_of_2022.branch [
+      | import_call-else-is_of_2022-via-then-is_of_2022+else-accept_punctuator w ↦ ap (λ (v : Parser). v.tree) w.self-is ∙ w.accept_punctuator.ensures.same_tree
+      | import_call-else-is_of_2022-via-else-is_of_2022 w ↦ ap (λ (v : Parser). v.tree) w.self-is
+    ] in
+    let read = c.in_ok-source.ensures.waits ∙ ap (λ ps. push ps c.in_ok-source.source.cover.node) (c.expect_punctuator.ensures.same_tree ∙ same) in
+    let whole = c.expect_punctuator-2.ensures.same_tree ∙ waits_first old read c.in_ok-into_expression.ensures.settled.0 c.one-nodes.ensures in
+    c.in_ok-node.ensures.waits old whole ∙ ap (λ (p : Operand). push old p.cover.node) (sym c.plain.ensures)
+
+pub index_member-returns-clause-waits : goal.index_member-returns-clause-waits
+index_member-returns-clause-waits t c = λ base h.
+    let first = waits_first base h c.in_ok-into_expression.ensures.settled.0 c.one-nodes.ensures in
+    let whole = waits_on base c.one-nodes.result c.in_ok-into_expression-2.field-0 (c.expect_punctuator.ensures.same_tree ∙ first) c.in_ok-index.ensures.waits c.in_ok-into_expression-2.ensures.settled.0 c.in_ok-push.ensures.pushed in
+    c.in_ok-node.ensures.waits base (c.expect_punctuator-2.ensures.same_tree ∙ whole) ∙ ap (λ (p : Operand). push base p.cover.node) (sym c.plain.ensures)
+
+pub item-returns-in-Elements-clause-waits : goal.item-returns-in-Elements-clause-waits
+item-returns-in-Elements-clause-waits t c = λ base h. hole_waits _ _ _ base c.args.list.now h c.push_hole.result c.push_hole.ensures.waits c.push_hole.ensures.pushed
+
+pub item-returns-in_ok-item-in_default-clause-waits : goal.item-returns-in_ok-item-in_default-clause-waits
+item-returns-in_ok-item-in_default-clause-waits t c = λ base h.
+    item_waits _ _ base c.args.list.now c.in_ok-item-in_default.item h (c.in_ok-item-in_default.ensures.waits c.args.self.now.tree c.in_ok-part-in_default.ensures.waits) c.push.result c.push.ensures.pushed
+
+pub list-returns-clause-waits : goal.list-returns-clause-waits
+list-returns-clause-waits t c = λ base h.
+    let items : c.items-test.self.tree ≡ join base c.items-test.list.nodes = elim c.items-test.branch [
+      | list-else-items-test w ↦ ap (λ v. v.tree) w.self-is ∙ c.has_item.ensures.same_tree ∙ c.items.invariant.waits base h ∙ ap (λ (l : ListBuilder). join base l.nodes) (sym w.list-is)
+      | list-then-items-test+in_ok-item+then-not-is_separated w ↦
+          let k2 : ListBuilder = record w.item.new.list { inside = w.span_from-list-in-items.result } in
+          ap (λ v. v.tree) w.self-is ∙ w.is_separated.ensures.same_tree ∙ w.in_ok-item.ensures.waits base (c.has_item.ensures.same_tree ∙ c.items.invariant.waits base h)
+          ∙ ap (join base) (sym (ap (λ (l : ListBuilder). l.nodes) (w.list-is ∙ w.is_separated.ensures.separated) ∙ after_nodes k2 w.is_separated.result))
+    ] in
+    let closed : c.match-closer.self.tree ≡ c.items-test.self.tree = elim c.match-closer.branch [
+      | list-in-Some+in_ok-expect_punctuator w ↦ ap (λ v. v.tree) w.self-is ∙ w.expect_punctuator.ensures.same_tree
+      | list-in_default-closer w ↦ ap (λ v. v.tree) w.self-is
+    ] in
+    closed ∙ items
+
+pub new_expression-returns-then-accept_punctuator-clause-waits : goal.new_expression-returns-then-accept_punctuator-clause-waits
+new_expression-returns-then-accept_punctuator-clause-waits t c = waits_behind _ (λ (p : Operand). p.cover.node) c.meta_property.result c.accept_punctuator.ensures.same_tree c.meta_property.ensures.waits
+
+pub new_expression-returns-clause-waits : goal.new_expression-returns-clause-waits
+new_expression-returns-clause-waits t c =
+    let old = c.args.self.now.tree in
+    let read = c.in_ok-callee.ensures.waits ∙ ap (λ ps. push ps c.in_ok-callee.callee.cover.node) c.accept_punctuator.ensures.same_tree in
+    let first = waits_first old read c.in_ok-into_expression.ensures.settled.0 c.one-nodes.ensures in
+    let whole : c.if-sees_punctuator.self.tree ≡ join old c.if-sees_punctuator.nodes = elim c.if-sees_punctuator.branch [
+      | new_expression-then-sees_punctuator+in_ok-arguments+in_ok-append w ↦ ap (λ v. v.tree) w.self-is ∙ waits_join old c.one-nodes.result w.in_ok-arguments.field-0 first w.in_ok-arguments.ensures.waits (w.nodes-is ∙ w.in_ok-append.ensures.joined)
+      | new_expression-else-sees_punctuator w ↦ ap (λ v. v.tree) w.self-is ∙ first ∙ ap (join old) (sym w.nodes-is)
+    ] in
+    c.in_ok-node.ensures.waits old whole ∙ ap (λ (p : Operand). push old p.cover.node) (sym c.plain.ensures)
+
+pub optional_chain-returns-clause-waits : goal.optional_chain-returns-clause-waits
+optional_chain-returns-clause-waits t c = λ base h.
+    let whole = waits_first base (c.links.invariant.waits base h) c.in_ok-into_expression.ensures.settled.0 c.one-nodes.ensures in
+    c.in_ok-node.ensures.waits base whole ∙ ap (λ (p : Operand). push base p.cover.node) (sym c.plain.ensures)
+
+pub other_subscript-returns-clause-waits : goal.other_subscript-returns-clause-waits
+other_subscript-returns-clause-waits t c = λ base h.
+    let first = c.subscript_start.ensures.same_tree ∙ waits_first base h c.in_ok-into_expression.ensures.settled.0 c.one-nodes.ensures in
+    let whole : c.match-found.self.tree ≡ join base c.match-found.nodes = elim c.match-found.branch [
+      | other_subscript-in-Name+in_ok-name-in-Name+in_ok-token_node-in-Name+in_ok-push-in-Name w ↦
+          ap (λ v. v.tree) w.self-is ∙ waits_push base c.one-nodes.result w.in_ok-token_node-in-Name.field-0 (w.member_name.ensures.same_tree ∙ first) w.in_ok-token_node-in-Name.ensures.waits (w.nodes-is ∙ w.in_ok-push-in-Name.ensures.pushed)
+      | other_subscript-in-Index+in_ok-expect_punctuator-in-Index+in_ok-index-in-Index+in_ok-into_expression-in-Index+in_ok-push-in-Index+in_ok-expect_punctuator-in-Index-2 w ↦
+          ap (λ v. v.tree) w.self-is ∙ w.expect_punctuator-in-Index.ensures.same_tree
+          ∙ waits_on base c.one-nodes.result w.in_ok-into_expression-in-Index.field-0 (w.expect_punctuator.ensures.same_tree ∙ first) w.in_ok-index-in-Index.ensures.waits w.in_ok-into_expression-in-Index.ensures.settled.0 (w.nodes-is ∙ w.in_ok-push-in-Index.ensures.pushed)
+      | other_subscript-in-Arguments+in_ok-arguments-in-Arguments+in_ok-append-in-Arguments w ↦
+          ap (λ v. v.tree) w.self-is ∙ waits_join base c.one-nodes.result w.in_ok-arguments-in-Arguments.field-0 first w.in_ok-arguments-in-Arguments.ensures.waits (w.nodes-is ∙ w.in_ok-append-in-Arguments.ensures.joined)
+      | other_subscript-in-Quasi+in_ok-list-in-Quasi+in_ok-list-in-Quasi-2+in_ok-finish_list-in-Quasi+in_ok-push-in-Quasi w ↦
+          let old = c.subscript_start.new.self.tree in
+          ap (λ v. v.tree) w.self-is ∙ waits_push base c.one-nodes.result w.in_ok-finish_list-in-Quasi.field-0.cover.node first (w.in_ok-finish_list-in-Quasi.ensures.waits old (w.in_ok-list-in-Quasi-2.ensures.waits old w.in_ok-list-in-Quasi.ensures.waits)) (w.nodes-is ∙ w.in_ok-push-in-Quasi.ensures.pushed)
+    ] in
+    c.in_ok-node.ensures.waits base whole ∙ ap (λ (p : Operand). push base p.cover.node) (sym c.plain.ensures)
+
+pub parenthesized-returns-then-accepts_rank-clause-waits : goal.parenthesized-returns-then-accepts_rank-clause-waits
+parenthesized-returns-then-accepts_rank-clause-waits t c =
+    let old = c.args.self.now.tree in
+    let opened = c.in_ok-list.ensures.waits ∙ ap (λ ps. join ps c.in_ok-list.list.nodes) c.enter.ensures.same_tree in
+    c.arrow_function.ensures.waits old (c.in_ok-parameters.ensures.waits old (c.leave-at.ensures.same_tree ∙ c.in_ok-list-2.ensures.waits old opened))
+
+pub parenthesized-returns-clause-waits : goal.parenthesized-returns-clause-waits
+parenthesized-returns-clause-waits t c =
+    let old = c.args.self.now.tree in
+    let opened = c.in_ok-list.ensures.waits ∙ ap (λ ps. join ps c.in_ok-list.list.nodes) c.enter.ensures.same_tree in
+    c.finish_group.ensures.waits old (c.close_pair.ensures.same_tree ∙ c.leave-at.ensures.same_tree ∙ c.in_ok-list-2.ensures.waits old opened)
+
+pub prefix_expression-returns-clause-waits : goal.prefix_expression-returns-clause-waits
+prefix_expression-returns-clause-waits t c =
+    c.prefix_operand.ensures.waits c.args.self.now.tree (c.in_ok-operand.ensures.waits ∙ ap (λ ps. push ps c.in_ok-operand.operand.cover.node) c.advance.ensures.same_tree)
+
+pub private_in-returns-clause-waits : goal.private_in-returns-clause-waits
+private_in-returns-clause-waits t c =
+    let old = c.args.self.now.tree in
+    let n = c.in_ok-into_expression.field-0 in
+    let right = c.in_ok-right.ensures.waits ∙ (λ i. push ((c.expect_word.ensures.same_tree ∙ c.in_ok-left.ensures.waits) i) (sym c.in_ok-into_expression.ensures.settled.0 i)) in
+    c.in_ok-node.ensures.waits old (waits_two old right c.two-nodes.ensures) ∙ ap (λ (p : Operand). push old p.cover.node) (sym c.plain.ensures)
+
+pub property_name-returns-in-Some-clause-waits : goal.property_name-returns-in-Some-clause-waits
+property_name-returns-in-Some-clause-waits t c = c.in_ok-key.ensures.waits ∙ ap (λ ps. push ps c.in_ok-key.key.node) c.modifiers-modifiers.ensures.same_tree
+
+pub property_name-returns-then-not-accept_punctuator-clause-waits : goal.property_name-returns-then-not-accept_punctuator-clause-waits
+property_name-returns-then-not-accept_punctuator-clause-waits t c = c.in_ok-key-2.ensures.waits ∙ ap (λ ps. push ps c.in_ok-key-2.key.node) (c.accept_punctuator.ensures.same_tree ∙ c.modifiers-modifiers.ensures.same_tree)
+
+pub property_name-returns-clause-waits : goal.property_name-returns-clause-waits
+property_name-returns-clause-waits t c =
+    let before = c.accept_punctuator.ensures.same_tree ∙ c.modifiers-modifiers.ensures.same_tree in
+    c.expect_punctuator.ensures.same_tree ∙ c.in_ok-part.ensures.waits ∙ (λ i. push (before i) (sym c.in_ok-node.ensures.settled.0 i))
+
+pub special_item-returns-in_ok-item-in-Properties-clause-waits : goal.special_item-returns-in_ok-item-in-Properties-clause-waits
+special_item-returns-in_ok-item-in-Properties-clause-waits t c = λ base h. item_waits _ _ base c.args.list.now c.in_ok-item-in-Properties.item h c.in_ok-item-in-Properties.ensures.waits c.push.result c.push.ensures.pushed
+
+pub special_item-returns-in_ok-item-in-Members-clause-waits : goal.special_item-returns-in_ok-item-in-Members-clause-waits
+special_item-returns-in_ok-item-in-Members-clause-waits t c = λ base h. item_waits _ _ base c.args.list.now c.in_ok-item-in-Members.item h c.in_ok-item-in-Members.ensures.waits c.push-in-Members.result c.push-in-Members.ensures.pushed
+
+pub special_item-returns-in_ok-item-in-Declarators-clause-waits : goal.special_item-returns-in_ok-item-in-Declarators-clause-waits
+special_item-returns-in_ok-item-in-Declarators-clause-waits t c = λ base h. item_waits _ _ base c.args.list.now c.in_ok-item-in-Declarators.item h c.in_ok-item-in-Declarators.ensures.waits c.push-in-Declarators.result c.push-in-Declarators.ensures.pushed
+
+pub special_item-returns-in_ok-item-in-Sequence-clause-waits : goal.special_item-returns-in_ok-item-in-Sequence-clause-waits
+special_item-returns-in_ok-item-in-Sequence-clause-waits t c = λ base h.
+    item_waits _ _ base c.args.list.now c.in_ok-item-in-Sequence.item h (c.in_ok-item-in-Sequence.ensures.waits c.args.self.now.tree c.in_ok-part-in-Sequence.ensures.waits) c.push-in-Sequence.result c.push-in-Sequence.ensures.pushed
+
+pub special_item-returns-in_ok-next_template_element-in-Template-clause-waits : goal.special_item-returns-in_ok-next_template_element-in-Template-clause-waits
+special_item-returns-in_ok-next_template_element-in-Template-clause-waits t c = λ base h.
+    let item = ap (λ (l : ListBuilder). l.nodes) c.in_ok-push-in-Template.ensures.pushed ∙ ap (λ (i : ListItem). push c.args.list.now.nodes i.node) c.plain.ensures in
+    let first = waits_on base c.args.list.now.nodes c.in_ok-into_expression-in-Template.field-0 h c.in_ok-part-in-Template.ensures.waits c.in_ok-into_expression-in-Template.ensures.settled.0 item in
+    item_waits _ _ base c.push-in-Template.new.self c.in_ok-next_template_element-in-Template.field-0 first c.in_ok-next_template_element-in-Template.ensures.waits c.push-in-Template-2.result c.push-in-Template-2.ensures.pushed
+
+pub special_item-returns-in_ok-finish_plain-in-Cases-clause-waits : goal.special_item-returns-in_ok-finish_plain-in-Cases-clause-waits
+special_item-returns-in_ok-finish_plain-in-Cases-clause-waits t c = λ base h.
+    let old = c.args.self.now.tree in
+    let none = c.is_default.ensures.same_tree ∙ waits_none (ap (λ x. x.nodes) c.new-built.ensures) in
+    let first : c.if-is_default.self.tree ≡ join old c.if-is_default.built.nodes = elim c.if-is_default.branch [
+      | special_item-then-is_default+in_ok-push_gap-in-Cases w ↦ ap (λ v. v.tree) w.self-is ∙ waits_gap old c.new-built.result.nodes none w.in_ok-push_gap-in-Cases.ensures.waits (ap (λ x. x.nodes) w.built-is ∙ w.in_ok-push_gap-in-Cases.ensures.pushed)
+      | special_item-else-is_default w ↦ ap (λ v. v.tree) w.self-is ∙ none ∙ ap (λ x. join old x.nodes) (sym w.built-is)
+    ] in
+    let case = c.in_ok-finish_plain-in-Cases.ensures.waits old (c.in_ok-read_symbols-in-Cases.ensures.waits old first) in
+    item_waits _ _ base c.args.list.now (record c.plain-item.result { is_flagged = c.in_ok-is_default-in-Cases.is_default }) h (case ∙ ap (λ (i : ListItem). push old i.node) (sym c.plain-item.ensures)) c.push-in-Cases.result c.push-in-Cases.ensures.pushed
+
+pub spread_item-returns-clause-waits : goal.spread_item-returns-clause-waits
+spread_item-returns-clause-waits t c = λ base h.
+    item_waits _ _ base c.args.list.now c.in_ok-item.item (c.expect_punctuator.ensures.same_tree ∙ h) (c.in_ok-item.ensures.waits c.expect_punctuator.new.self.tree c.in_ok-part.ensures.waits) c.push.result c.push.ensures.pushed
+
+pub statement-returns-then-not-is_label-clause-waits : goal.statement-returns-then-not-is_label-clause-waits
+statement-returns-then-not-is_label-clause-waits t c = c.expression_statement.ensures.waits c.args.self.now.tree c.in_ok-part-in-Expression.ensures.waits
+
+pub statement-returns-in-FunctionOrClass-clause-waits : goal.statement-returns-in-FunctionOrClass-clause-waits
+statement-returns-in-FunctionOrClass-clause-waits t c =
+    waits_behind _ (λ n. n) c.function_or_class.result (c.function_words.ensures.same_tree ∙ c.advance-in-FunctionOrClass.ensures.same_tree) c.function_or_class.ensures.waits
+
+pub statement-returns-then-sees_await-clause-waits : goal.statement-returns-then-sees_await-clause-waits
+statement-returns-then-sees_await-clause-waits t c = waits_behind _ (λ n. n) c.for_await.result c.advance.ensures.same_tree c.for_await.ensures.waits
+
+pub statement-returns-clause-waits : goal.statement-returns-clause-waits
+statement-returns-clause-waits t c =
+    let old = c.args.self.now.tree in
+    let none = waits_none (ap (λ d. d.nodes) c.new-built.ensures) in
+    let first : c.match-beginning.self.tree ≡ join old c.match-beginning.built.nodes = elim c.match-beginning.branch [
+      | statement-in-OfKind+else-eq w ↦ ap (λ v. v.tree) w.self-is ∙ w.advance.ensures.same_tree ∙ none ∙ ap (λ d. join old d.nodes) (sym w.built-is)
+      | statement-in-Expression+in_ok-part-in-Expression+else-not-is_label+in_ok-push-in-Expression w ↦
+          ap (λ v. v.tree) w.self-is ∙ waits_push old c.new-built.result.nodes w.in_ok-part-in-Expression.part.cover.node none w.in_ok-part-in-Expression.ensures.waits (ap (λ d. d.nodes) w.built-is ∙ w.in_ok-push-in-Expression.ensures.pushed)
+    ] in
+    let second = c.in_ok-read_symbols.ensures.waits old first in
+    let third : c.if-eq-2.self.tree ≡ join old c.if-eq-2.built.nodes = elim c.if-eq-2.branch [
+      | statement-then-eq-2+in_ok-what+in_ok-read_symbols-2 w ↦ ap (λ v. v.tree) w.self-is ∙ w.in_ok-read_symbols-2.ensures.waits old second ∙ ap (λ k. join old k.nodes) (sym w.built-is)
+      | statement-else-eq-2 w ↦ ap (λ v. v.tree) w.self-is ∙ second ∙ ap (λ k. join old k.nodes) (sym w.built-is)
+    ] in
+    c.finish_node.ensures.waits old third
+
+pub static_block-returns-clause-waits : goal.static_block-returns-clause-waits
+static_block-returns-clause-waits t c =
+    let old = c.args.self.now.tree in
+    let items = c.in_ok-items.ensures.waits ∙ ap (λ ps. join ps c.in_ok-items.items) (c.expect_punctuator.ensures.same_tree ∙ c.expect_word.ensures.same_tree) in
+    c.in_ok-node.ensures.waits old (c.expect_punctuator-2.ensures.same_tree ∙ items) ∙ ap (λ (i : ListItem). push old i.node) (sym c.plain.ensures)
+
+pub super_expression-returns-clause-waits : goal.super_expression-returns-clause-waits
+super_expression-returns-clause-waits t c = c.subscript.ensures.waits c.args.self.now.tree (c.in_ok-node.ensures.waits ∙ ap (λ (p : Operand). push c.args.self.now.tree p.cover.node) (sym c.plain.ensures))
+
+pub one_token-returns-then-accepts_rank-clause-waits : goal.one_token-returns-then-accepts_rank-clause-waits
+one_token-returns-then-accepts_rank-clause-waits t c =
+    let old = c.args.self.now.tree in
+    c.arrow_function.ensures.waits old (waits_one old (c.in_ok-node.ensures.waits ∙ ap (λ ps. push ps c.in_ok-node.node) c.advance.ensures.same_tree) c.one-parameter.ensures)
+
+pub one_token-returns-clause-waits : goal.one_token-returns-clause-waits
+one_token-returns-clause-waits t c =
+    let old = c.args.self.now.tree in
+    c.in_ok-node.ensures.waits ∙ ap (λ ps. push ps c.in_ok-node.node) c.advance.ensures.same_tree ∙ ap (λ (p : Operand). push old p.cover.node) (sym c.plain.ensures)
+
+pub update_or_comma-returns-in_ok-node-in-PostUpdate-clause-waits : goal.update_or_comma-returns-in_ok-node-in-PostUpdate-clause-waits
+update_or_comma-returns-in_ok-node-in-PostUpdate-clause-waits t c = λ base h.
+    let whole = waits_one base (c.advance.ensures.same_tree ∙ c.in_ok-operand-in-PostUpdate.ensures.waits base h) c.one-nodes.ensures in
+    c.in_ok-node-in-PostUpdate.ensures.waits base whole ∙ ap (λ (p : Operand). push base p.cover.node) (sym c.plain.ensures)
+
+pub update_or_comma-returns-in_ok-node-in-Comma-clause-waits : goal.update_or_comma-returns-in_ok-node-in-Comma-clause-waits
+update_or_comma-returns-in_ok-node-in-Comma-clause-waits t c = λ base h.
+    let first = c.advance-in-Comma.ensures.same_tree ∙ waits_one base h (ap (λ (l : ListBuilder). l.nodes) c.in_ok-list-in-Comma.ensures.begun.0) in
+    c.in_ok-node-in-Comma.ensures.waits base (c.in_ok-list-in-Comma-2.ensures.waits base first) ∙ ap (λ (p : Operand). push base p.cover.node) (sym c.plain-in-Comma.ensures)
+
+pub yield_expression-returns-then-sees_no_operand-clause-waits : goal.yield_expression-returns-then-sees_no_operand-clause-waits
+yield_expression-returns-then-sees_no_operand-clause-waits t c =
+    let old = c.args.self.now.tree in
+    let whole = waits_gap old c.new-nodes.result (waits_none c.new-nodes.ensures) c.in_ok-push_gap.ensures.waits c.in_ok-push_gap.ensures.pushed in
+    c.in_ok-node.ensures.waits old whole ∙ ap (λ (p : Operand). push old p.cover.node) (sym c.plain.ensures)
+
+pub yield_expression-returns-clause-waits : goal.yield_expression-returns-clause-waits
+yield_expression-returns-clause-waits t c =
+    let old = c.args.self.now.tree in
+    let first = c.starred-flags.ensures.same_tree ∙ waits_none c.new-nodes.ensures in
+    let whole = waits_on old c.new-nodes.result c.in_ok-into_expression.field-0 first c.in_ok-operand.ensures.waits c.in_ok-into_expression.ensures.settled.0 c.in_ok-push.ensures.pushed in
+    c.in_ok-node-2.ensures.waits old whole ∙ ap (λ (p : Operand). push old p.cover.node) (sym c.plain-2.ensures)
+
+pub keyword_expression-returns-in_ok-node-in-Function-clause-waits : goal.keyword_expression-returns-in_ok-node-in-Function-clause-waits
+keyword_expression-returns-in_ok-node-in-Function-clause-waits t c =
+    c.in_ok-node-in-Function.ensures.waits ∙ ap (λ ps. push ps c.in_ok-node-in-Function.node) c.starred.ensures.same_tree ∙ ap (λ (p : Operand). push c.args.self.now.tree p.cover.node) (sym c.plain.ensures)
+
+pub keyword_expression-returns-in_ok-node-in-Class-clause-waits : goal.keyword_expression-returns-in_ok-node-in-Class-clause-waits
+keyword_expression-returns-in_ok-node-in-Class-clause-waits t c = c.in_ok-node-in-Class.ensures.waits ∙ ap (λ (p : Operand). push c.args.self.now.tree p.cover.node) (sym c.plain-in-Class.ensures)
+
+pub property_or_member-returns-then-accept_punctuator-clause-waits : goal.property_or_member-returns-then-accept_punctuator-clause-waits
+property_or_member-returns-then-accept_punctuator-clause-waits t c =
+    c.in_ok-item.ensures.waits c.accept_punctuator.new.self.tree c.in_ok-argument.ensures.waits ∙ ap (λ ps. push ps c.in_ok-item.item.node) c.accept_punctuator.ensures.same_tree
+
+pub property_or_member-returns-then-begins_static_block-clause-waits : goal.property_or_member-returns-then-begins_static_block-clause-waits
+property_or_member-returns-then-begins_static_block-clause-waits t c =
+    let here = c.else-not-in_class.self.tree in
+    let same : here ≡ c.args.self.now.tree = elim c.else-not-in_class.branch [ property_or_member-else-not-in_class-via-then-not-in_class+else-accept_punctuator w ↦ ap (λ v. v.tree) w.self-is ∙ w.accept_punctuator.ensures.same_tree | property_or_member-else-not-in_class-via-else-not-in_class w ↦ ap (λ v. v.tree) w.self-is ] in
+    waits_behind _ (λ (i : ListItem). i.node) c.static_block.result same c.static_block.ensures.waits
+
+pub property_or_member-returns-in-true-clause-waits : goal.property_or_member-returns-in-true-clause-waits
+property_or_member-returns-in-true-clause-waits t c =
+    let here = c.else-not-in_class.self.tree in
+    let same : here ≡ c.args.self.now.tree = elim c.else-not-in_class.branch [ property_or_member-else-not-in_class-via-then-not-in_class+else-accept_punctuator w ↦ ap (λ v. v.tree) w.self-is ∙ w.accept_punctuator.ensures.same_tree | property_or_member-else-not-in_class-via-else-not-in_class w ↦ ap (λ v. v.tree) w.self-is ] in
+    waits_behind _ (λ (i : ListItem). i.node) c.field.result same (c.field.ensures.waits here c.in_ok-modifiers.ensures.waits)
+
+pub property_or_member-returns-in-false-clause-waits : goal.property_or_member-returns-in-false-clause-waits
+property_or_member-returns-in-false-clause-waits t c =
+    let here = c.else-not-in_class.self.tree in
+    let same : here ≡ c.args.self.now.tree = elim c.else-not-in_class.branch [ property_or_member-else-not-in_class-via-then-not-in_class+else-accept_punctuator w ↦ ap (λ v. v.tree) w.self-is ∙ w.accept_punctuator.ensures.same_tree | property_or_member-else-not-in_class-via-else-not-in_class w ↦ ap (λ v. v.tree) w.self-is ] in
+    waits_behind _ (λ (i : ListItem). i.node) c.property_value.result same (c.property_value.ensures.waits here c.in_ok-modifiers.ensures.waits)
+
+pub property_or_member-returns-clause-waits : goal.property_or_member-returns-clause-waits
+property_or_member-returns-clause-waits t c =
+    let here = c.else-not-in_class.self.tree in
+    let same : here ≡ c.args.self.now.tree = elim c.else-not-in_class.branch [ property_or_member-else-not-in_class-via-then-not-in_class+else-accept_punctuator w ↦ ap (λ v. v.tree) w.self-is ∙ w.accept_punctuator.ensures.same_tree | property_or_member-else-not-in_class-via-else-not-in_class w ↦ ap (λ v. v.tree) w.self-is ] in
+    let whole = waits_two here (c.in_ok-function.ensures.waits ∙ ap (λ ps. push ps c.in_ok-function.function) c.in_ok-modifiers.ensures.waits) c.two-nodes.ensures in
+    c.in_ok-node.ensures.waits here whole ∙ ap (λ ps. push ps c.in_ok-node.node) same ∙ ap (λ (i : ListItem). push c.args.self.now.tree i.node) (sym c.plain.ensures)
+
+pub property_value-returns-then-accept_punctuator-clause-waits : goal.property_value-returns-then-accept_punctuator-clause-waits
+property_value-returns-then-accept_punctuator-clause-waits t c = λ base h.
+    let whole = waits_two base (c.in_ok-value.ensures.waits ∙ ap (λ ps. push ps c.in_ok-value.value.cover.node) (c.accept_punctuator.ensures.same_tree ∙ h)) c.two-nodes.ensures in
+    c.in_ok-node.ensures.waits base whole ∙ ap (λ (i : ListItem). push base i.node) (sym c.property_item.ensures)
+
+pub property_value-returns-clause-waits : goal.property_value-returns-clause-waits
+property_value-returns-clause-waits t c = λ base h.
+    let key = push base c.args.key.node in
+    let name = c.in_ok-value-2.ensures.waits ∙ ap (λ ps. push ps c.in_ok-value-2.value) (c.accept_punctuator.ensures.same_tree ∙ h) in
+    let value : c.if-accept_punctuator-2.self.tree ≡ push key c.if-accept_punctuator-2.value = elim c.if-accept_punctuator-2.branch [
+      | property_value-then-accept_punctuator-2+in_ok-right+in_ok-into_expression+in_ok-value-3 w ↦
+          let right = w.in_ok-right.ensures.waits ∙ (λ i. push ((c.accept_punctuator-2.ensures.same_tree ∙ name) i) (sym w.in_ok-into_expression.ensures.settled.0 i)) in
+          ap (λ v. v.tree) w.self-is ∙ w.in_ok-value-3.ensures.waits key (waits_two key right w.two-nodes-then-accept_punctuator-2.ensures) ∙ ap (push key) (sym w.value-is)
+      | property_value-else-accept_punctuator-2 w ↦ ap (λ v. v.tree) w.self-is ∙ c.accept_punctuator-2.ensures.same_tree ∙ name ∙ ap (push key) (sym w.value-is)
+    ] in
+    c.in_ok-node-2.ensures.waits base (waits_two base value c.two-nodes-2.ensures) ∙ ap (λ (i : ListItem). push base i.node) (sym c.property_item-2.ensures)

@@ -1,6 +1,6 @@
 use Rattle.std.proofs.Common.{◌≡◌, ◌-◌, ◌+◌, ◌*◌, ◌≤◌, ◌<◌, length, ℕ, List, []}
 use Rattle.std.specs.Prelude.{◌&&◌, map, take, drop}
-use Rattle.tree.specs.Tree.{height, parts_height, Tree}
+use Rattle.tree.specs.Tree.{height, parts_height, Tree, Parts, push, join}
 use Rattle.recursive_descent.specs.Soundness.{Adds, ReadAt}
 use Rattle.covers.specs.declared.list.ListKind.TheVariants.{ParenthesizedItems}
 use Rattle.recursive_descent.specs.SoundnessOfLists.{SeenRight}
@@ -115,8 +115,8 @@ decreases-update_or_comma l = 12 * (length l.self.now.cursor.text.bytes - l.self
 abbrev pub decreases-bracketed_list : goal.decreases-bracketed_list
 decreases-bracketed_list l = 12 * (length l.self.now.cursor.text.bytes - l.self.now.cursor.last.stop) + 1
 
-abbrev pub decreases-token_or_prefix : goal.decreases-token_or_prefix
-decreases-token_or_prefix l = 12 * (length l.self.now.cursor.text.bytes - l.self.now.cursor.last.stop) + 1
+abbrev pub decreases-one_token : goal.decreases-one_token
+decreases-one_token l = 12 * (length l.self.now.cursor.text.bytes - l.self.now.cursor.last.stop) + 1
 
 abbrev pub decreases-prefix_expression : goal.decreases-prefix_expression
 decreases-prefix_expression l = 12 * (length l.self.now.cursor.text.bytes - l.self.now.cursor.last.stop)
@@ -148,6 +148,7 @@ invariant-expression-turns l = record {
   forward : l.fn.self.cursor.last.stop < l.self.cursor.last.stop;
   within : l.fn.self.cursor.last.stop < length l.fn.self.cursor.text.bytes;
   derived : Adds l.fn.self.cursor l.self.cursor l.fn.self.pairs.items l.self.pairs.items (ReadAt l.fn.self.cursor.text l.fn.position l.part);
+  waits : l.self.tree ≡ push l.fn.self.tree l.part.cover.node;
   low : height l.part.cover.node ≤ l.fn.high;
   own : OfLanguage l.fn.self.cursor.text l.part.cover.node;
   complete : (a : Reading) (o : ℕ) (n : Tree) (to : Token) (P : List Pair) → GivenAs l.fn.self.cursor.text l.fn.position o n l.fn.self.cursor.last to P a → OfLanguage l.fn.self.cursor.text n →
@@ -163,6 +164,7 @@ invariant-optional_chain-links l = record {
   forward : l.fn.self.cursor.last.stop < l.self.cursor.last.stop;
   within : l.fn.self.cursor.last.stop < length l.fn.self.cursor.text.bytes;
   derived : Adds l.fn.self.cursor l.self.cursor l.fn.self.pairs.items l.self.pairs.items (ChainedOn l.fn.self.cursor.text l.fn.left l.part);
+  waits : (base : Parts) → l.fn.self.tree ≡ push base l.fn.left.cover.node → l.self.tree ≡ push base l.part.cover.node;
   own : OfLanguage l.fn.self.cursor.text l.fn.left.cover.node → OfLanguage l.fn.self.cursor.text l.part.cover.node;
   agrees : ChainAgrees l.fn.self.cursor l.self.cursor l.fn.self.pairs.items l.self.pairs.items l.fn.left l.part;
 }
@@ -175,6 +177,7 @@ invariant-list-items l = record {
   same : l.self.cursor.text ≡ l.fn.self.cursor.text;
   forward : l.fn.self.cursor.last.stop ≤ l.self.cursor.last.stop;
   derived : Adds l.fn.self.cursor l.self.cursor l.fn.self.pairs.items l.self.pairs.items (FurtherOn l.fn.self.cursor.text l.fn.list l.list);
+  waits : (base : Parts) → l.fn.self.tree ≡ join base l.fn.list.nodes → l.self.tree ≡ join base l.list.nodes;
   listed : l.list.listed ≡ l.fn.list.listed;
   start : l.list.span.start ≡ l.fn.list.span.start;
   low : parts_height l.fn.list.nodes ≤ l.fn.high → parts_height l.list.nodes ≤ l.fn.high;
@@ -192,6 +195,7 @@ invariant-read_symbols-each l = record {
   same : l.self.cursor.text ≡ l.fn.self.cursor.text;
   forward : l.fn.self.cursor.last.stop ≤ l.self.cursor.last.stop;
   derived : Adds l.fn.self.cursor l.self.cursor l.fn.self.pairs.items l.self.pairs.items (BuiltAt l.fn.self.cursor.text l.fn.context.returns (map piece_of (take l.piece-index l.pieces)) l.fn.built l.built);
+  waits : (base : Parts) → l.fn.self.tree ≡ join base l.fn.built.nodes → l.self.tree ≡ join base l.built.nodes;
   low : parts_height l.fn.built.nodes ≤ l.fn.high → parts_height l.built.nodes ≤ l.fn.high;
   own : AllOfLanguage l.fn.self.cursor.text l.fn.built.nodes → AllOfLanguage l.fn.self.cursor.text l.built.nodes;
   complete : LeftOf l.fn.context.returns (map piece_of l.pieces) (map piece_of (drop l.piece-index l.pieces)) l.fn.self.cursor l.self.cursor l.fn.self.pairs.items l.self.pairs.items l.fn.built l.built;
@@ -202,6 +206,7 @@ invariant-statements-statements l = record {
   same : l.self.cursor.text ≡ l.fn.self.cursor.text;
   forward : l.fn.self.cursor.last.stop ≤ l.self.cursor.last.stop;
   derived : Adds l.fn.self.cursor l.self.cursor l.fn.self.pairs.items l.self.pairs.items (StatementsAt l.fn.self.cursor.text l.fn.context l.nodes);
+  waits : l.self.tree ≡ join l.fn.self.tree l.nodes;
   items : l.context.is_item ≡ l.fn.context.is_item;
   returns : l.context.returns ≡ l.fn.context.returns;
   before : l.context.is_prologue ≡ (l.fn.context.is_prologue && all_directive l.nodes);

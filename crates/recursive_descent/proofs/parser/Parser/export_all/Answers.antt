@@ -2,7 +2,7 @@ use Rattle.std.proofs.Common.{◌≡◌, [], ap, ◌∙◌, subst}
 use Rattle.std.specs.Prelude.{codes}
 use Rattle.std.proofs.lemmas.Bool.{OnTrue_at, OnFalse_at}
 use Rattle.tokens.specs.declared.token.TokenClass.TheVariants.{IdentifierName, Punctuator}
-use Rattle.tree.specs.Tree.{node, plain, part, none, gap, push, push_gap}
+use Rattle.tree.specs.Tree.{node, plain, part, none, gap, push, push_gap, join}
 use Rattle.tree.specs.declared.kind.Kind.TheVariants.{ExportAllDeclaration}
 use Rattle.language.specs.declared.Edge.TheVariants.{Closed}
 use Rattle.language.specs.Token.{Token}
@@ -10,6 +10,7 @@ use Rattle.token_cursor.specs.Seen.{ReadsHere, Misses}
 use Rattle.token_cursor.specs.StatementEnds.{EndsAt, IsEnd}
 use Rattle.token_cursor.specs.declared.semicolon.StatementEnd.TheVariants.{AfterExpression}
 use Rattle.productions.specs.Made.{Makes}
+use Rattle.recursive_descent.proofs.reading.WaitingNodes.{waits_none, waits_push, waits_gap}
 use Rattle.recursive_descent.specs.ModuleItems.{ReadBehind}
 use Rattle.recursive_descent.proofs.sound_modules.ExportReads.{AllBefore, unnamed, named, all_read}
 use Rattle.recursive_descent.proofs.complete_modules.NamesGiven.{made_ok}
@@ -106,7 +107,7 @@ returns-in_err-semicolon-clause-complete c =
     absurd (missed to u.ends)
 
 made : (c : goal.After-finish_plain) → Makes (node ExportAllDeclaration [] plain c.args.start c.semicolon.new.self.last.stop c.push-2.new.self) c.args.high c.finish_plain.result
-made c = subst (λ span. Makes (node ExportAllDeclaration [] plain span.start span.end c.push-2.new.self) c.args.high c.finish_plain.result) c.span_from-span.ensures c.finish_plain.ensures
+made c = subst (λ span. Makes (node ExportAllDeclaration [] plain span.start span.end c.push-2.new.self) c.args.high c.finish_plain.result) c.span_from-span.ensures c.finish_plain.ensures.made
 
 pub returns-clause-derived : goal.returns-clause-derived
 returns-clause-derived c =
@@ -174,3 +175,14 @@ returns-clause-complete c =
     λ o n b x to P w stands star d own.
     let u = source_read s k e after (left o n b x to P w stands star d) c.saturating_sub-inner.result c.in_ok-module_source.field-0 c.push-2.new.self c.in_ok-module_source.ensures.complete c.in_ok-push.ensures.pushed in
     end_answered s e z c.args.self.now.pairs.items c.module_source.new.self.pairs.items o c.args.high ExportAllDeclaration (AfterExpression Closed) n c.args.start c.push-2.new.self to P c.finish_plain.result u end (c.module_source.ensures.same_pairs ∙ c.expect_word.ensures.same_pairs ∙ pairs) (made c)
+
+pub returns-clause-waits : goal.returns-clause-waits
+returns-clause-waits c =
+    let old = c.args.self.now.tree in
+    let none = c.accept_word.ensures.same_tree ∙ waits_none c.new-nodes.ensures in
+    let first : c.if-accept_word.self.tree ≡ join old c.if-accept_word.nodes = elim c.if-accept_word.branch [
+      | in-true+in_ok-module_name-in-true+in_ok-push-in-true w ↦ ap (λ x. x.tree) w.self-is ∙ waits_push old c.new-nodes.result w.in_ok-module_name-in-true.field-0 none w.in_ok-module_name-in-true.ensures.waits (w.nodes-is ∙ w.in_ok-push-in-true.ensures.pushed)
+      | in-false+in_ok-push_gap-in-false w ↦ ap (λ x. x.tree) w.self-is ∙ waits_gap old c.new-nodes.result none w.in_ok-push_gap-in-false.ensures.waits (w.nodes-is ∙ w.in_ok-push_gap-in-false.ensures.pushed)
+    ] in
+    let whole = waits_push old c.if-accept_word.nodes c.in_ok-module_source.field-0 (c.expect_word.ensures.same_tree ∙ first) c.in_ok-module_source.ensures.waits c.in_ok-push.ensures.pushed in
+    c.finish_plain.ensures.waits old whole

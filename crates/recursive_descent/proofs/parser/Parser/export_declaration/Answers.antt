@@ -1,9 +1,10 @@
 use Rattle.std.proofs.Common.{◌≡◌, false, [], Err, refl, ap, ◌∙◌, subst}
 use Rattle.std.specs.Prelude.{codes}
 use Rattle.std.proofs.lemmas.Bool.{OnTrue_at, OnFalse_at}
-use Rattle.tree.specs.Tree.{node, plain, part, none, gap, push, push_gap}
+use Rattle.tree.specs.Tree.{node, plain, part, none, gap, push_gap}
 use Rattle.tree.specs.declared.kind.Kind.TheVariants.{ExportNamedDeclaration}
 use Rattle.productions.specs.Made.{Makes}
+use Rattle.recursive_descent.proofs.reading.WaitingNodes.{waits_one, waits_gap}
 use Rattle.recursive_descent.specs.Soundness.{Adds}
 use Rattle.language.specs.Pieces.{item}
 use Rattle.recursive_descent.specs.Spelled.{SpellsIn}
@@ -27,9 +28,9 @@ returns-in_err-declaration-clause-complete c star brace by_default =
 
 made : (c : goal.After-finish_plain) → Makes (node ExportNamedDeclaration [] plain c.args.start c.statement.new.self.cursor.last.stop (part c.in_ok-declaration.declaration (gap none))) c.args.high c.finish_plain.result
 made c =
-    let nodes : c.push_gap.new.self ≡ part c.in_ok-declaration.declaration (gap none) = c.in_ok-push_gap.ensures.pushed ∙ ap push_gap (c.in_ok-push.ensures.pushed ∙ ap (λ ps. push ps c.in_ok-declaration.declaration) c.new-nodes.ensures) in
+    let nodes : c.push_gap.new.self ≡ part c.in_ok-declaration.declaration (gap none) = c.in_ok-push_gap.ensures.pushed ∙ ap push_gap c.one-nodes.ensures in
     subst (λ ps. Makes (node ExportNamedDeclaration [] plain c.args.start c.statement.new.self.cursor.last.stop ps) c.args.high c.finish_plain.result) nodes
-    (subst (λ span. Makes (node ExportNamedDeclaration [] plain span.start span.end c.push_gap.new.self) c.args.high c.finish_plain.result) c.span_from-span.ensures c.finish_plain.ensures)
+    (subst (λ span. Makes (node ExportNamedDeclaration [] plain span.start span.end c.push_gap.new.self) c.args.high c.finish_plain.result) c.span_from-span.ensures c.finish_plain.ensures.made)
 
 pub returns-clause-derived : goal.returns-clause-derived
 returns-clause-derived c =
@@ -46,3 +47,8 @@ pub returns-clause-complete : goal.returns-clause-complete
 returns-clause-complete c star brace by_default =
     declaration_answered c.args.self.now.cursor c.args.start star brace by_default c.item.result c.item.ensures c.statement.new.self.cursor c.args.self.now.pairs.items c.statement.new.self.pairs.items c.args.high c.saturating_sub-inner.result c.saturating_sub-inner.ensures c.in_ok-declaration.declaration c.finish_plain.result
     c.in_ok-declaration.ensures.complete (made c)
+
+pub returns-clause-waits : goal.returns-clause-waits
+returns-clause-waits c =
+    let old = c.args.self.now.tree in
+    c.finish_plain.ensures.waits old (waits_gap old c.one-nodes.result (waits_one old c.in_ok-declaration.ensures.waits c.one-nodes.ensures) c.in_ok-push_gap.ensures.waits c.in_ok-push_gap.ensures.pushed)

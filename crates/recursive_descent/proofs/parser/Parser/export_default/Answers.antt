@@ -4,6 +4,7 @@ use Rattle.tokens.specs.declared.token.TokenClass.TheVariants.{IdentifierName}
 use Rattle.tree.specs.Tree.{node, plain, part, none, push}
 use Rattle.tree.specs.declared.kind.Kind.TheVariants.{ExportDefaultDeclaration}
 use Rattle.productions.specs.Made.{Makes}
+use Rattle.recursive_descent.proofs.reading.WaitingNodes.{waits_one}
 use Rattle.recursive_descent.specs.Soundness.{Adds}
 use Rattle.recursive_descent.specs.ModuleItems.{ExportBehind, DefaultComplete}
 use Rattle.recursive_descent.proofs.complete_modules.DefaultGiven.{value_refused, value_unfit, value_unended, value_answered}
@@ -53,11 +54,11 @@ returns-in_err-semicolon-in-None-clause-complete c =
     value_unended s m.cursor c.args.self.now.pairs.items m.pairs.items c.saturating_sub-inner.result c.args.high c.args.start c.saturating_sub-inner.ensures c.in-None.ensures.other
     c.in_ok-part-in-None.part c.expression.ensures.text c.in_ok-part-in-None.ensures.complete c.in_ok-part-in-None.ensures.derived c.semicolon.new.self m.pairs.items c.from_residual-in_err-semicolon-in-None.result c.in_err-semicolon-in-None.ensures.err.1
 
-made : (c : goal.After-finish_plain) → Makes (node ExportDefaultDeclaration [] plain c.args.start c.match-default_declaration.self.cursor.last.stop c.push.new.self) c.args.high c.finish_plain.result
-made c = subst (λ span. Makes (node ExportDefaultDeclaration [] plain span.start span.end c.push.new.self) c.args.high c.finish_plain.result) c.span_from-span.ensures c.finish_plain.ensures
+made : (c : goal.After-finish_plain) → Makes (node ExportDefaultDeclaration [] plain c.args.start c.match-default_declaration.self.cursor.last.stop c.one-nodes.result) c.args.high c.finish_plain.result
+made c = subst (λ span. Makes (node ExportDefaultDeclaration [] plain span.start span.end c.one-nodes.result) c.args.high c.finish_plain.result) c.span_from-span.ensures c.finish_plain.ensures.made
 
-one_part : (c : goal.After-finish_plain) → c.push.new.self ≡ part c.match-default_declaration.exported none
-one_part c = c.in_ok-push.ensures.pushed ∙ ap (λ ps. push ps c.match-default_declaration.exported) c.new-nodes.ensures
+one_part : (c : goal.After-finish_plain) → c.one-nodes.result ≡ part c.match-default_declaration.exported none
+one_part c = c.one-nodes.ensures
 
 pub returns-clause-derived : goal.returns-clause-derived
 returns-clause-derived c =
@@ -81,7 +82,7 @@ returns-clause-derived c =
           (subst (λ v. Adds s e old m.pairs.items (ExportBehind s.text IdentifierName (codes "default") c.args.start (node ExportDefaultDeclaration [] plain c.args.start e.last.stop (part v none)))) (sym w.exported-is)
           (value_exported s m.cursor e old m.pairs.items m.pairs.items c.args.start w.in_ok-part-in-None.part n w.in-None.ensures.other w.in_ok-part-in-None.ensures.derived w.in_ok-value-in-None.ensures.settled w.expression.ensures.text w.in_ok-semicolon-in-None.ensures.ok w.semicolon.ensures.same_open refl))
     ] in
-    made_ok (node ExportDefaultDeclaration [] plain c.args.start z.cursor.last.stop c.push.new.self) c.args.high c.finish_plain.result (λ n. Adds s z.cursor old z.pairs.items (ExportBehind s.text IdentifierName (codes "default") c.args.start n)) (made c)
+    made_ok (node ExportDefaultDeclaration [] plain c.args.start z.cursor.last.stop c.one-nodes.result) c.args.high c.finish_plain.result (λ n. Adds s z.cursor old z.pairs.items (ExportBehind s.text IdentifierName (codes "default") c.args.start n)) (made c)
     (subst (λ ps. Adds s z.cursor old z.pairs.items (ExportBehind s.text IdentifierName (codes "default") c.args.start (node ExportDefaultDeclaration [] plain c.args.start z.cursor.last.stop ps))) (sym (one_part c)) exported)
 
 pub returns-clause-complete : goal.returns-clause-complete
@@ -109,3 +110,14 @@ returns-clause-complete c =
           w.in_ok-part-in-None.part w.expression.ensures.text w.in_ok-part-in-None.ensures.complete w.in_ok-part-in-None.ensures.derived e m.pairs.items w.in_ok-value-in-None.value result w.in_ok-value-in-None.ensures.settled.0 w.in_ok-semicolon-in-None.ensures.ok refl
           (subst (λ v. Makes (node ExportDefaultDeclaration [] plain c.args.start e.last.stop (part v none)) c.args.high result) w.exported-is (subst (λ x. Makes (node ExportDefaultDeclaration [] plain c.args.start x.cursor.last.stop (part c.match-default_declaration.exported none)) c.args.high result) w.self-is made_one)))
     ]
+
+pub returns-clause-waits : goal.returns-clause-waits
+returns-clause-waits c =
+    let old = c.args.self.now.tree in
+    let exported : c.match-default_declaration.self.tree ≡ push old c.match-default_declaration.exported = elim c.match-default_declaration.branch [
+      | in-Some+in_ok-closure-in-Some+in_ok-exported-in-Some w ↦
+          ap (λ x. x.tree) w.self-is ∙ w.in_ok-exported-in-Some.ensures.waits ∙ (λ i. push ((w.function_words.ensures.same_tree ∙ w.advance.ensures.same_tree) i) (sym w.exported-is i))
+      | in-None+in_ok-part-in-None+in_ok-value-in-None+in_ok-semicolon-in-None w ↦
+          ap (λ x. x.tree) w.self-is ∙ w.in_ok-part-in-None.ensures.waits ∙ ap (push old) (sym (w.exported-is ∙ w.in_ok-value-in-None.ensures.settled.0))
+    ] in
+    c.finish_plain.ensures.waits old (waits_one old exported c.one-nodes.ensures)

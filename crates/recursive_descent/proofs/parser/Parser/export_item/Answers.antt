@@ -3,6 +3,7 @@ use Rattle.std.specs.Prelude.{codes}
 use Rattle.std.proofs.lemmas.Bool.{OnTrue_at, OnFalse_at}
 use Rattle.tokens.specs.declared.token.TokenClass.TheVariants.{IdentifierName, Punctuator}
 use Rattle.token_cursor.specs.Seen.{ReadsHere, Misses}
+use Rattle.recursive_descent.proofs.reading.WaitingNodes.{waits_behind}
 use Rattle.recursive_descent.proofs.sound_modules.ExportStarts.{behind_whole, behind_added, stayed_whole, stayed_added, all_complete, default_complete, stayed_list, stayed_complete, ok_each}
 use Rattle.recursive_descent.proofs.parser.Parser.export_item.Goals as goal
 
@@ -83,3 +84,15 @@ returns-clause-complete c =
     let default_there : Misses x.text IdentifierName (codes "default") x.last = subst (λ v. Misses v IdentifierName (codes "default") x.last) (sym text) (subst (λ v. Misses a.text IdentifierName (codes "default") v) (sym unworded.1) unworded.0) in
     stayed_complete s x e c.args.self.now.pairs.items c.accept_word.new.self.pairs.items c.export_declaration.new.self.pairs.items c.args.start (text ∙ c.accept_punctuator.ensures.text) (c.accept_word.ensures.same_open ∙ c.accept_punctuator.ensures.same_open) (c.accept_word.ensures.same_pairs ∙ c.accept_punctuator.ensures.same_pairs) (unworded.1 ∙ missed.1) c.args.high c.export_declaration.result
     (c.export_declaration.ensures.complete star_there brace_there default_there)
+
+pub returns-then-accept_punctuator-clause-waits : goal.returns-then-accept_punctuator-clause-waits
+returns-then-accept_punctuator-clause-waits c = waits_behind _ (λ n. n) c.export_all.result c.accept_punctuator.ensures.same_tree c.export_all.ensures.waits
+
+pub returns-then-sees_punctuator-clause-waits : goal.returns-then-sees_punctuator-clause-waits
+returns-then-sees_punctuator-clause-waits c = waits_behind _ (λ n. n) c.export_list.result c.accept_punctuator.ensures.same_tree c.export_list.ensures.waits
+
+pub returns-then-accept_word-clause-waits : goal.returns-then-accept_word-clause-waits
+returns-then-accept_word-clause-waits c = waits_behind _ (λ n. n) c.export_default.result (c.accept_word.ensures.same_tree ∙ c.accept_punctuator.ensures.same_tree) c.export_default.ensures.waits
+
+pub returns-clause-waits : goal.returns-clause-waits
+returns-clause-waits c = waits_behind _ (λ n. n) c.export_declaration.result (c.accept_word.ensures.same_tree ∙ c.accept_punctuator.ensures.same_tree) c.export_declaration.ensures.waits

@@ -2,7 +2,7 @@ use Rattle.std.proofs.Common.{◌≡◌, [], Ok, Err, sym, ap, ◌∙◌, subst}
 use Rattle.std.specs.Prelude.{codes}
 use Rattle.std.proofs.lemmas.Bool.{OnTrue_at, OnFalse_at}
 use Rattle.tokens.specs.declared.token.TokenClass.TheVariants.{IdentifierName, Punctuator}
-use Rattle.tree.specs.Tree.{node, plain, none, gap, push_gap}
+use Rattle.tree.specs.Tree.{node, plain, none, gap, push_gap, join}
 use Rattle.tree.specs.declared.kind.Kind.TheVariants.{ExportNamedDeclaration, ExportSpecifier}
 use Rattle.language.specs.declared.Edge.TheVariants.{Closed}
 use Rattle.language.specs.Token.{Token}
@@ -10,6 +10,7 @@ use Rattle.token_cursor.specs.Seen.{ReadsHere, Misses, Sees}
 use Rattle.token_cursor.specs.StatementEnds.{EndsAt, IsEnd}
 use Rattle.token_cursor.specs.declared.semicolon.StatementEnd.TheVariants.{AfterExpression, AfterExport}
 use Rattle.productions.specs.Made.{Makes}
+use Rattle.recursive_descent.proofs.reading.WaitingNodes.{waits_none, waits_push, waits_gap}
 use Rattle.recursive_descent.specs.ModuleItems.{ReadWhole, SpecifiersComplete}
 use Rattle.recursive_descent.proofs.sound_modules.ExportReads.{list_sourced, list_ended}
 use Rattle.recursive_descent.proofs.sound_modules.SpecifierLoop.{SpecifiersDone}
@@ -75,7 +76,7 @@ returns-in_err-semicolon-clause-complete c =
     λ there o n b to P r stands d own. absurd (missed to (left there o n b to P r stands d).ends)
 
 made : (c : goal.After-finish_plain) → Makes (node ExportNamedDeclaration [] plain c.args.start c.semicolon.new.self.last.stop c.if-accept_word.nodes) c.args.high c.finish_plain.result
-made c = subst (λ span. Makes (node ExportNamedDeclaration [] plain span.start span.end c.if-accept_word.nodes) c.args.high c.finish_plain.result) c.span_from-span.ensures c.finish_plain.ensures
+made c = subst (λ span. Makes (node ExportNamedDeclaration [] plain span.start span.end c.if-accept_word.nodes) c.args.high c.finish_plain.result) c.span_from-span.ensures c.finish_plain.ensures.made
 
 pub returns-clause-derived : goal.returns-clause-derived
 returns-clause-derived c =
@@ -145,3 +146,14 @@ returns-clause-complete c =
     let end : IsEnd s.text ending m.last z.last = subst (λ x. IsEnd x ending m.last z.last) after c.in_ok-semicolon.ensures.ok in
     λ there o n b to P r stands d own.
     end_answered s m z c.args.self.now.pairs.items c.if-accept_word.self.pairs.items o c.args.high ExportNamedDeclaration ending n c.args.start c.if-accept_word.nodes to P c.finish_plain.result (left there o n b to P r stands d) end pairs (made c)
+
+pub returns-clause-waits : goal.returns-clause-waits
+returns-clause-waits c =
+    let old = c.args.self.now.tree in
+    let names = c.in_ok-specifiers.ensures.waits old (waits_gap old c.new-nodes.result (waits_none c.new-nodes.ensures) c.in_ok-push_gap.ensures.waits c.in_ok-push_gap.ensures.pushed) in
+    let from = c.accept_word.ensures.same_tree ∙ names in
+    let whole : c.if-accept_word.self.tree ≡ join old c.if-accept_word.nodes = elim c.if-accept_word.branch [
+      | then-accept_word+in_ok-module_source+in_ok-push w ↦ ap (λ x. x.tree) w.self-is ∙ waits_push old c.specifiers.new.nodes w.in_ok-module_source.field-0 from w.in_ok-module_source.ensures.waits (w.nodes-is ∙ w.in_ok-push.ensures.pushed)
+      | else-accept_word+in_ok-push_gap-2 w ↦ ap (λ x. x.tree) w.self-is ∙ waits_gap old c.specifiers.new.nodes from w.in_ok-push_gap-2.ensures.waits (w.nodes-is ∙ w.in_ok-push_gap-2.ensures.pushed)
+    ] in
+    c.finish_plain.ensures.waits old whole

@@ -11,3 +11,6 @@ returns-clause-read c = first_read c.args.self.now.cursor.text c.args.self.now.c
 
 pub returns-in_err-token-clause-untemplated : goal.returns-in_err-token-clause-untemplated
 returns-in_err-token-clause-untemplated c = passed_on (NoTemplate Template c.args.self.now.cursor) _ c.in_err-token.field-0.0 c.from_residual.ensures.1 (no_template c.args.self.now.cursor c.in_err-token.field-0.0 c.in_err-token.ensures.err.1)
+
+pub returns-clause-waits : goal.returns-clause-waits
+returns-clause-waits c = c.template_element.ensures.waits

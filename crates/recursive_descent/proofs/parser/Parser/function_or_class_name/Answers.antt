@@ -1,6 +1,8 @@
-use Rattle.std.proofs.Common.{sym, ◌∙◌}
+use Rattle.std.proofs.Common.{sym, ◌∙◌, ap}
 use Rattle.std.proofs.lemmas.Bool.{OnTrue_at, false≢true}
 use Rattle.token_cursor.specs.SourceText.{behind_in}
+use Rattle.tree.specs.Tree.{push}
+use Rattle.recursive_descent.proofs.reading.WaitingNodes.{waits_one, waits_gap, waits_none}
 use Rattle.recursive_descent.specs.Follows.{NotNamed}
 use Rattle.recursive_descent.proofs.reading.ReadRefusals.{passed_on, asked, not_named}
 use Rattle.recursive_descent.proofs.parser.Parser.function_or_class_name.Goals as goal
@@ -16,3 +18,9 @@ returns-in_err-name-clause-unnamed c =
       | in_default w ↦ (let there = OnTrue_at (sym w.has_name-is ∙ c.if-has_name.true) w.sees_identifier-has_name.ensures.seen in absurd (none (behind_in c.args.self.now.cursor.text there.0) there.0 there.1.0 there.1.1))
       | in-Method w ↦ absurd (false≢true (sym w.has_name-is ∙ c.if-has_name.true))
     ])
+
+pub returns-then-has_name-clause-waits : goal.returns-then-has_name-clause-waits
+returns-then-has_name-clause-waits c = waits_one c.args.self.now.tree (c.in_ok-name-2.ensures.waits ∙ ap (λ ps. push ps c.in_ok-name-2.name) c.identifier.ensures.same_tree) c.one.ensures
+
+pub returns-clause-waits : goal.returns-clause-waits
+returns-clause-waits c = waits_gap c.args.self.now.tree c.new-nodes.result (waits_none c.new-nodes.ensures) c.in_ok-push_gap.ensures.waits c.in_ok-push_gap.ensures.pushed

@@ -2,9 +2,10 @@ use Rattle.std.proofs.Common.{◌≡◌, ◌≤◌, sym, ap, ◌∙◌, subst}
 use Rattle.std.specs.Prelude.{codes}
 use Rattle.std.proofs.lemmas.Bool.{OnTrue_at, OnFalse_at}
 use Rattle.tokens.specs.declared.token.TokenClass.TheVariants.{IdentifierName, Punctuator}
-use Rattle.tree.specs.Tree.{parts_height}
+use Rattle.tree.specs.Tree.{parts_height, join}
 use Rattle.token_cursor.specs.CursorState.{IsPlaceHere}
 use Rattle.token_cursor.specs.Seen.{ReadsHere, Misses}
+use Rattle.recursive_descent.proofs.reading.WaitingNodes.{waits_push}
 use Rattle.recursive_descent.proofs.sound_statements.StatementLists.{push_low}
 use Rattle.recursive_descent.proofs.sound_modules.ImportClauses.{ClauseBefore, at_first, before_default, clause_default, clause_all, clause_named}
 use Rattle.recursive_descent.proofs.complete_modules.ClausesGiven.{ClauseLeft, no_default_left, default_refused, default_left, default_read, as_missed, namespace_refused, namespace_read, braces_agree, pushed_agrees, pushed_ok}
@@ -209,3 +210,26 @@ returns-clause-complete c =
     let text : x.text ≡ s.text = c.accept_punctuator-2.ensures.text ∙ same in
     let none_there : Misses s.text Punctuator (codes "*") x.last = subst (λ v. Misses s.text Punctuator (codes "*") v) (sym missed.1) (subst (λ v. Misses v Punctuator (codes "*") a.last) same missed.0) in
     braces_agree s x c.args.high c.args.nodes.now nodes text (subst (λ v. ClauseLeft s.text c.args.high c.args.nodes.now nodes s.last v) (sym missed.1) left) c.specifiers.new.self.cursor c.specifiers.new.nodes c.specifiers.result none_there c.specifiers.ensures.complete
+
+pub returns-then-not-accept_punctuator-clause-waits : goal.returns-then-not-accept_punctuator-clause-waits
+returns-then-not-accept_punctuator-clause-waits c = λ base h.
+    c.accept_punctuator.ensures.same_tree ∙ waits_push base c.args.nodes.now c.in_ok-import_binding.field-0 h c.in_ok-import_binding.ensures.waits c.in_ok-push.ensures.pushed
+
+pub returns-then-accept_punctuator-clause-waits : goal.returns-then-accept_punctuator-clause-waits
+returns-then-accept_punctuator-clause-waits c = λ base h.
+    let first : c.if-sees_identifier.self.tree ≡ join base c.if-sees_identifier.nodes = elim c.if-sees_identifier.branch [
+      | then-sees_identifier+in_ok-import_binding+in_ok-push+else-not-accept_punctuator w ↦
+          ap (λ x. x.tree) w.self-is ∙ w.accept_punctuator.ensures.same_tree ∙ waits_push base c.args.nodes.now w.in_ok-import_binding.field-0 h w.in_ok-import_binding.ensures.waits (w.nodes-is ∙ w.in_ok-push.ensures.pushed)
+      | else-sees_identifier w ↦ ap (λ x. x.tree) w.self-is ∙ h ∙ ap (join base) (sym w.nodes-is)
+    ] in
+    let before = c.expect_word.ensures.same_tree ∙ c.accept_punctuator-2.ensures.same_tree ∙ first in
+    pushed_ok c.push-then-accept_punctuator.result c.push-then-accept_punctuator.ensures.pushed (λ pushed. waits_push base c.if-sees_identifier.nodes c.in_ok-import_binding-2.field-0 before c.in_ok-import_binding-2.ensures.waits pushed)
+
+pub returns-clause-waits : goal.returns-clause-waits
+returns-clause-waits c = λ base h.
+    let first : c.if-sees_identifier.self.tree ≡ join base c.if-sees_identifier.nodes = elim c.if-sees_identifier.branch [
+      | then-sees_identifier+in_ok-import_binding+in_ok-push+else-not-accept_punctuator w ↦
+          ap (λ x. x.tree) w.self-is ∙ w.accept_punctuator.ensures.same_tree ∙ waits_push base c.args.nodes.now w.in_ok-import_binding.field-0 h w.in_ok-import_binding.ensures.waits (w.nodes-is ∙ w.in_ok-push.ensures.pushed)
+      | else-sees_identifier w ↦ ap (λ x. x.tree) w.self-is ∙ h ∙ ap (join base) (sym w.nodes-is)
+    ] in
+    c.specifiers.ensures.waits base (c.accept_punctuator-2.ensures.same_tree ∙ first)

@@ -2,7 +2,7 @@ use Rattle.std.proofs.Common.{◌≡◌, [], Ok, Err, sym, ap, ◌∙◌, subst}
 use Rattle.std.specs.Prelude.{codes}
 use Rattle.std.proofs.lemmas.Bool.{OnTrue_at, OnFalse_at}
 use Rattle.tokens.specs.declared.token.TokenClass.TheVariants.{IdentifierName}
-use Rattle.tree.specs.Tree.{node, plain, none}
+use Rattle.tree.specs.Tree.{node, plain, none, join}
 use Rattle.tree.specs.declared.kind.Kind.TheVariants.{ImportDeclaration}
 use Rattle.language.specs.declared.Edge.TheVariants.{Closed}
 use Rattle.language.specs.Token.{Token}
@@ -10,6 +10,7 @@ use Rattle.token_cursor.specs.Seen.{ReadsHere, Misses}
 use Rattle.token_cursor.specs.StatementEnds.{EndsAt, IsEnd}
 use Rattle.token_cursor.specs.declared.semicolon.StatementEnd.TheVariants.{AfterExpression}
 use Rattle.productions.specs.Made.{Makes}
+use Rattle.recursive_descent.proofs.reading.WaitingNodes.{waits_none, waits_push}
 use Rattle.recursive_descent.specs.ModuleItems.{ClauseComplete, ReadWhole}
 use Rattle.recursive_descent.proofs.sound_modules.ImportReads.{SourceBefore, at_first, behind_clause, import_read}
 use Rattle.recursive_descent.proofs.sound_modules.ImportClauses.{ClauseDone}
@@ -86,7 +87,7 @@ returns-in_err-semicolon-clause-complete c =
     end_missed s c.args.start e z c.args.self.now.pairs.items c.module_source.new.self.pairs.items c.args.high c.push.new.self further c.from_residual-in_err-semicolon.result (subst (λ x. (k : Token) → EndsAt x (AfterExpression Closed) e.last k → ⊥) same c.in_err-semicolon.ensures.err.1)
 
 made : (c : goal.After-finish_plain) → Makes (node ImportDeclaration [] plain c.args.start c.semicolon.new.self.last.stop c.push.new.self) c.args.high c.finish_plain.result
-made c = subst (λ span. Makes (node ImportDeclaration [] plain span.start span.end c.push.new.self) c.args.high c.finish_plain.result) c.span_from.ensures c.finish_plain.ensures
+made c = subst (λ span. Makes (node ImportDeclaration [] plain span.start span.end c.push.new.self) c.args.high c.finish_plain.result) c.span_from-span.ensures c.finish_plain.ensures.made
 
 pub returns-clause-derived : goal.returns-clause-derived
 returns-clause-derived c =
@@ -145,3 +146,13 @@ returns-clause-complete c =
     let same : e.text ≡ s.text = c.module_source.ensures.text ∙ text in
     let end : IsEnd s.text (AfterExpression Closed) e.last z.last = subst (λ x. IsEnd x (AfterExpression Closed) e.last z.last) same c.in_ok-semicolon.ensures.ok in
     import_answered s c.args.start e z c.args.self.now.pairs.items c.module_source.new.self.pairs.items c.args.high c.push.new.self further c.finish_plain.result end (c.module_source.ensures.same_pairs ∙ pairs) (made c)
+
+pub returns-clause-waits : goal.returns-clause-waits
+returns-clause-waits c =
+    let old = c.args.self.now.tree in
+    let none = waits_none c.new-nodes.ensures in
+    let first : c.if-not-sees_string.self.tree ≡ join old c.if-not-sees_string.nodes = elim c.if-not-sees_string.branch [
+      | then-not-sees_string+in_ok-import_clause+in_ok-expect_word w ↦ ap (λ x. x.tree) w.self-is ∙ w.expect_word.ensures.same_tree ∙ w.in_ok-import_clause.ensures.waits old none ∙ ap (join old) (sym w.nodes-is)
+      | else-not-sees_string w ↦ ap (λ x. x.tree) w.self-is ∙ none ∙ ap (join old) (sym w.nodes-is)
+    ] in
+    c.finish_plain.ensures.waits old (waits_push old c.if-not-sees_string.nodes c.in_ok-module_source.field-0 first c.in_ok-module_source.ensures.waits c.in_ok-push.ensures.pushed)

@@ -7,6 +7,7 @@ use Rattle.tokens.specs.declared.token.Goal.TheVariants.{Div}
 use Rattle.language.specs.Token.{Token}
 use Rattle.token_cursor.specs.Seen.{ReadsHere, Misses}
 use Rattle.token_cursor.proofs.TokensAhead.{seen, word_missed, word_none}
+use Rattle.recursive_descent.proofs.reading.WaitingNodes.{waits_behind}
 use Rattle.recursive_descent.proofs.sound_modules.ModuleItemKinds.{statement_item, begun_item, whole_item}
 use Rattle.recursive_descent.proofs.complete_modules.ModuleItemGiven.{NoItem, no_item_words, no_item_called, statement_given, export_given, import_given}
 use Rattle.recursive_descent.proofs.parser.Parser.module_item.Goals as goal
@@ -67,3 +68,9 @@ returns-clause-complete c =
           no_item_called s.text s.last (token_of c.in-Some.token) c.in-Some.ensures.some no_export (OnTrue_at w.if-not-begins_import_expression.false w.begins_import_expression.ensures.seen)
     ] in
     statement_given s c.statement-2.new.self.cursor c.args.self.now.pairs.items c.statement-2.new.self.pairs.items c.args.high c.args.context c.statement-2.result none c.statement-2.ensures.complete
+
+pub returns-then-is_name_token-clause-waits : goal.returns-then-is_name_token-clause-waits
+returns-then-is_name_token-clause-waits c = waits_behind _ (λ n. n) c.export_item.result c.advance.ensures.same_tree c.export_item.ensures.waits
+
+pub returns-then-not-begins_import_expression-clause-waits : goal.returns-then-not-begins_import_expression-clause-waits
+returns-then-not-begins_import_expression-clause-waits c = waits_behind _ (λ n. n) c.import_declaration.result c.advance-then-not-begins_import_expression.ensures.same_tree c.import_declaration.ensures.waits

@@ -1,8 +1,9 @@
 use Rattle.std.proofs.Common.{◌≡◌, ◌≤◌, true, refl, sym, ap, ◌∙◌, subst, arith}
 use Rattle.std.specs.Prelude.{◌&&◌}
-use Rattle.tree.specs.Tree.{flags_of, parts_height}
+use Rattle.tree.specs.Tree.{parts_height}
 use Rattle.language.specs.Statements.{is_directive}
 use Rattle.recursive_descent.proofs.sound_statements.StatementLists.{all_directive, push_low, still}
+use Rattle.recursive_descent.proofs.reading.WaitingNodes.{waits_none, waits_push}
 use Rattle.recursive_descent.proofs.sound_modules.ModuleLoop.{ItemsOf, module_first, module_on}
 use Rattle.recursive_descent.proofs.complete_modules.ModuleItemsGiven.{ModuleLeft, module_all, module_further, module_item_refused, module_read}
 use Rattle.recursive_descent.proofs.parser.Parser.module_items.Goals as goal
@@ -14,6 +15,7 @@ items-init c =
     record {
       same = refl;
       derived = module_first c.new-nodes.result c.new-nodes.ensures;
+      waits = waits_none c.new-nodes.ensures;
       items = refl;
       returns = refl;
       before = sym (ap all_directive c.new-nodes.ensures);
@@ -29,13 +31,14 @@ items-preserved c =
     let further = c.module_item.ensures.forward in
     let context : c.if-context.context ≡ (c.items.context.is_prologue && is_directive n) =
     elim c.if-context.branch [
-      | then-context w ↦ w.context-is ∙ ap (λ f. f.directive) (w.flags.ensures ∙ ap flags_of w.node.ensures) ∙ sym (ap (λ x. x && is_directive n) w.if-context.true)
+      | then-context w ↦ w.context-is ∙ w.is_directive.ensures ∙ sym (ap (λ x. x && is_directive n) w.if-context.true)
       | else-context w ↦ w.context-is ∙ w.if-context.false ∙ sym (ap (λ x. x && is_directive n) w.if-context.false)
     ] in
     record {
       same = c.module_item.ensures.text ∙ v.same;
       derived = subst (λ ps. ItemsOf c.args.self.now.cursor c.module_item.new.self.cursor c.args.self.now.pairs.items c.module_item.new.self.pairs.items ps) (sym pushed)
           (module_on c.items.context c.items.nodes n v.same v.items v.returns v.before v.derived c.in_ok-item.ensures.derived);
+      waits = waits_push c.args.self.now.tree c.items.nodes n v.waits c.in_ok-item.ensures.waits pushed;
       items = v.items;
       returns = v.returns;
       before = context ∙ still c.items.context.is_prologue true c.items.nodes n v.before ∙ ap all_directive (sym pushed);

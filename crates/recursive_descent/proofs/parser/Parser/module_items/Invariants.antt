@@ -1,5 +1,5 @@
 use Rattle.std.proofs.Common.{◌≡◌, ◌-◌, ◌≤◌, true, false, length}
-use Rattle.tree.specs.Tree.{parts_height}
+use Rattle.tree.specs.Tree.{parts_height, join}
 use Rattle.recursive_descent.proofs.sound_statements.StatementLists.{all_directive}
 use Rattle.recursive_descent.proofs.sound_modules.ModuleLoop.{ItemsOf}
 use Rattle.recursive_descent.proofs.complete_modules.ModuleItemsGiven.{ModuleLeft}
@@ -9,6 +9,7 @@ abbrev pub invariant-items : goal.invariant-items
 invariant-items l = record {
   same : l.self.cursor.text ≡ l.fn.self.cursor.text;
   derived : ItemsOf l.fn.self.cursor l.self.cursor l.fn.self.pairs.items l.self.pairs.items l.nodes;
+  waits : l.self.tree ≡ join l.fn.self.tree l.nodes;
   items : l.context.is_item ≡ true;
   returns : l.context.returns ≡ false;
   before : l.context.is_prologue ≡ all_directive l.nodes;

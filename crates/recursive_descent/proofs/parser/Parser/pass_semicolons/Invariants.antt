@@ -8,6 +8,7 @@ invariant-empty l = record {
   forward : l.fn.self.cursor.last.stop ≤ l.self.cursor.last.stop;
   same_open : l.self.cursor.opened ≡ l.fn.self.cursor.opened;
   same_pairs : l.self.pairs.items ≡ l.fn.self.pairs.items;
+  same_tree : l.self.tree ≡ l.fn.self.tree;
   passed : Semicolons l.fn.self.cursor.text l.fn.self.cursor.last l.self.cursor.last;
 }
 

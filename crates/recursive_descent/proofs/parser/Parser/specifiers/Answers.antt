@@ -2,8 +2,9 @@ use Rattle.std.proofs.Common.{◌≡◌, ◌≤◌, refl, sym, ap, ◌∙◌, su
 use Rattle.std.specs.Prelude.{codes}
 use Rattle.std.proofs.lemmas.Bool.{OnTrue_at, OnFalse_at}
 use Rattle.tokens.specs.declared.token.TokenClass.TheVariants.{Punctuator}
-use Rattle.tree.specs.Tree.{parts_height}
+use Rattle.tree.specs.Tree.{parts_height, join}
 use Rattle.token_cursor.specs.Seen.{ReadsHere, Sees, Misses}
+use Rattle.recursive_descent.proofs.reading.WaitingNodes.{waits_push}
 use Rattle.recursive_descent.proofs.sound_statements.StatementLists.{push_low}
 use Rattle.recursive_descent.proofs.sound_modules.SpecifierLoop.{SpecifiersDone, no_specifiers, one_more_specifier, specifiers_closed, last_specifier}
 use Rattle.recursive_descent.proofs.complete_modules.SpecifierLoopGiven.{BraceLeft, all_left, brace_left, specifier_refused, one_more_left, last_left, closing_read, closing_missed}
@@ -18,6 +19,7 @@ specifiers-init c =
       forward = c.expect_punctuator.ensures.forward;
       same_open = c.expect_punctuator.ensures.same_open;
       same_pairs = c.expect_punctuator.ensures.same_pairs;
+      waits = λ base h. c.expect_punctuator.ensures.same_tree ∙ h;
       low = λ h. h;
       derived = no_specifiers c.args.self.now.cursor.text c.args.kind c.args.nodes.now brace;
       complete = all_left c.args.self.now.cursor.text c.args.kind c.args.high c.args.nodes.now brace;
@@ -47,6 +49,7 @@ specifiers-preserved c =
       forward = omega arith;
       same_open = c.accept_punctuator.ensures.same_open ∙ c.specifier.ensures.same_open ∙ c.specifiers.invariant.same_open;
       same_pairs = c.accept_punctuator.ensures.same_pairs ∙ c.specifier.ensures.same_pairs ∙ c.specifiers.invariant.same_pairs;
+      waits = λ base h. c.accept_punctuator.ensures.same_tree ∙ waits_push base c.specifiers.nodes c.in_ok-specifier.field-0 (c.specifiers.invariant.waits base h) c.in_ok-specifier.ensures.waits c.in_ok-push.ensures.pushed;
       low = λ h. subst (λ ps. parts_height ps ≤ c.args.high) (sym c.in_ok-push.ensures.pushed) (push_low c.specifiers.nodes c.in_ok-specifier.field-0 c.args.high (c.specifiers.invariant.low h) c.in_ok-specifier.ensures.low);
       derived = one_more_specifier s c.args.kind c.args.nodes.now c.specifiers.nodes c.specifiers.invariant.derived c.specifiers.self.cursor m c.push.new.self c.in_ok-specifier.field-0 c.specifiers.invariant.same refl c.in_ok-specifier.ensures.derived c.in_ok-push.ensures.pushed comma;
       complete = one_more_left s c.args.kind c.args.high c.args.nodes.now c.specifiers.nodes a c.specifiers.invariant.complete open_there c.specifiers.self.cursor m c.specifiers.invariant.same refl c.in_ok-specifier.field-0 c.in_ok-specifier.ensures.complete c.push.new.self c.in_ok-push.ensures.pushed comma;
@@ -133,3 +136,12 @@ returns-clause-complete c =
       | then-specifiers-test+in_ok-specifier+in_ok-push+then-not-accept_punctuator w ↦ ap (λ x. x.cursor.text) w.self-is ∙ w.accept_punctuator.ensures.text ∙ w.specifier.ensures.text ∙ c.specifiers.invariant.same
     ] in
     closing_read s c.expect_punctuator-2.new.self.cursor c.args.kind c.args.high c.args.nodes.now c.specifiers-test.nodes at.last left (subst (λ x. ReadsHere x Punctuator (codes "}") at.last c.expect_punctuator-2.new.self.cursor.last) text c.in_ok-expect_punctuator-2.ensures.accepted.0)
+
+pub returns-clause-waits : goal.returns-clause-waits
+returns-clause-waits c = λ base h.
+    let items : c.specifiers-test.self.tree ≡ join base c.specifiers-test.nodes = elim c.specifiers-test.branch [
+      | else-specifiers-test w ↦ ap (λ x. x.tree) w.self-is ∙ c.specifiers.invariant.waits base h ∙ ap (join base) (sym w.nodes-is)
+      | then-specifiers-test+in_ok-specifier+in_ok-push+then-not-accept_punctuator w ↦
+          ap (λ x. x.tree) w.self-is ∙ w.accept_punctuator.ensures.same_tree ∙ waits_push base c.specifiers.nodes w.in_ok-specifier.field-0 (c.specifiers.invariant.waits base h) w.in_ok-specifier.ensures.waits (w.nodes-is ∙ w.in_ok-push.ensures.pushed)
+    ] in
+    c.expect_punctuator-2.ensures.same_tree ∙ items

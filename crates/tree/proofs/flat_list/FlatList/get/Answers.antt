@@ -8,7 +8,7 @@ pub returns-in-None-clause-tree : goal.returns-in-None-clause-tree
 returns-in-None-clause-tree c =
     let os = c.args.self.parts.now in
     let past : length os ≤ c.args.index = search rules in
-    sym (past_named (trees c.args.self.tree.now.parts.items [] c.args.self.tree.now.nodes) os c.args.index past)
+    sym (past_named (trees c.args.self.tree.now.parts.items [] c.args.self.tree.now.nodes.items) os c.args.index past)
 
 pub new-requires : goal.new-requires
 new-requires c =
@@ -16,7 +16,7 @@ new-requires c =
     let x = c.in-Some.part.now in
     let here : c.args.index < length os = search rules in
     let read : x ≡ get_or os c.args.index x = search rules in
-    part_low (length c.args.self.tree.now.nodes) os c.args.index x c.in-Some-number.part c.args.self.before here read (sym c.number.ensures ∙ c.in-Some-number.is)
+    part_low (length c.args.self.tree.now.nodes.items) os c.args.index x c.in-Some-number.part c.args.self.before here read (sym c.number.ensures ∙ c.in-Some-number.is)
 
 pub returns-in-Some-number-clause-tree : goal.returns-in-Some-number-clause-tree
 returns-in-Some-number-clause-tree c =
@@ -24,7 +24,7 @@ returns-in-Some-number-clause-tree c =
     let x = c.in-Some.part.now in
     let here : c.args.index < length os = search rules in
     let read : x ≡ get_or os c.args.index x = search rules in
-    ap (λ (t : Tree). Some t) c.new.ensures.tree ∙ sym (part_named c.args.self.tree.now.parts.items c.args.self.tree.now.nodes os c.args.index x c.in-Some-number.part c.args.self.before here read (sym c.number.ensures ∙ c.in-Some-number.is))
+    ap (λ (t : Tree). Some t) c.new.ensures.tree ∙ sym (part_named c.args.self.tree.now.parts.items c.args.self.tree.now.nodes.items os c.args.index x c.in-Some-number.part c.args.self.before here read (sym c.number.ensures ∙ c.in-Some-number.is))
 
 pub returns-in-None-number-clause-tree : goal.returns-in-None-number-clause-tree
 returns-in-None-number-clause-tree c =
@@ -32,7 +32,7 @@ returns-in-None-number-clause-tree c =
     let x = c.in-Some.part.now in
     let here : c.args.index < length os = search rules in
     let read : x ≡ get_or os c.args.index x = search rules in
-    sym (gap_named (trees c.args.self.tree.now.parts.items [] c.args.self.tree.now.nodes) os c.args.index x here read (sym c.number.ensures ∙ c.in-None-number.is))
+    sym (gap_named (trees c.args.self.tree.now.parts.items [] c.args.self.tree.now.nodes.items) os c.args.index x here read (sym c.number.ensures ∙ c.in-None-number.is))
 
 pub returns-in-Some-number-clause-found : goal.returns-in-Some-number-clause-found
 returns-in-Some-number-clause-found c =
@@ -44,7 +44,7 @@ returns-in-Some-number-clause-found c =
     record {
       number = c.in-Some-number.part;
       is = at_place os c.args.index x here read ∙ ap Some named;
-      low = part_low (length c.args.self.tree.now.nodes) os c.args.index x c.in-Some-number.part c.args.self.before here read named;
+      low = part_low (length c.args.self.tree.now.nodes.items) os c.args.index x c.in-Some-number.part c.args.self.before here read named;
       node = c.new.ensures.node;
       within = c.new.ensures.within;
     }

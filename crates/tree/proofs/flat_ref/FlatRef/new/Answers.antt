@@ -4,17 +4,17 @@ use Rattle.tree.proofs.flat_ref.FlatRef.new.Goals as goal
 pub invariant_of-result : goal.invariant_of-result
 invariant_of-result c =
     let pool = c.args.tree.now.parts.items in
-    let es = c.args.tree.now.nodes in
-    let e = c.at-node.result.now in
+    let es = c.args.tree.now.nodes.items in
+    let e = c.index-node.result.now in
     record {
       linked = (
-        range_at pool es c.args.number e c.args.tree.now.linked c.requires c.at-node.ensures,
-        before_at pool es c.args.number e c.args.tree.now.linked c.requires c.at-node.ensures,
+        range_at pool es c.args.number e c.args.tree.now.linked c.requires c.index-node.ensures,
+        before_at pool es c.args.number e c.args.tree.now.linked c.requires c.index-node.ensures,
       );
     }
 
 pub returns-clause-tree : goal.returns-clause-tree
-returns-clause-tree c = tree_here c.args.tree.now.parts.items c.args.tree.now.nodes c.args.number c.at-node.result.now c.args.tree.now.linked c.requires c.at-node.ensures
+returns-clause-tree c = tree_here c.args.tree.now.parts.items c.args.tree.now.nodes.items c.args.number c.index-node.result.now c.args.tree.now.linked c.requires c.index-node.ensures
 
 pub returns-clause-row : goal.returns-clause-row
-returns-clause-row c = held_row c.args.tree.now.nodes c.args.number c.at-node.result.now c.requires c.at-node.ensures
+returns-clause-row c = held_row c.args.tree.now.nodes.items c.args.number c.index-node.result.now c.requires c.index-node.ensures

@@ -13,5 +13,5 @@ new-requires c = rw (c.section.ensures, c.deref.ensures.value) c.args.self.linke
 pub returns-clause-parts : goal.returns-clause-parts
 returns-clause-parts c =
     c.new.ensures.parts
-    ∙ ap (λ (os : Pool). parts_with_gaps (map (named (trees c.args.self.tree.now.parts.items [] c.args.self.tree.now.nodes)) os))
+    ∙ ap (λ (os : Pool). parts_with_gaps (map (named (trees c.args.self.tree.now.parts.items [] c.args.self.tree.now.nodes.items)) os))
     (c.section.ensures ∙ ap (λ (os : Pool). take c.args.self.node.now.count (drop c.args.self.node.now.first os)) c.deref.ensures.value)

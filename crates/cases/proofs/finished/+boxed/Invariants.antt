@@ -1,9 +1,0 @@
-use Rattle.tree.specs.Tree.{node_total}
-use Rattle.tree.specs.Node.{node_tree}
-use Rattle.cases.proofs.finished.+boxed.Given as goal
-
-abbrev pub invariant-loop-index : goal.invariant-loop-index
-invariant-loop-index l = Unit {0}
-
-abbrev pub decreases-boxed : goal.decreases-boxed
-decreases-boxed l = node_total (node_tree l.node)

@@ -1,5 +1,0 @@
-use Rattle.std.proofs.Common.{rules}
-use Rattle.covers.proofs.list.ListItem.plain.Goals as goal
-
-pub returns : goal.returns
-returns c = search rules
