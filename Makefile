@@ -11,7 +11,7 @@ doc = $(share)/doc/jslint
 PAGES = man/man1/jslint.1 man/man1/jslint-files.1
 COMPLETIONS = bash-completion/completions/jslint zsh/site-functions/_jslint fish/vendor_completions.d/jslint.fish
 # (as they link to one another)
-DOCUMENTS = LICENSE-APACHE LICENSE-MIT README.md CHANGELOG.md release/README.md $(wildcard docs/*.md docs/rules/*.md)
+DOCUMENTS = LICENSE-APACHE LICENSE-MIT README.md CHANGELOG.md release/README.md release/x86_64-linux-musl/COPYRIGHT $(wildcard docs/*.md docs/rules/*.md)
 # The place of the documents in the manual pages, as roff writes it, for sed.
 prefix_in_pages = $$(printf '%s\n' '$(PREFIX)' | sed 's/[\\]/\\e/g; s/-/\\-/g; s/[\\&|]/\\&/g')
 

@@ -35,6 +35,8 @@ BIN = f'{TOP}/bin'
 PROGRAM = f'{BIN}/jslint'
 STAMP = f'{PROGRAM}.stamp'
 RELEASE = f'{TOP}/release/x86_64-linux/jslint'
+# The same object of the compiler, linked without shared libraries (tools/static).
+STATIC_RELEASE = f'{TOP}/release/x86_64-linux-musl/jslint'
 MADE = f'{TOP}/release/MADE'
 # What the work of all crates takes on the disk, in GB.
 DISK = 3
@@ -358,6 +360,20 @@ def differences(one, other):
     return f'{len(first)} and {len(second)} bytes; {more}'
 
 
+def link_static(program, linked, to):
+    """Links the program once more, without shared libraries, of the object that the toolchain linked as the first of these files."""
+    spec = importlib.util.spec_from_file_location('link', f'{TOP}/tools/static/link.py')
+    link = importlib.util.module_from_spec(spec)
+    sys.dont_write_bytecode = True
+    spec.loader.exec_module(link)
+    made = f'{program.folder}/out/{program.name}.o'
+    try:
+        link.hold_object(RT.rtlib.KIT, made, linked)
+        link.link(RT.rtlib.KIT, made, to)
+    except (OSError, link.Refused) as why:
+        raise Refused(f'the program without shared libraries is not made: {why}')
+
+
 def copy_sources(libraries, program, top):
     """Copies the sources of the program to a folder, with nothing that earlier checks left."""
     names = [it.name for it in [*libraries, program]]
@@ -373,25 +389,33 @@ def copy_sources(libraries, program, top):
                 shutil.copytree(f'{it.folder}/{part}', f'{top}/crates/{it.name}/{part}', symlinks=True)
 
 
+def is_same(rebuilt, released):
+    """Whether a program is the released one, byte for byte, and says so."""
+    differs, name = differences(rebuilt, released), os.path.relpath(released, TOP)
+    print(f'another program than {name}: {differs}' if differs else f'the same program as {name}')
+    print(f'program {RT.rtlib.sum_of(rebuilt)}, just built by {kit()}')
+    return not differs
+
+
 def rebuild():
-    """Proves and builds the program from nothing, and compares it with the release. Answers 1 if they aren't the same."""
-    if not os.path.isfile(RELEASE):
-        raise Refused(f'there is no {os.path.relpath(RELEASE, TOP)} to compare with')
+    """Proves and builds the programs from nothing, and compares them with the release. Answers 1 if they aren't the same."""
     with tempfile.TemporaryDirectory(prefix='jslint-rebuild-') as top:
         ENDING.append(top)
         copy_sources(*crates_of_program(), top)
+        for it in (RELEASE, STATIC_RELEASE):
+            if not os.path.isfile(it):
+                raise Refused(f'there is no {os.path.relpath(it, TOP)} to compare with')
         libraries, program = crates_of_program(top)
         prove(libraries, program, f'proved and built from nothing, in {top}', False)
-        found, names, said = f'{program.folder}/out/{program.name}', [it.name for it in [*libraries, program]], said_of_release()
-        differs, sums = differences(found, RELEASE), {it: RT.rtlib.sum_of(path) for it, path in [('rebuilt', found), ('release', RELEASE)]}
-        sources = sum_of_sources(top, names)
-    print('the same program' if not differs else f'another program than {os.path.relpath(RELEASE, TOP)}: {differs}')
-    print(f'program {sums["rebuilt"]}, just built by {kit()}')
-    for name, value in [('program', sums['release']), ('sources', sources), ('kit', kit())]:
+        found, static = f'{program.folder}/out/{program.name}', f'{top}/static'
+        link_static(program, found, static)
+        are_same = [is_same(found, RELEASE), is_same(static, STATIC_RELEASE)]
+        sources, said = sum_of_sources(top, [it.name for it in [*libraries, program]]), said_of_release()
+    for name, value in [('program', RT.rtlib.sum_of(RELEASE)), ('static', RT.rtlib.sum_of(STATIC_RELEASE)), ('sources', sources), ('kit', kit())]:
         if said.get(name) != value:
             print(f'release/MADE says {name} {said.get(name)}, and it is {value}')
-            differs = differs or name != 'kit'
-    return int(bool(differs))
+            are_same.append(name == 'kit')
+    return int(not all(are_same))
 
 
 # Folders that go when an interrupt ends this.

@@ -43,7 +43,7 @@ class Copy:
         os.makedirs(f'{self.top}/tools/measure')
         for name in ('jslint', 'crates.txt', 'tools/made-of', 'tools/build.py', 'tools/measure/seconds.txt'):
             shutil.copy(f'{TOP}/{name}', f'{self.top}/{name}')
-        self.release = f'{self.top}/release/x86_64-linux/jslint'
+        self.release, self.static = f'{self.top}/release/x86_64-linux/jslint', f'{self.top}/release/x86_64-linux-musl/jslint'
         shutil.copy(program, self.release)
         self.describe()
 
@@ -51,9 +51,10 @@ class Copy:
         """Writes release/MADE, of the sources and the program that stand there."""
         names = crates_of_program()
         quick = self.told(['sh', '-c', '. ./tools/made-of; made_of "$@"', '', 'cksum', '.', *names])
-        check = self.told(['sh', '-c', 'cksum <release/x86_64-linux/jslint'])
+        sums = [(name, path) for name, path in [('cksum', self.release), ('static_cksum', self.static)] if os.path.exists(path)]
+        checks = [f'{name} {self.told(["sh", "-c", f"cksum <{path}"])}\n' for name, path in sums]
         with open(f'{self.top}/release/MADE', 'w', encoding='utf-8') as file:
-            file.write(f'cksum {check}\nquick {quick}\ncrates {" ".join(names)}\n')
+            file.write(f'{"".join(checks)}quick {quick}\ncrates {" ".join(names)}\n')
 
     def told(self, words):
         return subprocess.run(words, cwd=self.top, stdout=subprocess.PIPE, text=True, check=True).stdout.strip()

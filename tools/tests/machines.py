@@ -14,6 +14,7 @@ from launcher import SOURCE, TOP, Copy
 
 RELEASE = 'release/x86_64-linux/jslint'
 PORTABLE = 'The WebAssembly package runs wherever Node 18 does: '
+STATIC = 'release/x86_64-linux-musl/jslint'
 LOADER = '/lib64/ld-linux-x86-64.so.2'
 
 
@@ -30,6 +31,20 @@ class Machine(Copy):
             file.write(content)
         os.chmod(self.release, 0o755)
         self.describe()
+
+    def put_static(self):
+        """The release has the program without a C library too."""
+        path = f'{TOP}/{STATIC}'
+        if not os.path.isfile(path):
+            raise libraries.Skipped(f'there is no {STATIC}')
+        os.makedirs(os.path.dirname(self.static), exist_ok=True)
+        shutil.copy(path, self.static)
+        self.describe()
+
+    def gives_static(self, told):
+        """It answers, by the program without a C library."""
+        self.answers(told)
+        self.gives((0, f'{os.path.realpath(self.static)}\n', ''), '--program')
 
     def put_tool(self, name, text):
         """Another command, as a script."""
@@ -124,8 +139,8 @@ def other_system(copy):
     assert not os.path.exists(f'{copy.top}/tried'), 'it was tried'
 
 
-def other_glibc(copy):
-    """An older C library: what the loader itself says. The program wants a version that there is nowhere yet."""
+def put_later_glibc(copy):
+    """The program wants a version that there is nowhere yet."""
     with open(copy.release, 'rb') as file:
         program = file.read()
     assert program.count(LOADER.encode() + b'\0') == 1, 'the program names another loader than the launcher'
@@ -133,9 +148,45 @@ def other_glibc(copy):
     if wanted != 1:
         raise libraries.Skipped('the program names no version that could be another')
     copy.put_program(program.replace(b'GLIBC_2.34\0', b'GLIBC_2.94\0'))
+
+
+def other_glibc(copy):
+    """An older C library: what the loader itself says."""
+    put_later_glibc(copy)
     status, out, err = copy.run('fix', '/dev/stdin')
     found = re.fullmatch(rf"jslint: {RELEASE} doesn't run here: it needs glibc 2\.94 or later, and this is glibc 2\.\d+\. {PORTABLE}.*\n", err)
     assert (status, out) == (2, '') and found, err
+
+
+def without_glibc(copy):
+    """No glibc, or an older one: the program without a C library runs, unless it is another than that of release/MADE, or the processor is another."""
+    copy.put_static()
+    copy.gives((0, f'{os.path.realpath(copy.release)}\n', ''), '--program')
+    copy.has_loader('/lib64/no-loader')
+    copy.gives_static('no loader')
+    copy.note()
+    copy.gives_static('noted')
+    copy.put_tool('uname', 'echo Linux aarch64')
+    copy.refuses(f"{RELEASE} doesn't run here: it is for Linux on x86-64 processors, and this is Linux aarch64. {PORTABLE}", 'noted on another machine')
+    copy.put_tool('uname', 'echo Linux x86_64')
+    copy.gives_static('on the first')
+    with open(copy.static, 'ab') as file:
+        file.write(b' ')
+    copy.refuses(f"{RELEASE} doesn't run here: it needs glibc, and there is no /lib64/no-loader here. {PORTABLE}", 'a byte more')
+    os.remove(copy.static)
+    copy.refuses('it needs glibc', 'it is gone')
+    copy.put_static()
+    os.chmod(copy.static, 0o644)
+    copy.refuses('it needs glibc', 'no permission')
+    os.remove(copy.static)
+    os.symlink(copy.release, copy.static)
+    copy.refuses(f'{STATIC} is a link, and what it leads to may change unseen: put the file or folder itself there')
+
+
+def older_glibc(copy):
+    copy.put_static()
+    put_later_glibc(copy)
+    copy.gives_static('an older glibc')
 
 
 def other_end(copy):
@@ -271,5 +322,5 @@ def streams(copy):
 
 room = Machine
 TESTS = [
-    interrupted_start, streams, no_permission, no_permission_of_another, noexec, other_system, other_glibc, other_end, other_loader, portable, links, linked_program, linked_checkout,
+    interrupted_start, streams, no_permission, no_permission_of_another, noexec, other_system, other_glibc, without_glibc, older_glibc, other_end, other_loader, portable, links, linked_program, linked_checkout,
 ]

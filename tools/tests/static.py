@@ -1,0 +1,156 @@
+"""The program without a C library, of release/x86_64-linux-musl, beside that of ./jslint: it needs no other file, gives the same answers, whatever is in its way,
+and where it has too little memory says so; and tools/static's own copies of few bytes.
+
+Each test is a function that raises where something is wrong, and Skipped where it can't be tried. Its argument is a room.
+"""
+import os
+import random
+import resource
+import shutil
+import signal
+import subprocess
+
+import libraries
+import recipes
+import rows
+from machines import in_namespace, other_user
+from recipes import is_well, same
+
+TOP = os.path.dirname(os.path.dirname(os.path.dirname(os.path.realpath(__file__))))
+STATIC = f'{TOP}/release/x86_64-linux-musl/jslint'
+SCRIPT = 'let x = (1), y = ((x)) + `${x}`;\nfor (const each of [x, y]) { debugger; if (x == y) (each); }\n'
+# Every so many rows one is tried.
+STEP = 16
+COPIES = r'''
+#include <stdio.h>
+#include <string.h>
+#define ROOM 256
+void *__wrap_memcpy(void *, const void *, size_t);
+void *__wrap_memmove(void *, const void *, size_t);
+void *__real_memcpy(void *to, const void *from, size_t count) { return memcpy(to, from, count); }
+void *__real_memmove(void *to, const void *from, size_t count) { return memmove(to, from, count); }
+int __real_main(int count, char **words, char **environment) { return count + !words + !environment; }
+static unsigned char wanted[ROOM], found[ROOM];
+int main(void)
+{
+    long tried = 0;
+    for (size_t count = 0; count < 70; count++)
+        for (size_t from = 60; from < 140; from++)
+            for (size_t to = 60; to < 140; to++) {
+                size_t apart = from < to ? to - from : from - to;
+                for (size_t at = 0; at < ROOM; at++)
+                    wanted[at] = found[at] = (unsigned char)(at * 37 + count);
+                memmove(wanted + to, wanted + from, count);
+                void *said = apart < count ? __wrap_memmove(found + to, found + from, count) : __wrap_memcpy(found + to, found + from, count);
+                if (said != found + to || memcmp(wanted, found, ROOM))
+                    return printf("%zu bytes from %zu to %zu\n", count, from, to), 1;
+                tried++;
+            }
+    printf("%ld\n", tried);
+    return 0;
+}
+'''
+
+
+class Room(recipes.Room):
+    """A folder with both programs."""
+
+    def __init__(self, folder, program):
+        super().__init__(f'{folder}/room')
+        if not os.path.isfile(STATIC) or not program.startswith(f'{TOP}/release/'):
+            raise libraries.Skipped('release/ has no program without a C library of the sources here')
+        self.program = program
+
+
+room = Room
+
+
+def ended(words, where, given='', **how):
+    ran = subprocess.run(words, cwd=where, input=given, stdout=subprocess.PIPE, stderr=subprocess.PIPE, text=True, errors='replace', **how)
+    return ran.returncode, ran.stdout, ran.stderr
+
+
+def alone(here):
+    """It runs where there is no other file."""
+    os.makedirs(f'{here.folder}/empty')
+    shutil.copy(STATIC, f'{here.folder}/empty/jslint')
+    here.put('empty/a.js', SCRIPT)
+    before = in_namespace('true')
+    want = ended([here.program, 'fix', 'empty/a.js'], here.folder)
+    same(want[0], 0)
+    found = ended([*before, shutil.which('chroot'), f'{here.folder}/empty', '/jslint', 'fix', '/a.js'], here.folder)
+    same(found, want)
+
+
+def some_rows(here):
+    """A sixteenth of the rows, chosen anew each time."""
+    kept = rows.PROGRAM, rows.ANSWERS, rows.ROOM
+    rows.begin(STATIC)
+    rows.short_command.cache_clear()
+    try:
+        found = list(rows.rows_in(f'{TOP}/crates/cases/data'))[random.randrange(STEP)::STEP]
+        wrong = [it for it in map(rows.try_row, found) if it]
+    finally:
+        rows.PROGRAM, rows.ANSWERS, rows.ROOM = kept
+        rows.short_command.cache_clear()
+    is_well(len(found) > 500 and not wrong, wrong[:3])
+
+
+def in_the_way(here):
+    """Names, folders, links in a circle, permissions, full devices and closed streams: what the other program says, with its status."""
+    here.put('a.js', SCRIPT)
+    here.put('crlf.js', SCRIPT.replace('\n', '\r\n'))
+    here.put('-h.js', SCRIPT)
+    here.put('no.js', SCRIPT)
+    os.chmod(here.path('no.js'), 0)
+    os.chmod(here.folder, 0o755)
+    with open(here.path(b'odd\xff\n.js'), 'wb') as file:
+        file.write(b'\xff')
+    here.put('not.js', 'a' * 70000 + '\n+')
+    here.put('odd.js', '"\u2028\U0001f600"; (\u03c0)')
+    os.makedirs(here.path('folder'))
+    os.symlink('two', here.path('one'))
+    os.symlink('one', here.path('two'))
+    os.symlink('a.js', here.path('linked'))
+    os.mkfifo(here.path('pipe'))
+    lines = [
+        *(f'{it} {name}' for it in ('fix', 'check', 'check --spans', 'unwrap', 'tree', 'cost') for name in ('a.js', 'crlf.js', 'odd.js', 'not.js', 'none', 'folder', 'one', 'linked', '-- -h.js', 'odd*', 'no.js')),
+        'same a.js crlf.js', 'same a.js none', 'same - -', 'verify a.js a.js', '', '--help', '--version', '--no', 'fix', 'fix a.js b.js', 'fix --module a.js', 'fix --edition 2022 a.js',
+        'fix a.js/b', 'fix ""', 'fix /dev/null', 'fix - <a.js', 'fix - <&-', 'fix - <folder', 'fix a.js >/dev/full', 'fix a.js >&-', 'check a.js >/dev/full', 'tree not.js 2>&-', 'fix none 2>/dev/full',
+        'fix $(head -c 5000 /dev/zero | tr "\\0" n)', 'check --settings none a.js', 'check --settings folder a.js', 'fix pipe & sleep 0.1; cat a.js >pipe; wait', 'tree a.js | head -c 1',
+    ]
+    for line in lines:
+        same(*(ended(['sh', '-c', f'"$0" {line}', it], here.folder) for it in (STATIC, here.program)), line)
+    other = other_user()
+    if other:
+        # (the superuser reads it all the same)
+        elsewhere = f'{here.folder}/program'
+        shutil.copy(STATIC, elsewhere)
+        same(*(ended([*other, it, 'fix', 'no.js'], here.folder) for it in (elsewhere, here.program)), 'no permission')
+
+
+def too_little_memory(here):
+    """At each limit of memory it gives the whole answer, or says that there is too little and writes nothing."""
+    here.put('a.js', SCRIPT.replace('let', 'var').replace('const', 'var') * 600)
+    for name in ('fix', 'check', 'unwrap', 'tree', 'cost'):
+        want, seen = ended([STATIC, name, 'a.js'], here.folder), set()
+        for limit in range(1 << 20, 24 << 20, 96 << 10):
+            def hold():
+                resource.setrlimit(resource.RLIMIT_AS, (limit, limit))
+            found = ended([STATIC, name, 'a.js'], here.folder, preexec_fn=hold)
+            # (below some size the system can't start it)
+            if found[0] not in (-signal.SIGKILL, -signal.SIGSEGV) or found[1:] != ('', '') or seen:
+                is_well(found in (want, (2, '', 'jslint: out of memory\n')), f'{name} {limit}: {found[0]} {found[1][:80]!r} {found[2]!r}')
+                seen.add(found[0])
+        same(seen, {2, want[0]}, name)
+
+
+def copies(here):
+    """Few bytes are copied from each place to each other, those that overlap too, and nothing beside them changes."""
+    here.put('copies.c', COPIES)
+    compiler = libraries.tool('cc')
+    libraries.ran([compiler, '-O2', '-Wall', '-o', 'copies', 'copies.c', f'{TOP}/tools/static/beside_musl.c', '-fno-builtin'], cwd=here.folder)
+    same(libraries.ran([f'{here.folder}/copies'])[0], f'{70 * 80 * 80}\n')
+
+
+TESTS = [alone, some_rows, in_the_way, too_little_memory, copies]
