@@ -145,6 +145,15 @@ def too_little_memory(here):
         same(seen, {2, want[0]}, name)
 
 
+def processors(here):
+    """A processor that lacks what it was compiled for is refused by the program's own words, and others aren't, as with glibc."""
+    emulator = libraries.tool('qemu-x86_64-static', 'qemu-x86_64')
+    here.put('a.js', SCRIPT)
+    for name, status in [('core2duo', 127), ('qemu64', 127), ('Nehalem', 0), ('max', 0)]:
+        found, want = (ended([emulator, '-cpu', name, it, 'fix', 'a.js'], here.folder) for it in (STATIC, here.program))
+        same((found, found[0]), (want, status), name)
+
+
 def copies(here):
     """Few bytes are copied from each place to each other, those that overlap too, and nothing beside them changes."""
     here.put('copies.c', COPIES)
@@ -153,4 +162,4 @@ def copies(here):
     same(libraries.ran([f'{here.folder}/copies'])[0], f'{70 * 80 * 80}\n')
 
 
-TESTS = [alone, some_rows, in_the_way, too_little_memory, copies]
+TESTS = [alone, some_rows, in_the_way, too_little_memory, processors, copies]
