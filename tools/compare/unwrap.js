@@ -3,8 +3,8 @@
 //
 //   node unwrap.js [--n COUNT] [--seed S] [--show K] [--keep FOLDER] [--file TEXTS] [--cases]
 //
-// The texts are COUNT of each of four kinds (sentences, mutated programs, constructs that stand in each other, scripts dense in names,
-// functions and classes), those of them that the model accepts once as they are and three times with pairs round expressions, and blanks,
+// The texts are COUNT of each of five kinds (sentences, mutated programs, constructs that stand in each other, scripts dense in names,
+// functions and classes, each `new` and call in pairs), those of them that the model accepts once as they are and three times with pairs round expressions, and blanks,
 // line ends and comments between tokens; or those of a file, with U+0000 between them; or, with --cases, the worked texts of
 // crates/cases/data/unwrap alone. Runs the program unwrap.txt over copies of the crates by `rt try` (no proof). Exit status 1 where anything
 // disagrees, or where unwrap_check.js finds a fault in an answer.
@@ -25,10 +25,18 @@ const ROWS = path.join(__dirname, '..', '..', 'crates', 'cases', 'data', 'unwrap
 
 const isWhole = (text) => text.isWellFormed() && !text.includes('\0');
 
+// `new`, calls and members in pairs: beside the calls that are there, `()` is put where a pair goes round a `new` without arguments.
+function newsAndCalls(source, depth) {
+  if (depth === 0) return source.pick(['a', '(b)', 'new c', '(new d)', '(new e)()']);
+  const inner = newsAndCalls(source, depth - 1);
+  const call = () => source.pick(['()', '()', '()', '(x)', '((y))']);
+  return source.pick([`new (${inner})`, `new (${inner})${call()}`, `(${inner})`, `(${inner})${call()}`, `(${inner})${call()}${call()}`, `(${inner}).p`, `(${inner})?.${call()}`]);
+}
+
 // Scripts that the model accepts.
 function scripts(source, count, seed) {
   const made = [];
-  for (let k = 0; k < count; k++) made.push(nested(source), makeScript(source));
+  for (let k = 0; k < count; k++) made.push(nested(source), makeScript(source), newsAndCalls(source, 1 + source.below(4)));
   return [...makeTexts(count, seed), ...withAdditions(source, made)].filter((it) => isWhole(it) && parse(it).ok);
 }
 

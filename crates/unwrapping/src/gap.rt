@@ -138,6 +138,19 @@ pub(crate) fn is_all_blank(gap: &[u8]) -> bool {
     blank_end(gap) == gap.len()
 }
 
+/// How many comments stand in a gap.
+pub(crate) fn comment_count(gap: &[u8]) -> usize {
+    let mut count = 0usize;
+    let mut rest = gap;
+    while let Some((part, others)) = next_part(rest) {
+        if !part.is_blank() {
+            count = count.saturating_add(1);
+        }
+        rest = others;
+    }
+    count
+}
+
 /// Puts the parts of a gap after others.
 pub(crate) fn push_parts<'s>(parts: &mut Vec<Part<'s>>, gap: &'s [u8]) -> Result<(), AllocError> {
     let mut rest = gap;

@@ -9,6 +9,7 @@ ghost use Rattle.unwrapping.specs.Readings.{bytes_in, comments_in, IsRead};
 ghost use Rattle.unwrapping.specs.Comparing.{AreSameRows, BeginsAlike, BeginsWith, Cancels, IsSameRest, IsShorter, KeepsRows, Leads, PassesRow, Settles, begins_call, from_rows, leads_rows, may_be_ended_before, next_is, next_is_grouping};
 
 use crate::comment::{CommentRow, ends_line, push_comments};
+use crate::gap::comment_count;
 use crate::reading::{ByteSpan, TokenRow, TreeReading, tree_reading};
 use source_text::Source;
 use std::alloc::{AllocError, Global};
@@ -64,6 +65,23 @@ impl<'t> Rest<'t> {
             start: self.at,
             end: row.span.start,
         }
+    }
+
+    /// The gap before the next token; at the end of the text nothing.
+    fn next_gap(&self) -> ByteSpan {
+        match self.rows.first() {
+            Some(row) => self.gap(*row),
+            None => ByteSpan { start: 0, end: 0 },
+        }
+    }
+
+    /// How many comments stand before the next token that weren't found in the other text yet.
+    fn comment_count(&self, text: &[u8]) -> usize {
+        let before = match self.next_gap().bytes_in(text) {
+            Some(gap) => comment_count(gap),
+            None => 0,
+        };
+        before.saturating_add(self.passed.len())
     }
 
     /// Whether a grouping parenthesis comes next.
@@ -285,11 +303,32 @@ impl<'t> Comparison<'t> {
             && self.unwrapped.passed.is_empty()
     }
 
-    /// Whether `()` comes next in the unwrapped text, and not in the text.
+    /// Whether `()` comes next in the unwrapped text, and isn't one that comes next in the text.
     fn is_called(&self, text: &[u8], unwrapped: &[u8]) -> bool
         ensures { result ≡ true → begins_call unwrapped.now self.now.unwrapped.rows.now ≡ true }
     {
-        begins_call(unwrapped, self.unwrapped.rows) && !begins_call(text, self.text.rows)
+        if !begins_call(unwrapped, self.unwrapped.rows) {
+            return false;
+        }
+        !begins_call(text, self.text.rows) || !self.is_same_call(text, unwrapped)
+    }
+
+    /// Whether a `()` that comes next in both texts is the same: it has the same bytes inside, and as many comments before it, or where nothing
+    /// has changed the same bytes.
+    fn is_same_call(&self, text: &[u8], unwrapped: &[u8]) -> bool {
+        let (call, other) = (self.text.rows, self.unwrapped.rows);
+        if !are_same(text, inside_call(call), unwrapped, inside_call(other)) {
+            return false;
+        }
+        if self.alike {
+            return are_same(
+                text,
+                self.text.next_gap(),
+                unwrapped,
+                self.unwrapped.next_gap(),
+            );
+        }
+        self.text.comment_count(text) == self.unwrapped.comment_count(unwrapped)
     }
 
     /// Whether a `;` comes next in the unwrapped text, and may.
@@ -514,6 +553,17 @@ fn begins_call(text: &[u8], rows: &[TokenRow]) -> bool
     match rows {
         [opening, closing, ..] => is_opening(text, *opening) && is_closing(text, *closing),
         _ => false,
+    }
+}
+
+/// What stands between `(` and `)`, if these come next.
+fn inside_call(rows: &[TokenRow]) -> ByteSpan {
+    match rows {
+        [opening, closing, ..] => ByteSpan {
+            start: opening.span.end,
+            end: closing.span.start,
+        },
+        _ => ByteSpan { start: 0, end: 0 },
     }
 }
 
