@@ -283,6 +283,8 @@ fn cancel_front(
 pub(crate) struct Comparison<'t> {
     text: Rest<'t>,
     unwrapped: Rest<'t>,
+    /// How many comments stand before the text's next token that weren't found in the unwrapped text yet, where a `()` has come before it.
+    comment_count: Option<usize>,
     /// Whether a `;` may come behind the last token that was kept.
     may_end: bool,
     /// Whether nothing has gone, come or moved since.
@@ -328,7 +330,16 @@ impl<'t> Comparison<'t> {
                 self.unwrapped.next_gap(),
             );
         }
-        self.text.comment_count(text) == self.unwrapped.comment_count(unwrapped)
+        self.comment_count(text) == self.unwrapped.comment_count(unwrapped)
+    }
+
+    /// How many comments stand before the text's next token that weren't found in the unwrapped text yet. However many `()` come before it,
+    /// they are counted twice at most.
+    fn comment_count(&self, text: &[u8]) -> usize {
+        match self.comment_count {
+            Some(count) => count,
+            None => self.text.comment_count(text),
+        }
     }
 
     /// Whether a `;` comes next in the unwrapped text, and may.
@@ -372,6 +383,7 @@ impl<'t> Comparison<'t> {
     {
         if self.text.is_grouping() {
             self.alike = false;
+            self.comment_count = None;
             return self.text.pass(source);
         }
         if self.unwrapped.is_grouping() {
@@ -379,7 +391,7 @@ impl<'t> Comparison<'t> {
             return self.unwrapped.pass(unwrapped);
         }
         if self.is_called(source.bytes(), unwrapped.bytes()) {
-            return self.call(unwrapped);
+            return self.call(source.bytes(), unwrapped);
         }
         if let Some((row, other)) = self.next_alike(source.bytes(), unwrapped.bytes()) {
             return self.keep(source, row, unwrapped, other);
@@ -403,11 +415,12 @@ impl<'t> Comparison<'t> {
     }
 
     /// `()` comes.
-    fn call(&mut self, unwrapped: &Source<'_>) -> Result<bool, AllocError>
+    fn call(&mut self, text: &[u8], unwrapped: &Source<'_>) -> Result<bool, AllocError>
         requires { begins_call unwrapped.now self.old.unwrapped.rows.now ≡ true }
         ensures leads { IfOk result (λ is. is ≡ true → (text : List ℕ) → Leads text unwrapped.now self.old self.new) }
         ensures fewer { IfOk result (λ is. is ≡ true → IsShorter self.old self.new) }
     {
+        self.comment_count = Some(self.comment_count(text));
         self.alike = false;
         self.may_end = false;
         let opened = self.unwrapped.pass(unwrapped)?;
@@ -435,6 +448,7 @@ impl<'t> Comparison<'t> {
         let again = unwrapped.bytes();
         let stays = self.stays(text, row, again, other);
         let may_follow = self.may_follow(text, row);
+        self.comment_count = None;
         let passed = self.text.pass(source)?;
         let passed_again = self.unwrapped.pass(unwrapped)?;
         if !passed || !passed_again {
@@ -580,6 +594,7 @@ fn are_kept(
     let mut left = Comparison {
         text: Rest::all(alloc, &reading.tokens, reading.start),
         unwrapped: Rest::all(alloc, &again.tokens, again.start),
+        comment_count: None,
         may_end: false,
         alike: true,
     };

@@ -1,4 +1,5 @@
 use Rattle.std.proofs.Common.{true, false, refl, ◌∙◌}
+use Rattle.std.specs.Prelude.{None}
 use Rattle.unwrapping.proofs.CompareSteps.{begins_comparing, compares_on, ends_comparing}
 use Rattle.unwrapping.proofs.keeping.are_kept.Goals as goal
 
@@ -6,7 +7,7 @@ pub loop-left-init : goal.loop-left-init
 loop-left-init c =
     let reading = c.args.reading.now in
     let again = c.args.again.now in
-    begins_comparing reading.start c.args.source.now reading.tokens.items again.start c.args.unwrapped.now again.tokens.items (record { text = c.all.result; unwrapped = c.all-2.result; may_end = false; alike = true }) (c.all.ensures.rows ∙ c.deref.ensures.value)
+    begins_comparing reading.start c.args.source.now reading.tokens.items again.start c.args.unwrapped.now again.tokens.items (record { text = c.all.result; unwrapped = c.all-2.result; comment_count = None; may_end = false; alike = true }) (c.all.ensures.rows ∙ c.deref.ensures.value)
     c.all.ensures.at c.all.ensures.passed (c.all-2.ensures.rows ∙ c.deref-2.ensures.value) c.all-2.ensures.at c.all-2.ensures.passed refl refl
 
 pub loop-left-preserved : goal.loop-left-preserved
