@@ -360,6 +360,21 @@ def differences(one, other):
     return f'{len(first)} and {len(second)} bytes; {more}'
 
 
+def prove_again(folder):
+    """Proves and builds the program in that folder by the step of `rt ci`, over the libraries that `rt ci` left: its object stands there then."""
+    kind, RT.rtlib.Crate, RT.Crate.allowed = RT.rtlib.Crate, RT.Crate, RT.handles_of(TOP)
+    try:
+        program = RT.rtlib.crates_below(folder)[-1]
+    finally:
+        RT.rtlib.Crate = kind
+    RT.read_files(program)
+    RT.rtlib.guarded()
+    with tempfile.TemporaryFile('w+', errors='replace') as program.out:
+        status = program.ci(['--jobs', str(RT.processors())], False)
+        program.out.seek(0)
+        hold_status(program.name, status, program.out.read())
+
+
 def link_static(program, linked, to):
     """Links the program once more, without shared libraries, of the object that the toolchain linked as the first of these files."""
     spec = importlib.util.spec_from_file_location('link', f'{TOP}/tools/static/link.py')
@@ -367,6 +382,9 @@ def link_static(program, linked, to):
     sys.dont_write_bytecode = True
     spec.loader.exec_module(link)
     made = f'{program.folder}/out/{program.name}.o'
+    if not os.path.isfile(made):
+        say('the program is proved once more, some minutes: `rt ci` took it from an earlier run, and keeps no object of it')
+        prove_again(program.folder)
     try:
         link.hold_object(RT.rtlib.KIT, made, linked)
         link.link(RT.rtlib.KIT, made, to)
