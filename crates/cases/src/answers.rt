@@ -9,6 +9,7 @@ use crate::{
 };
 use source_text::Source;
 use std::alloc::{AllocError, Global};
+use tree::TextArena;
 
 /// What the row's call answers for its texts; a refusal in words.
 pub(crate) fn answer(alloc: Global, row: &Case) -> Result<String, AllocError> {
@@ -87,7 +88,7 @@ fn of_call(alloc: Global, row: &Case, out: &mut String) -> Result<(), AllocError
 /// Adds the answer of a call that takes a text, or how the text is refused as a source.
 fn of_text(alloc: Global, row: &Case, out: &mut String) -> Result<(), AllocError> {
     match Source::new(row.text(1).as_bytes()) {
-        Ok(source) => of_source(alloc, row, &source, out),
+        Ok(source) => of_source(alloc, row, &TextArena::new(alloc), &source, out),
         Err(fault) => push_refusal(row.text(1), fault, out),
     }
 }
@@ -96,20 +97,21 @@ fn of_text(alloc: Global, row: &Case, out: &mut String) -> Result<(), AllocError
 fn of_source(
     alloc: Global,
     row: &Case,
+    texts: &TextArena,
     source: &Source,
     out: &mut String,
 ) -> Result<(), AllocError> {
-    push_difference_of_source(alloc, source, row.language(), out)?;
+    push_difference_of_source(alloc, texts, source, row.language(), out)?;
     match row.text(0) {
         "token" => lexemes::push_token(source, row, out),
         "units" => lexemes::push_units(alloc, source, out),
         "place" => devices::push_place(source, row, out),
         "cursor" => cursors::push_steps(source, row, out),
         "begins" => runs::push_beginnings(alloc, row, out),
-        "early" => parsed::push_accepted(alloc, row, source, out),
-        "fix" => parsed::push_fixed(alloc, row, source, out),
+        "early" => parsed::push_accepted(alloc, row, texts, source, out),
+        "fix" => parsed::push_fixed(alloc, row, texts, source, out),
         "fixes" => parsed::push_fixes(alloc, row, source, out),
         "unwrap" => parsed::push_unwrapped(alloc, row, source, out),
-        _ => parsed::push_parsed(alloc, row, source, out),
+        _ => parsed::push_parsed(alloc, row, texts, source, out),
     }
 }

@@ -5,7 +5,7 @@ use language::Language;
 use parser::parse;
 use source_text::{Fault, Source};
 use std::alloc::{AllocError, Global};
-use tree::{Node, Program, TreeBuilder};
+use tree::{Node, Program, TextArena, TreeBuilder};
 
 /// Makes a node of a finished tree anew: first its parts, then itself.
 #[tactic(auto, using(tree::proofs::PartWalk::part_steps))]
@@ -45,7 +45,8 @@ pub(crate) fn push_difference(
     out: &mut String,
 ) -> Result<(), AllocError> {
     let root = program.root();
-    let mut tree = TreeBuilder::new(alloc);
+    let texts = TextArena::new(alloc);
+    let mut tree = TreeBuilder::new(alloc, &texts);
     make_parts_anew(root, &mut tree);
     let Ok(anew) = Program::build(tree, root.text(), root.span()) else {
         return Err(AllocError);
@@ -57,11 +58,12 @@ pub(crate) fn push_difference(
 /// The same of a text, if it is a script.
 pub(crate) fn push_difference_of_source(
     alloc: Global,
+    texts: &TextArena,
     source: &Source,
     language: Language,
     out: &mut String,
 ) -> Result<(), AllocError> {
-    match parse(alloc, source, language) {
+    match parse(alloc, texts, source, language) {
         Ok(parsed) => push_difference(alloc, parsed.program(), out),
         Err(Fault::OutOfMemory) => Err(AllocError),
         Err(_) => Ok(()),

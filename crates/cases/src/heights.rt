@@ -7,14 +7,14 @@ use crate::sketch::{parts, program};
 use productions::finish_plain;
 use source_text::Fault;
 use std::alloc::{AllocError, Global};
-use tree::{Kind, Program, Span, TreeBuilder};
+use tree::{Kind, Program, Span, TextArena, TreeBuilder};
 
 /// The span of each node that is made here.
 const HERE: Span = Span { start: 3, end: 5 };
 
 /// A script of the array of parts and others behind them, this high at most.
-fn joined<'s>(alloc: Global, row: &'s Case) -> Result<Program<'s>, Fault> {
-    let first = parts(alloc, TreeBuilder::new(alloc), row.text(1), u32::MAX)?;
+fn joined<'s>(alloc: Global, texts: &'s TextArena, row: &'s Case) -> Result<Program<'s>, Fault> {
+    let first = parts(alloc, TreeBuilder::new(alloc, texts), row.text(1), u32::MAX)?;
     let further = parts(alloc, first.tree, row.text(2), u32::MAX)?;
     let mut nodes = first.nodes;
     nodes.append(further.nodes)?;
@@ -26,7 +26,8 @@ fn joined<'s>(alloc: Global, row: &'s Case) -> Result<Program<'s>, Fault> {
 
 /// The line of the array.
 pub(crate) fn push_joined(alloc: Global, row: &Case, out: &mut String) -> Result<(), AllocError> {
-    match joined(alloc, row) {
+    let texts = TextArena::new(alloc);
+    match joined(alloc, &texts, row) {
         Ok(script) => match script.root().part(0) {
             Some(array) => show(array, out),
             None => Ok(()),
@@ -37,7 +38,8 @@ pub(crate) fn push_joined(alloc: Global, row: &Case, out: &mut String) -> Result
 
 /// The height of the only part, if there is one alone.
 fn only_height(alloc: Global, text: &str) -> Result<Option<u32>, Fault> {
-    let sketch = parts(alloc, TreeBuilder::new(alloc), text, u32::MAX)?;
+    let texts = TextArena::new(alloc);
+    let sketch = parts(alloc, TreeBuilder::new(alloc, &texts), text, u32::MAX)?;
     match sketch.nodes.into_only() {
         Some(only) => Ok(Some(only.height())),
         None => Ok(None),

@@ -5,6 +5,7 @@ use crate::refusals::push_refusal;
 use parser::{Parsed, parse};
 use source_text::{Fault, Source};
 use std::alloc::{AllocError, Global};
+use tree::TextArena;
 use unwrapping::{CommentRow, TreeReading, keeps, push_comments, tree_reading};
 
 /// A script's tokens, the end of the text among them, and its comments.
@@ -103,7 +104,8 @@ fn is_kept(alloc: Global, parsed: &Parsed, row: &Case, other: &str) -> Result<bo
     };
     let source = Source::new(text.as_bytes())?;
     let unwrapped = Source::new(other.as_bytes())?;
-    let again = parse(alloc, &unwrapped, row.language())?;
+    let texts = TextArena::new(alloc);
+    let again = parse(alloc, &texts, &unwrapped, row.language())?;
     match keeps(
         alloc,
         &source,

@@ -10,7 +10,7 @@ use crate::sketch::script;
 use early_errors::first_early_error;
 use grammar::{has_optional, rank_of};
 use std::alloc::{AllocError, Global};
-use tree::{Node, Program, height, same_tree, try_copy};
+use tree::{Node, Program, TextArena, height, same_tree, try_copy};
 
 /// What a call answers for a tree, each node of which is as high at most as the second text says, if that is a number.
 pub(crate) fn push_of_tree(
@@ -20,7 +20,8 @@ pub(crate) fn push_of_tree(
     out: &mut String,
 ) -> Result<(), AllocError> {
     let high = row.text(2).parse::<u32>().unwrap_or(u32::MAX);
-    match script(alloc, row.text(1), high) {
+    let texts = TextArena::new(alloc);
+    match script(alloc, &texts, row.text(1), high) {
         Ok(program) => {
             push_difference(alloc, &program, out)?;
             push_tree(alloc, call, row, &program, out)
@@ -111,7 +112,8 @@ fn push_same(
     program: &Program,
     out: &mut String,
 ) -> Result<(), AllocError> {
-    match script(alloc, text, u32::MAX) {
+    let texts = TextArena::new(alloc);
+    match script(alloc, &texts, text, u32::MAX) {
         Ok(other) => push_compared(program, &other, out),
         Err(fault) => push_refusal(text, fault, out),
     }

@@ -18,16 +18,17 @@ use parser::{Parsed, parse};
 use serde_json::Value;
 use source_text::{Fault, MemorySink, Source};
 use std::alloc::{AllocError, Global};
-use tree::{Program, same_tree};
+use tree::{Program, TextArena, same_tree};
 
 /// That the text is accepted.
 pub(crate) fn push_accepted(
     alloc: Global,
     row: &Case,
+    texts: &TextArena,
     source: &Source,
     out: &mut String,
 ) -> Result<(), AllocError> {
-    match read_script(alloc, source, row.language()) {
+    match read_script(alloc, texts, source, row.language()) {
         Ok(_) => out.push_str("accepted"),
         Err(fault) => push_refusal(source.text(), fault, out),
     }
@@ -50,13 +51,14 @@ pub(crate) fn push_fixes(
 pub(crate) fn push_fixed(
     alloc: Global,
     row: &Case,
+    texts: &TextArena,
     source: &Source,
     out: &mut String,
 ) -> Result<(), AllocError> {
     match fix_text(alloc, source, row.language()) {
         Ok(text) => {
             push_again(&text, "fixed", fixed(alloc, &text, row.language()), out)?;
-            push_unless_written(alloc, row, source, &text, out)?;
+            push_unless_written(alloc, row, texts, source, &text, out)?;
             push_unless_run(alloc, Command::Fix, row, &text, out)
         }
         Err(fault) => push_refusal(source.text(), fault, out),
@@ -81,11 +83,12 @@ fn push_unless_run(
 fn push_unless_written(
     alloc: Global,
     row: &Case,
+    texts: &TextArena,
     source: &Source,
     text: &str,
     out: &mut String,
 ) -> Result<(), AllocError> {
-    match is_fixed(alloc, source, row.language(), text) {
+    match is_fixed(alloc, texts, source, row.language(), text) {
         Ok(true) => Ok(()),
         Ok(false) => out.push_str(" written otherwise"),
         Err(fault) => push_refusal(source.text(), fault, out),
@@ -147,10 +150,11 @@ fn unwrapped(alloc: Global, text: &str, language: Language) -> Result<String, Fa
 pub(crate) fn push_parsed(
     alloc: Global,
     row: &Case,
+    texts: &TextArena,
     source: &Source,
     out: &mut String,
 ) -> Result<(), AllocError> {
-    match parse(alloc, source, row.language()) {
+    match parse(alloc, texts, source, row.language()) {
         Ok(parsed) => push_shown(alloc, row, &parsed, out),
         Err(fault) => push_refusal(source.text(), fault, out),
     }
@@ -236,7 +240,8 @@ fn push_count(count: usize, out: &mut String) -> Result<(), AllocError> {
 /// Whether a text has this tree too.
 fn is_alike(alloc: Global, program: &Program, row: &Case) -> Result<bool, Fault> {
     let source = Source::new(row.text(2).as_bytes())?;
-    let other = parse(alloc, &source, row.language())?;
+    let texts = TextArena::new(alloc);
+    let other = parse(alloc, &texts, &source, row.language())?;
     Ok(same_tree(program, other.program()))
 }
 

@@ -9,6 +9,7 @@ use parser::{Parsed, parse};
 use printer::{print, print_text};
 use source_text::{FailurePlan, Fault, MAX_PIECE, MemorySink, Source};
 use std::alloc::{AllocError, Global};
+use tree::TextArena;
 use wrap_flags::Wraps;
 
 /// The calls of a writer that fail one after the other, from the first; behind them those near a full piece.
@@ -126,11 +127,12 @@ pub(crate) fn push_pieces(
 /// Whether a script's plan has this text printed, to a writer that takes a byte a call.
 pub(crate) fn is_fixed(
     alloc: Global,
+    texts: &TextArena,
     source: &Source,
     language: Language,
     text: &str,
 ) -> Result<bool, Fault> {
-    let parsed = parse(alloc, source, language)?;
+    let parsed = parse(alloc, texts, source, language)?;
     let Some(plan) = plan_if_any(alloc, parsed.program())? else {
         return Ok(false);
     };

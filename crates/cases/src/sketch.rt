@@ -6,7 +6,7 @@ use crate::kinds::{kind, set_flag};
 use productions::{MeasuredParts, finish_node};
 use source_text::Fault;
 use std::alloc::Global;
-use tree::{Flags, Kind, Program, Span, TreeBuilder};
+use tree::{Flags, Kind, Program, Span, TextArena, TreeBuilder};
 
 /// A node whose `)` wasn't read yet.
 #[derive(Drop)]
@@ -153,8 +153,13 @@ pub(crate) fn program<'s>(tree: TreeBuilder<'s>, span: Span) -> Result<Program<'
 }
 
 /// The script of these parts.
-pub(crate) fn script<'s>(alloc: Global, text: &'s str, high: u32) -> Result<Program<'s>, Fault> {
-    let Sketch { tree, end, .. } = parts(alloc, TreeBuilder::new(alloc), text, high)?;
+pub(crate) fn script<'s>(
+    alloc: Global,
+    texts: &'s TextArena,
+    text: &'s str,
+    high: u32,
+) -> Result<Program<'s>, Fault> {
+    let Sketch { tree, end, .. } = parts(alloc, TreeBuilder::new(alloc, texts), text, high)?;
     let end = end.saturating_add(1);
     program(tree, Span { start: 0, end })
 }

@@ -24,7 +24,7 @@ use scopes::resolve;
 use source_text::{Fault, Feed, MAX_BYTES, Source};
 use spellings::pair_rows;
 use std::alloc::{AllocError, Global};
-use tree::Span;
+use tree::{Span, TextArena};
 
 /// The settings that a text gives.
 ///
@@ -96,6 +96,7 @@ fn read_second<S: Feed>(
 fn refusal(
     alloc: Global,
     choice: LanguageChoice,
+    texts: &TextArena,
     source: &Source<'_>,
     of_settings: Refused,
 ) -> Refused
@@ -104,7 +105,7 @@ fn refusal(
 {
     match of_settings.fault {
         Fault::OutOfMemory => of_settings,
-        _ => match read_script(alloc, source, asked_language(choice)) {
+        _ => match read_script(alloc, texts, source, asked_language(choice)) {
             Ok(_) => of_settings,
             Err(fault) => refused_at(source, fault),
         },
@@ -189,6 +190,7 @@ pub(crate) fn check<'s, S: Feed>(
     form: ReportForm,
     choice: LanguageChoice,
     rules: &[Box<dyn Rule>],
+    texts: &TextArena,
     source: &Source<'_>,
     second: &mut S,
 ) -> Result<Answer<'s>, Refused>
@@ -200,9 +202,9 @@ pub(crate) fn check<'s, S: Feed>(
 {
     let Checked { settings, language } = match read_second(alloc, choice, second) {
         Ok(checked) => checked,
-        Err(refused) => return Err(refusal(alloc, choice, source, refused)),
+        Err(refused) => return Err(refusal(alloc, choice, texts, source, refused)),
     };
-    let parsed = match read_script(alloc, source, language) {
+    let parsed = match read_script(alloc, texts, source, language) {
         Ok(parsed) => parsed,
         Err(fault) => return Err(refused_at(source, fault)),
     };

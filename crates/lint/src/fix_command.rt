@@ -14,6 +14,7 @@ use parser::Parsed;
 use printer::{print, print_text};
 use source_text::{DeviceFault, Fault, Sink, Source};
 use std::alloc::{AllocError, Global};
+use tree::TextArena;
 use wrap_flags::Wraps;
 
 /// The fixed text of a script: its tree in one layout, with parentheses just round the nodes that want them.
@@ -64,7 +65,22 @@ pub fn fix_text(alloc: Global, source: &Source<'_>, language: Language) -> Resul
     ensures stable { IfOk result (λ text. IsStable language (string_bytes text)) }
     ensures refused { IfErr result (RefusesReading language source.now) }
 {
-    let parsed = read_script(alloc, source, language)?;
+    let texts = TextArena::new(alloc);
+    read_and_fix(alloc, &texts, source, language)
+}
+
+/// The same, where texts of the script that are no slice of its source stay in `texts`.
+fn read_and_fix(
+    alloc: Global,
+    texts: &TextArena,
+    source: &Source<'_>,
+    language: Language,
+) -> Result<String, Fault>
+    ensures fixed { IfOk result (λ text. Fixes language source.now (string_bytes text)) }
+    ensures stable { IfOk result (λ text. IsStable language (string_bytes text)) }
+    ensures refused { IfErr result (RefusesReading language source.now) }
+{
+    let parsed = read_script(alloc, texts, source, language)?;
     let text = fix(alloc, &parsed)?;
     Ok(text)
 }

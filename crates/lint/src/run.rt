@@ -20,12 +20,14 @@ use language::Language;
 use rules::Rule;
 use source_text::{DeviceFault, Fault, Feed, MAX_BYTES, Sink, Source};
 use std::alloc::Global;
+use tree::TextArena;
 
 /// What a command but `check` answers of a text: it has to be a script, or a module, of the language.
 fn answer_script<'s, S: Feed>(
     alloc: Global,
     command: Command,
     language: Language,
+    texts: &'s TextArena,
     source: &Source<'s>,
     second: &mut S,
 ) -> Result<Answer<'s>, Refused>
@@ -37,7 +39,7 @@ fn answer_script<'s, S: Feed>(
     ensures told { IfErr result (λ refused. refused.fault ≢ Fault.Usage) }
     ensures unread { second_limit command ≡ None → second.new ≡ second.old }
 {
-    let parsed = match read_script(alloc, source, language) {
+    let parsed = match read_script(alloc, texts, source, language) {
         Ok(parsed) => parsed,
         Err(fault) => return Err(refused_at(source, fault)),
     };
@@ -57,6 +59,7 @@ fn answer_bytes<'s, S: Feed>(
     command: Command,
     choice: LanguageChoice,
     rules: &[Box<dyn Rule>],
+    texts: &'s TextArena,
     bytes: &'s [u8],
     second: &mut S,
 ) -> Result<Answer<'s>, Refused>
@@ -71,8 +74,15 @@ fn answer_bytes<'s, S: Feed>(
         Err(fault) => return Err(Refused::at_no_place(fault)),
     };
     match command {
-        Command::Check(form) => check(alloc, form, choice, rules, &source, second),
-        _ => answer_script(alloc, command, asked_language(choice), &source, second),
+        Command::Check(form) => check(alloc, form, choice, rules, texts, &source, second),
+        _ => answer_script(
+            alloc,
+            command,
+            asked_language(choice),
+            texts,
+            &source,
+            second,
+        ),
     }
 }
 
@@ -118,7 +128,8 @@ pub fn run<R: Feed, S: Feed, W: Sink>(
         Ok(bytes) => bytes,
         Err(fault) => return Err(Refused::at_no_place(fault)),
     };
-    let answer = match answer_bytes(alloc, command, choice, rules, &bytes, second) {
+    let texts = TextArena::new(alloc);
+    let answer = match answer_bytes(alloc, command, choice, rules, &texts, &bytes, second) {
         Ok(answer) => answer,
         Err(refused) => return Err(refused),
     };

@@ -15,14 +15,19 @@ use language::Language;
 use parser::Parsed;
 use source_text::{Feed, MAX_BYTES, Source};
 use std::alloc::Global;
-use tree::{Program, same_tree};
+use tree::{Program, TextArena, same_tree};
 
 /// The script that the bytes of the second file are, in the language of the first.
 ///
 /// # Errors
 ///
 /// Those of `Source::new` and of `read_script`, each as a refusal of the second script; `OutOfMemory`.
-fn read_other<'b>(alloc: Global, bytes: &'b [u8], language: Language) -> Result<Parsed<'b>, Refused>
+fn read_other<'b>(
+    alloc: Global,
+    texts: &'b TextArena,
+    bytes: &'b [u8],
+    language: Language,
+) -> Result<Parsed<'b>, Refused>
     ensures source { IfOk result (λ _. IsSource bytes.now) }
     ensures reading { IfOk result (λ other. IsReading language bytes.now other.program other.pairs.items) }
     ensures refused { IfErr result (RefusesOther language bytes.now) }
@@ -31,7 +36,7 @@ fn read_other<'b>(alloc: Global, bytes: &'b [u8], language: Language) -> Result<
         Ok(source) => source,
         Err(fault) => return Err(of_second(Refused::at_no_place(fault))),
     };
-    match read_script(alloc, &source, language) {
+    match read_script(alloc, texts, &source, language) {
         Ok(other) => Ok(other),
         Err(fault) => Err(of_second(refused_at(&source, fault))),
     }
@@ -51,7 +56,8 @@ fn compare(
     ensures status { IfOk result (Compares language program.now bytes.now) }
     ensures refused { IfErr result (RefusesOther language bytes.now) }
 {
-    let other = match read_other(alloc, bytes, language) {
+    let texts = TextArena::new(alloc);
+    let other = match read_other(alloc, &texts, bytes, language) {
         Ok(other) => other,
         Err(refused) => return Err(refused),
     };

@@ -9,8 +9,9 @@ use language::Language;
 use parser::{Parsed, parse};
 use source_text::{Fault, Source};
 use std::alloc::Global;
+use tree::TextArena;
 
-/// The script, or module, that a text is in a language, with its grouping pairs.
+/// The script, or module, that a text is in a language, with its grouping pairs. Texts of it that are no slice of the source stay in `texts`.
 ///
 /// # Errors
 /// `Syntax` with a place, a byte offset, where the text is no script; `TooDeep` where it is none within the limits of
@@ -18,6 +19,7 @@ use std::alloc::Global;
 /// the number and the place of the first early error; `OutOfMemory`.
 pub fn read_script<'s>(
     alloc: Global,
+    texts: &'s TextArena,
     source: &Source<'s>,
     language: Language,
 ) -> Result<Parsed<'s>, Fault>
@@ -26,7 +28,7 @@ pub fn read_script<'s>(
     ensures only { IfOk result (λ parsed. IsOnly language source.now parsed.program parsed.pairs.items) }
     ensures refused { IfErr result (RefusesReading language source.now) }
 {
-    let parsed = parse(alloc, source, language)?;
+    let parsed = parse(alloc, texts, source, language)?;
     match first_early_error(alloc, parsed.program())? {
         Some((number, at)) => Err(Fault::Early(number, at)),
         None => Ok(parsed),

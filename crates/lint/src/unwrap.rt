@@ -13,7 +13,7 @@ use paren_planner::{TextCosts, costs_by_pairs};
 use parser::{Parsed, parse};
 use source_text::{Fault, MAX_BYTES, Source};
 use std::alloc::{AllocError, Global};
-use tree::{Pair, Program, same_tree};
+use tree::{Pair, Program, TextArena, same_tree};
 use unwrapping::{PlannedScript, TreeReading, keeps, tree_reading, unwrapped};
 
 /// What a script's unwrapped text is compared with.
@@ -61,7 +61,8 @@ fn is_same_script(alloc: Global, bytes: &[u8], original: Original<'_, '_>) -> Re
         Err(Fault::TooLong) => return Err(too_long(original.source, original.pairs)),
         Err(_) => return Ok(false),
     };
-    let again = match parse(alloc, &source, original.language) {
+    let texts = TextArena::new(alloc);
+    let again = match parse(alloc, &texts, &source, original.language) {
         Ok(again) => again,
         Err(Fault::OutOfMemory) => return Err(Fault::OutOfMemory),
         Err(_) => return Ok(false),
@@ -240,7 +241,22 @@ pub fn unwrap_text(alloc: Global, source: &Source<'_>, language: Language) -> Re
     ensures stable { IfOk result (λ text. IsUnwrapped language (string_bytes text)) }
     ensures refused { IfErr result (RefusesUnwrapping language source.now) }
 {
-    let parsed = match read_script(alloc, source, language) {
+    let texts = TextArena::new(alloc);
+    read_and_unwrap(alloc, &texts, source, language)
+}
+
+/// The same, where texts of the script that are no slice of its source stay in `texts`.
+fn read_and_unwrap(
+    alloc: Global,
+    texts: &TextArena,
+    source: &Source<'_>,
+    language: Language,
+) -> Result<String, Fault>
+    ensures unwrapped { IfOk result (λ text. Unwraps language source.now (string_bytes text)) }
+    ensures stable { IfOk result (λ text. IsUnwrapped language (string_bytes text)) }
+    ensures refused { IfErr result (RefusesUnwrapping language source.now) }
+{
+    let parsed = match read_script(alloc, texts, source, language) {
         Ok(parsed) => parsed,
         Err(refusal) => return Err(refusal),
     };

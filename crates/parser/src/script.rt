@@ -14,7 +14,7 @@ use language::limits::SHORT_BYTES;
 use recursive_descent::{Script, read};
 use source_text::{Fault, Source};
 use std::alloc::Global;
-use tree::{Pair, Program};
+use tree::{Pair, Program, TextArena};
 
 /// A script or module with its grouping pairs.
 #[derive(Drop)]
@@ -40,7 +40,7 @@ impl<'s> Parsed<'s> {
 }
 
 /// The script or module that a text is in a language. In the base profile: what was a script by the 11th edition of ECMA-262 still is the same one, with the same pairs: separators in numbers
-/// and logical assignments, of the 12th, change no other text.
+/// and logical assignments, of the 12th, change no other text. Texts of the script that are no slice of the source stay in `texts`.
 ///
 /// # Errors
 /// `Syntax` with a place, a byte offset, where no derivation exists; `TooDeep` where none exists within the limits (a height
@@ -48,6 +48,7 @@ impl<'s> Parsed<'s> {
 /// for a text of `SHORT_BYTES` bytes or more: a shorter one that isn't within the limits is no script; `OutOfMemory`.
 pub fn parse<'s>(
     alloc: Global,
+    texts: &'s TextArena,
     source: &Source<'s>,
     language: Language,
 ) -> Result<Parsed<'s>, Fault>
@@ -60,7 +61,7 @@ pub fn parse<'s>(
     ensures refused { IfErr result (IsRefusal (record { bytes = source.now; language = language })) }
 {
     let text = source.text();
-    match read(alloc, source, language) {
+    match read(alloc, texts, source, language) {
         Ok(Script { program, pairs }) => Ok(Parsed { program, pairs }),
         Err(Fault::TooDeep) if text.len() < SHORT_BYTES => Err(Fault::Syntax(0)),
         Err(fault) => Err(fault),

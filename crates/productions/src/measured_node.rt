@@ -2,7 +2,6 @@
 
 ghost use Rattle.std.specs.Prelude.{◌≡◌, [], IfOk};
 ghost use Rattle.tree.specs.Tree.{Parts, node, none, part, plain, height, kind_of, text_of, flags_of, start_of, push, join};
-ghost use Rattle.tree.specs.NodeText.{text_bytes};
 ghost use Rattle.tree.specs.Patterns.{pattern_tree};
 ghost use Rattle.productions.specs.Made.{Makes};
 ghost use Rattle.productions.specs.Summaries.{is_string};
@@ -11,7 +10,7 @@ use crate::measured_parts::MeasuredParts;
 use crate::node_summary::{NodeSummary, becomes_another, is_string};
 use source_text::Fault;
 use std::marker::Model;
-use tree::{Flags, Kind, NodeText, Span, TreeBuilder, Witness, Witnessing};
+use tree::{Flags, Kind, Span, TreeBuilder, Witness, Witnessing};
 
 /// A node with its height, which contracts see as its tree. It waits in the tree that is built.
 #[derive(Drop)]
@@ -44,17 +43,17 @@ impl MeasuredNode {
     pub fn leaf<'s>(
         tree: &mut TreeBuilder<'s>,
         kind: Kind,
-        text: NodeText<'s>,
+        text: &'s str,
         span: Span,
         high: u32,
     ) -> Result<MeasuredNode, Fault>
-        ensures made { Makes (node kind (text_bytes text.entry) plain span.start span.end none) high result }
+        ensures made { Makes (node kind text.now plain span.start span.end none) high result }
         ensures waits { IfOk result (λ leaf. tree.new ≡ push tree.old leaf) }
     {
         if high == 0 {
             return Err(Fault::TooDeep);
         }
-        let leaf = MeasuredNode::without_parts(kind, &text, span);
+        let leaf = MeasuredNode::without_parts(kind, text, span);
         tree.leaf(kind, text, span);
         Ok(leaf)
     }
@@ -67,25 +66,25 @@ impl MeasuredNode {
         tree: &mut TreeBuilder<'s>,
         parts: &MeasuredParts,
         kind: Kind,
-        text: NodeText<'s>,
+        text: &'s str,
         span: Span,
         high: u32,
     ) -> Result<MeasuredNode, Fault>
-        ensures made { Makes (node kind (text_bytes text.entry) plain span.start span.end none) high result }
+        ensures made { Makes (node kind text.now plain span.start span.end none) high result }
         ensures waits { (base : Parts) → tree.old ≡ join base parts.now → IfOk result (λ leaf. tree.new ≡ join base (part leaf parts.now)) }
     {
         if high == 0 {
             return Err(Fault::TooDeep);
         }
-        let leaf = MeasuredNode::without_parts(kind, &text, span);
+        let leaf = MeasuredNode::without_parts(kind, text, span);
         tree.leaf_before(parts.len(), kind, text, span);
         Ok(leaf)
     }
 
     /// A node with no parts and plain flags, which stands for one that waits.
     #[inline(always)]
-    fn without_parts(kind: Kind, text: &NodeText<'_>, span: Span) -> MeasuredNode
-        ensures { result ≡ node kind (text_bytes text.now) plain span.start span.end none }
+    fn without_parts(kind: Kind, text: &str, span: Span) -> MeasuredNode
+        ensures { result ≡ node kind text.now plain span.start span.end none }
     {
         let parts = Witness::of(&Witnessing::Nothing);
         let shown = Witness::of(&Witnessing::Node {
@@ -184,10 +183,9 @@ pub fn finish_node<'s>(
     if levels >= high {
         return Err(Fault::TooDeep);
     }
-    let own = NodeText::Borrowed(text);
     let shown = Witness::of(&Witnessing::Node {
         kind,
-        text: &own,
+        text,
         flags,
         span,
         parts: nodes.shown(),
@@ -198,7 +196,7 @@ pub fn finish_node<'s>(
         kind,
         is_optional: flags.optional,
         is_directive: flags.directive,
-        is_string: is_string(kind, &own),
+        is_string: is_string(kind, text),
     };
     tree.finish(kind, text, flags, span, nodes.len());
     Ok(MeasuredNode { shown, summary })

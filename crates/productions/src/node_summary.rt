@@ -1,11 +1,10 @@
 //! What is kept of a node that waits in the tree.
 
 ghost use Rattle.std.specs.Prelude.{◌≡◌, option_map};
-ghost use Rattle.tree.specs.NodeText.{text_bytes};
 ghost use Rattle.tree.specs.Patterns.{pattern_kind};
 ghost use Rattle.productions.specs.Summaries.{becomes_another, is_quoted, is_string, pattern_summary};
 
-use tree::{Kind, NodeText};
+use tree::Kind;
 
 /// What is kept of a node that waits in the tree.
 #[derive(Clone, Copy)]
@@ -74,16 +73,11 @@ pub(crate) fn becomes_another(kind: Kind) -> bool
 
 /// Whether a node of this kind and with this text is a string literal.
 #[inline(always)]
-pub(crate) fn is_string(kind: Kind, text: &NodeText<'_>) -> bool
-    ensures { result ≡ is_string kind (text_bytes text.now) }
+pub(crate) fn is_string(kind: Kind, text: &str) -> bool
+    ensures { result ≡ is_string kind text.now }
 {
     match kind {
-        Kind::Literal => {
-            match text {
-                NodeText::Borrowed(slice) => is_quoted(slice),
-                NodeText::Owned(made) => is_quoted(made.as_str()),
-            }
-        }
+        Kind::Literal => is_quoted(text),
         _ => false,
     }
 }

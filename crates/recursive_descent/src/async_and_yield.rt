@@ -33,7 +33,7 @@ use productions::{MeasuredNode, MeasuredParts, finish_node, finish_plain};
 use source_text::Fault;
 use token_cursor::{Cursor, is_identifier, is_name_token, is_punctuator};
 use tokens::{Goal, Token, TokenClass};
-use tree::{Flags, Form, Kind, NodeText, TreeBuilder};
+use tree::{Flags, Form, Kind, TreeBuilder};
 
 /// What an expression is that begins with `async`.
 #[derive(Clone, Copy)]
@@ -261,7 +261,7 @@ fn call_of_async<'s>(
     }
     let inner = high.saturating_sub(1);
     let arguments = list.nodes;
-    let text = NodeText::Borrowed(token.text);
+    let text = token.text;
     let kind = Kind::Identifier;
     let at = span_of(&token);
     let callee = MeasuredNode::leaf_before(tree, &arguments, kind, text, at, inner)?;

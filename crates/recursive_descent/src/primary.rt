@@ -45,7 +45,7 @@ use productions::{MeasuredNode, MeasuredParts, finish_plain};
 use source_text::Fault;
 use token_cursor::{is_name_token, is_punctuator};
 use tokens::{Goal, Token, TokenClass};
-use tree::{Form, Kind, NodeText, TreeBuilder};
+use tree::{Form, Kind, TreeBuilder};
 
 impl<'t, 's> Parser<'t, 's> {
     /// The token ahead and what it begins; none if no expression at the position begins with it.
@@ -490,7 +490,7 @@ pub(crate) fn token_node<'s>(
     MeasuredNode::leaf(
         tree,
         kind,
-        NodeText::Borrowed(token_node_text(kind, token.text)),
+        token_node_text(kind, token.text),
         span_of(&token),
         high,
     )

@@ -16,7 +16,7 @@ use parser_tables::{StatementContext, StatementListEnd};
 use source_text::{Fault, Source};
 use std::alloc::Global;
 use token_cursor::Cursor;
-use tree::{BuildError, Pair, Program, Span, TreeBuilder};
+use tree::{BuildError, Pair, Program, Span, TextArena, TreeBuilder};
 
 /// A script or module, with the pairs of parentheses that group, in order of their `(`.
 #[derive(Drop)]
@@ -25,12 +25,17 @@ pub struct Script<'s> {
     pub pairs: Vec<Pair>,
 }
 
-/// The script or module that a text is in a language.
+/// The script or module that a text is in a language. Texts of it that are no slice of the source stay in `texts`.
 ///
 /// # Errors
 /// `Syntax` with a place, a byte offset, where no derivation exists; `TooDeep` where none exists within the limits: a height of `MAX_HEIGHT`, and
 /// `MAX_OPEN` parentheses that are open at one point and group or hold an arrow's parameters; `OutOfMemory`.
-pub fn read<'s>(alloc: Global, source: &Source<'s>, language: Language) -> Result<Script<'s>, Fault>
+pub fn read<'s>(
+    alloc: Global,
+    texts: &'s TextArena,
+    source: &Source<'s>,
+    language: Language,
+) -> Result<Script<'s>, Fault>
     ensures source { IfOk result (λ _. IsUtf8 source.now × (length source.now ≤ 16777216)) }
     ensures derived { IfOk result (λ script. WithinLimitsIn language source.now script.program script.pairs.items) }
     ensures complete { IsAnswered language source.now result }
@@ -39,7 +44,7 @@ pub fn read<'s>(alloc: Global, source: &Source<'s>, language: Language) -> Resul
     let mut parser = Parser {
         cursor: Cursor::new(source, language),
         pairs: Vec::new(alloc),
-        tree: TreeBuilder::new(alloc),
+        tree: TreeBuilder::new(alloc, texts),
         alloc,
     };
     match language {

@@ -5,7 +5,6 @@ ghost use Rattle.tokens.specs.Templates.{raw_value};
 ghost use Rattle.tokens.specs.Scanned.{token_of};
 ghost use Rattle.language.specs.Token.{as_read};
 ghost use Rattle.parser_tables.specs.Tests.{is_later_part};
-ghost use Rattle.tree.specs.NodeText.{text_bytes};
 ghost use Rattle.language.specs.Later.{has_later};
 ghost use Rattle.recursive_descent.specs.TemplateElements.{front, back, Holds, part_node};
 ghost use Rattle.token_cursor.specs.Refusals.{IsLimit};
@@ -16,7 +15,7 @@ use productions::MeasuredNode;
 use source_text::Fault;
 use std::alloc::Global;
 use tokens::{Token, TokenClass, template_value};
-use tree::{Kind, NodeText, Span, TreeBuilder};
+use tree::{Kind, Span, TreeBuilder};
 
 /// Whether the token begins with `}`.
 fn is_after_brace(token: &Token<'_>) -> bool
@@ -96,15 +95,15 @@ fn span_inside(token: &Token<'_>, text: &str) -> Span
 }
 
 /// The raw value (11.8.6.1) of a template's part: the characters themselves unless there is a CR among them.
-fn raw_of<'s>(alloc: Global, text: &'s str) -> Result<NodeText<'s>, Fault>
-    ensures raw { IfOk result (λ raw. text_bytes raw ≡ raw_value text.now) }
+fn raw_of<'s>(alloc: Global, tree: &TreeBuilder<'s>, text: &'s str) -> Result<&'s str, Fault>
+    ensures raw { IfOk result (λ raw. raw.now ≡ raw_value text.now) }
     ensures refused { IfErr result (λ fault. fault ≡ Fault.OutOfMemory) }
 {
     if !text.contains('\r') {
-        return Ok(NodeText::Borrowed(text));
+        return Ok(text);
     }
     let (raw, _cooked) = template_value(alloc, text)?;
-    Ok(NodeText::of(alloc, raw)?)
+    Ok(tree.keep(raw.as_str())?)
 }
 
 /// The node of a part of a template, marked where it is the last.
@@ -126,7 +125,7 @@ pub(crate) fn template_element<'s>(
 {
     let (text, is_tail) = without_delimiters(token.text);
     let span = span_inside(&token, text);
-    let raw = raw_of(alloc, text)?;
+    let raw = raw_of(alloc, tree, text)?;
     let kind = Kind::TemplateElement;
     let mut item = ListItem::plain(MeasuredNode::leaf(tree, kind, raw, span, high)?);
     item.is_flagged = is_tail;

@@ -1,7 +1,6 @@
 -- What the trees of a vector of nodes are, one by one.
 use Rattle.std.proofs.Common.{◌≡◌, ℕ, zero, suc, ◌+◌, ◌<◌, ◌≤◌, List, [], ◌∷◌, ◌++◌, length, map, Option, Some, None, slice_get, get_or, take, drop, refl, sym, ap, ◌∙◌, arith, append_assoc, length-append, append-nil, subst}
 use Rattle.std.proofs.lemmas.Option.{slice_get-get_or}
-use Rattle.tree.specs.NodeText.{text_bytes}
 use Rattle.tree.specs.Tree.{Tree, node, parts_with_gaps}
 use Rattle.tree.specs.declared.flat_node.NodeNumber.{NodeNumber}
 use Rattle.tree.specs.declared.flat_node.FlatNode.{FlatNode}
@@ -132,7 +131,7 @@ tree_here pool es i e a h r =
     let low : AreBefore (length at.0) (run_of pool x) = subst (λ k. AreBefore k (run_of pool x)) same found in
     ap (λ (y : FlatNode). flat_tree pool y (trees pool [] es)) r
     ∙ ap (flat_tree pool x) at.2.1
-    ∙ ap (λ (os : List (Option Tree)). node x.kind (text_bytes x.text) x.flags x.start x.end (parts_with_gaps os)) (map_named-front at.0 at.2.0 (run_of pool x) low)
+    ∙ ap (λ (os : List (Option Tree)). node x.kind x.text.now x.flags x.start x.end (parts_with_gaps os)) (map_named-front at.0 at.2.0 (run_of pool x) low)
     ∙ sym at.3
 
 -- what a number below the count of nodes names

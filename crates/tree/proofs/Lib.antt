@@ -6,7 +6,6 @@ pub mod SameParts
 mod Examples
 pub mod KindsEqual
 pub mod Lean
-pub mod CopyLemmas
 pub mod FlatTrees
 pub mod Runs
 pub mod Grown

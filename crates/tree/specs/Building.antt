@@ -7,7 +7,6 @@ use Rattle.tree.specs.Labels.{Label, node_label, node_labels, parts_labels}
 use Rattle.tree.specs.declared.flat_node.FlatNode.{FlatNode}
 use Rattle.tree.specs.declared.flat_builder.FlatBuilder.{FlatBuilder}
 use Rattle.tree.specs.declared.flat_builder.NodeLabel.{NodeLabel}
-use Rattle.tree.specs.NodeText.{text_bytes}
 
 -- 2 ^ 32 - 2
 abbrev pub most : ℕ
@@ -34,7 +33,7 @@ pub record AreNodesOf (g : FlatBuilder) (w : Parts) : Type 0 where
   pub waiting : g.waiting.items ≡ numbers_of 0 w
 
 abbrev pub given_label : NodeLabel → Label
-given_label l = record { kind = l.kind; text = text_bytes l.text; flags = l.flags; start = l.span.start; stop = l.span.end }
+given_label l = record { kind = l.kind; text = l.text.now; flags = l.flags; start = l.span.start; stop = l.span.end }
 
 -- a gap waits
 pub record AddsGap (old new : FlatBuilder) : Type 0 where

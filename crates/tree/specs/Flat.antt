@@ -2,7 +2,6 @@
 use Rattle.std.specs.Prelude.{ℕ, zero, suc, ◌+◌, ◌-◌, ◌≤◌, Bool, true, false, cond, List, [], ◌∷◌, ◌++◌, length, map, take, drop, Option, Some, None}
 use Rattle.std.specs.List.{slice_get}
 use Rattle.std.specs.Prelude.{slice_index_or}
-use Rattle.tree.specs.NodeText.{text_bytes}
 use Rattle.tree.specs.Tree.{Tree, Parts, node, none, part, gap, plain, parts_with_gaps, node_total}
 use Rattle.tree.specs.declared.kind.Kind.TheVariants.{Program}
 use Rattle.tree.specs.declared.flat_node.NodeNumber.{NodeNumber}
@@ -19,7 +18,7 @@ run_of pool e = take e.count (drop e.first pool)
 
 -- a node's tree, from those of the nodes before it
 abbrev pub flat_tree : List (Option NodeNumber) → FlatNode → List Tree → Tree
-flat_tree pool e ts = node e.kind (text_bytes e.text) e.flags e.start e.end (parts_with_gaps (map (named ts) (run_of pool e)))
+flat_tree pool e ts = node e.kind e.text.now e.flags e.start e.end (parts_with_gaps (map (named ts) (run_of pool e)))
 
 -- the trees of all nodes, behind some that are there
 abbrev pub trees : List (Option NodeNumber) → List Tree → List FlatNode → List Tree

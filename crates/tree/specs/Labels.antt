@@ -3,7 +3,6 @@ use Rattle.std.specs.Prelude.{ℕ, List, [], ◌∷◌, ◌++◌, map}
 use Rattle.tree.specs.declared.kind.Kind.{Kind}
 use Rattle.tree.specs.declared.kind.Flags.{Flags}
 use Rattle.tree.specs.declared.flat_node.FlatNode.{FlatNode}
-use Rattle.tree.specs.NodeText.{text_bytes}
 use Rattle.tree.specs.Tree.{Tree, Parts, node, none, part, gap}
 
 pub record Label : Type 0 where
@@ -15,7 +14,7 @@ pub record Label : Type 0 where
 
 -- that of a node in the vector
 abbrev pub node_label : FlatNode → Label
-node_label e = record { kind = e.kind; text = text_bytes e.text; flags = e.flags; start = e.start; stop = e.end }
+node_label e = record { kind = e.kind; text = e.text.now; flags = e.flags; start = e.start; stop = e.end }
 
 abbrev pub node_labels : List FlatNode → List Label
 node_labels es = map (λ (e : FlatNode). node_label e) es

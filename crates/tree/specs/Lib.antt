@@ -3,13 +3,15 @@ pub mod Tree
 pub mod Patterns
 pub mod TreeCode
 pub mod Node
-pub mod NodeText
 pub mod Same
 pub mod Uses
 pub mod Fields
 pub mod Flat
 pub mod Linked
 pub mod PartNumber
+pub mod RowNumber
+pub mod FlagBits
+pub mod KeptFlags
 pub mod Places
 pub mod Growth
 pub mod Labels
@@ -21,7 +23,6 @@ pub mod Numbering
 pub mod Moved
 pub mod Witness
 pub mod Whole
-pub mod AlikeNodes
 pub mod NodeUses
 pub mod Laws
 pub mod HeldRows

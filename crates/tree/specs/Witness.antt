@@ -1,5 +1,4 @@
 -- The parts that a witness stands for, by what they come from.
-use Rattle.tree.specs.NodeText.{text_bytes}
 use Rattle.tree.specs.Patterns.{pattern_parts}
 use Rattle.tree.specs.Tree.{Parts, node, none, part, push, push_gap, join, all_but, last_parts, only}
 use Rattle.tree.specs.declared.witness.Witnessing.{Witnessing}
@@ -7,7 +6,7 @@ use Rattle.tree.specs.declared.witness.Witnessing.TheVariants as from
 
 abbrev pub witnessed : Witnessing → Parts
 witnessed from.Nothing = none
-witnessed (from.Node kind text flags span parts) = part (node kind (text_bytes text.now) flags span.start span.end parts.now.parts) none
+witnessed (from.Node kind text flags span parts) = part (node kind text.now flags span.start span.end parts.now.parts) none
 witnessed (from.Push before last) = push before.now.parts (only last.now.parts)
 witnessed (from.PushGap before) = push_gap before.now.parts
 witnessed (from.Join before behind) = join before.now.parts behind.now.parts

@@ -9,7 +9,7 @@ ghost use Rattle.tree.specs.Tree.{Parts, all_but, join, last_parts, part, parts_
 ghost use Rattle.tree.specs.declared.build_error.BuildError.TheVariants.{TooLarge};
 
 use crate::build_error::BuildError;
-use crate::flat_builder::{FlatBuilder, MAX_NUMBER, NodeLabel, flat_node};
+use crate::flat_builder::{FlatBuilder, MAX_NUMBER, NodeLabel, flat_node, is_too_late};
 use crate::flat_node::{FlatNode, NodeNumber};
 use crate::part_number::PartNumber;
 
@@ -28,14 +28,17 @@ pub(crate) fn push_before<'s>(
 {
     let kept = building.waiting.len().saturating_sub(count);
     let number = node_count(&building.waiting[..kept]);
-    if building.nodes.len() >= MAX_NUMBER {
+    if building.nodes.len() >= MAX_NUMBER || is_too_late(label.span) {
         return Err(BuildError::TooLarge);
     }
     let first = parts_before(&building.nodes, &building.parts, number);
-    let node = flat_node(label, first, 0)?;
+    let node = flat_node(label, first, 0);
     move_up(&mut building.parts, first);
     move_up(&mut building.waiting, kept);
-    building.nodes.insert(number, node)?;
+    // (a `?` here gets no proof, since a node is refused with the memory for it)
+    if let Err(_) = building.nodes.insert(number, node) {
+        return Err(BuildError::Memory);
+    }
     let own = NodeNumber {
         number: number as u32,
     };

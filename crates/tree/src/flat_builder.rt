@@ -1,16 +1,17 @@
 //! The vectors of the finished tree while they are filled.
 
-ghost use Rattle.std.specs.Prelude.{◌≡◌, ◌+◌, ◌-◌, ◌≤◌, ◌<◌, ◌++◌, length, max, min, IfErr, IfOk};
+ghost use Rattle.std.specs.Prelude.{◌≡◌, ◌+◌, ◌-◌, ◌≤◌, ◌<◌, ◌++◌, length, max, min, nat_lt, IfErr, IfOk};
 ghost use Rattle.tree.specs.Building.{Adds, AddsGap, Finishes, given_label, most};
 ghost use Rattle.tree.specs.Labels.{node_label};
 ghost use Rattle.tree.specs.TooLarge.{Overflows};
 ghost use Rattle.tree.specs.declared.build_error.BuildError.TheVariants.{Memory, TooLarge};
 
 use crate::build_error::BuildError;
+use crate::flag_bits::FlagBits;
 use crate::flat_node::{FlatNode, FlatNodes, NodeNumber};
 use crate::kind::{Flags, Kind, Span};
-use crate::node_text::NodeText;
 use crate::part_number::PartNumber;
+use crate::row_number::RowNumber;
 use std::alloc::AllocError;
 
 /// The most nodes or parts of a tree, and its greatest place: four bytes hold one more.
@@ -25,10 +26,10 @@ pub(crate) struct FlatBuilder<'s> {
 }
 
 /// A node but for its parts.
-#[derive(Drop)]
+#[derive(Clone, Copy)]
 pub(crate) struct NodeLabel<'s> {
     pub kind: Kind,
-    pub text: NodeText<'s>,
+    pub text: &'s str,
     pub flags: Flags,
     pub span: Span,
 }
@@ -92,12 +93,12 @@ fn push_node<'s>(
     ensures refused { IfErr result (λ error. error ≡ TooLarge → Overflows building.old (given_label label.entry) 0) }
 {
     let number = building.nodes.len();
-    if number >= MAX_NUMBER {
+    if number >= MAX_NUMBER || is_too_late(label.span) {
         return Err(BuildError::TooLarge);
     }
     building.nodes.reserve(1)?;
     building.waiting.reserve(1)?;
-    let node = flat_node(label, first, count)?;
+    let node = flat_node(label, first, count);
     let own = NodeNumber {
         number: number as u32,
     };
@@ -106,17 +107,21 @@ fn push_node<'s>(
     Ok(())
 }
 
+/// Whether a span begins or ends past what four bytes hold.
+#[inline(always)]
+pub(crate) fn is_too_late(span: Span) -> bool
+    ensures { result ≡ nat_lt most (max span.start span.end) }
+{
+    span.start.max(span.end) > MAX_NUMBER
+}
+
 /// The node with this label, whose parts stand from a place on in the list of all. It has no row yet.
 #[inline(always)]
-pub(crate) fn flat_node<'s>(
-    label: NodeLabel<'s>,
-    first: usize,
-    count: usize,
-) -> Result<FlatNode<'s>, BuildError>
-    requires { first + count ≤ most }
-    ensures label { IfOk result (λ node. node_label node ≡ given_label label.entry) }
-    ensures places { IfOk result (λ node. (node.first ≡ first) × (node.count ≡ count)) }
-    ensures refused { IfErr result (λ _. most < max label.entry.span.start label.entry.span.end) }
+pub(crate) fn flat_node<'s>(label: NodeLabel<'s>, first: usize, count: usize) -> FlatNode<'s>
+    requires parts { first + count ≤ most }
+    requires early { max label.span.start label.span.end ≤ most }
+    ensures label { node_label result ≡ given_label label.entry }
+    ensures places { (result.first ≡ first) × (result.count ≡ count) }
 {
     let NodeLabel {
         kind,
@@ -124,19 +129,16 @@ pub(crate) fn flat_node<'s>(
         flags,
         span,
     } = label;
-    if span.start > MAX_NUMBER || span.end > MAX_NUMBER {
-        return Err(BuildError::TooLarge);
-    }
-    Ok(FlatNode {
+    FlatNode {
         kind,
-        flags,
+        flags: FlagBits::of(flags),
+        row: RowNumber::none(),
         text,
         start: span.start as u32,
         end: span.end as u32,
         first: first as u32,
         count: count as u32,
-        row: None,
-    })
+    }
 }
 
 /// Adds a node's parts to those of all. They are few: one by one takes less than a copy of them all.

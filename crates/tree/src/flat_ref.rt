@@ -54,7 +54,7 @@ impl<'t, 's> FlatRef<'t, 's> {
         ensures { result.now ≡ text_of (place_tree self.entry) }
     {
         let node = self.node;
-        node.text.as_str()
+        node.text
     }
 
     /// The node's flags.
@@ -62,7 +62,7 @@ impl<'t, 's> FlatRef<'t, 's> {
         ensures { result ≡ flags_of (place_tree self.entry) }
     {
         let node = self.node;
-        node.flags
+        node.flags.flags()
     }
 
     /// The node's place in the source, in bytes.
@@ -82,7 +82,7 @@ impl<'t, 's> FlatRef<'t, 's> {
         ensures { result ≡ place_row self.entry }
     {
         let node = self.node;
-        node.row
+        node.row.number()
     }
 
     /// All its parts.

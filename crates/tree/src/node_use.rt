@@ -102,7 +102,8 @@ fn contains_optional(nodes: &FlatNodes<'_>, pool: &[PartNumber], number: usize) 
     if !node.kind.is_chain_part() {
         return false;
     }
-    if node.flags.optional {
+    let flags = node.flags.flags();
+    if flags.optional {
         return true;
     }
     match first_part(pool, node) {

@@ -12,7 +12,6 @@ use crate::flat_builder::FlatBuilder;
 use crate::flat_list::section;
 use crate::flat_node::{FlatNode, FlatNodes};
 use crate::kind::Kind;
-use crate::node_text::NodeText;
 use crate::part_number::PartNumber;
 
 /// The last so many parts that wait become their patterns; all where there are no more.
@@ -78,7 +77,7 @@ fn relabel(node: &mut FlatNode<'_>)
         Kind::ObjectExpression => node.kind = Kind::ObjectPattern,
         Kind::AssignmentExpression => {
             node.kind = Kind::AssignmentPattern;
-            node.text = NodeText::Borrowed("");
+            node.text = "";
         }
         Kind::SpreadElement => node.kind = Kind::RestElement,
         _ => {}

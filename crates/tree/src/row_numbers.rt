@@ -13,6 +13,7 @@ use crate::flat_node::{FlatNode, FlatNodes};
 use crate::flat_tree::FlatTree;
 use crate::node_use::{NodeUse, ParentUse, child_place, has_row, part_use};
 use crate::part_number::PartNumber;
+use crate::row_number::RowNumber;
 
 /// The tree with the rows of its last node and of all below it numbered: of a whole tree, all its rows.
 pub(crate) fn number_rows(tree: FlatTree<'_>) -> FlatTree<'_>
@@ -38,7 +39,9 @@ pub(crate) fn number_node(
 ) -> u32
     requires there { number < length nodes.old.items }
     requires linked { AreLinked pool.now 0 nodes.old.items }
+    requires counted { 0 < row }
     ensures shape { KeepsLabels nodes.old.items nodes.new.items }
+    ensures counted { 0 < result }
     ensures numbered { NumbersNode pool.now nodes.old.items nodes.new.items node_use number row result }
 {
     let node = &mut nodes[number];
@@ -60,14 +63,16 @@ fn number_below(
 ) -> u32
     requires there { number < length nodes.old.items }
     requires linked { AreLinked pool.now 0 nodes.old.items }
+    requires counted { 0 < row }
     ensures shape { KeepsLabels nodes.old.items nodes.new.items }
+    ensures counted { 0 < result }
     ensures numbered { NumbersBelow pool.now nodes.old.items nodes.new.items node_use number row result }
 {
     let node = &nodes[number];
     let around = ParentUse {
         node_use,
         kind: node.kind,
-        flags: node.flags,
+        flags: node.flags.flags(),
     };
     let run = section(pool, node.first as usize, node.count as usize);
     number_parts(nodes, pool, around, run, row)
@@ -85,7 +90,9 @@ fn number_parts(
 ) -> u32
     requires before { AreBefore (length nodes.old.items) run.now }
     requires linked { AreLinked pool.now 0 nodes.old.items }
+    requires counted { 0 < row }
     ensures shape { KeepsLabels nodes.old.items nodes.new.items }
+    ensures counted { 0 < result }
     ensures numbered { NumbersParts pool.now nodes.old.items nodes.new.items around run.now row result }
 {
     let mut next = row;
@@ -103,14 +110,16 @@ fn number_parts(
 /// hold.
 #[inline(always)]
 fn number_own(node: &mut FlatNode<'_>, node_use: NodeUse, row: u32) -> u32
+    requires { 0 < row }
+    ensures counted { 0 < result }
     ensures kept { node.new ≡ record node.old { row = node.new.row } }
     ensures own { node.new.row ≡ cond (has_row_at node_use node.old.kind) (Some row) None }
     ensures next { row ≤ most → result ≡ row + cond (is_some node.new.row) 1 0 }
 {
     if has_row(node_use, node.kind) {
-        node.row = Some(row);
+        node.row = RowNumber::of(row);
         return row.saturating_add(1);
     }
-    node.row = None;
+    node.row = RowNumber::none();
     row
 }

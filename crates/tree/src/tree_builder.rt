@@ -1,7 +1,6 @@
 //! The finished tree while a script is read: the parser adds each node behind its parts.
 
 ghost use Rattle.std.specs.Prelude.{◌≡◌, IfOk};
-ghost use Rattle.tree.specs.NodeText.{text_bytes};
 ghost use Rattle.tree.specs.Patterns.{pattern_parts};
 ghost use Rattle.tree.specs.Tree.{all_but, join, last_parts, node, none, plain, push};
 
@@ -11,10 +10,10 @@ use crate::flat_builder::{FlatBuilder, NodeLabel, push_hole, push_leaf, push_par
 use crate::flat_node::FlatNodes;
 use crate::flat_tree::FlatTree;
 use crate::kind::{Flags, Kind, Span};
-use crate::node_text::NodeText;
 use crate::patterns::make_last_patterns;
+use crate::text_arena::TextArena;
 use crate::witness::{Witness, Witnessing};
-use std::alloc::Global;
+use std::alloc::{AllocError, Global};
 use std::marker::Model;
 
 /// The nodes of a script that are there so far, which contracts see as the parts that wait for their node, in source order. A node takes the
@@ -25,6 +24,7 @@ pub struct TreeBuilder<'s> {
     building: FlatBuilder<'s>,
     refused: Option<BuildError>,
     shown: Witness,
+    texts: &'s TextArena,
 }
 
 impl<'s> Model for TreeBuilder<'s> {
@@ -43,7 +43,6 @@ impl<'s> Model for TreeBuilder<'s> {
 
 impl<'s> TreeBuilder<'s> {
     ghost use Rattle.std.specs.Prelude.{◌≡◌, IfErr, IfOk};
-    ghost use Rattle.tree.specs.NodeText.{text_bytes};
     ghost use Rattle.tree.specs.Patterns.{pattern_tree, pattern_parts};
     ghost use Rattle.tree.specs.Tree.{Tree, Parts, node, none, part, plain, push, push_gap, join, part_count};
     ghost use Rattle.tree.specs.TooLarge.{IsTooLarge};
@@ -51,7 +50,7 @@ impl<'s> TreeBuilder<'s> {
     ghost use Rattle.tree.specs.declared.build_error.BuildError.TheVariants.{TooLarge};
 
     /// No nodes; no memory.
-    pub fn new(alloc: Global) -> TreeBuilder<'s>
+    pub fn new(alloc: Global, texts: &'s TextArena) -> TreeBuilder<'s>
         ensures { result ≡ none }
     {
         TreeBuilder {
@@ -62,16 +61,27 @@ impl<'s> TreeBuilder<'s> {
             },
             refused: None,
             shown: Witness::of(&Witnessing::Nothing),
+            texts,
         }
+    }
+
+    /// A copy of a text that was made, for a node of this tree.
+    ///
+    /// # Errors
+    /// `AllocError` where memory is refused.
+    pub fn keep(&self, text: &str) -> Result<&'s str, AllocError>
+        ensures { IfOk result (λ kept. kept.now ≡ text.now) }
+    {
+        self.texts.keep(text)
     }
 
     /// A node with no parts and plain flags, which waits.
     #[inline(always)]
-    pub fn leaf(&mut self, kind: Kind, text: NodeText<'s>, span: Span)
-        ensures { self.new ≡ push self.old (node kind (text_bytes text.entry) plain span.start span.end none) }
+    pub fn leaf(&mut self, kind: Kind, text: &'s str, span: Span)
+        ensures { self.new ≡ push self.old (node kind text.now plain span.start span.end none) }
     {
         let flags = Flags::PLAIN;
-        self.shown = finished(&self.shown, kind, &text, flags, span, 0);
+        self.shown = finished(&self.shown, kind, text, flags, span, 0);
         if self.refused.is_none() {
             let label = NodeLabel {
                 kind,
@@ -105,8 +115,7 @@ impl<'s> TreeBuilder<'s> {
     pub fn finish(&mut self, kind: Kind, text: &'s str, flags: Flags, span: Span, count: usize)
         ensures { (base own : Parts) → self.old ≡ join base own → part_count own ≡ count → self.new ≡ push base (node kind text.now flags span.start span.end own) }
     {
-        let text = NodeText::Borrowed(text);
-        self.shown = finished(&self.shown, kind, &text, flags, span, count);
+        self.shown = finished(&self.shown, kind, text, flags, span, count);
         if self.refused.is_none() {
             let label = NodeLabel {
                 kind,
@@ -139,11 +148,11 @@ impl<'s> TreeBuilder<'s> {
 
     /// A node with no parts and plain flags, which waits before the last so many parts: a callee that was read as one only behind its
     /// arguments. Their nodes move up by one.
-    pub fn leaf_before(&mut self, count: usize, kind: Kind, text: NodeText<'s>, span: Span)
-        ensures { (base own : Parts) → self.old ≡ join base own → part_count own ≡ count → self.new ≡ join base (part (node kind (text_bytes text.entry) plain span.start span.end none) own) }
+    pub fn leaf_before(&mut self, count: usize, kind: Kind, text: &'s str, span: Span)
+        ensures { (base own : Parts) → self.old ≡ join base own → part_count own ≡ count → self.new ≡ join base (part (node kind text.now plain span.start span.end none) own) }
     {
         let flags = Flags::PLAIN;
-        self.shown = led(&self.shown, kind, &text, span, count);
+        self.shown = led(&self.shown, kind, text, span, count);
         if self.refused.is_none() {
             let label = NodeLabel {
                 kind,
@@ -177,6 +186,7 @@ impl<'s> TreeBuilder<'s> {
             building,
             refused,
             shown: _,
+            texts: _,
         } = builder;
         let FlatBuilder {
             nodes,
@@ -195,12 +205,12 @@ impl<'s> TreeBuilder<'s> {
 fn finished(
     waiting: &Witness,
     kind: Kind,
-    text: &NodeText<'_>,
+    text: &str,
     flags: Flags,
     span: Span,
     count: usize,
 ) -> Witness
-    ensures { result.parts ≡ push (all_but count waiting.now.parts) (node kind (text_bytes text.now) flags span.start span.end (last_parts count waiting.now.parts)) }
+    ensures { result.parts ≡ push (all_but count waiting.now.parts) (node kind text.now flags span.start span.end (last_parts count waiting.now.parts)) }
 {
     let kept = Witness::of(&Witnessing::AllBut { count, of: waiting });
     let parts = Witness::of(&Witnessing::Last { count, of: waiting });
@@ -233,8 +243,8 @@ fn patterned(waiting: &Witness, count: usize) -> Witness
 
 /// What waits once a node without parts stands before the last so many.
 #[inline(always)]
-fn led(waiting: &Witness, kind: Kind, text: &NodeText<'_>, span: Span, count: usize) -> Witness
-    ensures { result.parts ≡ join (push (all_but count waiting.now.parts) (node kind (text_bytes text.now) plain span.start span.end none)) (last_parts count waiting.now.parts) }
+fn led(waiting: &Witness, kind: Kind, text: &str, span: Span, count: usize) -> Witness
+    ensures { result.parts ≡ join (push (all_but count waiting.now.parts) (node kind text.now plain span.start span.end none)) (last_parts count waiting.now.parts) }
 {
     let kept = Witness::of(&Witnessing::AllBut { count, of: waiting });
     let last = Witness::of(&Witnessing::Last { count, of: waiting });

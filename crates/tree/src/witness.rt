@@ -6,7 +6,6 @@ ghost use Rattle.tree.specs.TreeCode.{parts_code};
 ghost use base.Fml.{ftrue};
 
 use crate::kind::{Flags, Kind, Span};
-use crate::node_text::NodeText;
 use std::marker::Model;
 
 /// It stands for parts that are kept elsewhere, so that a contract can name them. It has no bytes.
@@ -21,13 +20,13 @@ impl Model for Witness {
 
 /// What a witness comes from.
 #[derive(Clone, Copy, Drop)]
-pub enum Witnessing<'a, 's> {
+pub enum Witnessing<'a> {
     /// No parts.
     Nothing,
     /// One node, of the parts of another.
     Node {
         kind: Kind,
-        text: &'a NodeText<'s>,
+        text: &'a str,
         flags: Flags,
         span: Span,
         parts: &'a Witness,
@@ -67,7 +66,7 @@ impl Witness {
 
     /// The witness that comes from others; it does nothing.
     #[inline(always)]
-    pub fn of(_how: &Witnessing<'_, '_>) -> Witness
+    pub fn of(_how: &Witnessing<'_>) -> Witness
         ensures { result.parts ≡ witnessed _how.now }
     {
         Witness {}

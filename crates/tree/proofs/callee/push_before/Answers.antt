@@ -71,11 +71,11 @@ returns-clause-pushed c = λ w h.
     let split = cut_moved kept ws (take a.waiting.len (waited ++ drop (length waited) ws)) (omega (arith, at)) all in
     let own = c.of.result in
     let waiting : c.insert-2.new.self.items ≡ take kept ws ++ (own ∷ map moved_up (drop kept ws)) =
-    c.in_ok-insert-2.ensures.items
+    c.in_ok-insert.ensures.items
     ∙ ap (λ (os : Pool). os ++ (own ∷ drop kept (take a.waiting.len (waited ++ drop (length waited) ws)))) split.0
     ∙ ap (λ (os : Pool). take kept ws ++ (own ∷ os)) split.1 in
-    put_before a _ (given_label c.args.label) c.args.count kept number first w c.in_ok-node.node h at
+    put_before a _ (given_label c.args.label) c.args.count kept number first w c.flat_node-node.result h at
     (λ u g. c.node_count-number.ensures.all u (ap (take kept) c.deref.ensures.value ∙ g))
-    low fits front behind c.in_ok-insert.ensures.items parts
+    low fits front behind c.in_default.ensures.items parts
     (waiting ∙ ap (λ (o : Option NodeNumber). take kept ws ++ (o ∷ map moved_up (drop kept ws))) c.of.ensures)
-    c.in_ok-node.ensures.label c.in_ok-node.ensures.places.0 c.in_ok-node.ensures.places.1 (omega (arith, c.if-len-ge-MAX_NUMBER.false, c.len-2.ensures, a.nodes.ok.0))
+    c.flat_node-node.ensures.label c.flat_node-node.ensures.places.0 c.flat_node-node.ensures.places.1 (omega (arith, c.if-len-ge-MAX_NUMBER.false, c.len-2.ensures, a.nodes.ok.0))

@@ -2,6 +2,7 @@ use Rattle.std.proofs.Common.{◌≡◌, ℕ, ◌+◌, ◌<◌, length, set, get
 use Rattle.std.proofs.lemmas.List.{get_or-set_same}
 use Rattle.std.proofs.lemmas.Option.{slice_get-get_or, slice_get_read}
 use Rattle.tree.specs.declared.flat_node.FlatNode.{FlatNode}
+use Rattle.tree.specs.declared.kind.Flags.{Flags}
 use Rattle.tree.specs.declared.node_use.NodeUse.{NodeUse}
 use Rattle.tree.specs.declared.node_use.ParentUse.{ParentUse}
 use Rattle.tree.specs.Flat.{AreBefore, run_of}
@@ -32,7 +33,7 @@ number_below-number_parts-requires t c =
     let run : AreBefore c.args.number c.section-run.result.now =
     subst (λ (os : Pool). AreBefore c.args.number os) (sym c.section-run.ensures) (node_links c.args.pool.now es c.args.number x c.requires.linked c.requires.there c.index-node.ensures).1 in (
       omega (arith, c.decreases, above_low c.args.number c.section-run.result.now run),
-      (AreBefore-more c.args.number (length es) c.section-run.result.now (omega (arith, c.requires.there)) run, c.requires.linked),
+      (AreBefore-more c.args.number (length es) c.section-run.result.now (omega (arith, c.requires.there)) run, (c.requires.linked, c.requires.counted)),
     )
 
 pub number_below-returns-clause-numbered : goal.number_below-returns-clause-numbered
@@ -44,8 +45,9 @@ number_below-returns-clause-numbered t c = λ x e.
     let around : ParentUse = record { node_use = c.args.node_use; kind = z.kind; flags = z.flags } in
     let here = slice_get_read es (length es) c.args.number z refl c.requires.there c.index-node.ensures in
     let same : z ≡ x = cc in
+    let given = subst (λ (g : Flags). NumbersParts pool es new (record { node_use = c.args.node_use; kind = z.kind; flags = g }) c.section-run.result.now c.args.row c.number_parts.result) c.flags.ensures c.number_parts.ensures.numbered in
     subst (λ (y : FlatNode). numbered pool es new c.args.node_use y c.args.row c.number_parts.result) same
-    (subst (λ (os : Pool). NumbersParts pool es new around os c.args.row c.number_parts.result) c.section-run.ensures c.number_parts.ensures.numbered)
+    (subst (λ (os : Pool). NumbersParts pool es new around os c.args.row c.number_parts.result) c.section-run.ensures given)
 
 pub number_node-number_below-requires : goal.number_node-number_below-requires
 number_node-number_below-requires t c =
@@ -53,7 +55,7 @@ number_node-number_below-requires t c =
     let es = c.args.nodes.now.items in
     let kept = own_kept es c.args.number c.index_mut-node.result.now y c.requires.there c.index_mut-node.ensures.value c.number_own-next.ensures.kept in (
       omega (arith, c.decreases),
-      (omega (arith, c.requires.there, length-set es c.args.number y), same_links c.args.pool.now 0 es (set es c.args.number y) kept.places c.requires.linked),
+      (omega (arith, c.requires.there, length-set es c.args.number y), (same_links c.args.pool.now 0 es (set es c.args.number y) kept.places c.requires.linked, c.number_own-next.ensures.counted)),
     )
 
 pub number_node-returns-then-node-eq0-clause-shape : goal.number_node-returns-then-node-eq0-clause-shape
@@ -115,7 +117,7 @@ number_parts-number_node-next-requires t c =
       omega (arith, c.decreases, above_high run i c.in-Some.part e),
       (
         omega (arith, AreBefore-at (length c.args.nodes.now.items) run i c.in-Some.part c.requires.before e, same_count c.args.nodes.now.items c.loop-index.nodes.items c.loop-index.invariant.shape.places),
-        same_links c.args.pool.now 0 c.args.nodes.now.items c.loop-index.nodes.items c.loop-index.invariant.shape.places c.requires.linked,
+        (same_links c.args.pool.now 0 c.args.nodes.now.items c.loop-index.nodes.items c.loop-index.invariant.shape.places c.requires.linked, c.loop-index.invariant.counted),
       ),
     )
 
@@ -139,6 +141,7 @@ number_parts-loop-index-preserved t c =
                 (subst (λ n. NumberedSoFar pool old w.number_node-next.new.nodes.items around run c.args.row (i + 1) n) (sym w.next-is)
                 (numbered_part pool old now w.number_node-next.new.nodes.items around run c.args.row i c.loop-index.next w.number_node-next.result w.in-Some.part w.part_use.result
                 c.loop-index.invariant.numbered c.loop-index.invariant.shape e low (λ first u s. w.part_use.ensures ∙ ap (part_use around) (w.child_place-place.ensures first u s)) w.number_node-next.ensures.numbered));
+            counted = subst (λ n. 0 < n) (sym w.next-is) w.number_node-next.ensures.counted;
           }
       | number_parts-in_default w ↦
           let is : c.match-number.nodes.items ≡ now = ap (λ (v : Vec FlatNode Global). v.items) w.nodes-is in
@@ -148,6 +151,7 @@ number_parts-loop-index-preserved t c =
             numbered = subst (λ (es : List FlatNode). NumberedSoFar pool old es around run c.args.row (i + 1) c.match-number.next) (sym is)
                 (subst (λ n. NumberedSoFar pool old now around run c.args.row (i + 1) n) (sym w.next-is)
                 (numbered_gap pool old now around run c.args.row i c.loop-index.next c.loop-index.invariant.numbered e));
+            counted = subst (λ n. 0 < n) (sym w.next-is) c.loop-index.invariant.counted;
           }
     ]
 

@@ -1,4 +1,4 @@
-use Rattle.std.proofs.Common.{◌+◌, ◌*◌}
+use Rattle.std.proofs.Common.{◌+◌, ◌*◌, ◌<◌}
 use Rattle.tree.specs.Numbering.{KeepsLabels}
 use Rattle.tree.proofs.StandingNodes.{above}
 use Rattle.tree.proofs.NumberedNodes.{NumberedSoFar}
@@ -18,4 +18,5 @@ abbrev pub invariant-number_parts-loop-index : goal.invariant-number_parts-loop-
 invariant-number_parts-loop-index l = record {
   shape : KeepsLabels l.fn.nodes.items l.nodes.items;
   numbered : NumberedSoFar l.pool l.fn.nodes.items l.nodes.items l.around l.run l.row l.index l.next;
+  counted : 0 < l.next;
 }

@@ -3,7 +3,6 @@ use Rattle.tree.specs.Labels.{Label}
 use Rattle.tree.proofs.BuiltNodes.{still_open, shown_parent}
 use Rattle.tree.proofs.TreesTooLarge.{node_done, node_refused, node_still}
 use Rattle.tree.proofs.tree_builder.TreeBuilder.finish.Goals as goal
-use Rattle.tree.proofs.tree_builder.TreeBuilder.finish.Goals.{in-Owned-1, in-Borrowed-1}
 
 pub invariant_of-self : goal.invariant_of-self
 invariant_of-self c =
@@ -20,11 +19,6 @@ invariant_of-self-else-is_none c =
     let l : Label = record { kind = c.args.kind; text = c.args.text.now; flags = c.args.flags; start = c.args.span.start; stop = c.args.span.end } in
     node_still c.self.inside.building c.self.inside.building c.self.inside.refused c.self.inside.shown.parts _ l c.args.count c.finished-self-inside.ensures c.if-is_none.ensures c.self.invariant
 
-pub invariant_of-self-else-is_none-2 : goal.invariant_of-self-else-is_none-2
-invariant_of-self-else-is_none-2 c =
-    let l : Label = record { kind = c.args.kind; text = c.args.text.now; flags = c.args.flags; start = c.args.span.start; stop = c.args.span.end } in
-    node_still c.self.inside.building c.self.inside.building c.self.inside.refused c.self.inside.shown.parts _ l c.args.count c.finished-self-inside.ensures c.if-is_none.ensures c.self.invariant
-
 pub returns-in-Err : goal.returns-in-Err
 returns-in-Err c = λ base own h n.
     c.finished-self-inside.ensures ∙ shown_parent c.args.kind c.args.text.now c.args.flags c.args.span.start c.args.span.end c.args.count c.self.inside.shown.parts c.args.self.now base own c.self.view_is h n
@@ -35,5 +29,4 @@ returns-in_default c = λ base own h n.
 
 pub returns-else-is_none : goal.returns-else-is_none
 returns-else-is_none c = λ base own h n.
-    let shown = c.finished-self-inside.ensures ∙ shown_parent c.args.kind c.args.text.now c.args.flags c.args.span.start c.args.span.end c.args.count c.self.inside.shown.parts c.args.self.now base own c.self.view_is h n in
-    elim c.match-text.branch [ in-Owned-1 w ↦ w.self-is ∙ shown | in-Borrowed-1 w ↦ w.self-is ∙ shown ]
+    c.finished-self-inside.ensures ∙ shown_parent c.args.kind c.args.text.now c.args.flags c.args.span.start c.args.span.end c.args.count c.self.inside.shown.parts c.args.self.now base own c.self.view_is h n

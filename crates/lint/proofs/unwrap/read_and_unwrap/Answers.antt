@@ -1,7 +1,7 @@
 use Rattle.std.proofs.Common.{sym, subst, string_bytes}
 use Rattle.lint.specs.Unwraps.{Unwraps}
 use Rattle.lint.proofs.Unwrapping.{is_unwrapped}
-use Rattle.lint.proofs.unwrap.unwrap_text.Goals as goal
+use Rattle.lint.proofs.unwrap.read_and_unwrap.Goals as goal
 
 pub returns-in-Ok-made_or_own-clause-unwrapped : goal.returns-in-Ok-made_or_own-clause-unwrapped
 returns-in-Ok-made_or_own-clause-unwrapped c = subst (Unwraps c.args.language c.args.source.now) (sym c.in-Ok-made_or_own.ensures) c.in-Ok-unwrap_unless_fewest.ensures.unwrapped

@@ -1,7 +1,7 @@
 use Rattle.std.proofs.Common.{string_bytes}
 use Rattle.language.specs.Claims.{max_open}
 use Rattle.lint.proofs.FixAnswers.{stable}
-use Rattle.lint.proofs.fix_command.fix_text.Goals as goal
+use Rattle.lint.proofs.fix_command.read_and_fix.Goals as goal
 
 pub fix-requires : goal.fix-requires
 fix-requires c =
