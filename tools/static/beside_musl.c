@@ -1,5 +1,5 @@
-/* What the program's object and the toolchain's C ask of glibc and musl hasn't, and copies of few bytes, which musl makes slowly. Of the toolchain's clang, which
- * has no headers, it asks none. */
+/* What the program's object and the toolchain's C ask of glibc and musl hasn't, memory that stays with the program, and copies of few bytes, which musl makes
+ * slowly. Of the toolchain's clang, which has no headers, it asks none. */
 
 typedef unsigned long size_t;
 long write(int, const void *, size_t);
@@ -11,6 +11,31 @@ void *__real_memmove(void *, const void *, size_t);
 typedef void constructor(int, char **, char **);
 extern constructor *const __init_array_start[], *const __init_array_end[];
 
+/* The state of musl's heap, as musl 1.2.3 has it (src/malloc/mallocng/meta.h). */
+struct heap {
+    unsigned long secret;
+    int is_ready;
+    unsigned maps;
+    void *free_meta_head, *free_meta;
+    size_t free_metas, free_meta_areas, meta_area_shift;
+    void *first_meta_area, *last_meta_area;
+    unsigned char *free_areas;
+    void *active[48];
+    size_t used[48];
+    unsigned char unmapped_at[32], bounces[32];
+    unsigned char now;
+    unsigned long end;
+};
+extern struct heap __malloc_context __attribute__((visibility("hidden")));
+
+/* musl gives the last memory of a size back to the system when nothing of that size is in use, unless it had to take it again a hundred times. Here each of the
+ * 32 sizes for which it counts that (128 to 26,192 bytes) counts as taken again that often when the program begins: so their memory is taken once. */
+static void keep_memory(void)
+{
+    for (int size = 0; size < 32; size++)
+        __malloc_context.bounces[size] = 255;
+}
+
 /* glibc hands its constructors the program's words, and the toolchain's keeps them. musl hands them nothing: so they are called in front of main, and not
  * where musl would call them. */
 void __libc_start_init(void)
@@ -19,6 +44,7 @@ void __libc_start_init(void)
 
 int __wrap_main(int count, char **words, char **environment)
 {
+    keep_memory();
     for (constructor *const *each = __init_array_start; each < __init_array_end; each++)
         (*each)(count, words, environment);
     return __real_main(count, words, environment);

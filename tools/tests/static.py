@@ -1,5 +1,5 @@
 """The program without a C library, of release/x86_64-linux-musl, beside that of ./jslint: it needs no other file, gives the same answers, whatever is in its way,
-and where it has too little memory says so; and tools/static's own copies of few bytes.
+and where it has too little memory says so; and tools/static's own copies of few bytes, and the memory that it keeps.
 
 Each test is a function that raises where something is wrong, and Skipped where it can't be tried. Its argument is a room.
 """
@@ -25,6 +25,7 @@ COPIES = r'''
 #include <stdio.h>
 #include <string.h>
 #define ROOM 256
+__attribute__((visibility("hidden"))) char __malloc_context[4096];
 void *__wrap_memcpy(void *, const void *, size_t);
 void *__wrap_memmove(void *, const void *, size_t);
 void *__real_memcpy(void *to, const void *from, size_t count) { return memcpy(to, from, count); }
@@ -47,6 +48,24 @@ int main(void)
                 tried++;
             }
     printf("%ld\n", tried);
+    return 0;
+}
+'''
+# mincore(2), 27 in Linux on x86-64, says whether a page is mapped.
+KEEPS = r'''
+void *malloc(unsigned long);
+void free(void *);
+long syscall(long, ...);
+long write(int, const void *, unsigned long);
+int main(void)
+{
+    for (unsigned long size = 16; size < 131000; size += size / 8) {
+        char *piece = malloc(size), *page = (char *)((unsigned long)piece & ~4095UL), seen;
+        if (!piece)
+            return 1;
+        free(piece);
+        write(1, syscall(27, page, 1, &seen) ? "-" : "+", 1);
+    }
     return 0;
 }
 '''
@@ -162,4 +181,17 @@ def copies(here):
     same(libraries.ran([f'{here.folder}/copies'])[0], f'{70 * 80 * 80}\n')
 
 
-TESTS = [alone, some_rows, in_the_way, too_little_memory, processors, copies]
+def keeps_memory(here):
+    """Memory of at most 26,188 bytes stays with the program when it is given back, and larger pieces go to the system."""
+    here.put('keeps.c', KEEPS)
+    parts = [f'{TOP}/tools/static/{it}' for it in ('musl/rcrt1.o', 'beside_musl.c')]
+    wraps = [f'-Wl,--wrap={it}' for it in ('main', 'memcpy', 'memmove')]
+    words = ['-O2', '-fPIE', '-fno-builtin', '-nostdlib', '-static-pie', *wraps, '-o', 'keeps', *parts, 'keeps.c', f'{TOP}/tools/static/musl/libc.a']
+    libraries.ran([libraries.tool('cc'), *words], cwd=here.folder)
+    sizes = [16]
+    while sizes[-1] + sizes[-1] // 8 < 131000:
+        sizes.append(sizes[-1] + sizes[-1] // 8)
+    same(libraries.ran([f'{here.folder}/keeps'])[0], ''.join('+' if it <= 26188 else '-' for it in sizes))
+
+
+TESTS = [alone, some_rows, in_the_way, too_little_memory, processors, copies, keeps_memory]
