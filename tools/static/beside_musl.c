@@ -1,5 +1,5 @@
-/* What the program's object and the toolchain's C ask of glibc and musl hasn't, memory that stays with the program, and copies of few bytes, which musl makes
- * slowly. Of the toolchain's clang, which has no headers, it asks none. */
+/* What the program's object and the toolchain's C ask of glibc and musl hasn't, how musl's heap keeps small pieces and lets larger ones grow, and copies of few
+ * bytes, which musl makes slowly. Of the toolchain's clang, which has no headers, it asks none. */
 
 typedef unsigned long size_t;
 long write(int, const void *, size_t);
@@ -7,6 +7,7 @@ long syscall(long, ...);
 int __real_main(int, char **, char **);
 void *__real_memcpy(void *, const void *, size_t);
 void *__real_memmove(void *, const void *, size_t);
+void *__real_realloc(void *, size_t);
 
 typedef void constructor(int, char **, char **);
 extern constructor *const __init_array_start[], *const __init_array_end[];
@@ -34,6 +35,16 @@ static void keep_memory(void)
 {
     for (int size = 0; size < 32; size++)
         __malloc_context.bounces[size] = 255;
+}
+
+/* From MAPPED bytes on a piece is a mapping of its own, which the system lets grow without a copy; below, musl copies it to another place each time. So one that
+ * grows to GROWING bytes gets such a mapping at once: what it doesn't use of it takes no memory. */
+enum { GROWING = 16384, MAPPED = 131052 };
+
+void *__wrap_realloc(void *piece, size_t count)
+{
+    void *mapped = count >= GROWING && count < MAPPED ? __real_realloc(piece, MAPPED) : 0;
+    return mapped ? mapped : __real_realloc(piece, count);
 }
 
 /* glibc hands its constructors the program's words, and the toolchain's keeps them. musl hands them nothing: so they are called in front of main, and not

@@ -24,7 +24,7 @@ TARGET = '--target=x86_64-unknown-linux-gnu'
 CLANG_FLAGS = [TARGET, '-O2', '-ffreestanding', '-nostdinc', '-fPIE', '-ffunction-sections', '--no-default-config', '-fno-crash-diagnostics', '-Wall', '-Wextra', '-Werror']
 LLD_FLAGS = [
     '-m', 'elf_x86_64', '-static', '-pie', '--no-dynamic-linker', '-z', 'text', '-z', 'relro', '-z', 'noexecstack', '--gc-sections', '--strip-all',
-    '--no-dependent-libraries', '--build-id=none', '--threads=1', '--fatal-warnings', '--wrap=main', '--wrap=memcpy', '--wrap=memmove',
+    '--no-dependent-libraries', '--build-id=none', '--threads=1', '--fatal-warnings', '--wrap=main', '--wrap=memcpy', '--wrap=memmove', '--wrap=realloc',
 ]
 
 

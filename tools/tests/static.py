@@ -1,5 +1,5 @@
 """The program without a C library, of release/x86_64-linux-musl, beside that of ./jslint: it needs no other file, gives the same answers, whatever is in its way,
-and where it has too little memory says so; and tools/static's own copies of few bytes, and the memory that it keeps.
+and where it has too little memory says so; tools/static's own copies of few bytes; and what it makes of musl's heap.
 
 Each test is a function that raises where something is wrong, and Skipped where it can't be tried. Its argument is a room.
 """
@@ -30,6 +30,7 @@ void *__wrap_memcpy(void *, const void *, size_t);
 void *__wrap_memmove(void *, const void *, size_t);
 void *__real_memcpy(void *to, const void *from, size_t count) { return memcpy(to, from, count); }
 void *__real_memmove(void *to, const void *from, size_t count) { return memmove(to, from, count); }
+void *__real_realloc(void *piece, size_t count) { return count ? piece : 0; }
 int __real_main(int count, char **words, char **environment) { return count + !words + !environment; }
 static unsigned char wanted[ROOM], found[ROOM];
 int main(void)
@@ -51,9 +52,10 @@ int main(void)
     return 0;
 }
 '''
-# mincore(2), 27 in Linux on x86-64, says whether a page is mapped.
-KEEPS = r'''
+# mincore(2), 27 in Linux on x86-64, says whether a page is mapped, and whether it takes memory.
+HEAP = r'''
 void *malloc(unsigned long);
+void *realloc(void *, unsigned long);
 void free(void *);
 long syscall(long, ...);
 long write(int, const void *, unsigned long);
@@ -66,6 +68,16 @@ int main(void)
         free(piece);
         write(1, syscall(27, page, 1, &seen) ? "-" : "+", 1);
     }
+    char *first = realloc(malloc(1000), 16384), *last = first, used, unused;
+    for (unsigned long size = 16384; size + size / 8 < 131000; size += size / 8) {
+        last[size - 1] = 1;
+        last = realloc(last, size + size / 8);
+        write(1, last == first ? "=" : "/", 1);
+    }
+    char *grown = realloc(malloc(1000), 20000), *end = (char *)((unsigned long)(grown + 100000) & ~4095UL);
+    *grown = 1;
+    write(1, syscall(27, (unsigned long)grown & ~4095UL, 1, &used) || !(used & 1) ? "-" : "+", 1);
+    write(1, syscall(27, end, 1, &unused) || unused & 1 ? "-" : "+", 1);
     return 0;
 }
 '''
@@ -181,17 +193,20 @@ def copies(here):
     same(libraries.ran([f'{here.folder}/copies'])[0], f'{70 * 80 * 80}\n')
 
 
-def keeps_memory(here):
-    """Memory of at most 26,188 bytes stays with the program when it is given back, and larger pieces go to the system."""
-    here.put('keeps.c', KEEPS)
+def heap(here):
+    """Memory of at most 26,188 bytes stays with the program when it is given back, and larger pieces go to the system; what grows to 16 KB grows on without a copy,
+    and of the mapping that it gets only what it uses takes memory."""
+    here.put('heap.c', HEAP)
     parts = [f'{TOP}/tools/static/{it}' for it in ('musl/rcrt1.o', 'beside_musl.c')]
-    wraps = [f'-Wl,--wrap={it}' for it in ('main', 'memcpy', 'memmove')]
-    words = ['-O2', '-fPIE', '-fno-builtin', '-nostdlib', '-static-pie', *wraps, '-o', 'keeps', *parts, 'keeps.c', f'{TOP}/tools/static/musl/libc.a']
+    wraps = [f'-Wl,--wrap={it}' for it in ('main', 'memcpy', 'memmove', 'realloc')]
+    words = ['-O2', '-fPIE', '-fno-builtin', '-nostdlib', '-static-pie', *wraps, '-o', 'heap', *parts, 'heap.c', f'{TOP}/tools/static/musl/libc.a']
     libraries.ran([libraries.tool('cc'), *words], cwd=here.folder)
-    sizes = [16]
-    while sizes[-1] + sizes[-1] // 8 < 131000:
-        sizes.append(sizes[-1] + sizes[-1] // 8)
-    same(libraries.ran([f'{here.folder}/keeps'])[0], ''.join('+' if it <= 26188 else '-' for it in sizes))
+    given, grown = [16], [16384]
+    for sizes in (given, grown):
+        while sizes[-1] + sizes[-1] // 8 < 131000:
+            sizes.append(sizes[-1] + sizes[-1] // 8)
+    wanted = ''.join('+' if it <= 26188 else '-' for it in given) + '=' * (len(grown) - 1) + '++'
+    same(libraries.ran([f'{here.folder}/heap'])[0], wanted)
 
 
-TESTS = [alone, some_rows, in_the_way, too_little_memory, processors, copies, keeps_memory]
+TESTS = [alone, some_rows, in_the_way, too_little_memory, processors, copies, heap]
