@@ -7,8 +7,9 @@ import time
 TOP = os.path.dirname(os.path.dirname(os.path.dirname(os.path.realpath(__file__))))
 SOURCE = 'crates/tree/src/kind.rt'
 OTHERS = 'crates/cases/src/main.rt'
+RELEASE = 'release/x86_64-linux-musl/jslint'
 # What it may call; no python3 and no toolchain.
-TOOLS = 'sh find sha256sum cksum sort xargs touch mv rm mkdir readlink uname getconf'.split()
+TOOLS = 'sh find sha256sum cksum sort xargs touch mv rm mkdir readlink uname'.split()
 # What it may call where bin/seen matches.
 QUICK_TOOLS = 'sh find sha256sum'.split()
 
@@ -38,12 +39,12 @@ class Copy:
             for part in ('src', 'specs', 'proofs'):
                 if os.path.isdir(f'{TOP}/crates/{crate}/{part}'):
                     shutil.copytree(f'{TOP}/crates/{crate}/{part}', f'{self.top}/crates/{crate}/{part}')
-        os.makedirs(f'{self.top}/release/x86_64-linux')
+        self.release = f'{self.top}/{RELEASE}'
+        os.makedirs(os.path.dirname(self.release))
         os.makedirs(f'{self.top}/tools')
         os.makedirs(f'{self.top}/tools/measure')
         for name in ('jslint', 'crates.txt', 'tools/made-of', 'tools/build.py', 'tools/measure/seconds.txt'):
             shutil.copy(f'{TOP}/{name}', f'{self.top}/{name}')
-        self.release, self.static = f'{self.top}/release/x86_64-linux/jslint', f'{self.top}/release/x86_64-linux-musl/jslint'
         shutil.copy(program, self.release)
         self.describe()
 
@@ -51,10 +52,9 @@ class Copy:
         """Writes release/MADE, of the sources and the program that stand there."""
         names = crates_of_program()
         quick = self.told(['sh', '-c', '. ./tools/made-of; made_of "$@"', '', 'cksum', '.', *names])
-        sums = [(name, path) for name, path in [('cksum', self.release), ('static_cksum', self.static)] if os.path.exists(path)]
-        checks = [f'{name} {self.told(["sh", "-c", f"cksum <{path}"])}\n' for name, path in sums]
+        check = self.told(['sh', '-c', f'cksum <{self.release}'])
         with open(f'{self.top}/release/MADE', 'w', encoding='utf-8') as file:
-            file.write(f'{"".join(checks)}quick {quick}\ncrates {" ".join(names)}\n')
+            file.write(f'static_cksum {check}\nquick {quick}\ncrates {" ".join(names)}\n')
 
     def told(self, words):
         return subprocess.run(words, cwd=self.top, stdout=subprocess.PIPE, text=True, check=True).stdout.strip()
@@ -162,7 +162,7 @@ def other_release(copy):
         file.write(bytes([byte[0] ^ 1]))
     copy.refuses('is not the program of release/MADE: git checkout -- release brings it back, and ./jslint --build')
     os.remove(copy.release)
-    copy.refuses('release/x86_64-linux/jslint is missing: git checkout -- release brings it back, and ./jslint --build')
+    copy.refuses(f'{RELEASE} is missing: git checkout -- release brings it back, and ./jslint --build')
     os.remove(f'{copy.top}/release/MADE')
     copy.refuses('there is no program in release/, so')
 

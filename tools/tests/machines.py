@@ -10,11 +10,9 @@ import subprocess
 import time
 
 import libraries
-from launcher import SOURCE, TOP, Copy
+from launcher import RELEASE, SOURCE, TOP, Copy
 
-RELEASE = 'release/x86_64-linux/jslint'
 PORTABLE = 'The WebAssembly package runs wherever Node 18 does: '
-STATIC = 'release/x86_64-linux-musl/jslint'
 LOADER = '/lib64/ld-linux-x86-64.so.2'
 
 
@@ -31,20 +29,6 @@ class Machine(Copy):
             file.write(content)
         os.chmod(self.release, 0o755)
         self.describe()
-
-    def put_static(self):
-        """The release has the program without a C library too."""
-        path = f'{TOP}/{STATIC}'
-        if not os.path.isfile(path):
-            raise libraries.Skipped(f'there is no {STATIC}')
-        os.makedirs(os.path.dirname(self.static), exist_ok=True)
-        shutil.copy(path, self.static)
-        self.describe()
-
-    def gives_static(self, told):
-        """It answers, by the program without a C library."""
-        self.answers(told)
-        self.gives((0, f'{os.path.realpath(self.static)}\n', ''), '--program')
 
     def put_tool(self, name, text):
         """Another command, as a script."""
@@ -104,7 +88,7 @@ def no_permission_of_another(copy):
     folder = os.path.dirname(copy.release)
     for path, mode, reason in [
             (copy.release, 0o055, "can't be read"), (copy.release, 0o655, "doesn't run here: there is no permission to execute it"),
-            (folder, 0o655, "release/x86_64-linux can't be entered: no permission"), (os.path.dirname(folder), 0o655, "release can't be entered: no permission"),
+            (folder, 0o655, "release/x86_64-linux-musl can't be entered: no permission"), (os.path.dirname(folder), 0o655, "release can't be entered: no permission"),
             (f'{copy.top}/release/MADE', 0o055, "release/MADE can't be read: no permission"),
             (f'{copy.top}/{SOURCE}', 0o055, "the sources can't be compared"), (f'{copy.top}/crates/tree/specs', 0o055, "the sources can't be compared")]:
         kept = stat.S_IMODE(os.stat(path).st_mode)
@@ -127,66 +111,24 @@ def noexec(copy):
 
 
 def other_system(copy):
-    """Another system or processor: no loader of that name, and `uname` says which it is. It isn't tried, and nothing is read as a script."""
+    """Another system or processor, as `uname` says. It isn't tried, and nothing is read as a script."""
     copy.put_tool('uname', 'echo Linux aarch64')
     copy.put_program(b'#!/bin/sh\ntouch tried\nexit 1\n')
-    copy.has_loader('/lib64/no-loader')
     copy.refuses(f"{RELEASE} doesn't run here: it is for Linux on x86-64 processors, and this is Linux aarch64. {PORTABLE}")
     copy.put_tool('uname', 'echo FreeBSD amd64')
     copy.refuses('it is for Linux on x86-64 processors, and this is FreeBSD amd64. ')
-    copy.put_tool('uname', 'echo Linux x86_64')
-    copy.refuses(f"{RELEASE} doesn't run here: it needs glibc, and there is no /lib64/no-loader here. {PORTABLE}")
     assert not os.path.exists(f'{copy.top}/tried'), 'it was tried'
 
 
-def put_later_glibc(copy):
-    """The program wants a version that there is nowhere yet."""
-    with open(copy.release, 'rb') as file:
-        program = file.read()
-    assert program.count(LOADER.encode() + b'\0') == 1, 'the program names another loader than the launcher'
-    wanted = program.count(b'GLIBC_2.34\0')
-    if wanted != 1:
-        raise libraries.Skipped('the program names no version that could be another')
-    copy.put_program(program.replace(b'GLIBC_2.34\0', b'GLIBC_2.94\0'))
-
-
-def other_glibc(copy):
-    """An older C library: what the loader itself says."""
-    put_later_glibc(copy)
-    status, out, err = copy.run('fix', '/dev/stdin')
-    found = re.fullmatch(rf"jslint: {RELEASE} doesn't run here: it needs glibc 2\.94 or later, and this is glibc 2\.\d+\. {PORTABLE}.*\n", err)
-    assert (status, out) == (2, '') and found, err
-
-
-def without_glibc(copy):
-    """No glibc, or an older one: the program without a C library runs, unless it is another than that of release/MADE, or the processor is another."""
-    copy.put_static()
-    copy.gives((0, f'{os.path.realpath(copy.release)}\n', ''), '--program')
+def without_loader(copy):
+    """No glibc: the program runs, and what was noted on one machine that shares the folder isn't believed on another."""
     copy.has_loader('/lib64/no-loader')
-    copy.gives_static('no loader')
     copy.note()
-    copy.gives_static('noted')
+    copy.answers('noted')
     copy.put_tool('uname', 'echo Linux aarch64')
     copy.refuses(f"{RELEASE} doesn't run here: it is for Linux on x86-64 processors, and this is Linux aarch64. {PORTABLE}", 'noted on another machine')
     copy.put_tool('uname', 'echo Linux x86_64')
-    copy.gives_static('on the first')
-    with open(copy.static, 'ab') as file:
-        file.write(b' ')
-    copy.refuses(f"{RELEASE} doesn't run here: it needs glibc, and there is no /lib64/no-loader here. {PORTABLE}", 'a byte more')
-    os.remove(copy.static)
-    copy.refuses('it needs glibc', 'it is gone')
-    copy.put_static()
-    os.chmod(copy.static, 0o644)
-    copy.refuses('it needs glibc', 'no permission')
-    os.remove(copy.static)
-    os.symlink(copy.release, copy.static)
-    copy.refuses(f'{STATIC} is a link, and what it leads to may change unseen: put the file or folder itself there')
-
-
-def older_glibc(copy):
-    copy.put_static()
-    put_later_glibc(copy)
-    copy.gives_static('an older glibc')
+    copy.answers('on the first')
 
 
 def other_end(copy):
@@ -198,13 +140,20 @@ def other_end(copy):
 
 
 def other_loader(copy):
-    """A folder that machines share: what was compared on one isn't believed on another, whose loader is another file."""
+    """A folder that machines share: what was compared on one isn't believed on another, whose loader is another file, or none."""
     path = f'{copy.top}/loader'
-    shutil.copy(LOADER, path)
     copy.has_loader(path)
-    copy.note()
-    os.remove(path)
-    copy.refuses(f'it needs glibc, and there is no {path} here')
+    for name in ('one', 'two'):
+        with open(path, 'w', encoding='utf-8') as file:
+            file.write(name)
+        copy.note()
+        copy.put_tool('uname', 'echo Linux aarch64')
+        copy.answers('noted')
+        os.remove(path)
+        if name == 'one':
+            shutil.copy(LOADER, path)
+        copy.refuses('this is Linux aarch64', name)
+        copy.put_tool('uname', 'echo Linux x86_64')
 
 
 def portable(copy):
@@ -322,5 +271,5 @@ def streams(copy):
 
 room = Machine
 TESTS = [
-    interrupted_start, streams, no_permission, no_permission_of_another, noexec, other_system, other_glibc, without_glibc, older_glibc, other_end, other_loader, portable, links, linked_program, linked_checkout,
+    interrupted_start, streams, no_permission, no_permission_of_another, noexec, other_system, without_loader, other_end, other_loader, portable, links, linked_program, linked_checkout,
 ]

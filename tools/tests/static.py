@@ -1,4 +1,4 @@
-"""The program without a C library, of release/x86_64-linux-musl, beside that of ./jslint: it needs no other file, gives the same answers, whatever is in its way,
+"""The program with musl, of release/x86_64-linux-musl, beside the one with glibc: it needs no other file, gives the same answers, whatever is in its way,
 and where it has too little memory says so; tools/static's own copies of few bytes; and what it makes of musl's heap.
 
 Each test is a function that raises where something is wrong, and Skipped where it can't be tried. Its argument is a room.
@@ -17,7 +17,7 @@ from machines import in_namespace, other_user
 from recipes import is_well, same
 
 TOP = os.path.dirname(os.path.dirname(os.path.dirname(os.path.realpath(__file__))))
-STATIC = f'{TOP}/release/x86_64-linux-musl/jslint'
+STATIC, DYNAMIC = f'{TOP}/release/x86_64-linux-musl/jslint', f'{TOP}/release/x86_64-linux/jslint'
 SCRIPT = 'let x = (1), y = ((x)) + `${x}`;\nfor (const each of [x, y]) { debugger; if (x == y) (each); }\n'
 # Every so many rows one is tried.
 STEP = 16
@@ -88,9 +88,9 @@ class Room(recipes.Room):
 
     def __init__(self, folder, program):
         super().__init__(f'{folder}/room')
-        if not os.path.isfile(STATIC) or not program.startswith(f'{TOP}/release/'):
-            raise libraries.Skipped('release/ has no program without a C library of the sources here')
-        self.program = program
+        if program != STATIC:
+            raise libraries.Skipped('release/ has no programs of the sources here')
+        self.program = DYNAMIC
 
 
 room = Room
@@ -114,9 +114,9 @@ def alone(here):
 
 
 def some_rows(here):
-    """A sixteenth of the rows, chosen anew each time."""
+    """A sixteenth of the rows by the program with glibc, chosen anew each time: all are tried by the other."""
     kept = rows.PROGRAM, rows.ANSWERS, rows.ROOM
-    rows.begin(STATIC)
+    rows.begin(DYNAMIC)
     rows.short_command.cache_clear()
     try:
         found = list(rows.rows_in(f'{TOP}/crates/cases/data'))[random.randrange(STEP)::STEP]

@@ -77,7 +77,7 @@ if __name__ == '__main__':
     if sys.argv[1:2] == ['run']:
         program = Crate(os.getcwd())
         os.makedirs('out', exist_ok=True)
-        shutil.copy(TOP + '/release/x86_64-linux/jslint', 'out/jslint')
+        shutil.copy(TOP + '/release/x86_64-linux-musl/jslint', 'out/jslint')
         with open('out/jslint.stamp', 'w') as file:
             file.write(program.stamp() + sum_of('out/jslint'))
 '''
@@ -131,7 +131,7 @@ def changed(shop):
     shop.answers('the release')
     assert not shop.called()
     shop.change()
-    why = "jslint: a source differs from those of release/x86_64-linux/jslint, so the program is proved and built here\n"
+    why = "jslint: a source differs from those of release/x86_64-linux-musl/jslint, so the program is proved and built here\n"
     is_built_by(shop, shop.run('fix', '/dev/stdin'), why=why)
     shop.answers('built')
     shop.gives((0, f'{os.path.realpath(shop.top)}/bin/jslint\n', ''), '--program')
@@ -166,7 +166,7 @@ def lacking(shop):
     for names, said in [(['rt'], 'there is no rt here'), (['python3'], 'there is no python3 here'), (['rt', 'python3'], 'there is no rt and python3 here')]:
         for it in names:
             os.rename(f'{shop.path}/{it}', f'{shop.path}/../{it}')
-        wanted = 'a source differs from those of release/x86_64-linux/jslint, so the program of the sources here has to be proved and built; that needs rt'
+        wanted = 'a source differs from those of release/x86_64-linux-musl/jslint, so the program of the sources here has to be proved and built; that needs rt'
         shop.refuses(wanted, names)
         shop.refuses(said, names)
         for words in (['--build'], ['--rebuild'], ['--try', 'fix', SOURCE]):
