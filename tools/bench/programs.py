@@ -38,6 +38,11 @@ def jslint():
     return found.strip()
 
 
+def named():
+    """The same program with the names of its functions: of the release's two the one with glibc."""
+    return jslint().replace("/release/x86_64-linux-musl/", "/release/x86_64-linux/")
+
+
 def scripts():
     """The files of the command line, or those of Debian's packages."""
     install()

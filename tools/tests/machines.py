@@ -143,17 +143,14 @@ def other_loader(copy):
     """A folder that machines share: what was compared on one isn't believed on another, whose loader is another file, or none."""
     path = f'{copy.top}/loader'
     copy.has_loader(path)
-    for name in ('one', 'two'):
-        with open(path, 'w', encoding='utf-8') as file:
-            file.write(name)
-        copy.note()
-        copy.put_tool('uname', 'echo Linux aarch64')
-        copy.answers('noted')
-        os.remove(path)
-        if name == 'one':
-            shutil.copy(LOADER, path)
-        copy.refuses('this is Linux aarch64', name)
-        copy.put_tool('uname', 'echo Linux x86_64')
+    shutil.copy(LOADER, path)
+    copy.note()
+    copy.put_tool('uname', 'echo Linux aarch64')
+    copy.answers('noted')
+    os.remove(path)
+    copy.refuses('this is Linux aarch64', 'none')
+    shutil.copy(LOADER, path)
+    copy.refuses('this is Linux aarch64', 'another file')
 
 
 def portable(copy):

@@ -1,8 +1,9 @@
 """The program with musl, of release/x86_64-linux-musl, beside the one with glibc: it needs no other file, gives the same answers, whatever is in its way,
-and where it has too little memory says so; tools/static's own copies of few bytes; and what it makes of musl's heap.
+and where it has too little memory, or a call of the system fails, says so; tools/static's own copies of few bytes; and what it makes of musl's heap.
 
 Each test is a function that raises where something is wrong, and Skipped where it can't be tried. Its argument is a room.
 """
+import itertools
 import os
 import random
 import resource
@@ -176,6 +177,46 @@ def too_little_memory(here):
         same(seen, {2, want[0]}, name)
 
 
+# System calls by which it takes and gives back memory, reads and writes, with the error that each is made to have.
+MEMORY = {'mmap': 'ENOMEM', 'mremap': 'ENOMEM', 'brk': 'ENOMEM', 'madvise': 'EINVAL', 'munmap': 'ENOMEM'}
+FILES = {'open': 'EMFILE', 'read': 'EIO', 'write': 'ENOSPC'}
+
+
+def with_failing(here, call, error, words):
+    """How words end where the first call of this name fails, then the second, and so on."""
+    for number in itertools.count(1):
+        options = ['-qq', '-o', 'calls', '-e', f'trace={call}', '-e', f'inject={call}:error={error}:when={number}']
+        found = ended([libraries.tool('strace'), *options, *words], here.folder)
+        with open(here.path('calls'), encoding='utf-8') as file:
+            if 'INJECTED' not in file.read():
+                return
+        yield number, found
+
+
+def is_told(call, found, want, names):
+    """Whether an answer is what it may be where this call fails: the whole one or that there is too little memory, or that it can't read or write."""
+    if call in MEMORY:
+        return found in (want, (2, '', 'jslint: out of memory\n'))
+    if call == 'write':
+        return (found[0], found[2]) == (2, 'jslint: write failed\n') and want[1].startswith(found[1])
+    return found in [(2, '', f'jslint: read failed: {it}\n') for it in names]
+
+
+def failing_calls(here):
+    """Each of its calls of the system fails in turn, by strace."""
+    here.put('a.js', SCRIPT.replace('let', 'var').replace('const', 'var') * 200)
+    here.put('table', ended([STATIC, 'cost', 'a.js'], here.folder)[1])
+    for line in ('fix a.js', 'check a.js', 'unwrap a.js', 'tree a.js', 'cost a.js', 'verify a.js table', 'same a.js a.js'):
+        words, seen = line.split(), set()
+        want = ended([STATIC, *words], here.folder)
+        for call, error in {**MEMORY, **FILES}.items():
+            for number, found in with_failing(here, call, error, [STATIC, *words]):
+                is_well(is_told(call, found, want, words[1:]), f'{line}, {call} {number}: {found[0]} {found[1][-80:]!r} {found[2]!r}')
+                seen.add((call, found == want))
+        needed = {('mmap', True), ('mmap', False), ('open', False), ('read', False), *([('write', False)] if want[1] else [])}
+        is_well(needed <= seen, f'{line}: {seen}')
+
+
 def processors(here):
     """A processor that lacks what it was compiled for is refused by the program's own words, and others aren't, as with glibc."""
     emulator = libraries.tool('qemu-x86_64-static', 'qemu-x86_64')
@@ -209,4 +250,4 @@ def heap(here):
     same(libraries.ran([f'{here.folder}/heap'])[0], wanted)
 
 
-TESTS = [alone, some_rows, in_the_way, too_little_memory, processors, copies, heap]
+TESTS = [alone, some_rows, in_the_way, too_little_memory, failing_calls, processors, copies, heap]
