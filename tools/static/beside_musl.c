@@ -8,6 +8,7 @@ int __real_main(int, char **, char **);
 void *__real_memcpy(void *, const void *, size_t);
 void *__real_memmove(void *, const void *, size_t);
 void *__real_realloc(void *, size_t);
+void *__real___mmap(void *, size_t, int, int, int, long);
 
 typedef void constructor(int, char **, char **);
 extern constructor *const __init_array_start[], *const __init_array_end[];
@@ -35,6 +36,15 @@ static void keep_memory(void)
 {
     for (int size = 0; size < 32; size++)
         __malloc_context.bounces[size] = 255;
+}
+
+/* musl's heap uses a mapping of one or two pages as soon as it has it. So the system puts the pages there at once, and needn't be asked for each when it is met
+ * (mmap(2); a mapping that may not be used stays as it is). */
+enum { TWO_PAGES = 8192, POPULATE = 0x8000 };
+
+void *__wrap___mmap(void *at, size_t size, int use, int how, int file, long from)
+{
+    return __real___mmap(at, size, use, size <= TWO_PAGES && use ? how | POPULATE : how, file, from);
 }
 
 /* From MAPPED bytes on a piece is a mapping of its own, which the system lets grow without a copy; below, musl copies it to another place each time. So one that

@@ -25,6 +25,7 @@ CLANG_FLAGS = [TARGET, '-O2', '-ffreestanding', '-nostdinc', '-fPIE', '-ffunctio
 LLD_FLAGS = [
     '-m', 'elf_x86_64', '-static', '-pie', '--no-dynamic-linker', '-z', 'text', '-z', 'relro', '-z', 'noexecstack', '--gc-sections', '--strip-all',
     '--no-dependent-libraries', '--build-id=none', '--threads=1', '--fatal-warnings', '--wrap=main', '--wrap=memcpy', '--wrap=memmove', '--wrap=realloc',
+    '--wrap=__mmap',
 ]
 
 

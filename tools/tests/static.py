@@ -32,6 +32,7 @@ void *__wrap_memmove(void *, const void *, size_t);
 void *__real_memcpy(void *to, const void *from, size_t count) { return memcpy(to, from, count); }
 void *__real_memmove(void *to, const void *from, size_t count) { return memmove(to, from, count); }
 void *__real_realloc(void *piece, size_t count) { return count ? piece : 0; }
+void *__real___mmap(void *at, size_t size, int use, int how, int file, long from) { return size + use + how + file + from ? at : 0; }
 int __real_main(int count, char **words, char **environment) { return count + !words + !environment; }
 static unsigned char wanted[ROOM], found[ROOM];
 int main(void)
@@ -62,6 +63,9 @@ long syscall(long, ...);
 long write(int, const void *, unsigned long);
 int main(void)
 {
+    char *of_two = malloc(2200), *of_three = malloc(10000), there;
+    write(1, syscall(27, (unsigned long)(of_two + 4096) & ~4095UL, 1, &there) || !(there & 1) ? "-" : "+", 1);
+    write(1, syscall(27, (unsigned long)(of_three + 4096) & ~4095UL, 1, &there) || there & 1 ? "-" : "+", 1);
     for (unsigned long size = 16; size < 131000; size += size / 8) {
         char *piece = malloc(size), *page = (char *)((unsigned long)piece & ~4095UL), seen;
         if (!piece)
@@ -236,17 +240,17 @@ def copies(here):
 
 def heap(here):
     """Memory of at most 26,188 bytes stays with the program when it is given back, and larger pieces go to the system; what grows to 16 KB grows on without a copy,
-    and of the mapping that it gets only what it uses takes memory."""
+    and of the mapping that it gets only what it uses takes memory. Two pages are there at once, and three are not."""
     here.put('heap.c', HEAP)
     parts = [f'{TOP}/tools/static/{it}' for it in ('musl/rcrt1.o', 'beside_musl.c')]
-    wraps = [f'-Wl,--wrap={it}' for it in ('main', 'memcpy', 'memmove', 'realloc')]
+    wraps = [f'-Wl,--wrap={it}' for it in ('main', 'memcpy', 'memmove', 'realloc', '__mmap')]
     words = ['-O2', '-fPIE', '-fno-builtin', '-nostdlib', '-static-pie', *wraps, '-o', 'heap', *parts, 'heap.c', f'{TOP}/tools/static/musl/libc.a']
     libraries.ran([libraries.tool('cc'), *words], cwd=here.folder)
     given, grown = [16], [16384]
     for sizes in (given, grown):
         while sizes[-1] + sizes[-1] // 8 < 131000:
             sizes.append(sizes[-1] + sizes[-1] // 8)
-    wanted = ''.join('+' if it <= 26188 else '-' for it in given) + '=' * (len(grown) - 1) + '++'
+    wanted = '++' + ''.join('+' if it <= 26188 else '-' for it in given) + '=' * (len(grown) - 1) + '++'
     same(libraries.ran([f'{here.folder}/heap'])[0], wanted)
 
 
