@@ -31,7 +31,7 @@ struct heap {
 extern struct heap __malloc_context __attribute__((visibility("hidden")));
 
 /* musl gives the last memory of a size back to the system when nothing of that size is in use, unless it had to take it again a hundred times. Here each of the
- * 32 sizes for which it counts that (128 to 26,192 bytes) counts as taken again that often when the program begins: so their memory is taken once. */
+ * 32 sizes for which it counts that (128 to 26,192 bytes) counts as taken again that often when the program begins. */
 static void keep_memory(void)
 {
     for (int size = 0; size < 32; size++)
