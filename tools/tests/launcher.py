@@ -9,9 +9,9 @@ SOURCE = 'crates/tree/src/kind.rt'
 OTHERS = 'crates/cases/src/main.rt'
 RELEASE = 'release/x86_64-linux-musl/jslint'
 # What it may call; no python3 and no toolchain.
-TOOLS = 'sh find sha256sum cksum sort xargs touch mv rm mkdir readlink uname'.split()
+TOOLS = 'sh find cmp cat sha256sum cksum sort xargs touch mv rm mkdir readlink uname'.split()
 # What it may call where bin/seen matches.
-QUICK_TOOLS = 'sh find sha256sum'.split()
+QUICK_TOOLS = 'sh find cmp'.split()
 
 
 def crates_of_program():
@@ -82,6 +82,8 @@ class Copy:
 
     def note(self):
         """Runs until what was compared is noted: what changed within the last two seconds isn't."""
+        if os.path.exists(f'{self.top}/bin/seen'):
+            os.remove(f'{self.top}/bin/seen')
         for _ in range(40):
             self.answers()
             if os.path.exists(f'{self.top}/bin/seen'):
@@ -138,10 +140,35 @@ def other_sources(copy):
     with open(path, 'wb') as file:
         file.write(text)
     copy.note()
-    with open(f'{copy.top}/crates/tree/specs/New.antt', 'w', encoding='utf-8'):
+    for name in ('crates/tree/src/new.rt', 'crates/tree/src/a/new.rt'):
+        os.makedirs(os.path.dirname(f'{copy.top}/{name}'), exist_ok=True)
+        with open(f'{copy.top}/{name}', 'w', encoding='utf-8'):
+            pass
+        copy.refuses(differs, 'one more')
+        os.remove(f'{copy.top}/{name}')
+    os.rmdir(f'{copy.top}/crates/tree/src/a')
+    copy.note()
+    os.rename(f'{copy.top}/crates/tree', f'{copy.top}/tree')
+    copy.refuses(differs, 'a crate is gone')
+    shutil.copytree(f'{copy.top}/tree', f'{copy.top}/crates/tree')
+    copy.note()
+    shutil.rmtree(f'{copy.top}/crates/tree')
+    os.rename(f'{copy.top}/tree', f'{copy.top}/crates/tree')
+    with open(path, 'r+b') as file:
+        file.write(bytes([text[0] ^ 1]))
+    copy.refuses(differs, 'another crate came in its place')
+    with open(path, 'r+b') as file:
+        file.write(text)
+    copy.note()
+    definition = f'{copy.top}/crates/tree/specs/New.antt'
+    with open(definition, 'w', encoding='utf-8'):
         pass
-    copy.refuses(differs, 'one more')
-    os.remove(f'{copy.top}/crates/tree/specs/New.antt')
+    copy.answers('one more definition, the code is the same')
+    status, out, err = copy.run('--program')
+    assert (status, out) == (2, '') and differs in err, (status, out, err)
+    os.remove(f'{copy.top}/bin/seen')
+    copy.refuses(differs, 'one more definition')
+    os.remove(definition)
     with open(f'{copy.top}/{OTHERS}', 'a', encoding='utf-8') as file:
         file.write('\n')
     copy.answers('of a crate that is no part of the program')

@@ -185,6 +185,8 @@ def links(copy):
     for name in ('crates.txt', SOURCE, 'crates/tree/specs', 'crates/tree/src'):
         path = f'{copy.top}/{name}'
         copy.note()
+        if name == 'crates/tree/specs':
+            os.remove(f'{copy.top}/bin/seen')
         replaced(path, elsewhere)
         reason = f"the sources can't be compared with those of {RELEASE}: {name} is a link or a device, and sources have to be files"
         copy.refuses(reason, f'{name} is a link')
