@@ -55,7 +55,7 @@ pub(crate) fn push_difference(
     out.push_str(word(is_other, "another tree: "))
 }
 
-/// The same of a text, if it is a script.
+/// Of a text that is a script, where the tree that is made anew from its finished one shows something else than that.
 pub(crate) fn push_difference_of_source(
     alloc: Global,
     texts: &TextArena,

@@ -179,7 +179,7 @@ fn push_spelled(own: Position, node: Node, out: &mut String) -> Result<(), Alloc
     }
 }
 
-/// The same, by what its outline says.
+/// What the positions of a node's parts are called, if its outline admits the node at its own.
 fn push_produced(own: Position, node: Node, out: &mut String) -> Result<(), AllocError> {
     let Some(production) = node_production(node, own, false) else {
         return out.push_str("none");
@@ -191,7 +191,8 @@ fn push_produced(own: Position, node: Node, out: &mut String) -> Result<(), Allo
     push_slots(own, node, production, out)
 }
 
-/// The same, by what its production requires: behind `chain` where the first part is one's, and `leaf` alone where the node is seen at once to be one.
+/// What the positions of a node's parts are called, if its production admits the node at its own: behind `chain` where the first part is
+/// one's, and `leaf` alone where the node is seen at once to be one.
 fn push_taken(own: Position, node: Node, out: &mut String) -> Result<(), AllocError> {
     if is_leaf(node, own) {
         return out.push_str("leaf");

@@ -181,7 +181,7 @@ fn pair(word: &str) -> Pair {
     }
 }
 
-/// The same of pairs that are written down, which the script needn't have.
+/// Pairs that are written down, which the script needn't have, and which of them are extra.
 pub(crate) fn push_extra_pairs(
     alloc: Global,
     program: &Program,

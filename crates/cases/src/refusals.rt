@@ -14,7 +14,7 @@ pub(crate) fn push_fault(fault: Fault, out: &mut String) -> Result<(), AllocErro
     }
 }
 
-/// The same: of a syntax error whether its place is one of the text; of an early error its number and its place.
+/// A refusal in words: of a syntax error whether its place is one of the text; of an early error its number and its place.
 pub(crate) fn push_refusal(text: &str, fault: Fault, out: &mut String) -> Result<(), AllocError> {
     match fault {
         Fault::Syntax(at) if text.is_char_boundary(at) => out.push_str("syntax"),

@@ -293,7 +293,7 @@ fn push_checked(
     }
 }
 
-/// The same of the settings that the row's last text is.
+/// What a call on rules answers for a script under the settings that the row's last text is.
 pub(crate) fn push_rules(
     alloc: Global,
     row: &Case,

@@ -151,7 +151,7 @@ pub(crate) fn push_run(
     push_answer(&answered, writer.bytes(), out)
 }
 
-/// The same of bytes that are no text.
+/// What a run over bytes that are no text answers, and what it writes.
 pub(crate) fn push_run_bytes(
     alloc: Global,
     row: &Case,
@@ -193,7 +193,7 @@ fn push_outcome(
     }
 }
 
-/// The same where readers and the writer pass a byte a call, if that is another outcome.
+/// The status and what is written where readers and the writer pass a byte a call, if that is another outcome.
 fn push_by_bytes(alloc: Global, run: Run, out: &mut String) -> Result<(), AllocError> {
     let slow = Run {
         reader: plan("1"),

@@ -16,7 +16,7 @@ fn push_seen(node: Node, out: &mut String) -> Result<(), AllocError> {
     write!(out, "{:?}", (expression, pattern, statement))
 }
 
-/// The same, and whether it is a function and a class.
+/// Whether a node is an expression, a pattern and a statement, and whether it is a function and a class.
 fn push_all_seen(node: Node, out: &mut String) -> Result<(), AllocError> {
     push_seen(node, out)?;
     let found = (Function::of(node).is_some(), Class::of(node).is_some());

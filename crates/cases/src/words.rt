@@ -97,7 +97,7 @@ fn push_asked(alloc: Global, words: &[&str], out: &mut String) -> Result<(), All
     }
 }
 
-/// The same of a text's words.
+/// What a command line of a text's words asks for, or the kind of its refusal.
 pub(crate) fn push_command_line(
     alloc: Global,
     text: &str,

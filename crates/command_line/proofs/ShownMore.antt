@@ -12,7 +12,7 @@ one_more f xs c = sym (encodes-append (flat_map f xs) (f c)) ∙ ap encode_utf8_
 pub within_line_more : (xs : List ℕ) (c : ℕ) → encode_utf8_all (flat_map within_line xs) ++ encode_utf8_all (within_line c) ≡ encode_utf8_all (flat_map within_line (xs ++ c ∷ []))
 within_line_more = one_more within_line
 
--- the same behind a text
+-- behind a text, what one more character shows as
 pub shown_more : (has_lines : Bool) (start xs : List ℕ) (c : ℕ)
     → start ++ encode_utf8_all (flat_map (shown has_lines) (xs ++ c ∷ [])) ≡ (start ++ encode_utf8_all (flat_map (shown has_lines) xs)) ++ encode_utf8_all (shown has_lines c)
 shown_more has_lines start xs c =

@@ -25,7 +25,7 @@ reason_words reason.Total = codes "Total"
 abbrev pub place_words : ℕ → ℕ → List ℕ
 place_words line column = decimal line ++ codes ":" ++ decimal column
 
--- the same behind what is there; nothing where there is no place
+-- a line and a column behind what is there; nothing where there is no place
 abbrev pub at_place_words : ℕ → ℕ → List ℕ
 at_place_words zero column = []
 at_place_words (suc line) column = codes " at " ++ place_words (suc line) column

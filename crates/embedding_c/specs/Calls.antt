@@ -69,7 +69,7 @@ abbrev pub TellsBy : Command → LanguageChoice → (text second room_before roo
 TellsBy command choice text second room_before room_after outcome =
     (answer : Result Output Refused) × AnswersBytes command choice text second answer × TellsResult answer room_before room_after outcome
 
--- the same; or, where there is no command or no language, nothing
+-- what a command answers is told; or, where there is no command or no language, nothing
 abbrev pub TellsOf : Option Command → Option LanguageChoice → (text second room_before room_after : List ℕ) → Outcome → Type 0
 TellsOf (Some command) (Some choice) text second room_before room_after outcome = TellsBy command choice text second room_before room_after outcome
 TellsOf command choice text second room_before room_after outcome = (room_after ≡ room_before) × (outcome ≡ record { length = 0; status = 2; is_refusal = 1 })

@@ -129,7 +129,7 @@ pub record Written : Type 0 where
   pub after : Option (List ℕ)
   pub failed : Bool
 
--- the same, by what a writer tells before a call and after it
+-- what is seen of a writer, by what it tells before a call and after it
 abbrev pub written : {W : Type 0} → (W → Option (List ℕ)) → (W → Bool) → W → W → Written
 written taken failed old new = record { before = taken old; after = taken new; failed = failed new }
 

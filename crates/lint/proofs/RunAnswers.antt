@@ -138,7 +138,7 @@ module _ (finds : View → List Report) (command : Command) (choice : LanguageCh
     is_output = answers.1.2;
   }
 
-  -- the same in a language that is the one that is asked for
+  -- what a command but `check` refuses behind a script, in a language that is the one that is asked for
   pub refused_behind : (language : Language) (n : SyntaxTree) (P : List Pair) (fault : Fault) (failed : Bool) (seen : Seen) → language ≡ own → IsSource bytes → IsReading language bytes n P
       → ((found : View → List Report) → Answers found language command bytes n P second (Err fault) failed) → IsBefore bytes second failed seen → Refuses finds command choice seen fault (0, 0)
   refused_behind language n P fault failed seen is source reading answers before =
@@ -261,7 +261,7 @@ module _ (finds : View → List Report) (choice : LanguageChoice) (bytes : List 
   )
   same_answers n P (Err refused) failed source reading answers = λ seen before. same_refused n P refused failed seen source reading answers before
 
--- the same of a command that is `same`, in a language that is the one that is asked for
+-- what a command that is `same` answers, in a language that is the one that is asked for
 pub same_behind : (finds : View → List Report) (command : Command) (choice : LanguageChoice) (bytes : List ℕ) (second : Option (List ℕ)) (language : Language) (n : SyntaxTree) (P : List Pair) (result : Result Answer Refused)
     (failed : Bool) → command ≡ Same → language ≡ asked_language choice → IsSource bytes → IsReading language bytes n P → AnswersSame language n second result failed → AnswersBytes finds command choice bytes second result failed
 same_behind finds command choice bytes second language n P result failed is own source reading answers =

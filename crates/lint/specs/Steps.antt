@@ -119,7 +119,7 @@ Answers finds language command text n P given (Err ReadFailed) failed = (failed 
 Answers finds language command text n P given (Err OutOfMemory) failed = failed ≡ false
 Answers finds language command text n P given (Err fault) failed = (failed ≡ false) × ((second : List ℕ) × IsSecond command given second × CommandRefuses command text n P second fault)
 
--- the same of a command that reads no second file
+-- what a command that reads no second file answers of a script of a language
 abbrev pub AnswersAlone : Language → Command → List ℕ → SyntaxTree → List Pair → Result Answer Fault → Type 0
 AnswersAlone language command text n P result = (finds : View → List Report) (given : Option (List ℕ)) → Answers finds language command text n P given result false
 

@@ -69,7 +69,7 @@ pub fn fix_text(alloc: Global, source: &Source<'_>, language: Language) -> Resul
     read_and_fix(alloc, &texts, source, language)
 }
 
-/// The same, where texts of the script that are no slice of its source stay in `texts`.
+/// The fixed text; texts of the script that are no slice of its source stay in `texts`.
 fn read_and_fix(
     alloc: Global,
     texts: &TextArena,

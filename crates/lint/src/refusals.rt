@@ -33,7 +33,7 @@ pub(crate) fn refused_at(source: &Source<'_>, fault: Fault) -> Refused
     }
 }
 
-/// The same refusal of the second script; that memory is refused speaks of none.
+/// A refusal as one of the second script; that memory is refused speaks of none.
 pub(crate) fn of_second(refused: Refused) -> Refused
     ensures { IsOfOther refused result }
 {

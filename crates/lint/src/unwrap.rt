@@ -245,7 +245,7 @@ pub fn unwrap_text(alloc: Global, source: &Source<'_>, language: Language) -> Re
     read_and_unwrap(alloc, &texts, source, language)
 }
 
-/// The same, where texts of the script that are no slice of its source stay in `texts`.
+/// The unwrapped text; texts of the script that are no slice of its source stay in `texts`.
 fn read_and_unwrap(
     alloc: Global,
     texts: &TextArena,

@@ -29,7 +29,7 @@ turn text reports i r before after total line lt item new is old =
     rw (add-one i) (ap (report_lines text) (drop-cons reports i r lt) ∙ ap (λ x. report_line text x ++ report_lines text (drop (suc i) reports)) (sym item)) in
     ap (λ x. x ++ rest) new ∙ append_assoc before line rest ∙ ap (λ x. before ++ (x ++ rest)) is ∙ ap (λ x. before ++ x) (sym next) ∙ old
 
--- the same of lines with spans
+-- a turn of the loop over reports whose lines have spans
 pub span_turn : (reports : List Report) (i : ℕ) (r : Report) (before after total : List ℕ) → i < length reports → r ≡ get_or reports i r
     → after ≡ before ++ span_line r → before ++ span_lines (drop i reports) ≡ total → after ++ span_lines (drop (i + 1) reports) ≡ total
 span_turn reports i r before after total lt item new old =

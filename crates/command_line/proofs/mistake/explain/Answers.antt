@@ -7,7 +7,7 @@ use Rattle.command_line.proofs.mistake.explain.Goals as goal
 pub returns-then-eq-clause-memory : goal.returns-then-eq-clause-memory
 returns-then-eq-clause-memory g c = λ _. subst (λ refused. WritesLine (refusal_line refused) (g.W.Sink.taken c.args.errors.now) (g.W.Sink.taken c.write_refusal.new.writer) (g.W.Sink.failed c.write_refusal.new.writer)) c.at_no_place.ensures c.write_refusal.ensures.line
 
--- the same, as a text without control characters
+-- memory was refused: its line, as a text without control characters
 pub returns-then-eq-clause-said : goal.returns-then-eq-clause-said
 returns-then-eq-clause-said g c = λ _. memory_said _ _ _ _ (subst (λ refused. WritesLine (refusal_line refused) (g.W.Sink.taken c.args.errors.now) (g.W.Sink.taken c.write_refusal.new.writer) (g.W.Sink.failed c.write_refusal.new.writer)) c.at_no_place.ensures c.write_refusal.ensures.line)
 
