@@ -1,0 +1,2 @@
+pub mod OtherLanguages
+pub mod EachLanguage
