@@ -1,0 +1,2 @@
+pub mod Placeless
+pub mod Laws
