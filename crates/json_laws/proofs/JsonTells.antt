@@ -15,7 +15,7 @@ use Rattle.language.specs.Later.{has_later, some_has_later}
 use Rattle.language.specs.Languages.{is_tree_of}
 use Rattle.estree_json.specs.Json.{json_of, parts_json}
 use Rattle.language_laws.proofs.EachLanguage.{derived_lined_in}
-use Rattle.json_laws.specs.Laws.{SameJson, JsonTellsTrees}
+use Rattle.json_laws.specs.Laws.{SameJson, OneTreeHasOneJson, OneJsonHasOneTree, JsonTellsTrees}
 use Rattle.json_laws.proofs.Told.{a_list, shown, told_parts, parts_told}
 use Rattle.json_laws.proofs.Lists.{names_all}
 use Rattle.json_laws.proofs.SameTrees.{lean_flags, empty_text, are_fine, same_parts}
@@ -60,8 +60,11 @@ told language (node k w g s e ps) (node l v h t u qs) a b x y j =
     of_kinds : (k l : Kind) → Program ≡ k → Program ≡ l → Told k l
     of_kinds k l c d = subst (λ i. Told i l) c (subst (λ i. Told Program i) d (λ a b l m z. programs language w v g h s e t u ps qs a b l m x.parts y.parts z))
 
+pub one_json : OneTreeHasOneJson
+one_json m n same = record { values = same_values m n same; specifiers = same_forms m n same }
+
+pub one_tree : OneJsonHasOneTree
+one_tree language text other m n P Q d e j = told language m n d.1.0 e.1.0 (program_fine m (derived_lined_in language text m P d)) (program_fine n (derived_lined_in language other n Q e)) j
+
 pub json_tells : JsonTellsTrees
-json_tells language text other m n P Q d e = (
-  λ same. record { values = same_values m n same; specifiers = same_forms m n same },
-  λ j. told language m n d.1.0 e.1.0 (program_fine m (derived_lined_in language text m P d)) (program_fine n (derived_lined_in language other n Q e)) j,
-)
+json_tells language text other m n P Q d e = (λ same. one_json m n same, λ j. one_tree language text other m n P Q d e j)

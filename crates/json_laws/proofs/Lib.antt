@@ -5,3 +5,4 @@ pub mod PlacesAside
 pub mod Counts
 pub mod DerivedNodes
 pub mod JsonTells
+mod Examples

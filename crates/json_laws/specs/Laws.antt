@@ -12,7 +12,16 @@ pub record SameJson (m n : Tree) : Type 0 where
   pub values : without_places (json_of m) ≡ without_places (json_of n)
   pub specifiers : specifier_forms m ≡ specifier_forms n
 
--- what two texts derive in one language is one tree, places aside, just where that is so
+-- one tree, places aside, has one JSON, whether or not a text derives it
+abbrev pub OneTreeHasOneJson : Type 0
+OneTreeHasOneJson = (m n : Tree) → SameTree m n → SameJson m n
+
+-- what two texts derive in one language is one tree, places aside, if they have one JSON
+abbrev pub OneJsonHasOneTree : Type 0
+OneJsonHasOneTree =
+    (language : Language) (text other : List ℕ) (m n : Tree) (P Q : List Pair) → DerivesIn language text m P → DerivesIn language other n Q → SameJson m n → SameTree m n
+
+-- so just where they have
 abbrev pub JsonTellsTrees : Type 0
 JsonTellsTrees =
     (language : Language) (text other : List ℕ) (m n : Tree) (P Q : List Pair) → DerivesIn language text m P → DerivesIn language other n Q → SameTree m n ↔ SameJson m n
