@@ -1,5 +1,5 @@
 -- What a group needs says whether it fits.
-use Rattle.std.proofs.Common.{◌≡◌, ℕ, zero, suc, ◌+◌, ◌≤◌, ◌<◌, Bool, true, false, List, [], ◌∷◌, refl, sym, ◌∙◌, ap, arith}
+use Rattle.std.proofs.Common.{◌≡◌, ℕ, zero, suc, ◌+◌, ◌≤◌, Bool, true, false, List, [], ◌∷◌, refl, ◌∙◌, ap, arith}
 use Rattle.std.proofs.lemmas.Bool.Decides.{nat_tests}
 use Rattle.std.specs.Prelude.{cond, not, ◌&&◌, ◌||◌, nat_lt}
 use Rattle.layout_items.specs.declared.item.Item.{Item}
@@ -11,7 +11,7 @@ use Rattle.layout_items.specs.declared.gap.Gap.TheVariants as gap
 use Rattle.layout_items.specs.declared.place.Place.{Place}
 use Rattle.layout_items.specs.declared.style.Style.{Style}
 use Rattle.layout_items.specs.Places.{room_behind, piece_room, is_in_flat, behind_start}
-use Rattle.layout_items.specs.Passes.{is_mark, need, next_place}
+use Rattle.layout_items.specs.Passes.{need, next_place}
 
 pub weight-item : (i : Item) → flat_weight i ≡ cond (must_end_a_line i) 65536 (flat_columns i)
 weight-item GroupStart = refl

@@ -1,18 +1,17 @@
 -- The pass on, one item at a time.
-use Rattle.std.proofs.Common.{◌≡◌, ℕ, ◌+◌, ◌-◌, ◌≤◌, ◌<◌, Bool, true, false, List, [], ◌∷◌, ◌++◌, length, drop, get_or, Option, Some, Ok, Err, Result, refl, sym, ◌∙◌, ap, append_assoc, append-nil, length-append, subst, inl, inr, arith}
+use Rattle.std.proofs.Common.{◌≡◌, ℕ, ◌+◌, ◌≤◌, ◌<◌, Bool, true, false, List, [], ◌∷◌, ◌++◌, length, drop, get_or, Some, Ok, Err, Result, refl, sym, ◌∙◌, ap, append_assoc, append-nil, length-append, subst, inl, inr, arith}
 use Rattle.std.proofs.lemmas.List.{drop_more, drop_all}
 use Rattle.std.specs.Result.{IsErrAnd, IfErr}
-use Rattle.std.specs.Prelude.{cond, nat_lt, reverse}
-use Rattle.layout_items.specs.declared.gap.Gap.{Gap}
+use Rattle.std.specs.Prelude.{cond, reverse}
 use Rattle.layout_items.specs.declared.item.Item.{Item}
-use Rattle.layout_items.specs.declared.item.Item.TheVariants.{GroupStart, GroupEnd, IfBroken, Piece, Lines}
+use Rattle.layout_items.specs.declared.item.Item.TheVariants.{GroupStart, IfBroken, Piece, Lines}
 use Rattle.layout_items.specs.declared.item_list.ItemList.{ItemList}
 use Rattle.layout_items.specs.declared.layout_error.LayoutError.{LayoutError}
 use Rattle.layout_items.specs.declared.layout_error.LayoutError.TheVariants.{OutOfMemory, TooLong}
 use Rattle.layout_items.specs.declared.output.Output.{Output}
 use Rattle.layout_items.specs.declared.place.Place.{Place}
 use Rattle.layout_items.specs.declared.style.Style.{Style}
-use Rattle.layout_items.specs.Places.{beginning, room_behind, piece_room, is_in_flat, behind_piece, behind_item, behind_start}
+use Rattle.layout_items.specs.Places.{beginning, is_in_flat, behind_piece, behind_start}
 use Rattle.layout_items.specs.Layout.{ending, item_text, is_flat, IsLayout}
 use Rattle.layout_items.specs.Passes.{next_place, layout_from, needs_of, need}
 use Rattle.layout_items.specs.Written.{Appended, Refuses, bytes_of}

@@ -1,6 +1,6 @@
 -- The layout of items is the one that the pass on makes.
-use Rattle.std.proofs.Common.{◌≡◌, ℕ, ◌+◌, ◌≤◌, Bool, true, false, List, [], ◌∷◌, ◌++◌, refl, sym, ◌∙◌, ap, arith}
-use Rattle.std.specs.Prelude.{not, ◌&&◌}
+use Rattle.std.proofs.Common.{◌≡◌, ℕ, Bool, true, false, List, [], ◌∷◌, ◌++◌, refl, sym, ◌∙◌, ap}
+use Rattle.std.specs.Prelude.{◌&&◌}
 use Rattle.layout_items.specs.declared.item.Item.{Item}
 use Rattle.layout_items.specs.declared.item.Item.TheVariants.{GroupStart}
 use Rattle.layout_items.specs.declared.place.Place.{Place}

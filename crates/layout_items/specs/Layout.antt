@@ -1,5 +1,5 @@
 -- The layout of items: the text that they are with a flag for each group, where each flag is right.
-use Rattle.std.specs.Prelude.{◌≡◌, ℕ, zero, suc, ◌+◌, ◌-◌, Bool, true, false, not, cond, ◌&&◌, ◌||◌, nat_lt, List, [], ◌∷◌, ◌++◌, replicate}
+use Rattle.std.specs.Prelude.{◌≡◌, ℕ, ◌+◌, Bool, true, false, not, cond, ◌&&◌, ◌||◌, nat_lt, List, [], ◌∷◌, ◌++◌, replicate}
 use Rattle.layout_items.specs.declared.gap.Gap.{Gap}
 use Rattle.layout_items.specs.declared.gap.Gap.TheVariants as gap
 use Rattle.layout_items.specs.declared.item.Item.{Item}

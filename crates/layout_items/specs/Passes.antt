@@ -1,5 +1,5 @@
 -- What the two passes are at, one item after the other. Nothing here has to be believed.
-use Rattle.std.specs.Prelude.{◌≡◌, ℕ, zero, suc, ◌+◌, ◌≤◌, ◌<◌, Bool, true, false, cond, List, [], ◌∷◌, ◌++◌, length, reverse, get_or, slice_index_or}
+use Rattle.std.specs.Prelude.{◌≡◌, ℕ, zero, suc, ◌+◌, ◌≤◌, ◌<◌, Bool, true, false, List, [], ◌∷◌, ◌++◌, reverse, get_or}
 use Rattle.layout_items.specs.declared.item.Item.{Item}
 use Rattle.layout_items.specs.declared.item.Item.TheVariants.{GroupStart, GroupEnd}
 use Rattle.layout_items.specs.declared.needs.GroupTail.{GroupTail}

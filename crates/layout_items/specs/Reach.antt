@@ -3,7 +3,7 @@
 use Rattle.std.specs.Prelude.{ℕ, zero, suc, ◌+◌, Bool, false, cond, ◌||◌, List, [], ◌∷◌}
 use Rattle.layout_items.specs.declared.item.Item.{Item}
 use Rattle.layout_items.specs.declared.item.Item.TheVariants.{GroupStart, GroupEnd}
-use Rattle.layout_items.specs.Items.{must_end_a_line, may_end_a_line, flat_columns, first_columns, flat_weight}
+use Rattle.layout_items.specs.Items.{must_end_a_line, may_end_a_line, flat_columns, first_columns}
 
 -- the columns up to the next place where a line may end, the groups around being broken: a break in a group that begins here counts as well
 unfoldable pub columns_to_break : List Item → ℕ

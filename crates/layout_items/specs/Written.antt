@@ -1,5 +1,5 @@
 -- What is written.
-use Rattle.std.specs.Prelude.{◌≡◌, ℕ, ◌+◌, ◌<◌, ◌≤◌, List, ◌++◌, length, Result, Ok, Err, Some, ◌⊎◌}
+use Rattle.std.specs.Prelude.{◌≡◌, ℕ, ◌+◌, ◌<◌, List, ◌++◌, length, Result, Ok, Err, Some, ◌⊎◌}
 use Rattle.std.specs.String.{string_bytes}
 use Rattle.layout_items.specs.declared.item_list.ItemList.{ItemList}
 use Rattle.layout_items.specs.declared.style.Style.{Style}

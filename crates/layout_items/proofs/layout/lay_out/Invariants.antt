@@ -1,4 +1,4 @@
-use Rattle.std.proofs.Common.{◌≡◌, ◌+◌, ◌≤◌, ◌++◌, length, drop}
+use Rattle.std.proofs.Common.{◌≡◌, ◌+◌, ◌≤◌, ◌++◌, drop}
 use Rattle.std.specs.Prelude.{reverse}
 use Rattle.layout_items.specs.Places.{beginning}
 use Rattle.layout_items.specs.Passes.{needs_of, layout_from}

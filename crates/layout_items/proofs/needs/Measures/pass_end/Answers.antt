@@ -1,4 +1,4 @@
-use Rattle.std.proofs.Common.{◌≡◌, sym, ◌∙◌, ap, arith}
+use Rattle.std.proofs.Common.{sym, ◌∙◌, ap}
 use Rattle.std.specs.Prelude.{reverse}
 use Rattle.layout_items.proofs.BackPass.{weights-end, breaks-end, needs_of-end, tails_end}
 use Rattle.layout_items.proofs.needs.Measures.pass_end.Goals as goal

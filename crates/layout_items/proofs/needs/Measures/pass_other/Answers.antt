@@ -1,4 +1,4 @@
-use Rattle.std.proofs.Common.{◌≡◌, true, false, sym, ◌∙◌, ap, arith}
+use Rattle.std.proofs.Common.{sym, ◌∙◌, ap, arith}
 use Rattle.std.specs.Prelude.{reverse}
 use Rattle.layout_items.proofs.BackPass.{weights-more, other_break, tail-other, needs_of-other}
 use Rattle.layout_items.proofs.needs.Measures.pass_other.Goals as goal

@@ -1,6 +1,5 @@
-use Rattle.std.proofs.Common.{◌≡◌, ◌∷◌, [], ◌++◌, sym, ◌∙◌, ap, refl, length, None, arith}
-use Rattle.std.specs.Prelude.{reverse}
-use Rattle.layout_items.specs.Passes.{HasPassed, need, no_tail}
+use Rattle.std.proofs.Common.{◌≡◌, sym, ◌∙◌, length, None, arith}
+use Rattle.layout_items.specs.Passes.{need}
 use Rattle.layout_items.proofs.BackPass.{weights-start, breaks-start, needs_start, tails_start, start_need}
 use Rattle.layout_items.proofs.needs.Measures.pass_start.Goals as goal
 
