@@ -1,14 +1,11 @@
 -- What is written, one piece after the other.
-use Rattle.std.proofs.Common.{◌≡◌, ℕ, ◌+◌, ◌<◌, List, [], ◌∷◌, ◌++◌, length, replicate, Ok, Err, Result, refl, sym, subst, ◌∙◌, ap, append_assoc, append-nil, length-append, arith}
+use Rattle.std.proofs.Common.{◌≡◌, ℕ, ◌+◌, ◌<◌, List, [], ◌∷◌, ◌++◌, length, replicate, Ok, Err, Result, sym, subst, ◌∙◌, ap, append_assoc, length-append, arith}
 use Rattle.std.proofs.lemmas.List.{replicate_more, length-replicate}
 use Rattle.std.specs.Result.{IsErrAnd}
 use Rattle.layout_items.specs.declared.layout_error.LayoutError.{LayoutError}
 use Rattle.layout_items.specs.declared.layout_error.LayoutError.TheVariants.{OutOfMemory, TooLong}
 use Rattle.layout_items.specs.declared.output.Output.{Output}
 use Rattle.layout_items.specs.Written.{Appended, bytes_of}
-
-pub nothing : (a : Output) → Appended (Ok tt) a a []
-nothing a = (sym (append-nil (bytes_of a)), refl)
 
 pub then : (r : Result (Unit {0}) LayoutError) (a b c : Output) (s t : List ℕ) → Appended (Ok tt) a b s → Appended r b c t → Appended r a c (s ++ t)
 then (Ok u) a b c s t h k = (k.0 ∙ (ap (λ (x : List ℕ). x ++ t) h.0 ∙ append_assoc (bytes_of a) s t), k.1 ∙ h.1)
@@ -17,10 +14,6 @@ then (Err TooLong) a b c s t h k =
     let l = length-append s t in
     omega (arith, e, l, k, h.1)
 then (Err OutOfMemory) a b c s t h k = tt
-
-pub stops : (e : LayoutError) (a b c : Output) (s t : List ℕ) → Appended (Err e) a b s → Appended (Err e) a c (s ++ t)
-stops TooLong a b c s t h = let l = length-append s t in omega (arith, l, h)
-stops OutOfMemory a b c s t h = tt
 
 -- one of so many
 pub stops_among : (e : LayoutError) (a b c d : Output) (n k x : ℕ) → Appended (Ok tt) a b (replicate k x) → Appended (Err e) b c (x ∷ []) → k < n → Appended (Err e) a d (replicate n x)

@@ -1,5 +1,5 @@
 -- The pass on, one item at a time.
-use Rattle.std.proofs.Common.{◌≡◌, ℕ, ◌+◌, ◌≤◌, ◌<◌, Bool, true, false, List, [], ◌∷◌, ◌++◌, length, drop, get_or, Some, Ok, Err, Result, refl, sym, ◌∙◌, ap, append_assoc, append-nil, length-append, subst, inl, inr, arith}
+use Rattle.std.proofs.Common.{◌≡◌, ℕ, ◌+◌, ◌≤◌, ◌<◌, Bool, true, false, List, [], ◌∷◌, ◌++◌, length, drop, get_or, Ok, Err, Result, refl, sym, ◌∙◌, ap, append_assoc, append-nil, length-append, subst, inr, arith}
 use Rattle.std.proofs.lemmas.List.{drop_more, drop_all}
 use Rattle.std.specs.Result.{IsErrAnd, IfErr}
 use Rattle.std.specs.Prelude.{cond, reverse}
@@ -83,14 +83,6 @@ laid-all style items p a b text h k e =
     subst (λ (x : List ℕ). IsLayout style items x) all (layout style items)
 
 -- Refusals
-
-pub refuses-given : (style : Style) (limit : ℕ) (items : ItemList) (e : LayoutError) → items.refused ≡ Some e → Refuses style limit items e
-refuses-given style limit items OutOfMemory h = tt
-refuses-given style limit items TooLong h = inl h
-
-pub refuses-memory : (style : Style) (limit : ℕ) (items : ItemList) (e : LayoutError) → e ≡ OutOfMemory → Refuses style limit items e
-refuses-memory style limit items OutOfMemory h = tt
-refuses-memory style limit items TooLong h = cc
 
 pub refuses-more : (style : Style) (limit : ℕ) (items : ItemList) (e : LayoutError) (a b : Output) (t rest : List ℕ) → a.limit ≡ limit → bytes_of a ++ (t ++ rest) ≡ layout_from style (beginning style) items.items.items → Appended (Err e) a b t → Refuses style limit items e
 refuses-more style limit items OutOfMemory a b t rest l h k = tt
