@@ -2,7 +2,7 @@
 // Holds the parser against the plain model: acceptance, grouping pairs, and the tree with places, texts and flags.
 //
 //   node parser.js [--n COUNT] [--nested COUNT] [--seed S] [--show K] [--keep FOLDER] [--file TEXTS]
-//                   [--high H --open M] [--language base|script|module] [--rows CASES.jsonl [--mutants N]]
+//                   [--high H --open M] [--language base|script|module] [--rows [--mutants N]]
 //
 // Makes COUNT texts of each kind (sentences of the declarative grammar, mutated programs, random token strings), half of them with
 // what the 12th edition adds, copies
@@ -10,7 +10,7 @@
 // (it needs no proof; the environment's RT may name another command) and compares its answers with parse.js.
 // --nested: that many texts in which constructs stand in each other, and no others.
 // --file: texts of one's own, with U+0000 between them. --language: what all texts are read as; base if it isn't said. --rows: the texts of
-// rows {text, language, answer}, each in its language, with its answer too; --mutants: N texts changed from rows in their place. --high H --open M: with these limits in place of the usual ones, so
+// the rows `editions` and `early` of crates/cases/data, each in its language, with its answer too; --mutants: N texts changed from rows in their place. --high H --open M: with these limits in place of the usual ones, so
 // that small texts meet them; a text that derives nothing may then be too deep too. Exit status 1 where anything disagrees.
 
 const fs = require('node:fs');
@@ -21,6 +21,7 @@ const { sample } = require('../model/brute.js');
 const { PROGRAMS } = require('../model/fuzz-programs.js');
 const { LIMITS, parseOnly } = require('../model/parse.js');
 const { randomSource } = require('../model/random.js');
+const { rowsOfLanguages } = require('../definitions/cases.js');
 const { plainTree } = require('../definitions/model.js');
 
 // ---------------------------------------------------------------- texts
@@ -116,8 +117,8 @@ function run(texts) {
 }
 
 // The rows, or as many changed from them as --mutants says, which have no answer of their own.
-function rowsOf(file, source) {
-  const rows = fs.readFileSync(file, 'utf8').split('\n').filter((l) => l !== '').map((l) => JSON.parse(l));
+function rowsOf(source) {
+  const rows = rowsOfLanguages();
   const count = Number(option('mutants', 0));
   if (count === 0) return rows;
   const pool = rows.flatMap((row) => pieces(row.text)).filter((p) => p.trim() !== '');
@@ -129,7 +130,7 @@ function main() {
   const file = option('file', null);
   const count = Number(option('nested', 0));
   const source = randomSource(Number(option('seed', 1)));
-  const rows = option('rows', null) === null ? null : rowsOf(option('rows'), source);
+  const rows = process.argv.includes('--rows') ? rowsOf(source) : null;
   const texts = rows !== null ? rows.map((row) => row.text) : file !== null ? fs.readFileSync(file, 'utf8').split('\0')
     : count > 0 ? withAdditions(source, Array.from({ length: count }, () => nested(source))) : makeTexts(Number(option('n', 1000)), Number(option('seed', 1)));
   const languageOf = (i) => (rows === null ? option('language', 'base') : rows[i].language);
@@ -139,7 +140,7 @@ function main() {
   let differ = 0;
   for (let i = 0; i < answers.length; i++) {
     const wanted = answer(texts[i], languageOf(i));
-    const isRefused = rows?.[i].answer === 'syntax error';
+    const isRefused = rows?.[i].answer === 'syntax';
     if (rows?.[i].answer !== undefined && isRefused !== (answers[i] === 'Syntax')) console.log(`row ${i}: ${rows[i].answer}, but the parser answers ${answers[i]}`);
     if (wanted.endsWith(')')) accepted += 1;
     if (wanted === 'TooDeep') deep += 1;

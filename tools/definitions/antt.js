@@ -26,6 +26,7 @@ const LEFT_OUT = {
   name_tables: 'specs: DeclaratorParts Keys PatternParts Sets Tables',
   scopes: 'specs: Shown Walks Gathered; proofs: Tables',
   rules: 'specs: NineRules Toml Order Run RuleViews Used Nodes NodeRules Appends Refusals Lines',
+  estree_json: 'specs: Sent Primitives Table',
 };
 const LEFT_OUT_NAMES = new Set(Object.entries(LEFT_OUT).flatMap(([crate, parts]) => parts.split('; ').flatMap((part) => {
   const [folder, names] = part.split(': ');
@@ -106,7 +107,7 @@ const LIBRARY = {
   '◌+◌': [2, (a, b) => nat(a + b)], '◌-◌': [2, (a, b) => Math.max(0, a - b)], '◌*◌': [2, (a, b) => nat(a * b)],
   '◌/◌': [2, (a, b) => (b === 0 ? 0 : Math.floor(a / b))], '◌%◌': [2, (a, b) => (b === 0 ? a : a % b)],
   suc: [1, (a) => nat(a + 1)], pred: [1, (a) => Math.max(0, a - 1)], min: [2, Math.min], max: [2, Math.max],
-  nat_eq: [2, (a, b) => a === b], nat_lt: [2, (a, b) => a < b], nat_le: [2, (a, b) => a <= b], '◌==◌': [2, (a, b) => a === b],
+  nat_eq: [2, (a, b) => a === b], int_eq: [2, (a, b) => a === b], pos: [1, (a) => a], nat_lt: [2, (a, b) => a < b], nat_le: [2, (a, b) => a <= b], '◌==◌': [2, (a, b) => a === b],
   not: [1, (a) => !a], cond: [3, (b, x, y) => (b ? x : y)], 'if◌then◌else◌': [3, (b, x, y) => (b ? x : y)],
   '◌&&◌': [2, (a, b) => a && b], '◌||◌': [2, (a, b) => a || b], xor: [2, (a, b) => a !== b], beq: [2, (a, b) => a === b],
   '◌++◌': [2, append], '◌∷◌': [2, (h, t) => new Cons(h, t)],
@@ -142,6 +143,7 @@ const TYPE_NAMES = new Set('ℕ Bool List Option String Type Unit IsTrue IsFalse
 // ---------------------------------------------------------------- tokens and items
 
 const NAME_STOP = /[\s(){}.;,@"«»]/u;
+// (`c` and `e`: the columns from which to which a token stands in its line, for what changes definitions in their text)
 function tokenize(lines, where) {          // lines: [{no, text}]
   const out = [];
   for (const { no, text: line } of lines) {
@@ -159,17 +161,17 @@ function tokenize(lines, where) {          // lines: [{no, text}]
             s += e; j += 2;
           } else { const ch = String.fromCodePoint(line.codePointAt(j)); s += ch; j += ch.length; }
         }
-        out.push({ k: 'string', v: s, spaced, no }); i = j + 1; spaced = false; continue;
+        out.push({ k: 'string', v: s, spaced, no, c: i, e: j + 1 }); i = j + 1; spaced = false; continue;
       }
-      if (c === '«') { const j = line.indexOf('»', i); out.push({ k: 'name', v: line.slice(i + 1, j), spaced, no }); i = j + 1; spaced = false; continue; }
-      if ('(){}.;,@'.includes(c)) { out.push({ k: c, v: c, spaced, no }); i++; spaced = false; continue; }
+      if (c === '«') { const j = line.indexOf('»', i); out.push({ k: 'name', v: line.slice(i + 1, j), spaced, no, c: i, e: j + 1 }); i = j + 1; spaced = false; continue; }
+      if ('(){}.;,@'.includes(c)) { out.push({ k: c, v: c, spaced, no, c: i, e: i + 1 }); i++; spaced = false; continue; }
       let j = i;
       while (j < line.length && !NAME_STOP.test(line[j])) j++;
       const v = line.slice(i, j);
       if (v.startsWith('--')) break;
-      if (['→', '×', '↦', '=', '|', ':', '[', ']', 'λ', 'let', 'in', 'elim', 'record', '_', 'as', 'where', 'do'].includes(v)) out.push({ k: v, v, spaced, no });
-      else if (/^(0x[0-9a-fA-F_]+|0o[0-7_]+|0b[01_]+|[0-9][0-9_]*)$/.test(v)) out.push({ k: 'number', v: Number(v.replace(/_/g, '')), spaced, no });
-      else out.push({ k: 'name', v, spaced, no });
+      if (['→', '×', '↦', '=', '|', ':', '[', ']', 'λ', 'let', 'in', 'elim', 'record', '_', 'as', 'where', 'do'].includes(v)) out.push({ k: v, v, spaced, no, c: i, e: j });
+      else if (/^(0x[0-9a-fA-F_]+|0o[0-7_]+|0b[01_]+|[0-9][0-9_]*)$/.test(v)) out.push({ k: 'number', v: Number(v.replace(/_/g, '')), spaced, no, c: i, e: j });
+      else out.push({ k: 'name', v, spaced, no, c: i, e: j });
       i = j; spaced = false;
     }
   }
@@ -925,7 +927,7 @@ function load(folders, overrides = {}) {
   return spec;
 }
 
-module.exports = { load, AnttError, Cons, Data, toArray, fromArray, bytes, codes, text, show, equal, keyOf };
+module.exports = { load, Spec, Reader, LIBRARY, memo, curry, append, AnttError, Cons, Data, toArray, fromArray, bytes, codes, text, show, equal, keyOf };
 
 if (require.main === module) {
   const spec = load(process.argv.slice(2));

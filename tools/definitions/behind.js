@@ -1,43 +1,59 @@
 'use strict';
-// Holds scopes, references and reports of the definitions to rows of cases: node behind.js CASES.jsonl
-// A row: {text, goal (script or module, of 2022), check}: `check` has the lines "LINE:COLUMN RULE TEXT". Extra pairs aren't looked at.
+// Holds scopes, references and reports of the definitions to rows of cases:  node --stack-size=20000 behind.js [--crates FOLDER]
+// The rows: those of `scopes`, `rules` and `later_answers` in crates/cases/data that ask `check`. Extra pairs aren't looked at, nor rows of refused settings
+// or scripts, of settings that say a language, or with long texts. Exit status 1 where anything disagrees. plant_scopes.js asks `disagreements` of other definitions.
 
-const fs = require('node:fs');
 const path = require('node:path');
-const antt = require('./antt.js');
-const { Model, CRATES, PLAIN_MODEL, plainTree } = require('./model.js');
+const { PLAIN_MODEL, plainTree } = require('./model.js');
+const { rowsOf } = require('./cases.js');
+const { Reports } = require('./reports.js');
 const { parseOnly } = require(path.join(PLAIN_MODEL, 'parse.js'));
+const { fromToml } = require(path.join(PLAIN_MODEL, 'rules.js'));
 
-const crates = path.join(__dirname, '../../crates');
-const model = new Model([...CRATES, path.join(crates, 'scopes'), path.join(crates, 'rules')]);
-const found = model.spec.fn('found', 'Found', 'scopes');
-const RULES = ['eqeqeq', 'no-debugger', 'no-empty', 'no-shadow', 'no-undef', 'no-unused-vars', 'no-var', 'prefer-const'];
-const rules = RULES.map((name) => model.spec.fn(name.replace(/-/g, '_'), 'Rules', 'rules'));
-const settings = { off: antt.fromArray([]), globals: antt.fromArray([]), allow_null: false, ignore_underscore: false };
-const counts = { rows: 0, refused: 0, agree: 0, reports: 0 };
-const differ = [];
+// texts and settings of this many characters are about sizes
+const LONG = 2000;
 
-function lines(text, tree) {
+const isPair = (line) => line.includes(' no-extra-parens ');
+const withoutPairs = (settings) => ({ ...settings, rules: { ...settings.rules, 'no-extra-parens': false } });
+
+// the rows {text, language, settings, want}, of which `want` has a line "LINE:COLUMN RULE TEXT" for each report
+function rowsOfReports() {
+  return ['scopes', 'rules', 'later_answers'].flatMap((file) => rowsOf(file, ['check'])).filter(({ texts }) => texts.every((it) => it.length < LONG))
+    .map(({ texts: [text, settings], language, want }) => ({ text, language, settings: fromToml(Buffer.from(settings)), want }))
+    .filter(({ settings, want }) => settings !== null && /^[01] /.test(want))
+    .map((row) => ({ ...row, settings: withoutPairs(row.settings), want: row.want.slice(2).split('\n').filter((line) => line !== '' && !isPair(line)) }));
+}
+
+// the lines that the definitions report of a row's text
+function linesOf(definitions, { text, language, settings }) {
+  const { ok, tree } = parseOnly(text, { maxHeight: 1e5, maxParens: 1e5, ...(language === 'base' ? {} : { edition: 2022, module: language === 'module' }) });
+  if (!ok) return null;
+  const root = definitions.model.tree(plainTree(tree, language));
   const bytes = Buffer.from(text);
-  const view = { tree, found: found(tree), extra: antt.fromArray([]), settings };
-  const all = rules.flatMap((rule) => antt.toArray(rule(view))).map((r) => ({ start: r.start, rule: antt.text(r.rule), text: antt.text(r.text) }));
-  all.sort((a, b) => a.start - b.start || (a.rule < b.rule ? -1 : a.rule > b.rule ? 1 : 0));
-  return all.map((r) => {
+  return definitions.reports(root, definitions.found(root), [], settings).map((r) => {
     const before = bytes.subarray(0, r.start).toString().split(/\r\n|[\n\r\u2028\u2029]/);
     return `${before.length}:${[...before[before.length - 1]].length + 1} ${r.rule} ${r.text}`;
   });
 }
-for (const line of fs.readFileSync(process.argv[2], 'utf8').split('\n')) {
-  if (line === '') continue;
-  const row = JSON.parse(line);
-  counts.rows += 1;
-  const r = parseOnly(row.text, { maxHeight: 1e5, maxParens: 1e5, edition: 2022, module: row.goal === 'module' });
-  if (!r.ok || row.check === undefined) { counts.refused += 1; continue; }
-  const got = lines(row.text, model.tree(plainTree(r.tree, row.goal)));
-  const want = row.check.filter((l) => !l.includes(' no-extra-parens '));
-  counts.reports += got.length;
-  if (JSON.stringify(got) === JSON.stringify(want)) counts.agree += 1;
-  else { differ.push(row.text); if (differ.length <= 12) console.log(row.goal, JSON.stringify(row.text), '\n  definitions', JSON.stringify(got), '\n  row        ', JSON.stringify(want)); }
+
+// a line for each row of which the definitions say otherwise
+function* disagreements(definitions, rows, counts = { reports: 0 }) {
+  for (const row of rows) {
+    const got = linesOf(definitions, row);
+    counts.reports += got?.length ?? 0;
+    if (JSON.stringify(got) !== JSON.stringify(row.want)) yield `${row.language} ${JSON.stringify(row.text)}\n  definitions ${JSON.stringify(got)}\n  row         ${JSON.stringify(row.want)}`;
+  }
 }
-console.log(JSON.stringify(counts), differ.length === 0 ? 'no disagreement' : `${differ.length} disagreements`);
-process.exitCode = differ.length === 0 ? 0 : 1;
+
+function main() {
+  const at = process.argv.indexOf('--crates');
+  const definitions = new Reports(at < 0 ? path.join(__dirname, '../../crates') : process.argv[at + 1]);
+  const rows = rowsOfReports(), counts = { reports: 0 };
+  const differ = [...disagreements(definitions, rows, counts)];
+  for (const line of differ.slice(0, 12)) console.log(line);
+  console.log(`${rows.length} rows with ${counts.reports} reports by the definitions, ${differ.length} disagreements`);
+  process.exitCode = differ.length === 0 && rows.length > 0 ? 0 : 1;
+}
+
+module.exports = { rowsOfReports, disagreements };
+if (require.main === module) main();

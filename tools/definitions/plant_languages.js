@@ -1,33 +1,35 @@
 #!/usr/bin/env node
 'use strict';
-// Does languages.js see faults? Plants one fault at a time into a copy of the definitions of the languages of 2022, and has languages.js
-// look at rows of some sections:  node --stack-size=20000 plant_languages.js CASES.jsonl [--only NAME|NAME..] [--jobs I/K]
-// I/K: the faults I, I + K .. alone. Nothing planted: over all rows. Exit status 1 where a fault isn't seen, where its text isn't found just once, or where
-// anything disagrees with nothing planted.
+// Does languages.js see faults? Plants one fault at a time into a copy of the definitions of the three languages, and has languages.js
+// look at rows of some sections:  node --stack-size=20000 plant_languages.js [--only NAME|NAME..] [--jobs I/K | --turns K] [--brief]
+// I/K: the faults I, I + K .. alone; --turns: those of one K-th, which is told by the definitions, so that each has its turn as they change. With nothing
+// planted as many of the rows. --brief names only what is otherwise than it should be. Exit status 1 where a fault isn't seen, where its
+// text isn't found just once, or where anything disagrees with nothing planted.
 
 const fs = require('node:fs');
 const path = require('node:path');
 const { CRATES } = require('./model.js');
-const { rowsOf, firstOf } = require('./languages.js');
-const { copyOf, chosen } = require('./planting.js');
+const { rowsOfLanguages } = require('./cases.js');
+const { firstOf } = require('./languages.js');
+const { copyOf, chosen, partOf } = require('./planting.js');
 
 const argv = process.argv.slice(2);
 const value = (name, d) => { const i = argv.indexOf(name); return i < 0 ? d : argv[i + 1]; };
-const cases = argv[0];
-if (cases === undefined || cases.startsWith('--')) { console.error('usage: plant_languages.js CASES.jsonl [--only NAME|NAME..] [--jobs I/K]'); process.exit(2); }
 const crates = CRATES.map((c) => path.basename(c));
 
 // The sections of the rows that are looked at
 const TOKENS = 'tokens,private names';
 const FUNCTIONS = 'async functions,generators,other edges', METHODS = 'methods of objects,classes: fields', ARROWS = 'async arrows', AWAIT = 'await', EACH = 'for await', YIELD = 'generators';
 const FIELDS = 'classes: fields', PRIVATE = 'private names', BLOCKS = 'classes: static blocks', META = 'new.target, import.meta, import()';
-const IMPORTS = 'imports', EXPORTS = 'exports', DEFAULT = 'export default', NAMES = 'values of keys and names', MODULES = 'modules';
+const IMPORTS = 'imports', EXPORTS = 'exports', DEFAULT = 'export default', NAMES = 'values of keys and names', MODULES = 'modules', BASE = 'early';
 
 const LANGUAGES = 'language/specs/Languages.antt', LATER = 'language/specs/Later.antt', EXPRESSIONS = 'language/specs/Expressions.antt', STATEMENTS = 'language/specs/Statements.antt';
 const GRAMMAR = 'language/specs/Grammar.antt', EDGES = 'language/specs/Edges.antt', CONTINUATIONS = 'language/specs/Continuations.antt', VOCABULARY = 'language/specs/Vocabulary.antt';
-const LEXICAL = 'tokens/specs/Lexical.antt', COMMENTS = 'tokens/specs/Comments.antt', USES = 'tree/specs/Uses.antt', DECLARED = 'name_tables/specs/DeclaredNames.antt';
+const FIRST_PART = 'language/specs/FirstPart.antt', LEXICAL = 'tokens/specs/Lexical.antt', COMMENTS = 'tokens/specs/Comments.antt', NUMBERS = 'tokens/specs/Numbers.antt';
+const KINDS = 'tree/specs/Kinds.antt', USES = 'tree/specs/Uses.antt', DECLARED = 'name_tables/specs/DeclaredNames.antt';
 const early = (name) => `early_errors/specs/${name}.antt`;
 const AROUND = early('Around'), YIELDS = early('Yields'), IN_FIELDS = early('Fields'), CLASSES = early('Classes'), PRIVATES = early('PrivateNames'), OF_MODULES = early('Modules'), SCOPES = early('Scopes'), LITERALS = early('Literals');
+const FUNCTIONS_OF = early('Functions'), LABELS = early('Labels'), STRICT = early('Strict');
 
 // What languages.js looks at: the derivations, the fixed texts too, the tokens too, the early errors alone
 const BARE = { bare: true }, FIXED = {}, WITH_TOKENS = { bare: true, tokens: true }, ERRORS = { early: true };
@@ -224,12 +226,82 @@ const FAULTS = [
   ['E35 of for await', YIELDS, 'when (z.of_2022 && not (is_async flags.form) && is_identifier', 'when (z.of_2022 && is_identifier', EACH, ERRORS],
   ['E35 at the loop', YIELDS, 'is (text_of n) "async") (start_of n ∷ [])', 'is (text_of n) "async") (from ∷ [])', EACH, ERRORS],
   ['E35 of any name', YIELDS, ' && is (text_of n) "async") (start_of n', ') (start_of n', 'for await,generators', ERRORS],
+  // what rows showed only since they were written for it: what a node forgets, words, labels, names, halves of characters, left and right edges
+  ['a function stays in its loop', AROUND, 'around_others z FunctionDeclaration flags parts = record (fresh z) { new_target', 'around_others z FunctionDeclaration flags parts = record (fresh z) { in_loop = z.in_loop; new_target', BASE, ERRORS],
+  ['a function stays in its switch', AROUND, 'around_others z FunctionDeclaration flags parts = record (fresh z) { new_target', 'around_others z FunctionDeclaration flags parts = record (fresh z) { in_switch = z.in_switch; new_target', BASE, ERRORS],
+  ['a function expression stays in its switch', AROUND, 'around_others z FunctionExpression flags parts = record (fresh z) { of_generator', 'around_others z FunctionExpression flags parts = record (fresh z) { in_switch = z.in_switch; of_generator', BASE, ERRORS],
+  ['a function expression keeps labels', AROUND, 'around_others z FunctionExpression flags parts = record (fresh z) { of_generator', 'around_others z FunctionExpression flags parts = record (fresh z) { labels = z.labels; of_generator', BASE, ERRORS],
+  ['a function expression stays in a generator', AROUND, 'around_others z FunctionExpression flags parts = record (fresh z) { of_generator', 'around_others z FunctionExpression flags parts = record (fresh z) { yields = z.yields; of_generator', YIELD, ERRORS],
+  ['a function expression stays in an async function', AROUND, 'around_others z FunctionExpression flags parts = record (fresh z) { of_generator', 'around_others z FunctionExpression flags parts = record (fresh z) { awaits = z.awaits; of_generator', AWAIT, ERRORS],
+  ['a static block stays in a switch', AROUND, 'in_init z = record (fresh z) { super_property', 'in_init z = record (fresh z) { in_switch = z.in_switch; super_property', BLOCKS, ERRORS],
+  ['an arrow stays in its switch', AROUND, 'around_others z ArrowFunctionExpression flags parts = record (within z) { in_loop = false; in_switch = false; labels', 'around_others z ArrowFunctionExpression flags parts = record (within z) { in_loop = false; labels', BASE, ERRORS],
+  ['an async arrow stays in its loop', AROUND, 'around_others z ArrowFunctionExpression flags parts = record (within z) { in_loop = false;', 'around_others z ArrowFunctionExpression flags parts = record (within z) { in_loop = z.in_loop && is_async flags.form;', ARROWS, ERRORS],
+  ['an async arrow keeps labels', AROUND, 'around_others z ArrowFunctionExpression flags parts = record (within z) { in_loop = false; in_switch = false; labels = [];', 'around_others z ArrowFunctionExpression flags parts = record (within z) { in_loop = false; in_switch = false; labels = cond (is_async flags.form) z.labels [];', ARROWS, ERRORS],
+  ['no super() in an async arrow', AROUND, 'around_others z ArrowFunctionExpression flags parts = record (within z) { in_loop', 'around_others z ArrowFunctionExpression flags parts = record (within z) { super_call = z.super_call && not (is_async flags.form); in_loop', ARROWS, ERRORS],
+  ['no super.a in an arrow of a field', AROUND, 'around_others z ArrowFunctionExpression flags parts = record (within z) { in_loop', 'around_others z ArrowFunctionExpression flags parts = record (within z) { super_property = z.super_property && not z.no_arguments; in_loop', FIELDS, ERRORS],
+  ['E15 not of a function in a constructor', AROUND, 'super_call = z.of_method && z.super_call', 'super_call = z.super_call', BASE, ERRORS],
+  ['E14 not of a function in a field', AROUND, 'super_property = z.of_method && z.super_property', 'super_property = z.super_property', FIELDS, ERRORS],
+  ['a function is of the base profile', AROUND, 'fresh z = record outside { of_2022 = z.of_2022; in_module', 'fresh z = record outside { in_module', EACH, ERRORS],
+  ['a tagged template is a function', AROUND, 'around_others z TaggedTemplateExpression flags parts = record (within z)', 'around_others z TaggedTemplateExpression flags parts = record (fresh z)', YIELD, ERRORS],
+  ['a tag is a template behind a tag', AROUND, 'around_first z TaggedTemplateExpression flags parts = within z\n', '', BASE, ERRORS],
+  ['what stands in a template behind a tag is one', AROUND, 'within z = record z { derived = false; tagged = false;', 'within z = record z { derived = false;', BASE, ERRORS],
+  ['what stands in a body is one', AROUND, 'is_body = false; in_head = false; of_method = false; is_word = false }\n\nabbrev pub as_word', 'in_head = false; of_method = false; is_word = false }\n\nabbrev pub as_word', BASE, ERRORS],
+  ['what stands in the head of a loop is one', AROUND, 'is_body = false; in_head = false; of_method = false; is_word = false }\n\nabbrev pub as_word', 'is_body = false; of_method = false; is_word = false }\n\nabbrev pub as_word', BASE, ERRORS],
+  ['E28 not in the key of a field', AROUND, 'around_first z PropertyDefinition flags parts = key_of z flags.computed', 'around_first z PropertyDefinition flags parts = as_word z', FIELDS, ERRORS],
+  ['E28 not in the key of a property', AROUND, 'around_first z Property flags parts = key_of z flags.computed', 'around_first z Property flags parts = as_word z', FIELDS, ERRORS],
+  ['E28 not of the object of a member', AROUND, 'around_first z MemberExpression flags parts = within z\n', '', FIELDS, ERRORS],
+  ['E28 not between brackets', AROUND, 'cond flags.computed (within z) (as_word z)\naround_others z Labeled', 'as_word z\naround_others z Labeled', FIELDS, ERRORS],
+  ['E28 of a label', AROUND, 'around_first z LabeledStatement flags parts = as_word z\n', '', BLOCKS, ERRORS],
+  ['E28 of the label of a break', AROUND, 'around_first z BreakStatement flags parts = as_word z\n', '', BLOCKS, ERRORS],
+  ['E28 of the label of a continue', AROUND, 'around_first z ContinueStatement flags parts = as_word z\n', '', BLOCKS, ERRORS],
+  ['any key is a private name', AROUND, 'cond (is_private (kind_of k)) (text_of k ∷ []) []', 'text_of k ∷ []', PRIVATE, ERRORS],
+  ['a label of a label labels a loop', AROUND, 'is_loop kind || (is_label kind && last_loop parts)', 'is_loop kind || is_label kind', BASE, ERRORS],
+  ['a do is no loop', KINDS, 'is_loop kind.DoWhileStatement = true\n', '', BASE, ERRORS],
+  ['continue goes to any label', LABELS, '(bytes_eq l.0 text && l.1) || labels_a_loop ls text', 'bytes_eq l.0 text || labels_a_loop ls text', BASE, ERRORS],
+  ['continue goes to any loop', LABELS, '(bytes_eq l.0 text && l.1) || labels_a_loop ls text', 'l.1 || labels_a_loop ls text', BASE, ERRORS],
+  ['E8 looks at the first parameter alone', FUNCTIONS_OF, 'is_identifier (kind_of tree) && is_simple rest', 'is_identifier (kind_of tree)', BASE, ERRORS],
+  ['E7 of functions', FUNCTIONS_OF, 'each_part (lexical_names false) (body_items', 'each_part (lexical_names true) (body_items', BASE, ERRORS],
+  ['E1 not of the name of a function expression', STRICT, 'names_given FunctionExpression parts = first_names parts ++ parameter_names', 'names_given FunctionExpression parts = parameter_names', BASE, ERRORS],
+  ['E1 not of the parameters of a function expression', STRICT, 'names_given FunctionExpression parts = first_names parts ++ parameter_names (others parts)', 'names_given FunctionExpression parts = first_names parts', BASE, ERRORS],
+  ['E3 not of functions in a switch', SCOPES, '(λ c. each_part (lexical_names true) (others (parts_of c)))', '(λ c. each_part (lexical_names false) (others (parts_of c)))', BASE, ERRORS],
+  ['E4 not of functions in a body', SCOPES, 'cond z.is_body (each_part function_names parts) []', '[]', BASE, ERRORS],
+  ['E12 not of functions', SCOPES, '(each_part (lexical_names true) (body_items parts) ++ parts_vars', '(each_part (lexical_names false) (body_items parts) ++ parts_vars', BASE, ERRORS],
+  ['E21 of the first flag alone', LITERALS, '(not (holds w c) && are_among known w)', 'not (holds w c)', BASE, ERRORS],
+  ['E34 of any second half', OF_MODULES, 'cond (is_high c) (is_low d && is_well_formed cs)', 'cond (is_high c) (is_well_formed cs)', EXPORTS, ERRORS],
+  ['E34 of the first pair alone', OF_MODULES, 'cond (is_high c) (is_low d && is_well_formed cs)', 'cond (is_high c) (is_low d)', EXPORTS, ERRORS],
+  ['E34 not of a first half that is low', OF_MODULES, '(not (is_low c) && is_well_formed (d ∷ cs))', '(is_well_formed (d ∷ cs))', EXPORTS, ERRORS],
+  ['E34 of each second unit', OF_MODULES, '(not (is_low c) && is_well_formed (d ∷ cs))', '(not (is_low c) && is_well_formed cs)', EXPORTS, ERRORS],
+  ['E34 of strings of one unit', OF_MODULES, 'cond (is_high c) (is_low d && is_well_formed cs) (not (is_low c) && is_well_formed (d ∷ cs))', 'true', IMPORTS, ERRORS],
+  ['high halves begin before 0xD800', OF_MODULES, 'nat_le 0xD800 c', 'nat_le 0xD7FF c', EXPORTS, ERRORS],
+  ['high halves go on to 0xDC00', OF_MODULES, 'nat_le c 0xDBFF', 'nat_le c 0xDC00', EXPORTS, ERRORS],
+  ['high halves end before 0xDBFF', OF_MODULES, 'nat_le c 0xDBFF', 'nat_le c 0xDBFE', EXPORTS, ERRORS],
+  ['low halves begin before 0xDC00', OF_MODULES, 'nat_le 0xDC00 c', 'nat_le 0xDBFF c', EXPORTS, ERRORS],
+  ['low halves end before 0xDFFF', OF_MODULES, 'nat_le c 0xDFFF', 'nat_le c 0xDFFE', EXPORTS, ERRORS],
+  ['low halves go on to 0xE000', OF_MODULES, 'nat_le c 0xDFFF', 'nat_le c 0xE000', EXPORTS, ERRORS],
+  ['low halves never end', OF_MODULES, 'nat_le 0xDC00 c && nat_le c 0xDFFF', 'nat_le 0xDC00 c', EXPORTS, ERRORS],
+  ['a function exports its parameters', OF_MODULES, 'map in_units (first_names parts)', 'map in_units (first_names parts ++ each_part (λ x. (text_of x, start_of x) ∷ []) parts)', EXPORTS, ERRORS],
+  ['a binary expression ends otherwise than its right side', EDGES, 'goes_right BinaryExpression = true\n', '', BASE, BARE],
+  ['a++ goes on with a digit', EDGES, 'begins token 47\ngoes_on Other', 'begins token 48\ngoes_on Other', BASE, BARE],
+  ['no brace behind ++', EXPRESSIONS, '(apart (cond (is text "++") 43 45)) ∷ put (expr LeftHandSide true Any)', '(apart (cond (is text "++") 43 45)) ∷ put (expr LeftHandSide true NoBrace)', BASE, BARE],
+  ['an export goes on with any word', EDGES, 'not (is_word t && is t.text "from")', 'not (is_word t || is t.text "from")', EXPORTS, BARE],
+  ['a number begins no key', EDGES, '    of_class NumericLiteral = true\n', '', FIELDS, BARE],
+  ['await begins no key', EDGES, '    of_class Keyword = true\n', '', FIELDS, BARE],
+  ['directives behind an import', STATEMENTS, 'module_prologue (b && is_directive tree) rest', 'module_prologue (b && (is_directive tree || is_module_item (kind_of tree))) rest', MODULES, BARE],
+  ['two underscores behind .0', NUMBERS, 'next_numeral fraction_separator c = if is_decimal_digit c then fraction else', 'next_numeral fraction_separator c = if is_decimal_digit c then point else', BASE, WITH_TOKENS],
+  ['ConditionalExpression begins with no brace', FIRST_PART, 'goes_left ConditionalExpression flags = true\n', '', DEFAULT, BARE],
+  ['LogicalExpression begins with no brace', FIRST_PART, 'goes_left LogicalExpression flags = true\n', '', DEFAULT, BARE],
+  ['ChainExpression begins with no brace', FIRST_PART, 'goes_left ChainExpression flags = true\n', '', DEFAULT, BARE],
+  ['TaggedTemplateExpression begins with no brace', FIRST_PART, 'goes_left TaggedTemplateExpression flags = true\n', '', DEFAULT, BARE],
+  ['AssignmentExpression begins with no brace', FIRST_PART, 'goes_left AssignmentExpression flags = true\n', '', DEFAULT, BARE],
+  ['a++ begins with no brace', FIRST_PART, 'goes_left UpdateExpression flags = not flags.prefix\n', '', DEFAULT, BARE],
+  ['an object pattern is no brace', FIRST_PART, 'is_braced ObjectPattern = true\n', '', DEFAULT, BARE],
+  ['the operand of yield * with In', EXPRESSIONS, 'sign "*" ∷ sp ∷ sub (tail Assignment Any)', 'sign "*" ∷ sp ∷ put (expr Assignment true Any)', YIELD, BARE],
 ];
 
 let bad = 0;
 const copy = copyOf(path.join(__dirname, '../../crates'), crates);
 const specs = crates.map((c) => path.join(copy, c));
-const rows = rowsOf(cases);
+const rows = rowsOfLanguages();
 
 // What languages.js says with this fault: the first disagreement, or null
 function one([what, file, old, other, sections, looks, ...more]) {
@@ -254,9 +326,9 @@ function one([what, file, old, other, sections, looks, ...more]) {
     return `BROKEN    ${what}: ${String(error.message).slice(0, 300)}`;
   } finally { fs.writeFileSync(target, whole); }
 }
-const [part, of] = value('--jobs', '0/1').split('/').map(Number);
+const [part, of] = partOf(argv, specs);
 const faults = chosen(FAULTS, value('--only', null)).filter((_, i) => i % of === part);
-for (const fault of faults) console.log(one(fault));
+for (const fault of faults) { const line = one(fault); if (!line.startsWith('seen ') || !argv.includes('--brief')) console.log(line); }
 const own = firstOf(specs, rows.filter((_, i) => i % of === part), {});
 if (own !== null) { bad += 1; console.log(`SEEN      (nothing planted)   ${own}`); }
 fs.rmSync(copy, { recursive: true });

@@ -1,49 +1,53 @@
 #!/usr/bin/env node
 'use strict';
-// Does scopes.js see faults? Plants one fault at a time into a copy of the definitions of scopes and rules, and runs it:
-//   node plant_scopes.js [--n N]
-// Exit status 1 where a fault isn't seen, or where its text isn't found any more.
+// Do behind.js and scopes.js see faults? Plants one fault at a time into a copy of the definitions of scopes and rules, and has behind.js look at the
+// rows; where they show nothing, scopes.js at its texts:  node --stack-size=30000 plant_scopes.js [--n N] [--only NAME|NAME..] [--jobs I/K | --turns K] [--brief]
+// I/K: the faults I, I + K .. alone; --turns: one K-th of them, as in plant_languages.js. --brief names only what is otherwise than it should be. A fault of ROWS has to be seen by the rows. Exit status 1 where a fault isn't seen, where its text isn't found just
+// once, or where anything disagrees with nothing planted.
 
 const fs = require('node:fs');
 const path = require('node:path');
-const { spawnSync } = require('node:child_process');
-const { copyOf } = require('./planting.js');
+const behind = require('./behind.js');
+const scopes = require('./scopes.js');
+const { Reports } = require('./reports.js');
+const { copyOf, chosen, partOf } = require('./planting.js');
 
-const at = process.argv.indexOf('--n');
-const n = at < 0 ? '600' : process.argv[at + 1];
-const CRATES = path.join(__dirname, '../../crates');
-const NAMES = ['scopes', 'rules'].filter((crate) => fs.existsSync(path.join(CRATES, crate)));
+const argv = process.argv.slice(2);
+const value = (name, d) => { const i = argv.indexOf(name); return i < 0 ? d : argv[i + 1]; };
+const n = Number(value('--n', '600'));
+
+const ROLES = 'scopes/specs/Roles.antt', OPENINGS = 'scopes/specs/Openings.antt', BINDINGS = 'scopes/specs/Bindings.antt', BUILT_IN = 'rules/specs/BuiltIn.antt';
 
 // what, file, old, new
 const FAULTS = [
-  ['a target of = reads too', 'scopes/specs/Roles.antt', 'cond (is text "=") Write ReadWrite', 'ReadWrite'],
-  ['a logical assignment writes alone', 'scopes/specs/Roles.antt', 'cond (is text "=") Write ReadWrite', 'cond (is text "??=") Write (cond (is text "=") Write ReadWrite)'],
-  ['typeof reads', 'scopes/specs/Roles.antt', 'cond (is text "typeof") Typeof Read', 'Read'],
-  ['a key is a name', 'scopes/specs/Roles.antt', 'cond flags.computed Read NoReference', 'NoReference'],
-  ['a label is read', 'scopes/specs/Roles.antt', 'part_roles u LabeledStatement text flags = First NoReference Read', 'part_roles u LabeledStatement text flags = All Read'],
-  ['a break reads', 'scopes/specs/Roles.antt', 'part_roles u BreakStatement text flags = All NoReference', 'part_roles u BreakStatement text flags = All Read'],
-  ['new.target reads', 'scopes/specs/Roles.antt', 'part_roles u MetaProperty text flags = All NoReference', 'part_roles u MetaProperty text flags = All Read'],
-  ['++ reads alone', 'scopes/specs/Roles.antt', 'part_roles u UpdateExpression text flags = All ReadWrite', 'part_roles u UpdateExpression text flags = All Read'],
-  ['a for-in target reads', 'scopes/specs/Roles.antt', 'part_roles u ForInStatement text flags = First Write Read', 'part_roles u ForInStatement text flags = All Read'],
-  ['a default is a target', 'scopes/specs/Roles.antt', 'part_roles u AssignmentPattern text flags = First u Read', 'part_roles u AssignmentPattern text flags = Same'],
-  ['a shorthand reads in a pattern', 'scopes/specs/Roles.antt', 'part_roles u Property text flags = First (key_role flags) u', 'part_roles u Property text flags = First (key_role flags) Read'],
-  ['a body is a scope', 'scopes/specs/Openings.antt', 'cond (is_body u) NoScope Block', 'Block'],
-  ['a switch head is in a scope', 'scopes/specs/Openings.antt', 'opens_all u _ = NoScope', 'opens_all u SwitchStatement = Switch\nopens_all u _ = NoScope'],
-  ['an expression has no name inside', 'scopes/specs/Openings.antt', 'opens_all u FunctionExpression = FirstPart OwnName', 'opens_all u FunctionExpression = NoScope'],
-  ['a class has no name inside', 'scopes/specs/Openings.antt', 'opens_others ClassDeclaration = FirstPart OwnName', 'opens_others ClassDeclaration = NoScope'],
-  ['a catch clause is no scope', 'scopes/specs/Openings.antt', 'opens_all u CatchClause = FirstPart Catch', 'opens_all u CatchClause = NoScope'],
-  ['a for head with var is a scope', 'scopes/specs/Openings.antt', 'not (is text "var")', 'true'],
-  ['var stays in its block', 'scopes/specs/Bindings.antt', 'holds_statements BlockStatement = true', 'holds_statements BlockStatement = false'],
-  ['var in a label stays', 'scopes/specs/Bindings.antt', 'holds_statements LabeledStatement = true', 'holds_statements LabeledStatement = false'],
-  ['var in a case stays', 'scopes/specs/Bindings.antt', 'holds_statements SwitchCase = true', 'holds_statements SwitchCase = false'],
-  ['a plain for settles', 'scopes/specs/Bindings.antt', 'settles ForHead parts = false', 'settles ForHead parts = is_initialised (others parts)'],
-  ['the last of a name stays', 'scopes/specs/Found.antt', 'cond (has_name b.name bs) bs (bs ++', 'cond false bs (bs ++'],
+  ['a target of = reads too', ROLES, 'cond (is text "=") Write ReadWrite', 'ReadWrite'],
+  ['a logical assignment writes alone', ROLES, 'cond (is text "=") Write ReadWrite', 'cond (is text "??=") Write (cond (is text "=") Write ReadWrite)'],
+  ['typeof reads', ROLES, 'cond (is text "typeof") Typeof Read', 'Read'],
+  ['a key is a name', ROLES, 'cond flags.computed Read NoReference', 'NoReference'],
+  ['a label is read', ROLES, 'part_roles u LabeledStatement text flags b = First NoReference Read', 'part_roles u LabeledStatement text flags b = All Read'],
+  ['a break reads', ROLES, 'part_roles u BreakStatement text flags b = All NoReference', 'part_roles u BreakStatement text flags b = All Read'],
+  ['new.target reads', ROLES, 'part_roles u MetaProperty text flags b = All NoReference', 'part_roles u MetaProperty text flags b = All Read'],
+  ['++ reads alone', ROLES, 'part_roles u UpdateExpression text flags b = All ReadWrite', 'part_roles u UpdateExpression text flags b = All Read'],
+  ['a for-in target reads', ROLES, 'part_roles u ForInStatement text flags b = First Write Read', 'part_roles u ForInStatement text flags b = All Read'],
+  ['a default is a target', ROLES, 'part_roles u AssignmentPattern text flags b = First u Read', 'part_roles u AssignmentPattern text flags b = Same'],
+  ['a shorthand reads in a pattern', ROLES, 'part_roles u Property text flags b = First (key_role flags) u', 'part_roles u Property text flags b = First (key_role flags) Read'],
+  ['a body is a scope', OPENINGS, 'cond (is_body u) NoScope Block', 'Block'],
+  ['a switch head is in a scope', OPENINGS, 'opens_all u _ = NoScope', 'opens_all u SwitchStatement = Switch\nopens_all u _ = NoScope'],
+  ['an expression has no name inside', OPENINGS, 'opens_all u FunctionExpression = FirstPart OwnName', 'opens_all u FunctionExpression = NoScope'],
+  ['a class has no name inside', OPENINGS, 'opens_others ClassDeclaration = FirstPart OwnName', 'opens_others ClassDeclaration = NoScope'],
+  ['a catch clause is no scope', OPENINGS, 'opens_all u CatchClause = FirstPart Catch', 'opens_all u CatchClause = NoScope'],
+  ['a for head with var is a scope', OPENINGS, 'not (is text "var")', 'true'],
+  ['var stays in its block', BINDINGS, 'holds_statements BlockStatement = true', 'holds_statements BlockStatement = false'],
+  ['var in a label stays', BINDINGS, 'holds_statements LabeledStatement = true', 'holds_statements LabeledStatement = false'],
+  ['var in a case stays', BINDINGS, 'holds_statements SwitchCase = true', 'holds_statements SwitchCase = false'],
+  ['a plain for settles', BINDINGS, 'settles ForHead parts = false', 'settles ForHead parts = is_initialised (others parts)'],
+  ['the last of a name stays', 'scopes/specs/Found.antt', 'cond (has_name b.name bs) (cond b.exported', 'cond false (cond b.exported'],
   ['the outermost is meant', 'scopes/specs/Found.antt', 'here_or_outer n (Some i) o = Some (n, i)', 'here_or_outer n (Some i) None = Some (n, i)\nhere_or_outer n (Some i) (Some p) = Some p'],
-  ['arrows have arguments', 'scopes/specs/Openings.antt', 'has_arguments FunctionExpression = true', 'has_arguments FunctionExpression = true\nhas_arguments ArrowFunctionExpression = true'],
+  ['arrows have arguments', OPENINGS, 'has_arguments FunctionExpression = true', 'has_arguments FunctionExpression = true\nhas_arguments ArrowFunctionExpression = true'],
   ['arguments is a reference', 'scopes/specs/Found.antt', 'is_reference z.role && not (z.in_function && is word "arguments")', 'is_reference z.role'],
   ['eqeqeq ignores allow-null', 'rules/specs/Rules.antt', 'not (null && has_null parts)', 'true'],
   ['bodies count as empty', 'rules/specs/Rules.antt', 'is_empty parts && not b', 'is_empty parts'],
-  ['typeof counts as use', 'rules/specs/Rules.antt', 'not (r.typeof_operand || is_known s r.name)', 'not (is_known s r.name)'],
+  ['typeof counts as use', 'rules/specs/Rules.antt', 'not (r.typeof_operand || is_known of_2022 s r.name)', 'not (is_known of_2022 s r.name)'],
   ['parameters are looked at', 'rules/specs/Rules.antt', 'is_for_reading Param = false', 'is_for_reading Param = true'],
   ['underscore is always ignored', 'rules/specs/Rules.antt', 'not (ignore && begins_with_underscore b.name)', 'not (begins_with_underscore b.name)'],
   ['self shadows', 'rules/specs/Rules.antt', 'b.shadows && not (is_itself b.kind)', 'b.shadows'],
@@ -54,17 +58,55 @@ const FAULTS = [
   ['a name is left out', 'rules/specs/EnvironmentNames.antt', '"importScripts" ∷ ', ''],
 ];
 
-let bad = 0;
-const faults = FAULTS.filter(([, file]) => NAMES.includes(file.split('/')[0]));
-for (const [what, file, old, other] of faults) {
-  const folder = copyOf(CRATES, NAMES);
-  const target = path.join(folder, file);
-  const text = fs.readFileSync(target, 'utf8');
-  if (!text.includes(old)) { console.log(`not found: ${what}`); bad += 1; continue; }
-  fs.writeFileSync(target, text.replace(old, () => other));
-  const run = spawnSync(process.execPath, ['--stack-size=30000', path.join(__dirname, 'scopes.js'), '--n', n, '--show', '0', '--crates', folder], { encoding: 'utf8' });
-  if (run.status !== 1 || !/disagreements/.test(run.stdout)) { console.log(`not seen: ${what}\n${run.stdout}${run.stderr.slice(0, 300)}`); bad += 1; }
-  fs.rmSync(folder, { recursive: true });
+// faults that the rows have to show
+const OF_ROWS = [
+  ['a key of a field is read', ROLES, 'part_roles u PropertyDefinition text flags b = First (key_role flags) Read\n', ''],
+  ['export * as reads', ROLES, 'part_roles u ExportAllDeclaration text flags b = All NoReference\n', ''],
+  ['an exported name is read', ROLES, 'part_roles u ExportSpecifier text flags b = First u NoReference', 'part_roles u ExportSpecifier text flags b = All u'],
+  ['an exported local is no reference', ROLES, 'part_roles u ExportSpecifier text flags b = First u NoReference', 'part_roles u ExportSpecifier text flags b = All NoReference'],
+  ['a namespace of an import reads', ROLES, 'part_roles u ImportNamespaceSpecifier text flags b = All NoReference\n', ''],
+  ['an export from another module reads', ROLES, 'part_roles u ExportNamedDeclaration text flags b = All (exported_role b)', 'part_roles u ExportNamedDeclaration text flags b = All Read'],
+  ['a static block makes no scope', OPENINGS, 'opens_all u StaticBlock = Items\n', ''],
+  ['export default exports nothing', BINDINGS, 'stands_in (node ExportDefaultDeclaration text flags from to parts) = Export\n', ''],
+];
+
+// each name that a script has without declaring it, and each kind that holds statements, left out
+const source = (file) => fs.readFileSync(path.join(__dirname, '../../crates', file), 'utf8');
+const NAMES = [...source(BUILT_IN).matchAll(/"(\w+)" ∷ /g)].map(([written, name]) => [`${name} is not built in`, BUILT_IN, written, '']);
+const HOLDERS = [...source(BINDINGS).matchAll(/holds_statements (\w+) = true\n/g)].map(([written, kind]) => [`${kind} holds no statements`, BINDINGS, written, '']);
+const ROWS = [...OF_ROWS, ...NAMES, ...HOLDERS];
+
+const copy = copyOf(path.join(__dirname, '../../crates'), ['scopes', 'rules']);
+const rows = behind.rowsOfReports();
+
+// the first disagreement with the definitions in the copy, of the rows alone or of the texts too; null where there is none
+function first(withTexts) {
+  const definitions = new Reports(copy);
+  for (const line of behind.disagreements(definitions, rows)) return line;
+  if (withTexts) for (const line of scopes.disagreements(definitions, { n })) return line;
+  return null;
 }
-console.log(`${faults.length} faults, ${bad} not seen`);
+// what is seen of a fault, and whether that is as it should be
+function one([what, file, old, other], withTexts) {
+  const target = path.join(copy, file), whole = fs.readFileSync(target, 'utf8');
+  const found = whole.split(old).length - 1;
+  if (found !== 1) return [false, `found ${found} times: ${what}`];
+  fs.writeFileSync(target, whole.replace(old, () => other));
+  try {
+    const line = first(withTexts);
+    return line === null ? [false, `NOT SEEN  ${what}`] : [true, `seen      ${what}   ${line.replace(/\n/g, ' ').slice(0, 120)}`];
+  } catch (error) {
+    return [false, `BROKEN    ${what}: ${String(error.message).slice(0, 300)}`];
+  } finally { fs.writeFileSync(target, whole); }
+}
+
+const [part, of] = partOf(argv, ['scopes', 'rules'].map((crate) => path.join(copy, crate)));
+const mine = (faults) => chosen(faults, value('--only', null)).filter((_, i) => i % of === part);
+const answers = [...mine(FAULTS).map((it) => one(it, true)), ...mine(ROWS).map((it) => one(it, false))];
+const own = first(false);
+if (own !== null) answers.push([false, `SEEN      (nothing planted)   ${own}`]);
+fs.rmSync(copy, { recursive: true });
+for (const [isWell, line] of answers) if (!isWell || !argv.includes('--brief')) console.log(line);
+const bad = answers.filter(([isWell]) => !isWell).length;
+console.log(`${mine(FAULTS).length + mine(ROWS).length} faults, and nothing planted; of these ${bad} otherwise than they should`);
 process.exitCode = bad === 0 ? 0 : 1;

@@ -1,15 +1,15 @@
 'use strict';
 // Holds the definitions of scopes, bindings, references and reports (crates scopes and rules) against the plain model
-// (../model/scopes.js, rules.js), by antt.js. Reports are left out where the crate rules isn't there.
+// (../model/scopes.js, rules.js), in the base profile:
 //
-//   node scopes.js [--n COUNT] [--seed S] [--show K] [--file TEXTS] [--crates FOLDER]
+//   node --stack-size=30000 scopes.js [--n COUNT] [--seed S] [--show K] [--file TEXTS] [--crates FOLDER]
 //
-// TEXTS: JSON, a list of texts. Exit status 1 where anything disagrees.
+// TEXTS: JSON, a list of texts. Exit status 1 where anything disagrees. plant_scopes.js asks `disagreements` of other definitions.
 
 const fs = require('node:fs');
 const path = require('node:path');
-const antt = require('./antt.js');
-const { CRATES, Model, plainTree } = require('./model.js');
+const { plainTree } = require('./model.js');
+const { Reports, plainFound } = require('./reports.js');
 const { ODD, rowTexts, programs } = require('./texts.js');
 const { withAdditions } = require('../compare/shared.js');
 const { makeScript } = require('../compare/early.js');
@@ -17,28 +17,12 @@ const { parseOnly } = require('../model/parse.js');
 const { randomSource } = require('../model/random.js');
 const { resolve } = require('../model/scopes.js');
 const { ENVIRONMENTS } = require('../model/environments.js');
-const { RULE_NAMES, runRules } = require('../model/rules.js');
-const { runInBigStack } = require('../model/bigstack.js');
+const { RULE_NAMES, defaultSettings, runRules } = require('../model/rules.js');
 const { scopeScript, OWN } = require('../rows/scope_texts.js');
 
 const option = (name, otherwise) => { const i = process.argv.indexOf('--' + name); return i < 0 ? otherwise : process.argv[i + 1]; };
 
-// ---------------------------------------------------------------- both sides in one form
-
-const KINDS = { Var: 'var', Let: 'let', Const: 'const', Function: 'function', Class: 'class', Param: 'param', Catch: 'catch', OwnName: 'self' };
-const opt = (o) => (o.a.length === 0 ? null : o.a[0]);
-
-function ofDefinitions(found) {
-  return {
-    scopes: antt.toArray(found.scopes).map((s) => ({
-      parent: opt(s.parent),
-      bindings: antt.toArray(s.bindings).map((b) => ({ name: antt.text(b.name), kind: KINDS[b.kind.$.name], start: b.start, end: b.stop, settled: b.settled })),
-    })),
-    references: antt.toArray(found.references).map((r) => ({
-      name: antt.text(r.name), scope: r.scope, reads: r.reads, writes: r.writes, start: r.start, end: r.stop, typeofOperand: r.typeof_operand, meaning: opt(r.meaning),
-    })),
-  };
-}
+// ---------------------------------------------------------------- the model in the definitions' form
 
 function ofModel({ scopes, references }) {
   const at = new Map();
@@ -53,90 +37,81 @@ function ofModel({ scopes, references }) {
     })),
   };
 }
-// `settled` says something of a `let` alone.
-const plainScopes = (all) => all.scopes.map((s) => ({ ...s, bindings: s.bindings.map((b) => ({ ...b, settled: b.kind === 'let' && b.settled })) }));
 
 // ---------------------------------------------------------------- settings and pairs at random
 
 function settingsOf(random) {
-  const off = RULE_NAMES.filter(() => random.below(6) === 0);
-  return { off, globals: ['a', 'b', 'c', 'x'].filter(() => random.below(4) === 0), environments: [...ENVIRONMENTS.keys()].filter(() => random.below(4) === 0), allowNull: random.below(2) === 0, ignoreUnderscore: random.below(2) === 0 };
+  const rules = Object.fromEntries(RULE_NAMES.map((name) => [name, random.below(6) !== 0]));
+  return { rules, globals: ['a', 'b', 'c', 'x'].filter(() => random.below(4) === 0), environments: [...ENVIRONMENTS.keys()].filter(() => random.below(4) === 0), allowNull: random.below(2) === 0, ignoreUnderscore: random.below(2) === 0 };
 }
-
-const flagsOf = (environments) => Object.fromEntries([...ENVIRONMENTS.keys()].map((name) => [name, environments.includes(name)]));
-
-const ORDER = (a, b) => a.start - b.start || (a.rule < b.rule ? -1 : a.rule > b.rule ? 1 : 0) || a.end - b.end || Buffer.compare(Buffer.from(a.text), Buffer.from(b.text));
 
 // ---------------------------------------------------------------- comparing
 
-function main() {
-  const crates = option('crates', path.join(__dirname, '../../crates'));
-  const withRules = fs.existsSync(path.join(crates, 'rules'));
-  const model = new Model([...CRATES, path.join(crates, 'scopes'), ...(withRules ? [path.join(crates, 'rules')] : [])]);
-  const spec = model.spec;
-  const found = spec.fn('found', 'Found', 'scopes');
-  const rules = withRules && Object.fromEntries(RULE_NAMES.map((name) => [name, spec.fn(name.replace(/-/g, '_'), 'Rules', 'rules')]));
-  const isOn = withRules && spec.fn('is_on', 'Settings', 'rules');
-
-  const n = Number(option('n', 3000));
-  const random = randomSource(Number(option('seed', 1)));
-  const texts = option('file', null) !== null ? JSON.parse(fs.readFileSync(option('file'), 'utf8')) : [...OWN, ...rowTexts(), ...ODD, ...programs()];
-  if (option('file', null) === null) {
-    const made = [];
-    for (let k = 0; k < n; k++) { made.push(scopeScript(random)); if (k % 3 === 0) made.push(makeScript(random)); }
-    texts.push(...withAdditions(random, made));
-  }
-  const count = { names: 0, texts: 0, scopes: 0, bindings: 0, references: 0, bound: 0, reports: {} };
-  let differ = 0;
-  const show = Number(option('show', 10));
-  const complain = (text, what, ours, theirs) => {
-    differ += 1;
-    if (differ <= show) console.log(`${what}: ${JSON.stringify(text)}\n  definitions ${JSON.stringify(ours)}\n  model       ${JSON.stringify(theirs)}`);
-  };
-  if (withRules) {
-    const isGlobal = spec.fn('is_global', 'Settings', 'rules');
-    const names = [...new Set([...ENVIRONMENTS.values()].flatMap((it) => [...it]))];
-    for (const [environment, has] of ENVIRONMENTS) {
-      const settings = { off: null, globals: null, environments: flagsOf([environment]), allow_null: false, ignore_underscore: false };
-      for (const name of [...names, 'a', '', 'Windows', 'window ']) if (isGlobal(antt.bytes(name), settings) !== has.has(name)) complain(name, environment, !has.has(name), has.has(name));
-    }
-    count.names = names.length;
-  }
-  for (const text of texts) {
-    const answer = parseOnly(text);
-    if (!answer.ok) continue;
-    count.texts += 1;
-    const tree = model.tree(plainTree(answer.tree));
-    const f = found(tree);
-    const ours = ofDefinitions(f);
-    const resolved = resolve(answer.tree);
-    const theirs = ofModel(resolved);
-    const mine = plainScopes(ours);
-    count.scopes += mine.length;
-    count.references += ours.references.length;
-    count.bound += ours.references.filter((r) => r.meaning !== null).length;
-    for (let i = 0; i < Math.max(mine.length, theirs.scopes.length); i++) {
-      count.bindings += mine[i]?.bindings.length ?? 0;
-      if (JSON.stringify(mine[i]) !== JSON.stringify(theirs.scopes[i])) { complain(text, 'scope ' + i, mine[i], theirs.scopes[i]); break; }
-    }
-    for (let i = 0; i < Math.max(ours.references.length, theirs.references.length); i++) {
-      if (JSON.stringify(ours.references[i]) !== JSON.stringify(theirs.references[i])) { complain(text, 'reference ' + i, ours.references[i], theirs.references[i]); break; }
-    }
-    for (let turn = 0; withRules && turn < 2; turn++) {
-      const s = turn === 0 ? { off: [], globals: [], environments: [], allowNull: false, ignoreUnderscore: false } : settingsOf(random);
-      const extra = (answer.pairs ?? []).filter(() => turn === 0 || random.below(2) === 0).map((p) => ({ start: p.left, end: p.right + 1 }));
-      const want = runRules({ tree: answer.tree, scopes: resolved, extra, settings: { rules: Object.fromEntries(RULE_NAMES.map((r) => [r, !s.off.includes(r)])), globals: s.globals, environments: s.environments, allowNull: s.allowNull, ignoreUnderscore: s.ignoreUnderscore } });
-      const settings = { off: antt.fromArray(s.off.map(antt.bytes)), globals: antt.fromArray(s.globals.map(antt.bytes)), environments: flagsOf(s.environments), allow_null: s.allowNull, ignore_underscore: s.ignoreUnderscore };
-      const view = { tree, found: f, extra: antt.fromArray(extra), settings };
-      const got = RULE_NAMES.filter((r) => isOn(antt.bytes(r), settings)).flatMap((r) => antt.toArray(rules[r](view)))
-        .map((r) => ({ start: r.start, end: r.stop, rule: antt.text(r.rule), text: antt.text(r.text) })).sort(ORDER);
-      for (const r of got) count.reports[r.rule] = (count.reports[r.rule] ?? 0) + 1;
-      const line = (r) => `${r.start}-${r.end} ${r.rule} ${r.text}`;
-      if (JSON.stringify(got.map(line)) !== JSON.stringify(want.map(line))) complain(text, 'reports', got.map(line), want.map(line));
-    }
-  }
-  console.log(JSON.stringify(count));
-  console.log(differ === 0 ? 'no disagreement' : `${differ} disagreements`);
-  process.exitCode = differ === 0 ? 0 : 1;
+// the texts: those of a file, or the rows', odd and generated ones
+function textsOf(file, n, random) {
+  if (file !== null) return JSON.parse(fs.readFileSync(file, 'utf8'));
+  const made = [];
+  for (let k = 0; k < n; k++) { made.push(scopeScript(random)); if (k % 3 === 0) made.push(makeScript(random)); }
+  return [...OWN, ...rowTexts(), ...ODD, ...programs(), ...withAdditions(random, made)];
 }
+
+// [name, what the definitions say, what the model says] for each environment and name of which they say otherwise
+function* names(definitions, counts) {
+  const all = [...new Set([...ENVIRONMENTS.values()].flatMap((it) => [...it]))];
+  counts.names = all.length;
+  for (const [environment, has] of ENVIRONMENTS) {
+    for (const name of [...all, 'a', '', 'Windows', 'window ']) if (definitions.isGlobal(name, environment) !== has.has(name)) yield [name, environment, !has.has(name), has.has(name)];
+  }
+}
+
+// where the first of two lists differs from the second
+function firstDifference(what, ours, theirs) {
+  for (let i = 0; i < Math.max(ours.length, theirs.length); i++) if (JSON.stringify(ours[i]) !== JSON.stringify(theirs[i])) return [[`${what} ${i}`, ours[i], theirs[i]]];
+  return [];
+}
+
+// the same of what the definitions say of a text: its scopes, its references and, under two settings, its reports
+function* ofText(definitions, text, { tree, pairs }, random, counts) {
+  const root = definitions.model.tree(plainTree(tree));
+  const found = definitions.found(root);
+  const ours = plainFound(found), resolved = resolve(tree), theirs = ofModel(resolved);
+  counts.texts += 1;
+  counts.scopes += ours.scopes.length;
+  counts.bindings += ours.scopes.reduce((n, s) => n + s.bindings.length, 0);
+  counts.references += ours.references.length;
+  counts.bound += ours.references.filter((r) => r.meaning !== null).length;
+  yield* firstDifference('scope', ours.scopes, theirs.scopes);
+  yield* firstDifference('reference', ours.references, theirs.references);
+  for (let turn = 0; turn < 2; turn++) {
+    const settings = turn === 0 ? defaultSettings() : settingsOf(random);
+    const extra = (pairs ?? []).filter(() => turn === 0 || random.below(2) === 0).map((p) => ({ start: p.left, end: p.right + 1 }));
+    const got = definitions.reports(root, found, extra, settings), want = runRules({ tree, scopes: resolved, extra, settings });
+    for (const r of got) counts.reports[r.rule] = (counts.reports[r.rule] ?? 0) + 1;
+    const lines = (reports) => reports.map((r) => `${r.start}-${r.end} ${r.rule} ${r.text}`);
+    if (JSON.stringify(lines(got)) !== JSON.stringify(lines(want))) yield ['reports', lines(got), lines(want)];
+  }
+}
+
+// a line for each text or name of which the definitions say otherwise than the model
+function* disagreements(definitions, { file = null, n = 0, seed = 1 }, counts = emptyCounts()) {
+  const random = randomSource(seed);
+  const told = (text, [what, ours, theirs]) => `${what}: ${JSON.stringify(text)}\n  definitions ${JSON.stringify(ours)}\n  model       ${JSON.stringify(theirs)}`;
+  for (const [name, ...more] of names(definitions, counts)) yield told(name, more);
+  for (const text of textsOf(file, n, random)) {
+    const answer = parseOnly(text);
+    if (answer.ok) for (const it of ofText(definitions, text, answer, random, counts)) yield told(text, it);
+  }
+}
+const emptyCounts = () => ({ names: 0, texts: 0, scopes: 0, bindings: 0, references: 0, bound: 0, reports: {} });
+
+function main() {
+  const definitions = new Reports(option('crates', path.join(__dirname, '../../crates'))), counts = emptyCounts();
+  const differ = [...disagreements(definitions, { file: option('file', null), n: Number(option('n', 3000)), seed: Number(option('seed', 1)) }, counts)];
+  for (const line of differ.slice(0, Number(option('show', 10)))) console.log(line);
+  console.log(JSON.stringify(counts));
+  console.log(differ.length === 0 ? 'no disagreement' : `${differ.length} disagreements`);
+  process.exitCode = differ.length === 0 && counts.texts > 0 ? 0 : 1;
+}
+
+module.exports = { disagreements };
 if (require.main === module) main();

@@ -1,0 +1,57 @@
+'use strict';
+// The definitions of scopes, bindings, references and reports (crates scopes and rules), run by antt.js, with what they say in the plain model's form.
+
+const path = require('node:path');
+const antt = require('./antt.js');
+const { CRATES, Model } = require('./model.js');
+const { ENVIRONMENTS } = require('../model/environments.js');
+const { RULE_NAMES } = require('../model/rules.js');
+
+const KINDS = { Var: 'var', Let: 'let', Const: 'const', Function: 'function', Class: 'class', Param: 'param', Catch: 'catch', OwnName: 'self', Import: 'import' };
+const opt = (o) => (o.a.length === 0 ? null : o.a[0]);
+
+// scopes with their bindings, and references, of what `found` answers; `settled` says something of a `let` alone
+function plainFound(found) {
+  return {
+    scopes: antt.toArray(found.scopes).map((s) => ({
+      parent: opt(s.parent),
+      bindings: antt.toArray(s.bindings).map((b) => ({ name: antt.text(b.name), kind: KINDS[b.kind.$.name], start: b.start, end: b.stop, settled: b.kind.$.name === 'Let' && b.settled })),
+    })),
+    references: antt.toArray(found.references).map((r) => ({
+      name: antt.text(r.name), scope: r.scope, reads: r.reads, writes: r.writes, start: r.start, end: r.stop, typeofOperand: r.typeof_operand, meaning: opt(r.meaning),
+    })),
+  };
+}
+
+const flagsOf = (environments) => Object.fromEntries([...ENVIRONMENTS.keys()].map((name) => [name, environments.includes(name)]));
+// settings in the form of ../model/rules.js
+const settingsOf = ({ rules, globals, environments, allowNull, ignoreUnderscore }) => ({
+  off: antt.fromArray(RULE_NAMES.filter((name) => !rules[name]).map(antt.bytes)), globals: antt.fromArray([...globals].map(antt.bytes)),
+  environments: flagsOf([...environments]), allow_null: allowNull, ignore_underscore: ignoreUnderscore,
+});
+
+const ORDER = (a, b) => a.start - b.start || (a.rule < b.rule ? -1 : a.rule > b.rule ? 1 : 0) || a.end - b.end || Buffer.compare(Buffer.from(a.text), Buffer.from(b.text));
+
+class Reports {
+  // The definitions of the folder's crates scopes and rules, above those of trees, the language and early errors.
+  constructor(folder) {
+    this.model = new Model([...CRATES, path.join(folder, 'scopes'), path.join(folder, 'rules')]);
+    const { spec } = this.model;
+    this.found = spec.fn('found', 'Found', 'scopes');
+    this.isOn = spec.fn('is_on', 'Settings', 'rules');
+    this.rules = RULE_NAMES.map((name) => [name, spec.fn(name.replace(/-/g, '_'), 'Rules', 'rules')]);
+    this.hasGlobal = spec.fn('is_global', 'Settings', 'rules');
+  }
+  // whether a name is global, with one environment on
+  isGlobal(name, environment) {
+    return this.hasGlobal(antt.bytes(name), { off: null, globals: null, environments: flagsOf([environment]), allow_null: false, ignore_underscore: false });
+  }
+  // the reports of the rules that are on, in order; `found` is what this.found(tree) answers, `extra` the spans of extra pairs
+  reports(tree, found, extra, settings) {
+    const view = { tree, found, extra: antt.fromArray(extra), settings: settingsOf(settings) };
+    return this.rules.filter(([name]) => this.isOn(antt.bytes(name), view.settings)).flatMap(([, rule]) => antt.toArray(rule(view)))
+      .map((r) => ({ start: r.start, end: r.stop, rule: antt.text(r.rule), text: antt.text(r.text) })).sort(ORDER);
+  }
+}
+
+module.exports = { Reports, plainFound };
