@@ -2,15 +2,18 @@
 'use strict';
 // Checks one answer of `unwrap` against the text it was made from, by the plain model's parser and by V8:
 //
-//   check(before, after, unwrap) -> null, or what is wrong
+//   check(before, after, unwrap, options) -> null, or what is wrong
+//
+// `options` are those of the model's parser: they say the language. The model plans scripts of the base profile; what the fewest pairs of another
+// language's tree are the definitions say, run by antt.js.
 //
 // 1 `after` is accepted                          5 the comments are the same, in order
 // 2 it has the same tree, places aside           6 the tokens are the same, in order, grouping pairs
-// 3 it has as many pairs as the planner's total    aside, and `()` after `new`, `;` after `++`, `--`
+// 3 it has as many pairs as the planner's total    aside, `()` after `new`, `;` after `++`, `--`, `}` before `from`
 // 4 unwrapped again it is the same text          7 where the text had just so many, it is the same text
 //                                                8 gaps without a pair at them are the same, bytes and all
 //                                                9 no browser sees an HTML-like comment that wasn't there
-//                                               10 V8 takes it, strict and not, where it took the text
+//                                               10 V8 takes it, strict and not, or as a module, where it took the text
 //
 // Texts with `for (async of` are left out of 10: they are scripts of the 11th edition, and none of the 12th, which V8 reads.
 
@@ -19,11 +22,24 @@ const { parse } = require('../model/parse.js');
 const { plan } = require('../model/plan.js');
 const { canon } = require('../model/canon.js');
 const { tokensOf, FINAL } = require('../model/unwrap.js');
+const { CRATES, Model, bareText, plainTree } = require('../definitions/model.js');
 
 const COMMENTS = /\/\/[^\n\r\u2028\u2029]*|\/\*[^]*?\*\//g;
 
-function pieces(parsed) {
-  const tokens = tokensOf(parsed.text, parsed.tree);
+const languageOf = ({ edition, module }) => (edition !== 2022 ? 'base' : module ? 'module' : 'script');
+
+let definitions = null;
+// The fewest pairs that a tree of the language has in any text.
+function fewest(tree, language) {
+  if (language === 'base') return plan(tree).total;
+  definitions ??= new Model(CRATES);
+  return Number(definitions.least(definitions.tree(plainTree(tree, language)), definitions.script).a[0]);
+}
+// The tree as a text, without its places.
+const shown = (tree, language) => (language === 'base' ? canon(tree) : bareText(plainTree(tree, language)));
+
+function pieces(parsed, edition) {
+  const tokens = tokensOf(parsed.text, parsed.tree, edition);
   const grouping = new Set(parsed.pairs.flatMap((pair) => [pair.left, pair.right]));
   const list = [];
   let gap = '';
@@ -39,8 +55,7 @@ function pieces(parsed) {
 }
 
 // `<!--` where tokens stand, and `-->` where nothing but blanks and comments stands before it on its line.
-function htmlLike(parsed) {
-  const { list } = pieces(parsed);
+function htmlLike({ list }) {
   let count = 0;
   for (let i = 0; i < list.length; i++) {
     const [a, b, c] = [list[i], list[i + 1], list[i + 2]];
@@ -61,7 +76,8 @@ function compare(source, written) {
   for (let tries = 0; tries < 5000; ) {
     let fault = null;
     const put = [];
-    if (written[j]?.text === ';' && source[i - 1]?.postfix && source[i].text !== ';') put.push(written[j++]);
+    const mayEnd = source[i - 1]?.postfix || (source[i - 1]?.text === '}' && source[i].text === 'from');
+    if (written[j]?.text === ';' && mayEnd && source[i].text !== ';') put.push(written[j++]);
     if (j - i + 2 <= written.length - source.length && isPut(j)) choices.push([i, j + 2, from.slice(), [...to, ...commentsOf(written[j]).map(() => i)]]);
     const [a, b] = [source[i], written[j]];
     if (b === undefined || a.text !== b.text || a.cls !== b.cls) fault = `6 token ${i}: ${a.text} became ${b?.text}`;
@@ -69,7 +85,7 @@ function compare(source, written) {
       from.push(...commentsOf(a).map(() => i));
       to.push(...[...put, b].flatMap(commentsOf).map(() => i));
       const before = source[i - 1];
-      const moved = (/^(return|throw)$/.test(a.text) && source[i + 1].touched)
+      const moved = (BINDS_NEXT.test(a.text) && leadsToPair(source, i + 1))
         || (/^(\+\+|--|;|,)$/.test(before?.text) && before.touched);
       if (!a.touched && a.gap !== b.gap && !moved) fault = `8 gap before token ${i}: ${JSON.stringify(a.gap)} became ${JSON.stringify(b.gap)}`;
       i += 1;
@@ -88,24 +104,28 @@ function compare(source, written) {
   }
   return first;
 }
+const BINDS_NEXT = /^(return|throw|yield)$/;
+// Whether a pair begins before this token, perhaps behind further words behind which no line may end.
+const leadsToPair = (source, i) => source[i].touched || (BINDS_NEXT.test(source[i].text) && leadsToPair(source, i + 1));
 const commentsOf = (token) => token.gap.match(COMMENTS) ?? [];
 
-// For each comment the number of the token after it, before and after: it may have gone before a `return` or
-// `throw`, and after `++`, `--`, `;` and `,`.
+// For each comment the number of the token after it, before and after: it may have gone before `return`, `throw` or
+// `yield`, several of which may follow each other, and after `++`, `--`, `;` and `,`.
 function misplaced(source, from, to) {
   for (let k = 0; k < from.length; k++) {
     const over = source.slice(Math.min(from[k], to[k]), Math.max(from[k], to[k])).map((token) => token.text);
-    const isLawful = to[k] === from[k] || (to[k] === from[k] - 1 && /^(return|throw)$/.test(over[0]))
+    const isLawful = to[k] === from[k] || (to[k] < from[k] && over.every((text) => BINDS_NEXT.test(text)))
       || (to[k] > from[k] && over.every((text) => /^(\+\+|--|;|,)$/.test(text)));
     if (!isLawful) return `5 comment ${k} moved from ${from[k]} to ${to[k]}`;
   }
   return null;
 }
 
-// Whether V8 takes a text, as a script that begins with this.
-function isTaken(text, prefix) {
+// Whether V8 takes a text, as a script that begins with this, or as a module.
+function isTaken(text, prefix, isModule) {
+  if (isModule && vm.SourceTextModule === undefined) throw new Error('node --experimental-vm-modules is needed');
   try {
-    return new vm.Script(prefix + text) !== null;
+    return (isModule ? new vm.SourceTextModule(text) : new vm.Script(prefix + text)) !== null;
   } catch {
     return false;
   }
@@ -114,29 +134,29 @@ function isTaken(text, prefix) {
 const hasAsyncOf = (tokens) => tokens.some((_, i) => ['for', '(', 'async', 'of'].every((word, k) => tokens[i + k]?.text === word));
 
 // Of each text to be checked, and of its answer: null, or how V8 took the one and not the other.
-function refusedByV8(source, written, tokens) {
-  const prefix = ['', "'use strict';"].find((it) => isTaken(source.text, it) && !isTaken(written.text, it));
+function refusedByV8(source, written, tokens, isModule) {
+  const prefix = (isModule ? [''] : ['', "'use strict';"]).find((it) => isTaken(source.text, it, isModule) && !isTaken(written.text, it, isModule));
   return prefix === undefined || hasAsyncOf(tokens) ? null : `10 V8 takes it no more${prefix && ', as strict code'}`;
 }
 
 function check(before, after, unwrap, options = FINAL) {
   const source = parse(before, options);
   if (!source.ok) return 'the source is refused';
-  const { total } = plan(source.tree);
+  const language = languageOf(options), total = fewest(source.tree, language);
   const written = parse(after, options);
   if (!written.ok) return '1 refused: ' + JSON.stringify(written.fault);
-  if (canon(source.tree) !== canon(written.tree)) return '2 another tree';
+  if (shown(source.tree, language) !== shown(written.tree, language)) return '2 another tree';
   if (written.pairs.length !== total) return `3 ${written.pairs.length} pairs, not ${total}`;
   const again = unwrap(after, options);
   if (!again.ok || again.text !== after) return '4 changes when unwrapped again';
-  const [s, w] = [pieces(source), pieces(written)];
+  const [s, w] = [source, written].map((it) => pieces(it, options.edition));
   if (s.comments.join('\n') !== w.comments.join('\n') || s.comments.length !== w.comments.length) return '5 other comments';
   if (source.pairs.length === total && source.text !== written.text && options.ties !== 'planner') return '7 not the same text';
 
   const fault = compare(s.list, w.list);
   if (fault !== null) return fault;
-  if (htmlLike(written) > htmlLike(source)) return '9 an HTML-like comment';
-  return refusedByV8(source, written, w.list);
+  if (htmlLike(w) > htmlLike(s)) return '9 an HTML-like comment';
+  return refusedByV8(source, written, w.list, language === 'module');
 }
 
 module.exports = { check };
