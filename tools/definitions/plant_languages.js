@@ -3,7 +3,7 @@
 // Does languages.js see faults? Plants one fault at a time into a copy of the definitions of the three languages, and has languages.js
 // look at rows of some sections:  node --stack-size=20000 plant_languages.js [--only NAME|NAME..] [--jobs I/K | --turns K] [--brief]
 // I/K: the faults I, I + K .. alone; --turns: those of one K-th, which is told by the definitions, so that each has its turn as they change. With nothing
-// planted as many of the rows. --brief names only what is otherwise than it should be. Exit status 1 where a fault isn't seen, where its
+// planted as many of the rows, but for --only. --brief names only what is otherwise than it should be. Exit status 1 where a fault isn't seen, where its
 // text isn't found just once, or where anything disagrees with nothing planted.
 
 const fs = require('node:fs');
@@ -329,8 +329,8 @@ function one([what, file, old, other, sections, looks, ...more]) {
 const [part, of] = partOf(argv, specs);
 const faults = chosen(FAULTS, value('--only', null)).filter((_, i) => i % of === part);
 for (const fault of faults) { const line = one(fault); if (!line.startsWith('seen ') || !argv.includes('--brief')) console.log(line); }
-const own = firstOf(specs, rows.filter((_, i) => i % of === part), {});
+const own = value('--only', null) === null ? firstOf(specs, rows.filter((_, i) => i % of === part), {}) : null;
 if (own !== null) { bad += 1; console.log(`SEEN      (nothing planted)   ${own}`); }
 fs.rmSync(copy, { recursive: true });
-console.log(`${faults.length} faults, and nothing planted; of these ${bad} otherwise than they should`);
+console.log(`${faults.length} faults${value('--only', null) === null ? ', and nothing planted' : ''}; of these ${bad} otherwise than they should`);
 process.exitCode = bad === 0 ? 0 : 1;
