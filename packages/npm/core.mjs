@@ -13,6 +13,8 @@ const LEAST_ROOM = 16384;
 const OUTCOME = 16;
 // An instance that has taken more memory than this is let go after the call: a memory doesn't shrink.
 const MOST_KEPT = 256 * 1024 * 1024;
+// What the calls may be asked beside a text.
+const PLACES = ['indices', 'bytes'];
 const OUT_OF_STACK = { text: 'jslint: out of stack\n', status: 2, isRefusal: true };
 const OUT_OF_MEMORY = { text: 'jslint: out of memory\n', status: 2, isRefusal: true };
 // The words of each refusal, its code, and what its numbers are.
@@ -109,6 +111,15 @@ function bytesOf(text) {
   return new TextEncoder().encode(text);
 }
 
+/** An answer, which is UTF-8: only memory can be lacking, or a string be longer than the engine has any. */
+function stringOfAnswer(bytes) {
+  try {
+    return decode(bytes);
+  } catch {
+    throw new RangeError('out of memory');
+  }
+}
+
 const stringOf = (text) => (typeof text === 'string' ? text : decode(text));
 
 /** Where the lines of a text begin, as indices into the string. A line ends as ECMAScript says, at U+2028 and U+2029 too. */
@@ -127,9 +138,14 @@ export function placesIn(text) {
   };
 }
 
-/** The index into the string of a line and a column. */
+/** The index into the string of a line and a column. A place that isn't there is a RangeError. */
 export function indexOf(text, line, column) {
-  return placesIn(text)(line, column);
+  if (typeof text !== 'string') throw new TypeError('places are looked for in a string');
+  const starts = lineStarts(text), end = line < starts.length ? starts[line] : text.length;
+  let at = [line, column].every((it) => Number.isInteger(it) && it > 0) && line <= starts.length ? starts[line - 1] : NaN;
+  for (let left = column - 1; left > 0 && at < end; left--) at += text.codePointAt(at) > 0xffff ? 2 : 1;
+  if (!(column - 1 <= at - starts[line - 1]) || at > text.length) throw new RangeError(`this text has no place ${line}:${column}`);
+  return at;
 }
 
 /** For each byte of a text's UTF-8, and for the place after the last, the index into the string. */
@@ -180,12 +196,29 @@ function spansOf(lines, text, places) {
 /** The module's number of a language: '2020', '2022' or 'module'. */
 function numberOf(language) {
   if (language === undefined || language === null) return 0;
-  if (!Object.hasOwn(LANGUAGES, language)) throw new TypeError(`jslint has no language ${language}: it has '2020', '2022' and 'module'`);
+  if (typeof language === 'symbol' || !Object.hasOwn(LANGUAGES, language)) throw new TypeError(`jslint has no language ${String(language)}: it has '2020', '2022' and 'module'`);
   return LANGUAGES[language];
 }
 
+/** The options of a call, which has these: others, and what isn't an object, are a mistake of the caller's. */
+function optionsOf(options, ...names) {
+  if (options === null || typeof options !== 'object') throw new TypeError(`options are an object, such as { ${names.at(-1)}: .. }`);
+  const other = Object.keys(options).find((it) => !names.includes(it));
+  if (other !== undefined) throw new TypeError(`this call has no option ${other}: it has ${names.join(', ')}`);
+  const { places = PLACES[0], settings = '', language } = options;
+  if (!PLACES.includes(places)) throw new TypeError(`places are ${PLACES.map((it) => `'${it}'`).join(' or ')}`);
+  return { places, settings, language };
+}
+
+function bytesOnly(it, name) {
+  if (!(it instanceof Uint8Array)) throw new TypeError(`${name} of run is a Uint8Array`);
+}
+
 /** Whether the engine's stack was used up, or the module's own. Either ends a call half done. */
-const isOutOfStack = (error) => error instanceof RangeError || error instanceof WebAssembly.RuntimeError || error?.name === 'InternalError';
+const isOutOfStack = (error) => error instanceof WebAssembly.RuntimeError || error?.name === 'InternalError' || (error instanceof RangeError && /stack|recursion/i.test(error.message));
+
+/** Whether the engine has no memory for an instance, a buffer or a string. */
+const isOutOfMemory = (error) => error instanceof RangeError || /out of memory/i.test(error?.message);
 
 /**
  * The commands over a compiled module. `runDeeper` is asked where the stack was too small: what it answers, if anything, is the answer.
@@ -204,16 +237,18 @@ export function commandsOf(module, runDeeper = () => null) {
 
   /** Answers a command as the program does: what it writes to its standard output or, where it refuses, to its standard error. */
   function run(command, text, second = new Uint8Array(0), language = undefined) {
-    if (!Object.hasOwn(COMMANDS, command)) throw new TypeError(`jslint has no command ${command}`);
+    if (typeof command !== 'string' || !Object.hasOwn(COMMANDS, command)) throw new TypeError(`jslint has no command ${String(command)}`);
     const number = numberOf(language);
-    let answer;
+    bytesOnly(text, 'the text');
+    bytesOnly(second, 'the second text');
     try {
-      answer = answerOf(command, text, second, number);
+      const answer = answerOf(command, text, second, number);
+      return answer === null ? OUT_OF_MEMORY : { text: stringOfAnswer(answer.bytes), status: answer.status, isRefusal: answer.isRefusal };
     } catch (error) {
       if (isOutOfStack(error)) return runDeeper(command, text, second, language) ?? OUT_OF_STACK;
+      if (isOutOfMemory(error)) return OUT_OF_MEMORY;
       throw error;
     }
-    return answer === null ? OUT_OF_MEMORY : { text: decode(answer.bytes), status: answer.status, isRefusal: answer.isRefusal };
   }
 
   /** What a command answers for a text; a refusal is thrown. */
@@ -226,21 +261,35 @@ export function commandsOf(module, runDeeper = () => null) {
   /** What it writes. */
   const output = (command, text, second, language) => accepted(command, text, second, language).text;
 
+  /** What a command writes that has no option but the language. */
+  const plain = (command) => (text, options = {}) => output(command, text, undefined, optionsOf(options, 'language').language);
+
   return {
     run,
-    check: (text, { settings = '', language } = {}) => reportsOf(output('check', text, bytesOf(settings), language), stringOf(text)),
-    spans: (text, { settings = '', places = 'indices', language } = {}) => spansOf(output('spans', text, bytesOf(settings), language), text, places),
-    fix: (text, { language } = {}) => output('fix', text, undefined, language),
-    unwrap: (text, { language } = {}) => output('unwrap', text, undefined, language),
-    treeText: (text, { language } = {}) => output('tree', text, undefined, language),
-    tree(text, { places = 'indices', language } = {}) {
+    check(text, options = {}) {
+      const { settings, language } = optionsOf(options, 'settings', 'language');
+      return reportsOf(output('check', text, bytesOf(settings), language), stringOf(text));
+    },
+    spans(text, options = {}) {
+      const { settings, places, language } = optionsOf(options, 'settings', 'places', 'language');
+      return spansOf(output('spans', text, bytesOf(settings), language), text, places);
+    },
+    fix: plain('fix'),
+    unwrap: plain('unwrap'),
+    treeText: plain('tree'),
+    tree(text, options = {}) {
+      const { places, language } = optionsOf(options, 'places', 'language');
       const program = JSON.parse(output('tree', text, undefined, language)), string = stringOf(text);
       if (places === 'indices' && program.end !== string.length) placeNodes(program, string);
       return program;
     },
-    cost: (text, { language } = {}) => output('cost', text, undefined, language),
-    same: (text, other, { language } = {}) => accepted('same', text, bytesOf(other), language).status === 0,
-    verify(text, table, { language } = {}) {
+    cost: plain('cost'),
+    same(text, other, options = {}) {
+      const { language } = optionsOf(options, 'language');
+      return accepted('same', text, bytesOf(other), language).status === 0;
+    },
+    verify(text, table, options = {}) {
+      const { language } = optionsOf(options, 'language');
       const [, pairs, least] = /^pairs (\d+) least (\d+)\n$/.exec(output('verify', text, bytesOf(table), language));
       return { pairs: Number(pairs), least: Number(least) };
     },

@@ -1,6 +1,6 @@
 // What the rules find in files, in the form of ESLint's formatter `json`, for the tools that read it.
 import { placesIn } from './core.mjs';
-import { Refused, check } from './jslint.mjs';
+import { Refused, check } from '#jslint';
 
 /** Counts columns as ESLint does, in UTF-16 units and without a byte order mark. Places come in order. */
 function columnsIn(text) {

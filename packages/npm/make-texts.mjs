@@ -17,6 +17,12 @@ function whole(found, names, what) {
   return found;
 }
 
+/** The pages of the rules, without links, by the names under which they stand beside the server: reports lead to them. */
+export function pagesOf(top) {
+  const folder = new URL('docs/rules/', top), names = readdirSync(folder).filter((it) => it !== 'README.md');
+  return Object.fromEntries(names.map((it) => [it, withoutLinks(readFileSync(new URL(it, folder), 'utf8'))]));
+}
+
 /** The words, by the repository's folder. */
 export function textsOf(top) {
   const read = (name) => readFileSync(new URL(name, top), 'utf8');

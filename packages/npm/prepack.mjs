@@ -1,7 +1,7 @@
 // Puts into this folder what the package takes from other places of the repository: the module, the licences, and the words that the language server shows.
 import { copyFileSync, existsSync, writeFileSync } from 'node:fs';
 import { fileURLToPath } from 'node:url';
-import { textsOf } from './make-texts.mjs';
+import { pagesOf, textsOf } from './make-texts.mjs';
 
 const top = new URL('../../', import.meta.url);
 const here = new URL('./', import.meta.url);
@@ -12,4 +12,5 @@ if (!existsSync(module)) {
 }
 copyFileSync(module, new URL('jslint.wasm', here));
 writeFileSync(new URL('lib/texts.json', here), `${JSON.stringify(textsOf(top), null, 1)}\n`);
+for (const [name, text] of Object.entries(pagesOf(top))) writeFileSync(new URL(`lib/${name}`, here), text);
 for (const name of ['LICENSE-APACHE', 'LICENSE-MIT']) copyFileSync(new URL(name, top), new URL(name, here));

@@ -2,7 +2,8 @@
 import { workerData } from 'node:worker_threads';
 import { commandsOf } from './core.mjs';
 
-const { module, isDone, port } = workerData;
+const { module, said, port } = workerData;
+const DONE = 0, BEGUN = 1;
 const { run } = commandsOf(module);
 
 function answered({ command, text, second, language }) {
@@ -15,6 +16,8 @@ function answered({ command, text, second, language }) {
 
 port.on('message', (asked) => {
   port.postMessage(answered(asked));
-  Atomics.store(isDone, 0, 1);
-  Atomics.notify(isDone, 0);
+  Atomics.store(said, DONE, 1);
+  Atomics.notify(said, DONE);
 });
+Atomics.store(said, BEGUN, 1);
+Atomics.notify(said, BEGUN);

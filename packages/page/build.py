@@ -1,4 +1,5 @@
-"""Makes the page, one file that works from a folder without a server: the module, the package's core and the page's script are in it.
+"""Makes the page, one file that works from a folder without a server: the module, the package's core, its hints
+and the page's script are in it.
 
     build.py MODULE.wasm PAGE.html
 """
@@ -24,7 +25,11 @@ def page(module):
     script = text_of(f'{HERE}/page.mjs')
     if '</script' in script:
         sys.exit('page.mjs has the end of a script in it')
-    parts = {'@MODULE@': coded(module), '@CORE@': coded(f'{HERE}/../npm/core.mjs'), '@PAGE@': script.rstrip()}
+    hints = text_of(f'{HERE}/../npm/lib/hints.json').replace('<', '\\u003c')
+    parts = {
+        '@MODULE@': coded(module), '@CORE@': coded(f'{HERE}/../npm/core.mjs'), '@HINTING@': coded(f'{HERE}/../npm/lib/hinting.mjs'), '@HINTS@': hints.rstrip(),
+        '@PAGE@': script.rstrip(),
+    }
     made = text_of(f'{HERE}/page.html')
     for name, part in parts.items():
         made = made.replace(name, part)

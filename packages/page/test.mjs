@@ -4,7 +4,7 @@
 //
 // Chromium is spoken to by its own protocol over a pipe. The last line is 'N as wanted, M not'; status 1 where M isn't 0.
 import { spawn } from 'node:child_process';
-import { mkdtempSync, rmSync, writeFileSync } from 'node:fs';
+import { mkdtempSync, readFileSync, readdirSync, rmSync, writeFileSync } from 'node:fs';
 import { tmpdir } from 'node:os';
 import { join, resolve } from 'node:path';
 import { setTimeout as pause } from 'node:timers/promises';
@@ -18,6 +18,7 @@ const { values, positionals } = parseArgs({
 /** A browser with one page, spoken to by messages that end with a 0. */
 class Browser {
   constructor(program, profile) {
+    this.profile = profile;
     const words = ['--headless', '--no-sandbox', '--disable-gpu', '--remote-debugging-pipe', `--user-data-dir=${profile}`, '--window-size=1400,900', 'about:blank'];
     this.process = spawn(program, words, { stdio: ['ignore', 'ignore', 'ignore', 'pipe', 'pipe'] });
     this.ended = new Promise((done) => this.process.on('exit', done));
@@ -69,6 +70,21 @@ class Browser {
     for (const type of ['keyDown', 'keyUp']) await this.send('Input.dispatchKeyEvent', { type, key, code: key, windowsVirtualKeyCode: codes[key], modifiers, ...text });
   }
 
+  /** The processor time of its pages so far, in milliseconds: waiting for other programs isn't counted. */
+  computed() {
+    const timeOf = (it) => {
+      try {
+        const words = readFileSync(`/proc/${it}/cmdline`, 'latin1');
+        if (!words.includes('--type=renderer') || !words.includes(this.profile)) return 0;
+        const fields = readFileSync(`/proc/${it}/stat`, 'latin1').split(') ')[1].split(' ');
+        return (Number(fields[11]) + Number(fields[12])) * 10;
+      } catch {
+        return 0;
+      }
+    };
+    return readdirSync('/proc').filter((it) => /^\d+$/.test(it)).reduce((sum, it) => sum + timeOf(it), 0);
+  }
+
   async picture(name) {
     if (!values.pictures) return;
     const { data } = await this.send('Page.captureScreenshot', { format: 'png' });
@@ -84,6 +100,7 @@ function expect(what, got, wanted) {
 }
 
 const SHOWN = "document.getElementById('panel').innerText";
+const STATE = "document.getElementById('state').textContent";
 const FOCUSED = "document.activeElement.id || document.activeElement.className || document.activeElement.tagName";
 
 /** Types a text in place of a field's, as a person does, and waits for the answer. */
@@ -124,7 +141,11 @@ async function answers(browser) {
 }
 
 async function languages(browser) {
-  expect('a module in the base profile', await type(browser, 'script', 'export let a = (1);'), /^Refused: syntax error at 1:1\s/);
+  expect('a module in the base profile', await type(browser, 'script', 'export let a = (1);'), /^Refused: syntax error at 1:1\s+perhaps: 'export' makes this a module, which --module reads\s+read it as a module/);
+  await browser.evaluate("document.querySelector('.read').click()");
+  await browser.until(`!${SHOWN}.startsWith('Refused')`);
+  expect('a module by the button of a hint', await browser.evaluate(`[${SHOWN}.slice(0, 17), ${FOCUSED}]`), ['1:12 prefer-const', 'language']);
+  await choose(browser, '');
   expect('a module', await choose(browser, 'module'), /1:12 prefer-const[^]*1:16 no-extra-parens/);
   expect('its fixed text', await click(browser, 'fix'), 'export let a = 1;\n');
   expect('a script of 2022', await choose(browser, '2022'), /^Refused: syntax error at 1:1\s/);
@@ -144,7 +165,7 @@ async function languages(browser) {
 async function refusals(browser) {
   expect('a syntax error', await type(browser, 'script', 'let x = ;'), /^Refused: syntax error at 1:9\s+1:9[^]*let x = ;\n {8}\^/);
   await browser.picture('refused');
-  expect('it is said that it was refused', await browser.evaluate("document.getElementById('state').textContent"), /^refused: 9 characters/);
+  expect('it is said that it was refused', await browser.evaluate(STATE), /^refused: 9 characters/);
   expect('an early error', await type(browser, 'script', 'let a; let a;'), /^Refused: early error E3 at 1:12/);
   const deep = `${'('.repeat(1200)}a${')'.repeat(1200)}`;
   expect('1,200 pairs', await type(browser, 'script', deep), /^(1:1 no-extra-parens|Refused: out of stack)/);
@@ -152,6 +173,77 @@ async function refusals(browser) {
   const tall = `${'['.repeat(590)}${']'.repeat(590)}`;
   expect('590 arrays', await type(browser, 'script', tall), /^(No report\.|Refused: out of stack)/);
   expect('after that the next one is answered', await type(browser, 'script', 'debugger'), /1:1 no-debugger/);
+}
+
+/** A script of so many lines with reports in each. */
+const many = (lines) => Array.from({ length: lines }, (_, at) => `if (a == ${at}) { b${at}((c + ${at})); } // (a comment)\n`).join('');
+const click_ = (selector) => `document.querySelector('${selector}').click()`;
+
+/** How long the page computes for a key in a script, in milliseconds. */
+async function key(browser) {
+  await browser.evaluate("{ const it = document.getElementById('script'); it.focus(); it.setSelectionRange(0, 0); document.getElementById('state').textContent = 'typed'; }");
+  const begun = browser.computed();
+  await browser.send('Input.insertText', { text: ' ' });
+  for (let tries = 0; tries < 3000 && await browser.evaluate(`${STATE} === 'typed'`); tries++) await pause(10);
+  await browser.evaluate('new Promise((done) => requestAnimationFrame(() => setTimeout(done)))');
+  return browser.computed() - begun;
+}
+
+/** Large scripts: no pass over the text for each report, pieces of what is long, and the place of a report in view. */
+async function large(browser) {
+  const put = (text) => browser.evaluate(`{ const it = document.getElementById('script'); it.value = ${JSON.stringify(text)}; it.scrollTop = 0; }`), least = [];
+  for (const lines of [5000, 20000]) {
+    await put(many(lines));
+    await key(browser);
+    least.push(Math.min(await key(browser), await key(browser)));
+    expect(`reports of ${lines} lines`, await browser.evaluate(STATE), new RegExp(`^answered: ${lines * 5} reports, `));
+  }
+  // (in four times as much text; a pass for each report would take sixteen times as long, and some minutes)
+  expect(`a key takes ${least} ms`, least[0] > 0 && least[1] < 6 * least[0] && least[1] < 4000, true);
+  expect('the first reports, and a button for more', await browser.evaluate("[document.querySelectorAll('.place').length, document.querySelector('.more').textContent]"), [200, '200 more of 99800']);
+  expect('more of them', await browser.evaluate(`(${click_('.more')}, [document.querySelectorAll('.place').length, document.querySelector('.more').textContent])`), [400, '200 more of 99600']);
+  for (let number = 0; number < 3; number++) await browser.evaluate(click_('.more'));
+  const seen = "(() => { const it = document.getElementById('script'), line = it.value.slice(0, it.selectionStart).split('\\n').length - 1, top = line * parseFloat(getComputedStyle(it).lineHeight); return top >= it.scrollTop && top < it.scrollTop + it.clientHeight - 20; })()";
+  const place = await browser.evaluate("(() => { const it = [...document.querySelectorAll('.place')].at(-1); it.click(); return it.textContent; })()");
+  expect('the last of them is far below', Number(place.split(':')[0]) > 150, true);
+  expect('its place is in view, and selected', await browser.evaluate(`[${seen}, document.getElementById('script').scrollTop > 500, ${FOCUSED}]`), [true, true, 'script']);
+  await browser.picture('far');
+  await put(`a;${' '.repeat(4000)}(b);`);
+  await click(browser, 'check');
+  await browser.evaluate("[...document.querySelectorAll('.place')].at(-1).click()");
+  expect('a place far to the right is in view', await browser.evaluate("document.getElementById('script').scrollLeft > 1000"), true);
+  await put(many(5000));
+  expect('a tree in pieces', await browser.evaluate(`(${click_('#tab-tree')}, [document.querySelectorAll('#panel *').length < 6000, document.querySelectorAll('.more').length > 0, ${STATE}.slice(0, 26)])`), [true, true, 'answered: 5000 statements,']);
+  expect('a closed part is made when it is opened', await browser.evaluate("(async () => { const it = [...document.querySelectorAll('details:not([open])')][0], before = it.children.length; it.querySelector('summary').click(); await new Promise((done) => setTimeout(done, 100)); return [before, it.children.length]; })()"), [1, 2]);
+  expect('a text in pieces', await browser.evaluate(`(${click_('#tab-unwrap')}, [document.querySelectorAll('pre').length, document.getElementById('panel').textContent === document.getElementById('script').value.replaceAll('((', '(').replaceAll('))', ')')])`), [26, true]);
+  expect('a table in pieces', await browser.evaluate(`(${click_('#tab-cost')}, [document.querySelectorAll('tr').length, document.querySelectorAll('.more').length])`), [301, 1]);
+  await click(browser, 'check');
+}
+
+/** What goes to the clipboard. */
+async function copying(browser) {
+  await browser.send('Browser.grantPermissions', { permissions: ['clipboardReadWrite', 'clipboardSanitizedWrite'] });
+  await type(browser, 'script', 'debugger; (a)');
+  for (const [tab, wanted] of [['check', '1:1 no-debugger debugger statement\n1:11 no-extra-parens unnecessary parentheses\n1:12 no-undef \'a\' is not defined\n'], ['fix', 'debugger;\na;\n'], ['unwrap', 'debugger; a'], ['cost', /^jslint-cost 2\n[^]*total 0\n$/], ['tree', /^\{"body":/]]) {
+    await click(browser, tab);
+    await browser.send('Page.bringToFront');
+    await browser.evaluate(click_('#copy'));
+    await browser.until(`!${STATE}.startsWith('answered')`);
+    expect(`copied from ${tab}`, await browser.evaluate('navigator.clipboard.readText()'), wanted);
+    expect('and said', await browser.evaluate(STATE), /^copied: \d+ characters$/);
+  }
+  await click(browser, 'check');
+}
+
+/** As wide as a telephone: nothing is wider than the page. */
+async function narrow(browser) {
+  await browser.send('Emulation.setDeviceMetricsOverride', { width: 390, height: 800, deviceScaleFactor: 1, mobile: true });
+  await type(browser, 'script', `${'let averylongname = ((1)); '.repeat(20)}\nx = ;`);
+  expect('nothing is wider than 390', await browser.evaluate("[document.documentElement.scrollWidth, ...['select', '[role=tablist]', '#panel', '.below'].map((it) => document.querySelector(it).getBoundingClientRect().right)].every((it) => it <= 390)"), true);
+  expect('each tab is in view', await browser.evaluate("[...document.querySelectorAll('[role=tab], #copy')].every((it) => it.getBoundingClientRect().right <= 390)"), true);
+  expect('there is room for the script and for what comes out', await browser.evaluate("['script', 'panel'].every((it) => document.getElementById(it).clientHeight >= 200)"), true);
+  await browser.picture('narrow');
+  await browser.send('Emulation.clearDeviceMetricsOverride');
 }
 
 /** By the keyboard alone, and what a screen reader is told. */
@@ -176,6 +268,7 @@ async function keys(browser) {
   const wanted = ['textbox Script', 'textbox Settings of the rules (TOML)', 'tablist Commands', 'tab Reports', 'tab Fixed', 'tab Unwrapped', 'tab Tree', 'tab Cost table', 'tabpanel Reports', 'button go to line 1, column 1'];
   for (const it of wanted) expect(`a screen reader is told of ${it}`, told.includes(it), true);
   expect('and of what goes on', told.some((it) => it.startsWith('status')), true);
+  expect('and of how many reports there are', await browser.evaluate(STATE), /^answered: 1 report, 8 characters, [\d.]+ ms$/);
 }
 
 async function main(page) {
@@ -188,6 +281,9 @@ async function main(page) {
     await languages(browser);
     await refusals(browser);
     await keys(browser);
+    await large(browser);
+    await copying(browser);
+    await narrow(browser);
     const wrong = browser.events.filter((it) => it.method === 'Runtime.exceptionThrown' || (it.method === 'Log.entryAdded' && it.params.entry.level === 'error'));
     expect('nothing went wrong in the page', wrong.map((it) => JSON.stringify(it.params)), []);
     const asked = browser.events.filter((it) => it.method === 'Network.requestWillBeSent').map((it) => it.params.request.url).filter((it) => !/^(file|data):/.test(it));

@@ -1,44 +1,58 @@
-// Code actions: changes of a text or of its settings, each judged by proved calls before it is offered.
+// Code actions: changes of a text or of its settings, each judged by proved calls before it is offered. Of an ignored text nothing is offered, of a refused
+// one settings under which it is read.
 import { SETTINGS } from './beside.mjs';
 import { Document } from './document.mjs';
 import { editsBetween } from './edits.mjs';
 import { fileOf } from './editor.mjs';
 import { COMMANDS } from './rewriting.mjs';
-import { settingsWith } from './settings.mjs';
+import { ENVIRONMENTS, LANGUAGES, settingsWith } from './settings.mjs';
+import { KEPT } from './suppressions.mjs';
 
 export const KINDS = { fix: 'quickfix', all: 'source.fixAll.jslint', layout: 'source.layout.jslint' };
-const TITLES = { pair: 'Take out this pair of parentheses', all: 'Take out all unnecessary parentheses', layout: 'Write in one layout (drops comments)' };
+const TITLES = {
+  pair: 'Take out this pair of parentheses', all: 'Take out all unnecessary parentheses', casts: 'Take out all unnecessary parentheses, those of casts too',
+  layout: 'Write in one layout (drops comments)',
+};
 const TO_CONST = { true: 'Change let to const (if no other script writes it)', false: 'Change let to const' };
 // So many reports, and so many changes of the settings, are looked at.
 const MOST_CHANGES = 20;
-const MOST_OF_SETTINGS = 6;
+const MOST_OF_SETTINGS = 8;
+const MOST_NAMES = 3;
+const MOST_COMMENTS = 3;
 
-/** What the settings may leave out of a report: its name, if that isn't defined, or the whole rule. */
-function wishesOf({ rule, message }) {
-  const name = rule === 'no-undef' ? /^'(.*)' is not defined$/s.exec(message)?.[1] ?? null : null;
-  return [...(name === null ? [] : [{ rule, name }]), { rule, name: null }];
+/** The name that a report says isn't defined, or null. */
+const undefinedIn = ({ rule, message }) => (rule === 'no-undef' ? /^'(.*)' is not defined$/s.exec(message)?.[1] ?? null : null);
+
+function titleOf({ rule, name, env, language }) {
+  if (language !== undefined) return `Read it as a ${LANGUAGES[language].what}: ${LANGUAGES[language].line} in ${SETTINGS}`;
+  if (env !== undefined) return `Add ${env} to the environments in ${SETTINGS}`;
+  return name === null ? `Turn ${rule} off in ${SETTINGS}` : `Add ${name} to the globals in ${SETTINGS}`;
 }
 
-const titleOf = ({ rule, name }) => (name === null ? `Turn ${rule} off in ${SETTINGS}` : `Add ${name} to the globals in ${SETTINGS}`);
-
 export class Actions {
-  constructor({ editor, engine, checking, rewriting, shown }) {
-    Object.assign(this, { editor, engine, checking, rewriting, shown });
+  constructor({ editor, changing, checking, rewriting, shown }) {
+    Object.assign(this, { editor, changing, checking, rewriting, shown });
   }
 
-  async codeActions({ textDocument, range, context }, { signal }) {
-    const document = this.editor.document(textDocument), [start, end] = document.indicesOf(range), only = context?.only?.length > 0 ? [...context.only] : null;
-    if (!this.editor.isScript(document)) return [];
-    const isWanted = (kind) => only === null || only.some((it) => it === '' || kind === it || kind.startsWith(`${it}.`)), found = [];
-    if (isWanted(KINDS.fix)) found.push(...await this.quickFixes(document, start, end, signal));
+  codeActions({ textDocument, range, context }, { signal }) {
+    const document = this.editor.document(textDocument), stretch = document.indicesOf(range), only = context?.only?.length > 0 ? [...context.only] : null;
+    if (!this.editor.isChecked(document)) return [];
+    const isWanted = (kind) => only === null || only.some((it) => it === '' || kind === it || kind.startsWith(`${it}.`));
+    return this.rewriting.unlessChanged(document, signal, (either) => this.wanted(document, stretch, isWanted, only !== null, either));
+  }
+
+  async wanted(document, [start, end], isWanted, areNamed, signal) {
+    const found = [], settings = this.editor.settingsFor(document.uri), { refusal, reports, hasCasts } = settings?.fault ? {} : await this.checking.checked(document, signal);
+    if (isWanted(KINDS.fix) && reports) found.push(...await this.quickFixes(document, reports.filter((it) => it.start <= end && it.end >= start), { settings, hasCasts, signal }));
+    if (isWanted(KINDS.fix) && refusal) found.push(...await this.languageActions(document, refusal, settings, signal));
     // (what runs at each save is worked out only if it is asked for by its kind)
-    if (only && isWanted(KINDS.all)) found.push(...await this.allAtOnce(document, signal));
-    if (only && isWanted(KINDS.layout)) found.push(this.commandAction(TITLES.layout, KINDS.layout, COMMANDS.layout, document));
+    if (areNamed && reports && isWanted(KINDS.all)) found.push(...await this.allAtOnce(document, signal));
+    if (areNamed && reports && isWanted(KINDS.layout)) found.push(this.commandAction(TITLES.layout, KINDS.layout, COMMANDS.layout, document));
     return found;
   }
 
   async allAtOnce(document, signal) {
-    const { revision } = document, edits = await this.rewriting.unwrapped(document, signal);
+    const { revision } = document, edits = await this.rewriting.unwrapped(document, signal) ?? [];
     return edits.length ? [{ title: TITLES.all, kind: KINDS.all, edit: this.rewriting.editOf(document, revision, edits) }] : [];
   }
 
@@ -47,45 +61,80 @@ export class Actions {
     return this.editor.can.literals ? { title, kind, command: it } : it;
   }
 
-  /** What is offered for the reports that touch a stretch. */
-  async quickFixes(document, start, end, signal) {
-    const settings = this.editor.settingsFor(document.uri), options = { signal, rank: 0 };
-    if (settings?.fault) return [];
-    const { refusal, reports } = await this.checking.checked(document, settings, options);
-    if (refusal) return [];
-    const here = reports.filter((it) => it.start <= end && it.end >= start), found = [];
-    if (this.editor.can.literals) found.push(...await this.changes(document, here, options));
-    if (here.some((it) => it.rule === 'no-extra-parens')) found.push(this.commandAction(TITLES.all, KINDS.fix, COMMANDS.unwrap, document));
-    if (this.editor.can.literals && settings && fileOf(document.uri)) found.push(...await this.settingsActions(document, here, settings, options));
+  /** What is offered for some reports. */
+  async quickFixes(document, here, { settings, hasCasts, signal }) {
+    const { literals } = this.editor.can, found = literals ? await this.changes(document, here, signal) : [];
+    if (here.some((it) => it.rule === 'no-extra-parens')) found.push(this.commandAction(hasCasts ? TITLES.casts : TITLES.all, KINDS.fix, COMMANDS.unwrap, document));
+    if (literals) found.push(...await this.settingsActions(document, await this.wishesOf(here, signal), settings, signal), ...await this.comments(document, here, signal));
     return found;
   }
 
-  /** Changes of the text: one pair, and `let` to `const`. */
-  async changes(document, here, options) {
-    const { revision } = document, wanted = here.filter((it) => it.rule === 'no-extra-parens' || it.rule === 'prefer-const').slice(0, MOST_CHANGES);
-    if (wanted.length === 0) return [];
-    const { changes = [] } = await this.engine.run('changes', { ...this.rewriting.jobOf(document), wanted }, options), seen = new Set(), found = [];
-    for (const [at, change] of changes.entries()) {
-      const key = JSON.stringify(change?.edits);
+  /** Changes of the text: one pair, and `let` to `const`. Each is a job of its own, so that what is left of them is dropped when the text changes. */
+  async changes(document, here, signal) {
+    const { revision } = document, seen = new Set(), found = [];
+    for (const wanted of here.filter((it) => it.rule === 'no-extra-parens' || it.rule === 'prefer-const').slice(0, MOST_CHANGES)) {
+      const { change } = await this.changing.run('change', { ...this.rewriting.jobOf(document), wanted }, { signal }), key = JSON.stringify(change?.edits);
       if (!change || seen.has(key)) continue;
       seen.add(key);
-      const title = wanted[at].rule === 'prefer-const' ? TO_CONST[change.isTop] : TITLES.pair;
-      const diagnostics = [this.shown.report(document, wanted[at])], edit = this.rewriting.editOf(document, revision, change.edits);
+      const title = wanted.rule === 'prefer-const' ? TO_CONST[change.isTop] : TITLES.pair;
+      const diagnostics = [this.shown.report(document, wanted)], edit = this.rewriting.editOf(document, revision, change.edits);
       found.push({ title, kind: KINDS.fix, isPreferred: !change.isTop, diagnostics, edit });
     }
     return found;
   }
 
-  /** Changes of the settings: each turns just those reports off that it says. */
-  async settingsActions(document, here, settings, options) {
-    const wishes = new Map(here.flatMap(wishesOf).map((it) => [titleOf(it), it])), found = [];
-    const version = this.editor.documents.get(settings.uri)?.version, target = new Document({ ...settings, version }, this.editor.encoding);
-    for (const [title, wish] of [...wishes].slice(0, MOST_OF_SETTINGS)) {
-      const changed = settingsWith(settings.text, wish);
-      const { isGood } = await this.engine.run('settingsEffect', { text: document.text, ...this.editor.askedFor(document.uri), settings: settings.text, changed, ...wish }, options);
+  /** What the settings may leave out of reports: a name that isn't defined, by itself or by an environment that has it, or the whole rule. */
+  async wishesOf(here, signal) {
+    const found = [], names = new Set(here.map(undefinedIn).filter((it) => it !== null));
+    for (const name of [...names].slice(0, MOST_NAMES)) {
+      const { environments } = await this.changing.run('environmentsOf', { name, environments: ENVIRONMENTS }, { signal });
+      found.push(...environments.slice(0, MOST_NAMES).map((env) => ({ rule: 'no-undef', name, env })));
+    }
+    const ofRules = here.filter((it) => it.rule !== 'suppression').flatMap((it) => [...(undefinedIn(it) === null ? [] : [{ rule: it.rule, name: undefinedIn(it) }]), { rule: it.rule, name: null }]);
+    return [...found, ...ofRules];
+  }
+
+  /** Settings under which a refused text is read, if its language is what it wants. */
+  languageActions(document, { readBy = [] }, settings, signal) {
+    const wishes = this.editor.can.literals ? Object.keys(LANGUAGES).filter((it) => readBy.includes(it)).map((language) => ({ language })) : [];
+    return this.settingsActions(document, wishes, settings, signal);
+  }
+
+  /** The settings that are changed: those that hold, or, where there are none, new ones, if the editor can make a file. */
+  targetFor(document, settings) {
+    if (settings) return { ...settings, isNew: false };
+    const uri = fileOf(document.uri) && this.editor.can.creates && this.editor.can.edits ? this.editor.newSettingsFor(document.uri) : null;
+    return uri && { uri, text: '', isNew: true };
+  }
+
+  /** Changes of the settings: each does just what it says. */
+  async settingsActions(document, wishes, settings, signal) {
+    const target = wishes.length && fileOf(document.uri) ? this.targetFor(document, settings) : null, found = [];
+    if (!target) return found;
+    const version = this.editor.documents.get(target.uri)?.version, shown = new Document({ ...target, version }, this.editor.encoding), seen = new Set();
+    for (const wish of wishes) {
+      const title = titleOf(wish);
+      if (seen.has(title) || found.length === MOST_OF_SETTINGS) continue;
+      seen.add(title);
+      const changed = settingsWith(target.text, wish);
+      const { isGood } = await this.changing.run('settingsEffect', { ...this.rewriting.jobOf(document), settings: target.text, changed, wish }, { signal });
       if (!isGood) continue;
-      const edits = editsBetween(settings.text, changed).map((it) => ({ range: target.rangeOf(it.start, it.end), newText: it.text }));
-      found.push({ title, kind: KINDS.fix, edit: this.rewriting.workspaceEdit(settings.uri, version, edits) });
+      const edits = editsBetween(target.text, changed).map((it) => ({ range: shown.rangeOf(it.start, it.end), newText: it.text }));
+      found.push({ title, kind: KINDS.fix, edit: this.rewriting.workspaceEdit(target.uri, version, edits, target.isNew) });
+    }
+    return found;
+  }
+
+  /** Comments that turn a rule off for a line. */
+  async comments(document, here, signal) {
+    if (!this.editor.options.suppressions) return [];
+    const { revision } = document, found = [], seen = new Set();
+    for (const wanted of here.filter((it) => it.rule !== KEPT && it.rule !== 'suppression')) {
+      const title = `Turn ${wanted.rule} off for this line`;
+      if (seen.has(title) || seen.size === MOST_COMMENTS) continue;
+      seen.add(title);
+      const { edits } = await this.changing.run('suppress', { ...this.rewriting.jobOf(document), wanted }, { signal });
+      if (edits) found.push({ title, kind: KINDS.fix, diagnostics: [this.shown.report(document, wanted)], edit: this.rewriting.editOf(document, revision, edits) });
     }
     return found;
   }

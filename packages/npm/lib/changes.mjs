@@ -5,6 +5,7 @@
 //   blanks alone have the same comments, blanks aside.
 //
 // What a changed text does when it runs is nowhere proved.
+import { isCast, mayHaveCasts } from './casts.mjs';
 import { applied, editsBetween } from './edits.mjs';
 
 const WORD = /[$_\p{ID_Continue}\u200c\u200d\\#]/u;
@@ -99,6 +100,11 @@ export class Judge {
   /** The reports of a rule, under no settings. */
   reportsOf(rule) {
     return (this.own('spans') ?? []).filter((it) => it.rule === rule);
+  }
+
+  /** Whether `unwrap` would take a cast's pair. */
+  hasCasts() {
+    return mayHaveCasts(this.text) && this.reportsOf('no-extra-parens').some((it) => isCast(this.text, it.start));
   }
 
   /** The edits that take out the reported pair whose `(` is at an index, or null: the tree stays, and each comment. */

@@ -2,6 +2,7 @@
 import path from 'node:path';
 import { Document } from './document.mjs';
 import { fileOf } from './editor.mjs';
+import { unlessAborted } from './protocol.mjs';
 
 // After so long a check is told to the editor as work in progress.
 const SLOW_MS = 400;
@@ -73,21 +74,26 @@ export class Checking {
     }
   }
 
-  /** What `check` answers for a text. It is kept for the following request, until the text or the settings change. */
-  async checked(document, settings, options) {
-    const text = settings?.text ?? '', { isModule } = this.editor.askedFor(document.uri), { revision, kept } = document;
-    if (kept?.revision === revision && kept.settings === text && kept.isModule === isModule) return kept.found;
-    const found = await this.engine.run('check', { text: document.text, settings: text, isModule }, options);
-    if (document.revision === revision) document.kept = { revision, settings: text, isModule, found };
-    return found;
+  /** What `check` answers for a text: asked once for all who want it, until the text or what it is read by changes. */
+  checked(document, signal) {
+    const asked = this.editor.askedFor(document.uri), { revision, kept } = document, by = JSON.stringify(asked);
+    if (kept?.revision !== revision || kept.by !== by) {
+      const found = this.engine.run('check', { text: document.text, ...asked }, { signal: document.work.signal });
+      document.kept = { revision, by, found };
+      // (after a fault it is asked again)
+      found.catch(() => { if (document.kept?.found === found) document.kept = null; });
+    }
+    return unlessAborted(document.kept.found, signal);
   }
 
   async diagnostics(document, signal) {
-    if (!this.editor.isScript(document) || this.editor.isIgnored(document.uri)) return [];
-    const settings = this.editor.settingsFor(document.uri);
+    if (!this.editor.isChecked(document)) return [];
+    const settings = this.editor.settingsFor(document.uri), { revision } = document;
     if (settings?.fault) return this.shown.fault(document, 'settings', `not checked: ${settings.file}: ${settings.fault}`);
     try {
-      return this.diagnosticsOf(document, await this.checked(document, settings, { signal }), settings);
+      const found = await this.checked(document, signal);
+      if (found.reports && document.revision === revision) document.marks = found.reports;
+      return this.diagnosticsOf(document, found, settings);
     } catch (error) {
       if (error.name === 'AbortError') throw error;
       return this.shown.fault(document, 'failed', `not checked: ${error.message}`);
@@ -131,8 +137,8 @@ export class Checking {
 
   async hover({ textDocument, position }, { signal }) {
     const document = this.editor.document(textDocument), at = document.indexAt(position), settings = this.editor.settingsFor(document.uri);
-    if (!this.editor.isScript(document) || settings?.fault) return null;
-    return this.shown.hover(document, await this.checked(document, settings, { signal, rank: 0 }), at);
+    if (!this.editor.isChecked(document) || settings?.fault) return null;
+    return this.shown.hover(document, await this.checked(document, signal), at);
   }
 }
 

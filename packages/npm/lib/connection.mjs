@@ -1,18 +1,9 @@
 // JSON-RPC 2.0 over a pair of streams.
 import { Frames, framed } from './frames.mjs';
-import { CODES, ResponseError, aborted } from './protocol.mjs';
+import { CODES, ResponseError, unlessAborted } from './protocol.mjs';
 
 /** The function that an object has under a name of its own. */
 const own = (table, name) => (Object.hasOwn(table, name) ? table[name] : null);
-
-/** What a promise gives, or an AbortError as soon as the signal says so. */
-function cancellable(promise, signal) {
-  if (!(promise instanceof Promise)) return promise;
-  return new Promise((resolve, reject) => {
-    signal.addEventListener('abort', () => reject(aborted()), { once: true });
-    promise.then(resolve, reject);
-  });
-}
 
 /**
  * One client. There is a function for each method: for requests `(params, { signal }) => result or promise`, for notifications `(params)`.
@@ -97,7 +88,7 @@ export class Connection {
       if (refused) throw refused;
       const handler = own(this.requests, method);
       if (!handler) throw new ResponseError(CODES.noMethod, `no method ${method}`);
-      const result = await cancellable(handler(params ?? {}, { signal }), signal);
+      const result = await unlessAborted(handler(params ?? {}, { signal }), signal);
       this.send({ id, result: result ?? null });
     } catch (error) {
       this.send({ id, error: this.errorOf(error) });

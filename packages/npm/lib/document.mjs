@@ -21,15 +21,36 @@ function startsIn(text, from, to) {
   return found;
 }
 
+/** Where two texts differ: from where to where in the first, and how long it is in the second. */
+function changedStretch(a, b) {
+  let from = 0, to = a.length, end = b.length;
+  while (from < to && from < end && a.charCodeAt(from) === b.charCodeAt(from)) from++;
+  while (to > from && end > from && a.charCodeAt(to - 1) === b.charCodeAt(end - 1)) to--, end--;
+  return [from, to, end - from];
+}
+
 export class Document {
   constructor({ uri, languageId, version, text }, encoding = 'utf-16') {
-    Object.assign(this, { uri, languageId, version, encoding, revision: 0 });
+    Object.assign(this, { uri, languageId, version, encoding, revision: 0, marks: [], work: new AbortController() });
     this.replace(stringOf(text, 'a text'));
   }
 
   replace(text) {
+    if (this.marks.length) this.moveMarks(...changedStretch(this.text, text));
     this.text = text;
     this.lines = [0, ...startsIn(text, 0, text.length)];
+  }
+
+  /** Stretches that are kept while the text changes: those that a change touches go, and those behind it move. */
+  moveMarks(from, to, length) {
+    const shift = length - (to - from), moved = (it) => (it.end <= from ? it : { ...it, start: it.start + shift, end: it.end + shift });
+    this.marks = this.marks.filter((it) => it.end <= from || it.start >= to).map(moved);
+  }
+
+  /** Ends what is worked out of the text as it was. */
+  drop() {
+    this.work.abort();
+    this.work = new AbortController();
   }
 
   /** The number of the line that an index is on. */
@@ -92,6 +113,7 @@ export class Document {
 
   /** Takes changes one after the other; a change without a range is the whole text. One that makes no sense is thrown. */
   change(changes, version) {
+    this.drop();
     for (const it of changes) {
       const put = stringOf(it?.text, 'a changed text');
       this.revision++;
@@ -104,6 +126,7 @@ export class Document {
   /** Replaces a stretch. Lines are looked for again from the line before the stretch to the first old line that begins behind it. */
   splice(from, to, put) {
     const first = Math.max(0, this.lineAt(from) - 1), last = this.lineAt(to) + 1, shift = put.length - (to - from);
+    if (this.marks.length) this.moveMarks(from, to, put.length);
     this.text = this.text.slice(0, from) + put + this.text.slice(to);
     const until = last < this.lines.length ? this.lines[last] + shift : this.text.length + 1;
     const between = startsIn(this.text, this.lines[first], until - 1), rest = this.lines.slice(last);

@@ -17,6 +17,7 @@ const OPTIONS = {
   severity: ['warning', oneOf(...Object.keys(SEVERITIES))],
   debounce: [120, number(0, 60000)],
   maxDiagnostics: [1000, number(1, 1e6)],
+  suppressions: [true, (it) => typeof it === 'boolean'],
   languages: [['javascript', 'js', 'js-mode', 'js2'], (it) => Array.isArray(it) && it.every((each) => typeof each === 'string')],
 };
 
@@ -45,7 +46,9 @@ export class Editor {
 
   open(textDocument) {
     const uri = stringOf(textDocument?.uri, 'the address of a text');
-    this.documents.set(uri, new Document(textDocument, this.encoding));
+    const document = new Document(textDocument, this.encoding);
+    this.documents.get(uri)?.drop();
+    this.documents.set(uri, document);
     return uri;
   }
 
@@ -76,6 +79,12 @@ export class Editor {
     return file !== null && (path.basename(file) === SETTINGS || file === this.namedSettings());
   }
 
+  /** Where settings for a script would be put: in the folder of the workspace or of the repository that has it; null where there is none. */
+  newSettingsFor(uri) {
+    const file = fileOf(uri), folder = this.beside.topOf(file) ?? this.folders.map(fileOf).filter(Boolean).find((it) => file.startsWith(path.join(it, path.sep)));
+    return folder ? uriOf(path.join(folder, SETTINGS)) : null;
+  }
+
   openOf(file) {
     return [...this.documents.values()].find((it) => fileOf(it.uri) === file) ?? null;
   }
@@ -87,14 +96,20 @@ export class Editor {
     return found ? { ...found, uri: this.openOf(found.file)?.uri ?? uriOf(found.file) } : null;
   }
 
-  /** What the language of a text is asked by: its settings, and whether its name or package.json says that it is a module. */
+  /** How a text is read: by which settings, whether its name or package.json says that it is a module or a script, and whether comments in it turn reports
+   * off. */
   askedFor(uri) {
     const file = fileOf(uri), openText = (name) => this.openOf(name)?.text ?? null;
-    return { settings: this.settingsFor(uri)?.text ?? '', isModule: file !== null && this.beside.isModule(file, openText) };
+    return { settings: this.settingsFor(uri)?.text ?? '', kind: file === null ? null : this.beside.kindOf(file, openText), areRead: this.options.suppressions };
+  }
+
+  /** Whether a text is one for which anything is said or offered. */
+  isChecked(document) {
+    return this.isScript(document) && !this.isIgnored(document.uri);
   }
 
   isIgnored(uri) {
     const file = fileOf(uri);
-    return file !== null && this.beside.isIgnored(file);
+    return file !== null && this.beside.isIgnored(file, this.folders.map(fileOf).filter(Boolean));
   }
 }

@@ -1,13 +1,13 @@
-// Has the proved calls done, one after the other, in a thread of their own. A job that isn't wanted any more is left out, or given up by ending the
-// thread.
+// Has the proved calls done, one after the other, in a thread of their own. A job that isn't wanted any more is left out; one that runs is waited for, and
+// given up by ending the thread only if it goes on for long: a new thread is slow at first, so there is none after each key.
 import { readFileSync } from 'node:fs';
 import { Worker } from 'node:worker_threads';
 import { aborted } from './protocol.mjs';
 
 // What scripts at the limits of nesting need, and more.
 const STACK_MB = 64;
-// Below so much text a job that isn't wanted is waited for: it takes less time than a new thread.
-const WORTH_ENDING = 150_000;
+// How long a job that isn't wanted any more may go on.
+const PATIENCE_MS = 1000;
 const MOST_MS = 60_000;
 // After a text as large as this a thread that has nothing to do for a while is ended: its memory doesn't shrink otherwise.
 const LARGE = 500_000;
@@ -79,6 +79,7 @@ export class Engine {
     const it = this.now;
     if (!it) return;
     clearTimeout(this.timer);
+    clearTimeout(this.patience);
     this.now = null;
     this.worker?.unref();
     it.signal?.removeEventListener('abort', it.onAbort);
@@ -108,13 +109,12 @@ export class Engine {
     it.reject(aborted());
     const at = this.waiting.indexOf(it);
     if (at >= 0) this.waiting.splice(at, 1);
-    else if (this.now === it && sizeOf(it) >= WORTH_ENDING) this.giveUp('cancelled');
+    else if (this.now === it) this.patience = setTimeout(() => this.giveUp('cancelled'), PATIENCE_MS).unref();
   }
 
   end() {
     this.isEnded = true;
-    clearTimeout(this.timer);
-    clearTimeout(this.idle);
+    for (const it of [this.timer, this.patience, this.idle]) clearTimeout(it);
     return this.worker?.terminate();
   }
 }

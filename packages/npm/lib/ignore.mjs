@@ -1,16 +1,30 @@
 // What ignore files say, as gitignore(5) has it: the last pattern that matches decides, and nothing below an ignored folder comes back.
-// A repository may be a stranger's, so nothing here takes longer than the pattern's length times the path's.
+//
+// git compares bytes, so `?` is one of them: texts and names have a character for each byte here (`inBytes`). A repository may be a stranger's, so nothing
+// here takes longer than the pattern's length times the path's.
 
-const STAR = '*', ANY = '**';
+// A run of stars in a segment, and a segment of two or more alone.
+const STAR = Symbol('*'), ANY = Symbol('**');
 const CLASSES = {
-  alpha: 'A-Za-z', digit: '0-9', alnum: 'A-Za-z0-9', upper: 'A-Z', lower: 'a-z', space: '\\s', punct: '!-\\/:-@\\[-`{-~', xdigit: '0-9A-Fa-f', blank: ' \\t',
+  alpha: 'A-Za-z', digit: '0-9', alnum: 'A-Za-z0-9', upper: 'A-Z', lower: 'a-z', space: ' \\t\\n\\r', punct: '!-\\/:-@\\[-`{-~', xdigit: '0-9A-Fa-f', blank: ' \\t',
   cntrl: '\\x00-\\x1f\\x7f', print: '\\x20-\\x7e', graph: '\\x21-\\x7e',
 };
 const PIECE = /(\*+)|(\?)|\\([\s\S])|\[([!^]?)(\]?(?:\[:\w+:\]|\\[\s\S]|[^\]\\])*)\]|([^\\[])/gsy;
+// What a file may begin with, which is no part of its first pattern.
+const MARK = '\xef\xbb\xbf';
+
+/** A name, or the bytes of an ignore file, as a text that has a character for each byte. */
+export const inBytes = (text) => Buffer.from(text).toString('latin1');
+
+/** A line without the blanks at its end, but for one behind a backslash. */
+function withoutEnd(line) {
+  const text = line.replace(/\r$/, ''), kept = /^(?:\\[\s\S]|[^\\ ]| +(?=[^ ]))*/.exec(text)[0];
+  return /^ *$/.test(text.slice(kept.length)) ? kept : text;
+}
 
 /** A line's pattern; null for a blank line, a comment, and what matches nothing. */
 export function patternOf(line) {
-  let text = line.replace(/\r$/, '').replace(/(?<!\\) +$/, '');
+  let text = withoutEnd(line);
   if (text === '' || text.startsWith('#')) return null;
   const isBack = text.startsWith('!');
   if (isBack) text = text.slice(1);
@@ -18,29 +32,30 @@ export function patternOf(line) {
   if (isFolder) text = text.slice(0, -1);
   const isAnchored = text.includes('/');
   if (text.startsWith('/')) text = text.slice(1);
-  if (text === '') return null;
-  const segments = segmentsOf(text).map((it) => (it === ANY ? ANY : tokensOf(it)));
-  if (segments.includes(null)) return null;
+  const segments = text === '' ? null : segmentsOf(text);
+  if (segments === null) return null;
   return { isBack, isFolder, segments: isAnchored ? segments : [ANY, segments[0] === ANY ? [STAR] : segments[0]] };
 }
 
-/** A pattern's parts between slashes. (a slash with a backslash before it is one, too) */
-const segmentsOf = (text) => text.replace(/\\([\s\S])/g, (it, char) => (char === '/' ? '/' : it)).split('/');
-
-/** A segment as stars and tests of one character; null where a bracket or a backslash never ends. */
-function tokensOf(segment) {
-  const found = [];
+/** The segments between slashes; null where a bracket, in which a slash is none, or a backslash never ends. */
+function segmentsOf(text) {
+  const found = [[]];
   PIECE.lastIndex = 0;
-  while (PIECE.lastIndex < segment.length) {
-    const it = PIECE.exec(segment);
+  while (PIECE.lastIndex < text.length) {
+    const it = PIECE.exec(text);
     if (!it) return null;
-    const [, stars, one, quoted, not, set, plain] = it;
-    if (stars) found.push(STAR);
-    else if (one) found.push(() => true);
-    else if (set !== undefined) found.push(testOf(not, set));
-    else found.push((char) => char === (quoted ?? plain));
+    // (one with a backslash before it is a slash, too)
+    if ((it[3] ?? it[6]) === '/') found.push([]);
+    else found.at(-1).push(tokenOf(it));
   }
-  return found;
+  return found.map((tokens) => (tokens.length === 1 && tokens[0] === ANY ? ANY : tokens.map((it) => (it === ANY ? STAR : it))));
+}
+
+/** A piece as stars, or as a test of one character. */
+function tokenOf([, stars, one, quoted, not, set, plain]) {
+  if (stars) return stars === '*' ? STAR : ANY;
+  if (one) return () => true;
+  return set !== undefined ? testOf(not, set) : (char) => char === (quoted ?? plain);
 }
 
 function testOf(not, set) {
@@ -82,20 +97,20 @@ function matches(segments, names) {
   return reached[names.length];
 }
 
-/** The patterns of a text, the last first. */
-export const patternsOf = (text) => text.split('\n').map(patternOf).filter(Boolean).reverse();
+/** The patterns of a text `inBytes`, the last first. */
+export const patternsOf = (text) => text.slice(text.startsWith(MARK) ? MARK.length : 0).split('\n').map(patternOf).filter(Boolean).reverse();
 
 /**
  * Whether a path is ignored. `filesOf(folder)` gives the patterns of that folder's ignore files, a folder being a path relative to the root,
  * '' for the root itself.
  */
 export function isIgnored(path, isFolder, filesOf) {
-  const parts = path.split('/');
+  const parts = inBytes(path).split('/');
   for (let count = 1; count <= parts.length; count++) if (verdict(parts.slice(0, count), count < parts.length || isFolder, filesOf)) return true;
   return false;
 }
 
-/** What the files say of one path, whose folders aren't ignored: the nearest file that says anything. */
+/** What the files say of one path by its parts `inBytes`, whose folders aren't ignored: the nearest file that says anything. */
 export function verdict(parts, isFolder, filesOf) {
   for (let depth = parts.length - 1; depth >= 0; depth--) {
     const names = parts.slice(depth);

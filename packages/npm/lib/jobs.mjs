@@ -1,9 +1,11 @@
 // What the server asks of the proved calls. A job is plain data, and so is its answer: they go between threads.
 import { Refused, indexOf } from '../core.mjs';
+import { isCast, isOfCast, mayHaveCasts } from './casts.mjs';
 import { Judge, mayHaveComments } from './changes.mjs';
-import { editsBetween } from './edits.mjs';
+import { applied, editsBetween } from './edits.mjs';
 import { earlyHint, syntaxHint } from './hints.mjs';
 import { Languages, inLanguage } from './languages.mjs';
+import { lineAt, lineStarts, suppressingEdits, withoutSuppressed } from './suppressions.mjs';
 
 const HALF_PAIR = /(?:[^\ud800-\udbff]|^)[\udc00-\udfff]|[\ud800-\udbff](?![\udc00-\udfff])/;
 // How many lines of refused settings are taken away one by one.
@@ -12,26 +14,17 @@ const MOST_LINES = 500;
 const MOST_REPORTS = 20000;
 // How much of a report of these rules is underlined: `var` and `(`, where all that they hold is reported.
 const UNDERLINED = { 'no-var': 'var'.length, 'no-extra-parens': 1 };
+// The refusals that another language may not have. Of several the one that got furthest is shown: an early error is found after the whole text was read.
+const REACH = { syntax: 0, deep: 1, early: 2 };
 
 /** A refusal of a text of a language in the program's words, with its place, and a hint where there is one. */
 function refusalOf(error, text, language) {
   const { code = 'other', message, number } = error, start = error.line === undefined || code === 'settings' ? 0 : indexOf(text, error.line, error.column);
   const hint = code === 'syntax' ? syntaxHint(text, start, language) : code === 'early' ? earlyHint(number, text, start, language) : null;
-  return { code, message, number, start, ...(hint ? { hint: hint.hint, hintId: hint.id ?? `early-${number}`, isLacking: hint.lacks } : {}) };
+  return { code, message, number, start, ...(hint ? { hint: hint.hint, hintId: hint.id ?? `early-${number}`, isLacking: hint.lacks, readBy: hint.readBy ?? [] } : {}) };
 }
 
-/** What a call for a text answers, or why it was refused; `languageOf` says the text's language. */
-function tried(text, languageOf, call) {
-  // (half a pair of surrogates has no UTF-8, so a text with one is no script's)
-  const half = HALF_PAIR.exec(text);
-  if (half) return { refusal: { code: 'utf8', message: 'half a pair of surrogates, which has no UTF-8', start: half.index } };
-  try {
-    return call();
-  } catch (error) {
-    if (error instanceof Refused) return { refusal: refusalOf(error, text, languageOf()) };
-    throw error;
-  }
-}
+const isFurther = (it, other) => REACH[it.code] > REACH[other.code] || (it.code === 'syntax' && other.code === 'syntax' && it.start > other.start);
 
 /** What a call answers, or null where it is refused. */
 function answered(call) {
@@ -46,22 +39,41 @@ function answered(call) {
 export class Jobs {
   /** The commands are those of core.mjs. */
   constructor(commands) {
-    const isTaken = (text, options) => !HALF_PAIR.test(options.settings) && answered(() => commands.check(text, options)) !== null;
-    Object.assign(this, { commands, judge: null, languages: new Languages(isTaken) });
+    const isTaken = (settings, language) => !HALF_PAIR.test(settings) && answered(() => commands.check('', { settings, language })) !== null;
+    Object.assign(this, { commands, judge: null, last: null, languages: new Languages(isTaken) });
   }
 
-  /** The commands for a job's text. */
-  commandsFor(job, isCheck) {
-    return inLanguage(this.commands, this.languages.of(job, isCheck));
-  }
-
-  /** The judge of a text's changes, kept since an editor asks for several changes of one text. */
-  judgeOf(job) {
-    const language = this.languages.of(job);
-    if (this.judge?.text !== job.text || this.judge.language !== language) {
-      this.judge = Object.assign(new Judge(inLanguage(this.commands, language), answered, job.text), { language });
+  /** What a call answers by the commands of the first language in which a job's text isn't refused; else the refusal that got furthest. */
+  tried(job, call) {
+    const { text } = job, half = HALF_PAIR.exec(text);
+    // (half a pair of surrogates has no UTF-8, so a text with one is no script's)
+    if (half) return { refusal: { code: 'utf8', message: 'half a pair of surrogates, which has no UTF-8', start: half.index } };
+    let refusal = null;
+    for (const language of this.languages.triedFor(job)) {
+      try {
+        return call(inLanguage(this.commands, language), language);
+      } catch (error) {
+        if (!(error instanceof Refused)) throw error;
+        const it = refusalOf(error, text, language);
+        if (!Object.hasOwn(REACH, it.code)) return { refusal: it };
+        if (refusal === null || isFurther(it, refusal)) refusal = it;
+      }
     }
-    return this.judge;
+    return { refusal };
+  }
+
+  /** The same with the judge of the text's changes, kept since an editor asks for several changes of one text. */
+  judged(job, call) {
+    return this.tried(job, (commands, language) => {
+      if (this.judge?.text !== job.text || this.judge.language !== language) {
+        this.judge = null;
+        // (a refusal is said as such)
+        const fixed = commands.fix(job.text);
+        this.judge = Object.assign(new Judge(commands, answered, job.text), { language });
+        this.judge.known.set('fix', fixed);
+      }
+      return call(this.judge);
+    });
   }
 
   areTaken(settings) {
@@ -80,46 +92,67 @@ export class Jobs {
     }
   }
 
-  /** The reports, from where to where each is underlined, and how many more there are. */
+  /** What is shown of what `check` reports: not the pairs of casts, and not what comments turn off, if they are read. Whether there were such pairs. */
+  found({ text, settings, areRead }, commands) {
+    const all = commands.spans(text, { settings }), kept = mayHaveCasts(text) ? all.filter((it) => !isOfCast(text, it)) : all;
+    const reports = areRead ? withoutSuppressed(text, kept, (it) => answered(() => commands.fix(it))) : kept;
+    return { reports, hasCasts: kept.length < all.length };
+  }
+
+  /** The reports, from where to where each is underlined, how many more there are, and whether pairs of casts are kept. */
   check(job) {
-    const { text, settings } = job;
-    if (HALF_PAIR.test(settings)) return { refusal: { code: 'settings', message: 'bad settings', start: 0 } };
-    return tried(text, () => this.languages.of(job), () => {
-      const all = this.commandsFor(job, true).spans(text, { settings }), reports = all.slice(0, MOST_REPORTS);
-      return { reports: reports.map((it) => ({ ...it, end: it.start + (UNDERLINED[it.rule] ?? it.end - it.start) })), left: all.length - reports.length };
+    if (HALF_PAIR.test(job.settings)) return { refusal: { code: 'settings', message: 'bad settings', start: 0 } };
+    return this.tried(job, (commands) => {
+      const { reports: all, hasCasts } = this.found(job, commands), reports = all.slice(0, MOST_REPORTS);
+      return { reports: reports.map((it) => ({ ...it, end: it.start + (UNDERLINED[it.rule] ?? it.end - it.start) })), left: all.length - reports.length, hasCasts };
     });
   }
 
+  /** The edits that unwrap a text, and whether they take pairs of casts. */
   unwrap(job) {
     const { text } = job;
-    return tried(text, () => this.languages.of(job), () => ({ edits: editsBetween(text, this.commandsFor(job).unwrap(text)) }));
+    return this.tried(job, (commands) => {
+      const edits = editsBetween(text, commands.unwrap(text));
+      return { edits, hasCasts: edits.length > 0 && mayHaveCasts(text) && commands.spans(text).some((it) => isOfCast(text, it)) };
+    });
   }
 
   /** The edits that make the fixed text, with CR LF where the first line of the text ends so and that keeps the tree. */
   fix(job) {
     const { text } = job;
-    return tried(text, () => this.languages.of(job), () => {
-      const commands = this.commandsFor(job), fixed = commands.fix(text), isCrLf = /^[^\r\n]*\r\n/.test(text), other = isCrLf ? fixed.replaceAll('\n', '\r\n') : fixed;
+    return this.tried(job, (commands) => {
+      const fixed = commands.fix(text), isCrLf = /^[^\r\n]*\r\n/.test(text), other = isCrLf ? fixed.replaceAll('\n', '\r\n') : fixed;
       const to = other !== fixed && answered(() => commands.fix(other)) !== fixed ? fixed : other;
       return { edits: editsBetween(text, to), hasComments: mayHaveComments(text) };
     });
   }
 
+  /** The edits of the unwrapped text in a stretch; none where the text has casts. */
   unwrapWithin(job) {
-    const { text, start, end } = job;
-    return tried(text, () => this.languages.of(job), () => {
-      // (a refusal is said as such)
-      this.commandsFor(job).unwrap(text);
-      return { edits: this.judgeOf(job).unwrappedWithin(start, end) };
+    const { start, end } = job;
+    return this.judged(job, (judge) => ({ edits: judge.hasCasts() ? [] : judge.unwrappedWithin(start, end) }));
+  }
+
+  /** The change that a report `{ rule, start }` has: its edits, and whether it is of a name at the top; or null. */
+  change(job) {
+    const { wanted: { rule, start } } = job;
+    return this.judged(job, (judge) => {
+      if (rule !== 'no-extra-parens') return { change: judge.letToConst(start) };
+      const edits = isCast(job.text, start) ? null : judge.withoutPair(start);
+      return { change: edits && { edits, isTop: false } };
     });
   }
 
-  /** The changes that some reports have: for each `{ rule, start }` its edits and whether it is of a name at the top, or null. */
-  changes(job) {
-    const { text, wanted } = job;
-    return tried(text, () => this.languages.of(job), () => {
-      const judge = this.judgeOf(job), withoutPair = (start) => { const edits = judge.withoutPair(start); return edits && { edits, isTop: false }; };
-      return { changes: wanted.map(({ rule, start }) => (rule === 'no-extra-parens' ? withoutPair(start) : judge.letToConst(start))) };
+  /** The edit that puts a comment which turns a report off, or null: the fixed text stays, and the rule's reports on that line go alone. */
+  suppress(job) {
+    const { text, wanted: { rule, start } } = job;
+    return this.judged(job, (judge) => {
+      const { commands } = judge, fixed = judge.own('fix'), starts = lineStarts(text), line = lineAt(starts, start);
+      const before = judge.once(`found ${job.settings}`, () => this.found(job, commands).reports), told = (list) => JSON.stringify(list.map((it) => [it.rule, it.message]));
+      const wanted = told(before.filter((it) => it.rule !== rule || lineAt(starts, it.start) !== line));
+      const isGood = (it) => answered(() => commands.fix(it)) === fixed && told(this.found({ ...job, text: it }, commands).reports) === wanted;
+      const edit = suppressingEdits(text, start, rule).find((it) => isGood(applied(text, [it])));
+      return { edits: edit ? [edit] : null };
     });
   }
 
@@ -134,17 +167,40 @@ export class Jobs {
     return { line: 0 };
   }
 
-  /** Whether changed settings are taken, and turn the reports of a rule, or of a name, off, and nothing else on or off. */
+  /** Whether changed settings are taken, and do what is wished and nothing else. */
   settingsEffect(job) {
-    const { text, settings, changed, rule, name } = job;
-    return tried(text, () => this.languages.of(job), () => {
-      const commands = this.commandsFor(job, true), reportsWith = (it) => (HALF_PAIR.test(it) ? null : answered(() => commands.check(text, { settings: it })));
-      const before = reportsWith(settings), after = reportsWith(changed);
-      if (before === null || after === null) return { isGood: false };
-      const isOff = (it) => it.rule === rule && (name === null || it.message === `'${name}' is not defined`);
-      const told = (list) => JSON.stringify(list.map((it) => [it.index, it.rule, it.message]));
-      return { isGood: told(before.filter((it) => !isOff(it))) === told(after) };
-    });
+    const { text, changed, wish } = job;
+    if (HALF_PAIR.test(text) || HALF_PAIR.test(changed)) return { isGood: false };
+    const before = this.shortCheck(job, job.settings), after = this.shortCheck(job, changed);
+    if (after === null || (before === null) !== (wish.language !== undefined)) return { isGood: false };
+    // (of a text that was refused, that it isn't any more)
+    if (before === null) return { isGood: true };
+    return { isGood: isEffect(wish, before, after) };
+  }
+
+  /** What is reported under settings, or null where the text or the settings are refused. The last one is kept: several changes of settings are tried. */
+  shortCheck(job, settings) {
+    const asked = JSON.stringify([job.kind, settings]);
+    if (this.last?.text === job.text && this.last.asked === asked) return this.last.reports;
+    const keyed = (it) => ({ ...it, key: `${it.start} ${it.rule} ${it.message}` });
+    const { reports = null } = this.tried({ ...job, settings }, (commands) => ({ reports: commands.spans(job.text, { settings }).map(keyed) }));
+    if (settings === job.settings) this.last = { text: job.text, asked, reports };
+    return reports;
+  }
+
+  /** The environments that have a name. */
+  environmentsOf({ name, environments }) {
+    const isDefined = (it) => answered(() => this.commands.check(name, { settings: `env = ["${it}"]` }))?.every(({ rule }) => rule !== 'no-undef') ?? false;
+    return { environments: HALF_PAIR.test(name) ? [] : environments.filter(isDefined) };
   }
 }
 
+const isOfName = ({ rule, message }, name) => rule === 'no-undef' && message === `'${name}' is not defined`;
+
+/** Whether reports went as wished: those of a rule, those of a name, or, by an environment, those of its names, one of which is this. */
+function isEffect({ rule, name, env }, before, after) {
+  const keys = new Set(after.map((it) => it.key)), gone = before.filter((it) => !keys.has(it.key)), told = (list) => list.map((it) => it.key).join('\n');
+  if (env !== undefined) return after.length + gone.length === before.length && gone.every((it) => it.rule === 'no-undef') && gone.some((it) => isOfName(it, name));
+  const isOff = (it) => (name === null ? it.rule === rule : isOfName(it, name));
+  return told(before.filter((it) => !isOff(it))) === told(after);
+}

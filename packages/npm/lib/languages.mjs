@@ -1,14 +1,15 @@
-// In which language a text is read, where its name or package.json says that it is a module's, or its settings say more.
+// In which language a text is read: the first of those that has it, in their order, which its settings leave, and its name or package.json. jslint-files
+// reads the scripts of a project so.
 
-// A text that a module alone may be, and one that no script of the base profile is.
-const OF_MODULES = "import 'a'", OF_2022 = 'async () => {}';
+// All languages, in the order in which a text is tried.
+const ALL = ['2020', '2022', 'module'];
 
-/** Whether a package.json says that the scripts beside it and below it are modules. */
-export function saysModule(text) {
+/** What a package.json says that the scripts beside it and below it are: 'module', 'script', or null. */
+export function kindSaid(text) {
   try {
-    return JSON.parse(text.replace(/^\ufeff/, ''))?.type === 'module';
+    return { module: 'module', commonjs: 'script' }[JSON.parse(text.replace(/^\ufeff/, ''))?.type] ?? null;
   } catch {
-    return false;
+    return null;
   }
 }
 
@@ -29,31 +30,25 @@ export function inLanguage(commands, language) {
   };
 }
 
-/** Which language is asked for texts, by their settings; those that are refused say nothing. `isTaken` says whether a call isn't refused. */
+/** In which languages texts are tried, by their settings. `isTaken` says whether a language goes with settings. */
 export class Languages {
   constructor(isTaken) {
-    Object.assign(this, { isTaken, takes: new Map(), said: new Map() });
+    Object.assign(this, { isTaken, left: new Map() });
   }
 
-  /** Whether modules go with the settings. */
-  takesModules(settings) {
-    if (settings === '') return true;
-    if (!this.takes.has(settings)) this.takes.set(settings, this.isTaken('', { settings, language: 'module' }));
-    return this.takes.get(settings);
-  }
-
-  /** The language that settings say; undefined is that of the base profile. */
-  languageOf(settings) {
-    if (settings === '') return undefined;
-    if (!this.said.has(settings)) {
-      this.said.set(settings, this.isTaken(OF_MODULES, { settings }) ? 'module' : this.isTaken(OF_2022, { settings }) ? '2022' : undefined);
+  /** The languages that settings leave; all of those that are refused, which is said elsewhere. */
+  leftBy(settings) {
+    if (!this.left.has(settings)) {
+      const left = settings === '' ? ALL : ALL.filter((it) => this.isTaken(settings, it));
+      this.left.set(settings, left.length ? left : ALL);
     }
-    return this.said.get(settings);
+    return this.left.get(settings);
   }
 
-  /** What is asked for a text: for `check`, which reads the settings itself, no more than the name says. */
-  of({ settings = '', isModule = false }, isCheck = false) {
-    if (isModule && this.takesModules(settings)) return 'module';
-    return isCheck ? undefined : this.languageOf(settings);
+  /** The languages for a text, in the order in which they are tried. `kind` is what its name or package.json says. */
+  triedFor({ settings = '', kind = null }) {
+    const left = this.leftBy(settings), scripts = left.filter((it) => it !== 'module');
+    if (kind === 'module' && left.includes('module')) return ['module'];
+    return kind !== null && scripts.length ? scripts : left;
   }
 }

@@ -1,5 +1,5 @@
 // The language server: what each method of the protocol does, and when it may.
-import { IGNORES, PACKAGE, SETTINGS } from './beside.mjs';
+import { WATCHED } from './beside.mjs';
 import { Actions, KINDS } from './actions.mjs';
 import { Checking } from './checking.mjs';
 import { Connection } from './connection.mjs';
@@ -26,6 +26,7 @@ function abilitiesOf({ workspace = {}, textDocument = {}, window = {} }) {
     pull: Boolean(textDocument.diagnostic), refresh: Boolean(workspace.diagnostics?.refreshSupport), versions: Boolean(publishDiagnostics?.versionSupport),
     tags: Boolean(publishDiagnostics?.tagSupport?.valueSet?.includes?.(UNNECESSARY)), markdown: Boolean(hover?.contentFormat?.includes?.('markdown')),
     literals: Boolean(codeAction?.codeActionLiteralSupport), edits: Boolean(workspace.workspaceEdit?.documentChanges), progress: Boolean(window.workDoneProgress),
+    creates: Boolean(workspace.workspaceEdit?.resourceOperations?.includes?.('create')), links: Boolean(publishDiagnostics?.codeDescriptionSupport),
     configuration: Boolean(workspace.configuration), watch: Boolean(workspace.didChangeWatchedFiles?.dynamicRegistration),
     configure: Boolean(workspace.didChangeConfiguration?.dynamicRegistration),
   };
@@ -34,12 +35,14 @@ function abilitiesOf({ workspace = {}, textDocument = {}, window = {} }) {
 export class Server {
   /** `onExit` is handed the status with which the process should end. */
   constructor(input, output, { onExit, log, isTest = false }) {
-    const editor = new Editor(), engine = new Engine({ onLog: log, ...(isTest ? SHORT : {}) }), background = new Engine({ onLog: log });
+    const how = { onLog: log, ...(isTest ? SHORT : {}) }, editor = new Editor(), engine = new Engine(how), background = new Engine({ onLog: log });
+    // (changes are judged in a thread of their own, so that reports don't wait for them)
+    const changing = new Engine(how);
     const connection = new Connection(input, output, {
       requests: this.requests(isTest), notifications: this.notifications(), gate: (method, isRequest) => this.gate(method, isRequest),
       onEnd: (why) => this.exit(why === 'closed' && this.state === 'shut' ? 0 : 1), onFault: (error) => log(error?.stack ?? String(error)),
     });
-    const shared = { editor, engine, connection, log, progress: new Progress(connection, editor.can), shown: new Shown(editor) };
+    const shared = { editor, engine, changing, connection, log, progress: new Progress(connection, editor.can), shown: new Shown(editor) };
     shared.checking = new Checking(shared);
     shared.rewriting = new Rewriting(shared);
     Object.assign(this, shared, { onExit, background, state: 'begun', actions: new Actions(shared), workspace: new Workspace({ ...shared, engine: background }) });
@@ -58,8 +61,7 @@ export class Server {
     if (this.state === 'gone') return;
     this.state = 'gone';
     this.checking.stopAll();
-    this.engine.end();
-    this.background.end();
+    for (const it of [this.engine, this.changing, this.background]) it.end();
     this.onExit(status);
   }
 
@@ -89,7 +91,10 @@ export class Server {
         this.editor.take(settings?.[NAME] ?? settings ?? null);
         this.configured();
       },
-      'workspace/didChangeWatchedFiles': () => this.checking.planAll(),
+      'workspace/didChangeWatchedFiles': () => {
+        this.editor.beside.forget();
+        this.checking.planAll();
+      },
       'workspace/didChangeWorkspaceFolders': ({ event }) => this.foldersChanged(event),
       'window/workDoneProgress/cancel': ({ token }) => this.progress.cancel(token),
     };
@@ -125,7 +130,7 @@ export class Server {
   }
 
   initialized() {
-    const { watch, configure } = this.editor.can, watchers = [SETTINGS, PACKAGE, ...IGNORES].map((name) => ({ globPattern: `**/${name}` }));
+    const { watch, configure } = this.editor.can, watchers = WATCHED.map((name) => ({ globPattern: `**/${name}` }));
     const registrations = [
       ...(watch ? [{ id: 'files', method: 'workspace/didChangeWatchedFiles', registerOptions: { watchers } }] : []),
       ...(configure ? [{ id: 'settings', method: 'workspace/didChangeConfiguration', registerOptions: { section: NAME } }] : []),
@@ -181,7 +186,10 @@ export class Server {
   }
 
   closed(uri) {
-    if (!this.editor.documents.delete(uri)) return;
+    const document = this.editor.documents.get(uri);
+    if (!document) return;
+    document.drop();
+    this.editor.documents.delete(uri);
     this.checking.closed(uri);
     // (what isn't saved doesn't count any more)
     if (this.editor.isSettings(uri)) this.checking.planAll();

@@ -1,9 +1,14 @@
 // Changes of a jslint.toml. Whether one is right isn't known here: it is tried (`settingsEffect` of jobs.mjs) before it is offered.
 
-/** The text with a name more among the globals. */
-function withGlobal(text, name, lineEnd) {
-  const word = JSON.stringify(name), found = /^([ \t]*globals[ \t]*=[ \t]*\[)([^\]]*?)(,?)(\s*)\]/m.exec(text);
-  if (!found) return `globals = [${word}]${lineEnd}${text}`;
+// The environments that the program knows.
+export const ENVIRONMENTS = ['browser', 'node', 'commonjs', 'worker', 'es2022', 'mocha', 'jest'];
+// By the name of a language: what a text of it is, and the line that says so.
+export const LANGUAGES = { module: { what: 'module', line: 'source-type = "module"' }, 2022: { what: 'script of ES2022', line: 'edition = 2022' } };
+
+/** The text with a name more among the globals, or among the environments. */
+function withName(text, key, name, lineEnd) {
+  const word = JSON.stringify(name), found = new RegExp(`^([ \\t]*${key}[ \\t]*=[ \\t]*\\[)([^\\]]*?)(,?)(\\s*)\\]`, 'm').exec(text);
+  if (!found) return `${key} = [${word}]${lineEnd}${text}`;
   const [all, head, names, , blanks] = found, { index } = found;
   return `${text.slice(0, index)}${head}${names}${names.trim() ? ', ' : ''}${word}${blanks}]${text.slice(index + all.length)}`;
 }
@@ -19,8 +24,16 @@ function withoutRule(text, rule, lineEnd) {
   return `${text}${text === '' || text.endsWith('\n') ? '' : lineEnd}[rules]${lineEnd}${rule} = false${lineEnd}`;
 }
 
-/** The settings' text with a rule turned off, or with a name more among the globals where one is given. */
-export function settingsWith(text, { rule, name }) {
+/** The text with a language. */
+function withLanguage(text, { line }, lineEnd) {
+  const key = line.split(' ')[0], said = new RegExp(`^[ \\t]*${key}[ \\t]*=[^\\r\\n#]*?(?=[ \\t]*(?:#|\\r?$))`, 'm');
+  return said.test(text) ? text.replace(said, line) : `${line}${lineEnd}${text}`;
+}
+
+/** The settings' text as wished: with a language, with an environment, with a name more among the globals, or with a rule turned off. */
+export function settingsWith(text, { rule, name, env, language }) {
   const lineEnd = text.includes('\r\n') ? '\r\n' : '\n';
-  return name === null ? withoutRule(text, rule, lineEnd) : withGlobal(text, name, lineEnd);
+  if (language !== undefined) return withLanguage(text, LANGUAGES[language], lineEnd);
+  if (env !== undefined) return withName(text, 'env', env, lineEnd);
+  return name === null ? withoutRule(text, rule, lineEnd) : withName(text, 'globals', name, lineEnd);
 }

@@ -1,18 +1,28 @@
 // What an editor shows of an answer: reports and refusals as diagnostics, and the words of a hover.
-import { readFileSync } from 'node:fs';
+import { existsSync } from 'node:fs';
 import { NAME, SEVERITIES } from './editor.mjs';
+import { texts } from './texts.mjs';
 
-// The words of the documents, which make-texts.mjs takes out of them.
-export const texts = JSON.parse(readFileSync(new URL('./texts.json', import.meta.url), 'utf8'));
+export { texts };
 export const UNNECESSARY = 1;
 // What an editor may show faded.
 const FADED = new Set(['no-extra-parens', 'no-unused-vars']);
+const pages = new Map();
 const TOKEN = /^(?:[$_\p{ID_Continue}]+|[^\s])/u;
 
 /** What USAGE.md says of a refusal by this message, or nothing. */
 function adviceOn(message) {
   const asked = message.replace(/\d+:\d+$/, 'L:C').replace(/byte \d+$/, 'byte N');
   return Object.hasOwn(texts.refusals, asked) ? texts.refusals[asked] : '';
+}
+
+/** The address of a rule's page beside this file, or null. */
+function pageOf(rule) {
+  if (!pages.has(rule)) {
+    const page = Object.hasOwn(texts.rules, rule) ? new URL(`./${rule}.md`, import.meta.url) : null;
+    pages.set(rule, page && existsSync(page) ? page.href : null);
+  }
+  return pages.get(rule);
 }
 
 const hintOf = (it) => (it.hint ? `perhaps: ${it.hint}` : '');
@@ -29,7 +39,10 @@ export class Shown {
   }
 
   diagnostic(document, start, end, severity, code, message, tags) {
-    return { range: document.rangeOf(start, end), severity, code, source: NAME, message, ...(tags && this.editor.can.tags ? { tags } : {}) };
+    const href = this.editor.can.links ? pageOf(code) : null;
+    return {
+      range: document.rangeOf(start, end), severity, code, ...(href ? { codeDescription: { href } } : {}), source: NAME, message, ...(tags && this.editor.can.tags ? { tags } : {}),
+    };
   }
 
   /** A fault that has no place in the document. */
@@ -55,7 +68,13 @@ export class Shown {
     const words = it.code === 'early' ? `${texts.early[it.number]} (early error E${it.number})` : it.message.replace(/ at \d+:\d+$/, '');
     const end = it.start + (TOKEN.exec(document.text.slice(it.start, it.start + 100))?.[0].length ?? 0), severity = it.isLacking ? SEVERITIES[unsupported] : SEVERITIES.error;
     const message = [`${it.isLacking ? 'not checked: ' : ''}${words}`, hintOf(it)].filter(Boolean).join('\n');
-    return [this.diagnostic(document, it.start, end, severity, it.code === 'early' ? `E${it.number}` : it.code, message)];
+    return [this.diagnostic(document, it.start, end, severity, it.code === 'early' ? `E${it.number}` : it.code, message), ...this.stale(document)];
+  }
+
+  /** The reports of the text before it was refused, where what they speak of stands now. */
+  stale(document) {
+    const shown = document.marks.slice(0, this.editor.options.maxDiagnostics).map((it) => this.report(document, it));
+    return shown.map((it) => ({ ...it, message: `${it.message} (stale)`, data: { isStale: true } }));
   }
 
   /** Where settings are refused: the rest of the line of a place, or all of it where nothing follows; else from which line on. The line is null where they

@@ -3,7 +3,7 @@ import { spawn } from 'node:child_process';
 import { fileURLToPath } from 'node:url';
 
 export const BIN = fileURLToPath(new URL('../../bin/jslint-lsp.mjs', import.meta.url));
-const MOST_MS = 240000;
+const MOST_MS = Number(process.env.MOST_MS ?? 240000);
 
 export class Client {
   /** `how` is handed to `spawn`. With the word `--test` the server has jobs that go wrong, and waits less long. */

@@ -98,7 +98,7 @@ test('refusals, with hints', async () => {
   await withClient(async (client) => {
     let number = 0;
     const told = async (text) => { const it = (await client.open(uriOf(`refused${number++}.js`), text))[0]; return it && [it.severity, it.code, placed(it), it.message]; };
-    assert.deepEqual(await told('a;\nimport b from "c";'), [3, 'syntax', '1:7-1:8', "not checked: syntax error\nperhaps: 'import' makes this a module, which --module reads"]);
+    assert.deepEqual(await told('a;\n@b class C {}'), [3, 'syntax', '1:0-1:1', "not checked: syntax error\nperhaps: decorators aren't ECMAScript"]);
     assert.deepEqual(await told('x = [1 2]'), [1, 'syntax', '0:7-0:8', 'syntax error']);
     assert.deepEqual(await told('let a; let a;'), [1, 'E3', '0:11-0:12', `${texts.early[3]} (early error E3)`]);
     assert.equal((await told('"a\ud800b"'))[1], 'utf8');
@@ -126,10 +126,10 @@ test('code actions: one pair, all, let to const', () => withClient(async (client
   assert.deepEqual(onSave.map((it) => it.kind), ['source.fixAll.jslint']);
   const kindsOf = async (only) => (await actionsAt(client, 'actions.js', range(1, 0, 1, 9), { only })).map((it) => it.kind);
   assert.deepEqual(await kindsOf(['source']), ['source.fixAll.jslint', 'source.layout.jslint']);
-  assert.deepEqual(await kindsOf(['']), ['quickfix', 'source.fixAll.jslint', 'source.layout.jslint']);
-  assert.deepEqual([await kindsOf([]), await kindsOf(['refactor'])], [['quickfix'], []]);
+  assert.deepEqual(await kindsOf(['']), ['quickfix', 'quickfix', 'source.fixAll.jslint', 'source.layout.jslint']);
+  assert.deepEqual([await kindsOf([]), await kindsOf(['refactor'])], [['quickfix', 'quickfix'], []]);
   await client.open(uriOf('inner.js'), '{ let a = 1; a; }');
-  assert.deepEqual((await actionsAt(client, 'inner.js', range(0, 6, 0, 6))).map((it) => [it.title, it.isPreferred]), [['Change let to const', true]]);
+  assert.deepEqual((await actionsAt(client, 'inner.js', range(0, 6, 0, 6))).map((it) => [it.title, it.isPreferred]), [['Change let to const', true], ['Turn prefer-const off for this line', undefined]]);
 }, { capabilities: LITERALS }));
 
 test('code actions where the editor takes commands alone, and edits with versions', async () => {
@@ -164,7 +164,7 @@ test('formatting: unwrap in small edits, a stretch, and the layout where nothing
     const some = await client.request('textDocument/rangeFormatting', { ...at(uriOf('format.js')), range: range(1, 0, 3, 0), options: {} });
     assert.equal(edited(text, some), 'a  =  (b); // (c)\nif (d) {\n  e\n}\n');
     await client.open(uriOf('bad.js'), 'import a');
-    await assert.rejects(formatted(client, 'bad.js'), /syntax error.*perhaps.*module/);
+    assert.equal(await formatted(client, 'bad.js'), null);
     await assert.rejects(formatted(client, 'none.js'), { code: -32602 });
     client.notify('textDocument/didOpen', { textDocument: { uri: uriOf('other.ts'), languageId: 'typescript', version: 1, text: '(a)' } });
     assert.equal(await formatted(client, 'other.ts'), null);
@@ -213,7 +213,8 @@ test('settings: the nearest, as they are typed, refused with a line, ignored fil
     client.change(uriOf('jslint.toml'), 4, { text: 'globals = ["a"]\n' });
     await good;
     const found = await actionsAt(client, 's.js', range(0, 3, 0, 4));
-    const made = Object.fromEntries(found.map((it) => [it.title, edited('globals = ["a"]\n', it.edit.changes[uriOf('jslint.toml')])]));
+    const ofSettings = found.filter((it) => it.edit.changes[uriOf('jslint.toml')]);
+    const made = Object.fromEntries(ofSettings.map((it) => [it.title, edited('globals = ["a"]\n', it.edit.changes[uriOf('jslint.toml')])]));
     assert.deepEqual(made, { 'Add b to the globals in jslint.toml': 'globals = ["a", "b"]\n', 'Turn no-undef off in jslint.toml': 'globals = ["a"]\n[rules]\nno-undef = false\n' });
     // (closed: what is on the disk counts again)
     script = client.diagnostics(uriOf('s.js'), (it) => it.diagnostics.length === 0);
@@ -223,24 +224,30 @@ test('settings: the nearest, as they are typed, refused with a line, ignored fil
   }, { capabilities: LITERALS });
 });
 
-test('languages: a module by its name, by package.json or by the settings', async () => {
-  for (const [name, text] of [['package.json', '\ufeff{"type": "module"}'], ['none/package.json', '{"name": "none"}'], ['said/package.json', '{'], ['said/jslint.toml', 'source-type = "module"\n'],
+test('languages: a module by its name, by package.json, by the settings or by its text', async () => {
+  for (const [name, text] of [['package.json', '\ufeff{"type": "module"}'], ['none/package.json', '{"type": "commonjs"}'], ['open/package.json', '{"name": "open"}'], ['said/package.json', '{'], ['said/jslint.toml', 'source-type = "module"\n'],
     ['old/jslint.toml', 'source-type = "script"\n'], ['new/package.json', '[]'], ['new/jslint.toml', 'edition = 2022\n']]) put(`languages/${name}`, text);
   const module = 'export let a = (1);\n', ofTwo = 'export {};\nasync () => (1);\n';
   await withClient(async (client) => {
     const opened = async (name, text) => codes(await client.open(uriOf(`languages/${name}`), text));
     const unwrapped = async (name, text) => edited(text, await formatted(client, `languages/${name}`));
-    for (const name of ['a.mjs', 'a.js', 'none/a.mjs', 'said/a.js']) {
+    for (const name of ['a.mjs', 'a.js', 'none/a.mjs', 'said/a.js', 'open/a.js', 'open/a', 'new/a.js', 'new/a.mjs']) {
       assert.deepEqual(await opened(name, module), ['prefer-const', 'no-extra-parens'], name);
       assert.equal(await unwrapped(name, module), 'export let a = 1;\n', name);
       const found = await actionsAt(client, `languages/${name}`, range(0, 0, 0, 19));
       const made = found.filter((it) => /^(Change let|Take out this)/.test(it.title)).map((it) => edited(module, it.edit.changes[uriOf(`languages/${name}`)]));
       assert.deepEqual(made, ['export const a = (1);\n', 'export let a = 1;\n'], name);
     }
-    for (const name of ['none/a.js', 'old/a.js', 'old/a.mjs', 'a.cjs', 'new/a.js']) {
+    for (const name of ['none/a.js', 'old/a.js', 'old/a.mjs', 'a.cjs', 'open/a.cjs']) {
       assert.deepEqual(await opened(name, module), ['syntax'], name);
-      await assert.rejects(unwrapped(name, module), /syntax error.*perhaps.*module/, name);
+      assert.equal(await formatted(client, `languages/${name}`), null, name);
     }
+    // (a text that is a script is one, whatever it says; of one that is neither, the refusal is shown that got further)
+    const refusedAt = async (text) => placed((await client.open(uriOf('open/r.js'), text))[0]);
+    assert.deepEqual(await opened('open/s.js', '"import a from b"; // export {}\nawait (1);'), ['no-undef']);
+    assert.deepEqual([await refusedAt('import a from "a";\nlet b = ;'), await refusedAt('await (1);\nlet b = ;')], ['1:8-1:9', '1:8-1:9']);
+    assert.deepEqual([await opened('open/t.js', 'async () => import("a");'), await opened('open/t.js', 'await import("a");')], [[], []]);
+    assert.deepEqual([await refusedAt('import {a} from "a"; let a;'), await refusedAt('let a; let a;\nexport let b = ;')], ['0:25-0:26', '1:15-1:16']);
     assert.deepEqual(await opened('new/b.js', ofTwo.slice(11)), ['no-extra-parens']);
     assert.equal(await unwrapped('new/b.js', ofTwo.slice(11)), 'async () => 1;\n');
     assert.deepEqual(await opened('b.js', ofTwo), ['no-extra-parens']);
@@ -383,3 +390,159 @@ test('the workspace: progress, and cancelled in between', async () => {
     await assert.rejects(again, { code: -32800 });
   }, { more: { workspaceFolders: [{ uri: uriOf('many'), name: 'many' }] } });
 });
+
+test('an ignored text, and a refused one: nothing is offered', async () => {
+  put('left/.jslintignore', 'vendor/\n');
+  put('left/.gitignore', '*.min.js\n');
+  put('left/.git/x', '');
+  const everything = { only: [''] }, text = '((a)) == 1;\n';
+  await withClient(async (client) => {
+    for (const name of ['left/vendor/a.js', 'left/b.min.js', 'left/node_modules/c/c.js']) {
+      assert.deepEqual(await client.open(uriOf(name), text), [], name);
+      assert.equal(await formatted(client, name), null);
+      assert.equal(await client.request('textDocument/rangeFormatting', { ...at(uriOf(name)), range: range(0, 0, 1, 0), options: {} }), null);
+      assert.deepEqual(await actionsAt(client, name, range(0, 0, 0, 9), everything), []);
+      assert.equal(await client.request('textDocument/hover', { ...at(uriOf(name)), position: place(0, 0) }), null);
+      for (const command of ['jslint.unwrap', 'jslint.layout']) await assert.rejects(client.request('workspace/executeCommand', { command, arguments: [uriOf(name)] }), /is ignored/);
+    }
+    assert.deepEqual(codes(await client.open(uriOf('left/refused.js'), `${text}a b`)), ['syntax']);
+    assert.deepEqual([await formatted(client, 'left/refused.js'), await actionsAt(client, 'left/refused.js', range(0, 0, 9, 0), everything)], [null, []]);
+    await assert.rejects(client.request('workspace/executeCommand', { command: 'jslint.unwrap', arguments: [uriOf('left/refused.js')] }), /syntax error at 2:3/);
+    assert.ok(!client.heard.some((it) => it.method === 'workspace/applyEdit'));
+  }, { capabilities: LITERALS });
+});
+
+test('casts keep their pairs', () => withClient(async (client) => {
+  const text = 'const a = /** @type {T} */ (b), c = /** @satisfies {U} */\n  ((d)), e = (f);\n', uri = uriOf('casts.js');
+  assert.deepEqual((await client.open(uri, text)).filter((it) => it.code === 'no-extra-parens').map(short), ['1:3-1:4 no-extra-parens', '1:13-1:14 no-extra-parens']);
+  const titles = async (stretch, context) => (await actionsAt(client, 'casts.js', stretch, context)).map((it) => it.title).filter((it) => /parentheses/.test(it));
+  assert.deepEqual(await titles(range(0, 27, 0, 28)), []);
+  assert.deepEqual(await titles(range(1, 13, 1, 13)), ['Take out this pair of parentheses', 'Take out all unnecessary parentheses, those of casts too']);
+  const [one] = await actionsAt(client, 'casts.js', range(1, 3, 1, 3));
+  assert.equal(edited(text, one.edit.changes[uri]), text.replace('((d))', '(d)'));
+  assert.deepEqual(await titles(range(0, 0, 9, 0), { only: ['source.fixAll'] }), []);
+  assert.deepEqual(await formatted(client, 'casts.js'), []);
+  assert.deepEqual(await client.request('textDocument/rangeFormatting', { ...at(uri), range: range(1, 0, 2, 0), options: {} }), []);
+  // (asked for, they go)
+  client.answers['workspace/applyEdit'] = () => ({ applied: true });
+  const asked = client.message((it) => it.method === 'workspace/applyEdit');
+  await client.request('workspace/executeCommand', { command: 'jslint.unwrap', arguments: [uri] });
+  assert.equal(edited(text, (await asked).params.edit.changes[uri]), 'const a = /** @type {T} */ b, c = /** @satisfies {U} */\n  d, e = f;\n');
+  // (parameters of an arrow are no cast, and a comment that isn't right before a pair makes none)
+  const other = 'x = /** @type {T} */ (a) => (a), y = /** @type {T} */ b + (c), z = /* @type */ (d);\n';
+  assert.equal((await client.open(uriOf('none.js'), other)).filter((it) => it.code === 'no-extra-parens').length, 3);
+  assert.equal(edited(other, await formatted(client, 'none.js')), 'x = /** @type {T} */ (a) => a, y = /** @type {T} */ b + c, z = /* @type */ d;\n');
+}, { capabilities: LITERALS }));
+
+test('comments that turn reports off', async () => {
+  const text = [
+    'debugger; // jslint-disable-line no-debugger -- why', '// jslint-disable-next-line', 'var a = (1);', '`', '// jslint-disable-next-line no-debugger', '`; debugger;',
+    '// jslint-disable-next-line no-such, no-extra-parens', '', '1; // jslint-disable-line no-var', '',
+  ].join('\n');
+  const wanted = ['2:8-2:9 no-extra-parens', '5:3-5:12 no-debugger', '6:0-6:52 suppression', '6:0-6:52 suppression', '8:3-8:32 suppression'];
+  await withClient(async (client) => {
+    const found = await client.open(uriOf('off.js'), text);
+    assert.deepEqual(found.map(short), wanted);
+    assert.deepEqual(found.slice(2).map((it) => it.message), ["'no-such' is no rule", 'no-extra-parens is not turned off: fix and unwrap take the pair all the same', 'this comment turns no report off']);
+    const off = async (name, made, stretch) => {
+      await client.open(uriOf(name), made);
+      return (await actionsAt(client, name, stretch)).filter((it) => /for this line/.test(it.title)).map((it) => [it.title, edited(made, it.edit.changes[uriOf(name)])]);
+    };
+    assert.deepEqual(await off('o1.js', '{\r\n  debugger; (1);\r\n}\r\n', range(1, 2, 1, 13)), [['Turn no-debugger off for this line', '{\r\n  // jslint-disable-next-line no-debugger\r\n  debugger; (1);\r\n}\r\n']]);
+    assert.deepEqual(await off('o2.js', '`\n`; debugger;', range(1, 3, 1, 3)), [['Turn no-debugger off for this line', '`\n`; debugger; // jslint-disable-line no-debugger']]);
+    assert.deepEqual(await off('o3.js', '// jslint-disable-next-line no-debugger\ndebugger; 1 == 1;\n', range(1, 10, 1, 10)), [['Turn eqeqeq off for this line', '// jslint-disable-next-line no-debugger, eqeqeq\ndebugger; 1 == 1;\n']]);
+    assert.deepEqual(await off('o4.js', '`\n${1 == 1}\n`;', range(1, 3, 1, 3)), []);
+    // (in a module of 2022, by settings that leave it open)
+    put('off/jslint.toml', 'edition = 2022\n');
+    assert.deepEqual((await client.open(uriOf('off/m.js'), 'export const a = async () => {\n  debugger; // jslint-disable-line\n};\n')).map(short), []);
+    assert.deepEqual((await client.open(uriOf('off/s.js'), 'async () => {\n  debugger; // jslint-disable-line\n};\n')).map(short), []);
+  }, { capabilities: LITERALS });
+  await withClient(async (client) => {
+    assert.equal((await client.open(uriOf('off.js'), text)).filter((it) => it.code === 'no-debugger').length, 2);
+    assert.ok((await actionsAt(client, 'off.js', range(0, 0, 0, 1))).every((it) => !/this line/.test(it.title)));
+  }, { capabilities: LITERALS, more: { initializationOptions: { suppressions: false } } });
+});
+
+test('between refused states the last reports stay, marked', () => withClient(async (client) => {
+  const uri = uriOf('stale.js');
+  await client.open(uri, 'debugger;\n(1); (2);\n');
+  const after = async (version, ...changes) => {
+    const found = client.diagnostics(uri, (it) => it.version === version);
+    client.change(uri, version, ...changes);
+    return (await found).map((it) => `${short(it)} ${it.message}`);
+  };
+  assert.deepEqual(await after(2, { range: range(1, 0, 1, 0), text: 'x = ;\n' }), [
+    '1:4-1:5 syntax syntax error', '0:0-0:9 no-debugger debugger statement (stale)', '2:0-2:1 no-extra-parens unnecessary parentheses (stale)', '2:5-2:6 no-extra-parens unnecessary parentheses (stale)',
+  ]);
+  // (what was typed over goes; a whole text is compared)
+  assert.deepEqual(await after(3, { text: 'debu;\nx = ;\n(1); (2);\n' }), ['1:4-1:5 syntax syntax error', '2:0-2:1 no-extra-parens unnecessary parentheses (stale)', '2:5-2:6 no-extra-parens unnecessary parentheses (stale)']);
+  assert.deepEqual(await actionsAt(client, 'stale.js', range(2, 0, 2, 1)), []);
+  assert.deepEqual(await after(4, { text: '1;\n' }), []);
+  assert.deepEqual(await after(5, { text: '1;;\n)' }), ['1:0-1:1 syntax syntax error']);
+}, { capabilities: { ...LITERALS, textDocument: { ...LITERALS.textDocument, publishDiagnostics: { versionSupport: true } } } }));
+
+test('reports lead to the pages of their rules', () => withClient(async (client) => {
+  const found = await client.open(uriOf('pages.js'), 'debugger; (1); // jslint-disable-line no-such\n'), [first] = found;
+  assert.deepEqual(found.map((it) => it.codeDescription !== undefined), [true, true, false]);
+  assert.match(readFileSync(new URL(first.codeDescription.href), 'utf8'), /^# no-debugger\n/);
+}, { capabilities: { textDocument: { publishDiagnostics: { codeDescriptionSupport: true } } } }));
+
+test('settings as actions: environments, a language, and settings where there are none', async () => {
+  put('acts/jslint.toml', 'env = ["worker"]\n# c\n');
+  put('bare/.git/x', '');
+  const capabilities = { ...LITERALS, workspace: { workspaceEdit: { documentChanges: true, resourceOperations: ['create'] } } };
+  await withClient(async (client) => {
+    const made = async (name, text, settings, stretch = range(0, 0, 0, 1)) => {
+      await client.open(uriOf(name), text);
+      const found = (await actionsAt(client, name, stretch)).filter((it) => /jslint\.toml$/.test(it.title));
+      return found.map((it) => [it.title, edited(settings, it.edit.documentChanges.at(-1).edits), it.edit.documentChanges.length]);
+    };
+    assert.deepEqual(await made('acts/a.js', 'module.b(document);', 'env = ["worker"]\n# c\n'), [
+      ['Add node to the environments in jslint.toml', 'env = ["worker", "node"]\n# c\n', 1], ['Add commonjs to the environments in jslint.toml', 'env = ["worker", "commonjs"]\n# c\n', 1],
+      ['Add module to the globals in jslint.toml', 'globals = ["module"]\nenv = ["worker"]\n# c\n', 1], ['Turn no-undef off in jslint.toml', 'env = ["worker"]\n# c\n[rules]\nno-undef = false\n', 1],
+    ]);
+    put('acts/old/jslint.toml', 'edition = 2020 # c\n');
+    put('acts/scripts/jslint.toml', 'source-type = "script"\n');
+    const refused = 'async function f() {}\nf();';
+    assert.deepEqual(await made('acts/old/b.js', refused, 'edition = 2020 # c\n'), [['Read it as a script of ES2022: edition = 2022 in jslint.toml', 'edition = 2022 # c\n', 1]]);
+    assert.deepEqual(await made('acts/scripts/b.js', 'export {};', 'source-type = "script"\n'), [['Read it as a module: source-type = "module" in jslint.toml', 'source-type = "module"\n', 1]]);
+    // (what other settings wouldn't mend isn't offered)
+    assert.deepEqual(await made('acts/old/c.js', `${refused} a b`, ''), []);
+    // (settings where there are none)
+    assert.deepEqual(await made('bare/a.js', 'describe;', ''), [
+      ['Add mocha to the environments in jslint.toml', 'env = ["mocha"]\n', 2], ['Add jest to the environments in jslint.toml', 'env = ["jest"]\n', 2],
+      ['Add describe to the globals in jslint.toml', 'globals = ["describe"]\n', 2], ['Turn no-undef off in jslint.toml', '[rules]\nno-undef = false\n', 2],
+    ]);
+    const [{ edit }] = (await actionsAt(client, 'bare/a.js', range(0, 0, 0, 0)));
+    assert.deepEqual(edit.documentChanges[0], { kind: 'create', uri: uriOf('bare/jslint.toml'), options: { ignoreIfExists: true } });
+  }, { capabilities });
+});
+
+test('work on a text is dropped when it changes, and reports don\'t wait for it', () => withClient(async (client) => {
+  const uri = uriOf('big.js'), text = 'a = ((b) + c); if (d == e) { f((g)); }\n'.repeat(4500);
+  await client.open(uri, text);
+  let version = 1;
+  const key = async (character) => {
+    const found = client.diagnostics(uri, (it) => it.version === version), begun = performance.now();
+    client.change(uri, ++version, { range: range(0, 0, 0, 0), text: character });
+    await found;
+    return performance.now() - begun;
+  };
+  const median = (list) => [...list].sort((a, b) => a - b)[list.length >> 1], alone = [], beside = [];
+  for (let round = 0; round < 7; round++) {
+    alone.push(await key(' '));
+    const asked = actionsAt(client, 'big.js', range(0, 0, 4500, 0)), pending = assert.rejects(asked, { code: -32801 });
+    await new Promise((resolve) => setTimeout(resolve, 30));
+    beside.push(await key(' '));
+    await pending;
+  }
+  assert.ok(median(beside) <= 1.5 * median(alone) + 100, `${median(beside)} beside an action, ${median(alone)} alone`);
+  // (keys that come while the last text is still checked start no thread anew)
+  const wanted = version + 20, last = client.diagnostics(uri, (it) => it.version === wanted), before = client.errors;
+  for (let number = 0; number < 20; number++) {
+    client.change(uri, ++version, { range: range(0, 0, 0, 0), text: ' ' });
+    await new Promise((resolve) => setTimeout(resolve, 15));
+  }
+  await last;
+  assert.equal(client.errors, before);
+}, { capabilities: { ...LITERALS, textDocument: { ...LITERALS.textDocument, publishDiagnostics: { versionSupport: true } } }, more: { initializationOptions: { debounce: 0 } } }));

@@ -1,0 +1,41 @@
+// Casts: the pair of `/** @type {T} */ (a)`, or with `@satisfies`, by which TypeScript's checker takes `a` for a `T`. A pair is one where such a comment
+// stands right before its `(`, or before other comments there. The tree has no parentheses, so `check` reports the pair and `unwrap` takes it out; here it
+// is kept.
+
+const WORD = /@(?:type|satisfies)\b/;
+const BLANKS = /\s/, LINE_END = /[\n\r\u2028\u2029]/;
+// A line that has a comment of its own at its end, alone or behind another comment.
+const LINE_COMMENT = /^(?:.*\*\/)?\s*(?=\/\/)/;
+
+/** Whether a text may have casts at all. */
+export const mayHaveCasts = (text) => WORD.test(text);
+
+const isCastComment = (comment) => comment.length > '/**/'.length && comment.startsWith('/**') && WORD.test(comment);
+
+/** The comment that ends at an index with a star and a slash: where it begins. A `/*` in it is looked for last. */
+function startOf(text, end) {
+  const before = text.lastIndexOf('*/', end - 3), first = text.indexOf('/**', before < 0 ? 0 : before + 2), last = text.lastIndexOf('/*', end - 4);
+  return first >= 0 && first < last && isCastComment(text.slice(first, end)) ? first : last;
+}
+
+/** Whether the pair whose `(` is at an index, and which groups, is a cast. */
+export function isCast(text, open) {
+  for (let end = open; ;) {
+    while (end > 0 && BLANKS.test(text[end - 1])) end--;
+    if (text.endsWith('*/', end)) {
+      const start = startOf(text, end);
+      if (start < 0) return false;
+      if (isCastComment(text.slice(start, end))) return true;
+      end = start;
+    } else {
+      let start = end;
+      while (start > 0 && !LINE_END.test(text[start - 1])) start--;
+      const found = LINE_COMMENT.exec(text.slice(start, end));
+      if (!found) return false;
+      end = start + found[0].length;
+    }
+  }
+}
+
+/** Whether a report of `check` is of a cast's pair. */
+export const isOfCast = (text, { rule, start }) => rule === 'no-extra-parens' && isCast(text, start);
