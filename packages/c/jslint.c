@@ -6,7 +6,7 @@
        ./jslint verify FILE TABLE
        ./jslint same FILE OTHER
 
-   `-` is standard input, as one of the files. */
+   Each takes `--edition 2020`, `--edition 2022` or `--module`. `-` is standard input, as one of the files. */
 #include "jslint.h"
 #include <stdio.h>
 #include <stdlib.h>
@@ -64,7 +64,7 @@ static int write_answer(const struct bytes *answer, const struct jslint_outcome 
     return (int)outcome->status;
 }
 
-static int run(uint32_t command, const char *name, const char *second_name) {
+static int run(uint32_t language, uint32_t command, const char *name, const char *second_name) {
     struct bytes text = {0}, second = {0}, answer = {0};
     struct jslint_outcome outcome;
     const char *wrong = read_file(name, &text);
@@ -73,12 +73,12 @@ static int run(uint32_t command, const char *name, const char *second_name) {
     if (wrong) {
         return refuse(wrong);
     }
-    jslint_answer(command, text.data, text.length, second.data, second.length, answer.data, answer.capacity, &outcome);
+    jslint_answer_in(language, command, text.data, text.length, second.data, second.length, answer.data, answer.capacity, &outcome);
     if (outcome.length > answer.capacity) {
         if (!reserve(&answer, outcome.length)) {
             return refuse("out of memory");
         }
-        jslint_answer(command, text.data, text.length, second.data, second.length, answer.data, answer.capacity, &outcome);
+        jslint_answer_in(language, command, text.data, text.length, second.data, second.length, answer.data, answer.capacity, &outcome);
     }
     answer.length = outcome.length;
     int status = write_answer(&answer, &outcome);
@@ -101,26 +101,65 @@ static uint32_t command_of(const char *name) {
     return command;
 }
 
+/* What the words say. */
+struct line {
+    uint32_t language, command;
+    const char *names[2], *settings;
+    int files, has_spans;
+};
+
+/* Takes a word and perhaps the one behind it, or answers that they make no sense: how many words were taken, or 0. */
+static int take(struct line *line, const char *word, const char *next) {
+    int is_check = line->command == JSLINT_CHECK;
+    if (!strcmp(word, "--")) {
+        return 1;
+    }
+    if (!strcmp(word, "--module")) {
+        int is_well = line->language != JSLINT_EDITION_2020;
+        line->language = JSLINT_MODULE;
+        return is_well;
+    }
+    if (!strcmp(word, "--edition") && next && (!strcmp(next, "2020") || !strcmp(next, "2022"))) {
+        int is_2020 = !strcmp(next, "2020"), is_module = line->language == JSLINT_MODULE;
+        line->language = is_module ? JSLINT_MODULE : is_2020 ? JSLINT_EDITION_2020 : JSLINT_EDITION_2022;
+        return is_module && is_2020 ? 0 : 2;
+    }
+    if (!strcmp(word, "--settings") && is_check && next) {
+        line->settings = next;
+        return 2;
+    }
+    if (!strcmp(word, "--spans") && is_check) {
+        line->has_spans = 1;
+        return 1;
+    }
+    if (line->files == 2) {
+        return 0;
+    }
+    line->names[line->files++] = word;
+    return 1;
+}
+
+static const char usage[] = "usage: jslint check [--spans] [--settings SETTINGS] FILE, jslint fix|unwrap|tree|cost FILE, jslint verify FILE TABLE, or jslint same FILE OTHER,"
+                            " each with --edition 2020|2022 or --module";
+
 int main(int count, char **words) {
-    const char *names[2] = {NULL, NULL}, *settings = NULL;
-    uint32_t command = count > 1 ? command_of(words[1]) : COMMANDS;
-    int files = 0, has_spans = 0, is_well = command < COMMANDS && command != JSLINT_SPANS, has_two = command == JSLINT_VERIFY || command == JSLINT_SAME;
-    for (int at = 2; at < count && is_well; at++) {
-        if (!strcmp(words[at], "--settings") && command == JSLINT_CHECK && at + 1 < count) {
-            settings = words[++at];
-        } else if (!strcmp(words[at], "--spans") && command == JSLINT_CHECK) {
-            has_spans = 1;
-        } else if (strcmp(words[at], "--")) {
-            is_well = files < 2;
-            names[is_well ? files++ : 0] = words[at];
+    struct line line = {.command = count > 1 ? command_of(words[1]) : COMMANDS};
+    int has_two = line.command == JSLINT_VERIFY || line.command == JSLINT_SAME;
+    if (line.command == COMMANDS || line.command == JSLINT_SPANS) {
+        return refuse(usage);
+    }
+    for (int at = 2, taken = 1; at < count; at += taken) {
+        taken = take(&line, words[at], words[at + 1]);
+        if (!taken) {
+            return refuse(usage);
         }
     }
-    if (!is_well || files != (has_two ? 2 : 1)) {
-        return refuse("usage: jslint check [--spans] [--settings SETTINGS] FILE, jslint fix|unwrap|tree|cost FILE, jslint verify FILE TABLE, or jslint same FILE OTHER");
+    if (line.files != (has_two ? 2 : 1)) {
+        return refuse(usage);
     }
-    const char *second = command == JSLINT_CHECK ? settings : names[1];
-    if (second && !strcmp(names[0], "-") && !strcmp(second, "-")) {
+    const char *second = line.command == JSLINT_CHECK ? line.settings : line.names[1];
+    if (second && !strcmp(line.names[0], "-") && !strcmp(second, "-")) {
         return refuse("read failed: -: both files are standard input");
     }
-    return run(has_spans ? JSLINT_SPANS : command, names[0], second);
+    return run(line.language, line.has_spans ? JSLINT_SPANS : line.command, line.names[0], second);
 }

@@ -10,13 +10,16 @@
     jslint.fix('export let a=(1)', language='module')       'export let a = 1;\\n'
     jslint.verify('(({})).a', jslint.cost('(({})).a'))      (2, 1): the text has two pairs, and each text with its tree has one at least
 
-A text that is refused raises Refused, with the program's own words. The thread that calls needs a stack of 6 MiB (`threading.stack_size`).
+A text that is refused raises Refused, with the program's own words, a code and a place. Deeply nested texts take up to 6 MiB of the calling thread's
+stack: where less is left than a text of its length might take, it is refused as `out of stack` (`threading.stack_size` gives threads more).
 """
 import collections
 import ctypes
 import json
 import os
+import platform
 import re
+import threading
 
 LANGUAGES = {None: 0, '2020': 1, '2022': 2, 'module': 3}
 COMMANDS = {'check': 0, 'tree': 1, 'fix': 2, 'cost': 3, 'verify': 4, 'unwrap': 5, 'spans': 6, 'same': 7}
@@ -29,12 +32,71 @@ class Outcome(ctypes.Structure):
     _fields_ = [('length', ctypes.c_size_t), ('status', ctypes.c_uint32), ('is_refusal', ctypes.c_uint32)]
 
 
+# The words of each refusal, its code, and what its numbers are.
+_REFUSALS = [
+    (r'syntax error at (\d+):(\d+)', 'syntax', ('line', 'column')), (r'early error E(\d+) at (\d+):(\d+)', 'early', ('number', 'line', 'column')),
+    (r'nested too deep', 'deep', ()), (r'not UTF-8 at byte (\d+)', 'utf8', ('byte',)), (r'longer than (\d+) bytes', 'long', ('most',)),
+    (r'bad settings at (\d+):(\d+)', 'settings', ('line', 'column')), (r'bad settings', 'settings', ()), (r'bad table row (\d+) (\w+)', 'table', ('row', 'reason')),
+    (r"can't be unwrapped", 'unwrap', ()), (r'out of memory', 'memory', ()), (r'out of stack', 'stack', ()),
+]
+_SECOND = 'second file: '
+
+
 class Refused(Exception):
-    """A text that was refused: the words of the program, as `syntax error at 1:9`, and its status. Of the other text of `same` they begin with `second file: `."""
+    """A text that was refused: the words of the program, as `syntax error at 1:9`, its status, and of the words a code (`syntax`, `early`, `deep`, `utf8`, `long`,
+    `settings`, `table`, `unwrap`, `memory`, `stack`) and what they name: `line`, `column`, `number`, `byte`, `most`, `row`, `reason`, each None where they
+    don't. `in_second`: it is the other text of `same`, whose words begin with `second file: `."""
 
     def __init__(self, words, status):
         super().__init__(words)
-        self.status = status
+        self.status, self.code, self.in_second = status, None, words.startswith(_SECOND)
+        self.line = self.column = self.number = self.byte = self.most = self.row = self.reason = None
+        for form, code, names in _REFUSALS:
+            found = re.fullmatch(form, words[len(_SECOND):] if self.in_second else words)
+            if found:
+                self.code = code
+                for name, it in zip(names, found.groups()):
+                    setattr(self, name, int(it) if it.isdigit() else it)
+                break
+
+
+# What a call takes of the stack: some for itself, some for each byte of text, since each may nest deeper, and no more than this.
+_STACK_BASE, _STACK_A_BYTE, _STACK_MOST = 96 << 10, 4 << 10, 6 << 20
+# Where glibc's `getcontext` puts the pointer to the stack.
+_POINTER = {('Linux', 'x86_64'): 160, ('Linux', 'aarch64'): 432}.get((platform.system(), platform.machine()))
+_CONTEXT = 8192
+
+
+class _Stack(threading.local):
+    """How much is left of the calling thread's stack; None where the system doesn't tell."""
+
+    def __init__(self):
+        self.lowest = None
+        try:
+            self.system = ctypes.CDLL(None)
+            self.system.getcontext, self.system.pthread_getattr_np
+        except (OSError, AttributeError):
+            return
+        attributes, at, size = ctypes.create_string_buffer(256), ctypes.c_void_p(), ctypes.c_size_t()
+        self.system.pthread_self.restype = ctypes.c_void_p
+        if _POINTER is None or self.system.pthread_getattr_np(ctypes.c_void_p(self.system.pthread_self()), attributes):
+            return
+        self.system.pthread_attr_getstack(attributes, ctypes.byref(at), ctypes.byref(size))
+        self.system.pthread_attr_destroy(attributes)
+        self.lowest, self.context = at.value, ctypes.create_string_buffer(_CONTEXT)
+
+    def left(self):
+        if self.lowest is None or self.system.getcontext(self.context):
+            return None
+        return int.from_bytes(self.context[_POINTER:_POINTER + 8], 'little') - self.lowest
+
+
+_stack = _Stack()
+
+
+def _has_stack(length):
+    left = _stack.left()
+    return left is None or left >= min(_STACK_MOST, _STACK_BASE + _STACK_A_BYTE * length)
 
 
 _BYTES = [ctypes.c_char_p, ctypes.c_size_t]
@@ -45,6 +107,8 @@ _library.jslint_answer_in.argtypes = [ctypes.c_uint32, ctypes.c_uint32, *_BYTES,
 
 def run(command, text, second=b'', language=None):
     """What the program answers for these bytes, in a language: '2020', '2022' or 'module'; None says nothing of it."""
+    if not _has_stack(max(len(text), len(second))):
+        return Answer(b'jslint: out of stack\n', 2, True)
     outcome, size = Outcome(), 3 * len(text) + 4096
     while True:
         room = ctypes.create_string_buffer(size)
@@ -84,8 +148,12 @@ def spans(text, settings='', language=None):
 
 
 def tree(text, language=None):
-    """The tree, as ESTree has it; places are bytes."""
-    return json.loads(_output('tree', text, language=language))
+    """The tree, as ESTree has it; places are bytes. One that is deeper than Python's limit of recursion is refused as `out of stack`."""
+    text = _output('tree', text, language=language)
+    try:
+        return json.loads(text)
+    except RecursionError:
+        raise Refused('out of stack', 2) from None
 
 
 def cost(text, language=None):

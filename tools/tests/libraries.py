@@ -22,11 +22,12 @@ SCRIPT = 'let x = (1); x; { let x = 2; x = 3; }\n'
 REPORTS = "1:5 prefer-const 'x' is never reassigned\n1:9 no-extra-parens unnecessary parentheses\n1:23 no-shadow 'x' shadows an outer name\n1:23 no-unused-vars 'x' is never read\n"
 # What is in the package that `npm pack` makes.
 PACKED = {
-    'LICENSE-APACHE', 'LICENSE-MIT', 'README.md', 'bin/eslint-json.mjs', 'bin/jslint-lsp.mjs', 'bin/jslint.mjs', 'bin/streams.mjs', 'core.mjs', 'eslint-json.d.mts', 'eslint-json.mjs',
+    'LICENSE-APACHE', 'LICENSE-MIT', 'README.md', 'bin/eslint-json.mjs', 'bin/jslint-lsp.mjs', 'bin/jslint.mjs', 'bin/streams.mjs', 'browser.mjs', 'core.d.mts', 'core.mjs', 'eslint-json.d.mts', 'eslint-json.mjs',
     'jslint.d.mts', 'jslint.mjs', 'jslint.wasm', 'package.json', 'worker.mjs', 'lib/hints.json', 'lib/texts.json',
     *(f'lib/{it}.mjs' for it in (
-        'actions', 'beside', 'changes', 'checking', 'connection', 'document', 'editor', 'edits', 'engine', 'frames', 'hints', 'ignore', 'jobs', 'languages', 'progress', 'protocol', 'rewriting', 'server',
-        'settings', 'shown', 'thread', 'workspace')),
+        'actions', 'beside', 'casts', 'changes', 'checking', 'connection', 'document', 'editor', 'edits', 'engine', 'frames', 'git', 'hinting', 'hints', 'ignore', 'jobs', 'languages', 'progress',
+        'protocol', 'rewriting', 'server', 'settings', 'shown', 'suppressions', 'texts', 'thread', 'workspace')),
+    *(f'lib/{it}.md' for it in ('eqeqeq', 'no-debugger', 'no-empty', 'no-extra-parens', 'no-shadow', 'no-undef', 'no-unused-vars', 'no-var', 'prefer-const')),
 }
 # Where the libraries are, or why there are none.
 PLACE, WHY = None, None
@@ -179,10 +180,10 @@ def package(folder):
     """A copy of the package with its module and the words of the documents."""
     made = f'{folder}/package'
     os.makedirs(folder, exist_ok=True)
-    shutil.copytree(f'{PACKAGES}/npm', made, ignore=shutil.ignore_patterns('jslint.wasm', 'texts.json', 'node_modules'))
+    shutil.copytree(f'{PACKAGES}/npm', made, ignore=shutil.ignore_patterns('jslint.wasm', 'texts.json', '*-*.md', 'eqeqeq.md', 'node_modules'))
     shutil.copy(library('wasm/jslint.wasm'), f'{made}/jslint.wasm')
-    put = "writeFileSync('lib/texts.json', JSON.stringify(textsOf(new URL(process.argv[1]))))"
-    asked = f"import {{ writeFileSync }} from 'node:fs'; import {{ textsOf }} from './make-texts.mjs'; {put};"
+    put = "writeFileSync('lib/texts.json', JSON.stringify(textsOf(top))); for (const [name, text] of Object.entries(pagesOf(top))) writeFileSync(`lib/${name}`, text)"
+    asked = f"import {{ writeFileSync }} from 'node:fs'; import {{ pagesOf, textsOf }} from './make-texts.mjs'; const top = new URL(process.argv[1]); {put};"
     ran([node(), '--input-type=module', '-e', asked, f'file://{TOP}/'], cwd=made)
     return made
 
