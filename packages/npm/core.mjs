@@ -142,9 +142,9 @@ export function placesIn(text) {
 export function indexOf(text, line, column) {
   if (typeof text !== 'string') throw new TypeError('places are looked for in a string');
   const starts = lineStarts(text), end = line < starts.length ? starts[line] : text.length;
-  let at = [line, column].every((it) => Number.isInteger(it) && it > 0) && line <= starts.length ? starts[line - 1] : NaN;
-  for (let left = column - 1; left > 0 && at < end; left--) at += text.codePointAt(at) > 0xffff ? 2 : 1;
-  if (!(column - 1 <= at - starts[line - 1]) || at > text.length) throw new RangeError(`this text has no place ${line}:${column}`);
+  let at = [line, column].every((it) => Number.isInteger(it) && it > 0) && line <= starts.length ? starts[line - 1] : NaN, left = column - 1;
+  for (; left > 0 && at < end; left--) at += text.codePointAt(at) > 0xffff ? 2 : 1;
+  if (left !== 0 || !(at <= end)) throw new RangeError(`this text has no place ${line}:${column}`);
   return at;
 }
 

@@ -126,6 +126,13 @@ def c_example(room):
     with open('/dev/full', 'w') as full:
         done = [subprocess.run([program, it, 'a.js'], stdout=full, stderr=subprocess.PIPE, text=True, **how) for it in ('fix', 'unwrap')]
     same([(it.returncode, it.stderr) for it in done], [(2, 'jslint: write failed\n')] * 2)
+    # (languages)
+    room.put('m.mjs', 'export let a=(1);')
+    room.put('t.js', 'async()=>(1)')
+    same([ran([program, 'fix', *it], **how)[0] for it in (['--module', 'm.mjs'], ['m.mjs', '--edition', '2022', '--module'], ['t.js', '--edition', '2022'])], ['export let a = 1;\n'] * 2 + ['async () => 1;\n'])
+    same([ran([program, 'fix', *it], 2, **how) for it in (['m.mjs'], ['--edition', '2022', 'm.mjs'], ['--edition', '2020', 't.js'])], [('', f'jslint: syntax error at {it}\n') for it in ('1:1', '1:1', '1:6')])
+    for it in (['--edition', '2020', '--module'], ['--module', '--edition', '2020'], ['--edition', '2021'], ['--edition']):
+        is_well(ran([program, 'fix', 'm.mjs', *it], 2, **how)[1].startswith('jslint: usage: '), it)
     # (an answer that is longer than the room at first)
     room.put('long.js', 'a==b;' * 5000)
     same(ran([program, 'check', 'long.js'], 1, **how)[0].count('\n'), 15000)
@@ -154,6 +161,40 @@ def python_example(room):
         is_well(found == want or want.startswith(f'{found}:'), f'{call}: {found} where {want} is wanted')
     refused = "import jslint\ntry: jslint.fix('a b')\nexcept jslint.Refused as it: print(it, it.status)"
     same(ran([sys.executable, '-c', refused], cwd=folder), ('syntax error at 1:3 2\n', ''))
+
+
+# What each call answers or is refused as, in threads whose stack is too small for a deep text, and in one whose is not.
+SMALL = '''import sys, threading
+import jslint
+def told(call):
+    try: return call()
+    except jslint.Refused as it: return it.code
+deep, flat, found = '(' * 1200 + 'a' + ')' * 1200, '((a));' * 500, []
+def work(): found.append((told(lambda: jslint.fix('((a))')), told(lambda: jslint.fix(deep)), len(told(lambda: jslint.unwrap(flat)))))
+for size in map(int, sys.argv[1:]):
+    threading.stack_size(size)
+    it = threading.Thread(target=work); it.start(); it.join()
+print(found)
+'''
+
+
+def python_refusals(room):
+    """Codes and places of refusals; a small stack is refused, and the process goes on."""
+    folder = make_c(room.folder)
+    names = "('code', 'line', 'column', 'number', 'byte', 'row', 'reason', 'in_second')"
+    asked = [('fix', 'a b'), ('fix', 'let a; let a;'), ('check', 'a', '\nx'), ('check', 'a', 'x = 1'), ('same', 'a', 'a b'), ('verify', 'a', 'x'), ('fix', 'a' * (16777216 + 1)), ('tree', '[' * 590 + ']' * 590)]
+    calls = '\n'.join(f'''try: jslint.{name}(*{words!r})
+except jslint.Refused as it: print([getattr(it, name) for name in {names}])''' for name, *words in asked)
+    room.put('calls.py', f'import jslint\n{calls}')
+    out, _ = ran([sys.executable, f'{room.folder}/calls.py'], cwd=folder, env={**os.environ, 'PYTHONPATH': folder})
+    none = 'None, None, None, None, None, None'
+    same(out.splitlines(), [
+        "['syntax', 1, 3, None, None, None, None, False]", "['early', 1, 12, 3, None, None, None, False]", "['settings', 2, 2, None, None, None, None, False]", f"['settings', {none}, False]",
+        "['syntax', 1, 3, None, None, None, None, True]", "['table', None, None, None, None, 0, 'Form', False]", f"['long', {none}, False]", f"['stack', {none}, False]",
+    ])
+    room.put('small.py', SMALL)
+    out, _ = ran([sys.executable, f'{room.folder}/small.py', str(1 << 17), str(1 << 20), str(16 << 20)], cwd=folder, env={**os.environ, 'PYTHONPATH': folder})
+    same(out, "[('a;\\n', 'stack', 5), ('a;\\n', 'stack', 5), ('a;\\n', 'a;\\n', 1000)]\n")
 
 
 def documented(language):
@@ -196,6 +237,31 @@ def node_tests(room):
     is_well(int(found['pass']) >= 14 and found['fail'] == '0' == found['skipped'], found)
 
 
+# The calls, where instances, buffers and deeper threads can be refused: what each gives, or the code of its refusal.
+MEMORY = '''import { cost, fix, tree } from './jslint.mjs';
+const { Instance } = WebAssembly, told = (call) => { try { return call(); } catch (error) { return error.code ?? error.message; } };
+let isRefused = true;
+WebAssembly.Instance = function (...words) {
+  if (isRefused) throw new RangeError('WebAssembly.Instance(): Out of memory: Cannot allocate Wasm memory for new instance');
+  return new Instance(...words);
+};
+const found = [told(() => fix('((a))')), told(() => tree('a'))];
+isRefused = false;
+const { decode } = TextDecoder.prototype;
+TextDecoder.prototype.decode = () => { throw new TypeError('too long'); };
+found.push(told(() => cost('a')));
+TextDecoder.prototype.decode = decode;
+found.push(told(() => fix('((a))')));
+console.log(JSON.stringify(found));
+'''
+
+
+def node_memory(room):
+    """Memory that the engine refuses is `out of memory`, and the next call works; where the system has no room for another thread, the process ends or answers."""
+    program, made = node(), package(room.folder)
+    same(ran([program, '--input-type=module', '-e', MEMORY], cwd=made), ('["memory","memory","memory","a;\\n"]\n', ''))
+
+
 def node_pack(room):
     """What `npm pack` makes of the repository has all that it needs, and nothing else."""
     program, npm, wasm = node(), tool('npm'), library('wasm/jslint.wasm')
@@ -232,6 +298,62 @@ def node_readme(room):
     checks = '\n'.join(f'assert.deepEqual({call}, {want});' for call, want in wanted)
     asked = f"import assert from 'node:assert/strict';\nimport {{ check, cost, fix, same, spans, tree, unwrap, verify }} from './jslint.mjs';\n{checks}"
     ran([program, '--input-type=module', '-e', asked], cwd=made)
+
+
+# What a bundle is made of: the package, and `core` with the module as bytes.
+APP = '''import { check, fix } from 'jslint-with-proofs';
+import { resultOf } from 'jslint-with-proofs/eslint-json';
+const told = JSON.stringify([fix('((a))'), check('debugger;').length, resultOf('a', 'debugger;').errorCount]);
+if (globalThis.document) document.body.textContent = told;
+else console.log(told);
+'''
+CORE = '''import { commandsOf } from 'jslint-with-proofs/core';
+import bytes from 'jslint-with-proofs/jslint.wasm';
+const { fix } = commandsOf(new WebAssembly.Module(bytes));
+console.log(fix('((a))'));
+'''
+TOLD = '["a;\\n",1,1]'
+
+
+def bundled(room, name, *words):
+    """Makes a bundle by esbuild, which has to find nothing wrong."""
+    same(ran([tool('esbuild'), f'{name}.mjs', '--bundle', '--log-level=warning', *words], cwd=room.folder), ('', ''))
+
+
+def node_bundles(room):
+    """Bundles for Node and for browsers, by esbuild: with `jslint.wasm` beside them, and in each form with the module handed in."""
+    tool('esbuild')
+    program, made = node(), package(f'{room.folder}/node_modules/jslint-with-proofs')
+    os.rename(made, f'{room.folder}/node_modules/it')
+    os.rmdir(f'{room.folder}/node_modules/jslint-with-proofs')
+    made = shutil.move(f'{room.folder}/node_modules/it', f'{room.folder}/node_modules/jslint-with-proofs')
+    room.put('app.mjs', APP)
+    room.put('core.mjs', CORE)
+    for platform in ('node', 'browser'):
+        bundled(room, 'app', f'--platform={platform}', '--format=esm', f'--outfile={platform}/app.mjs')
+        shutil.copy(f'{made}/jslint.wasm', f'{room.folder}/{platform}/jslint.wasm')
+    same(ran([program, 'node/app.mjs'], cwd=room.folder), (f'{TOLD}\n', ''))
+    with open(f'{room.folder}/browser/app.mjs', encoding='utf-8') as file:
+        is_well('node:' not in file.read(), 'a bundle for browsers with what only Node has')
+    for form, end in (('esm', 'mjs'), ('cjs', 'cjs'), ('iife', 'cjs')):
+        bundled(room, 'core', '--platform=neutral', f'--format={form}', '--loader:.wasm=binary', f'--outfile={form}/core.{end}')
+        same(ran([program, f'{form}/core.{end}'], cwd=room.folder), ('a;\n\n', ''))
+    room.put('browser/index.html', '<!doctype html><body><script type="module" src="app.mjs"></script>')
+    in_browser(room)
+
+
+def in_browser(room):
+    """The bundle for browsers in headless Chromium, from a server on this machine."""
+    browser = tool('chromium', 'chromium-browser', 'google-chrome')
+    server = subprocess.Popen([sys.executable, '-u', '-m', 'http.server', '0', '--bind', '127.0.0.1', '--directory', f'{room.folder}/browser'], stdout=subprocess.PIPE, stderr=subprocess.DEVNULL, text=True)
+    try:
+        port = re.search(r'port (\d+)', server.stdout.readline())[1]
+        words = ['--headless', '--no-sandbox', '--disable-gpu', f'--user-data-dir={room.folder}/profile', '--virtual-time-budget=60000', '--dump-dom', f'http://127.0.0.1:{port}/']
+        done = subprocess.run([browser, *words], stdout=subprocess.PIPE, stderr=subprocess.PIPE, text=True, env={**os.environ, 'HOME': room.folder}, timeout=300)
+        is_well(f'<body>{TOLD}</body>' in done.stdout, done.stdout[-500:] + done.stderr[-500:])
+    finally:
+        server.kill()
+        server.wait()
 
 
 # ---- the page
@@ -325,4 +447,4 @@ def begin_aarch64(words):
 # By the name of who answers: what is made in a folder, and what each process begins with.
 ANSWERERS = {'rows_by_c': (make_c, begin_c), 'rows_by_module': (make_node, begin_node), 'rows_on_aarch64': (make_aarch64, begin_aarch64)}
 
-TESTS = [c_example, documented_c, refused_memory, python_example, node_tests, node_pack, node_readme, page, fifth]
+TESTS = [c_example, documented_c, refused_memory, python_example, python_refusals, node_tests, node_memory, node_pack, node_readme, node_bundles, page, fifth]

@@ -7,6 +7,9 @@ const BLANKS = /\s/, LINE_END = /[\n\r\u2028\u2029]/;
 // A line that has a comment of its own at its end, alone or behind another comment.
 const LINE_COMMENT = /^(?:.*\*\/)?\s*(?=\/\/)/;
 
+// (of a longer line a comment at its end isn't looked for: many pairs may stand on one)
+const LONG_LINE = 400;
+
 /** Whether a text may have casts at all. */
 export const mayHaveCasts = (text) => WORD.test(text);
 
@@ -22,18 +25,12 @@ function startOf(text, end) {
 export function isCast(text, open) {
   for (let end = open; ;) {
     while (end > 0 && BLANKS.test(text[end - 1])) end--;
-    if (text.endsWith('*/', end)) {
-      const start = startOf(text, end);
-      if (start < 0) return false;
-      if (isCastComment(text.slice(start, end))) return true;
-      end = start;
-    } else {
-      let start = end;
-      while (start > 0 && !LINE_END.test(text[start - 1])) start--;
-      const found = LINE_COMMENT.exec(text.slice(start, end));
-      if (!found) return false;
-      end = start + found[0].length;
-    }
+    let line = end;
+    while (line > 0 && end - line < LONG_LINE && !LINE_END.test(text[line - 1])) line--;
+    const found = LINE_COMMENT.exec(text.slice(line, end)), start = found || !text.endsWith('*/', end) ? -1 : startOf(text, end);
+    if (!found && start < 0) return false;
+    if (!found && isCastComment(text.slice(start, end))) return true;
+    end = found ? line + found[0].length : start;
   }
 }
 

@@ -75,7 +75,7 @@ export class Server {
       'textDocument/hover': (params, context) => this.checking.hover(params, context),
       'textDocument/diagnostic': (params, context) => this.checking.pulled(params, context),
       'workspace/executeCommand': (params, context) => this.execute(params, context),
-      ...(isTest ? { '$/test': ({ kind, mostMs }, { signal }) => this.engine.run(kind, {}, { signal, mostMs }) } : {}),
+      ...(isTest ? { '$/test': ({ kind, mostMs, isChange }, { signal }) => (isChange ? this.changing : this.engine).run(kind, {}, { signal, mostMs }) } : {}),
     };
   }
 

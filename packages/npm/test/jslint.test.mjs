@@ -3,7 +3,7 @@ import assert from 'node:assert/strict';
 import { readFileSync } from 'node:fs';
 import { test } from 'node:test';
 import { Worker } from 'node:worker_threads';
-import { Refused, check, cost, fix, indexOf, run, tree, treeText, unwrap, verify } from '../jslint.mjs';
+import { Refused, check, cost, fix, indexOf, run, same, spans, tree, treeText, unwrap, verify } from '../jslint.mjs';
 
 /** The refusal of a call. */
 function refusal(call) {
@@ -89,6 +89,25 @@ test('what is no text is a type error', () => {
   assert.throws(() => fix(1), TypeError);
   assert.throws(() => unwrap('(\ud800)'), TypeError);
   assert.throws(() => run('unknown', new Uint8Array(0)), TypeError);
+});
+
+test('wrong arguments throw', () => {
+  const wrong = [
+    () => fix(), () => fix(null), () => fix(['a']), () => fix(new ArrayBuffer(1)), () => fix(new Uint16Array(1)), () => fix('a', null), () => fix('a', '2022'), () => fix('a', { lang: '2022' }),
+    () => fix('a', { settings: '' }), () => fix('a', { language: '2021' }), () => fix('a', { language: '' }), () => fix('a', { language: Symbol('a') }), () => fix('a', { language: 'toString' }),
+    () => check('a', 'globals = []'), () => check('a', { settings: 5 }), () => check('a', { settings: null }), () => check('a', { places: 'bytes' }), () => spans('a', { places: 'characters' }),
+    () => verify('a'), () => verify('a', {}), () => same('a'), () => same('a', 'a', 'module'), () => cost('a', { places: 'bytes' }), () => treeText('a', { places: 'bytes' }),
+    () => run('fix', 'a'), () => run('check', new Uint8Array(1), 'a'), () => run('check', new Uint8Array(1), null), () => run('toString', new Uint8Array(1)), () => run(0, new Uint8Array(1)), () => indexOf(new Uint8Array(1), 1, 1),
+  ];
+  for (const [at, call] of wrong.entries()) assert.throws(call, TypeError, `${at}`);
+  assert.deepEqual([fix('a', { language: undefined }), fix('a', {}), check('1', { settings: undefined }), spans('1', { places: undefined })], ['a;\n', 'a;\n', [], []]);
+});
+
+test('places that a text does not have', () => {
+  const text = 'a\u{1f600}\r\n\u2028b';
+  assert.deepEqual([[1, 1], [1, 2], [1, 3], [1, 4], [2, 1], [3, 1], [3, 2]].map(([line, column]) => indexOf(text, line, column)), [0, 1, 3, 4, 5, 6, 7]);
+  for (const [line, column] of [[0, 1], [1, 0], [4, 1], [3, 3], [1, 6], [1.5, 1], ['1', 1], [NaN, 1], [1, undefined]]) assert.throws(() => indexOf(text, line, column), RangeError, `${line} ${column}`);
+  assert.equal(indexOf('', 1, 1), 0);
 });
 
 test('answers longer than the room at first', () => {

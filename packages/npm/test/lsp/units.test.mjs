@@ -1,12 +1,13 @@
 // Documents, edits, underlines, ignore files, settings, hints and small changes, without a server.
 import assert from 'node:assert/strict';
 import { spawnSync } from 'node:child_process';
-import { mkdirSync, mkdtempSync, readFileSync, rmSync, writeFileSync } from 'node:fs';
+import { mkdirSync, mkdtempSync, readFileSync, rmSync, symlinkSync, writeFileSync } from 'node:fs';
 import { tmpdir } from 'node:os';
 import path from 'node:path';
 import { test } from 'node:test';
 import { Refused, check, fix, indexOf, spans, tree, unwrap } from '../../jslint.mjs';
 import { Beside } from '../../lib/beside.mjs';
+import { isCast } from '../../lib/casts.mjs';
 import { Judge } from '../../lib/changes.mjs';
 import { Document, ENCODINGS } from '../../lib/document.mjs';
 import { applied, editsBetween } from '../../lib/edits.mjs';
@@ -15,7 +16,8 @@ import { Frames, framed } from '../../lib/frames.mjs';
 import { earlyHint, syntaxHint } from '../../lib/hints.mjs';
 import { isIgnored, patternsOf } from '../../lib/ignore.mjs';
 import { Jobs } from '../../lib/jobs.mjs';
-import { settingsWith } from '../../lib/settings.mjs';
+import { ENVIRONMENTS, settingsWith } from '../../lib/settings.mjs';
+import { withoutSuppressed } from '../../lib/suppressions.mjs';
 
 const answered = (call) => { try { return call(); } catch (error) { if (error instanceof Refused) return null; throw error; } };
 const judge = (text) => new Judge({ fix, spans, tree, unwrap }, answered, text);
@@ -251,6 +253,123 @@ test('engine: a thread that can not be started fails its job alone; jobs of a lo
   assert.deepEqual(done, ['first', 'soon', 'last']);
   await engine.end();
   await assert.rejects(engine.run('fix', { text: 'a' }), { name: 'AbortError' });
+});
+
+/** A thread that answers after so long, or never. */
+class Thread {
+  constructor(ms) {
+    Object.assign(this, { ms, heard: [], isEnded: false });
+  }
+
+  on(name, call) {
+    this[name] = call;
+  }
+
+  postMessage({ id }) {
+    this.heard.push(id);
+    if (this.ms !== null) setTimeout(() => { if (!this.isEnded) this.message({ id, result: id }); }, this.ms);
+  }
+
+  terminate() {
+    this.isEnded = true;
+  }
+
+  ref() {}
+
+  unref() {}
+}
+
+test('engine: a job that is not wanted any more is waited for, and no thread is started anew, unless it goes on for long', async () => {
+  for (const [ms, threads] of [[100, 1], [null, 2]]) {
+    const engine = new Engine(), made = [], { start } = engine;
+    engine.start = () => {
+      const it = new Thread(made.length ? 1 : ms);
+      made.push(it);
+      it.on('message', (answer) => { if (engine.worker === it && answer.id === engine.now?.id) engine.finish(answer); });
+      return it;
+    };
+    assert.equal(typeof start, 'function');
+    const control = new AbortController(), first = engine.run('check', { text: 'a'.repeat(300000) }, { signal: control.signal }), second = engine.run('check', { text: 'b' });
+    control.abort();
+    await assert.rejects(first, { name: 'AbortError' });
+    assert.equal(await second, 2);
+    assert.deepEqual([made.length, made.at(-1).heard], [threads, ms === null ? [2] : [1, 2]]);
+    await engine.end();
+  }
+});
+
+test('casts', () => {
+  const is = (text) => isCast(text, text.lastIndexOf('('));
+  for (const text of ['/** @type {T} */ (a)', '/** @satisfies {T} */(a)', '/**\n * Why.\n * @type {import("x").T}\n */\n\u2028(a)', '/** @type {T} */ /* b */ // c\n// d */\n(a)', '/* b */ /** @type {/*} */ (a)', 'x = "/*"; /** @type {T} */ (a)']) assert.ok(is(text), text);
+  for (const text of ['(a)', '/* @type {T} */ (a)', '/** @typedef {T} */ (a)', '/** @type {T} */ b = (a)', '/** @type {T} */ ((a)', '// /** @type {T} */\n(a)', '/** b */ (a)', '/**/ (a)', '/** @type {T} b\n(a)', '/** @type {T} */ x /* y */ (a)', ' '.repeat(9)]) assert.ok(!is(text), text);
+  const begun = process.cpuUsage();
+  for (const text of [`/** @type {T} */ ${'/* a */ '.repeat(50000)}(a)`, `${'/* a '.repeat(50000)}*/ (a)`, `${'(// b\n'.repeat(50000)}(`]) is(text);
+  assert.ok(process.cpuUsage(begun).user < 3e6);
+});
+
+test('languages: the first that has a text, by its settings and its kind; else the refusal that got furthest', () => {
+  const read = (text, settings = '', kind = null) => { const { refusal, edits } = jobs.unwrap({ text, settings, kind }); return refusal ? `${refusal.code} ${refusal.start}` : applied(text, edits); };
+  assert.equal(read('export default (a)'), 'export default a');
+  assert.equal(read('async () => (a)'), 'async () => a');
+  assert.equal(read('await (1)'), 'await (1)');
+  assert.equal(read('await (1)', '', 'module'), 'await 1');
+  assert.equal(read('async () => (await 1)', 'edition = 2022'), 'async () => await 1');
+  assert.deepEqual(['edition = 2022', 'source-type = "module"', ''].map((it) => read('import a from "a"; (a)', it)), Array(3).fill('import a from "a"; a'));
+  assert.deepEqual(['edition = 2020', 'source-type = "script"'].map((it) => read('import a from "a"; (a)', it)), ['syntax 7', 'syntax 7']);
+  assert.equal(read('import a from "a"; (a)', '', 'script'), 'syntax 7');
+  assert.equal(read('(a)', 'source-type = "script"', 'module'), 'a');
+  assert.equal(read('import a from "a"; let b = ;'), 'syntax 27');
+  assert.equal(read('let a; let a; export {};'), 'early 11');
+  assert.equal(read(`${'('.repeat(1300)}a${')'.repeat(1300)}`), 'deep 0');
+  assert.equal(read('let a; let a;'), 'early 11');
+});
+
+test('environments: the program takes each, and knows others for wrong', () => {
+  for (const it of ENVIRONMENTS) assert.deepEqual(check('', { settings: `env = ["${it}"]` }), []);
+  assert.throws(() => check('', { settings: 'env = ["deno"]' }), Refused);
+  const said = readFileSync(new URL('../../lib/no-undef.md', import.meta.url), 'utf8');
+  for (const it of ENVIRONMENTS) assert.ok(said.includes(`\`${it}\``), it);
+});
+
+const suppressionRows = [
+  ['debugger; // jslint-disable-line', []], ['debugger; // jslint-disable-line no-debugger, no-var', []], ['debugger; /* // jslint-disable-line\n*/', []], ['debugger; /* // jslint-disable-line */', ['no-debugger']], ['debugger; // jslint-disable-lines', ['no-debugger']],
+  ['"// jslint-disable-line"; debugger;', ['no-debugger']], ['// jslint-disable-next-line no-var -- why\nvar a;', ['no-unused-vars']], ['// jslint-disable-next-line no-var\n\nvar a;', ['suppression', 'no-var', 'no-unused-vars']],
+  ['(1); // jslint-disable-line', ['no-extra-parens', 'suppression']], ['// jslint-disable-next-line\u2028debugger;', []], ['debugger; // jslint-disable-line no-varr', ['no-debugger', 'suppression']],
+];
+test('suppressions: as jslint-files reads them', () => {
+  const fixed = (text) => answered(() => fix(text));
+  for (const [text, wanted] of suppressionRows) assert.deepEqual(withoutSuppressed(text, spans(text), fixed).map((it) => it.rule), wanted, text);
+});
+
+test('ignore files: bytes, a byte order mark, slashes in brackets, blanks at the end', () => {
+  const top = mkdtempSync(path.join(tmpdir(), 'jslint-ignore-')), beside = new Beside();
+  try {
+    mkdirSync(path.join(top, '.git'));
+    writeFileSync(path.join(top, '.gitignore'), '\ufefffirst.js\n??.js\nb[/]c.js\nblank.js  \nkept\\ .js\né.js\n');
+    const is = (name) => beside.isIgnored(path.join(top, name));
+    assert.deepEqual(['first.js', 'ab.js', 'ä.js', '漢.js', 'é.js', 'b/c.js', 'blank.js', 'kept .js', 'node_modules/a.js', 'a/node_modules/b/c.js'].map(is), [true, true, true, false, true, false, true, true, true, true]);
+  } finally {
+    rmSync(top, { recursive: true, force: true });
+  }
+});
+
+test('ignore files: of another work tree, of the user, and of a file that a link leads to', (t) => {
+  const top = mkdtempSync(path.join(tmpdir(), 'jslint-ignore-')), put = (name, text) => { mkdirSync(path.dirname(path.join(top, name)), { recursive: true }); writeFileSync(path.join(top, name), text); };
+  const git = (...words) => spawnSync('git', ['-C', path.join(top, 'one'), '-c', 'user.name=a', '-c', 'user.email=a@b', ...words]).status;
+  t.after(() => rmSync(top, { recursive: true, force: true }));
+  put('one/a.js', '');
+  if (git('init', '-q') !== 0) return t.skip('no git');
+  git('add', '.');
+  git('commit', '-qm', 'a');
+  assert.equal(git('worktree', 'add', '-q', '../two'), 0);
+  put('one/.git/info/exclude', 'excluded.js\n');
+  put('global', 'global.js\n');
+  put('one/vendor/.gitignore', '*\n');
+  put('one/vendor/v.js', '');
+  symlinkSync(path.join(top, 'one/vendor/v.js'), path.join(top, 'one/link.js'));
+  git('config', 'core.excludesFile', path.join(top, 'global'));
+  const beside = new Beside(), is = (name) => beside.isIgnored(path.join(top, name));
+  assert.deepEqual(['one/excluded.js', 'two/excluded.js', 'one/global.js', 'two/global.js', 'one/a.js', 'two/a.js', 'one/link.js', 'one/vendor/v.js'].map(is), [true, true, true, true, false, false, true, true]);
 });
 
 test('frames: in pieces of any size, and what is no header', () => {
