@@ -42,12 +42,12 @@ def node_tests(room, *names):
 
 def server_units(room):
     """Its parts, without a process."""
-    is_well(node_tests(room, 'units') >= 18)
+    is_well(node_tests(room, 'units') >= 27)
 
 
 def server_session(room):
     """Sessions by the protocol, and the recorded one."""
-    is_well(node_tests(room, 'server', 'replay') >= 23)
+    is_well(node_tests(room, 'server', 'replay') >= 31)
 
 
 def server_hostile(room):
@@ -71,6 +71,11 @@ def texts(room):
     is_well(now is not None, why)
     left = f'{PACKAGES}/npm/lib/texts.json'
     is_well(not os.path.exists(left) or json.loads(text_of(left)) == now, f'{left} is stale: node packages/npm/prepack.mjs')
+    # (the pages that reports lead to have all that the documents have, but for links)
+    asked = f"import {{ pagesOf }} from '{PACKAGES}/npm/make-texts.mjs'; console.log(JSON.stringify(pagesOf(new URL('file://{TOP}/'))));"
+    pages = json.loads(ran([libraries.node(), '--input-type=module', '-e', asked])[0])
+    same(sorted(pages), sorted(f'{it}.md' for it in now['rules']))
+    is_well(all(text.startswith(f'# {name[:-3]}\n') and '## What differs from ESLint' in text and not re.search(r'\]\((?!http)', text) for name, text in pages.items()), 'a page of a rule')
     same(sorted(now['rules']), sorted(os.path.basename(it)[:-3] for it in glob.glob(f'{TOP}/docs/rules/*-*.md') + glob.glob(f'{TOP}/docs/rules/eqeqeq.md')))
     early = re.findall(r'^\| \d+ \|', text_of(f'{TOP}/docs/USAGE.md').partition('The early errors')[2].partition('\n## ')[0], re.M)
     same(len(now['early']), len(early))
@@ -101,7 +106,7 @@ def vscode(_):
     wanted = {f'jslint.{name}': json.loads(value.replace("'", '"')) for name, value in re.findall(r'^  (\w+): \[(\[.*?\]|[^,]*), ', options, re.M)}
     same({name: it['default'] for name, it in properties.items()}, wanted)
     page = text_of(f'{TOP}/docs/EDITORS.md')
-    is_well(len(wanted) == 7 and all(f'| `{name.split(".")[1]}` | ' in page for name in wanted), wanted)
+    is_well(len(wanted) == 8 and all(f'| `{name.split(".")[1]}` | ' in page for name in wanted), wanted)
     same(package['version'], json.loads(text_of(f'{PACKAGES}/npm/package.json'))['version'])
     copied = re.fullmatch(r'cp (\S+/([\w.]+)) \.', package['scripts']['vscode:prepublish'])
     is_well(os.path.isfile(f'{folder}/{copied[1]}') and package['contributes']['tomlValidation'] == [{'fileMatch': 'jslint.toml', 'url': f'./{copied[2]}'}], package)
@@ -171,6 +176,8 @@ def project(room):
     """A folder with a script and `jslint-lsp` on the `PATH` of what runs in it: the environment."""
     program, package = libraries.node(), libraries.package(room.folder)
     room.put('project/a.js', SCRIPT)
+    room.put('project/b.js', 'debugger;\n')
+    room.put('project/c.cjs', ';\n')
     os.makedirs(f'{room.folder}/project/.git')
     room.put('bin/jslint-lsp', f'#!/bin/sh\nexec "{program}" "{package}/bin/jslint-lsp.mjs" "$@"\n', 0o755)
     return {**os.environ, 'PATH': f'{room.folder}/bin:{os.environ["PATH"]}', 'HOME': room.folder, 'LC_ALL': 'C.UTF-8', 'XDG_STATE_HOME': room.folder, 'XDG_CACHE_HOME': room.folder}

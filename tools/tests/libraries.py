@@ -130,7 +130,7 @@ def c_example(room):
     room.put('m.mjs', 'export let a=(1);')
     room.put('t.js', 'async()=>(1)')
     same([ran([program, 'fix', *it], **how)[0] for it in (['--module', 'm.mjs'], ['m.mjs', '--edition', '2022', '--module'], ['t.js', '--edition', '2022'])], ['export let a = 1;\n'] * 2 + ['async () => 1;\n'])
-    same([ran([program, 'fix', *it], 2, **how) for it in (['m.mjs'], ['--edition', '2022', 'm.mjs'], ['--edition', '2020', 't.js'])], [('', f'jslint: syntax error at {it}\n') for it in ('1:1', '1:1', '1:6')])
+    same([ran([program, 'fix', *it], 2, **how) for it in (['m.mjs'], ['--edition', '2022', 'm.mjs'], ['--edition', '2020', 't.js'])], [('', f'jslint: syntax error at {it}\n') for it in ('1:1', '1:1', '1:8')])
     for it in (['--edition', '2020', '--module'], ['--module', '--edition', '2020'], ['--edition', '2021'], ['--edition']):
         is_well(ran([program, 'fix', 'm.mjs', *it], 2, **how)[1].startswith('jslint: usage: '), it)
     # (an answer that is longer than the room at first)

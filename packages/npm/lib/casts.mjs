@@ -17,8 +17,10 @@ const isCastComment = (comment) => comment.length > '/**/'.length && comment.sta
 
 /** The comment that ends at an index with a star and a slash: where it begins. A `/*` in it is looked for last. */
 function startOf(text, end) {
-  const before = text.lastIndexOf('*/', end - 3), first = text.indexOf('/**', before < 0 ? 0 : before + 2), last = text.lastIndexOf('/*', end - 4);
-  return first >= 0 && first < last && isCastComment(text.slice(first, end)) ? first : last;
+  const before = text.lastIndexOf('*/', end - 3), from = before < 0 ? 0 : before + 2, between = text.slice(from, end);
+  const first = between.indexOf('/**'), last = between.lastIndexOf('/*', between.length - 4);
+  if (last < 0) return -1;
+  return from + (first >= 0 && isCastComment(between.slice(first)) ? first : last);
 }
 
 /** Whether the pair whose `(` is at an index, and which groups, is a cast. */

@@ -61,6 +61,14 @@ local function session()
   local hover = ask(buffer, 'textDocument/hover', { position = { line = 1, character = 4 } })
   if not hover.contents.value:match('prefer%-const') then die('hover: ' .. hover.contents.value) end
   vim.cmd('set nomodified')
+  -- (a server that ended is started again with the next script)
+  local first = connected(buffer).id
+  vim.lsp.stop_client(first, true)
+  wait('the end of the server', function() return vim.lsp.get_client_by_id(first) == nil end)
+  vim.cmd('edit b.js')
+  local other = vim.api.nvim_get_current_buf()
+  wait('another server', function() return connected(other) ~= nil and connected(other).id ~= first end)
+  wait('a report of it', function() return #vim.diagnostic.get(other) == 1 end)
   say('ok')
 end
 
