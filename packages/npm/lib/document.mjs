@@ -2,6 +2,7 @@
 //
 // The protocol's lines end at LF, CR LF and CR; jslint's lines end at U+2028 and U+2029 too. So a place of jslint's becomes an index into the
 // string first (core.mjs), and only then a place of the protocol's.
+import { setMaxListeners } from 'node:events';
 import { placeOf, stringOf } from './protocol.mjs';
 
 const LINE_END = /\r\n|\n|\r/g;
@@ -29,9 +30,16 @@ function changedStretch(a, b) {
   return [from, to, end - from];
 }
 
+/** What ends work on a text. (an editor may ask for much at once) */
+function newWork() {
+  const work = new AbortController();
+  setMaxListeners(0, work.signal);
+  return work;
+}
+
 export class Document {
   constructor({ uri, languageId, version, text }, encoding = 'utf-16') {
-    Object.assign(this, { uri, languageId, version, encoding, revision: 0, marks: [], work: new AbortController() });
+    Object.assign(this, { uri, languageId, version, encoding, revision: 0, marks: [], work: newWork() });
     this.replace(stringOf(text, 'a text'));
   }
 
@@ -50,7 +58,7 @@ export class Document {
   /** Ends what is worked out of the text as it was. */
   drop() {
     this.work.abort();
-    this.work = new AbortController();
+    this.work = newWork();
   }
 
   /** The number of the line that an index is on. */

@@ -92,13 +92,13 @@ test('changes that make no sense: nothing is said of that text any more', () => 
 }));
 
 test('a text that is closed and opened again with the same version meanwhile gets no edit of the old one', () => withClient(async (client) => {
-  const uri = 'file:///h/b.js', hanging = client.request('$/test', { kind: 'hang', mostMs: 500 });
+  const uri = 'file:///h/b.js', hanging = assert.rejects(client.request('$/test', { kind: 'hang', mostMs: 500, isChange: true }), /no answer/);
   client.notify('textDocument/didOpen', { textDocument: { uri, languageId: 'javascript', version: 1, text: 'first = (a);' } });
-  const edits = client.request('textDocument/formatting', { ...at(uri), options: {} });
+  const edits = assert.rejects(client.request('textDocument/formatting', { ...at(uri), options: {} }), { code: -32801 });
   client.notify('textDocument/didClose', at(uri));
   client.notify('textDocument/didOpen', { textDocument: { uri, languageId: 'javascript', version: 1, text: '(second);' } });
-  await assert.rejects(hanging, /no answer/);
-  await assert.rejects(edits, { code: -32801 });
+  await hanging;
+  await edits;
 }));
 
 // ---- texts

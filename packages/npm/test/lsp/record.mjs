@@ -20,7 +20,7 @@ await client.request('textDocument/hover', { ...at(uri), position: place(1, 4) }
 await client.request('textDocument/codeAction', { ...at(uri), range: range(0, 14, 0, 15), context: { diagnostics: [] } });
 await client.request('textDocument/formatting', { ...at(uri), options });
 await changed(2, { range: range(0, 6, 0, 9), text: 'const' });
-await changed(3, { range: range(1, 0, 1, 0), text: 'async () => a;\n' });
+await changed(3, { range: range(1, 0, 1, 0), text: 'x = ;\n' });
 await client.request('textDocument/formatting', { ...at(uri), options }).catch(() => {});
 await changed(4, { range: range(1, 0, 2, 0), text: '' });
 await client.request('workspace/executeCommand', { command: 'jslint.unwrap', arguments: [uri] });
