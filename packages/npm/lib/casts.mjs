@@ -36,5 +36,33 @@ export function isCast(text, open) {
   }
 }
 
+// What may stand between a comment and the code behind it.
+const BETWEEN = /(?:\s|\/\*[^]*?\*\/|\/\/[^\n\r\u2028\u2029]*)*/y, OPENING = /(?:\(\s*)*/y;
+
+/** How many parentheses open behind each comment of a cast. */
+function openings(text) {
+  const found = [];
+  let code = 0, count = 0;
+  for (let start = text.indexOf('/**'), end; start >= 0; start = text.indexOf('/**', end)) {
+    end = text.indexOf('*/', start + 3) + 2;
+    if (end < 2) break;
+    if (!isCastComment(text.slice(start, end))) continue;
+    // (of comments that stand together the code is the same)
+    if (end > code) {
+      BETWEEN.lastIndex = end;
+      OPENING.lastIndex = code = end + BETWEEN.exec(text)[0].length;
+      count = OPENING.exec(text)[0].replace(/[^(]/g, '').length;
+    }
+    found.push(count);
+  }
+  return found;
+}
+
+/** Whether a text with the same comments lacks the pair of a cast: `unwrap` may take one that isn't reported, where one elsewhere does as well. */
+export function losesCast(text, other) {
+  const before = openings(text), after = openings(other);
+  return before.length !== after.length || before.some((count, at) => after[at] < count);
+}
+
 /** Whether a report of `check` is of a cast's pair. */
 export const isOfCast = (text, { rule, start }) => rule === 'no-extra-parens' && isCast(text, start);

@@ -5,7 +5,7 @@
 //   blanks alone have the same comments, blanks aside.
 //
 // What a changed text does when it runs is nowhere proved.
-import { isCast, mayHaveCasts } from './casts.mjs';
+import { isOfCast, losesCast, mayHaveCasts } from './casts.mjs';
 import { applied, editsBetween } from './edits.mjs';
 
 const WORD = /[$_\p{ID_Continue}\u200c\u200d\\#]/u;
@@ -104,7 +104,7 @@ export class Judge {
 
   /** Whether `unwrap` would take a cast's pair. */
   hasCasts() {
-    return mayHaveCasts(this.text) && this.reportsOf('no-extra-parens').some((it) => isCast(this.text, it.start));
+    return mayHaveCasts(this.text) && (this.reportsOf('no-extra-parens').some((it) => isOfCast(this.text, it)) || losesCast(this.text, this.own('unwrap') ?? ''));
   }
 
   /** The edits that take out the reported pair whose `(` is at an index, or null: the tree stays, and each comment. */

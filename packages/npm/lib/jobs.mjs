@@ -1,6 +1,6 @@
 // What the server asks of the proved calls. A job is plain data, and so is its answer: they go between threads.
 import { Refused, indexOf } from '../core.mjs';
-import { isCast, isOfCast, mayHaveCasts } from './casts.mjs';
+import { isCast, isOfCast, losesCast, mayHaveCasts } from './casts.mjs';
 import { Judge, mayHaveComments } from './changes.mjs';
 import { applied, editsBetween } from './edits.mjs';
 import { earlyHint, syntaxHint } from './hints.mjs';
@@ -112,8 +112,8 @@ export class Jobs {
   unwrap(job) {
     const { text } = job;
     return this.tried(job, (commands) => {
-      const edits = editsBetween(text, commands.unwrap(text));
-      return { edits, hasCasts: edits.length > 0 && mayHaveCasts(text) && commands.spans(text).some((it) => isOfCast(text, it)) };
+      const unwrapped = commands.unwrap(text), edits = editsBetween(text, unwrapped);
+      return { edits, hasCasts: edits.length > 0 && mayHaveCasts(text) && (losesCast(text, unwrapped) || commands.spans(text).some((it) => isOfCast(text, it))) };
     });
   }
 

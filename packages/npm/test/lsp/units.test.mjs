@@ -7,7 +7,7 @@ import path from 'node:path';
 import { test } from 'node:test';
 import { Refused, check, fix, indexOf, spans, tree, unwrap } from '../../jslint.mjs';
 import { Beside } from '../../lib/beside.mjs';
-import { isCast } from '../../lib/casts.mjs';
+import { isCast, losesCast } from '../../lib/casts.mjs';
 import { Judge } from '../../lib/changes.mjs';
 import { Document, ENCODINGS } from '../../lib/document.mjs';
 import { applied, editsBetween } from '../../lib/edits.mjs';
@@ -305,6 +305,16 @@ test('casts', () => {
   const begun = process.cpuUsage();
   for (const text of [`/** @type {T} */ ${'/* a */ '.repeat(50000)}(a)`, `${'/* a '.repeat(50000)}*/ (a)`, `${'(// b\n'.repeat(50000)}(`]) is(text);
   assert.ok(process.cpuUsage(begun).user < 3e6);
+});
+
+test('casts: a pair that unwrap takes and that is not reported is seen', () => {
+  assert.deepEqual([['/** @type {T} */ (a)', '/** @type {T} */ a'], ['/** @type {T} */ ((a))', '/** @type {T} */ (a)'], ['/** @type {T} */ /* b */ // c\n( (a))', '/** @type {T} */ /* b */ // c\n(a)']].map(([a, b]) => losesCast(a, b)), [true, true, true]);
+  assert.deepEqual([['/** @type {T} */ (a) + (b)', '/** @type {T} */ (a) + b'], ['/** @typedef {T} */ (a)', '/** @typedef {T} */ a'], ['/** @type', '/** @type']].map(([a, b]) => losesCast(a, b)), [false, false, false]);
+  const begun = process.cpuUsage();
+  for (const text of ['(/** @type {T} */ (function () {})(a));', 'x = (/** @type {T} */ (a));', 'x = /** @type {T} */ (a);']) assert.equal(jobs.unwrap({ text }).hasCasts, true, text);
+  for (const text of ['x = (/** @type {T} */ a);', 'x = /** @type {T} */ (a, b);', 'x = /** @type {T} */ (a) => (a);']) assert.equal(jobs.unwrap({ text }).hasCasts, false, text);
+  for (const piece of ['/** @type {T} */ ', '/** @type ', '/**', '/** @type {T} */ ((', '/** @type {T} */ /* ']) losesCast(piece.repeat(20000), piece.repeat(20000));
+  assert.ok(process.cpuUsage(begun).user < 4e6, `${process.cpuUsage(begun).user}`);
 });
 
 test('languages: the first that has a text, by its settings and its kind; else the refusal that got furthest', () => {
