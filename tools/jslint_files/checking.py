@@ -2,8 +2,10 @@
 import bisect
 import re
 
-from .hints import add_hint
-from .outcomes import ANSWER, Outcome, refusal
+from .casts import RULE, WORD, casts
+from .hints import Guesses
+from .languages import first_reading
+from .outcomes import ANSWER, Outcome, Refused, refusal
 from .reading import PART, read
 from .suppressions import suppressed
 from .traces import TRACES
@@ -21,12 +23,35 @@ def answer_of(status, out, err):
     return text if status in (0, 1) and not err and ANSWER.fullmatch(text) else None
 
 
-class Checker:
-    """Checks scripts: with which settings, and what is asked for beside the answer."""
+def checked(engine, text, settings=b'', language=None):
+    """The lines of reports of a script, or its refusal."""
+    status, out, err = engine.run('check', text, settings, language=language)
+    answer = answer_of(status, out, err)
+    if answer is None:
+        raise refusal(status, err, 'checked')
+    return answer
 
-    def __init__(self, engine, settings_for, languages, has_hints=False, is_noted=False, has_suppressions=False, has_ends=False):
-        self.engine, self.settings_for, self.languages, self.has_hints, self.is_noted, self.has_suppressions = engine, settings_for, languages, has_hints, is_noted, has_suppressions
-        self.has_ends = has_ends
+
+def spans_of(engine, text, settings=b'', language=None):
+    """Where each report begins and ends, in bytes, with its rule and text, as the program or a library says that."""
+    status, out, err = engine.run('spans', text, settings, language=language)
+    found = SPAN.findall(out.decode(errors='replace')) if status == 1 and not err else []
+    return [(int(start), int(end), rule, words) for start, end, rule, words in found]
+
+
+def casts_of(engine, text, spans, language=None):
+    """Which of the reported pairs are casts, by the bytes at which they begin."""
+    pairs = [start for start, _, rule, _ in spans if rule == RULE] if WORD.search(text) else []
+    status, tree, _ = engine.run('tree', text, language=language) if pairs else (0, b'', b'')
+    return casts(text, pairs, tree) if pairs and status == 0 else []
+
+
+class Checker:
+    """Checks scripts: with which settings, in which languages, and what is asked for beside the answer."""
+
+    def __init__(self, engine, settings_for, languages, guesses, has_suppressions=False, has_ends=False):
+        self.engine, self.settings_for, self.languages, self.guesses = engine, settings_for, languages, guesses
+        self.has_suppressions, self.has_ends = has_suppressions, has_ends
 
     def fixed(self, text, language):
         """What stands for the fixed text of a script, which may be far longer than it: a sum. None where it is refused."""
@@ -43,30 +68,33 @@ class Checker:
     def outcome(self, name, text=None):
         """What is found in a file, or in a text that is as good as one of that name."""
         text, settings = read(name) if text is None else text, self.settings_for(name)
-        language = self.languages.of(name)
-        status, out, err = self.engine.run('check', text, settings, language=language)
-        answer = answer_of(status, out, err)
-        if answer is None:
-            found = refusal(status, err, 'checked').found
-            if self.has_hints:
-                add_hint(found, text, self.is_noted, language or self.languages.language_of(settings))
-            return Outcome([found], text=text)
+        languages = self.languages.of(name)
+        try:
+            answer, language = first_reading(languages, lambda it: checked(self.engine, text, settings, it))
+        except Refused as why:
+            tried = [it or self.languages.first_of(settings) for it in languages]
+            return Outcome([self.guesses.add(why, text, tried, lambda it: checked(self.engine, text, language=it)).found], text=text)
         came = Outcome(answer=answer, text=text)
-        if answer and self.has_ends:
-            self.add_ends(came.found, text, settings, language)
+        has_casts = RULE in answer and WORD.search(text)
+        if answer and (self.has_ends or has_casts):
+            self.add_spans(came, text, settings, language)
         if self.has_suppressions and TURNS_OFF in text:
-            language = language or self.languages.language_of(settings)
+            language = language or self.languages.first_of(settings)
             came.list = suppressed(came.found, text.decode(), lambda it: self.fixed(it, language))
         return came
 
-    def add_ends(self, found, text, settings, language):
-        """Puts to each report where it ends. A program or a library that doesn't say that of just these reports leaves them as they are."""
-        status, out, err = self.engine.run('spans', text, settings, language=language)
-        spans = SPAN.findall(out.decode(errors='replace')) if status == 1 and not err else []
-        places = places_at(text, {int(it) for span in spans for it in span[:2]})
-        if [(*places[int(start)], rule, words) for start, _, rule, words in spans] == [(it.line, it.column, it.rule, it.text) for it in found]:
-            for it, (_, end, _, _) in zip(found, spans):
-                it.end = places[int(end)]
+    def add_spans(self, came, text, settings, language):
+        """Puts to each report where it ends, and takes out those of casts. A program or a library that doesn't say the ends of just these reports leaves all
+        as they are."""
+        spans = spans_of(self.engine, text, settings, language)
+        places = places_at(text, {it for span in spans for it in span[:2]})
+        if [(*places[start], rule, words) for start, _, rule, words in spans] != [(it.line, it.column, it.rule, it.text) for it in came.found]:
+            return
+        taken_out = {*casts_of(self.engine, text, spans, language)}
+        for it, (_, end, _, _) in zip(came.found, spans):
+            it.end = places[end] if self.has_ends else None
+        if taken_out:
+            came.list = [it for it, span in zip(came.found, spans) if span[2] != RULE or span[0] not in taken_out]
 
 
 def places_at(text, offsets):

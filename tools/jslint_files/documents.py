@@ -32,11 +32,11 @@ def as_eslint(name, outcome):
     columns, of_ends, seen = Columns(source or ''), Columns(source or ''), outcome.seen()
     ends = {it: of_ends.units_at(*it) for it in sorted({each.end for each in outcome.found if each.end})}
     messages = [(it, as_message(it, columns, ends)) for it in outcome.found]
-    directive = {'suppressions': [{'kind': 'directive', 'justification': ''}]}
+    directive = lambda it: {'suppressions': [{'kind': 'directive', 'justification': reason} for reason in it.reasons]}
     noted = sum(it.is_noted for it in seen)
     return {
         'filePath': absolute(name), 'messages': [made for it, made in messages if not it.is_suppressed],
-        'suppressedMessages': [{**made, **directive} for it, made in messages if it.is_suppressed],
+        'suppressedMessages': [{**made, **directive(it)} for it, made in messages if it.is_suppressed],
         'errorCount': len(seen) - noted, 'fatalErrorCount': sum(it.rule is None and not it.is_noted for it in seen), 'warningCount': noted,
         'fixableErrorCount': 0, 'fixableWarningCount': 0, **({} if source is None else {'source': source}), 'usedDeprecatedRules': [],
     }
@@ -71,7 +71,8 @@ def as_result(name, it, has_mark, ids):
         'message': {'text': it.text + (f' (perhaps: {it.hint})' if it.hint else '')},
         'locations': [{'physicalLocation': {'artifactLocation': artifact(name), 'region': region_of(it, has_mark)}}],
     }
-    return {**result, 'suppressions': [{'kind': 'inSource'}]} if it.is_suppressed else result
+    because = lambda reason: {'kind': 'inSource', **({'justification': reason} if reason else {})}
+    return {**result, 'suppressions': [because(reason) for reason in it.reasons]} if it.is_suppressed else result
 
 
 def described(rule, text):

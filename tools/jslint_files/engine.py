@@ -3,7 +3,6 @@ import ctypes
 import os
 import threading
 
-from .outcomes import PLACED, said
 from .streams import Wrong, put, shown
 from .traces import TRACES
 
@@ -19,8 +18,6 @@ STACK = 16 << 20
 ROOM, MOST_KEPT = 1 << 16, 1 << 23
 # A longer text is written by the program, piece by piece, and never stands in memory.
 MOST_WRITTEN = 1 << 28
-# How many lines of refused settings are taken away one by one, and of how long ones.
-MOST_LINES, MOST_PLACED = 200, 1 << 16
 
 
 def executable(path, more=''):
@@ -167,23 +164,6 @@ class InLanguage:
     def __init__(self, engine, language):
         self.engine, self.language = engine, language
 
-    def run(self, command, text, settings=b'', out=None):
-        return self.engine.run(command, text, settings, out, self.language)
+    def run(self, command, text, settings=b'', out=None, language=None):
+        return self.engine.run(command, text, settings, out, language or self.language)
 
-
-def taken(engine, text, name, is_placed=False, language=None):
-    """Settings, which are refused here once, and not for each script. Where it is asked for, with the line at which they begin to be wrong."""
-    status, _, err = engine.run('check', b'', text, language=language)
-    if status:
-        words = said(status, err, 'checked')
-        raise Wrong(f'{shown(name)}: {words}{line_of_fault(engine, text, language) if is_placed and err and not PLACED.fullmatch(words) else ""}')
-    return text
-
-
-def line_of_fault(engine, text, language):
-    """Behind how many lines settings are wrong: the most lines from the first on that are taken, as far as few enough calls tell that."""
-    lines = text.split(b'\n') if len(text) <= MOST_PLACED else []
-    for count in range(len(lines) - 1, max(len(lines) - MOST_LINES, 0) - 1, -1):
-        if engine.run('check', b'', b'\n'.join(lines[:count]), language=language)[0] == 0:
-            return f' (line {count + 1})'
-    return ''

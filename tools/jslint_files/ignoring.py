@@ -1,15 +1,20 @@
 """What ignore files say, as gitignore(5) has it: the last pattern that matches decides, and nothing below an ignored folder comes back.
 
-A repository may be a stranger's, so no pattern takes longer than its length times the path's.
+git compares bytes, so `?` is one of them: texts and names have a character for each byte here (`in_bytes`). A repository may be a stranger's, so no pattern
+takes longer than its length times the path's.
 """
+import os
 import re
 
+# What a file may begin with, which is no part of its first pattern.
+MARK = b'\xef\xbb\xbf'
 CLASSES = {
-    'alpha': 'A-Za-z', 'digit': '0-9', 'alnum': 'A-Za-z0-9', 'upper': 'A-Z', 'lower': 'a-z', 'space': r'\s', 'punct': r'!-/:-@\[-`{-~', 'xdigit': '0-9A-Fa-f',
+    'alpha': 'A-Za-z', 'digit': '0-9', 'alnum': 'A-Za-z0-9', 'upper': 'A-Z', 'lower': 'a-z', 'space': r' \t\n\r', 'punct': r'!-/:-@\[-`{-~', 'xdigit': '0-9A-Fa-f',
     'blank': r' \t', 'cntrl': r'\x00-\x1f\x7f', 'print': r'\x20-\x7e', 'graph': r'\x21-\x7e',
 }
 PIECE = re.compile(r'(?P<stars>\*+)|(?P<one>\?)|\\(?P<quoted>[\s\S])|\[(?P<not>[!^]?)(?P<set>\]?(?:\[:\w+:\]|\\[\s\S]|[^\]\\])*)\]|(?P<plain>[^\\[])', re.S)
-STAR, ANY = '*', '**'
+# A run of stars in a segment, and a segment of two or more alone.
+STAR, ANY = object(), object()
 
 
 class Pattern:
@@ -17,9 +22,16 @@ class Pattern:
         self.segments, self.is_back, self.is_folder = segments, is_back, is_folder
 
 
+def without_end(line):
+    """A line without the blanks at its end, but for one behind a backslash."""
+    line = line.removesuffix('\r')
+    kept = re.match(r'(?:\\[\s\S]|[^\\ ]| +(?=[^ ]))*', line)[0]
+    return line if line[len(kept):].strip(' ') else kept
+
+
 def pattern_of(line):
     """A line's pattern; None for a blank line, a comment, and what matches nothing."""
-    text = re.sub(r'(?<!\\) +\Z', '', re.sub(r'\r\Z', '', line))
+    text = without_end(line)
     if not text or text.startswith('#'):
         return None
     is_back = text.startswith('!')
@@ -28,36 +40,45 @@ def pattern_of(line):
     text = text[:-1] if is_folder else text
     is_anchored = '/' in text
     text = text[1:] if text.startswith('/') else text
-    if not text:
+    segments = segments_of(text) if text else None
+    if segments is None:
         return None
-    # (a slash with a backslash before it is one, too)
-    parts = re.sub(r'\\([\s\S])', lambda it: '/' if it[1] == '/' else it[0], text).split('/')
-    segments = [ANY if it == ANY else tokens_of(it) for it in parts]
-    if None in segments:
-        return None
-    return Pattern(segments if is_anchored else [ANY, [STAR] if segments[0] == ANY else segments[0]], is_back, is_folder)
+    return Pattern(segments if is_anchored else [ANY, [STAR] if segments[0] is ANY else segments[0]], is_back, is_folder)
 
 
-def tokens_of(segment):
-    """A segment as stars and tests of one character; None where a bracket or a backslash never ends. A plain name is one text."""
-    if not re.search(r'[*?\\[]', segment):
-        return segment
-    found, at = [], 0
-    while at < len(segment):
-        it = PIECE.match(segment, at)
+def segments_of(text):
+    """The segments between slashes; None where a bracket, in which a slash is none, or a backslash never ends."""
+    if not re.search(r'[*?\\[]', text):
+        return text.split('/')
+    found, at = [[]], 0
+    while at < len(text):
+        it = PIECE.match(text, at)
         if not it:
             return None
         at = it.end()
-        found.append(token_of(it))
-    return found
+        # (one with a backslash before it is a slash, too)
+        if (it['quoted'] or it['plain']) == '/':
+            found.append([])
+        else:
+            found[-1].append(token_of(it))
+    return [segment_of(it) for it in found]
+
+
+def segment_of(tokens):
+    """A segment as `ANY`, as a plain name, or as stars and tests of one character."""
+    if len(tokens) == 1 and tokens[0] is ANY:
+        return ANY
+    if all(isinstance(it, str) for it in tokens):
+        return ''.join(tokens)
+    return [STAR if it is ANY else it.__eq__ if isinstance(it, str) else it for it in tokens]
 
 
 def token_of(it):
     if it['stars']:
-        return STAR
+        return STAR if it['stars'] == '*' else ANY
     if it['one']:
         return lambda char: True
-    return test_of(it['not'], it['set']) if it['set'] is not None else (it['quoted'] or it['plain']).__eq__
+    return test_of(it['not'], it['set']) if it['set'] is not None else it['quoted'] or it['plain']
 
 
 def test_of(is_not, text):
@@ -75,7 +96,7 @@ def fits(tokens, name):
         return tokens == name
     at, token, star, begun = 0, 0, -1, 0
     while at < len(name):
-        if token < len(tokens) and tokens[token] == STAR:
+        if token < len(tokens) and tokens[token] is STAR:
             star, begun = token, at
             token += 1
         elif token < len(tokens) and tokens[token](name[at]):
@@ -85,7 +106,7 @@ def fits(tokens, name):
             token, at = star + 1, begun
         else:
             return False
-    return all(it == STAR for it in tokens[token:])
+    return all(it is STAR for it in tokens[token:])
 
 
 def matches(segments, names):
@@ -95,7 +116,7 @@ def matches(segments, names):
     for number, segment in enumerate(segments):
         further, is_last = [False] * len(reached), number + 1 == len(segments)
         for count in range(len(reached)):
-            if segment == ANY:
+            if segment is ANY:
                 further[count] = (reached[count] and not is_last) or (count > 0 and (further[count - 1] or reached[count - 1]))
             elif count:
                 further[count] = reached[count - 1] and fits(segment, names[count - 1])
@@ -103,13 +124,19 @@ def matches(segments, names):
     return reached[-1]
 
 
+def in_bytes(text):
+    """A name, or the bytes of an ignore file, as a text that has a character for each byte."""
+    return (text if isinstance(text, bytes) else os.fsencode(text)).decode('latin-1')
+
+
 def patterns_of(text):
-    """The patterns of a text, the last first."""
-    return [it for it in map(pattern_of, text.split('\n')) if it][::-1]
+    """The patterns of a file's bytes, the last first."""
+    return [it for it in map(pattern_of, in_bytes(text.removeprefix(MARK)).split('\n')) if it][::-1]
 
 
 def verdict(parts, is_folder, patterns_at):
-    """What the nearest file that says anything says of a path whose folders aren't ignored. `patterns_at[n]` are those in the folder of the first n parts."""
+    """What the nearest file that says anything says of a path whose folders aren't ignored, by its parts `in_bytes`. `patterns_at[n]` are those in the folder
+    of the first n parts."""
     for depth in range(len(parts) - 1, -1, -1):
         names = parts[depth:] if patterns_at[depth] else ()
         for it in patterns_at[depth]:

@@ -1,32 +1,76 @@
-"""In which language a script is read: as the words say, or as its name, package.json and the settings do."""
+"""In which languages a script is tried: as the words and its settings leave them, and as its name and package.json say."""
 import json
 import os
+import re
 
+from .outcomes import Refused
 from .project import text_of
 
-# A text that a module alone may be, and one that no script of the base profile is.
-OF_MODULES, OF_2022 = b"import 'a'", b'async () => {}'
+# All languages, in the order in which a text is tried, and which of them words leave. `--edition 2022` means what `edition = 2022` means in settings.
+ALL = ('2020', '2022', 'module')
+LEFT = {'module': ('module',), '2020': ('2020',), '2022': ('2022', 'module'), None: ALL}
+# A text that scripts alone may be.
+OF_SCRIPTS = b'var f; function f() {}'
+# How a refusal begins that another language may not have, and how far the text was read then, where no place says it.
+BY_LANGUAGE = re.compile('syntax error|early error E[0-9]+|nested too deep')
+AT_PLACE, TOO_DEEP, TO_THE_END = 0, 1, 2
 
 
 def asked(options):
-    """What the words ask for each script, if anything."""
+    """What the words leave."""
     return 'module' if options['module'] else options['edition']
 
 
+def is_by_language(why):
+    """Whether another language may have a text that is refused so."""
+    return BY_LANGUAGE.fullmatch(why.found.text) is not None
+
+
+def reach_of(why):
+    """How far a text was read that is refused: an early error comes of one that was read to its end."""
+    kind = {'s': AT_PLACE, 'n': TOO_DEEP, 'e': TO_THE_END}[why.found.text[0]]
+    return kind, *((why.found.line, why.found.column) if kind == AT_PLACE else (0, 0))
+
+
+def first_reading(languages, read):
+    """What `read` gives of the first language that has the text, and that language. If none has it, it is refused as the one says it that got furthest, and of
+    equals the first."""
+    furthest = None
+    for it in languages:
+        try:
+            return read(it), it
+        except Refused as why:
+            if not is_by_language(why):
+                raise
+            if furthest is None or reach_of(why) > reach_of(furthest):
+                furthest = why
+    raise furthest
+
+
 class Languages:
-    """Which language is asked for each script: None where its settings or the base profile say it."""
+    """In which languages each script is tried. None stands for what its settings say, or the base profile."""
 
     def __init__(self, engine, options, project, settings_for=None):
         self.engine, self.project, self.settings_for, self.asked = engine, project, settings_for, asked(options)
-        self.is_project, self.packages, self.said, self.takes = options['project'], {}, {}, {}
+        self.is_project, self.packages, self.left = options['project'], {}, {}
 
     def of(self, name):
-        if self.asked:
-            return self.asked
-        settings = self.settings_of(name)
-        if self.is_module(name) and self.takes_modules(settings):
-            return 'module'
-        return None if self.settings_for else self.language_of(settings)
+        """The languages for a script, in the order in which they are tried."""
+        kind = self.kind_of(name)
+        if not self.is_project and kind != 'module' and self.asked != '2022':
+            return [self.asked]
+        left = self.left_by(self.settings_of(name))
+        if kind == 'module' and 'module' in left:
+            return ['module']
+        if kind is not None:
+            left = [it for it in left if it != 'module'] or left
+        return left if self.is_project else left[:1]
+
+    def kind_of(self, name):
+        """Whether a name says that it is a module's or a script's, `commonjs`, or else package.json says it, for a project."""
+        if name.endswith(('.mjs', '.cjs')):
+            return 'module' if name.endswith('.mjs') else 'commonjs'
+        return self.kind_in(os.path.dirname(os.path.realpath(name))) if self.is_project and name.endswith('.js') else None
 
     def settings_of(self, name):
         if self.settings_for:
@@ -34,34 +78,33 @@ class Languages:
         found = self.project.settings_of(os.path.dirname(os.path.realpath(name))) if self.is_project else None
         return found[1] if found else b''
 
-    def is_module(self, name):
-        """Whether a name says that it is a module's, or package.json beside it or above it does, for a project."""
-        return name.endswith('.mjs') or self.is_project and name.endswith('.js') and self.has_modules(os.path.dirname(os.path.realpath(name)))
-
-    def has_modules(self, folder):
-        """What the nearest package.json says."""
+    def kind_in(self, folder):
+        """What the nearest package.json says that the scripts of a folder are: `module`, `commonjs`, or nothing."""
         if folder not in self.packages:
-            self.packages[folder] = next((self.says_module(text) for it in self.project.folders_above(folder) if (text := text_of(f'{it}/package.json')) is not None), False)
+            self.packages[folder] = next((kind_said(text) for it in self.project.folders_above(folder) if (text := text_of(f'{it}/package.json')) is not None), None)
         return self.packages[folder]
 
-    def says_module(self, text):
-        try:
-            package = json.loads(text)
-        except (ValueError, RecursionError):
-            return False
-        return isinstance(package, dict) and package.get('type') == 'module'
+    def is_taken(self, settings, language):
+        """Whether settings leave a language. (the word for 2022 leaves modules, too)"""
+        return self.engine.run('check', OF_SCRIPTS if language == '2022' else b'', settings, language=language)[0] != 2
 
-    def is_taken(self, text, settings, language=None):
-        return self.engine.run('check', text, settings, language=language)[0] != 2
+    def left_by(self, settings):
+        """The languages that words and settings leave. Settings that leave none were refused."""
+        if settings not in self.left:
+            self.left[settings] = [it for it in LEFT[self.asked] if not settings or self.is_taken(settings, it)] or [self.asked]
+        return self.left[settings]
 
-    def takes_modules(self, settings):
-        if settings not in self.takes:
-            self.takes[settings] = not settings or self.is_taken(b'', settings, 'module')
-        return self.takes[settings]
 
-    def language_of(self, settings):
-        """The language of settings, for commands that don't read them; None of those that are refused."""
-        if settings and settings not in self.said:
-            is_module, is_2022 = (self.is_taken(it, settings) for it in (OF_MODULES, OF_2022))
-            self.said[settings] = 'module' if is_module else '2022' if is_2022 else None
-        return self.said[settings] if settings else None
+    def first_of(self, settings):
+        """The language that settings say where nothing else does."""
+        return self.left_by(settings)[0]
+
+
+def kind_said(text):
+    """What a package.json says."""
+    try:
+        package = json.loads(text)
+    except (ValueError, RecursionError):
+        return None
+    kind = package.get('type') if isinstance(package, dict) else None
+    return kind if kind in ('module', 'commonjs') else None

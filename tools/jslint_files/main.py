@@ -1,8 +1,8 @@
 """usage: jslint-files [check] [--edition 2020|2022] [--module] [--settings FILE] [--format FORM] [--color WHEN] [--hints] [--ends] [--unsupported error|note] [--suppressions]
-                    [--max-warnings N] [--project] [--stdin NAME] [--summary] [--jobs N] [--files-from FILE] [--] [FILE ..]
-       jslint-files fix --write|--diff [--edition 2020|2022] [--module] [--drop-comments] [--hints] [--unsupported error|note] [--project] [--stdin NAME] [--summary] [--jobs N]
-                    [--files-from FILE] [--] [FILE ..]
-       jslint-files unwrap --write|--diff [the same, but for --drop-comments] [--] [FILE ..]
+                    [--max-warnings N] [--project] [--no-ignore] [--allow-none] [--stdin NAME] [--summary] [--jobs N] [--files-from FILE] [--] [FILE ..]
+       jslint-files fix --write|--diff [--edition 2020|2022] [--module] [--drop-comments] [--hints] [--unsupported error|note] [--project] [--no-ignore] [--allow-none]
+                    [--stdin NAME] [--summary] [--jobs N] [--files-from FILE] [--] [FILE ..]
+       jslint-files unwrap --write|--diff [--drop-casts] [the same, but for --drop-comments] [--] [FILE ..]
        jslint-files --explain RULE|E1..E35
        jslint-files --help|--version
 
@@ -13,11 +13,16 @@ What `jslint check` finds in several scripts, each report with its file's name, 
 
   FILE                a script, or a pattern such as 'src/**/*.js' (in quotes, so that the shell leaves it alone); ** follows no link to a folder
   --files-from FILE   the names that FILE has, each ended by a line feed, or by a zero byte if there is any; - is standard input
-  --project           FILE may be a folder, the current one where none is named: its *.js and *.mjs, but for what .gitignore, .jslintignore and .git/info/exclude
-                      name, links, node_modules and .git. Without --settings, each script is checked with the nearest jslint.toml above it. All these files are
-                      looked for up to the folder that has .git
-  --edition, --module the language of each script (jslint). Without them a script named *.mjs is a module, and with --project each *.js whose nearest
-                      package.json says "type": "module", if the settings leave modules; of others the settings say it, or they are of the base profile
+  --project           FILE may be a folder, the current one where none is named: its *.js, *.mjs and *.cjs, without links, node_modules and .git. What
+                      .jslintignore, .gitignore, .git/info/exclude and git's core.excludesFile name is left alone, and what lies in node_modules, however it was
+                      named. Without --settings, each script is checked with the nearest jslint.toml above it. All these files are looked for up to the folder
+                      that has .git
+  --no-ignore         looks at what is named and ignored all the same
+  --allow-none        the status is 0 also where there was nothing to look at, and nothing is said
+  --edition, --module the language of each script (jslint); with --edition 2022 modules are read too. Without --project a script named *.mjs is a module, and
+                      each other one of the language that words or settings say first. With --project so is a *.js whose nearest package.json says
+                      "type": "module"; each other script is tried as one of the base profile, of 2022, and as a module, but *.cjs and those with
+                      "type": "commonjs" not as modules. Settings and words may leave fewer
   --stdin NAME        the script on standard input, as if it were the file NAME. Rewritten, it goes to standard output, or --diff shows how it differs
   --settings FILE     for each script (jslint check --settings)
   --format unix       FILE:LINE:COLUMN: RULE TEXT, as GNU's compilers do (this is what is printed without --format)
@@ -26,9 +31,11 @@ What `jslint check` finds in several scripts, each report with its file's name, 
                       by jslint check --spans
   --format sarif      SARIF 2.1.0; --format junit: JUnit's XML, a case a script
   --format github     GitHub's notes, as ::error file=FILE,line=LINE,col=COLUMN,title=RULE::TEXT
-  --hints             adds to a refusal, after `perhaps:`, a guess at what the script has that jslint doesn't read (pretty, sarif, junit: always)
-  --unsupported note  a script that is refused for such a thing, as far as the guess says so, is shown as a note and fails nothing (error: as ever)
-  --suppressions      `// jslint-disable-line RULE, RULE` and `// jslint-disable-next-line` turn reports off, but for no-extra-parens
+  --hints             adds to each refusal, after `perhaps:`, a guess at what the script has that jslint doesn't read (pretty, sarif, junit: always). Without
+                      it there is one where another language gets further
+  --unsupported note  a script that is refused for such a thing, as far as the guess says so, is shown as a note and fails nothing (error: as ever). One with
+                      a fault in a language that jslint reads fails
+  --suppressions      `// jslint-disable-line RULE, RULE -- WHY` and `// jslint-disable-next-line` turn reports off, but for no-extra-parens
   --max-warnings N    the status is 0 also with up to N reports
   --summary           counts, in a line on standard error
   --explain WHAT      what the documents say of a rule, or of an early error
@@ -36,15 +43,18 @@ What `jslint check` finds in several scripts, each report with its file's name, 
                       symbolic link, the file that it leads to is replaced. A script that changed since it was read is refused
   --diff              prints how the rewritten texts differ, as `diff -u` does, and writes no script
   --drop-comments     `fix --write` also where comments are lost
+  --drop-casts        `unwrap` also of a script that would lose the pair of a cast, `/** @type {T} */ (a)`, which it leaves as it is
   --jobs N            N scripts side by side; without it, as many as there are processors
   --version           the program's version
 
-A script that is refused has one line, at 1:1 if the refusal names no place, on standard error where scripts are rewritten; it stays as it is. Control
-characters in a name are shown as \\x1b, those that turn a text round as \\u{202e}. On a terminal, a line on standard error says how far it is after
-the first second. A script named check, fix or unwrap stands behind --. Where the first line of a script ends in CR LF, so do all lines of its fixed text.
+A script that is refused has one line, at 1:1 if the refusal names no place, on standard error where scripts are rewritten; it stays as it is. So has a
+jslint.toml that is refused; its scripts aren't looked at. Control characters in a name are shown as \\x1b, those that turn a text round as \\u{202e}. On
+a terminal, a line on standard error says how far it is after the first second. A script named check, fix or unwrap stands behind --. Where the first line
+of a script ends in CR LF, so do all lines of its fixed text; a byte order mark and a line of `#!` stay.
 
-The status is 0 where nothing was found; 1 where there is a report or a difference; 2 where a script was refused, the words or the settings make no
-sense, or not all could be written (as ESLint's with --exit-on-fatal-error). After an interruption there is no new file, and each script is whole.
+The status is 0 where nothing was found; 1 where there is a report or a difference; 2 where a script was refused, there was none to look at, the words or
+the settings make no sense, or not all could be written (as ESLint's with --exit-on-fatal-error). After an interruption there is no new file, and each
+script is whole.
 JSLINT in the environment is the path of the program; else it is the one beside this file. JSLINT_LIBRARY is that of libjslint.so, which answers in this
 process; without both, the one that was installed with the program does. An empty JSLINT_LIBRARY: the program is started for each script.
 """
@@ -56,15 +66,18 @@ import threading
 from concurrent.futures import ThreadPoolExecutor
 
 from . import forms, names as meant
+from .advice import Advice
 from .checking import Checker
-from .engine import STACK, Library, engine_of, path_of_program, Program, taken
+from .engine import STACK, Library, engine_of, path_of_program, Program
+from .hints import Guesses
 from .languages import Languages, asked
 from .outcomes import Outcome, Refused
-from .progress import Progress, Tally
+from .progress import Progress, Tally, plural
 from .project import Project
-from .reading import read
+from .reading import pass_on, read
 from .rewriting import Rewriter
 from .rules import explained
+from .settings import Unfit, judge_settings
 from .streams import Wrong, say, shown, warn
 from .words import has_hints, judge, number_of_jobs, options_of
 
@@ -78,57 +91,69 @@ class Run:
     """What is done to each script, and how it is told."""
 
     def __init__(self, options, names, here):
-        self.options, self.project, self.engine = options, Project(), engine_of(here)
-        self.is_check, is_noted = options['command'] == 'check', options['unsupported'] == 'note'
+        self.options, self.project, self.engine = options, Project(not options['no-ignore']), engine_of(here)
+        self.is_check, self.advice = options['command'] == 'check', Advice()
+        # (the names that are ignored; settings that are refused, by their names; how many scripts these are for)
+        self.ignored, self.bad, self.unread = [], {}, 0
         self.names = self.named(names)
-        self.progress, self.tally = Progress(len(self.names)), Tally(options['summary'])
+        guesses = Guesses(has_hints(options), options['unsupported'] == 'note')
         if self.is_check:
             has_ends = options['ends'] or options['format'] in ('pretty', 'sarif')
             settings_for = self.settings()
             languages = Languages(self.engine, options, self.project, settings_for)
-            self.worker = Checker(self.engine, settings_for, languages, has_hints(options), is_noted, options['suppressions'], has_ends)
+            self.worker = Checker(self.engine, settings_for, languages, guesses, options['suppressions'], has_ends)
         else:
-            languages = Languages(self.engine, options, self.project)
-            if not languages.asked:
+            if asked(options) in (None, '2022'):
                 # (they may say the language)
                 self.settings()
-            self.worker = Rewriter(self.engine, options, languages.of, is_noted)
+            self.worker = Rewriter(self.engine, options, Languages(self.engine, options, self.project), guesses)
+        self.progress, self.tally = Progress(len(self.names)), Tally(options['summary'])
 
     def named(self, names):
         """The files, in their order."""
         options = self.options
         if options['stdin'] is not None:
-            return [options['stdin']]
+            self.ignored = [it for it in [options['stdin']] if options['project'] and self.project.is_ignored(it)]
+            return [] if self.ignored else [options['stdin']]
         found = meant.expanded(names) + (meant.listed(options['files-from']) if options['files-from'] is not None else [])
         if options['project']:
-            found = meant.with_folders(found or ['.'] * (options['files-from'] is None), self.project)
+            found, self.ignored = meant.with_folders(found or ['.'] * (options['files-from'] is None), self.project)
         return meant.once(found) if options['write'] else found
 
     def settings(self):
-        """What gives the settings for a script. They are refused here once, before any script is read."""
+        """What gives the settings for a script. They are judged here once, before any script is read."""
         name = self.options['settings']
         if name is not None:
             try:
                 text = read(name)
+                judge_settings(self.engine, text, asked(self.options))
             except Refused as why:
-                raise Wrong(f'{shown(name)}: {why}') from None
-            taken(self.engine, text, name, language=asked(self.options))
+                raise Wrong(f'{shown(name)}: {why.words if isinstance(why, Unfit) else why}') from None
             return lambda _: text
         if not self.options['project']:
             return lambda _: b''
         found = {it: self.project.settings_of(os.path.realpath(it)) for it in {os.path.dirname(it) for it in self.names}}
-        for path, text in sorted(set(filter(None, found.values()))):
-            taken(self.engine, text, path, is_placed=True, language=asked(self.options))
-        texts = {it: settings[1] if settings else b'' for it, settings in found.items()}
-        return lambda it: texts[os.path.dirname(it)]
+        texts = dict(filter(None, found.values()))
+        self.leave_bad(found, texts)
+        return lambda it: texts[found[os.path.dirname(it)][0]] if found[os.path.dirname(it)] else b''
+
+    def leave_bad(self, found, texts):
+        """Takes the scripts out whose settings are refused: these are told of instead, and all others are looked at."""
+        bad = self.project.bad
+        for path in sorted({*texts} - {*bad}):
+            try:
+                judge_settings(self.engine, texts[path], asked(self.options))
+            except Refused as why:
+                bad[path] = why
+        kept = [it for it in self.names if not found[os.path.dirname(it)] or found[os.path.dirname(it)][0] not in bad]
+        self.unread, self.bad = len(self.names) - len(kept), {beside(path): (bad[path], texts[path]) for path in sorted(bad)}
+        self.names = [*self.bad, *kept]
 
     def outcome(self, name):
         """What comes of a file."""
         done = 'checked' if self.is_check else 'compared' if self.options['diff'] else 'rewritten'
         try:
-            if name in self.project.faults:
-                raise Refused(self.project.faults[name])
-            came = self.worker.outcome(name, read(0) if self.options['stdin'] is not None else None)
+            came = self.outcome_of_bad(name) if name in self.bad else self.outcome_of_script(name)
         except Refused as why:
             came = Outcome([why.found])
         except (OSError, MemoryError) as error:
@@ -136,6 +161,20 @@ class Run:
         if not came.is_told() or self.options['format'] not in TEXT_FORMS:
             came.text = None
         self.progress.step()
+        return came
+
+    def outcome_of_bad(self, name):
+        why, text = self.bad[name]
+        came = Outcome([why.found], text=text)
+        came.is_script = False
+        return came
+
+    def outcome_of_script(self, name):
+        if name in self.project.faults:
+            raise self.project.faults[name]
+        came = self.worker.outcome(name, read(0) if self.options['stdin'] is not None else None)
+        if self.is_check and not self.worker.settings_for(name):
+            self.advice.add(came.answer)
         return came
 
     def outcomes(self, names):
@@ -209,9 +248,28 @@ class Run:
             return None
         return found[0].decode() if found else None
 
+    def tell_none(self):
+        """What is said where there was nothing to be looked at. Text on standard input that is ignored goes on as it is, where a rewritten one would."""
+        if self.ignored and self.options['stdin'] is not None and not self.is_check and not self.options['diff']:
+            pass_on()
+        if not self.options['allow-none']:
+            why = f': {plural(len(self.ignored), "name")} {"is" if len(self.ignored) == 1 else "are"} ignored (--no-ignore looks at them all the same)' if self.ignored else ''
+            warn(f'jslint-files: no script was looked at{why}; --allow-none lets that pass\n')
+
     def status(self):
         most = self.options['max-warnings']
+        if not self.names and not self.options['allow-none']:
+            return 2
         return 0 if self.tally.worst == 1 and most is not None and self.tally.reports <= int(most) else self.tally.worst
+
+
+def beside(path):
+    """A path as it is named here: without the current folder's, if it is below that."""
+    try:
+        named = os.path.relpath(path)
+    except FileNotFoundError:
+        return path
+    return path if named.split(os.sep)[0] == '..' else named
 
 
 def is_coloured(wish):
@@ -233,6 +291,9 @@ def main(words, here):
     jobs = number_of_jobs(options['jobs'])
     run = Run(options, names, here)
     run.tell(jobs)
+    if not run.names:
+        run.tell_none()
+    warn(run.advice.told(options['project']))
     if options['summary']:
-        warn(run.tally.told(options))
+        warn(run.tally.told(options, len(run.ignored), run.unread))
     return run.status()

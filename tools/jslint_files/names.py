@@ -69,12 +69,16 @@ def is_closed_stream(name):
 
 
 def with_folders(names, project):
-    """The names, each folder replaced by the scripts below it."""
-    found = []
+    """The names, each folder replaced by the scripts below it, and which names are ignored."""
+    found, ignored = [], []
     for name in names:
-        is_folder = os.path.isdir(name) and not is_closed_stream(name)
-        found += project.scripts_below(name) if is_folder else [name]
-    return [*dict.fromkeys(found)]
+        if is_closed_stream(name):
+            found.append(name)
+        elif project.is_ignored(name):
+            ignored.append(name)
+        else:
+            found += project.scripts_below(name) if os.path.isdir(name) else [name]
+    return [*dict.fromkeys(found)], ignored
 
 
 def once(names):

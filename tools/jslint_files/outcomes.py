@@ -4,18 +4,23 @@ import re
 # A line of what `check` answers, and all of them.
 REPORT = re.compile(r'^(\d+):(\d+) (\S+) (.*)$', re.M)
 ANSWER = re.compile(r'(?:\d+:\d+ \S+ [^\n]*\n)*')
-PLACED = re.compile(r'(.*) at (\d+):(\d+)', re.S)
+# (whatever the program says behind the place is a guess of its own)
+PLACED = re.compile(r'(.*?) at (\d+):(\d+)(?:[ ,:;(].*)?', re.S)
 LINE_END = re.compile('\r\n|[\n\r\u2028\u2029]')
 
 
 class Found:
     """What was found at a place of a script; a refusal has no rule. Its `end`, if that was asked for, is a line and a column. A `hint` guesses what a refused
-    script has that the profile lacks."""
+    script has that the profile lacks. `reasons` are those of the comments that turn it off, each of which may be empty."""
 
-    hint, is_unsupported, is_noted, is_suppressed, end = None, False, False, False, None
+    hint, is_unsupported, is_noted, reasons, end = None, False, False, (), None
 
     def __init__(self, line, column, rule, text):
         self.line, self.column, self.rule, self.text = int(line), int(column), rule, text
+
+    @property
+    def is_suppressed(self):
+        return bool(self.reasons)
 
     def status(self):
         return 0 if self.is_suppressed or self.is_noted else 1 if self.rule else 2
@@ -37,6 +42,9 @@ class Refused(Exception):
 class Outcome:
     """What came of a file: what was found, or the lines that `check` answered; how its rewritten text differs, whether it does, and that text itself, if
     it goes to standard output; and the file's own text, if that could be read and is asked for."""
+
+    # (settings are told of too, where they are refused)
+    is_script = True
 
     def __init__(self, found=None, answer='', difference=b'', text=None, is_changed=False, rewritten=b''):
         self.list, self.answer, self.difference, self.text, self.rewritten = found, answer, difference, text, rewritten

@@ -37,11 +37,12 @@ class Tally:
 
     def __init__(self, has_rules):
         self.has_rules = has_rules
-        self.worst = self.scripts = self.refused = self.noted = self.suppressed = self.changed = self.reports = 0
+        self.worst = self.scripts = self.refused = self.noted = self.casts = self.suppressed = self.changed = self.reports = 0
         self.rules = {}
 
     def add(self, outcome):
-        self.scripts, self.changed, self.worst = self.scripts + 1, self.changed + outcome.is_changed, max(self.worst, outcome.status())
+        self.scripts += outcome.is_script
+        self.changed, self.worst = self.changed + outcome.is_changed, max(self.worst, outcome.status())
         if outcome.is_plain() and not self.has_rules:
             self.reports += outcome.answer.count('\n')
             return
@@ -50,14 +51,17 @@ class Tally:
                 self.suppressed += 1
             elif it.rule:
                 self.reports, self.rules[it.rule] = self.reports + 1, self.rules.get(it.rule, 0) + 1
+            elif not it.is_noted:
+                self.refused += outcome.is_script
             else:
-                self.refused, self.noted = self.refused + (not it.is_noted), self.noted + it.is_noted
+                self.noted, self.casts = self.noted + it.is_unsupported, self.casts + (not it.is_unsupported)
 
-    def told(self, options):
-        """In a line: all that came, the rules with the most reports first."""
+    def told(self, options, ignored, unread):
+        """In a line: all that came, how many names are ignored, and how many scripts have settings that are refused. The rules with the most reports are first."""
         scripts, done = plural(self.scripts, 'script'), 'to be rewritten' if options['diff'] else 'rewritten'
         first = f'{plural(self.reports, "report")} in {scripts}' if options['command'] == 'check' else f'{self.changed} of {scripts} {done}'
-        more = [(self.refused, 'refused'), (self.noted, 'with what the profile lacks'), (self.suppressed, 'turned off by comments')]
+        more = [(self.refused, 'refused'), (self.noted, 'with what the profile lacks'), (self.casts, 'left for a cast'), (self.suppressed, 'turned off by comments'),
+                (ignored, 'ignored'), (unread, 'left for bad settings')]
         counts = ', '.join(f'{count} {rule}' for rule, count in sorted(self.rules.items(), key=lambda it: (-it[1], it[0])))
         return ', '.join([first, *(f'{count} {what}' for count, what in more if count)]) + (f': {counts}' if counts else '') + '\n'
 

@@ -3,6 +3,7 @@ import errno
 import os
 
 from .outcomes import Refused
+from .streams import Wrong, say
 
 # The commands take no longer text; of a longer one they get a byte more than this, and refuse it.
 MOST = 16 * 1024 * 1024
@@ -38,3 +39,15 @@ def read_from(file):
         parts.append(part)
         left -= len(part)
     return parts[0] if len(parts) == 1 else b''.join(parts)
+
+
+def pass_on():
+    """Writes standard input to standard output, as it is."""
+    while True:
+        try:
+            part = os.read(0, PART)
+        except OSError as error:
+            raise Wrong(f'standard input: {unread(error)}') from None
+        if not part:
+            return
+        say(part)

@@ -1,57 +1,34 @@
 """A script rewritten by `fix` or `unwrap`: in its place, as a difference, or to standard output."""
-import bisect
 import contextlib
 import errno
 import os
 import re
 import stat
 
+from .casts import WORD
+from .checking import casts_of, checked, places_at, spans_of
+from .comments import COMMENT, FIRST_LINE, comments
 from .engine import InLanguage
-from .hints import add_hint
-from .outcomes import LINE_END, Outcome, Refused, refusal
+from .ignoring import MARK
+from .languages import first_reading
+from .outcomes import LINE_END, Found, Outcome, Refused, refusal
 from .reading import MOST, read
 from .streams import shown
 from .traces import TRACES
-from .words import has_hints
 
-# A literal that isn't a number, or a part of a template, in what `jslint tree` writes: where it ends, and where it begins.
-JSON_STRING = rb'"[^"\\]*(?:\\.[^"\\]*)*"'
-LITERAL = re.compile(
-    rb'"end":(\d+),(?:"raw":%b,(?:"regex":\{"flags":%b,"pattern":%b\},)?)?"start":(\d+),(?:"tail":\w+,)?"type":"(?:Literal|TemplateElement)"'
-    % (JSON_STRING, JSON_STRING, JSON_STRING)
-)
-COMMENT = re.compile(rb'/[/*]')
-# What a script of 2022 may begin with.
-FIRST_LINE = re.compile(rb'#!(?:[^\r\n\xe2]|\xe2(?!\x80[\xa8\xa9]))*')
-COMMENT_END = {b'//': re.compile(rb'[\r\n]|\xe2\x80[\xa8\xa9]'), b'/*': re.compile(rb'\*/')}
-
-
-def comments(text, tree):
-    """Where the comments of a script begin: at each `//` or `/*` that isn't inside a comment, nor begins in a literal or a template's text, and at a line of `#!`."""
-    literals = sorted((int(start), int(end)) for end, start in LITERAL.findall(tree))
-    first = FIRST_LINE.match(text)
-    starts, found, mark = [it[0] for it in literals], [0] if first else [], COMMENT.search(text, first.end() if first else 0)
-    while mark:
-        before, at = bisect.bisect_right(starts, mark.start()), mark.start()
-        end = literals[before - 1][1] if before else 0
-        if at >= end:
-            found.append(at)
-            close = COMMENT_END[mark[0]].search(text, at + 2)
-            end = close.end() if close else len(text)
-        mark = COMMENT.search(text, end)
-    return found
+CAST = 'left as it is: unwrap would take the pair of a cast; --drop-casts permits it'
 
 
 def keep_comments(engine, text):
     """Refuses a script that has comments, at the first of them."""
-    if not COMMENT.search(text) and not FIRST_LINE.match(text):
+    if not COMMENT.search(text):
         return
     status, tree, err = engine.run('tree', text)
     if status or err:
         raise refusal(status, err, 'rewritten')
     found = comments(text, tree)
     if found:
-        lines = LINE_END.split(text[:found[0]].decode())
+        lines = LINE_END.split(text[:found[0][0]].decode())
         what = f'{len(found)} comments' if len(found) > 1 else 'a comment'
         raise Refused(f'not rewritten: fix drops {what}; --drop-comments permits it, and unwrap keeps comments', len(lines), len(lines[-1]) + 1)
 
@@ -61,16 +38,23 @@ def has_cr(text):
     return text[:max(text.find(b'\n'), 0)].endswith(b'\r')
 
 
-def with_cr(engine, file):
-    """Ends each line of a fixed text with CR LF, if that has the same fixed text."""
+def head_of(text):
+    """What a file keeps before its fixed text: a byte order mark, or a line of `#!`."""
+    first = FIRST_LINE.match(text)
+    return first[0] + b'\n' if first else MARK if text.startswith(MARK) else b''
+
+
+def keep_form(engine, file, head, is_cr):
+    """Puts a head before a fixed text, and ends each line with CR LF where that is wanted, if what comes of it has the same fixed text."""
     file.seek(0)
     fixed = file.read(MOST + 1)
-    text = re.sub(rb'(?<!\r)\n', b'\r\n', fixed)
+    text = head + fixed
+    text = re.sub(rb'(?<!\r)\n', b'\r\n', text) if is_cr else text
     status, again, err = engine.run('fix', text)
     if status or err:
         raise refusal(status, err, 'rewritten')
     if again.replace(b'\r\n', b'\n') != fixed.replace(b'\r\n', b'\n'):
-        raise Refused("not rewritten: its line ends can't be kept")
+        raise Refused("not rewritten: its line ends can't be kept" if is_cr else "not rewritten: what it begins with can't be kept")
     file.seek(0)
     file.truncate()
     file.write(text)
@@ -124,12 +108,23 @@ def hold_comments(engine, options, text):
 
 
 def write_changed(engine, options, text, file):
-    """Writes the rewritten text to a new file, with the line ends of the script."""
+    """Writes the rewritten text to a new file, with the line ends and the head of the script."""
     status, _, err = engine.run(options['command'], text, out=file)
     if status or err:
         raise refusal(status, err, 'compared' if options['diff'] else 'rewritten')
-    if options['command'] == 'fix' and has_cr(text):
-        with_cr(engine, file)
+    head, is_cr = head_of(text), has_cr(text)
+    if options['command'] == 'fix' and (head or is_cr):
+        keep_form(engine, file, head, is_cr)
+
+
+def cast_in(engine, text):
+    """The first pair of a cast that `unwrap` would take, as a note."""
+    found = casts_of(engine, text, spans_of(engine, text)) if WORD.search(text) else []
+    if not found:
+        return None
+    note = Found(*places_at(text, found[:1])[found[0]], None, CAST)
+    note.is_noted = True
+    return note
 
 
 def differs(file, text):
@@ -141,8 +136,8 @@ def differs(file, text):
 class Rewriter:
     """Rewrites scripts by a command, or says how they would differ."""
 
-    def __init__(self, engine, options, language_for, is_noted=False):
-        self.engine, self.options, self.language_for, self.has_hints, self.is_noted = engine, options, language_for, has_hints(options), is_noted
+    def __init__(self, engine, options, languages, guesses):
+        self.engine, self.options, self.languages, self.guesses = engine, options, languages, guesses
 
     def outcome(self, name, text=None):
         """What comes of a file, or of a text that is as good as one of that name."""
@@ -150,32 +145,41 @@ class Rewriter:
         if text is None and os.path.exists(name) and not os.path.isfile(path):
             raise Refused(f'not {"rewritten" if self.options["write"] else "compared"}: no regular file')
         given, text = text, read(path) if text is None else text
-        language = self.language_for(name)
-        engine = InLanguage(self.engine, language)
+        languages = self.languages.of(name)
         try:
-            hold_comments(engine, self.options, text)
-            return self.replaced(engine, path, text) if self.options['write'] else self.made(engine, name, text, given is not None)
+            return first_reading(languages, lambda it: self.outcome_in(InLanguage(self.engine, it), name, path, text, given is not None))[0]
         except Refused as why:
-            if self.has_hints:
-                add_hint(why.found, text, self.is_noted, language)
-            raise
+            raise self.guesses.add(why, text, languages, lambda it: checked(self.engine, text, language=it)) from None
+
+    def outcome_in(self, engine, name, path, text, is_given):
+        hold_comments(engine, self.options, text)
+        return self.replaced(engine, path, text) if self.options['write'] else self.made(engine, name, text, is_given)
+
+    def cast_in(self, engine, text):
+        """A pair for which a script is left as it is."""
+        return cast_in(engine, text) if self.options['command'] == 'unwrap' and not self.options['drop-casts'] else None
 
     def replaced(self, engine, path, text):
         """Replaces a file by what the program makes of it."""
         with TRACES.new_file(os.path.dirname(path)) as (file, new):
             write_changed(engine, self.options, text, file)
-            is_changed = differs(file, text)
-            if is_changed:
-                os.fsync(file.fileno())
-                replace(path, text, new)
-        return Outcome(is_changed=is_changed)
+            if not differs(file, text):
+                return Outcome()
+            cast = self.cast_in(engine, text)
+            if cast:
+                return Outcome([cast])
+            os.fsync(file.fileno())
+            replace(path, text, new)
+        return Outcome(is_changed=True)
 
     def made(self, engine, name, text, is_given):
         """How a text would differ; or the rewritten text, where there is no file to compare."""
         with TRACES.new_file(None) as (file, new):
             write_changed(engine, self.options, text, file)
+            is_changed = differs(file, text)
+            cast = self.cast_in(engine, text) if is_changed else None
             if self.options['diff'] or not is_given:
-                return Outcome(difference=difference(text, new, name) if differs(file, text) else b'')
+                return Outcome([cast] if cast else None, difference=difference(text, new, name) if is_changed and not cast else b'')
             file.seek(0)
-            rewritten = file.read()
-        return Outcome(is_changed=rewritten != text, rewritten=rewritten)
+            rewritten = text if cast else file.read()
+        return Outcome([cast] if cast else None, is_changed=rewritten != text, rewritten=rewritten)

@@ -18,11 +18,13 @@ MOST_TRIED = 100
 
 
 class Directive:
-    """A comment: its place, the line that it is about, and the rules that it names, or None for all."""
+    """A comment: its place, the line that it is about, the rules that it names, or None for all, and the reason behind `--`."""
 
     def __init__(self, match, starts):
         """`starts` are where the lines of the text begin."""
-        names = [it for it in re.split(r'[\s,]+', match[2].split('--')[0]) if it]
+        named, _, reason = match[2].partition('--')
+        names = [it for it in re.split(r'[\s,]+', named) if it]
+        self.reason = reason.lstrip('-').strip()
         self.line = bisect.bisect_right(starts, match.start())
         self.column = match.start() - starts[self.line - 1] + 1
         self.about, self.names, self.is_used = self.line + (match[1] == 'next-line'), set(names) or None, False
@@ -72,6 +74,6 @@ def suppressed(found, text, fixed):
     for it in found:
         for directive in at_line.get(it.line, ()):
             if directive.turns_off(it):
-                it.is_suppressed = directive.is_used = True
+                it.reasons, directive.is_used = [*it.reasons, *([] if directive.reason in it.reasons else [directive.reason])], True
     more = [fault for it in asked for fault in it.faults()]
     return sorted(found + more, key=lambda it: (it.line, it.column)) if more else found

@@ -7,7 +7,9 @@ from .streams import Wrong, shown
 
 COMMANDS = ('check', 'fix', 'unwrap')
 FORMS = ('unix', 'pretty', 'json', 'sarif', 'junit', 'github')
-FLAGS = ('help', 'version', 'module', 'write', 'diff', 'drop-comments', 'project', 'hints', 'ends', 'suppressions', 'summary')
+FLAGS = (
+    'help', 'version', 'module', 'write', 'diff', 'drop-comments', 'drop-casts', 'project', 'no-ignore', 'allow-none', 'hints', 'ends', 'suppressions', 'summary',
+)
 VALUES = ('format', 'settings', 'jobs', 'files-from', 'stdin', 'color', 'unsupported', 'max-warnings', 'explain', 'edition')
 # Those that `check` alone takes.
 CHECKING = ('format', 'settings', 'color', 'ends', 'suppressions', 'max-warnings', 'explain')
@@ -56,6 +58,10 @@ def judge(options, names):
             raise Wrong(f'--{name} is for {"fix and unwrap" if is_check else "check"}')
     if options['drop-comments'] and command != 'fix':
         raise Wrong('--drop-comments is for fix' + (': unwrap keeps them' if command == 'unwrap' else ''))
+    if options['drop-casts'] and command != 'unwrap':
+        raise Wrong('--drop-casts is for unwrap' + (': fix drops all comments' if command == 'fix' else ''))
+    if options['no-ignore'] and not options['project']:
+        raise Wrong('--no-ignore is for --project: no ignore file is looked for without it')
     if not is_check:
         judge_rewriting(options)
     if options['diff'] and not shutil.which('diff'):

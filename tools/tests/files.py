@@ -46,6 +46,10 @@ def program(room, text, name='program'):
 
 # ---- the form json
 
+# What is said of some rows that the package for Node doesn't say.
+SAID_MORE = {'bad settings are said once': ' (line 1): x = 1: there is no such key'}
+
+
 def put_row(room, name, content):
     os.makedirs(os.path.dirname(room.path(name)), exist_ok=True)
     if isinstance(content, str):
@@ -67,7 +71,7 @@ def eslint_rows(room):
             put_row(alone, name, content)
         status, out, err = files(alone, '--format', 'json', *row['words'])
         wanted = [{**it, 'filePath': f'{alone.folder}/{it["filePath"]}'} for it in row['results']] if 'results' in row else None
-        same((status, err), (row['status'], f'jslint-files: {row["said"]}\n' if 'said' in row else ''), row['what'])
+        same((status, err), (row['status'], f'jslint-files: {row["said"]}{SAID_MORE.get(row["what"], "")}\n' if 'said' in row else ''), row['what'])
         same(json.dumps(json.loads(out)) if out else None, json.dumps(wanted) if wanted is not None else None, row['what'])
         is_well(out.isascii() and out.count('\n') == (wanted is not None), row['what'])
     is_well(len(rows) > 30)
@@ -196,11 +200,12 @@ def settings(room):
     """What is wrong with settings is said once, with their name, and no script is read."""
     for name in ('a.js', 'b.js'):
         room.put(name, WRONG)
-    for name, text, place in [('bad.toml', 'x = 1\n', ''), ('-bad.toml', '[', ' at 1:2'), ('line\nfeed.toml', 'globals = 1', '')]:
+    why = ' (line 1): x = 1: there is no such key'
+    for name, text, place in [('bad.toml', 'x = 1\n', why), ('-bad.toml', '[', ' at 1:2'), ('line\nfeed.toml', 'globals = 1', ' (line 1): globals = 1: it takes an array')]:
         room.put(name, text)
         shown = name.replace('\n', '\\x0a')
         same(files(room, f'--settings={name}', 'a.js', 'b.js', 'none.js'), (2, '', f'jslint-files: {shown}: bad settings{place}\n'))
-    same(files(room, '--settings', 'bad.toml', '--files-from', '-', given=b''), (2, '', 'jslint-files: bad.toml: bad settings\n'))
+    same(files(room, '--settings', 'bad.toml', '--files-from', '-', given=b''), (2, '', f'jslint-files: bad.toml: bad settings{why}\n'))
     same(files(room, '--settings', 'none.toml', 'a.js'), (2, '', 'jslint-files: none.toml: read failed: missing\n'))
 
 

@@ -16,9 +16,10 @@ from recipes import FOUND, KEPT, REFUSED, RIGHT, TOP, UNWRAPPED, WRONG, is_well,
 
 HOOKS, ACTION = '.pre-commit-hooks.yaml', 'action.yml'
 MODULE = 'export {};\n'
-PERHAPS = "syntax error (perhaps: 'export' makes this a module, which --module reads)"
+JSX, PERHAPS = 'x = <a/>;\n', "syntax error (perhaps: JSX isn't ECMAScript)"
+CAST = '/** @type {A} */ globalThis /**/; globalThis.a = /** @type {A} */ (1);\n'
 # What a hook takes from its repository. JSLINT names the program, so that no launcher is asked.
-TAKEN = [HOOKS, 'tools/jslint-files', 'tools/jslint_files', 'packages/npm/lib/hints.json']
+TAKEN = [HOOKS, 'tools/jslint-files', 'tools/jslint_files', 'packages/npm/lib/hints.json', 'share/jslint/jslint.schema.json']
 
 
 def text_of(name):
@@ -54,24 +55,34 @@ def hook_words(room):
         wanted = {'language': 'script', 'types': '[file]', 'exclude_types': '[symlink]', 'args': '[--]', 'require_serial': 'true'}
         same({key: it.get(key) for key in wanted}, wanted)
         is_well(os.access(f'{TOP}/{shlex.split(it["entry"])[0]}', os.X_OK), it)
-        same([bool(re.search(it['files'], name)) for name in ('a.js', 'b/c.js', '-h.js', 'a.mjs', 'a.jsx', 'a.js.txt', 'js', 'a.cjs')], [True] * 4 + [False] * 4)
+        same([bool(re.search(it['files'], name)) for name in ('a.js', 'b/c.js', '-h.js', 'a.mjs', 'a.cjs', 'a.jsx', 'a.js.txt', 'js', 'a.xjs')], [True] * 5 + [False] * 4)
     room.put('jslint.toml', '[rules]\nno-unused-vars = false\n')
     os.makedirs(room.path('.git'))
     names = ['-h.js', 'b.js', 'check']
     for it in names:
         room.put(it, KEPT)
     room.put('m.js', MODULE)
+    room.put('j.js', JSX)
     call = lambda name, *names_, args=None: room.run([*words_of(found[name], args), *names_], **program())
     said = ''.join(f'{it}:2:5: prefer-const \'x\' is never reassigned\n{it}:2:9: no-extra-parens unnecessary parentheses\n' for it in names)
-    same(call('jslint', *names, 'm.js'), (2, f'{said}m.js:1:1: syntax error\n', ''))
+    same(call('jslint', *names, 'm.js', 'j.js'), (2, f'{said}j.js:1:5: syntax error\n', ''))
     # (as the comment at the head of the file says)
     args = re.findall(r'[^\s,]+', re.search(r'`args: \[(.*?)\]`', text_of(HOOKS))[1])
-    same(call('jslint', 'm.js', args=args), (0, f'm.js:1:1: note: {PERHAPS}\n', ''))
+    same(call('jslint', 'j.js', args=args), (0, f'j.js:1:5: note: {PERHAPS}\n', ''))
     same(call('jslint-unwrap', *names), (0, '', ''))
     same([room.text(it) for it in names], [UNWRAPPED] * 3)
-    same(call('jslint-unwrap', 'm.js'), (2, '', 'm.js:1:1: syntax error\n'))
-    room.put('package.json', '{"type": "module"}')
-    same([call(it, 'm.js') for it in found], [(0, '', '')] * 2)
+    same(call('jslint-unwrap', 'j.js'), (2, '', 'j.js:1:5: syntax error\n'))
+    for kind in ('{}', '{"type": "module"}'):
+        room.put('package.json', kind)
+        same([call(it, 'm.js') for it in found], [(0, '', '')] * 2)
+    # (what is ignored stays as it is, also where nothing else is there; so does a script with a cast)
+    room.put('.gitignore', 'vendor\n')
+    room.put('vendor/lib.js', WRONG)
+    room.put('cast.js', CAST)
+    same([call(it, 'vendor/lib.js') for it in found], [(0, '', '')] * 2)
+    same(call('jslint', 'cast.js'), (0, '', ''))
+    same(call('jslint-unwrap', 'vendor/lib.js', 'cast.js', 'm.js'), (0, '', 'cast.js:1:29: note: left as it is: unwrap would take the pair of a cast; --drop-casts permits it\n'))
+    same([room.text(it) for it in ('vendor/lib.js', 'cast.js')], [WRONG, CAST])
 
 
 def by_pre_commit(room):
@@ -85,7 +96,7 @@ def by_pre_commit(room):
     git('add', '.', at='hooks')
     git('commit', '-q', '-m', 'hooks', at='hooks')
     tag = git('rev-parse', 'HEAD', at='hooks')[1].strip()
-    for name, text in [('a.js', KEPT), ('-h.js', WRONG), ('two words.js', WRONG), ('b.mjs', WRONG), ('c.cjs', WRONG), ('jslint.toml', '[rules]\nno-unused-vars = false\nprefer-const = false\n')]:
+    for name, text in [('a.js', KEPT), ('-h.js', WRONG), ('two words.js', WRONG), ('b.mjs', WRONG), ('c.cjs', WRONG), ('vendor/lib.js', WRONG), ('.jslintignore', 'vendor/\n'), ('m.js', MODULE), ('jslint.toml', '[rules]\nno-unused-vars = false\nprefer-const = false\n')]:
         room.put(f'project/{name}', text)
     room.put('project/.pre-commit-config.yaml', f'repos:\n- repo: {room.folder}/hooks\n  rev: {tag}\n  hooks:\n  - id: jslint\n  - id: jslint-unwrap\n')
     git('init', '-q')
@@ -95,10 +106,10 @@ def by_pre_commit(room):
     call = lambda *words: room.run([asked, 'run', '--color', 'never', '--verbose', *words], at='project', **how)
     status, out, _ = call('jslint')
     is_well(status == 1, out)
-    same(sorted(it for it in out.splitlines() if 'js:' in it), sorted(f'{it}: no-extra-parens unnecessary parentheses' for it in ('-h.js:1:9', 'a.js:2:9', 'b.mjs:1:9', 'two words.js:1:9')))
+    same(sorted(it for it in out.splitlines() if 'js:' in it), sorted(f'{it}: no-extra-parens unnecessary parentheses' for it in ('-h.js:1:9', 'a.js:2:9', 'b.mjs:1:9', 'c.cjs:1:9', 'two words.js:1:9')))
     status, out, _ = call('jslint-unwrap')
     is_well(status == 1 and 'files were modified by this hook' in out, out)
-    same([room.text(f'project/{it}') for it in ('a.js', '-h.js', 'two words.js', 'b.mjs', 'c.cjs')], [UNWRAPPED, *['let x = 1;\n'] * 3, WRONG])
+    same([room.text(f'project/{it}') for it in ('a.js', '-h.js', 'two words.js', 'b.mjs', 'c.cjs', 'vendor/lib.js')], [UNWRAPPED, *['let x = 1;\n'] * 4, WRONG])
     git('add', '.')
     same([call()[0], call('--all-files')[0]], [0, 0])
     room.put('project/bad.js', REFUSED)
@@ -111,9 +122,9 @@ def action():
     """The script of the action, and its inputs with what they are without a word."""
     text = text_of(ACTION)
     script = re.search(r'^( +)run: \|\n((?:\1  .*\n|\n)+)', text, re.M)
-    inputs = dict(re.findall(r"^  (\w+):\n    description: .*\n    default: '?(.*?)'?$", text, re.M))
+    inputs = dict(re.findall(r"^  ([\w-]+):\n    description: .*\n    default: '?(.*?)'?$", text, re.M))
     inputs = {name: json.loads(it) if it.startswith('"') else it for name, it in inputs.items()}
-    passed = dict(re.findall(r'^ +([A-Z]+): \$\{\{ inputs\.(\w+) \}\}$', text, re.M))
+    passed = dict(re.findall(r'^ +([A-Z_]+): \$\{\{ inputs\.([\w-]+) \}\}$', text, re.M))
     same(sorted(passed.values()), sorted(inputs))
     # (no input may stand in the script itself, where a shell would read it)
     is_well('${{' not in script[2] and re.search(r'^ +(?:- )?shell: bash$', text, re.M), 'an input in the script')
@@ -126,7 +137,7 @@ def action_script(room):
     text, given = action()
     room.put('script', text)
     room.git('init', '-q')
-    for name, content in [('a.js', KEPT), ('sub/-h.js', WRONG), ('ok.js', RIGHT), ('m.mjs', MODULE), ('m.cjs', MODULE), ('sub/jslint.toml', '[rules]\nprefer-const = false\n'), ('none.toml', '[rules]\nno-unused-vars = false\n')]:
+    for name, content in [('a.js', KEPT), ('sub/-h.js', WRONG), ('ok.js', RIGHT), ('m.mjs', MODULE), ('m.js', MODULE), ('j.cjs', JSX), ('sub/jslint.toml', '[rules]\nprefer-const = false\n'), ('none.toml', '[rules]\nno-unused-vars = false\n')]:
         room.put(name, content)
     room.git('add', '.')
     room.put('untracked.js', WRONG)
@@ -137,21 +148,37 @@ def action_script(room):
 
     note = lambda name, line, it: f'::error file={name},line={line},col={it.split(" ")[0].split(":")[1]},title={it.split(" ")[1]}::{it.split(" ", 2)[2]}\n'
     both = [''.join(note('a.js', 2, it) for it in FOUND), ''.join(note('sub/-h.js', 1, it) for it in FOUND if 'prefer' not in it)]
-    same(call(), (1, ''.join(both), ''))
+    plain = '*.js\n*.mjs'
+    same(call(FILES=plain), (1, ''.join(both), ''))
+    refusal = lambda kind: f'::{kind} file=j.cjs,line=1,col=5,title=jslint::{PERHAPS}\n'
+    same(call(), (2, both[0] + refusal('error') + both[1], ''))
     same(call(FILES='sub/*.js\n\n  \nok.js\n'), (1, both[1], ''))
     same(call(FILES='ok.js'), (0, '', ''))
-    same(call(FILES='no such file'), (0, '', ''))
+    same(call(FILES='no such file'), (2, '', 'jslint-files: no script was looked at; --allow-none lets that pass\n'))
+    same(call(FILES='no such file', ALLOW_NONE='true'), (0, '', ''))
+    same(call(FILES='ok.js', ALLOW_NONE='yes'), (2, '::error title=jslint::the input allow-none is true or false\n', ''))
     same(call(FILES=' \n'), (2, '::error title=jslint::the input files names no pattern\n', ''))
     same(call(FILES='*.mjs'), (0, '', ''))
-    same(call(FILES='*.cjs'), (2, f'::error file=m.cjs,line=1,col=1,title=jslint::{PERHAPS}\n', ''))
-    same(call(FILES='*.cjs', UNSUPPORTED='note'), (0, f'::notice file=m.cjs,line=1,col=1,title=jslint::{PERHAPS}\n', ''))
+    same(call(FILES='*.cjs'), (2, refusal('error'), ''))
+    same(call(FILES='*.cjs', UNSUPPORTED='note'), (0, refusal('notice'), ''))
     same(call(FILES='*.cjs', UNSUPPORTED=''), (2, '', 'jslint-files: --unsupported is error or note\n'))
-    same(call(SETTINGS='none.toml')[1].count('prefer-const'), 2)
+    same(call(FILES=plain, SETTINGS='none.toml')[1].count('prefer-const'), 2)
+    same(call(PROJECT='sub'), (1, both[1].replace('sub/', ''), ''))
+    same(call(PROJECT='none')[:2], (2, '::error title=jslint::there is no folder that the input project names\n'))
+    same(call(FILES=plain, ARGS='--max-warnings\n9\n\n')[0], 0)
+    same(call(FILES='ok.js', ARGS='--nope'), (2, '', 'jslint-files: --nope is no option; a file of that name stands behind --\n'))
+    version = room.run(['jslint', '--version'])[1].split(' ')[1]
+    same(call(FILES='ok.js', VERSION=version), (0, '', ''))
+    same(call(FILES='ok.js', VERSION=version[:-1]), (2, '::error title=jslint::the program has another version than the input version\n', ''))
+    room.put('.jslintignore', 'a.js\n')
+    same(call(FILES=plain), (1, both[1], ''))
+    room.put('.jslintignore', '')
     same(call(SETTINGS='none'), (2, '', 'jslint-files: none: read failed: missing\n'))
     for it in ('$(touch made)', '`touch made`', '"; touch made; "', '--help'):
-        call(FILES=it, SETTINGS=it, UNSUPPORTED=it, SARIF=f'out {it}'.replace('/', ''))
+        call(FILES=it, SETTINGS=it, UNSUPPORTED=it, PROJECT=it, ALLOW_NONE=it, ARGS=it, VERSION=it, SARIF=f'out {it}'.replace('/', ''))
+        call(FILES=it, SETTINGS=it, ARGS=it, SARIF=f'out {it}'.replace('/', ''))
         is_well('made' not in room.names(), it)
-    same(call(SARIF='out.sarif'), (1, ''.join(both), ''))
+    same(call(FILES=plain, SARIF='out.sarif'), (1, ''.join(both), ''))
     found = json.loads(room.text('out.sarif'))
     same((sarif.faults(found), len(found['runs'][0]['results'])), ([], 5))
     same(call(FILES='ok.js', SARIF='/dev/full'), (2, '', 'jslint-files: write failed\n'))

@@ -27,6 +27,8 @@ from jslint_files.rules import RULES  # noqa: E402
 
 BUG, CLEAN, MODULE = 'debugger;\n', 'globalThis.a = 1;\n', 'export {};\n'
 FOUND_BUG = '1:1: no-debugger debugger statement\n'
+NONE = 'jslint-files: no script was looked at'
+REFUSED_MODULE = "m.js:1:1: syntax error (perhaps: 'export' makes this a module, which --module reads)\n"
 RECORD = f'{TOP}/tools/tests/record.sarif'
 
 
@@ -76,16 +78,15 @@ def settings_nearest(room):
 
 
 def settings_refused(room):
-    """Said once, with the name and the line, and no script is read: nothing is reported under other settings."""
+    """Each has a line of its own, with the key, its value and why, and the scripts of all other folders are looked at. The status is 2."""
     repository(room)
     put(room, ['a.js', 'x/b.js', 'x/y/c.js'])
-    place = f'{os.path.realpath(room.folder)}/x/jslint.toml'
     rows = [
-        ('globals = [\n"a"]\nnope = 1\n', 'bad settings (line 3)'), ('x', 'bad settings at 1:2'), ('\xff = 1', 'bad settings at 1:1'), ('allow-null = true\n' * 2, 'bad settings at 2:1'),
-        ('#\n' * 300 + 'x', 'bad settings at 301:2'), ('#\n' * 300 + 'x = 1', 'bad settings (line 301)'), ('x = 1\n' + '#\n' * 300, 'bad settings'), (None, 'read failed: a folder'), ('link', 'read failed: links in a circle'),
-        ('gone', 'read failed: missing'), ('long', 'longer than 16777216 bytes'),
+        ('globals = [\n"a"]\nnope = 1\n', '3:1', 'bad settings: nope = 1: there is no such key'), ('x', '1:2', 'bad settings'), ('\xff = 1', '1:1', 'bad settings'), ('allow-null = true\n' * 2, '2:1', 'bad settings'),
+        ('#\n' * 300 + 'x', '301:2', 'bad settings'), ('#\n' * 300 + 'x = 1', '301:1', 'bad settings: x = 1: there is no such key'), ('x = 1\n' + '#\n' * 300, '1:1', 'bad settings: x = 1: there is no such key'),
+        (None, '1:1', 'read failed: a folder'), ('link', '1:1', 'read failed: links in a circle'), ('gone', '1:1', 'read failed: missing'), ('long', '1:1', 'longer than 16777216 bytes'),
     ]
-    for text, said in rows:
+    for text, place, said in rows:
         room.run(['rm', '-rf', 'x/jslint.toml'], status=0)
         if text is None:
             os.mkdir(room.path('x/jslint.toml'))
@@ -96,32 +97,82 @@ def settings_refused(room):
             os.truncate(room.path('x/jslint.toml'), 100_000_000)
         else:
             room.put('x/jslint.toml', text)
-        same(project(room), (2, '', f'jslint-files: {place}: {said}\n'), repr(text)[:60])
+        line = f'x/jslint.toml:{place}: {said}\n'
+        same(project(room), (2, f'{line}a.js:{FOUND_BUG}', ''), repr(text)[:60])
         # (settings say the language of what is rewritten too)
-        same(project(room, 'unwrap', '--write'), (2, '', f'jslint-files: {place}: {said}\n'), repr(text)[:60])
+        same(project(room, 'unwrap', '--write'), (2, '', line), repr(text)[:60])
+        same(project(room, '--stdin', 'x/new.js', given=b'debugger;'), (2, line, ''))
+        same(project(room, 'unwrap', '--stdin', 'x/new.js', given=b'(a)'), (2, '', line))
     same(project(room, 'a.js'), (1, f'a.js:{FOUND_BUG}', ''))
     same(project(room, 'unwrap', '--write', '--edition', '2020'), (0, '', ''))
 
 
-def ignore_files(room):
-    """Below a folder; a file that is named is checked all the same. Links are followed to no script and no folder, so none goes round in a circle."""
+def settings_refused_in_forms(room):
+    """Each form has the settings that are refused; they are no script, and how many are left for them is counted."""
     repository(room)
-    put(room, ['a.js', 'b.min.js', 'out/c.js', 'node_modules/d/e.js', 'x/f.js', 'x/g.js', 'x/h.mjs', 'x/keep.min.js', 'inner/b.min.js', '.hidden/i.js', 'y.js/j.js'])
+    put(room, ['a.js', 'x/b.js', 'x/c.js', 'y/d.js'], CLEAN)
+    room.put('x/jslint.toml', '# a\nenv = ["browser", "deno"]\n')
+    room.put('y/jslint.toml', '# \u6f22\n\n[rules]\nno-such = true\n')
+    said = ['env has "deno": it takes "browser", "node", "commonjs", "worker", "es2022", "mocha" or "jest"', 'rules.no-such = true: there is no such rule']
+    for form in ('unix', 'pretty', 'json', 'sarif', 'junit', 'github'):
+        status, out, err = project(room, '--format', form, '--summary')
+        same((status, err), (2, '0 reports in 1 script, 3 left for bad settings\n'), form)
+        is_well(all(f'bad settings: {it}' in out.replace('\\"', '"').replace('&quot;', '"') for it in said) and 'x/jslint.toml' in out, out)
+    same([(it['messages'][0]['line'], it['source'][:3]) for it in json.loads(project(room, '--format', 'json')[1])[:2]], [(2, '# a'), (4, '# \u6f22')])
+    same(project(room, '--format', 'github')[1].splitlines()[0].split('::')[1], 'error file=x/jslint.toml,line=2,col=1,title=jslint')
+    run = json.loads(project(room, '--format', 'sarif')[1])['runs'][0]
+    same((run['invocations'][0]['executionSuccessful'], [it['locations'][0]['physicalLocation']['region']['startLine'] for it in run['results']]), (False, [2, 4]))
+    # (seen from elsewhere it has its whole name)
+    same(room.run(['jslint-files', '--project', '../y'], at='x')[1].split(':')[0], f'{os.path.realpath(room.folder)}/y/jslint.toml')
+
+
+# Settings that are refused, and what is said of them.
+UNFIT = [
+    ('nope = 1', 'nope = 1: there is no such key'), ('rules.no-such = true', 'rules.no-such = true: there is no such rule'), ('rules = 1', 'rules = 1: it takes a table'), ('[rules]\nno-var = "on"', 'rules.no-var = "on": it takes true or false'),
+    ('globals = "a"', 'globals = "a": it takes an array'), ('globals = ["a", 1]', 'globals has 1: it takes strings'), ('allow-null = 1', 'allow-null = 1: it takes true or false'), ('edition = 2021', 'edition = 2021: it takes 2020 or 2022'),
+    ('edition = "2022"', 'edition = "2022": it takes 2020 or 2022'), ('edition = 2020.0', 'edition = 2020.0: it takes 2020 or 2022'), ('source-type = "commonjs"', 'source-type = "commonjs": it takes "script" or "module"'),
+    ('edition = 2020\nsource-type = "module"', 'source-type = "module": there are none in edition = 2020'), ('"a\u202e\\n" = 1', 'a\\u{202e}\\x0a = 1: there is no such key'), ('when = 1979-05-27', 'when = "1979-05-27": there is no such key'),
+    ('x = "' + 'a' * 90 + '"', 'x = "' + 'a' * 59 + '\u2026: there is no such key'), ('env = [[1]]\nnope = 1', 'env has [1]: it takes "browser", "node", "commonjs", "worker", "es2022", "mocha" or "jest"'),
+]
+
+
+def settings_unfit(room):
+    """The key, its value and why, also where the words ask for another language, and the line where Python reads no TOML."""
+    room.put('a.js', '')
+    for text, why in UNFIT:
+        room.put('s.toml', text)
+        status, out, err = files(room, '--settings', 's.toml', 'a.js')
+        said = re.fullmatch(r'jslint-files: s\.toml: bad settings(?: \(line (\d+)\))?: (.*)\n', err)
+        same((status, out, said and said[2]), (2, '', why), f'{text} {err}')
+    room.put('s.toml', 'source-type = "script"\n')
+    same(files(room, '--module', '--settings', 's.toml', 'a.js'), (2, '', 'jslint-files: s.toml: bad settings: source-type = "script": --module asks for another language\n'))
+    room.put('s.toml', 'edition = 2020\n')
+    same(files(room, '--edition', '2022', '--settings', 's.toml', 'a.js'), (2, '', 'jslint-files: s.toml: bad settings: edition = 2020: --edition 2022 asks for another language\n'))
+    room.put('old/tomllib.py', 'raise ImportError\n')
+    room.put('s.toml', 'allow-null = true\nenv = ["deno"]\n')
+    same(files(room, '--settings', 's.toml', 'a.js', PYTHONPATH=f'{room.folder}/old'), (2, '', 'jslint-files: s.toml: bad settings (line 2): env = ["deno"]\n'))
+
+
+def ignore_files(room):
+    """Below a folder, and where a file is named. Links are followed to no script and no folder, so none goes round in a circle."""
+    repository(room)
+    put(room, ['a.js', 'b.min.js', 'out/c.js', 'node_modules/d/e.js', 'x/f.js', 'x/g.js', 'x/h.mjs', 'x/i.cjs', 'x/keep.min.js', 'inner/b.min.js', '.hidden/i.js', 'y.js/j.js'])
     room.put('.gitignore', '*.min.js\n/out/\n')
     room.put('x/.jslintignore', 'g.js\n!keep.min.js\n')
     room.put('inner/.git', 'gitdir: elsewhere\n')
     os.symlink('..', room.path('x/up'))
     os.symlink('loop', room.path('x/loop'))
     os.symlink('../a.js', room.path('x/z.js'))
-    all_of = ['.hidden/i.js', 'a.js', 'inner/b.min.js', 'x/f.js', 'x/h.mjs', 'x/keep.min.js', 'y.js/j.js']
+    all_of = ['.hidden/i.js', 'a.js', 'inner/b.min.js', 'x/f.js', 'x/h.mjs', 'x/i.cjs', 'x/keep.min.js', 'y.js/j.js']
+    below = [it for it in all_of if it.startswith('x/')]
     same(names_in(project(room)[1]), all_of)
     same(names_in(project(room, '.')[1]), all_of)
-    same(names_in(project(room, 'x', 'out/c.js', 'x/f.js')[1]), ['x/f.js', 'x/h.mjs', 'x/keep.min.js', 'out/c.js'])
-    same(names_in(project(room, './x/', 'x/up/inner')[1]), ['./x/f.js', './x/h.mjs', './x/keep.min.js', 'x/up/inner/b.min.js'])
-    same(project(room, 'out', 'node_modules/d')[:2], (1, f'node_modules/d/e.js:{FOUND_BUG}'))
+    same(names_in(project(room, 'x', 'out/c.js', 'x/f.js')[1]), below)
+    same(names_in(project(room, './x/', 'x/up/inner')[1]), [*(f'./{it}' for it in below), 'x/up/inner/b.min.js'])
+    same(project(room, 'out', 'node_modules/d'), (2, '', f'{NONE}: 2 names are ignored (--no-ignore looks at them all the same); --allow-none lets that pass\n'))
+    same(project(room, '--no-ignore', 'out', 'node_modules/d')[:2], (1, f'out/c.js:{FOUND_BUG}node_modules/d/e.js:{FOUND_BUG}'))
     same(project(room, 'x/loop', 'none')[1], 'x/loop:1:1: read failed: links in a circle\nnone:1:1: read failed: missing\n')
-    same(names_in(project(room, '--files-from', '-', given=b'x\na.js\n')[1]), ['x/f.js', 'x/h.mjs', 'x/keep.min.js', 'a.js'])
-    same(project(room, '--files-from', '-', given=b''), (0, '', ''))
+    same(names_in(project(room, '--files-from', '-', given=b'x\na.js\nb.min.js\n')[1]), [*below, 'a.js'])
     same(files(room, 'x'), (2, 'x:1:1: read failed: a folder\n', ''))
     room.put('.git/info/exclude', 'f.js\na.js\n')
     room.put('x/.gitignore', '!f.js\n')
@@ -139,20 +190,20 @@ def ignore_as_git(room):
     tool('git')
     room.git('init', '-q')
     chance = random.Random(int(os.environ.get('SEED', '7')))
-    parts = ['a', 'b', 'a.js', 'b.js', '*', '**', '/', '/', '?', '[ab]', '[!a]', '!', '*.js', 'c', '\\', '#', ' ', 'd/', '[[:alpha:]]', 'a*b', '\\!', '[a-b', ']']
-    paths = ['/'.join(filter(None, (one, two, three))) for one in ('a', 'b', 'c', 'a.js', 'ab') for two in ('', 'a', 'b.js', 'c') for three in ('', 'a.js', 'd', '!a') if two or not three]
+    parts = ['a', 'b', 'a.js', 'b.js', '*', '**', '/', '/', '?', '[ab]', '[!a]', '!', '*.js', 'c', '\\', '#', ' ', 'd/', '[[:alpha:]]', 'a*b', '\\!', '[a-b', ']', '\u00e9', '[\u00e9]', '??.js', '***', '[/]', '[^/]', '\\\\ ', '[[:space:]]', '\r']
+    paths = ['/'.join(filter(None, (one, two, three))) for one in ('a', 'b', 'c', 'a.js', 'ab', '\u00e9') for two in ('', 'a', 'b.js', 'c', '\u00e9.js', 'a ') for three in ('', 'a.js', 'd', '!a', '\u00e9') if two or not three]
     differ, tried = [], 0
     for _ in range(int(os.environ.get('ROUNDS', '150'))):
-        lines = '\n'.join(''.join(chance.choice(parts) for _ in range(chance.randint(1, 4))) for _ in range(chance.randint(1, 4)))
+        lines = chance.choice(['', '', '\ufeff']) + '\n'.join(''.join(chance.choice(parts) for _ in range(chance.randint(1, 4))) for _ in range(chance.randint(1, 4)))
         # (git compares what stands before the first wildcard by itself, and takes the `**` of `a**/b` for one at the beginning; gitignore(5) has two stars)
-        if re.search(r'[^/\n]\*\*+/', lines):
+        if re.search(r'[^/\n]\*\*+(/|\\/|$)', lines, re.M):
             continue
         tried += 1
         room.put('.gitignore', lines + '\n')
         wanted = set(filter(None, room.run(['git', 'check-ignore', '--no-index', '-z', '--stdin'], given='\0'.join(paths).encode())[1].split('\0')))
-        patterns = ignoring.patterns_of(lines)
+        patterns = ignoring.patterns_of(lines.encode())
         for it in paths:
-            names = it.split('/')
+            names = ignoring.in_bytes(it).split('/')
             at = [patterns] + [[]] * len(names)
             ignored = any(ignoring.verdict(names[:count], count < len(names), at) for count in range(1, len(names) + 1))
             differ += [(lines, it)] * (ignored != (it in wanted))
@@ -161,20 +212,26 @@ def ignore_as_git(room):
 
 
 def languages(room):
-    """A module is one by its name, by the nearest package.json or by the settings; words go before all of these. `fix` and `unwrap` read it as `check` does."""
+    """A module is one by its name, by the nearest package.json, by the settings or by its text; words go before all of these. `fix` and `unwrap` read it as
+    `check` does."""
     repository(room)
     module, of_2022, base = 'export let a = (1);\n', 'f(async () => (1));\n', 'async = (a);\n'
     room.put('jslint.toml', '[rules]\nno-undef = false\nprefer-const = false\n')
     put(room, ['m.mjs', 'x.js', 'esm/x.js', 'esm/in/x.mjs', 'esm/none/x.js', 'esm/old/x.js', 'esm/old/x.mjs', 'said/x.js', 'both/x.js', 'c.cjs'], module)
     put(room, ['y.js', 'new/y.js', 'esm/y.js'], of_2022)
-    for folder, text in [('esm', '{"type": "module"}'), ('esm/none', '{"name": "none"}'), ('both', '\ufeff{ "type" : "module", "x": [{}] }'), ('new', '{"type": ["module"]}')]:
+    put(room, ['cjs/x.js', 'cjs/y.cjs', 'cjs/z.mjs'], module)
+    put(room, ['cjs/y.js', 'esm/y.cjs', 'esm/old/y.cjs', 'said/y.cjs'], of_2022)
+    for folder, text in [('esm', '{"type": "module"}'), ('esm/none', '{"name": "none"}'), ('both', '\ufeff{ "type" : "module", "x": [{}] }'), ('new', '{"type": ["module"]}'), ('cjs', '{"type": "commonjs"}')]:
         room.put(f'{folder}/package.json', text)
     for folder, text in [('esm/old', 'source-type = "script"'), ('said', 'source-type = "module"'), ('new', 'edition = 2022'), ('both', 'edition = 2022')]:
         room.put(f'{folder}/jslint.toml', f'{text}\nrules = {{ no-undef = false, prefer-const = false }}\n')
-    pair = lambda it: f'{it}:1:{"15" if it.endswith("y.js") else "16"}: no-extra-parens unnecessary parentheses\n'
-    refused = lambda it: f'{it}:1:{"12" if it.endswith("y.js") else "1"}: syntax error\n'
-    verdicts = {'both/x.js': pair, 'esm/in/x.mjs': pair, 'esm/none/x.js': refused, 'esm/old/x.js': refused, 'esm/old/x.mjs': refused, 'esm/x.js': pair, 'esm/y.js': pair, 'm.mjs': pair, 'new/y.js': pair,
-                'said/x.js': pair, 'x.js': refused, 'y.js': refused}
+    is_2022 = lambda it: '/y.' in f'/{it}' and it != 'cjs/y.cjs'
+    pair = lambda it: f'{it}:1:{"15" if is_2022(it) else "16"}: no-extra-parens unnecessary parentheses\n'
+    why = {True: '12: syntax error (perhaps: async functions, which --edition 2022 and --module read)', False: "1: syntax error (perhaps: 'export' makes this a module, which --module reads)"}
+    refused = lambda it: f'{it}:1:{why[is_2022(it)]}\n'
+    verdicts = {'both/x.js': pair, 'c.cjs': refused, 'cjs/x.js': refused, 'cjs/y.cjs': refused, 'cjs/y.js': pair, 'cjs/z.mjs': pair, 'esm/in/x.mjs': pair, 'esm/none/x.js': pair, 'esm/old/x.js': refused,
+                'esm/old/x.mjs': refused, 'esm/old/y.cjs': pair, 'esm/x.js': pair, 'esm/y.cjs': pair, 'esm/y.js': pair, 'm.mjs': pair, 'new/y.js': pair, 'said/x.js': pair, 'said/y.cjs': pair, 'x.js': pair,
+                'y.js': pair}
     same(project(room), (2, ''.join(say(it) for it, say in verdicts.items()), ''))
     # (without --project nothing is looked for but the name)
     same(files(room, 'm.mjs', 'esm/x.js', 'c.cjs', '--settings', 'jslint.toml'), (2, pair('m.mjs') + refused('esm/x.js') + refused('c.cjs'), ''))
@@ -182,9 +239,18 @@ def languages(room):
     same(files(room, '--settings', 'esm/old/jslint.toml', 'm.mjs'), (2, refused('m.mjs'), ''))
     same(project(room, 'esm/y.js', 'm.mjs', '--edition', '2020'), (2, refused('esm/y.js') + refused('m.mjs'), ''))
     same(project(room, 'x.js', 'y.js', '--module'), (1, pair('x.js') + pair('y.js'), ''))
-    same(files(room, '--edition=2022', 'y.js', 'm.mjs', '--settings', 'jslint.toml'), (2, pair('y.js') + refused('m.mjs'), ''))
-    same(files(room, '--module', '--settings', 'esm/old/jslint.toml', 'x.js'), (2, '', 'jslint-files: esm/old/jslint.toml: bad settings\n'))
+    # (2022 means the same as a word and in settings: scripts and modules)
+    same(files(room, '--edition=2022', 'y.js', 'm.mjs', 'x.js', '--settings', 'jslint.toml'), (2, pair('y.js') + pair('m.mjs') + refused('x.js'), ''))
+    same(files(room, 'y.js', 'm.mjs', 'x.js', '--settings', 'new/jslint.toml'), (2, pair('y.js') + pair('m.mjs') + refused('x.js'), ''))
+    same(files(room, '--edition=2022', 'x.js', '--settings', 'said/jslint.toml'), (1, pair('x.js'), ''))
+    names = ['y.js', 'm.mjs', 'x.js', 'esm/x.js', 'cjs/x.js']
+    told = ''.join(map(pair, names[:-1])) + refused('cjs/x.js')
+    same([project(room, *names, *it) for it in (['--edition', '2022'], ['--edition', '2022', '--settings', 'jslint.toml'], ['--settings', 'new/jslint.toml'])], [(2, told, '')] * 3)
+    same(project(room, 'unwrap', '--diff', '--edition', '2022', 'm.mjs', 'x.js')[0::2], (1, ''))
+    same(files(room, '--module', '--settings', 'esm/old/jslint.toml', 'x.js')[::2], (2, 'jslint-files: esm/old/jslint.toml: bad settings: source-type = "script": --module asks for another language\n'))
     same(project(room, '--stdin', 'esm/new.js', given=module.encode()), (1, pair('esm/new.js'), ''))
+    same(project(room, '--stdin', 'new.js', given=module.encode()), (1, pair('new.js'), ''))
+    same(project(room, 'unwrap', '--stdin', 'new.js', given=module.encode()), (0, module.replace('(1)', '1'), ''))
     same(files(room, 'unwrap', '--stdin', 'new.mjs', given=module.encode()), (0, module.replace('(1)', '1'), ''))
     for command in ('fix', 'unwrap'):
         status, out, err = project(room, command, '--diff')
@@ -199,18 +265,41 @@ def languages(room):
     same([files(room, *words, 'base.js')[0] for words in ([], ['--edition', '2020'], ['--edition', '2022'], ['--module'])], [1, 1, 1, 1])
 
 
+# Texts in a project, without settings: the language that each is read in, which a report or a refusal tells. `<!--` and all three: what is base stays base.
+BY_TEXT = [
+    ('await (1);', "1:1: no-undef 'await' is not defined"), ('let x = await 2; f(x, (x));', "1:18: no-undef 'f' is not defined"), ('import.meta; (1);', '1:14: no-extra-parens unnecessary parentheses'),
+    ('async () => { (1) }', '1:15: no-extra-parens unnecessary parentheses'), ('export {}; f(;', '1:14: syntax error'), ('import a from "a";\nlet a;', '2:5: early error E3'), ('function f() {} function f() {} f(); a b', '1:40: syntax error'),
+    ('export {}; async () => { a b }', '1:28: syntax error'), ('x => { async () => { a b } }', '1:24: syntax error'), ('var await; @', '1:12: syntax error'), ('import("a"); a b', '1:16: syntax error'), ('import "a"; delete a;', '1:13: early error E2'),
+    ('export {}; ' + '[' * 700 + ']' * 700, '1:1: nested too deep'), ('export {}; return', '1:12: syntax error'), ('/a/d; (1)', '1:7: no-extra-parens unnecessary parentheses'), ('a #b', '1:3: syntax error'),
+]
+
+
+def languages_by_text(room):
+    """The first language counts that has a text; a refusal is that of the one that got furthest. It is the same for `unwrap`."""
+    repository(room)
+    for number, (text, found) in enumerate(BY_TEXT):
+        room.put('a.js', text)
+        status, out, err = project(room, 'a.js')
+        is_well(f'a.js:{found}\n' in out and err == '', f'{text[:50]} {out} {err}')
+        is_refused = 'error' in found or 'deep' in found
+        same((status, out.count('\n') > 0), (2 if is_refused else 1, True), text[:50])
+        if is_refused:
+            same(project(room, 'unwrap', '--diff', 'a.js'), (2, '', f'a.js:{found}\n'), text[:50])
+
+
 def first_lines(room):
-    """A line of `#!` is a comment, which `unwrap` keeps, and `fix` drops only where that is asked for; comments turn reports off in modules too."""
+    """A line of `#!` stays; comments turn reports off in modules too."""
     repository(room)
     text = '#!/usr/bin//env node\r\nexport let a = (1); // b\r\n'
     for name, it in [('a.mjs', text), ('b.mjs', '#!/usr/bin/env node\nexport let a = (1);\n'), ('c.mjs', '#!\u2028/* a */ export let a = (1);\n')]:
         room.put(name, it)
     lost = 'not rewritten: fix drops {}; --drop-comments permits it, and unwrap keeps comments\n'
-    same(files(room, 'fix', '--write', 'a.mjs', 'b.mjs', 'c.mjs'), (2, '', ''.join(f'{name}.mjs:1:1: {lost.format(it)}' for name, it in [('a', '2 comments'), ('b', 'a comment'), ('c', '2 comments')])))
+    same(files(room, 'fix', '--write', 'a.mjs', 'b.mjs', 'c.mjs'), (2, '', ''.join(f'{name}.mjs:2:{at}: {lost.format("a comment")}' for name, at in [('a', 21), ('c', 1)])))
+    same(room.text('b.mjs'), '#!/usr/bin/env node\nexport let a = 1;\n')
     same(files(room, 'unwrap', '--write', 'a.mjs'), (0, '', ''))
     same(room.text('a.mjs'), text.replace('(1)', '1'))
-    same(files(room, 'fix', '--write', '--drop-comments', 'a.mjs', 'b.mjs'), (0, '', ''))
-    same([room.text(it) for it in ('a.mjs', 'b.mjs')], ['export let a = 1;\r\n', 'export let a = 1;\n'])
+    same(files(room, 'fix', '--write', '--drop-comments', 'a.mjs', 'b.mjs', 'c.mjs'), (0, '', ''))
+    same([room.text(f'{it}.mjs') for it in 'abc'], ['#!/usr/bin//env node\r\nexport let a = 1;\r\n', '#!/usr/bin/env node\nexport let a = 1;\n', '#!\nexport let a = 1;\n'])
     room.put('d.mjs', '#!a\ndebugger; // jslint-disable-line\nexport {};\n')
     same(files(room, '--suppressions', 'd.mjs'), (0, '', ''))
     room.put('d.js', room.text('d.mjs'))
@@ -222,8 +311,8 @@ def first_lines(room):
 
 def no_pattern_takes_long(_):
     begun = time.process_time()
-    for line in ('*a' * 60 + 'b', '/'.join(['**', '*a'] * 60), '/' + '**/' * 200 + 'b'):
-        patterns, names = ignoring.patterns_of(line), ['a' * 200] * 8
+    for line in ('*a' * 60 + 'b', '/'.join(['**', '*a'] * 60), '/' + '**/' * 200 + 'b', 'a b' + '\\ ' * 20000 + 'c', 'a' + ' ' * 40000 + 'b'):
+        patterns, names = ignoring.patterns_of(line.encode()), ['a' * 200] * 8
         is_well(patterns and not ignoring.verdict(names, False, [patterns] + [[]] * 8), line[:20])
     is_well(time.process_time() - begun < 20)
 
@@ -279,15 +368,17 @@ def recipe(room):
     """The commands of docs/USAGE.md as they stand in the page."""
     repository(room)
     put(room, ['src/a.js', 'b.js', 'src/out/c.js'], 'let x = (1); // kept\n')
-    room.put('src/m.js', MODULE)
+    room.put('src/m.js', 'export default (1);\n')
     room.put('.gitignore', 'out\n')
     room.put('src/jslint.toml', 'rules = { no-unused-vars = false, prefer-const = false }\n')
-    pair, module = 'src/a.js:1:9: no-extra-parens unnecessary parentheses\n', "syntax error (perhaps: 'export' makes this a module, which --module reads)\n"
+    room.put('src/j.js', 'x = <a/>;\n')
+    pair, jsx = 'src/a.js:1:9: no-extra-parens unnecessary parentheses\n', "src/j.js:1:5: {}syntax error{}\n"
     first, second, third = recipes.block('A project', 'sh').splitlines()
-    same(room.sh(first), (1, f'{pair}src/m.js:1:1: note: {module}', '1 report in 2 scripts, 1 with what the profile lacks: 1 no-extra-parens\n'))
+    module = 'src/m.js:1:16: no-extra-parens unnecessary parentheses\n'
+    same(room.sh(first), (1, pair + jsx.format('note: ', " (perhaps: JSX isn't ECMAScript)") + module, '2 reports in 3 scripts, 1 with what the profile lacks: 2 no-extra-parens\n'))
     same(room.sh(third), (1, pair, ''))
-    same(room.sh(second), (2, '', 'src/m.js:1:1: syntax error\n'))
-    same([room.text(it) for it in ('src/a.js', 'b.js', 'src/out/c.js')], ['let x = 1; // kept\n'] * 2 + ['let x = (1); // kept\n'])
+    same(room.sh(second), (2, '', jsx.format('', '')))
+    same([room.text(it) for it in ('src/a.js', 'b.js', 'src/m.js', 'src/out/c.js')], ['let x = 1; // kept\n'] * 2 + ['export default 1;\n', 'let x = (1); // kept\n'])
     same(room.sh(third), (0, '', ''))
 
 
@@ -574,7 +665,7 @@ def hint_rows(room):
         found.update((it['filePath'].rsplit('/', 1)[1], it['messages']) for it in json.loads(files(room, '--format', 'json', '--hints', *words, *names)[1]))
     for number, it in enumerate(rows):
         fatal = [each for each in found[f'{number}.js'] if each.get('fatal')]
-        row = hints.hint_of(it['text'], fatal[0]['message'], fatal[0]['line'], len(it['text'].encode('utf-16-le')) and column_of(it['text'], fatal[0]), it.get('language')) if fatal else {'id': 'accepted', 'hint': None}
+        row = hints.hint_of(it['text'], fatal[0]['message'], fatal[0]['line'], len(it['text'].encode('utf-16-le')) and column_of(it['text'], fatal[0]), [it.get('language')]) if fatal else {'id': 'accepted', 'hint': None}
         same(row and row.get('id', row.get('number')), it['id'], it['text'])
         is_well(not fatal or fatal[0].get('hint') == (row and row['hint']), it['text'])
     is_well(len(rows) > 80)
@@ -604,8 +695,7 @@ def unsupported(room):
     """A script with what the profile lacks needn't fail anything; one with a fault does."""
     put_odd(room)
     module = "m.js:1:1: {}syntax error (perhaps: 'export' makes this a module, which --module reads)\n"
-    same(files(room, 'm.js', 'ok.js'), (2, 'm.js:1:1: syntax error\n', ''))
-    same(files(room, '--hints', 'm.js'), (2, module.format(''), ''))
+    same([files(room, *it, 'm.js', 'ok.js') for it in ([], ['--hints'])], [(2, module.format(''), '')] * 2)
     same(files(room, '--unsupported', 'error', 'm.js'), (2, module.format(''), ''))
     same(files(room, '--unsupported', 'note', 'm.js', 'ok.js'), (0, module.format('note: '), ''))
     for command in ('fix', 'unwrap'):
@@ -620,6 +710,18 @@ def unsupported(room):
     room.put('bad.js', 'a b')
     room.put('open.js', 'f(a')
     same([files(room, '--unsupported', 'note', it)[0] for it in ('bad.js', 'open.js', 'none.js')], [2, 2, 2])
+    # (a fault in a language that is read here is none of what the profile lacks; nor is a guess that this language doesn't bear out)
+    faults = [('import a from "a";\nf(;\n', '2:3: syntax error'), ('async () => 1;\nlet b, b;\n', '2:8: early error E3'), ('x = #a;\n', '1:5: syntax error'), ('export {}; f(a', '1:15: syntax error (perhaps: the text ends too early: something is still open)')]
+    for text, said in faults:
+        room.put('bad.js', text)
+        same(files(room, '--unsupported', 'note', 'bad.js', 'ok.js'), (2, f'bad.js:{said}\n', ''), text)
+        same(files(room, 'unwrap', '--diff', '--unsupported', 'note', 'bad.js', 'ok.js'), (2, '', f'bad.js:{said}\n'), text)
+    notes = [('import a from "a";\nx = <a/>;\n', "2:5: note: syntax error (perhaps: JSX isn't ECMAScript)"), ('async () => 1;\n', '1:10: note: syntax error (perhaps: async functions, which --edition 2022 and --module read)')]
+    for text, said in notes:
+        room.put('jsx.js', text)
+        same(files(room, '--unsupported', 'note', 'jsx.js', 'ok.js'), (0, f'jsx.js:{said}\n', ''), text)
+    room.put('base.toml', 'edition = 2020\n')
+    same(files(room, '--unsupported', 'note', '--settings', 'base.toml', 'm.js'), (0, module.format('note: '), ''))
     room.put('latin.js', '')
     with open(room.path('latin.js'), 'wb') as file:
         file.write(b'a = "\xe9"; export {}')
@@ -667,7 +769,7 @@ def counts(room):
     same(files(room, '--summary', '--suppressions', 's.js')[2], '0 reports in 1 script, 1 turned off by comments\n')
     same(files(room, 'unwrap', '--diff', '--summary', 'a.js')[2], '0 of 1 script to be rewritten\n')
     room.put('w.js', WRONG)
-    same(files(room, 'unwrap', '--write', '--summary', 'a.js', 'w.js', 'm.js')[2], 'm.js:1:1: syntax error\n1 of 3 scripts rewritten, 1 refused\n')
+    same(files(room, 'unwrap', '--write', '--summary', 'a.js', 'w.js', 'm.js')[2], f'{REFUSED_MODULE}1 of 3 scripts rewritten, 1 refused\n')
 
 
 def explained(room):
@@ -803,6 +905,6 @@ def works(process):
 
 
 TESTS = [
-    settings_nearest, settings_refused, ignore_files, ignore_as_git, languages, first_lines, no_pattern_takes_long, odd_folders, unpermitted, recipe, standard_input, words, gone_folder, streams, long_files, form_pretty, progress, form_junit,
+    settings_nearest, settings_refused, settings_refused_in_forms, settings_unfit, ignore_files, ignore_as_git, languages, languages_by_text, first_lines, no_pattern_takes_long, odd_folders, unpermitted, recipe, standard_input, words, gone_folder, streams, long_files, form_pretty, progress, form_junit,
     form_json_ends, ends_unknown, ends_time, form_sarif, sarif_check, hint_rows, hint_time, unsupported, suppressions, counts, explained, library_and_program, which_library, no_build, shared_library, too_long_for_memory, interrupted,
 ]

@@ -131,6 +131,15 @@ def each_is_tried(_):
     same({it: [language for language, _ in blocks(it)] for it in re.findall('^### (.*)$', PAGE.partition('\n## Recipes\n')[2], re.M)}, TRIED)
 
 
+def each_has_project(_):
+    """No recipe calls `jslint-files` without --project: it would read modules as scripts, and look at ignored files."""
+    page = PAGE.partition('\n## Recipes\n')[2]
+    calls = re.findall(r'jslint-files(?:\\ |"|[^`\n|])*', ''.join(text for language, text in re.findall(r'^```(\w+)\n(.*?)^```$', page, re.M | re.S)))
+    calls += re.findall(r'`M-[x!] [^`]*(jslint-files[^`]*)`', page)
+    is_well(len(calls) > 14, calls)
+    same([it for it in calls if '--project' not in it], [])
+
+
 def readme_examples(room):
     os.symlink(f'{BIN}/jslint', room.path('jslint'))
     with open(f'{TOP}/README.md', encoding='utf-8') as file:
@@ -246,6 +255,27 @@ def folder(room):
     status, _, err = room.sh(text)
     is_well(status == 2 and err == 'src/bad\\x0a::error::x.js:2:1: syntax error\n', f'{status} {err!r}')
     same((room.text('src/bad\n::error::x.js'), room.text('src/a.js'), room.names('src')), (REFUSED, 'let x = 1;\n', ['a.js', 'bad\n::error::x.js', 'deep']))
+    put_modules(room, 'src/')
+    os.unlink(room.path('src/bad\n::error::x.js'))
+    same(room.sh(text), (0, '', ''))
+    same_modules(room, 'src/')
+
+
+# Scripts of each language, by names, and what is left of them by `unwrap` and `fix`; one that is ignored stays as it is.
+MODULES = {'m.js': ('export default (1);\n', 'export default 1;\n'), 'n.mjs': ('import "a"; (1);\n', 'import "a"; 1;\n'),
+           'o.cjs': ('globalThis.a = (async () => 1);\n', 'globalThis.a = async () => 1;\n'), 'vendor/p.js': ('(1);\n', '(1);\n')}
+
+
+def put_modules(room, folder):
+    for name, (text, _) in MODULES.items():
+        room.put(f'{folder}{name}', text)
+    room.put('.jslintignore', 'vendor\n')
+
+
+def same_modules(room, folder, is_changed=True):
+    """Whether each module was rewritten, and what is ignored not. (`fix` writes a statement a line)"""
+    flat = lambda it: it.replace('; ', ';\n')
+    same({it: flat(room.text(f'{folder}{it}')) for it in MODULES}, {it: flat(texts[is_changed]) for it, texts in MODULES.items()})
 
 
 def many_files(room):
@@ -263,6 +293,15 @@ def many_files(room):
     room.put('src/deep/b.js', KEPT)
     same(room.sh(block('Many files', 'sh', 1)), (0, '', ''))
     same([room.text(it) for it in ('src/a.js', 'src/deep/b.js', 'c.js')], ['let x = 1;\n', UNWRAPPED, WRONG])
+    put_modules(room, 'src/')
+    room.git('add', '-f', '.')
+    _, out, err = room.sh(block('Many files', 'sh'))
+    *lines, last = out.splitlines()
+    same(([it for it in lines if '/m.js' in it or 'vendor' in it], err), (['src/m.js:1:16: no-extra-parens unnecessary parentheses'], ''))
+    found = {os.path.basename(it['filePath']): [each['ruleId'] for each in it['messages']] for it in json.loads(last)}
+    same([found.get(os.path.basename(it)) for it in MODULES], [['no-extra-parens']] * 3 + [None])
+    same(room.sh(block('Many files', 'sh', 1)), (0, '', ''))
+    same([room.text(f'src/{it}') for it in ('m.js', 'vendor/p.js')], ['export default 1;\n', '(1);\n'])
 
 
 def redirections(room):
@@ -318,7 +357,8 @@ def statuses(room):
         is_well(status == 2 and not out and err.startswith('jslint-files: ') and err.count('\n') == 1, f'{words} {status} {out} {err}')
     same(call('none*.js'), (2, 'none*.js:1:1: read failed: missing\n', ''))
     same(call('--files-from', '-', given=b'a.js\ngood.js\n')[1].count('\n'), 3)
-    same(call('--files-from', '-', given=b''), (0, '', ''))
+    same(call('--files-from', '-', given=b''), (2, '', 'jslint-files: no script was looked at; --allow-none lets that pass\n'))
+    same(call('--allow-none', '--files-from', '-', given=b''), (0, '', ''))
     many = [f'{it:03}.js' for it in range(60)]
     for it in many:
         room.put(it, WRONG if int(it[:3]) % 2 else REFUSED)
@@ -465,6 +505,18 @@ def git_hook(room):
         room.git('rm', '-q', '--cached', '--', name)
     room.git('rm', '-q', '-f', 'a.js')
     room.git('commit', '-q', '-m', 'gone')
+    # modules, by their text, their names and package.json; ignored files that are committed all the same
+    room.put('jslint.toml', 'rules = { no-extra-parens = false }\n')
+    put_modules(room, 'src/')
+    room.put('vendor/lib.js', 'debugger;')
+    room.put('esm/package.json', '{"type": "module"}')
+    room.put('esm/q.js', 'await 1;\n')
+    room.git('add', '-f', 'jslint.toml', '.jslintignore', 'src', 'vendor', 'esm')
+    same(room.run(['git', 'commit', '-q', '-m', 'modules']), (0, '', ''))
+    room.put('src/m.js', 'export default 1;\ndebugger;\n')
+    room.git('add', 'src')
+    status, out, err = room.run(['git', 'commit', '-q', '-m', 'wrong'])
+    same((status, out + err), (1, './src/m.js:2:1: no-debugger debugger statement\n'))
 
 
 def git_rewritten(room):
@@ -482,6 +534,15 @@ def git_rewritten(room):
     room.put('src/a.js', REFUSED)
     same(room.sh(text), (2, '', 'src/a.js:2:1: syntax error\n'))
     same([room.text(it) for it in ('-h.js', 'src/a.js', 'known.js', 'gone.js')], [UNWRAPPED, REFUSED, KEPT, KEPT])
+    room.git('rm', '-q', '-f', '--cached', 'src/a.js')
+    put_modules(room, '')
+    room.git('add', '-f', *MODULES)
+    same(room.sh(text), (0, '', ''))
+    same_modules(room, '')
+    # (all that is staged is ignored)
+    room.git('rm', '-q', '-r', '-f', '--cached', '.')
+    room.git('add', '-f', 'vendor')
+    same(room.sh(text), (0, '', ''))
 
 
 def make(room):
@@ -501,6 +562,8 @@ def make(room):
     same(room.text('build/b.js'), 'x = 1;\n')
     room.put('src/d.js', 'let x = `(\r\n`; (x);\r\n')
     same((run('fixed')[0], room.text('build/d.js')), (0, 'let x = `(\r\n`;\r\nx;\r\n'))
+    room.put('src/m.js', MODULES['m.js'][0])
+    same((run('fixed')[0], room.text('build/m.js')), (0, MODULES['m.js'][1]))
     room.put('src/c.js', REFUSED)
     is_well(run('fixed')[0] != 0)
     is_well(not any(it.startswith('c.js') for it in room.names('build')), 'of a refused script something stays')
@@ -514,6 +577,10 @@ def github(room):
     line = re.search(r'^ +- run: (.*)$', block('GitHub Actions', 'yaml'), re.M)[1]
     status, out, err = room.sh(line)
     same((status, out.splitlines()[2], err), (1, '::error file=a.js,line=1,col=9,title=no-extra-parens::unnecessary parentheses', ''))
+    put_modules(room, 'src/')
+    room.git('add', '-f', '.')
+    status, out, err = room.sh(line)
+    same((status, err, re.findall(r'^::error file=src/(.*?),.*title=(.*?)::', out, re.M)), (1, '', [(it, 'no-extra-parens') for it in MODULES if 'vendor' not in it]))
 
 
 def vim_patterns(text):
@@ -558,8 +625,8 @@ def editors(room):
         _, out, err = room.sh(words)
         first = next(filter(None, (re.fullmatch(it, (out + err).splitlines()[0]) for it in vim_patterns(alone))))
         same(tuple(first.groupdict().get(it) for it in 'lcm'), wanted)
-    program = re.search(r'^set makeprg=(.*)$', many, re.M)[1]
-    lines = room.run([program, 'src/a.js', 'bad.js'])[1].splitlines()
+    program = re.search(r'^set makeprg=(.*)$', many, re.M)[1].replace('\\ ', ' ').split(' ')
+    lines = room.run([*program, 'src/a.js', 'bad.js'])[1].splitlines()
     same([re.fullmatch(vim_patterns(many)[0], it).group('f', 'l', 'c') for it in lines], [('src/a.js', '1', '5')] * 2 + [('src/a.js', '1', '9'), ('bad.js', '2', '1')])
     # (`gnu` in compilation-error-regexp-alist-alist)
     same([re.match(r'([^ \n:][^\n:]*):(\d+):(\d+): ', it).groups() for it in lines], [('src/a.js', '1', '5')] * 2 + [('src/a.js', '1', '9'), ('bad.js', '2', '1')])
@@ -597,6 +664,6 @@ def pages(room):
 
 
 TESTS = [
-    examples, readme_examples, each_is_tried, settings_example, standard_input, in_place, in_place_endings, with_cr, folder, many_files, redirections, statuses, rewritten, rewritten_odd,
+    examples, readme_examples, each_is_tried, each_has_project, settings_example, standard_input, in_place, in_place_endings, with_cr, folder, many_files, redirections, statuses, rewritten, rewritten_odd,
     gone, forged_names, shown_progress, git_hook, git_rewritten, make, github, editors, editors_rewrite, pages,
 ]

@@ -1,0 +1,129 @@
+"""Why settings are refused: the place or the line, the key and its value. The program says no more than `bad settings` of TOML that doesn't fit."""
+import json
+import os
+
+from .languages import LEFT
+from .outcomes import PLACED, Refused, said
+from .streams import escaped
+
+HERE = os.path.dirname(os.path.realpath(__file__))
+# The schema of the settings: where `make install` puts it, and where it is in the repository.
+PLACES = (f'{HERE}/../jslint.schema.json', f'{HERE}/../../share/jslint/jslint.schema.json')
+# How many lines of refused settings are taken away one by one, and of how long ones; how much of a line or a value is shown.
+MOST_LINES, MOST_PLACED, MOST_SHOWN = 200, 1 << 16, 60
+# Longer ones aren't read here.
+MOST_READ = 1 << 20
+WORDS = {'2020': '--edition 2020', '2022': '--edition 2022', 'module': '--module'}
+
+
+class Unfit(Refused):
+    """Refused settings: what is found in them, and how a line says it that begins with their name."""
+
+    def __init__(self, text, line, column, words):
+        super().__init__(text, line, column)
+        self.words = words
+
+
+def judge_settings(engine, text, asked):
+    """Refuses settings that no language takes which the words leave."""
+    refusals = [engine.run('check', b'', text, language=it) for it in (LEFT[asked] if asked else (None,))]
+    if not all(status for status, _, _ in refusals):
+        return
+    status, _, err = refusals[0]
+    words = said(status, err, 'checked')
+    at = PLACED.fullmatch(words)
+    if at:
+        raise Unfit(at[1], at[2], at[3], words)
+    if words != 'bad settings':
+        raise Unfit(words, 1, 1, words)
+    is_taken = lambda it: engine.run('check', b'', it)[0] == 0
+    line = line_of_fault(is_taken, text)
+    why = fault_of(text) or (unasked(text, asked) if asked and is_taken(text) else '') or shown_line(text, line)
+    more = f': {why}' if why else ''
+    raise Unfit(f'{words}{more}', line or 1, 1, f'{words}{f" (line {line})" if line else ""}{more}')
+
+
+def line_of_fault(is_taken, text):
+    """Behind how many lines settings are wrong: the most lines from the first on that are taken, as far as few enough calls tell that."""
+    lines = text.split(b'\n') if len(text) <= MOST_PLACED and not is_taken(text) else []
+    for count in range(len(lines) - 1, max(len(lines) - MOST_LINES, 0) - 1, -1):
+        if is_taken(b'\n'.join(lines[:count])):
+            return count + 1
+    return None
+
+
+def cut(text):
+    return escaped(text if len(text) <= MOST_SHOWN else f'{text[:MOST_SHOWN]}…')
+
+
+def shown_line(text, line):
+    return cut(text.split(b'\n')[line - 1].decode(errors='replace').strip()) if line else ''
+
+
+# ---- the key and the value, by the schema
+
+def schema():
+    path = next(filter(os.path.exists, PLACES), None)
+    if path is None:
+        return None
+    with open(path, encoding='utf-8') as file:
+        return json.load(file)
+
+
+def read_toml(text):
+    """Settings as a dictionary; None where this Python reads no TOML, or not these."""
+    try:
+        import tomllib
+        return tomllib.loads(text.decode()) if len(text) <= MOST_READ else None
+    except (ImportError, ValueError, RecursionError):
+        return None
+
+
+def fault_of(text):
+    """The first key that doesn't fit, with its value and why; nothing where that isn't known."""
+    table, settings = schema(), read_toml(text)
+    return next(faults(table, settings), '') if table and settings else ''
+
+
+def in_toml(value):
+    """A value as TOML has it, as far as JSON has it so."""
+    return cut(json.dumps(value, ensure_ascii=False, default=str))
+
+
+def listed(values):
+    *most, last = map(in_toml, values)
+    return f'{", ".join(most)} or {last}' if most else last
+
+
+def faults(table, value, key=''):
+    """What the schema's tables say against a value, in the order of the file."""
+    if table.get('type') == 'object' and isinstance(value, dict):
+        known = table['properties']
+        for name, each in value.items():
+            below = f'{key}.{name}' if key else name
+            yield from faults(known[name], each, below) if name in known else [f'{cut(below)} = {in_toml(each)}: there is no such {"rule" if key else "key"}']
+        if not key and value.get('edition') == 2020 and value.get('source-type') == 'module':
+            yield 'source-type = "module": there are none in edition = 2020'
+    elif table.get('type') == 'array' and isinstance(value, list):
+        wanted = table['items']
+        yield from (f'{key} has {in_toml(it)}: it takes {listed(wanted["enum"]) if "enum" in wanted else "strings"}' for it in value if not fits(wanted, it))
+    elif not fits(table, value):
+        yield f'{key} = {in_toml(value)}: it takes {wish_of(table)}'
+
+
+def fits(table, value):
+    """Whether a value is one of those that the schema lists, or of the type that it names."""
+    if 'enum' in table:
+        return any(type(it) is type(value) and it == value for it in table['enum'])
+    return isinstance(value, {'boolean': bool, 'string': str}.get(table['type'], ()))
+
+
+def wish_of(table):
+    return listed(table['enum']) if 'enum' in table else {'boolean': 'true or false', 'array': 'an array', 'object': 'a table'}.get(table['type'], f'a {table["type"]}')
+
+
+def unasked(text, asked):
+    """Which keys leave none of the languages that the words leave."""
+    settings = read_toml(text) or {}
+    keys = [f'{it} = {in_toml(settings[it])}' for it in ('edition', 'source-type') if it in settings]
+    return f'{" and ".join(keys)}: {WORDS[asked]} asks for another language' if keys else ''
