@@ -13,7 +13,7 @@ from recipes import is_well, same
 
 COMMANDS = {'check', 'cost', 'fix', 'help', 'same', 'tree', 'unwrap', 'verify'}
 LANGUAGE = {'--edition', '--module'}
-SHARED = {*LANGUAGE, '--jobs', '--files-from', '--help', '--version', '--project', '--stdin', '--hints', '--unsupported', '--summary'}
+SHARED = {*LANGUAGE, '--jobs', '--files-from', '--help', '--version', '--project', '--no-ignore', '--allow-none', '--stdin', '--hints', '--unsupported', '--summary'}
 REWRITING = {'--write', '--diff'} | SHARED
 CHECKING = {'--settings', '--format', '--color', '--ends', '--suppressions', '--max-warnings', '--explain'} | SHARED
 SCRIPTS = {'a.js', 'two words.js'}
@@ -25,8 +25,8 @@ ASKED = [
     ('jslint verify a.js ', {'table'}, COMMANDS), ('jslint fix -', {'--help', *LANGUAGE}, {'--settings', '--write'}),
     ('jslint same --edition ', {'2020', '2022'}, SCRIPTS), ('jslint-files --edition ', {'2020', '2022'}, SCRIPTS), ('jslint help -', set(), LANGUAGE),
     ('jslint-files ', {'check', 'fix', 'unwrap'} | SCRIPTS, {'tree'}), ('jslint-files -', CHECKING, {'--write'}),
-    ('jslint-files check -', CHECKING, {'--write'}), ('jslint-files fix -', REWRITING | {'--drop-comments'}, {'--settings', '--format'}),
-    ('jslint-files unwrap -', REWRITING, {'--drop-comments', '--format'}), ('jslint-files unwrap ', SCRIPTS, {'fix'}),
+    ('jslint-files check -', CHECKING, {'--write'}), ('jslint-files fix -', REWRITING | {'--drop-comments'}, {'--settings', '--format', '--drop-casts'}),
+    ('jslint-files unwrap -', REWRITING | {'--drop-casts'}, {'--drop-comments', '--format'}), ('jslint-files unwrap ', SCRIPTS, {'fix'}),
     ('jslint-files --format ', {'unix', 'pretty', 'json', 'sarif', 'junit', 'github'}, SCRIPTS), ('jslint-files --unsupported ', {'error', 'note'}, SCRIPTS),
     ('jslint-files --color ', {'auto', 'always', 'never'}, SCRIPTS), ('jslint-files --explain ', {'no-var', 'prefer-const'}, SCRIPTS), ('jslint-files --settings ', {'s.toml'}, {'check'}),
 ]
@@ -42,7 +42,7 @@ def offers(room, offered):
         is_well(wanted <= found and not unwanted & found, f'{words!r}: {sorted(found)}')
     named = set(re.findall(r'(?<![\w-])--[a-z][a-z-]*', room.run(['jslint-files', '--help'])[1].split('\n\n')[0]))
     is_well(named, 'the help names no option')
-    same(named - {it for line in ('jslint-files -', 'jslint-files fix -') for it in offered(line)}, set())
+    same(named - {it for line in ('jslint-files -', 'jslint-files fix -', 'jslint-files unwrap -') for it in offered(line)}, set())
 
 
 def share(name):

@@ -39,13 +39,15 @@ def doors(room):
         given = {'given': f'{name}\n'.encode()}
         checks = [([name], {}), ([f'./{name}'], {}), ([f'{alone.folder}/{name}'], {}), ([name.replace('lib', '*')], {}), (['**/l?b.js'], {}), (['--files-from', '-'], given), ([os.path.dirname(name)], {}), ([], {})]
         for words, how in checks:
-            some = how.get('given') or '*' in ''.join(words) or words
+            # (a folder may have nothing but what is ignored, and not be ignored itself)
+            is_whole = not by or 'vendor' in line
+            some = words and (words != ['vendor'] or is_whole)
             said = IGNORED if some else NOTHING
             same(project(alone, *words, **how), (2, '', said), f'{by} {words}')
             same(project(alone, '--allow-none', *words, **how), (0, '', ''), f'{by} {words}')
             same([project(alone, *it, '--write', '--allow-none', *words, **how) for it in (['fix', '--drop-comments'], ['unwrap'])], [(0, '', '')] * 2, f'{by} {words}')
             same(alone.text(name), WRONG, f'{by} {words}')
-            if some:
+            if by or words:
                 # (folders are looked through without what nobody has checked, but where one is named)
                 same(project(alone, '--no-ignore', *words, **how)[::2], (1, ''), f'{by} {words}')
         same(alone.run(['jslint-files', '--project', f'../{name}'], at='sub'), (2, '', IGNORED))
@@ -103,6 +105,15 @@ def nothing_at_all(room):
     same(room.sh('jslint-files --project 2>&-'), (2, '', ''))
 
 
+# The scripts below a folder, and those of some names that aren't ignored.
+JUDGED = '''
+import json, sys
+sys.path.insert(0, sys.argv[1])
+from jslint_files.project import Project
+print(json.dumps([Project().scripts_below('.'), [it for it in sys.argv[2:] if not Project().is_ignored(it)]]))
+'''
+
+
 def as_git_has_it(room):
     """Scripts below folders of a real repository, of a second work tree and of a submodule's kind, as `git ls-files` has them: with info/exclude, core.excludesFile,
     byte order marks, and names of more bytes than characters."""
@@ -127,12 +138,9 @@ def as_git_has_it(room):
     def holds(told):
         for top in ('one', 'two', 'three'):
             listed = room.run(['git', 'ls-files', '-z', '--others', '--exclude-standard'], at=top, **how)[1].split('\0')
-            found = room.run([sys.executable, '-c', f'import sys; sys.path.insert(0, "{TOP}/tools"); from jslint_files.project import Project; print("\\0".join(Project().scripts_below(".")))'], at=top, status=0, **how)[1]
-            wanted = {it for it in listed if it.endswith(('js'))}
-            same(set(found.rstrip('\n').split('\0')) - {''}, wanted, f'{told} {top}')
+            found = json.loads(room.run([sys.executable, '-c', JUDGED, f'{TOP}/tools', *names], at=top, status=0, **how)[1])
             # (a name alone is judged as a walk is)
-            asked = room.run(['jslint-files', '--project', '--', *names], at=top, **how)[1]
-            same({it.split(':')[0] for it in asked.splitlines()}, wanted, f'{told} {top}')
+            same([set(it) for it in found], [{it for it in listed if it.endswith('js')}] * 2, f'{told} {top}')
 
     rows = [
         ('one/.git/info/exclude', '?.js\n'), ('one/.git/info/exclude', '??.js\n/x\n'), ('one/.git/info/exclude', '\ufeffa.js\n'), ('moved/info/exclude', '[é].js\n'), ('home/.config/git/ignore', 'sub\n'), ('home/.config/git/ignore', '\ufeff*.cjs\n!b.cjs\n'),
@@ -184,7 +192,7 @@ CASTS = [
     'let a = /* @type {T} */ %(b);', 'let a = /** @typedef {T} */ %(b);', 'let a = // /** @type {T} */\n %(b);', 'let a = /** type */ %(b);', 'let a = "/** @type {T} */" + %(b);', 'let a = `/** @type {T} */${%(b)}`;', 'let a = /[/** @type {T} */]/ + %(b);',
     '/** @type {T} */ @(@@).b;'.replace('@(@@)', '@(a)'), 'let a = /** @type {T} */ @(%(b));', '/** @type {T} */ let a = %(b);', '/** @type {T} */ f(%(b));', 'let a = /** @type {T} */ @(/** @type {U} */ @(b));', 'let a = /** @type {T} */ (b + c) * d;',
     'let a = /* x /** @type {T} */ %(b);', '\ufefflet a = /** @type {é} */ \u00a0\u2028@(b), c = %(d);', 'let a = /**/ %(b); // @type', 'let a = /** @type {T} */ x %(b);'.replace('x ', '- '), 'export default /** @type {T} */ @({});', '(/** @type {T} */ @(a)).b, %(c);'.replace('(/**', '%(/**', 1),
-    'let a = /** @type {T} */ (x) => %(x);', 'new (/** @type {T} */ (a()))();',
+    'let a = /** @type {T} */ (x) => %(x);', 'new %(/** @type {T} */ (a()))();',
 ]
 
 
@@ -291,7 +299,7 @@ def hints_in_forms(room):
         ('async () => 1;', 'async functions, which --edition 2022 and --module read'), ('#!x\na', "a '#!' line, which --edition 2022 and --module read"), ('class A { #a; }', "private names ('#x'), which --edition 2022 and --module read"),
         ('function* f() {}', 'generators, which --edition 2022 and --module read'), ('import.meta;', "'import.meta' is of modules, which --module reads"), ('import a from "a"; b c', "'import' makes this a module, which --module reads"), ('/a/d', "the flag 'd' of regular expressions, which --edition 2022 and --module read"),
         # (no other language gets further)
-        ('a * #b', None), ('x = { get #a() {} }', None), ('function *', None),
+        ('a; * b', None), ('a b', None),
     ]
     for text, wanted in rows:
         room.put('a.js', text)

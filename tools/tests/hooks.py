@@ -81,7 +81,7 @@ def hook_words(room):
     room.put('cast.js', CAST)
     same([call(it, 'vendor/lib.js') for it in found], [(0, '', '')] * 2)
     same(call('jslint', 'cast.js'), (0, '', ''))
-    same(call('jslint-unwrap', 'vendor/lib.js', 'cast.js', 'm.js'), (0, '', 'cast.js:1:29: note: left as it is: unwrap would take the pair of a cast; --drop-casts permits it\n'))
+    same(call('jslint-unwrap', 'vendor/lib.js', 'cast.js', 'm.js'), (0, '', 'cast.js:1:67: note: left as it is: unwrap would take the pair of a cast; --drop-casts permits it\n'))
     same([room.text(it) for it in ('vendor/lib.js', 'cast.js')], [WRONG, CAST])
 
 

@@ -306,7 +306,7 @@ def first_lines(room):
     room.put('jslint.toml', 'source-type = "module"\n')
     same(project(room, '--suppressions', 'd.js'), (0, '', ''))
     same(files(room, '--suppressions', '--settings', 'jslint.toml', 'd.js'), (0, '', ''))
-    same(files(room, '--suppressions', 'd.js'), (2, 'd.js:1:1: syntax error\n', ''))
+    same(files(room, '--suppressions', 'd.js'), (2, "d.js:1:1: syntax error (perhaps: a '#!' line, which --edition 2022 and --module read)\n", ''))
 
 
 def no_pattern_takes_long(_):
@@ -711,7 +711,7 @@ def unsupported(room):
     room.put('open.js', 'f(a')
     same([files(room, '--unsupported', 'note', it)[0] for it in ('bad.js', 'open.js', 'none.js')], [2, 2, 2])
     # (a fault in a language that is read here is none of what the profile lacks; nor is a guess that this language doesn't bear out)
-    faults = [('import a from "a";\nf(;\n', '2:3: syntax error'), ('async () => 1;\nlet b, b;\n', '2:8: early error E3'), ('x = #a;\n', '1:5: syntax error'), ('export {}; f(a', '1:15: syntax error (perhaps: the text ends too early: something is still open)')]
+    faults = [('import a from "a";\nf(;\n', '2:3: syntax error'), ('async () => 1;\nlet b, b;\n', '2:8: early error E3'), ('x = #a;\n', '1:7: syntax error'), ('a; * b', '1:4: syntax error'), ('export {}; f(a', '1:15: syntax error (perhaps: the text ends too early: something is still open)')]
     for text, said in faults:
         room.put('bad.js', text)
         same(files(room, '--unsupported', 'note', 'bad.js', 'ok.js'), (2, f'bad.js:{said}\n', ''), text)

@@ -659,7 +659,7 @@ def pages(room):
         COMP_WORDS=(jslint-files unw) COMP_CWORD=1; _jslint_files; echo "${{COMPREPLY[*]}}"
         COMP_WORDS=(jslint-files unwrap --) COMP_CWORD=2; _jslint_files; echo "${{COMPREPLY[*]}}"'''
     if shutil.which('bash'):
-        wanted = 'verify\n--settings --spans\nunwrap\ngithub\nunwrap\n--write --diff --edition --module --project --stdin --hints --unsupported --summary --jobs --files-from --help --version --\n'
+        wanted = 'verify\n--settings --spans\nunwrap\ngithub\nunwrap\n--write --diff --drop-casts --edition --module --project --no-ignore --allow-none --stdin --hints --unsupported --summary --jobs --files-from --help --version --\n'
         same(room.run(['bash', '-c', completed])[1:], (wanted, ''))
 
 
