@@ -37,3 +37,33 @@ def casts(text, pairs, tree):
         return False
 
     return [it for it in pairs if is_of_cast(it)]
+
+
+def opened(text, tree):
+    """For each comment of a cast where the code behind it begins, and how many parentheses open there."""
+    found, code_at, begins, count = comments(text, tree), len(text), None, {}
+
+    def opened_at(at):
+        if at not in count:
+            end, number = at, 0
+            while text[end:end + 1] == b'(':
+                end, number = BLANKS.match(text, end + 1).end(), number + 1
+            count[at] = number
+        return count[at]
+
+    openings = []
+    for start, end in reversed(found):
+        behind = BLANKS.match(text, end).end()
+        code_at, begins = code_at if behind == begins else behind, start
+        if is_cast(text[start:end]):
+            openings.append((code_at, opened_at(code_at)))
+    return openings[::-1]
+
+
+def lost(text, tree, new, new_tree):
+    """Where the first cast is that has fewer parentheses behind its comment in a new text, which has the same comments; None where there is none. (`unwrap` may
+    take a pair that isn't reported, where one elsewhere does as well.)"""
+    before, after = opened(text, tree), opened(new, new_tree)
+    if len(before) != len(after):
+        return before[0][0] if before else 0
+    return next((at for (at, count), (_, left) in zip(before, after) if left < count), None)

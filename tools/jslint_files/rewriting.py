@@ -5,7 +5,7 @@ import os
 import re
 import stat
 
-from .casts import WORD
+from .casts import WORD, lost
 from .checking import casts_of, checked, places_at, spans_of
 from .comments import COMMENT, FIRST_LINE, comments
 from .engine import InLanguage
@@ -117,12 +117,21 @@ def write_changed(engine, options, text, file):
         keep_form(engine, file, head, is_cr)
 
 
-def cast_in(engine, text):
-    """The first pair of a cast that `unwrap` would take, as a note."""
-    found = casts_of(engine, text, spans_of(engine, text)) if WORD.search(text) else []
-    if not found:
+def lost_cast(engine, text, new):
+    """Where the first pair of a cast is that a rewritten text lacks; None where there is none."""
+    found = casts_of(engine, text, spans_of(engine, text))
+    return found[0] if found else lost(text, engine.run('tree', text)[1], new, engine.run('tree', new)[1])
+
+
+def cast_in(engine, text, file):
+    """The first pair of a cast that `unwrap` took in a new file, as a note."""
+    if not WORD.search(text):
         return None
-    note = Found(*places_at(text, found[:1])[found[0]], None, CAST)
+    file.seek(0)
+    at = lost_cast(engine, text, file.read())
+    if at is None:
+        return None
+    note = Found(*places_at(text, [at])[at], None, CAST)
     note.is_noted = True
     return note
 
@@ -155,9 +164,9 @@ class Rewriter:
         hold_comments(engine, self.options, text)
         return self.replaced(engine, path, text) if self.options['write'] else self.made(engine, name, text, is_given)
 
-    def cast_in(self, engine, text):
+    def cast_in(self, engine, text, file):
         """A pair for which a script is left as it is."""
-        return cast_in(engine, text) if self.options['command'] == 'unwrap' and not self.options['drop-casts'] else None
+        return cast_in(engine, text, file) if self.options['command'] == 'unwrap' and not self.options['drop-casts'] else None
 
     def replaced(self, engine, path, text):
         """Replaces a file by what the program makes of it."""
@@ -165,7 +174,7 @@ class Rewriter:
             write_changed(engine, self.options, text, file)
             if not differs(file, text):
                 return Outcome()
-            cast = self.cast_in(engine, text)
+            cast = self.cast_in(engine, text, file)
             if cast:
                 return Outcome([cast])
             os.fsync(file.fileno())
@@ -177,7 +186,7 @@ class Rewriter:
         with TRACES.new_file(None) as (file, new):
             write_changed(engine, self.options, text, file)
             is_changed = differs(file, text)
-            cast = self.cast_in(engine, text) if is_changed else None
+            cast = self.cast_in(engine, text, file) if is_changed else None
             if self.options['diff'] or not is_given:
                 return Outcome([cast] if cast else None, difference=difference(text, new, name) if is_changed and not cast else b'')
             file.seek(0)

@@ -192,6 +192,8 @@ CASTS = [
     'let a = /* @type {T} */ %(b);', 'let a = /** @typedef {T} */ %(b);', 'let a = // /** @type {T} */\n %(b);', 'let a = /** type */ %(b);', 'let a = "/** @type {T} */" + %(b);', 'let a = `/** @type {T} */${%(b)}`;', 'let a = /[/** @type {T} */]/ + %(b);',
     '/** @type {T} */ @(@@).b;'.replace('@(@@)', '@(a)'), 'let a = /** @type {T} */ @(%(b));', '/** @type {T} */ let a = %(b);', '/** @type {T} */ f(%(b));', 'let a = /** @type {T} */ @(/** @type {U} */ @(b));', 'let a = /** @type {T} */ (b + c) * d;',
     'let a = /* x /** @type {T} */ %(b);', '\ufefflet a = /** @type {é} */ \u00a0\u2028@(b), c = %(d);', 'let a = /**/ %(b); // @type', 'let a = /** @type {T} */ x %(b);'.replace('x ', '- '), 'export default /** @type {T} */ @({});', '(/** @type {T} */ @(a)).b, %(c);'.replace('(/**', '%(/**', 1),
+    # (this pair isn't reported, but the one around it, and `unwrap` takes the inner one)
+    '%(/** @type {T} */ @(function () {})(a));', 'export default %(/** @type {T} */ @(function () {})(a))[0];',
     'let a = /** @type {T} */ (x) => %(x);', 'new %(/** @type {T} */ (a()))();',
 ]
 
