@@ -1,5 +1,6 @@
 """What lies beside scripts and says how they are to be read: jslint.toml and the ignore files, from a script's folder up to the one that has .git."""
 import os
+import stat
 
 from .git import common_folder, excludes_file
 from .ignoring import in_bytes, patterns_of, verdict
@@ -39,7 +40,7 @@ class Project:
     that are refused, by their paths, and why; `faults` has the folders that can't be looked through, by their names."""
 
     def __init__(self, has_ignores=True):
-        self.has_ignores, self.settings, self.patterns, self.faults, self.ways, self.bad = has_ignores, {}, {}, {}, {}, {}
+        self.has_ignores, self.settings, self.patterns, self.faults, self.ways, self.folders, self.bad = has_ignores, {}, {}, {}, {}, {}, {}
 
     def folders_above(self, folder):
         """A folder and those above it, up to the one that has .git, or else to the top of the file system."""
@@ -93,9 +94,20 @@ class Project:
 
     def is_ignored(self, name):
         """Whether a file or a folder that is named is to be left alone: by its own place, or by that of the file to which it leads."""
-        path, base = os.path.realpath(name), os.path.basename(name)
-        places = {path, path if base in ('', '.', '..') else os.path.join(os.path.realpath(os.path.dirname(name)), base)}
-        return self.has_ignores and any(self.is_place_ignored(it, os.path.isdir(path)) for it in places)
+        if not self.has_ignores:
+            return False
+        folder, base = os.path.split(name)
+        place = os.path.realpath(name) if base in ('', '.', '..') else os.path.join(self.real(folder), base)
+        mode = mode_of(place)
+        if not stat.S_ISLNK(mode):
+            return self.is_place_ignored(place, stat.S_ISDIR(mode))
+        path = os.path.realpath(place)
+        return any(self.is_place_ignored(it, os.path.isdir(path)) for it in (place, path))
+
+    def real(self, folder):
+        if folder not in self.folders:
+            self.folders[folder] = os.path.realpath(folder)
+        return self.folders[folder]
 
     def is_place_ignored(self, path, is_folder):
         folder, base = os.path.split(path)
@@ -146,14 +158,25 @@ class Project:
         return Folder(name, it.path, [] if is_top else parts, [*([] if is_top else folder.patterns_at), self.patterns_in(it.path)])
 
 
+def mode_of(path):
+    """What a path itself is; 0 where there is nothing."""
+    try:
+        return os.lstat(path).st_mode
+    except (OSError, ValueError):
+        return 0
+
+
 def is_below_left_out(path, top):
     """Whether a path leads through a folder that nobody has checked, below the top of its repository, or below this folder where there is none."""
+    if not any(f'/{it}' in path for it in LEFT_OUT):
+        return False
     try:
-        below = os.path.relpath(path, top if top is not None else os.getcwd()).split(os.sep)
+        above = os.getcwd() if top is None else top
     except FileNotFoundError:
         # (this folder was removed)
         return False
-    return below[0] != '..' and any(it in LEFT_OUT for it in below)
+    is_below = path.startswith(above.rstrip('/') + '/')
+    return is_below and any(it in LEFT_OUT for it in path[len(above):].split('/'))
 
 
 class Way:

@@ -38,7 +38,8 @@ def doors(room):
             alone.put(by, line)
         given = {'given': f'{name}\n'.encode()}
         checks = [([name], {}), ([f'./{name}'], {}), ([f'{alone.folder}/{name}'], {}), ([name.replace('lib', '*')], {}), (['**/l?b.js'], {}), (['--files-from', '-'], given), ([os.path.dirname(name)], {}), ([], {})]
-        for words, how in checks:
+        # (the ways to a name are one way, whichever file ignores it)
+        for words, how in checks if number in (0, 5) else checks[::3]:
             # (a folder may have nothing but what is ignored, and not be ignored itself)
             is_whole = not by or 'vendor' in line
             some = words and (words != ['vendor'] or is_whole)
@@ -266,7 +267,7 @@ def heads(room):
     first = [
         ('#!/usr/bin/env node\n(a);', '#!/usr/bin/env node\na;\n'), ('#!x\r\n(a);\r\n(b)', '#!x\r\na;\r\nb;\r\n'), ('#!', '#!\n'), ('#!x\n', '#!x\n'), ('#!x\u2028(a)', '#!x\na;\n'), ('#!x // y /*\n(a)', '#!x // y /*\na;\n'), ('#!\u00e9 \u2030\n(a)', '#!\u00e9 \u2030\na;\n'),
     ]
-    for words, some in [([], rows), (['--edition', '2022'], rows + first), (['--module'], rows + first)]:
+    for words, some in [([], rows), (['--module'], first), (['--edition', '2022'], first[:1])]:
         for text, wanted in some:
             room.put('a.js', text)
             same(files(room, 'fix', '--stdin', 'a.js', *words, given=text.encode()), (0, wanted, ''), repr(text))
@@ -307,6 +308,10 @@ def hints_in_forms(room):
         room.put('a.js', text)
         found = json.loads(files(room, '--format', 'json', 'a.js')[1])[0]['messages'][0].get('hint')
         same(found, wanted, text)
+    # (what the program may say behind a place is left to this)
+    how = program(room, 'echo "jslint: syntax error at 1:3 (perhaps: --module)" >&2; exit 2')
+    room.put('a.js', 'a b')
+    same(files(room, 'a.js', **how), (2, 'a.js:1:3: syntax error\n', ''))
     # (none of a language that was tried)
     room.put('a.js', 'async () => 1;')
     same(files(room, '--edition', '2022', 'm.js')[1], f'm.js:1:1: syntax error (perhaps: {hint})\n')
