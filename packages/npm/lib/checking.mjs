@@ -2,7 +2,7 @@
 import path from 'node:path';
 import { Document } from './document.mjs';
 import { fileOf } from './editor.mjs';
-import { unlessAborted } from './protocol.mjs';
+import { CODES, ResponseError, unlessAborted } from './protocol.mjs';
 
 // After so long a check is told to the editor as work in progress.
 const SLOW_MS = 400;
@@ -132,13 +132,22 @@ export class Checking {
 
   async pulled({ textDocument }, { signal }) {
     const document = this.editor.documents.get(textDocument?.uri);
-    return { kind: 'full', items: document ? await this.diagnostics(document, signal) : [] };
+    return { kind: 'full', items: document ? await this.unlessChanged(signal, () => this.diagnostics(document, signal)) : [] };
   }
 
   async hover({ textDocument, position }, { signal }) {
     const document = this.editor.document(textDocument), at = document.indexAt(position), settings = this.editor.settingsFor(document.uri);
     if (!this.editor.isChecked(document) || settings?.fault) return null;
-    return this.shown.hover(document, await this.checked(document, signal), at);
+    return this.shown.hover(document, await this.unlessChanged(signal, () => this.checked(document, signal)), at);
+  }
+
+  /** What a request waits for; where the text changes meanwhile, and the editor didn't cancel it, that is its error. */
+  async unlessChanged(signal, work) {
+    try {
+      return await work();
+    } catch (error) {
+      throw error.name === 'AbortError' && !signal.aborted ? new ResponseError(CODES.modified, 'the document has changed') : error;
+    }
   }
 }
 

@@ -344,6 +344,12 @@ test('pulled diagnostics', async () => {
     const found = await client.request('textDocument/diagnostic', { textDocument: { uri: uriOf('p.js') } });
     assert.deepEqual([found.kind, found.items.map((it) => it.code)], ['full', ['no-debugger']]);
     assert.ok(!client.heard.some((it) => it.method === 'textDocument/publishDiagnostics'));
+    // (the text changes before the answer is there)
+    client.notify('textDocument/didChange', { textDocument: { uri: uriOf('p.js'), version: 2 }, contentChanges: [{ text: 'f((a));\n'.repeat(20000) }] });
+    const late = assert.rejects(client.request('textDocument/diagnostic', { textDocument: { uri: uriOf('p.js') } }), { code: -32801 });
+    client.notify('textDocument/didChange', { textDocument: { uri: uriOf('p.js'), version: 3 }, contentChanges: [{ text: '1;' }] });
+    await late;
+    assert.deepEqual((await client.request('textDocument/diagnostic', { textDocument: { uri: uriOf('p.js') } })).items, []);
   }, { capabilities: { textDocument: { diagnostic: {} } } });
 });
 
