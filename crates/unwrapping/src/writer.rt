@@ -55,6 +55,11 @@ impl<'s> Last<'s> {
         }
     }
 
+    /// Where it ends in what is written.
+    fn end(&self) -> usize {
+        self.start.saturating_add(self.text.len())
+    }
+
     /// Whether a token would go on with the statement that it ends, though another one begins with that.
     fn wants_semicolon(&self, token: &[u8]) -> bool {
         (self.is_postfix && goes_on(token)) || (self.ends_export && matches!(token, b"from"))
@@ -232,9 +237,10 @@ impl<'s> Writer<'s> {
     fn keep(&mut self, lexeme: Lexeme<'s>, cursor: &mut Cursor<'_>) -> Result<(), AllocError> {
         self.write_closed(lexeme.start, cursor)?;
         let opened = count_opened(lexeme.start, cursor);
-        let end = self.out.len();
         let is_tight = self.write_gap(lexeme, opened > 0)?;
-        let goes_on = opened == 0 && self.last.binds_its_line() && self.is_on_one_line(end);
+        // (comments may have moved before the last token, so it is looked for only now)
+        let goes_on =
+            opened == 0 && self.last.binds_its_line() && self.is_on_one_line(self.last.end());
         for _ in 0..opened {
             self.out.push(b'(')?;
         }
