@@ -33,6 +33,7 @@ function settingsText(source) {
   if (source.below(2)) lines.push(`globals = [${['a', 'b', 'zz', 'Math'].filter(() => source.below(2)).map((it) => JSON.stringify(it)).join(', ')}]`);
   if (source.below(3) === 0) lines.push(`env = [${[...ENVIRONMENTS.keys()].filter(() => source.below(3) === 0).map((it) => JSON.stringify(it)).join(', ')}]`);
   if (source.below(2)) lines.push(`allow-null = ${source.below(2) === 1}`);
+  if (source.below(2)) lines.push(`allow-comments = ${source.below(2) === 1}`);
   if (source.below(2)) lines.push(`ignore-underscore = ${source.below(2) === 1}`);
   if (wrong === 0) lines.push(source.pick(['rule = 1', 'allow-null = "yes"', 'globals = [1]', 'globals = ["a"', 'env = ["x"]', 'env = "node"', 'ignore-underscore = 1', 'x', 'allow-null = true\nallow-null = true']));
   if (source.below(2)) {
@@ -50,7 +51,7 @@ function model(text, settings) {
   if (!parsed.ok) return { status: 2, out: '', err: `jslint: ${words(parsed.fault, bytes)}\n` };
   const read = fromToml(Buffer.from(settings));
   if (read === null) return { status: 2, out: '', err: 'jslint: bad settings\n' };
-  const reports = runRules({ tree: parsed.tree, scopes: resolve(parsed.tree), extra: extraPairs(parsed.pairs, plan(parsed.tree).wrapped), settings: read });
+  const reports = runRules({ tree: parsed.tree, text: bytes, scopes: resolve(parsed.tree), extra: extraPairs(parsed.pairs, plan(parsed.tree).wrapped), settings: read });
   const places = linesColumns(bytes, reports.map((it) => it.start));
   return { status: reports.length > 0 ? 1 : 0, out: reports.map((it, i) => `${places[i]} ${it.rule} ${it.text}\n`).join(''), err: '' };
 }

@@ -36,7 +36,7 @@ function planOf(tree) {
 // What each command writes of an accepted script, from its tree, its grouping pairs and its bytes, and the exit status.
 const ANSWERS = {
   check: (tree, pairs, bytes) => {
-    const reports = runRules({ tree, scopes: resolve(tree), extra: extraPairs(pairs, planOf(tree).wrapped), settings: defaultSettings() });
+    const reports = runRules({ tree, text: bytes, scopes: resolve(tree), extra: extraPairs(pairs, planOf(tree).wrapped), settings: defaultSettings() });
     const places = linesColumns(bytes, reports.map((it) => it.start));
     return [reports.map((it, i) => `${places[i]} ${it.rule} ${it.text}\n`).join(''), reports.length > 0 ? 1 : 0];
   },

@@ -30,7 +30,7 @@ function linesOf(definitions, { text, language, settings }) {
   if (!ok) return null;
   const root = definitions.model.tree(plainTree(tree, language));
   const bytes = Buffer.from(text);
-  return definitions.reports(root, definitions.found(root), [], settings).map((r) => {
+  return definitions.reports(root, text, definitions.found(root), [], settings).map((r) => {
     const before = bytes.subarray(0, r.start).toString().split(/\r\n|[\n\r\u2028\u2029]/);
     return `${before.length}:${[...before[before.length - 1]].length + 1} ${r.rule} ${r.text}`;
   });

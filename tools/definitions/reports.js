@@ -25,9 +25,9 @@ function plainFound(found) {
 
 const flagsOf = (environments) => Object.fromEntries([...ENVIRONMENTS.keys()].map((name) => [name, environments.includes(name)]));
 // settings in the form of ../model/rules.js
-const settingsOf = ({ rules, globals, environments, allowNull, ignoreUnderscore }) => ({
+const settingsOf = ({ rules, globals, environments, allowNull, allowComments, ignoreUnderscore }) => ({
   off: antt.fromArray(RULE_NAMES.filter((name) => !rules[name]).map(antt.bytes)), globals: antt.fromArray([...globals].map(antt.bytes)),
-  environments: flagsOf([...environments]), allow_null: allowNull, ignore_underscore: ignoreUnderscore,
+  environments: flagsOf([...environments]), allow_null: allowNull, allow_comments: allowComments, ignore_underscore: ignoreUnderscore,
 });
 
 const ORDER = (a, b) => a.start - b.start || (a.rule < b.rule ? -1 : a.rule > b.rule ? 1 : 0) || a.end - b.end || Buffer.compare(Buffer.from(a.text), Buffer.from(b.text));
@@ -44,11 +44,11 @@ class Reports {
   }
   // whether a name is global, with one environment on
   isGlobal(name, environment) {
-    return this.hasGlobal(antt.bytes(name), { off: null, globals: null, environments: flagsOf([environment]), allow_null: false, ignore_underscore: false });
+    return this.hasGlobal(antt.bytes(name), { off: null, globals: null, environments: flagsOf([environment]), allow_null: false, allow_comments: false, ignore_underscore: false });
   }
-  // the reports of the rules that are on, in order; `found` is what this.found(tree) answers, `extra` the spans of extra pairs
-  reports(tree, found, extra, settings) {
-    const view = { tree, found, extra: antt.fromArray(extra), settings: settingsOf(settings) };
+  // the reports of the rules that are on, in order; `text` is what the tree was read of, `found` what this.found(tree) answers, `extra` the spans of extra pairs
+  reports(tree, text, found, extra, settings) {
+    const view = { tree, text: antt.bytes(text), found, extra: antt.fromArray(extra), settings: settingsOf(settings) };
     return this.rules.filter(([name]) => this.isOn(antt.bytes(name), view.settings)).flatMap(([, rule]) => antt.toArray(rule(view)))
       .map((r) => ({ start: r.start, end: r.stop, rule: antt.text(r.rule), text: antt.text(r.text) })).sort(ORDER);
   }

@@ -42,7 +42,7 @@ function ofModel({ scopes, references }) {
 
 function settingsOf(random) {
   const rules = Object.fromEntries(RULE_NAMES.map((name) => [name, random.below(6) !== 0]));
-  return { rules, globals: ['a', 'b', 'c', 'x'].filter(() => random.below(4) === 0), environments: [...ENVIRONMENTS.keys()].filter(() => random.below(4) === 0), allowNull: random.below(2) === 0, ignoreUnderscore: random.below(2) === 0 };
+  return { rules, globals: ['a', 'b', 'c', 'x'].filter(() => random.below(4) === 0), environments: [...ENVIRONMENTS.keys()].filter(() => random.below(4) === 0), allowNull: random.below(2) === 0, allowComments: random.below(2) === 0, ignoreUnderscore: random.below(2) === 0 };
 }
 
 // ---------------------------------------------------------------- comparing
@@ -85,7 +85,7 @@ function* ofText(definitions, text, { tree, pairs }, random, counts) {
   for (let turn = 0; turn < 2; turn++) {
     const settings = turn === 0 ? defaultSettings() : settingsOf(random);
     const extra = (pairs ?? []).filter(() => turn === 0 || random.below(2) === 0).map((p) => ({ start: p.left, end: p.right + 1 }));
-    const got = definitions.reports(root, found, extra, settings), want = runRules({ tree, scopes: resolved, extra, settings });
+    const got = definitions.reports(root, text, found, extra, settings), want = runRules({ tree, text, scopes: resolved, extra, settings });
     for (const r of got) counts.reports[r.rule] = (counts.reports[r.rule] ?? 0) + 1;
     const lines = (reports) => reports.map((r) => `${r.start}-${r.end} ${r.rule} ${r.text}`);
     if (JSON.stringify(lines(got)) !== JSON.stringify(lines(want))) yield ['reports', lines(got), lines(want)];

@@ -36,7 +36,7 @@ const ACCEPTED = TEXTS.filter(accepted);
 const fixedText = ({ tree }) => layout(tree, plan(tree).wrapped);
 
 // What the rules find of a script under settings.
-const reportsOf = ({ tree, pairs }, settings) => runRules({ tree, scopes: resolve(tree), extra: extraPairs(pairs, plan(tree).wrapped), settings: fromToml(Buffer.from(settings)) });
+const reportsOf = ({ tree, pairs, text }, settings) => runRules({ tree, text, scopes: resolve(tree), extra: extraPairs(pairs, plan(tree).wrapped), settings: fromToml(Buffer.from(settings)) });
 
 // What a command writes of a script, with the text of its second file, and the status; `spans` is `check --spans`.
 const ANSWERS = {
@@ -218,9 +218,9 @@ function resolved() {
 // ---------------------------------------------------------------- single calls
 
 const SETTINGS = [
-  '', '\n', 'globals = ["a"]', 'globals = ["b", "a"]\nallow-null = true\n', 'ignore-underscore = true', 'allow-null = false\nignore-underscore = false', '[rules]\n', '[rules]\nno-var = false\n',
+  '', '\n', 'globals = ["a"]', 'globals = ["b", "a"]\nallow-null = true\n', 'ignore-underscore = true', 'allow-null = false\nignore-underscore = false', 'allow-comments = true', 'allow-comments = false', '[rules]\n', '[rules]\nno-var = false\n',
   '[rules]\nno-var = true\neqeqeq = false', 'globals = ["b"]\n[rules]\nno-var = false\n', 'env = ["node"]', 'env = ["mocha", "browser"]\nglobals = ["a"]\nallow-null = true', 'ignore-underscore = true\nglobals = []\n[rules]\nno-empty = false',
-  '[rules]\nno-such = true', 'rule = 1', 'globals = [1]', 'allow-null = "yes"', 'globals = [', 'a', '[rules', '[rules]\nno-var = 1', 'globals = "a"', 'env = ["x"]', 'env = "node"', 'allow-null = true\nallow-null = true',
+  '[rules]\nno-such = true', 'rule = 1', 'globals = [1]', 'allow-null = "yes"', 'allow-comments = 1', 'globals = [', 'a', '[rules', '[rules]\nno-var = 1', 'globals = "a"', 'env = ["x"]', 'env = "node"', 'allow-null = true\nallow-null = true',
 ];
 
 // Those that are no TOML, each with the byte at which the crate `toml` says so.
@@ -229,8 +229,8 @@ const NOT_TOML = new Map([['globals = [', 11], ['a', 1], ['[rules', 6], ['allow-
 function settingsRow(text) {
   const found = fromToml(Buffer.from(text));
   if (found === null) return row('settings', text, NOT_TOML.has(text) ? `not TOML at byte ${NOT_TOML.get(text)}` : 'bad settings');
-  const { rules, globals, allowNull, ignoreUnderscore } = found;
-  return row('settings', text, `((${rules['no-var']}, ${rules.eqeqeq}), ${[...globals].includes('a')}, ${allowNull}, ${ignoreUnderscore})`);
+  const { rules, globals, allowNull, allowComments, ignoreUnderscore } = found;
+  return row('settings', text, `((${rules['no-var']}, ${rules.eqeqeq}), ${[...globals].includes('a')}, ${allowNull}, ${allowComments}, ${ignoreUnderscore})`);
 }
 
 // The tables of a text in both formats, and each of them cut behind each of its lines and inside of each.
@@ -247,7 +247,7 @@ function tableRows(text) {
 function rulesRow(text) {
   const { tree, pairs } = parse(text, LIMITS);
   const settings = SECOND.get(text) ?? '';
-  const reports = runRules({ tree, scopes: resolve(tree), extra: extraPairs(pairs, plan(tree).wrapped), settings: fromToml(Buffer.from(settings)) });
+  const reports = runRules({ tree, text, scopes: resolve(tree), extra: extraPairs(pairs, plan(tree).wrapped), settings: fromToml(Buffer.from(settings)) });
   return row('rules', text, settings, `kept${reports.map((it) => ` ${it.start}-${it.end} ${it.rule}`).join('')}`);
 }
 
@@ -256,7 +256,7 @@ const REFUSED = ['debugger;', 'a;', 'debugger; { debugger }', 'if (a) debugger; 
 function refusedRow(text) {
   const { tree, pairs } = parse(text, LIMITS);
   const settings = fromToml(Buffer.from('[rules]\n' + RULE_NAMES.filter((it) => it !== 'no-debugger').map((it) => `${it} = false\n`).join('')));
-  const reports = runRules({ tree, scopes: resolve(tree), extra: extraPairs(pairs, plan(tree).wrapped), settings });
+  const reports = runRules({ tree, text, scopes: resolve(tree), extra: extraPairs(pairs, plan(tree).wrapped), settings });
   return row('refused rule', text, '', `(true, true)${reports.map((it) => ` ${it.start}-${it.end} ${it.rule}`).join('')}`);
 }
 
@@ -265,13 +265,13 @@ const VARIABLES = ['var a;', 'a;', 'let b; var c, d; { var e }', 'for (var a in 
 function likeRow(text) {
   const { tree, pairs } = parse(text, LIMITS);
   const settings = fromToml(Buffer.from(''));
-  const found = runRules({ tree, scopes: resolve(tree), extra: extraPairs(pairs, plan(tree).wrapped), settings }).filter((it) => it.rule === 'no-var');
+  const found = runRules({ tree, text, scopes: resolve(tree), extra: extraPairs(pairs, plan(tree).wrapped), settings }).filter((it) => it.rule === 'no-var');
   const reports = found.map((it) => ` ${it.start}-${it.end} no-var`);
   return row('rule on nodes', text, '', `alone${reports.join('')}; behind${reports.flatMap((it) => [it, it]).join('')}`);
 }
 
 const calls = () => [
-  '# Settings: whether `no-var` and `eqeqeq` are on, whether `a` is a global name, and both options. Tables that are read: how many rows and the total.',
+  '# Settings: whether `no-var` and `eqeqeq` are on, whether `a` is a global name, and the three options. Tables that are read: how many rows and the total.',
   '# What the rules report of a script under settings, from where to where, and that each keeps a report that stands in front. A rule that is',
   '# refused memory, behind `no-debugger`: that it was, alone and in a list, and the reports that stand in front. Another rule that finds what',
   '# `no-var` does, alone and behind it. Made by tools/rows/worked.js.',

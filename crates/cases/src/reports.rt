@@ -103,11 +103,16 @@ impl Rule for LikeNoVar {
     }
 }
 
-/// What settings say: which of two rules are on, whether `a` is a global name, and both options.
+/// What settings say: which of two rules are on, whether `a` is a global name, and the three options.
 fn push_said(settings: &Settings, out: &mut String) -> Result<(), AllocError> {
     let on = (settings.is_on("no-var"), settings.is_on("eqeqeq"));
     let (null, underscore) = (settings.allows_null(), settings.ignores_underscore());
-    write!(out, "{:?}", (on, settings.is_global("a"), null, underscore))
+    let options = (null, settings.allows_comments(), underscore);
+    write!(
+        out,
+        "{:?}",
+        (on, settings.is_global("a"), options.0, options.1, options.2)
+    )
 }
 
 /// Why settings are refused. A row whose call was refused memory has no answer.
@@ -276,7 +281,7 @@ fn push_of_like(alloc: Global, view: &View, out: &mut String) -> Result<(), Allo
 /// What a call on rules answers for a script under these settings.
 fn push_checked(
     alloc: Global,
-    call: &str,
+    row: &Case,
     parsed: &Parsed,
     settings: &Settings,
     out: &mut String,
@@ -285,8 +290,8 @@ fn push_checked(
     let groups = pair_rows(alloc, program, parsed.grouping_pairs())?;
     let extra = spans_of(alloc, program, &groups)?;
     let scopes = resolve(alloc, program)?;
-    let view = View::new(program, &scopes, &extra, settings);
-    match call {
+    let view = View::new(program, row.text(1), &scopes, &extra, settings);
+    match row.text(0) {
         "rules" => push_of_nine(alloc, &view, out),
         "rule on nodes" => push_of_like(alloc, &view, out),
         _ => push_of_insatiable(alloc, &view, out),
@@ -301,7 +306,7 @@ pub(crate) fn push_rules(
     out: &mut String,
 ) -> Result<(), AllocError> {
     match Settings::from_toml(alloc, row.text(2)) {
-        Ok(settings) => push_checked(alloc, row.text(0), parsed, &settings, out),
+        Ok(settings) => push_checked(alloc, row, parsed, &settings, out),
         Err(error) => push_settings_error(error, out),
     }
 }

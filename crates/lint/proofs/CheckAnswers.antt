@@ -46,9 +46,10 @@ are_extra language text n P wraps spans utf8 wrapped is = record {
 
 -- the view that is made of a script, what is found in it, its extra pairs and settings
 pub view_is : (language : Language) (text : List ℕ) (n : Tree) (P : List Pair) (settings : Settings) (view : View) (m : Tree) (f : Found) (spans : List Span)
-    → view ≡ record { tree = m; found = f; extra = spans; settings = settings } → m ≡ n → f ≡ found n → IsExtra language text n P spans → IsView language text n P settings view
+    → view ≡ record { tree = m; text = text; found = f; extra = spans; settings = settings } → m ≡ n → f ≡ found n → IsExtra language text n P spans → IsView language text n P settings view
 view_is language text n P settings view m f spans is tree scopes extra = record {
   of_tree = ap (λ (v : View). v.tree) is ∙ tree;
+  of_text = ap (λ (v : View). v.text) is;
   of_scopes = ap (λ (v : View). v.found) is ∙ scopes;
   of_extra = subst (IsExtra language text n P) (sym (ap (λ (v : View). v.extra) is)) extra;
   of_settings = ap (λ (v : View). v.settings) is;

@@ -55,9 +55,10 @@ pub record IsExtra (language : Language) (text : List ℕ) (n : SyntaxTree) (P :
   pub is_wrapped : (r : ℕ) → is_flagged wrapped r ≡ has_number (wrapped_rows n script 1) r
   pub but_needed : (o : ℕ) (last : Token) (d : Spells ways Token (Seen Token (NextIn text any_goal) language) (seen_in language) o script n (beginning_in language text) last P) → extra ≡ spans_but_needed wrapped P (pair_rows ways Token (Seen Token (NextIn text any_goal) language) (seen_in language) d 1)
 
--- What rules look at in a script: its tree, its scopes, its extra pairs, and the settings.
+-- What rules look at in a script: its tree, its text, its scopes, its extra pairs, and the settings.
 pub record IsView (language : Language) (text : List ℕ) (n : SyntaxTree) (P : List Pair) (settings : Settings) (view : View) : Type 0 where
   pub of_tree : view.tree ≡ n
+  pub of_text : view.text ≡ text
   pub of_scopes : view.found ≡ found n
   pub of_extra : IsExtra language text n P view.extra
   pub of_settings : view.settings ≡ settings

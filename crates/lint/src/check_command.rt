@@ -129,15 +129,17 @@ fn extra_spans(alloc: Global, parsed: &Parsed<'_>) -> Result<Vec<Span>, AllocErr
 fn reports(
     alloc: Global,
     rules: &[Box<dyn Rule>],
+    source: &Source<'_>,
     parsed: &Parsed<'_>,
     settings: &Settings,
 ) -> Result<Vec<Report>, AllocError>
     requires script { IsScript parsed.now.program parsed.now.pairs.items }
-    ensures { IfOk result (λ reports. (language text : _) → IsUtf8 text → Reports (all_found (λ b. called b) (λ b. finds b) rules.now) language text parsed.now.program parsed.now.pairs.items settings.now reports.items) }
+    requires utf8 { IsUtf8 source.now }
+    ensures { IfOk result (λ reports. (language : _) → Reports (all_found (λ b. called b) (λ b. finds b) rules.now) language source.now parsed.now.program parsed.now.pairs.items settings.now reports.items) }
 {
     let extra = extra_spans(alloc, parsed)?;
     let scopes = resolve(alloc, parsed.program())?;
-    let view = View::new(parsed.program(), &scopes, &extra, settings);
+    let view = View::new(parsed.program(), source.text(), &scopes, &extra, settings);
     let reports = run_rules(alloc, rules, &view)?;
     Ok(reports)
 }
@@ -171,7 +173,7 @@ fn report<'s>(
     ensures lines { IfOk result (λ answer. (language : _) → ReportsLines (all_found (λ b. called b) (λ b. finds b) rules.now) form language source.now parsed.now.program parsed.now.pairs.items settings.now answer) }
     ensures writable { IfOk result IsWritable }
 {
-    let reports = reports(alloc, rules, parsed, settings)?;
+    let reports = reports(alloc, rules, source, parsed, settings)?;
     let lines = lines_of(alloc, form, source, &reports)?;
     Ok(Answer::Text(lines, report_status(&reports)))
 }

@@ -48,28 +48,28 @@ mutual
   nothing-parts b (part t ps) = ap (λ l. l ++ over_parts (λ b t. []) b ps) (nothing-nodes b t) ∙ nothing-parts b ps
   nothing-parts b (gap ps) = nothing-parts b ps
 
-none-looking : (null b : Bool) (t : Tree) (o : Option NodeRule) → of_looking no_rules null b t o ≡ []
-none-looking null b t None = refl
-none-looking null b t (Some Equality) = refl
-none-looking null b t (Some Debugger) = refl
-none-looking null b t (Some Empty) = refl
-none-looking null b t (Some Var) = refl
+none-looking : (v : View) (b : Bool) (t : Tree) (o : Option NodeRule) → of_looking no_rules v b t o ≡ []
+none-looking v b t None = refl
+none-looking v b t (Some Equality) = refl
+none-looking v b t (Some Debugger) = refl
+none-looking v b t (Some Empty) = refl
+none-looking v b t (Some Var) = refl
 
 -- no rules find nothing
 pub none-found : (v : View) → found_on_nodes no_rules v ≡ []
-none-found v = (λ i. over_nodes (λ b t. none-looking v.settings.allow_null b t (looking_at (kind_of t)) i) false v.tree) ∙ nothing-nodes false v.tree
+none-found v = (λ i. over_nodes (λ b t. none-looking v b t (looking_at (kind_of t)) i) false v.tree) ∙ nothing-nodes false v.tree
 
 -- one more rule reports what it reports, of the kinds that it looks at
-joined : (rs : NodeRules) (r : NodeRule) (null b : Bool) (t : Tree) → has rs r ≡ false → of_rules rs null b t ++ of_node r null b t ≡ of_rules (with_rule rs r) null b t
-joined rs Equality null b (node BinaryExpression w x s e ps) h = ap (λ c. cond c (of_node Equality null b (node BinaryExpression w x s e ps)) [] ++ of_node Equality null b (node BinaryExpression w x s e ps)) h
-joined rs Equality null b (node _ w x s e ps) h = append-nil _
-joined rs Debugger null b (node DebuggerStatement w x s e ps) h = ap (λ c. cond c (of_node Debugger null b (node DebuggerStatement w x s e ps)) [] ++ of_node Debugger null b (node DebuggerStatement w x s e ps)) h
-joined rs Debugger null b (node _ w x s e ps) h = append-nil _
-joined rs Empty null b (node BlockStatement w x s e ps) h = ap (λ c. cond c (of_node Empty null b (node BlockStatement w x s e ps)) [] ++ of_node Empty null b (node BlockStatement w x s e ps)) h
-joined rs Empty null b (node SwitchStatement w x s e ps) h = ap (λ c. cond c (of_node Empty null b (node SwitchStatement w x s e ps)) [] ++ of_node Empty null b (node SwitchStatement w x s e ps)) h
-joined rs Empty null b (node _ w x s e ps) h = append-nil _
-joined rs Var null b (node VariableDeclaration w x s e ps) h = ap (λ c. cond c (of_node Var null b (node VariableDeclaration w x s e ps)) [] ++ of_node Var null b (node VariableDeclaration w x s e ps)) h
-joined rs Var null b (node _ w x s e ps) h = append-nil _
+joined : (rs : NodeRules) (r : NodeRule) (v : View) (b : Bool) (t : Tree) → has rs r ≡ false → of_rules rs v b t ++ of_node r v b t ≡ of_rules (with_rule rs r) v b t
+joined rs Equality v b (node BinaryExpression w x s e ps) h = ap (λ c. cond c (of_node Equality v b (node BinaryExpression w x s e ps)) [] ++ of_node Equality v b (node BinaryExpression w x s e ps)) h
+joined rs Equality v b (node _ w x s e ps) h = append-nil _
+joined rs Debugger v b (node DebuggerStatement w x s e ps) h = ap (λ c. cond c (of_node Debugger v b (node DebuggerStatement w x s e ps)) [] ++ of_node Debugger v b (node DebuggerStatement w x s e ps)) h
+joined rs Debugger v b (node _ w x s e ps) h = append-nil _
+joined rs Empty v b (node BlockStatement w x s e ps) h = ap (λ c. cond c (of_node Empty v b (node BlockStatement w x s e ps)) [] ++ of_node Empty v b (node BlockStatement w x s e ps)) h
+joined rs Empty v b (node SwitchStatement w x s e ps) h = ap (λ c. cond c (of_node Empty v b (node SwitchStatement w x s e ps)) [] ++ of_node Empty v b (node SwitchStatement w x s e ps)) h
+joined rs Empty v b (node _ w x s e ps) h = append-nil _
+joined rs Var v b (node VariableDeclaration w x s e ps) h = ap (λ c. cond c (of_node Var v b (node VariableDeclaration w x s e ps)) [] ++ of_node Var v b (node VariableDeclaration w x s e ps)) h
+joined rs Var v b (node _ w x s e ps) h = append-nil _
 
 unheld : (r : NodeRule) → has no_rules r ≡ false
 unheld Equality = refl
@@ -80,14 +80,14 @@ unheld Var = refl
 -- a rule that isn't among them joins them
 pub joins : (rs : NodeRules) (r : NodeRule) (v : View) → has rs r ≡ false → IsPermutation (found_on_nodes rs v ++ found_alone r v) (found_on_nodes (with_rule rs r) v)
 joins rs r v h =
-    subst (IsPermutation (found_on_nodes rs v ++ found_alone r v)) (λ i. over_nodes (λ b t. joined rs r v.settings.allow_null b t h i) false v.tree)
-    (both-nodes (of_rules rs v.settings.allow_null) (of_node r v.settings.allow_null) false v.tree)
+    subst (IsPermutation (found_on_nodes rs v ++ found_alone r v)) (λ i. over_nodes (λ b t. joined rs r v b t h i) false v.tree)
+    (both-nodes (of_rules rs v) (of_node r v) false v.tree)
 
 -- one rule alone
-pub alone : (r : NodeRule) (null : Bool) (t : Tree) → over_nodes (of_rules (with_rule no_rules r) null) false t ≡ over_nodes (of_node r null) false t
-alone r null t =
-    sym (λ i. over_nodes (λ b t. joined no_rules r null b t (unheld r) i) false t)
-    ∙ (λ i. over_nodes (λ b t. none-looking null b t (looking_at (kind_of t)) i ++ of_node r null b t) false t)
+pub alone : (r : NodeRule) (v : View) (t : Tree) → over_nodes (of_rules (with_rule no_rules r) v) false t ≡ over_nodes (of_node r v) false t
+alone r v t =
+    sym (λ i. over_nodes (λ b t. joined no_rules r v b t (unheld r) i) false t)
+    ∙ (λ i. over_nodes (λ b t. none-looking v b t (looking_at (kind_of t)) i ++ of_node r v b t) false t)
 
 -- ---- a list of rules, one by one
 

@@ -18,12 +18,12 @@ looking_at SwitchStatement = Some Empty
 looking_at VariableDeclaration = Some Var
 looking_at _ = None
 
--- what a rule reports of a node
-abbrev pub of_node : NodeRule → Bool → Bool → Tree → List Report
-of_node Equality null b tree = of_equality null tree
-of_node Debugger null b tree = of_debugger tree
-of_node Empty null b tree = of_empty b tree
-of_node Var null b tree = of_var tree
+-- what a rule reports of a node in a view
+abbrev pub of_node : NodeRule → View → Bool → Tree → List Report
+of_node Equality v b tree = of_equality v.settings.allow_null tree
+of_node Debugger v b tree = of_debugger tree
+of_node Empty v b tree = of_empty v b tree
+of_node Var v b tree = of_var tree
 
 abbrev pub no_rules : NodeRules
 no_rules = record { equality = false; debugger = false; empty = false; var = false }
@@ -41,12 +41,12 @@ with_rule rules Empty = record rules { empty = true }
 with_rule rules Var = record rules { var = true }
 
 -- what the rule that looks at a node reports of it, if it is among these
-abbrev pub of_looking : NodeRules → Bool → Bool → Tree → Option NodeRule → List Report
-of_looking rules null b tree None = []
-of_looking rules null b tree (Some rule) = cond (has rules rule) (of_node rule null b tree) []
+abbrev pub of_looking : NodeRules → View → Bool → Tree → Option NodeRule → List Report
+of_looking rules v b tree None = []
+of_looking rules v b tree (Some rule) = cond (has rules rule) (of_node rule v b tree) []
 
-abbrev pub of_rules : NodeRules → Bool → Bool → Tree → List Report
-of_rules rules null b tree = of_looking rules null b tree (looking_at (kind_of tree))
+abbrev pub of_rules : NodeRules → View → Bool → Tree → List Report
+of_rules rules v b tree = of_looking rules v b tree (looking_at (kind_of tree))
 
 -- no node, or one without parts at which no rule looks
 abbrev pub IsPassed : Option Tree → Type 0
@@ -55,11 +55,11 @@ IsPassed (Some tree) = (looking_at (kind_of tree) ≡ None) × (part_count (part
 
 -- what they find in a script
 abbrev pub found_on_nodes : NodeRules → View → List Report
-found_on_nodes rules v = over_nodes (of_rules rules v.settings.allow_null) false v.tree
+found_on_nodes rules v = over_nodes (of_rules rules v) false v.tree
 
 -- what one of them finds
 abbrev pub found_alone : NodeRule → View → List Report
-found_alone rule v = over_nodes (of_node rule v.settings.allow_null) false v.tree
+found_alone rule v = over_nodes (of_node rule v) false v.tree
 
 -- a rule finds what a rule on nodes finds
 abbrev pub IsOnNodes : NodeRule → (View → List Report) → Type 0

@@ -1,6 +1,6 @@
 -- What each rule reports. Names of rules and texts are bytes.
 use Rattle.std.specs.Prelude.{ℕ, Bool, true, false, not, cond, ◌+◌, ◌&&◌, ◌||◌, nat_eq, List, [], ◌∷◌, ◌++◌, map, Option, Some, None, is_none, codes}
-use Rattle.std.specs.List.{list_any}
+use Rattle.std.specs.List.{list_any, slice_range}
 use Rattle.std.specs.Str.{bytes_eq}
 use Prim.Native.String.{String}
 use Rattle.tree.specs.declared.kind.Kind.{Kind}
@@ -17,9 +17,10 @@ use Rattle.rules.specs.BuiltIn.{is_built_in_for}
 use Rattle.rules.specs.Reports.{Report}
 use Rattle.rules.specs.Settings.{Settings, is_global}
 
--- what rules look at: the script, its scopes, the spans of the extra pairs, the settings
+-- what rules look at: the script, its text, its scopes, the spans of the extra pairs, the settings
 pub record View : Type 0 where
   pub tree : Tree
+  pub text : List ℕ
   pub found : Found
   pub extra : List Span
   pub settings : Settings
@@ -72,10 +73,19 @@ abbrev pub is_empty : Parts → Bool
 is_empty none = true
 is_empty _ = false
 
-abbrev pub of_empty : Bool → Tree → List Report
-of_empty b (node BlockStatement text flags from to parts) = cond (is_empty parts && not b) (report "no-empty" from to (codes "empty block") ∷ []) []
-of_empty b (node SwitchStatement text flags from to parts) = cond (is_empty (others parts)) (report "no-empty" from to (codes "empty switch") ∷ []) []
-of_empty b (node _ text flags from to parts) = []
+-- A comment stands in an empty block, from its `{` to behind its `}`: there is only white space and comments between the two, and of all these only a
+-- comment has a `/`.
+abbrev pub has_comment : List ℕ → ℕ → ℕ → Bool
+has_comment text from to = list_any (λ b. nat_eq b 47) (slice_range text from to)
+
+-- the settings let an empty block be for the comment in it
+abbrev pub lets_be : View → ℕ → ℕ → Bool
+lets_be v from to = v.settings.allow_comments && has_comment v.text from to
+
+abbrev pub of_empty : View → Bool → Tree → List Report
+of_empty v b (node BlockStatement text flags from to parts) = cond (is_empty parts && not (b || lets_be v from to)) (report "no-empty" from to (codes "empty block") ∷ []) []
+of_empty v b (node SwitchStatement text flags from to parts) = cond (is_empty (others parts)) (report "no-empty" from to (codes "empty switch") ∷ []) []
+of_empty v b (node _ text flags from to parts) = []
 
 abbrev pub of_var : Tree → List Report
 of_var (node VariableDeclaration text flags from to parts) = cond (is text "var") (report "no-var" from to (codes "use let or const instead of var") ∷ []) []
@@ -88,7 +98,7 @@ abbrev pub no_debugger : View → List Report
 no_debugger v = over_nodes (λ b t. of_debugger t) false v.tree
 
 abbrev pub no_empty : View → List Report
-no_empty v = over_nodes of_empty false v.tree
+no_empty v = over_nodes (of_empty v) false v.tree
 
 abbrev pub no_var : View → List Report
 no_var v = over_nodes (λ b t. of_var t) false v.tree

@@ -14,7 +14,7 @@ use Rattle.rules.specs.declared.languages.Languages.{Languages}
 use Rattle.rules.specs.Settings.{Settings}
 
 unfoldable pub is_key : List ℕ → Bool
-is_key text = bytes_eq text (codes "rules") || (bytes_eq text (codes "globals") || (bytes_eq text (codes "env") || (bytes_eq text (codes "edition") || (bytes_eq text (codes "source-type") || (bytes_eq text (codes "allow-null") || bytes_eq text (codes "ignore-underscore"))))))
+is_key text = bytes_eq text (codes "rules") || (bytes_eq text (codes "globals") || (bytes_eq text (codes "env") || (bytes_eq text (codes "edition") || (bytes_eq text (codes "source-type") || (bytes_eq text (codes "allow-null") || (bytes_eq text (codes "allow-comments") || bytes_eq text (codes "ignore-underscore")))))))
 
 abbrev pub knows_keys : Members → Bool
 knows_keys no_members = true
@@ -89,8 +89,8 @@ off_of (Some d) = option_and_then off_of_members (as_table d)
 
 abbrev pub settings_of : Members → Option Settings
 settings_of ms = cond (knows_keys ms)
-    (option_and_then (λ o. option_and_then (λ g. option_and_then (λ e. option_and_then (λ l. option_and_then (λ a. option_map (λ u. record { off = o; globals = g; environments = e; languages = l; allow_null = a; ignore_underscore = u })
-    (flag_of (get_member (codes "ignore-underscore") ms))) (flag_of (get_member (codes "allow-null") ms))) (languages_of ms)) (environments_of (get_member (codes "env") ms))) (globals_of (get_member (codes "globals") ms)))
+    (option_and_then (λ o. option_and_then (λ g. option_and_then (λ e. option_and_then (λ l. option_and_then (λ a. option_and_then (λ c. option_map (λ u. record { off = o; globals = g; environments = e; languages = l; allow_null = a; allow_comments = c; ignore_underscore = u })
+    (flag_of (get_member (codes "ignore-underscore") ms))) (flag_of (get_member (codes "allow-comments") ms))) (flag_of (get_member (codes "allow-null") ms))) (languages_of ms)) (environments_of (get_member (codes "env") ms))) (globals_of (get_member (codes "globals") ms)))
     (off_of (get_member (codes "rules") ms)))
     None
 

@@ -54,13 +54,7 @@ impl Rule for EqEqEq {
 
     /// Adds what the rule finds.
     fn check(&self, view: &View, out: &mut Vec<Report>) -> Result<(), AllocError> {
-        push_found(
-            NodeRule::Equality,
-            self.alloc,
-            view.settings.allows_null(),
-            view.program,
-            out,
-        )
+        push_found(NodeRule::Equality, self.alloc, view, out)
     }
 
     /// It is a rule over nodes, and runs in one walk with the others of that kind.

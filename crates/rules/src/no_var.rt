@@ -50,7 +50,7 @@ impl Rule for NoVar {
 
     /// Adds what the rule finds.
     fn check(&self, view: &View, out: &mut Vec<Report>) -> Result<(), AllocError> {
-        push_found(NodeRule::Var, self.alloc, false, view.program, out)
+        push_found(NodeRule::Var, self.alloc, view, out)
     }
 
     /// It is a rule over nodes, and runs in one walk with the others of that kind.

@@ -4,6 +4,7 @@ ghost use Rattle.std.specs.Prelude.{◌≡◌, ◌++◌, OnOk};
 ghost use Rattle.tree.specs.Node.{node_tree};
 ghost use Rattle.rules.specs.Appends.{Grows};
 ghost use Rattle.rules.specs.NodeRules.{of_node};
+ghost use Rattle.rules.specs.RuleViews.{seen};
 
 use crate::eqeqeq::push_equality;
 use crate::no_debugger::push_debugger;
@@ -147,13 +148,15 @@ pub(crate) fn push_node(
     of_function: bool,
     out: &mut Vec<Report>,
 ) -> Result<(), AllocError>
-    ensures found { OnOk result (out.new.items ≡ out.old.items ++ of_node rule walk.allow_null of_function (node_tree node.entry)) }
+    ensures found { OnOk result (out.new.items ≡ out.old.items ++ of_node rule (seen walk.entry.view.now) of_function (node_tree node.entry)) }
     ensures kept { Grows out.old.items out.new.items }
 {
     match rule {
-        NodeRule::Equality => push_equality(walk.alloc, walk.allow_null, node, out),
+        NodeRule::Equality => {
+            push_equality(walk.alloc, walk.view.settings.allows_null(), node, out)
+        },
         NodeRule::Debugger => push_debugger(walk.alloc, node, out),
-        NodeRule::Empty => push_empty(walk.alloc, node, of_function, out),
+        NodeRule::Empty => push_empty(walk.alloc, walk.view, node, of_function, out),
         NodeRule::Var => push_var(walk.alloc, node, out),
     }
 }

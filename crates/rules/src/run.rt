@@ -71,9 +71,9 @@ fn gather(alloc: Global, rules: &[Box<dyn Rule>], view: &View) -> Result<Vec<Rep
     let walk = NodeWalk {
         rules: together,
         alloc,
-        allow_null: view.settings.allows_null(),
+        view,
     };
-    push_all_found(walk, view.program, &mut found)?;
+    push_all_found(walk, &mut found)?;
     Ok(found)
 }
 

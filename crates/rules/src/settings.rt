@@ -11,7 +11,7 @@ use std::collections::BTreeSet;
 use std::marker::Model;
 
 /// Which rules are on, which names a script may use without declaring them, in which environments it runs, in which languages it may be,
-/// and two options of rules.
+/// and three options of rules.
 ///
 /// The global names stand in a tree by order, not by hash: settings may be a stranger's, who could choose names that hash
 /// alike.
@@ -22,6 +22,7 @@ pub struct Settings {
     environments: Environments,
     languages: Languages,
     allow_null: bool,
+    allow_comments: bool,
     ignore_underscore: bool,
 }
 
@@ -31,7 +32,7 @@ impl Model for Settings {
 
     ghost Value = { Settings };
 
-    ghost view = { λ s. record { off = map string_bytes s.off.items; globals = map string_bytes s.globals.keys; environments = s.environments; languages = s.languages; allow_null = s.allow_null; ignore_underscore = s.ignore_underscore } };
+    ghost view = { λ s. record { off = map string_bytes s.off.items; globals = map string_bytes s.globals.keys; environments = s.environments; languages = s.languages; allow_null = s.allow_null; allow_comments = s.allow_comments; ignore_underscore = s.ignore_underscore } };
 }
 
 /// Whether the name is among these.
@@ -47,16 +48,17 @@ impl Settings {
     ghost use Rattle.std.specs.Str.{bytes_eq};
     ghost use Rattle.rules.specs.Settings.{default_settings, is_global, is_on};
 
-    /// Settings with these rules turned off, these globals, these environments, these languages and these two options.
+    /// Settings with these rules turned off, these globals, these environments, these languages and these three options.
     pub(crate) fn new(
         off: Vec<String>,
         globals: BTreeSet<String>,
         environments: Environments,
         languages: Languages,
         allow_null: bool,
+        allow_comments: bool,
         ignore_underscore: bool,
     ) -> Settings
-        ensures { result ≡ record { off = map string_bytes off.items; globals = map string_bytes globals.keys; environments = environments; languages = languages; allow_null = allow_null; ignore_underscore = ignore_underscore } }
+        ensures { result ≡ record { off = map string_bytes off.items; globals = map string_bytes globals.keys; environments = environments; languages = languages; allow_null = allow_null; allow_comments = allow_comments; ignore_underscore = ignore_underscore } }
     {
         Settings {
             off,
@@ -64,12 +66,13 @@ impl Settings {
             environments,
             languages,
             allow_null,
+            allow_comments,
             ignore_underscore,
         }
     }
 
     /// The settings where nothing is said: every rule is on, there are no global names and no environments, a script may be in any
-    /// language, both options are off. Takes no memory.
+    /// language, the three options are off. Takes no memory.
     pub fn default_settings(alloc: Global) -> Settings
         ensures { result ≡ default_settings }
     {
@@ -79,6 +82,7 @@ impl Settings {
             environments: Environments::none(),
             languages: Languages::all(),
             allow_null: false,
+            allow_comments: false,
             ignore_underscore: false,
         }
     }
@@ -116,6 +120,13 @@ impl Settings {
         ensures { result ≡ self.now.allow_null }
     {
         self.allow_null
+    }
+
+    /// Whether `no-empty` leaves blocks alone that have a comment.
+    pub fn allows_comments(&self) -> bool
+        ensures { result ≡ self.now.allow_comments }
+    {
+        self.allow_comments
     }
 
     /// Whether `no-unused-vars` leaves names alone that begin with `_`.

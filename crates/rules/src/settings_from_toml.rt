@@ -227,6 +227,9 @@ fn settings_of(alloc: Global, table: &Table) -> Result<Settings, SettingsError>
     let Some(allow_null) = flag(table, "allow-null") else {
         return Err(SettingsError::Unfit);
     };
+    let Some(allow_comments) = flag(table, "allow-comments") else {
+        return Err(SettingsError::Unfit);
+    };
     let Some(ignore_underscore) = flag(table, "ignore-underscore") else {
         return Err(SettingsError::Unfit);
     };
@@ -236,6 +239,7 @@ fn settings_of(alloc: Global, table: &Table) -> Result<Settings, SettingsError>
         environments,
         languages,
         allow_null,
+        allow_comments,
         ignore_underscore,
     ))
 }
@@ -247,8 +251,8 @@ impl Settings {
 
     /// The settings of a TOML text: `rules`, a table of names of rules, each true or false; `globals`, an array of
     /// strings; `env`, an array of names of environments; `edition`, 2020 or 2022, and `source-type`, "script" or "module", where there are
-    /// no modules of 2020; `allow-null` and `ignore-underscore`, each true or false; each
-    /// key at most once, and left out as in `default_settings`.
+    /// no modules of 2020; `allow-null`, `allow-comments` and `ignore-underscore`, each true or false;
+    /// each key at most once, and left out as in `default_settings`.
     ///
     /// # Errors
     ///

@@ -6,19 +6,20 @@ ghost use Rattle.tree.specs.Tree.{part_at};
 ghost use Rattle.rules.specs.Appends.{Grows};
 ghost use Rattle.rules.specs.NodeRules.{IsPassed, of_node, of_rules};
 ghost use Rattle.rules.specs.Rules.{is_function, over_nodes};
+ghost use Rattle.rules.specs.RuleViews.{seen};
 
 use crate::report::Report;
 use crate::rule_list::{NodeRule, NodeRules, push_node};
+use crate::view::View;
 use std::alloc::{AllocError, Global};
-use tree::{Kind, Node, NodeList, Program};
+use tree::{Kind, Node, NodeList};
 
-/// A walk over nodes: the rules that report, what they ask of the settings, and where reports take their memory from.
+/// A walk over nodes: the rules that report, what they look at, and where reports take their memory from.
 #[derive(Clone, Copy)]
-pub(crate) struct NodeWalk {
+pub(crate) struct NodeWalk<'w, 'v, 't, 's> {
     pub(crate) rules: NodeRules,
     pub(crate) alloc: Global,
-    /// Whether comparisons with `null` are allowed.
-    pub(crate) allow_null: bool,
+    pub(crate) view: &'w View<'v, 't, 's>,
 }
 
 /// Whether the kind is that of a function.
@@ -36,31 +37,26 @@ fn is_function(kind: Kind) -> bool
 pub(crate) fn push_found(
     rule: NodeRule,
     alloc: Global,
-    allow_null: bool,
-    program: &Program,
+    view: &View,
     out: &mut Vec<Report>,
 ) -> Result<(), AllocError>
-    ensures found { OnOk result (out.new.items ≡ out.old.items ++ over_nodes (of_node rule allow_null) false program.now) }
+    ensures found { OnOk result (out.new.items ≡ out.old.items ++ over_nodes (of_node rule (seen view.now)) false view.now.program.now) }
     ensures kept { Grows out.old.items out.new.items }
 {
     let walk = NodeWalk {
         rules: NodeRules::none().with(rule),
         alloc,
-        allow_null,
+        view,
     };
-    push_all_found(walk, program, out)
+    push_all_found(walk, out)
 }
 
 /// Appends what rules report of all nodes of a script.
-pub(crate) fn push_all_found(
-    walk: NodeWalk,
-    program: &Program,
-    out: &mut Vec<Report>,
-) -> Result<(), AllocError>
-    ensures found { OnOk result (out.new.items ≡ out.old.items ++ over_nodes (of_rules walk.rules walk.allow_null) false program.now) }
+pub(crate) fn push_all_found(walk: NodeWalk, out: &mut Vec<Report>) -> Result<(), AllocError>
+    ensures found { OnOk result (out.new.items ≡ out.old.items ++ over_nodes (of_rules walk.entry.rules (seen walk.entry.view.now)) false walk.entry.view.now.program.now) }
     ensures kept { Grows out.old.items out.new.items }
 {
-    push_nodes(walk, program.root(), false, out)
+    push_nodes(walk, walk.view.program.root(), false, out)
 }
 
 /// Appends what rules report of a node and of all nodes below it. `of_function`: the node is a part of a function.
@@ -71,7 +67,7 @@ fn push_nodes(
     of_function: bool,
     out: &mut Vec<Report>,
 ) -> Result<(), AllocError>
-    ensures found { OnOk result (out.new.items ≡ out.old.items ++ over_nodes (of_rules walk.rules walk.allow_null) of_function (node_tree node.entry)) }
+    ensures found { OnOk result (out.new.items ≡ out.old.items ++ over_nodes (of_rules walk.entry.rules (seen walk.entry.view.now)) of_function (node_tree node.entry)) }
     ensures kept { Grows out.old.items out.new.items }
 {
     push_selected(walk, node, of_function, out)?;
@@ -116,7 +112,7 @@ fn push_selected(
     of_function: bool,
     out: &mut Vec<Report>,
 ) -> Result<(), AllocError>
-    ensures found { OnOk result (out.new.items ≡ out.old.items ++ of_rules walk.rules walk.allow_null of_function (node_tree node.entry)) }
+    ensures found { OnOk result (out.new.items ≡ out.old.items ++ of_rules walk.entry.rules (seen walk.entry.view.now) of_function (node_tree node.entry)) }
     ensures kept { Grows out.old.items out.new.items }
 {
     let Some(rule) = NodeRule::looking_at(node.kind()) else {

@@ -6,7 +6,7 @@ use Rattle.lint.proofs.check_command.report.Goals as goal
 pub returns-clause-lines : goal.returns-clause-lines
 returns-clause-lines g c = λ language. record {
   reports = c.in_ok-reports.reports.items;
-  are_reports = c.in_ok-reports.ensures language c.args.source.now c.requires.utf8;
+  are_reports = c.in_ok-reports.ensures language;
   are_lines = c.in_ok-lines.ensures ∙ ap (lines_in c.args.form c.args.source.now) c.deref.ensures.value;
   is_status = c.report_status.ensures ∙ ap report_status c.deref-2.ensures.value;
 }

@@ -6,11 +6,11 @@ use Rattle.lint.proofs.CheckAnswers.{view_is}
 use Rattle.lint.proofs.check_command.reports.Goals as goal
 
 pub returns : goal.returns
-returns g c = λ language text utf8. record {
+returns g c = λ language. record {
   view = seen c.new-view.result;
-  is_view = view_is language text c.args.parsed.now.program c.args.parsed.now.pairs.items c.args.settings.now (seen c.new-view.result) c.program-2.result.now _ c.deref.result.now c.new-view.ensures c.program-2.ensures
+  is_view = view_is language c.args.source.now c.args.parsed.now.program c.args.parsed.now.pairs.items c.args.settings.now (seen c.new-view.result) c.program-2.result.now _ c.deref.result.now c.new-view.ensures c.program-2.ensures
       (c.in_ok-scopes.ensures ∙ ap found c.program.ensures)
-      (subst (IsExtra language text c.args.parsed.now.program c.args.parsed.now.pairs.items) (sym c.deref.ensures.value) (c.in_ok-extra.ensures language text utf8));
+      (subst (IsExtra language c.args.source.now c.args.parsed.now.program c.args.parsed.now.pairs.items) (sym c.deref.ensures.value) (c.in_ok-extra.ensures language c.args.source.now c.requires.utf8));
   all = c.in_ok-reports.ensures.found;
   sorted = c.in_ok-reports.ensures.sorted;
 }

@@ -25,5 +25,5 @@ returns g c =
     rules-end c.args.rules.now c.loop-rule.rule-index
     (λ rs. all_found (λ b. (goal.Rule-dyn g (b.vtable, b.value)).called b.value) (λ b. (goal.Rule-dyn g (b.vtable, b.value)).finds b.value) rs v)
     refl _ c.loop-rule.found.items (found_on_nodes c.loop-rule.together v) c.push_all_found.new.out.items c.loop-rule-test.false
-    (c.in_ok-push_all_found.ensures.found ∙ ap (λ null. c.loop-rule.found.items ++ over_nodes (of_rules c.loop-rule.together null) false c.args.view.now.program.now) c.allows_null.ensures)
+    c.in_ok-push_all_found.ensures.found
     c.loop-rule.invariant

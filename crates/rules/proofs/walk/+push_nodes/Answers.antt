@@ -4,13 +4,14 @@ use Rattle.tree.specs.Tree.{part_at, part_count, parts_drop, parts_of}
 use Rattle.rules.specs.Appends.{Grows}
 use Rattle.rules.specs.NodeRules.{IsPassed, of_rules}
 use Rattle.rules.specs.Rules.{is_function, over_parts}
+use Rattle.rules.specs.RuleViews.{seen}
 use Rattle.rules.proofs.NodeLemmas.{grows-on, over_nodes-is, over-given, over-passed, over-end}
 use Rattle.rules.proofs.walk.+push_nodes.Goals as goal
 use Rattle.rules.proofs.walk.+push_nodes.Goals.{in-Some+in_ok-push_nodes, in_default}
 
 pub loop-index-init : goal.loop-index-init
 loop-index-init t c =
-    let f = of_rules c.args.walk.rules c.args.walk.allow_null in
+    let f = of_rules c.args.walk.rules (seen c.args.walk.view.now) in
     let t = node_tree c.args.node in
     record {
       found = ap (λ a. a ++ over_parts f c.is_function-inner.result (parts_of t)) c.in_ok-push_selected.ensures.found ∙ append_assoc c.args.out.now.items (f c.args.of_function t) _
@@ -21,7 +22,7 @@ loop-index-init t c =
 
 pub loop-index-preserved : goal.loop-index-preserved
 loop-index-preserved t c =
-    let f = of_rules c.args.walk.rules c.args.walk.allow_null in
+    let f = of_rules c.args.walk.rules (seen c.args.walk.view.now) in
     let ps = parts_of (node_tree c.args.node) in
     let b = c.is_function-inner.result in
     let at = ap (λ q. part_at q c.loop-index.index) c.parts-parts.ensures in
@@ -32,11 +33,11 @@ loop-index-preserved t c =
         kept = grows-on c.args.out.now.items c.loop-index.out.items c.match-looked_at.out.items c.loop-index.invariant.kept (subst (λ v. Grows c.loop-index.out.items v.items) (sym w.out-is) w.in_ok-push_nodes.ensures.kept);
       }
       | in_default w ↦ record {
-        found = ap (λ v. v.items ++ over_parts f b (parts_drop (c.loop-index.index + 1) ps)) w.out-is ∙ over-passed c.args.walk.rules c.args.walk.allow_null b ps c.loop-index.index c.loop-index.out.items _ l (subst IsPassed at (w.in_default.ensures.passed refl)) c.loop-index.invariant.found;
+        found = ap (λ v. v.items ++ over_parts f b (parts_drop (c.loop-index.index + 1) ps)) w.out-is ∙ over-passed c.args.walk.rules (seen c.args.walk.view.now) b ps c.loop-index.index c.loop-index.out.items _ l (subst IsPassed at (w.in_default.ensures.passed refl)) c.loop-index.invariant.found;
         kept = subst (λ v. Grows c.args.out.now.items v.items) (sym w.out-is) c.loop-index.invariant.kept;
       }
     ]
 
 pub returns-clause-found : goal.returns-clause-found
 returns-clause-found t c =
-    over-end (of_rules c.args.walk.rules c.args.walk.allow_null) c.is_function-inner.result (parts_of (node_tree c.args.node)) c.loop-index.index c.loop-index.out.items _ (subst (λ n. n ≤ c.loop-index.index) (c.len-index-end.ensures ∙ ap part_count c.parts-parts.ensures) c.loop-index-test.false) c.loop-index.invariant.found
+    over-end (of_rules c.args.walk.rules (seen c.args.walk.view.now)) c.is_function-inner.result (parts_of (node_tree c.args.node)) c.loop-index.index c.loop-index.out.items _ (subst (λ n. n ≤ c.loop-index.index) (c.len-index-end.ensures ∙ ap part_count c.parts-parts.ensures) c.loop-index-test.false) c.loop-index.invariant.found
