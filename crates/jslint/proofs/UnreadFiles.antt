@@ -1,5 +1,5 @@
 -- Runs over opened files, and files that can't be opened or read.
-use Rattle.std.proofs.Common.{◌≡◌, ◌∙◌, ℕ, List, [], Bool, true, false, Option, None, Some, is_some, IfSome, Result, Err, inl, inr, refl, sym, ap, subst, true≢false}
+use Rattle.std.proofs.Common.{◌≡◌, ◌∙◌, ℕ, List, [], Bool, true, false, Option, None, Some, is_some, IfSome, Result, Ok, Err, inl, inr, refl, sym, ap, subst, true≢false}
 use Rattle.std.specs.Borrow.{Bor}
 use Rattle.std.specs.Option.{option_map}
 use Rattle.clap.specs.Words.{Text}
@@ -10,7 +10,8 @@ use Rattle.commands.specs.declared.language_choice.LanguageChoice.{LanguageChoic
 use Rattle.commands.specs.declared.refused.Refused.{Refused}
 use Rattle.command_line.specs.declared.line.Line.{Line}
 use Rattle.shipped_rules.specs.ShippedRules.{RunsByRules}
-use Rattle.jslint.specs.Program.{Contents, IsOfFailed, RunsOnce, RunsOpened, RunsOver, StopsBy, no_file, second_name}
+use Rattle.jslint.specs.Opened.{Contents}
+use Rattle.jslint.specs.Program.{IsOfFailed, RunsOnce, RunsOpened, RunsOver, StopsBy, no_file, second_name}
 use Rattle.jslint.specs.declared.files.Stop.{Stop}
 use Rattle.jslint.specs.declared.files.Stop.TheVariants.{Refuses, Unread}
 
@@ -19,7 +20,7 @@ has_second : (line : Line) (name : Text) → second_name line ≡ Some name → 
 has_second line name named none = true≢false (sym (ap is_some named) ∙ ap (λ (second : Option (Bor Text)). is_some (option_map (λ s. s.now) second)) none)
 
 -- a run over one file
-pub run_of_one : (gives : Contents) (line : Line) (choice : LanguageChoice) (before after given : Option (List ℕ)) (failed reader_failed : Bool) (result : Result ℕ Refused) → line.second ≡ None → gives line.file.now given
+pub run_of_one : (gives : Contents) (line : Line) (choice : LanguageChoice) (before after given : Option (List ℕ)) (failed reader_failed : Bool) (result : Result ℕ Refused) → line.second ≡ None → gives line.file.now (Ok given)
     → RunsOver line choice given (Some []) before after reader_failed false failed result → RunsOpened gives line choice before after failed result
 run_of_one gives line choice before after given failed reader_failed result alone is runs = record {
   given = given;
@@ -27,14 +28,14 @@ run_of_one gives line choice before after given failed reader_failed result alon
   reader_failed = reader_failed;
   second_failed = false;
   is_given = is;
-  is_second = subst (λ (s : Option (Bor Text)). IfSome (option_map (λ s. s.now) s) (λ name. gives name (Some []))) (sym alone) tt;
+  is_second = subst (λ (s : Option (Bor Text)). IfSome (option_map (λ s. s.now) s) (λ name. gives name (Ok (Some [])))) (sym alone) tt;
   unnamed = λ none. (refl, refl);
   runs = runs;
 }
 
 -- a run over two
 pub run_of_two : (gives : Contents) (line : Line) (choice : LanguageChoice) (name : Text) (before after given second : Option (List ℕ)) (failed reader_failed second_failed : Bool) (result : Result ℕ Refused)
-    → second_name line ≡ Some name → gives line.file.now given → gives name second
+    → second_name line ≡ Some name → gives line.file.now (Ok given) → gives name (Ok second)
     → RunsOver line choice given second before after reader_failed second_failed failed result → RunsOpened gives line choice before after failed result
 run_of_two gives line choice name before after given second failed reader_failed second_failed result named is also runs = record {
   given = given;
@@ -42,7 +43,7 @@ run_of_two gives line choice name before after given second failed reader_failed
   reader_failed = reader_failed;
   second_failed = second_failed;
   is_given = is;
-  is_second = subst (λ (s : Option Text). IfSome s (λ n. gives n second)) (sym named) also;
+  is_second = subst (λ (s : Option Text). IfSome s (λ n. gives n (Ok second))) (sym named) also;
   unnamed = λ none. absurd (has_second line name named none);
   runs = runs;
 }
@@ -76,7 +77,7 @@ stopped : (gives : Contents) (line : Line) (choice : LanguageChoice) (before aft
     → (refused.fault ≡ ReadFailed → IsOfFailed line run.reader_failed run.second_failed unread) → (stop : Stop) → StopsBy refused unread stop → RunsOnce gives line choice before after failed (Err stop)
 stopped gives line choice before after failed refused unread run which (Refuses same) (other, is) =
     (subst (λ r. r.fault ≡ ReadFailed → ⊥) (sym is) other, subst (λ r. RunsOpened gives line choice before after failed (Err r)) (sym is) run)
-stopped gives line choice before after failed refused unread run which (Unread name failure) (is, named) = inr (
+stopped gives line choice before after failed refused unread run which (Unread name failure) (is, named, behind) = inr (
   record {
     given = run.given;
     second = run.second;
@@ -88,10 +89,11 @@ stopped gives line choice before after failed refused unread run which (Unread n
     runs = same_run gives line choice before after failed refused is run;
   },
   subst (IsOfFailed line run.reader_failed run.second_failed) (sym named) (which is),
+  behind,
 )
 
 -- of a run over one file
-pub stopped_one : (gives : Contents) (line : Line) (choice : LanguageChoice) (before after given : Option (List ℕ)) (failed reader_failed : Bool) (refused : Refused) → line.second ≡ None → gives line.file.now given
+pub stopped_one : (gives : Contents) (line : Line) (choice : LanguageChoice) (before after given : Option (List ℕ)) (failed reader_failed : Bool) (refused : Refused) → line.second ≡ None → gives line.file.now (Ok given)
     → RunsOver line choice given (Some []) before after reader_failed false failed (Err refused) → (stop : Stop) → StopsBy refused line.file.now stop → RunsOnce gives line choice before after failed (Err stop)
 unfolding run_of_one
 stopped_one gives line choice before after given failed reader_failed refused alone is runs stop by =
@@ -100,7 +102,7 @@ stopped_one gives line choice before after given failed reader_failed refused al
 
 -- and of one over two
 pub stopped_two : (gives : Contents) (line : Line) (choice : LanguageChoice) (name unread : Text) (before after given second : Option (List ℕ)) (failed reader_failed second_failed : Bool) (refused : Refused)
-    → second_name line ≡ Some name → gives line.file.now given → gives name second
+    → second_name line ≡ Some name → gives line.file.now (Ok given) → gives name (Ok second)
     → RunsOver line choice given second before after reader_failed second_failed failed (Err refused)
     → (second_failed ≡ true → second_name line ≡ Some unread) → (second_failed ≡ false → unread ≡ line.file.now) → (stop : Stop) → StopsBy refused unread stop → RunsOnce gives line choice before after failed (Err stop)
 unfolding run_of_two

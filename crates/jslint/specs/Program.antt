@@ -22,7 +22,7 @@ use Rattle.shipped_rules.specs.ShippedRules.{RunsByRules}
 use Rattle.commands.specs.Refusal.{WritesLine, refusal_line, status_of}
 use Rattle.commands.specs.declared.language_choice.LanguageChoice.{LanguageChoice}
 use Rattle.commands.specs.declared.refused.Refused.{Refused}
-use Rattle.jslint.specs.Opened.{is_input}
+use Rattle.jslint.specs.Opened.{Contents, is_input}
 use Rattle.jslint.specs.declared.files.Stop.{Stop}
 use Rattle.jslint.specs.declared.files.Stop.TheVariants.{Refuses, Unread}
 
@@ -41,10 +41,6 @@ is_twice line = option_map_or (λ (name : Text). is_input line.file.now && is_in
 -- the name of a file of a line
 abbrev pub IsNamed : Line → Text → Type 0
 IsNamed line name = (name ≡ line.file.now) ⊎ (second_name line ≡ Some name)
-
--- What there is to read under a name: of an opened file, or of standard input for `-`.
-abbrev pub Contents : Type 1
-Contents = Text → Option (List ℕ) → Type 0
 
 -- a run of a line's command in a language, by what its two readers have to give and what its writer took, and which of them has failed
 abbrev pub RunsOver : Line → LanguageChoice → (given second before after : Option (List ℕ)) → (reader_failed second_failed writer_failed : Bool) → Result ℕ Refused → Type 0
@@ -65,32 +61,49 @@ pub record RunsOpened (gives : Contents) (line : Line) (choice : LanguageChoice)
   pub second : Option (List ℕ)
   pub reader_failed : Bool
   pub second_failed : Bool
-  pub is_given : gives line.file.now given
-  pub is_second : IfSome (second_name line) (λ name. gives name second)
+  pub is_given : gives line.file.now (Ok given)
+  pub is_second : IfSome (second_name line) (λ name. gives name (Ok second))
   pub unnamed : line.second ≡ None → (second ≡ Some []) × (second_failed ≡ false)
   pub runs : RunsOver line choice given second before after reader_failed second_failed failed result
 
--- the name of a file that can't be opened is that of a file of the line, and nothing was written
-abbrev pub IsUnopened : Line → Option (List ℕ) → Option (List ℕ) → Bool → Text → Type 0
-IsUnopened line before after failed name =
-    (failed ≡ false) × Keeps before after × IsNamed line name
+-- why a file can't be opened, by the kind of the system's error
+abbrev pub failure_of : IoErrorKind → ReadFailure
+failure_of io_error_kind.NotFound = Missing
+failure_of io_error_kind.NotADirectory = Missing
+failure_of io_error_kind.IsADirectory = Folder
+failure_of io_error_kind.PermissionDenied = NotPermitted
+failure_of io_error_kind.FilesystemLoop = LinkCircle
+failure_of _ = Other
+
+-- the opening of the file of a name, or the read of standard input, gave an error, which is why there is nothing to read
+abbrev pub IsFailure : Contents → Text → ReadFailure → Type 0
+IsFailure gives name failure = (kind : IoErrorKind) × gives name (Err kind) × (failure ≡ failure_of kind)
+
+-- a file that can't be opened is one of the line, its opening failed, and nothing was written
+abbrev pub IsUnopened : Contents → Line → Option (List ℕ) → Option (List ℕ) → Bool → Text → ReadFailure → Type 0
+IsUnopened gives line before after failed name failure =
+    (failed ≡ false) × Keeps before after × IsNamed line name × IsFailure gives name failure
 
 -- the name is that of the file whose reader failed
 abbrev pub IsOfFailed : Line → Bool → Bool → Text → Type 0
 IsOfFailed line reader_failed second_failed name =
     ((reader_failed ≡ true) × (name ≡ line.file.now)) ⊎ ((second_failed ≡ true) × (second_name line ≡ Some name))
 
+-- of what was opened it is only told that it is a folder
+abbrev pub IsOfOpened : ReadFailure → Type 0
+IsOfOpened failure = (failure ≡ Folder) ⊎ (failure ≡ Other)
+
 -- a run over opened files was refused since one failed, and that is the file of this name
-abbrev pub IsUnread : Contents → Line → LanguageChoice → Option (List ℕ) → Option (List ℕ) → Bool → Text → Type 0
-IsUnread gives line choice before after failed name =
-    (run : RunsOpened gives line choice before after failed (Err no_file)) × IsOfFailed line run.reader_failed run.second_failed name
+abbrev pub IsUnread : Contents → Line → LanguageChoice → Option (List ℕ) → Option (List ℕ) → Bool → Text → ReadFailure → Type 0
+IsUnread gives line choice before after failed name failure =
+    (run : RunsOpened gives line choice before after failed (Err no_file)) × IsOfFailed line run.reader_failed run.second_failed name × IsOfOpened failure
 
 -- A run over the files of a line: its status; or its refusal; or the name of the file that can't be opened or read, for which there is no
 -- other refusal.
 abbrev pub RunsOnce : Contents → Line → LanguageChoice → Option (List ℕ) → Option (List ℕ) → Bool → Result ℕ Stop → Type 0
 RunsOnce gives line choice before after failed (Ok status) = RunsOpened gives line choice before after failed (Ok status)
 RunsOnce gives line choice before after failed (Err (Refuses refused)) = (refused.fault ≢ ReadFailed) × RunsOpened gives line choice before after failed (Err refused)
-RunsOnce gives line choice before after failed (Err (Unread name failure)) = IsUnopened line before after failed name.now ⊎ IsUnread gives line choice before after failed name.now
+RunsOnce gives line choice before after failed (Err (Unread name failure)) = IsUnopened gives line before after failed name.now failure ⊎ IsUnread gives line choice before after failed name.now failure
 
 -- a line whose files are both standard input is refused for that; nothing was written
 abbrev pub RefusesTwice : Line → Option (List ℕ) → Option (List ℕ) → Bool → Result ℕ Stop → Type 0
@@ -105,21 +118,12 @@ RunsOnFiles gives line choice before after failed result =
 -- what becomes of a refusal of a run over opened files, by the name of the file that failed, where one did
 abbrev pub StopsBy : Refused → Text → Stop → Type 0
 StopsBy refused unread (Refuses same) = (refused.fault ≢ ReadFailed) × (same ≡ refused)
-StopsBy refused unread (Unread name failure) = (refused.fault ≡ ReadFailed) × (name.now ≡ unread)
+StopsBy refused unread (Unread name failure) = (refused.fault ≡ ReadFailed) × (name.now ≡ unread) × IsOfOpened failure
 
 -- a refusal has words of its own
 abbrev pub IsTold : Stop → Type 0
 IsTold (Refuses refused) = refused.fault ≢ Usage
 IsTold (Unread name failure) = Unit {0}
-
--- why a file can't be opened, by the kind of the system's error
-abbrev pub failure_of : IoErrorKind → ReadFailure
-failure_of io_error_kind.NotFound = Missing
-failure_of io_error_kind.NotADirectory = Missing
-failure_of io_error_kind.IsADirectory = Folder
-failure_of io_error_kind.PermissionDenied = NotPermitted
-failure_of io_error_kind.FilesystemLoop = LinkCircle
-failure_of _ = Other
 
 -- ---- the program
 

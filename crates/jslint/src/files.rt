@@ -1,10 +1,10 @@
 //! The files of a line: they are opened, the command is run over them, and one that can't be read is named.
 
-ghost use Rattle.std.specs.Prelude.{◌≡◌, IfErr, IfSome, None, Some, false};
-ghost use Rattle.jslint.specs.Opened.{Gives};
-ghost use Rattle.jslint.specs.Program.{IsNamed, IsTold, RunsOnFiles, RunsOnce, StopsBy, is_twice, second_name};
+ghost use Rattle.std.specs.Prelude.{◌≡◌, IfErr, IfSome, None, Ok, Some, false, true};
+ghost use Rattle.jslint.specs.Opened.{Gives, is_input};
+ghost use Rattle.jslint.specs.Program.{IsFailure, IsNamed, IsTold, RunsOnFiles, RunsOnce, StopsBy, is_twice, second_name};
 
-use crate::opened::{Opened, failure_behind, input_failure, is_input, open};
+use crate::opened::{FileSystem, Opened, failure_behind, input_failure, is_input, open};
 use command_line::{Line, ReadFailure};
 use commands::{LanguageChoice, Refused};
 use shipped_rules::run_with_rules;
@@ -53,7 +53,7 @@ fn stop_of<'a, R: Files>(rt: &R, refused: Refused, unread: &'a str) -> Stop<'a>
 }
 
 /// Runs the command over the script alone.
-fn run_alone<'a, R: Files + Input + AllocGlobal, W: Sink>(
+fn run_alone<'a, R: FileSystem + AllocGlobal, W: Sink>(
     rt: &R,
     line: Line<'a>,
     choice: LanguageChoice,
@@ -61,11 +61,11 @@ fn run_alone<'a, R: Files + Input + AllocGlobal, W: Sink>(
     output: &mut W,
 ) -> Result<u8, Stop<'a>>
     requires alone { line.second ≡ None }
-    requires given { Gives R.File.remaining R.Reader.remaining line.file.now (⟦<Opened<Device<R::File>, Device<R::Reader>> as Feed>⟧.left file.old) }
+    requires given { Gives (R.opens rt.now) (R.reads rt.now) R.File.remaining R.Reader.remaining line.file.now (Ok (⟦<Opened<Device<R::File>, Device<R::Reader>> as Feed>⟧.left file.old)) }
     requires reads { ⟦<Opened<Device<R::File>, Device<R::Reader>> as Feed>⟧.failed file.old ≡ false }
     requires writes { W.failed output.old ≡ false }
     ensures told { IfErr result (λ stop. IsTold stop) }
-    ensures answer { RunsOnce (Gives R.File.remaining R.Reader.remaining) line.entry choice (W.taken output.old) (W.taken output.new) (W.failed output.new) result }
+    ensures answer { RunsOnce (Gives (R.opens rt.now) (R.reads rt.now) R.File.remaining R.Reader.remaining) line.entry choice (W.taken output.old) (W.taken output.new) (W.failed output.new) result }
 {
     match run_with_rules(rt.alloc(), line.command, choice, file, &mut NoFile, output) {
         Ok(status) => Ok(status),
@@ -74,7 +74,7 @@ fn run_alone<'a, R: Files + Input + AllocGlobal, W: Sink>(
 }
 
 /// Opens the second file, and runs the command over both.
-fn run_both<'a, R: Files + Input + AllocGlobal, W: Sink>(
+fn run_both<'a, R: FileSystem + AllocGlobal, W: Sink>(
     rt: &R,
     line: Line<'a>,
     choice: LanguageChoice,
@@ -83,11 +83,11 @@ fn run_both<'a, R: Files + Input + AllocGlobal, W: Sink>(
     output: &mut W,
 ) -> Result<u8, Stop<'a>>
     requires second { second_name line ≡ Some name.now }
-    requires given { Gives R.File.remaining R.Reader.remaining line.file.now (⟦<Opened<Device<R::File>, Device<R::Reader>> as Feed>⟧.left file.old) }
+    requires given { Gives (R.opens rt.now) (R.reads rt.now) R.File.remaining R.Reader.remaining line.file.now (Ok (⟦<Opened<Device<R::File>, Device<R::Reader>> as Feed>⟧.left file.old)) }
     requires reads { ⟦<Opened<Device<R::File>, Device<R::Reader>> as Feed>⟧.failed file.old ≡ false }
     requires writes { W.failed output.old ≡ false }
     ensures told { IfErr result (λ stop. IsTold stop) }
-    ensures answer { RunsOnce (Gives R.File.remaining R.Reader.remaining) line.entry choice (W.taken output.old) (W.taken output.new) (W.failed output.new) result }
+    ensures answer { RunsOnce (Gives (R.opens rt.now) (R.reads rt.now) R.File.remaining R.Reader.remaining) line.entry choice (W.taken output.old) (W.taken output.new) (W.failed output.new) result }
 {
     let mut second = match open(rt, name) {
         Ok(second) => second,
@@ -108,7 +108,8 @@ fn run_both<'a, R: Files + Input + AllocGlobal, W: Sink>(
 
 /// The name of the line's file that is standard input, if one is.
 fn input_name<'a>(line: Line<'a>) -> Option<&'a str>
-    ensures { IfSome result (λ name. IsNamed line.entry name.now) }
+    ensures named { IfSome result (λ name. IsNamed line.entry name.now) }
+    ensures input { IfSome result (λ name. is_input name.now ≡ true) }
 {
     if is_input(line.file) {
         return Some(line.file);
@@ -120,13 +121,14 @@ fn input_name<'a>(line: Line<'a>) -> Option<&'a str>
 }
 
 /// The name and the failure of a standard input that is named and can't be read.
-fn unread_input<'a, R: Input>(rt: &R, line: Line<'a>) -> Option<(&'a str, ReadFailure)>
-    ensures { IfSome result (λ unread. IsNamed line.entry unread.0.now) }
+fn unread_input<'a, R: FileSystem>(rt: &R, line: Line<'a>) -> Option<(&'a str, ReadFailure)>
+    ensures named { IfSome result (λ unread. IsNamed line.entry unread.0.now) }
+    ensures error { IfSome result (λ unread. IsFailure (Gives (R.opens rt.now) (R.reads rt.now) R.File.remaining R.Reader.remaining) unread.0.now unread.1) }
 {
     let Some(name) = input_name(line) else {
         return None;
     };
-    match input_failure(rt) {
+    match input_failure(rt, name) {
         Some(failure) => Some((name, failure)),
         None => None,
     }
@@ -134,7 +136,7 @@ fn unread_input<'a, R: Input>(rt: &R, line: Line<'a>) -> Option<(&'a str, ReadFa
 
 /// Opens the files, the script first, and runs the command. Standard input is asked before: a file that is opened takes the place of one
 /// that is closed.
-fn run_once<'a, R: Files + Input + AllocGlobal, W: Sink>(
+fn run_once<'a, R: FileSystem + AllocGlobal, W: Sink>(
     rt: &R,
     line: Line<'a>,
     choice: LanguageChoice,
@@ -142,7 +144,7 @@ fn run_once<'a, R: Files + Input + AllocGlobal, W: Sink>(
 ) -> Result<u8, Stop<'a>>
     requires { W.failed output.old ≡ false }
     ensures told { IfErr result (λ stop. IsTold stop) }
-    ensures answer { RunsOnce (Gives R.File.remaining R.Reader.remaining) line.entry choice (W.taken output.old) (W.taken output.new) (W.failed output.new) result }
+    ensures answer { RunsOnce (Gives (R.opens rt.now) (R.reads rt.now) R.File.remaining R.Reader.remaining) line.entry choice (W.taken output.old) (W.taken output.new) (W.failed output.new) result }
 {
     if let Some((name, failure)) = unread_input(rt, line) {
         return Err(Stop::Unread(name, failure));
@@ -168,7 +170,7 @@ fn is_twice(line: Line<'_>) -> bool
 }
 
 /// Runs the command over the files of a line, unless both are standard input, which can be read once.
-pub(crate) fn open_and_run<'a, R: Files + Input + AllocGlobal, W: Sink>(
+pub(crate) fn open_and_run<'a, R: FileSystem + AllocGlobal, W: Sink>(
     rt: &R,
     line: Line<'a>,
     choice: LanguageChoice,
@@ -176,7 +178,7 @@ pub(crate) fn open_and_run<'a, R: Files + Input + AllocGlobal, W: Sink>(
 ) -> Result<u8, Stop<'a>>
     requires { W.failed output.old ≡ false }
     ensures told { IfErr result (λ stop. IsTold stop) }
-    ensures answer { RunsOnFiles (Gives R.File.remaining R.Reader.remaining) line.entry choice (W.taken output.old) (W.taken output.new) (W.failed output.new) result }
+    ensures answer { RunsOnFiles (Gives (R.opens rt.now) (R.reads rt.now) R.File.remaining R.Reader.remaining) line.entry choice (W.taken output.old) (W.taken output.new) (W.failed output.new) result }
 {
     if is_twice(line) {
         return Err(Stop::Unread(line.file, ReadFailure::Twice));

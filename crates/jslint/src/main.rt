@@ -19,10 +19,11 @@ use command_line::{
 };
 use commands::{Refused, write_refusal};
 use files::{Stop, open_and_run};
+use opened::FileSystem;
 use source_text::{Device, Fault, Sink};
 use std::alloc::Global;
 use std::process::ExitCode;
-use std::rt::{Env, Files};
+use std::rt::Env;
 use std::{env, io};
 
 /// Why the command line has no words for us.
@@ -58,7 +59,7 @@ fn explain_no_words<W: Sink>(why: NoWords, errors: &mut W) -> u8
 }
 
 /// Runs a line over its files, in the language that it asks for, and says why where it is refused. Answers the exit status.
-fn run_line<R: Files + Input + AllocGlobal, O: Sink, W: Sink>(
+fn run_line<R: FileSystem + AllocGlobal, O: Sink, W: Sink>(
     rt: &R,
     line: Line,
     output: &mut O,
@@ -66,7 +67,7 @@ fn run_line<R: Files + Input + AllocGlobal, O: Sink, W: Sink>(
 ) -> u8
     requires writes { O.failed output.old ≡ false }
     requires tells { W.failed errors.old ≡ false }
-    ensures { RunsLine (Gives R.File.remaining R.Reader.remaining) line.entry (written O.taken O.failed output.old output.new) (written W.taken W.failed errors.old errors.new) result }
+    ensures { RunsLine (Gives (R.opens rt.now) (R.reads rt.now) R.File.remaining R.Reader.remaining) line.entry (written O.taken O.failed output.old output.new) (written W.taken W.failed errors.old errors.new) result }
 {
     let choice = match line.language() {
         Ok(choice) => choice,
@@ -80,7 +81,7 @@ fn run_line<R: Files + Input + AllocGlobal, O: Sink, W: Sink>(
 }
 
 /// Does what the words ask for, and answers the exit status.
-fn run_arguments<R: Files + Input + AllocGlobal + Print + Eprint, O: Sink, W: Sink>(
+fn run_arguments<R: FileSystem + AllocGlobal + Print + Eprint, O: Sink, W: Sink>(
     rt: &R,
     words: &[&str],
     output: &mut O,
@@ -88,7 +89,7 @@ fn run_arguments<R: Files + Input + AllocGlobal + Print + Eprint, O: Sink, W: Si
 ) -> u8
     requires writes { O.failed output.old ≡ false }
     requires tells { W.failed errors.old ≡ false }
-    ensures { Obeys (Gives R.File.remaining R.Reader.remaining) (map (λ w. w.now) words.now) (written O.taken O.failed output.old output.new) (written W.taken W.failed errors.old errors.new) result }
+    ensures { Obeys (Gives (R.opens rt.now) (R.reads rt.now) R.File.remaining R.Reader.remaining) (map (λ w. w.now) words.now) (written O.taken O.failed output.old output.new) (written W.taken W.failed errors.old errors.new) result }
 {
     match command_line(rt.alloc(), words) {
         Ok(line) => run_line(rt, line, output, errors),
@@ -105,14 +106,14 @@ fn lent<'a>(alloc: Global, words: &'a [String]) -> Result<Vec<&'a str>, NoWords>
 }
 
 /// Does what the words of the command line ask for, and answers the exit status.
-fn obey_own_words<R: Env + Files + Input + AllocGlobal + Print + Eprint, O: Sink, W: Sink>(
+fn obey_own_words<R: Env + FileSystem + AllocGlobal + Print + Eprint, O: Sink, W: Sink>(
     rt: &R,
     output: &mut O,
     errors: &mut W,
 ) -> u8
     requires writes { O.failed output.old ≡ false }
     requires tells { W.failed errors.old ≡ false }
-    ensures { Answers (Gives R.File.remaining R.Reader.remaining) (written O.taken O.failed output.old output.new) (written W.taken W.failed errors.old errors.new) result }
+    ensures { Answers (Gives (R.opens rt.now) (R.reads rt.now) R.File.remaining R.Reader.remaining) (written O.taken O.failed output.old output.new) (written W.taken W.failed errors.old errors.new) result }
 {
     let owned = match arguments(rt) {
         Ok(owned) => owned,

@@ -1,14 +1,51 @@
 //! What is read under a name: the file of that name, or standard input for `-`.
 
-ghost use Rattle.std.specs.Prelude.{◌≡◌, IfOk, false};
+ghost use Rattle.std.specs.Prelude.{◌≡◌, IfErr, IfOk, IfSome, Ok, false, true};
 ghost use Rattle.jslint.specs.Opened.{Gives, is_input};
-ghost use Rattle.jslint.specs.Program.{failure_of};
+ghost use Rattle.jslint.specs.Program.{IsFailure, IsOfOpened, failure_of};
 
 use command_line::ReadFailure;
 use source_text::{Device, DeviceFault, Feed};
 use std::fs;
 use std::io::{ErrorKind, Read};
 use std::rt::Files;
+
+/// Files and standard input of std. What an opening and a read may answer has a name here, and code that knows of a type only that it is
+/// such a file system has an answer from a call alone.
+pub(crate) trait FileSystem: Files + Input {
+    ghost use Rattle.std.specs.Prelude.{List, ℕ, Result};
+    ghost use Rattle.std.specs.declared.io.ErrorKind.{ErrorKind};
+
+    /// The file system, the name of a file, and what its opening may answer.
+    ghost opens: { Self → List ℕ → Result Self.File ErrorKind → Type 0 };
+
+    /// The file system, and what a read of no byte of standard input may answer.
+    ghost reads: { Self → Result ℕ ErrorKind → Type 0 };
+
+    /// Opens a file for reading, and nothing else. Of an error it answers the kind.
+    fn open_to_read(&self, name: &str) -> Result<Self::File, ErrorKind>
+        ensures { opens self.now name.now result };
+
+    /// Reads no byte of standard input. Of an error it answers the kind.
+    fn read_no_byte(&self) -> Result<usize, ErrorKind>
+        ensures { reads self.now result };
+}
+
+impl<R: Files + Input> FileSystem for R {
+    ghost opens = { λ _ _ _. Unit {0} };
+
+    ghost reads = { λ _ _. Unit {0} };
+
+    /// Calls `open` of std once, which promises nothing.
+    fn open_to_read(&self, name: &str) -> Result<R::File, ErrorKind> {
+        fs::open(self, name).map_err(|error| error.kind())
+    }
+
+    /// Calls `read` of std once.
+    fn read_no_byte(&self) -> Result<usize, ErrorKind> {
+        self.reader().read(&mut []).map_err(|error| error.kind())
+    }
+}
 
 /// A file that was opened, or standard input.
 #[derive(Drop)]
@@ -64,32 +101,38 @@ fn failure_of(kind: ErrorKind) -> ReadFailure
 }
 
 /// Opens what a name stands for, for reading.
-pub(crate) fn open<R: Files + Input>(
+pub(crate) fn open<R: FileSystem>(
     rt: &R,
     name: &str,
 ) -> Result<Opened<Device<R::File>, Device<R::Reader>>, ReadFailure>
     ensures ready { IfOk result (λ file. ⟦<Opened<Device<R::File>, Device<R::Reader>> as Feed>⟧.failed file ≡ false) }
-    ensures given { IfOk result (λ file. Gives R.File.remaining R.Reader.remaining name.now (⟦<Opened<Device<R::File>, Device<R::Reader>> as Feed>⟧.left file)) }
+    ensures given { IfOk result (λ file. Gives (R.opens rt.now) (R.reads rt.now) R.File.remaining R.Reader.remaining name.now (Ok (⟦<Opened<Device<R::File>, Device<R::Reader>> as Feed>⟧.left file))) }
+    ensures error { IfErr result (IsFailure (Gives (R.opens rt.now) (R.reads rt.now) R.File.remaining R.Reader.remaining) name.now) }
 {
     if is_input(name) {
         return Ok(Opened::Input(Device::of_reader(rt.reader())));
     }
-    match fs::open(rt, name) {
+    match rt.open_to_read(name) {
         Ok(file) => Ok(Opened::File(Device::of_reader(file))),
-        Err(error) => Err(failure_of(error.kind())),
+        Err(kind) => Err(failure_of(kind)),
     }
 }
 
-/// Why standard input can't be read, if it can't: it is asked for no byte.
-pub(crate) fn input_failure<R: Input>(rt: &R) -> Option<ReadFailure> {
-    match rt.reader().read(&mut []) {
+/// Why standard input can't be read under its name, if it can't: it is asked for no byte.
+pub(crate) fn input_failure<R: FileSystem>(rt: &R, name: &str) -> Option<ReadFailure>
+    requires { is_input name.now ≡ true }
+    ensures { IfSome result (IsFailure (Gives (R.opens rt.now) (R.reads rt.now) R.File.remaining R.Reader.remaining) name.now) }
+{
+    match rt.read_no_byte() {
         Ok(_) => None,
-        Err(error) => Some(failure_of(error.kind())),
+        Err(kind) => Some(failure_of(kind)),
     }
 }
 
 /// Why what was opened can't be read. A device keeps no error, so this looks again at what has the name; standard input has none.
-pub(crate) fn failure_behind<R: Files>(rt: &R, name: &str) -> ReadFailure {
+pub(crate) fn failure_behind<R: Files>(rt: &R, name: &str) -> ReadFailure
+    ensures { IsOfOpened result }
+{
     if is_input(name) {
         return ReadFailure::Other;
     }
