@@ -1,7 +1,6 @@
 -- What each rule reports. Names of rules and texts are bytes.
 use Rattle.std.specs.Prelude.{ℕ, Bool, true, false, not, cond, ◌+◌, ◌&&◌, ◌||◌, nat_eq, List, [], ◌∷◌, ◌++◌, map, Option, Some, None, is_none, codes}
 use Rattle.std.specs.List.{list_any, slice_range}
-use Rattle.std.specs.Str.{bytes_eq}
 use Prim.Native.String.{String}
 use Rattle.tree.specs.declared.kind.Kind.{Kind}
 use Rattle.tree.specs.declared.kind.Kind.TheVariants.{BinaryExpression, BlockStatement, DebuggerStatement, Literal, SwitchStatement, VariableDeclaration, FunctionExpression, FunctionDeclaration, ArrowFunctionExpression}

@@ -239,8 +239,9 @@ impl<'s> Writer<'s> {
         let opened = count_opened(lexeme.start, cursor);
         let is_tight = self.write_gap(lexeme, opened > 0)?;
         // (comments may have moved before the last token, so it is looked for only now)
-        let goes_on =
-            opened == 0 && self.last.binds_its_line() && self.is_on_one_line(self.last.end());
+        let goes_on = opened == 0
+            && self.last.binds_its_line()
+            && self.is_on_one_line(self.last.end());
         for _ in 0..opened {
             self.out.push(b'(')?;
         }

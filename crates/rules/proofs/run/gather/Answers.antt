@@ -1,6 +1,5 @@
-use Rattle.std.proofs.Common.{◌++◌, false, refl, ap, ◌∙◌}
-use Rattle.rules.specs.NodeRules.{found_on_nodes, of_rules}
-use Rattle.rules.specs.Rules.{over_nodes}
+use Rattle.std.proofs.Common.{refl, ap, ◌∙◌}
+use Rattle.rules.specs.NodeRules.{found_on_nodes}
 use Rattle.rules.specs.Run.{all_found, found_by}
 use Rattle.rules.specs.RuleViews.{seen}
 use Rattle.rules.proofs.Together.{none-found, rules-begin, rules-turn, rules-end}
