@@ -3,7 +3,6 @@ import bisect
 import re
 
 from .casts import RULE, WORD, casts
-from .hints import Guesses
 from .languages import first_reading
 from .outcomes import ANSWER, Outcome, Refused, refusal
 from .reading import PART, read
