@@ -16,7 +16,7 @@ function withU(p){
 let n=0,acc=0,unlike=0,viaU=0,annexB=0,skipped=0;const classes={};
 for(const file of process.argv.slice(2))for(const line of fs.readFileSync(file,'utf8').split('\n')){
   const l=JSON.parse(line);const k=l.lastIndexOf('/');const p=l.slice(1,k);const flags=l.slice(k+1);if(flags.includes('v')){skipped++;continue}
-  const m=patternFault(l,{whole:true})===null;n++;if(m)acc++;
+  const m=patternFault(l)===null;n++;if(m)acc++;
   let why=null;
   if(flags.includes('u')){const v=ok(p,'u');if(v!==m)why=(m?'model alone ':'V8 alone ')}
   else{
@@ -26,7 +26,7 @@ for(const file of process.argv.slice(2))for(const line of fs.readFileSync(file,'
     if(q!==null){viaU++;const w=ok(q,'u');if(w!==m)why=(m?'model alone, by u ':'V8 alone, by u ')}
     if(v&&!m)annexB++;
   }
-  if(why){if(/ͺ/.test(p))why+='[XID] ';if(/\{9{20},/.test(p))why+='[clamp] ';unlike++;(classes[why]??=[]).push(l)}
+  if(why){if(/\{9{20},/.test(p))why+='[clamp] ';unlike++;(classes[why]??=[]).push(l)}
 }
 console.log({n,acc,unlike,viaU,annexB,skipped});
 for(const c in classes)console.log(c,classes[c].length,classes[c].sort((a,b)=>a.length-b.length).slice(0,25));
