@@ -72,7 +72,7 @@ module _ (Ways : Role → Tree → List (List (PieceOf Role))) (S : Type 0) (Nex
       reserved_word : {o : ℕ} {n : Tree} {w : List ℕ} {t : Token} {s e : S} →
           Reads S Next behind Keyword w s t e → is_keyword w ≡ true → n ≡ node Identifier w plain t.start (behind e).stop none → Spells o word n s e []
 
-    -- the same of the pieces of a spelling and the parts of the node
+    -- the pieces of a spelling run over the parts of the node
     pub data Runs : ℕ → List (PieceOf Role) → Parts → S → S → List Pair → Type 0 where
       done : {o : ℕ} {s : S} → Runs o [] none s s []
       step : {o : ℕ} {q : PieceOf Role} {qs : List (PieceOf Role)} {ps : Parts} {s m e : S} {P : List Pair} →

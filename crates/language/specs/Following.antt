@@ -54,7 +54,7 @@ module _ (S : Type 0) (Next : S → Token → S → Type 0) (behind : S → Toke
     pub spelled : Spells ways S Next behind o a n s e P
     pub only : (o' : ℕ) (e' : S) (n' : Tree) (P' : List Pair) → Spells ways S Next behind o' a n' s e' P' → Fine n' e' → (e' ≡ e) × (n' ≡ n) × (P' ≡ P)
 
-  -- the same of parts over which pieces run
+  -- the only parts over which pieces run here with what may follow
   pub record FoundPartsWhere (Fine : Parts → S → Type 0) (o : ℕ) (pieces : Parts → List (PieceOf Role)) (s e : S) (ps : Parts) (P : List Pair) : Type 0 where
     pub runs : Runs ways S Next behind o (pieces ps) ps s e P
     pub only : (o' : ℕ) (e' : S) (ps' : Parts) (P' : List Pair) → Runs ways S Next behind o' (pieces ps') ps' s e' P' → Fine ps' e' → (e' ≡ e) × (ps' ≡ ps) × (P' ≡ P)

@@ -126,7 +126,7 @@ FixedTextWithinLimitsIn =
     (language : Language) (other : List ℕ) (n : Tree) (P : List Pair) → IsUtf8 other → height n ≤ max_height → DerivesOpenIn language max_open other n P →
     (m : Tree) × (Q : List Pair) × SameTree m n × (height m ≤ max_height) × DerivesOpenIn language max_open (fixed_text n) m Q × (length Q ≡ length (wrapped_rows n script 1))
 
--- the same within the limits
+-- a fixed text is refused neither for height nor for open parentheses
 abbrev pub FixedTextWithinLimits : Type 0
 FixedTextWithinLimits =
     (other : List ℕ) (n : Tree) (P : List Pair) → IsUtf8 other → WithinLimits other n P →

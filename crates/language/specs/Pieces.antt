@@ -215,7 +215,7 @@ listed f none = []
 listed f (part tree others) = (f tree ∷ separator (kind_of tree) (is_none others)) ++ listed f others
 listed f (gap others) = nothing
 
--- the same, where a gap is a hole, with a comma of its own
+-- parts and holes with commas between them: behind a hole stands a comma of its own
 abbrev pub elements : (Tree → Piece) → Parts → List Piece
 elements f none = []
 elements f (part tree others) = (f tree ∷ separator (kind_of tree) (is_none others)) ++ elements f others

@@ -36,7 +36,7 @@ pub fn no_fewer_pairs()
     ensures { NoFewerPairs }
 {}
 
-/// The same in each language.
+/// In each language, every derivation of every text with the same tree has at least the computed cost of pairs.
 pub fn no_fewer_pairs_in()
     ensures { NoFewerPairsIn }
 {}
@@ -61,7 +61,7 @@ pub fn derived_fits()
     ensures { DerivedFits }
 {}
 
-/// The same in each language.
+/// What a text derives in a language can be laid out.
 pub fn derived_fits_in()
     ensures { DerivedFitsIn }
 {}
@@ -86,22 +86,22 @@ pub fn fixed_text_derives()
     ensures { FixedTextDerives }
 {}
 
-/// The same in each language.
+/// In each language, the fixed text of a script that some text derives derives the script.
 pub fn fixed_text_derives_in()
     ensures { FixedTextDerivesIn }
 {}
 
-/// The same within the limits: a fixed text is refused neither for height nor for open parentheses.
+/// A fixed text is refused neither for height nor for open parentheses.
 pub fn fixed_text_within_limits()
     ensures { FixedTextWithinLimits }
 {}
 
-/// The same in each language.
+/// In each language, a fixed text is refused neither for height nor for open parentheses.
 pub fn fixed_text_within_limits_in()
     ensures { FixedTextWithinLimitsIn }
 {}
 
-/// The same tree, wherever its nodes stand, has the same wrapped nodes and the same fixed text.
+/// Two trees that are one, wherever their nodes stand, have one set of wrapped nodes and one fixed text.
 pub fn places_change_no_layout()
     ensures { PlacesChangeNoLayout }
 {}

@@ -9,7 +9,7 @@ continues b = nat_le 128 b && nat_lt b 192
 abbrev pub ends_line_at : ℕ → ℕ → ℕ → Bool
 ends_line_at b b1 b2 = (b == 10) || (b == 13 && not (b1 == 10)) || (b == 226 && b1 == 128 && (b2 == 168 || b2 == 169))
 
--- the same at a place of a text
+-- whether the character at a place of a text ends a line
 abbrev pub ends_line_in : List ℕ → ℕ → Bool
 ends_line_in text at = ends_line_at (slice_index text at) (slice_index text (at + 1)) (slice_index text (at + 2))
 

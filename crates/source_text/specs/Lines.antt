@@ -15,7 +15,7 @@ ends_line c (d ∷ ds) = is_line_terminator c && not (c == 13 && d == 10)
 abbrev pub after_character : ℕ × ℕ → ℕ → List ℕ → ℕ × ℕ
 after_character before c following = if ends_line c following then (before.0 + 1, 1) else (before.0, before.1 + 1)
 
--- the same behind several characters
+-- line and column behind several characters
 abbrev pub after_characters : ℕ × ℕ → List ℕ → List ℕ → ℕ × ℕ
 after_characters before [] following = before
 after_characters before (c ∷ cs) following = after_characters (after_character before c (cs ++ following)) cs following

@@ -14,7 +14,7 @@ abbrev pub WritesText : List ℕ → Result (Unit {0}) DeviceFault → Option (L
 WritesText text (Ok u) before after failed = Appends before after text × (failed ≡ false)
 WritesText text (Err e) before after failed = AppendsBeginning before after text × (failed ≡ true)
 
--- the same of a text that is made first; where memory was refused, nothing was written
+-- a text that is made first was written, or a beginning of it; where memory was refused, nothing was
 abbrev pub WritesMade : List ℕ → Result (Unit {0}) Fault → Option (List ℕ) → Option (List ℕ) → Bool → Type 0
 WritesMade text (Ok u) before after failed = Appends before after text × (failed ≡ false)
 WritesMade text (Err WriteFailed) before after failed = AppendsBeginning before after text × (failed ≡ true)

@@ -50,7 +50,7 @@ pass_ascii text at u p lt h =
       place = IsCharBoundary-after_ascii text at u lt h;
     }
 
--- the same, by the bytes of the text
+-- a character of one byte is passed, by the bytes of the text
 pub pass_byte : (text bytes : List ℕ) (at : ℕ) → IsUtf8 text → bytes ≡ text → IsPlace text at → at < length bytes → get_or bytes at 0 < 128 → Passed text at (at + 1) (get_or bytes at 0 ∷ [])
 pass_byte text bytes at u e p = subst (λ (x : List ℕ). at < length x → get_or x at 0 < 128 → Passed text at (at + 1) (get_or x at 0 ∷ [])) (sym e) (pass_ascii text at u p)
 

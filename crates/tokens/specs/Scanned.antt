@@ -53,7 +53,7 @@ pub record AllPass (test : ℕ → Bool) (text : List ℕ) (at stop : ℕ) : Typ
   pub passed : Passed text at stop word
   pub all : IsTrue (list_all test word)
 
--- the same, where none follows
+-- characters that all pass a test, up to the first that doesn't
 pub record IsRun (test : ℕ → Bool) (text : List ℕ) (at stop : ℕ) : Type 0 where
   pub run : AllPass test text at stop
   pub ends : IsFalse (begins_with test (behind text stop))

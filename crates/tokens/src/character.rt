@@ -51,7 +51,7 @@ pub(crate) fn ascii_char_at(text: &str, at: usize) -> Option<CharAt>
     })
 }
 
-/// The same as `char_at`, by decoding UTF-8: for characters that aren't of ASCII.
+/// The character at a place, by decoding UTF-8: for characters that aren't of ASCII.
 fn non_ascii_char_at(text: &str, at: usize) -> Option<CharAt>
     requires { IsPlace text.now at }
     ensures some { IfSome result (λ s. Passed text.now at s.end (s.c ∷ [])) }

@@ -345,7 +345,7 @@ pub fn scan<'s>(source: &Source<'s>, at: usize, goal: Goal) -> Result<Token<'s>,
     })
 }
 
-/// The same as `scan`, without the quick look for a name or a punctuator behind white space.
+/// Scans without the quick look for a name or a punctuator behind white space.
 #[inline(never)]
 fn scan_any<'s>(source: &Source<'s>, at: usize, goal: Goal) -> Result<Token<'s>, ScanFault>
     requires { IsPlace source.now at }

@@ -39,7 +39,7 @@ pub(crate) fn skip_trivia(text: &str, at: usize) -> Trivia
     skip_all_trivia(text, at)
 }
 
-/// The same as `skip_trivia`, without the quick test for none.
+/// Skips white space, line terminators and comments, without the quick test for none.
 fn skip_all_trivia(text: &str, at: usize) -> Trivia
     requires { IsPlace text.now at }
     ensures gap { IsGap text.now at result.end result.has_line_break }
@@ -147,7 +147,7 @@ fn separator(text: &str, at: usize) -> Option<Trivia>
     any_separator(text, at)
 }
 
-/// The same as `separator`, without the quick test for none.
+/// Finds the next separator, without the quick test for none.
 fn any_separator(text: &str, at: usize) -> Option<Trivia>
     requires { IsPlace text.now at }
     ensures some { IfSome result (λ g. IsSeparator text.now at g.end g.has_line_break) }
@@ -225,7 +225,7 @@ pub fn hashbang_end(text: &str) -> usize
     line_end(text, second.end)
 }
 
-/// The same as `plain_end`, but this place itself after a `*`.
+/// The `plain_end` of the text, but this place itself after a `*`.
 #[inline]
 fn plain_unless(text: &str, at: usize, starred: bool) -> usize
     requires { IsPlace text.now at }

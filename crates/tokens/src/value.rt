@@ -25,7 +25,7 @@ pub fn string_units(alloc: Global, text: &str) -> Result<Vec<u16>, AllocError>
     }
 }
 
-/// The same of any text: the UTF-16 units of what stands between its first and its last character, none where an escape
+/// The UTF-16 units of what stands between the first and the last character of any text, none where an escape
 /// is bad.
 pub fn quoted_units(alloc: Global, text: &str) -> Result<Vec<u16>, AllocError>
     ensures { IfOk result (λ v. v.items ≡ string_units (chars text.now)) }

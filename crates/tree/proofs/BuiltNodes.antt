@@ -114,7 +114,7 @@ one_more a b l kept base own h f k =
       waiting = waiting;
     }
 
--- the same, of the last so many parts, whatever waits
+-- a node is made of the last so many parts, whatever waits
 pub finishes : (a b : FlatBuilder) (l : Label) (count kept : ℕ) (w : Parts) → AreNodesOf a w → Finishes a b l kept → kept ≡ length a.waiting.items - count
     → AreNodesOf b (push (all_but count w) (node l.kind l.text l.flags l.start l.stop (last_parts count w)))
 finishes a b l count kept w h f k =

@@ -303,7 +303,7 @@ one_before a b l base own xs ys front more ws vs e h s n p q label first count f
       waiting = waiting;
     }
 
--- the same, where it is put before the last so many
+-- a node is put before the last so many
 pub put_before : (a b : FlatBuilder) (l : Label) (count kept number first : ℕ) (w : Parts) (e : FlatNode) → AreNodesOf a w → kept ≡ length a.waiting.items - count
     → ((u : Parts) → take kept a.waiting.items ≡ numbers_of 0 u → number ≡ parts_total u) → number ≤ length a.nodes.items → first ≤ length a.parts.items
     → AreInOrder first 0 (take number a.nodes.items) → AreInOrder (length a.parts.items) first (drop number a.nodes.items)

@@ -30,7 +30,7 @@ pub record PlaceHoldsRows (a : NodeUse) (p : FlatRef) : Type 0 where
   pub own_row : place_row p ≡ cond (has_row a (kind_of (place_tree p))) (Some row) None
   pub own_run : run_of p.tree.now.parts.items p.node.now ≡ numbers_of first (parts_of (place_tree p))
 
--- the same, and the first row in it, if there is one, has this number
+-- a node that stands so holds its row, and each below it its own; the first row in it, if there is one, has this number
 abbrev pub PlaceHoldsRowsFrom : NodeUse → ℕ → FlatRef → Type 0
 PlaceHoldsRowsFrom a r p = (held : PlaceHoldsRows a p) × (held.row ≡ r)
 
@@ -38,7 +38,7 @@ PlaceHoldsRowsFrom a r p = (held : PlaceHoldsRows a p) × (held.row ≡ r)
 unfoldable pub HoldsRows : NodeUse → Node → Type 0
 HoldsRows a n = PlaceHoldsRows a n.place
 
--- the same, and the first row in it, if there is one, has this number
+-- a node of a finished tree holds its row, and each below it its own; the first row in it, if there is one, has this number
 unfoldable pub HoldsRowsFrom : NodeUse → ℕ → Node → Type 0
 HoldsRowsFrom a r n = PlaceHoldsRowsFrom a r n.place
 

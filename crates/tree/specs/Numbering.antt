@@ -29,7 +29,7 @@ NumbersParts pool old new a run r next =
     (first : ℕ) (ps : Parts) → run ≡ numbers_of first ps → AreStanding pool old first ps → r + parts_total ps ≤ most + 1
     → (node_rows new ≡ with_from first (parts_row_list a (part_count ps) 0 r ps) (node_rows old)) × (next ≡ r + parts_rows a (part_count ps) 0 ps)
 
--- the same of all below a node
+-- the rows of all below a node are numbered from this number on
 abbrev pub NumbersBelow : List (Option NodeNumber) → List FlatNode → List FlatNode → NodeUse → ℕ → ℕ → ℕ → Type 0
 NumbersBelow pool old new a number r next =
     (x : FlatNode) → slice_get old number ≡ Some x → NumbersParts pool old new (record { node_use = a; kind = x.kind; flags = x.flags }) (run_of pool x) r next

@@ -31,7 +31,7 @@ abbrev mutual
 abbrev pub IsTooLarge : Tree → Type 0
 IsTooLarge tree = most < max (max (node_total tree) (part_total tree)) (last_place tree)
 
--- the same of some parts and all below them
+-- some parts, or one below them, are too large
 abbrev pub AreTooLarge : Parts → Type 0
 AreTooLarge parts = most < max (max (parts_total parts) (parts_part_total parts)) (parts_last_place parts)
 

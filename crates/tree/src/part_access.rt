@@ -14,7 +14,7 @@ use crate::flat_list::FlatList;
 use crate::flat_ref::FlatRef;
 use crate::node::Node;
 
-/// The same of a part of the finished tree.
+/// A part of the finished tree.
 pub(crate) fn flat_at<'t, 's>(run: FlatList<'t, 's>, index: usize) -> Option<Node<'t, 's>>
     ensures { option_map node_tree result ≡ part_at (run_parts run.entry) index }
 {

@@ -52,7 +52,7 @@ pub(crate) fn number_node(
     number_below(nodes, pool, node_use, number, next)
 }
 
-/// The same of all below a node. It reads the node again, so that less is handed on.
+/// Numbers the rows of all below a node. It reads the node again, so that less is handed on.
 #[cycle(numbering)]
 fn number_below(
     nodes: &mut FlatNodes<'_>,
@@ -78,7 +78,7 @@ fn number_below(
     number_parts(nodes, pool, around, run, row)
 }
 
-/// The same of a node's parts.
+/// Numbers the rows of a node's parts.
 #[cycle(numbering)]
 #[inline(always)]
 fn number_parts(

@@ -199,7 +199,7 @@ module _ (S : Type 0) (Next : S → Token → S → Type 0) (behind : S → Toke
   pub word_found : {o : ℕ} {s e : S} {t : Token} {c : TokenClass} {w : List ℕ} → is_worded c w ≡ true → Reads S Next behind c w s t e → FoundAt S Next behind o word s e (node Identifier w plain t.start (behind e).stop none) []
   word_found {c = c} k h = record { spelled = word_spells c k h; only = λ o' e' n' P' d. same_word k h (word_form d) }
 
-  -- the same where a private name may stand
+  -- a name that is read is the only property's name where a private name may stand
   pub property_found : {o : ℕ} {s e : S} {t : Token} {c : TokenClass} {w : List ℕ} → is_worded c w ≡ true → Reads S Next behind c w s t e → PropertyFound S Next behind det o s e (node Identifier w plain t.start (behind e).stop none) []
   property_found {s = s} {e = e} {t = t} {c = c} {w = w} k h = record { spelled = word_spells c k h; only = λ o' e' n' P' d. of n' (is_private (kind_of n')) d }
     where

@@ -189,12 +189,12 @@ pub division_assigned : found (tokens_with_regexps "a\n/=x/") (program 6 (two (s
 unfolding computing
 division_assigned = refl
 
--- the same behind `a++`
+-- `/=` behind `a++` begins a line of its own
 pub division_behind_update : found (tokens_with_regexps "a++\n/=x/") (program 8 (two (st 0 3 (t UpdateExpression "++" 0 3 (one (id "a" 0)))) (st 4 8 (lit "/=x/" 4)))) ≡ []
 unfolding computing
 division_behind_update = refl
 
--- the same behind a sum
+-- `/=` behind a sum begins a line of its own
 pub division_behind_sum : found (tokens_with_regexps "a + b\n/=x/") (program 10 (two (st 0 5 (t BinaryExpression "+" 0 5 (two (id "a" 0) (id "b" 4)))) (st 6 10 (lit "/=x/" 6)))) ≡ []
 unfolding computing
 division_behind_sum = refl

@@ -268,7 +268,7 @@ pub minus_member_own_judged : judged minus_member_own minus_member ≡ passes
 unfolding judging
 minus_member_own_judged = refl
 
--- the same member: the operand of `-` has In, so nothing is above its bound
+-- a table for this member in which the operand of `-` has In, so nothing is above its bound
 abbrev pub minus_member_foreign : Table
 minus_member_foreign = table (row UnaryExpression "1 1 1 1 1 - - -" ∷ row MemberExpression "1 1 1 0 1 1 1 1" ∷ row SequenceExpression "0 0 0 0 0 - - -" ∷ row Identifier "0 0 0 0 0 0 0 0" ∷ row Identifier "0 0 0 0 0 0 0 0" ∷ []) 1
 

@@ -46,7 +46,7 @@ layout_derives other n P d text last o f g low =
     let x = printed_spells Token (NextIn text any_goal) itself W n script 1 0 o (text_fits other n P d) low f g in
     (x.tree, x.pairs, x.same, (last, x.spells), x.counted ∙ counted_rows W n script 1 (wrapped_marks n script 1))
 
--- the same of tokens, at any position
+-- tokens that are read as a layout spell the node, at any position
 pub layout_spelled : (W : ℕ → Bool) (n : Tree) (a : Role) (r d o : ℕ) (ts us : List Token) → fits W n a r ≡ true → open_in W n a r ≤ o →
     Follows (List Token) Next behind (printed W n a r d) ts us → GoesOn (List Token) Next behind us →
     (m : Tree) × (P : List Pair) × SameTree m n × Spells ways (List Token) Next behind o a m ts us P × (length P ≡ pair_count W n a r)

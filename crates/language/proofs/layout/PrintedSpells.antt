@@ -167,7 +167,7 @@ module _ (S : Type 0) (Next : S → Token → S → Type 0) (behind : S → Toke
     pub same : bare_parts parts ≡ bare_parts ps
     pub counted : length pairs ≡ count
 
-  -- the same node is spelled, with so many pairs
+  -- the node, places aside, is spelled, with so many pairs
   pub record Spelled (o : ℕ) (a : Role) (n : Tree) (s e : S) (count : ℕ) : Type 0 where
     pub tree : Tree
     pub pairs : List Pair

@@ -45,7 +45,7 @@ item_piece r n = put_at (r (kind_of n))
 abbrev pub list_pieces : (Kind → Option Role) → List ℕ → Parts → List (PieceOf Role)
 list_pieces r w ps = goes_to Expression true Any (listed (item_piece r) (bare_parts ps) ++ tok Punctuator w ∷ [])
 
--- the same with holes
+-- items and holes with commas between them, and the closing token
 abbrev pub element_pieces : (Kind → Option Role) → List ℕ → Parts → List (PieceOf Role)
 element_pieces r w ps = goes_to Expression true Any (elements (item_piece r) (bare_parts ps) ++ tok Punctuator w ∷ [])
 
@@ -71,7 +71,7 @@ pattern_same b (node _ w g st en ps) = refl
 pub object_pieces : (ps : Parts) → listed object_part ps ≡ listed (item_piece object_role) ps
 object_pieces ps = λ i. listed (λ n. object_same (kind_of n) n refl i) ps
 
--- the same of an object pattern
+-- the parts of an object pattern are such a list
 pub object_pattern_pieces : (b : Bool) (ps : Parts) → listed (object_pattern_part b) ps ≡ listed (item_piece (object_pattern_role b)) ps
 object_pattern_pieces b ps = λ i. listed (λ n. pattern_same b n i) ps
 
@@ -204,7 +204,7 @@ module _ (S : Type 0) (Next : S → Token → S → Type 0) (behind : S → Toke
       subst (λ q. Runs ways S Next behind o (list_pieces r w (part (node k v g st en qs) (part m ps))) (part (node k v g st en qs) (part m ps)) s e q) (sym z)
       (item_runs Expression true Any (r k) h p (unjoined (separator k false) (listed (item_piece r) (bare_parts (part m ps))) (tok Punctuator w ∷ []) (item_behind Expression true Any (is_rest k) (listed (item_piece r) (bare_parts (part m ps)) ++ tok Punctuator w ∷ []) b c d)))
 
-  -- The same of a list with holes: each hole has a comma behind it.
+  -- What a list with holes begins with: each hole has a comma behind it.
   pub data ElementForm (o : ℕ) (r : Kind → Option Role) (w : List ℕ) (s e : S) (P : List Pair) : Parts → Type 0 where
     no_element : {t : Token} → Reads S Next behind Punctuator w s t e → P ≡ [] → ElementForm o r w s e P none
     a_hole : {ps : Parts} {k : S} {c : Token} → Reads S Next behind Punctuator (codes ",") s c k → Runs ways S Next behind o (element_pieces r w ps) ps k e P → ElementForm o r w s e P (gap ps)

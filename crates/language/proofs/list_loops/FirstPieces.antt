@@ -79,7 +79,7 @@ module _ (S : Type 0) (Next : S → Token → S → Type 0) (behind : S → Toke
   run_part (within {n = n} {ps = ps} {m = m} {P = P} {Q = Q} p d) = record { item = n; rest = ps; mid = m; one = P; more = Q; parts = refl; pairs = refl; spelled = p; runs = d }
   run_part (step p d) = elim p [ ]
 
-  -- the same where the part is known
+  -- a known part is spelled first
   pub record ThePart (o : ℕ) (a : Role) (qs : List (PieceOf Role)) (n : Tree) (ps : Parts) (s e : S) (P : List Pair) : Type 0 where
     pub mid : S
     pub one : List Pair

@@ -59,7 +59,7 @@ module _ (S : Type 0) (Next : S → Token → S → Type 0) (behind : S → Toke
         (sym z.place, u.parts ∙ ap f z.parts, u.pairs ∙ ap (λ w. Q ++ w) z.pairs ∙ append-nil Q);
   }
 
-  -- the same where no piece is left, whatever the parts
+  -- the parts are found where no piece is left, whatever they are
   pub all_read : {Fine : Parts → S → Type 0} {o : ℕ} {all : Parts → List (PieceOf Role)} {s mid : S} {f : Parts → Parts} {Q : List Pair} → Sofar Fine o all s (λ ps. []) mid f Q → FoundPartsWhere S Next behind Fine o all s mid (f none) Q
   all_read a = finished refl (λ o' ps e P d fine. refl) a
 
@@ -84,7 +84,7 @@ module _ (S : Type 0) (Next : S → Token → S → Type 0) (behind : S → Toke
     higher = λ ps. omega arith;
   }
 
-  -- the same where what runs decides it
+  -- pieces that are others only where what runs decides it
   pub retold_where : {Fine : Parts → S → Type 0} {o : ℕ} {left last : Parts → List (PieceOf Role)} {mid : S} → ((o' : ℕ) (ps : Parts) (e : S) (P : List Pair) → Runs ways S Next behind o' (left ps) ps mid e P → Fine ps e → left ps ≡ last ps) →
       ((ps : Parts) (e : S) (P : List Pair) → Runs ways S Next behind o (last ps) ps mid e P → left ps ≡ last ps) → Sofar Fine o left mid last mid (λ ps. ps) []
   retold_where there back = record {

@@ -20,7 +20,7 @@ use Rattle.language.proofs.table.ItemTokens.{Started, item_starts}
 use Rattle.language.proofs.list_loops.StatementLists.{closing_brace, closed_by, Closing, started_follows}
 use Rattle.language.proofs.list_loops.PiecesSoFar.{Sofar, turned, part_is}
 
--- the same of a script or a body, whose first items may be directives
+-- the pieces of a script or a body, whose first items may be directives
 abbrev pub plain_prologue : Bool → Bool → List (PieceOf Role) → Parts → List (PieceOf Role)
 plain_prologue r b zs none = zs
 plain_prologue r b zs (part n ps) = sub (cond b (opening r) (item r)) ∷ plain_prologue r (b && is_directive n) zs ps

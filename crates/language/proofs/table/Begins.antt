@@ -189,7 +189,7 @@ module _ (S : Type 0) (Next : S → Token → S → Type 0) (behind : S → Toke
         runs = subst (λ x. Runs ways S Next behind o (behind_first qs) ps x e P) (sym v.1) u.runs;
       }
 
-  -- the same where the token is a name, a number or a string
+  -- what is taken first where the token is a name, a number or a string
   pub taken_free : IsDetermined S Next behind → (g : Goal) → {o : ℕ} {ps : Parts} {s m e : S} {P : List Pair} {c : TokenClass} {w : List ℕ} {t : Token} (qs : List (PieceOf Role)) → first_of qs ≡ by c w → is_free c ≡ true →
       Runs ways S Next behind o qs ps s e P → ReadBy S Next behind g s t m → Taken o c w t m qs ps e P
   taken_free det g {o} {ps} {s} {m} {e} {P} {c} {w} {t} qs h al d r =

@@ -94,7 +94,7 @@ shuts l (absent ∷ qs) = shuts l qs
 shuts l (never ∷ qs) = shuts l qs
 shuts l (lay z ∷ qs) = shuts l qs
 
--- the same of settled pieces that can run
+-- whether settled pieces that can run are closed
 abbrev pub closed_at : Bool → List (PieceOf Role) → Bool
 closed_at l [] = l
 closed_at l (tok c w ∷ qs) = closes_here c w

@@ -61,7 +61,7 @@ fixed_listed f h none = all_done
 fixed_listed f h (gap ps) = one_more refl all_done
 fixed_listed f h (part n ps) = one_more (h n) (fixed_join (fixed_separator (kind_of n) (is_none ps)) (fixed_listed f h ps))
 
--- the same with holes
+-- a list of fixed items and holes
 pub fixed_elements : (f : Tree → Piece) → ((n : Tree) → is_fixed (f n) ≡ true) → (ps : Parts) → Fixed (elements f ps)
 fixed_elements f h none = all_done
 fixed_elements f h (part n ps) = one_more (h n) (fixed_join (fixed_separator (kind_of n) (is_none ps)) (fixed_elements f h ps))

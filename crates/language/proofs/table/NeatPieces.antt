@@ -357,7 +357,7 @@ token_comma signed h = absurd (false≢true h)
 token_comma echoed h = absurd (false≢true h)
 token_comma broken h = absurd (false≢true h)
 
--- the same on a line of its own
+-- an item on a line of its own is neat
 pub line_item : (b o : Bool) (q : Piece) (ys : List Piece) → is_item_piece q ≡ true → NeatBehind o ys → neat b o broken (q ∷ ys) ≡ true
 line_item b o (sub x) ys k f = and_from (echo_followed (slot_sort x) ys) _ (item_followed (slot_sort x) ys k) (f true (behind_part b (slot_sort x)) (behind_item b (slot_sort x) k))
 line_item b o never ys k f = refl

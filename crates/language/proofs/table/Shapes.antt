@@ -95,7 +95,7 @@ separator_shape = or (or empty (exactly (may (codes ",") ∷ []))) (or (piece ne
 abbrev pub listed_shape : PartSort → Shape
 listed_shape s = many_of (or (then (part_shape s) separator_shape) (piece never))
 
--- the same with holes
+-- the shape of a list with holes
 abbrev pub elements_shape : PartSort → Shape
 elements_shape s = many_of (or (then (part_shape s) separator_shape) (then (exactly (absent ∷ sign "," ∷ [])) (or empty (piece sp))))
 

@@ -42,7 +42,7 @@ contents text rest inner None q u v m n =
 contents text rest inner (Some c) q u v m n =
     sym (all_but_last rest inner q (IsUtf8-past_char text rest c u m) v n) ∙ ap string_contents (sym (chars_past_char text rest c u m))
 
--- the same of two steps of an iterator
+-- what two steps of an iterator leave is what stands between the first and the last character
 stepped : (s t u : Chars) (r q : Option ℕ) → MatchOption r ((length (chars_rest s) ≡ 0) × (t ≡ s)) (λ c. chars_rest s ≡ encode_utf8 c ++ chars_rest t) →
     MatchOption q ((length (chars_rest t) ≡ 0) × (u ≡ t)) (λ d. chars_rest t ≡ chars_rest u ++ encode_utf8 d) → IsUtf8 (chars_rest s) → IsUtf8 (chars_rest u) →
     chars (chars_rest u) ≡ string_contents (chars (chars_rest s))
