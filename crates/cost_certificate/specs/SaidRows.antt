@@ -12,7 +12,7 @@ abbrev pub said : RowLine → Kind × List (Option ℕ)
 said (Zeros k) = (k, replicate 8 (Some 0))
 said (Cells k xs) = (k, xs)
 
--- the same, as a table has it
+-- what a line says, as a table has it
 abbrev pub said_row : RowLine → Row
 said_row (Zeros k) = row_with k no_pairs
 said_row (Cells k xs) = row_with k (of_cells xs)

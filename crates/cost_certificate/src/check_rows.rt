@@ -84,7 +84,7 @@ pub(crate) fn check_node(
     check_row(node, &inside, table, index)
 }
 
-/// The same without a row of its own.
+/// Checks a node without a row of its own.
 #[cycle(judging)]
 fn check_inside(
     node: Node,

@@ -53,7 +53,7 @@ fn asks_no_more(requirements: Requirements) -> bool
     !requirements.needs_in && matches!(requirements.opens, FirstToken::Other)
 }
 
-/// The same of any node.
+/// What a node costs in numbers, whatever it requires of its position.
 #[inline(never)]
 fn in_numbers(own: Position, production: Production, sums: Costs) -> Weighed
     ensures { result ≡ known.Any (record { outline = Some (outline_of production); costs = fitting_costs (role_of own) (outline_of production) sums }) }

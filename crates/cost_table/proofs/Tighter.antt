@@ -26,7 +26,7 @@ among_some : {qs : List (PieceOf Role)} {qss : List (List (PieceOf Role))} → A
 among_some first = refl
 among_some (later h) = refl
 
--- the same from any position of one sort
+-- the positions of the parts are alike from any two positions of one sort
 pub parts_alike : (n : Tree) (a b : Role) {qs : List (PieceOf Role)} → Like false a b → Among qs (ways a n) → AllLike false (roles qs) (first_roles (ways (widest b) n))
 parts_alike n a b {qs} l h =
     subst (λ c. AllLike false (roles qs) (first_roles (ways c n))) (widest_of l)

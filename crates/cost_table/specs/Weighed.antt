@@ -24,7 +24,7 @@ abbrev pub fits_any : Role → Option Outline → Bool
 fits_any a None = false
 fits_any a (Some x) = fits_outline a x
 
--- the same of what is known of a node's spelling
+-- whether what is known of a node's spelling fits at a position
 abbrev pub fits_spelled : Role → Option NodeSpelling → Bool
 fits_spelled a None = false
 fits_spelled a (Some x) = fits_outline a x.outline

@@ -17,7 +17,7 @@ pub struct StartCosts {
 }
 
 impl StartCosts {
-    /// The same number at each.
+    /// One number at each start.
     pub(crate) fn same(number: Option<u32>) -> StartCosts
         ensures { result ≡ each_start (λ f. number) }
     {
@@ -74,7 +74,7 @@ pub struct Costs {
 }
 
 impl Costs {
-    /// The same number everywhere.
+    /// One number everywhere.
     pub fn same(number: Option<u32>) -> Costs
         ensures { result ≡ same_everywhere number }
     {

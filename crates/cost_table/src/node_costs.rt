@@ -213,7 +213,7 @@ fn asks_no_more(outline: &Outline) -> bool
     !outline.needs_in && matches!(outline.opens, FirstToken::Other)
 }
 
-/// The same of such a spelling: it fits at each start, or at none.
+/// The costs of a plain spelling where they fit: it fits at each start, or at none.
 fn plainly_fitting(own: Position, outline: Outline, costs: Costs) -> Costs
     requires { is_plain_outline outline ≡ true }
     ensures { result ≡ fitting_costs (role_of own) outline costs }

@@ -69,7 +69,7 @@ impl PackedRows {
         Ok(())
     }
 
-    /// The same of a row with any numbers.
+    /// Adds a row with any numbers.
     pub(crate) fn push(&mut self, kind: Kind, costs: &Costs) -> Result<(), AllocError>
         ensures rows { OnOk result (self.new.items ≡ self.old.items ++ row_with kind costs.now ∷ []) }
         ensures kept { OnErr result (self.new.items ≡ self.old.items) }

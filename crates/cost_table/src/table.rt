@@ -50,7 +50,7 @@ impl CostTable {
         self.push_costs(kind, &Costs::from_cells(cells))
     }
 
-    /// The same of a row with any numbers.
+    /// Adds a row with any numbers.
     pub fn push_costs(&mut self, kind: Kind, costs: &Costs) -> Result<(), AllocError>
         ensures rows { OnOk result (self.new.rows.items ≡ self.old.rows.items ++ row_with kind costs.now ∷ []) }
         ensures kept { OnErr result (self.new.rows.items ≡ self.old.rows.items) }
@@ -59,7 +59,7 @@ impl CostTable {
         self.rows.push(kind, costs)
     }
 
-    /// The same of a node at a symbol which costs nothing wherever it may stand: zeros there, and no number elsewhere.
+    /// Adds the row of a node at a symbol which costs nothing wherever it may stand: zeros there, and no number elsewhere.
     pub fn push_free(&mut self, kind: Kind, rank: Rank) -> Result<(), AllocError>
         ensures rows { OnOk result (self.new.rows.items ≡ self.old.rows.items ++ row_with kind (shaped (free_shape rank) 0) ∷ []) }
         ensures kept { OnErr result (self.new.rows.items ≡ self.old.rows.items) }

@@ -107,7 +107,7 @@ impl CoverShape {
         }
     }
 
-    /// The same, but assigned to only where it is a target: behind `...` among properties (12.15.5).
+    /// This shape, but assigned to only where it is a target: behind `...` among properties (12.15.5).
     pub fn simple(self) -> CoverShape
         ensures { result ≡ simple self }
     {
@@ -121,7 +121,7 @@ impl CoverShape {
         }
     }
 
-    /// The same in parentheses (12.15.5): only a target may still be assigned to, and nothing bound.
+    /// This shape in parentheses (12.15.5): only a target may still be assigned to, and nothing bound.
     pub fn grouped(self) -> CoverShape
         ensures { result ≡ grouped self }
     {
@@ -133,7 +133,7 @@ impl CoverShape {
         }
     }
 
-    /// The same, but no pattern.
+    /// This shape, but no pattern.
     pub fn unassigned(self) -> CoverShape
         ensures { result ≡ unassigned self }
     {
@@ -144,7 +144,7 @@ impl CoverShape {
         }
     }
 
-    /// The same, but no expression: a name in it has a default (CoverInitializedName, 12.2.6).
+    /// This shape, but no expression: a name in it has a default (CoverInitializedName, 12.2.6).
     pub fn initialized(self) -> CoverShape
         ensures { result ≡ initialized self }
     {

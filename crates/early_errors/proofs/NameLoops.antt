@@ -110,7 +110,7 @@ behind_is w xs = has_name-behind w [] xs ∙ or_false (has_name w xs)
 abbrev pub doubles : EarlyError → List names.Named → List Error
 doubles e xs = each e (places (twice xs))
 
--- the same for names that stand twice
+-- the loop over names that stand twice
 module _ (e : EarlyError) (o found : Option Error) (xs : List Named) (i : ℕ) (d : Named) (l : i < length xs) (so_far : found ≡ after o (doubles e (all_named (take i xs)))) where
   double-turn : (b : Bool) → has_name (get_or xs i d).name.now (behind [] (all_named (take i xs))) ≡ b →
       after o (doubles e (all_named (take (i + 1) xs))) ≡ after (after o (doubles e (all_named (take i xs)))) (each e (places (cond b (named (get_or xs i d) ∷ []) [])))

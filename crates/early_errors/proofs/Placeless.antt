@@ -518,7 +518,7 @@ outside-bare (node k w g s e ps) = refl
 errors-bare : (n : Tree) → numbers (errors (bare n)) ≡ numbers (errors n)
 errors-bare n = ap (λ z. numbers (errors_within z (bare n))) (outside-bare n) ∙ within-bare (outside_of n) n
 
--- the same tree has the same early errors, but for their places
+-- two trees that are one, places aside, have the same early errors, but for their places
 pub same_errors : (a b : Tree) → SameTree a b → numbers (errors a) ≡ numbers (errors b)
 same_errors a b h = sym (errors-bare a) ∙ ap (λ n. numbers (errors n)) h ∙ errors-bare b
 

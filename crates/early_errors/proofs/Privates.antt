@@ -115,7 +115,7 @@ bytes-turned v w = pick (bytes_eq v w) refl
         go true k = absurd (false≢true (sym h ∙ (bytes_eq-Decides v w).1 (sym ((bytes_eq-Decides w v).0 k))))
         go false k = sym k
 
--- ---- the same as the definitions say it
+-- ---- as the definitions say it
 
 module _ (w : List ℕ) where
   -- how a name is used with so many of its elements

@@ -338,7 +338,7 @@ first_part kind.ForInStatement = first.Head
 first_part kind.ForOfStatement = first.Head
 first_part _ = first.LikeOthers
 
--- the same round a node's first part
+-- what stands round a node's first part
 abbrev pub first_beside : Kind → Flags → Parts → Beside → Beside
 first_beside kind.MethodDefinition flags parts r = r
 first_beside kind.PropertyDefinition flags parts r = r

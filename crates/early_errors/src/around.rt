@@ -134,7 +134,7 @@ impl Context {
         self.in_body(kind)
     }
 
-    /// The same of a part of a function.
+    /// The context in a part of a function.
     fn in_body(self, kind: Kind) -> Context
         requires { self.is_body ≡ true }
         ensures round { (r : Beside) → round result r ≡ settled (round self r) kind }

@@ -86,7 +86,7 @@ pub(crate) fn repeated<'t>(
     repeated_after(names, &mut seen, error, found)
 }
 
-/// The same of few names.
+/// The second and later of each name, of few names.
 fn repeated_of_few(names: &[NamePlace], error: EarlyError, found: FirstError) -> FirstError
     ensures { result ≡ after found (each error (places (twice (all_named names.now)))) }
 {
@@ -100,7 +100,7 @@ fn repeated_of_few(names: &[NamePlace], error: EarlyError, found: FirstError) ->
     found
 }
 
-/// The same, with a set for the names that were seen.
+/// The second and later of each name, with a set for the names that were seen.
 fn repeated_after<'t>(
     names: &[NamePlace<'t>],
     seen: &mut NameSet<'t>,
@@ -136,7 +136,7 @@ pub(crate) fn shared<'t>(
     shared_by(names, others, &mut there, error, found)
 }
 
-/// The same where one of the two are few.
+/// Those of the first names that are among the second, where one of the two are few.
 fn shared_of_few(
     names: &[NamePlace],
     others: &[NamePlace],
@@ -154,7 +154,7 @@ fn shared_of_few(
     found
 }
 
-/// The same, with a set for the second names.
+/// Those of the first names that are among the second, with a set for the second names.
 fn shared_by<'t>(
     names: &[NamePlace],
     others: &[NamePlace<'t>],

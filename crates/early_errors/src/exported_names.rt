@@ -62,7 +62,7 @@ fn push_declaration<'t>(
     push_names_of(alloc, declaration, &mut declared, names)
 }
 
-/// The same, with room for the names as they are declared.
+/// Pushes the names of a declaration that is exported, with room for the names as they are declared.
 fn push_names_of<'t>(
     alloc: Global,
     declaration: Node<'t, '_>,
@@ -191,7 +191,7 @@ pub(crate) fn repeated_exports(
     repeated_after(names, &mut seen, found)
 }
 
-/// The same, with room for the names that were seen.
+/// The second and later of each exported name, with room for the names that were seen.
 fn repeated_after<'n>(
     names: &'n [ExportedName],
     seen: &mut BTreeMap<&'n [u16], ()>,

@@ -175,7 +175,7 @@ pub fn first_early_error(
     found
 }
 
-/// The same of a tree, by a walk that has found nothing yet.
+/// The first early error of a tree, by a walk that has found nothing yet.
 fn found_from<'t>(root: Node<'t, '_>, walk: &mut Walk<'t>) -> Result<FirstError, AllocError>
     requires found { walk.now.found ≡ None }
     requires vars { Agree (look walk.now.vars) (λ _. None) }

@@ -274,7 +274,7 @@ fn note_names<'t>(names: &[NamePlace<'t>], there: &mut Table<'t, ()>) -> Result<
     Ok(())
 }
 
-/// The same, by a table of the names that are declared.
+/// The names that are exported and not declared, by a table of those that are declared.
 fn undeclared_items(program: Node, there: &Table<()>, found: FirstError) -> FirstError
     ensures { result ≡ after found (each EarlyError.UndeclaredExport (undeclared (look there.now) (each_part locals (parts_of (node_tree program.entry))))) }
 {
@@ -287,7 +287,7 @@ fn undeclared_items(program: Node, there: &Table<()>, found: FirstError) -> Firs
     found
 }
 
-/// The same of one item.
+/// The names of one item that are exported and not declared.
 fn undeclared_locals(item: Node, there: &Table<()>, found: FirstError) -> FirstError
     ensures { result ≡ after found (each EarlyError.UndeclaredExport (undeclared (look there.now) (locals (node_tree item.entry)))) }
 {

@@ -95,7 +95,7 @@ fn own_of(kind: Kind) -> OwnErrors
     }
 }
 
-/// The same of the kinds whose errors are those of the language of 2022.
+/// The errors that a node has itself, of the kinds whose errors are those of the language of 2022.
 fn own_of_2022(kind: Kind) -> OwnErrors
     ensures { result ≡ own_of_2022 kind }
 {
@@ -204,7 +204,7 @@ fn nameless_errors(
     }
 }
 
-/// The same of the kinds whose errors are those of the language of 2022.
+/// The errors of a node of the kinds whose errors are those of the language of 2022.
 fn errors_of_2022(
     alloc: Global,
     node: Node,

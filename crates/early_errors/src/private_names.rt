@@ -96,7 +96,7 @@ pub(crate) fn open_class<'t>(
     Ok(())
 }
 
-/// The same of one element.
+/// Opens the private name of one element.
 fn open_element<'t>(
     privates: &mut PrivateNames<'t>,
     element: Option<Node<'t, '_>>,

@@ -82,7 +82,7 @@ fn skip_test_of(kind: Kind) -> SkipTest
     }
 }
 
-/// The same of the kinds of the language of 2022.
+/// What tells where errors stand, of the kinds of the language of 2022.
 fn skip_test_of_2022(kind: Kind) -> SkipTest
     ensures { result ≡ telling_of_2022 kind }
 {
@@ -114,7 +114,7 @@ pub(crate) fn error_places(node: Node, no_arguments: bool) -> ErrorPlaces
     }
 }
 
-/// The same, by what tells it of a node of its kind.
+/// Where errors may stand, by what tells it of a node of its kind.
 #[inline(never)]
 fn where_by(telling: SkipTest, node: Node, no_arguments: bool) -> ErrorPlaces
     requires { telling ≡ telling_of (kind_of (node_tree node)) }
@@ -181,7 +181,7 @@ fn says_nothing(node: Node, no_arguments: bool) -> bool
     }
 }
 
-/// The same of a part that may be missing.
+/// Whether a part that may be missing has no errors.
 fn is_silent(part: Option<Node>, no_arguments: bool) -> bool
     ensures { OnTrue result (IsSilent no_arguments (option_map node_tree part.entry)) }
 {
@@ -202,7 +202,7 @@ fn in_member(node: Node, no_arguments: bool) -> ErrorPlaces
     where_in_member(node)
 }
 
-/// The same where `arguments` may stand: nowhere where both its parts are leaves without errors.
+/// Where errors may stand in a member, where `arguments` may stand: nowhere where both its parts are leaves without errors.
 fn where_in_member(node: Node) -> ErrorPlaces
     requires { telling_of (kind_of (node_tree node)) ≡ SkipTest.Member }
     ensures { IsWhere false result (node_tree node.entry) }

@@ -38,7 +38,7 @@ fn parts_have_none(node: Node, from: usize, left: &mut usize) -> bool
     true
 }
 
-/// The same of a part that may be missing.
+/// Whether a part that may be missing has no `var`; no if more than `left` nodes would have to be looked at.
 #[cycle(vars)]
 #[tactic(auto, using(tree::proofs::PartWalk::part_steps))]
 fn part_has_none(part: Option<Node>, left: &mut usize) -> bool

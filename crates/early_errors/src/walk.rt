@@ -171,7 +171,7 @@ fn walk_passed<'t>(
     Ok(())
 }
 
-/// The same of a node that may have errors itself; a function's body has `yield` and `await` by then.
+/// Walks a node that may have errors itself; a function's body has `yield` and `await` by then.
 #[cycle(walk)]
 #[tactic(auto, using(tree::proofs::PartWalk::part_steps))]
 #[inline(never)]
@@ -349,7 +349,7 @@ fn walk_scope<'t>(
     walk_in_scope(node, around, &mut names, &mut saved, walk)
 }
 
-/// The same, with room for the names and for what stood there before.
+/// Walks a scope, with room for the names and for what stood there before.
 #[cycle(walk)]
 #[tactic(auto, using(tree::proofs::PartWalk::part_steps))]
 fn walk_in_scope<'t>(
@@ -409,7 +409,7 @@ fn walk_class_body<'t>(
     walk_in_class(node, around, &mut saved, walk)
 }
 
-/// The same, with room for what its private names stood for before.
+/// Walks a class, with room for what its private names stood for before.
 #[cycle(walk)]
 #[tactic(auto, using(tree::proofs::PartWalk::part_steps))]
 fn walk_in_class<'t>(

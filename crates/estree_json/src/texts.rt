@@ -20,7 +20,7 @@ pub enum Primitive {
 }
 
 impl Primitive {
-    /// The same as a value of JSON.
+    /// This primitive as a value of JSON.
     pub(crate) fn into_value(self) -> Value
         ensures { view result ≡ data_of self }
     {

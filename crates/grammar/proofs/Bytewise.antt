@@ -12,7 +12,7 @@ both_at a b i h k = ap (λ v. bytes_eq v (drop i b)) (drop_more a i 0 h) ∙ ap 
 same_byte : (x y : ℕ) → x ≡ y → nat_eq x y ≡ true
 same_byte x y e = grind (arith, nat_tests)
 
--- the same byte stands there in both: what follows tells
+-- one byte stands there in both: what follows tells
 pub same_at : (a b : List ℕ) (i : ℕ) → i < length a → i < length b → slice_index_or a i 0 ≡ slice_index_or b i 0 → bytes_eq (drop i a) (drop i b) ≡ bytes_eq (drop (i + 1) a) (drop (i + 1) b)
 same_at a b i h k e = both_at a b i h k ∙ ap (λ c. c && bytes_eq (drop (i + 1) a) (drop (i + 1) b)) (same_byte (slice_index_or a i 0) (slice_index_or b i 0) e)
 

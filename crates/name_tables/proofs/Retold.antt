@@ -63,7 +63,7 @@ module _ {H A : Type 0} (g : Bound H → A) where
       map (λ x. g (bound x)) new ≡ map (λ x. g (bound x)) old ++ bound_names (λ u. g (bound_as how u)) t
   retold how new old t h = retold-by new old (bound_names (bound_as how) t) (bound_names (λ u. g (bound_as how u)) t) (names g (bound_as how) t) h
 
-  -- the same of declarators, however each is bound
+  -- the names of declarators, however each is bound
   module _ (how_of : Parts → H) where
     declarators : (ps : Parts) → map g (declarator_names (λ qs. bound_as (how_of qs)) ps) ≡ declarator_names (λ qs t. g (bound_as (how_of qs) t)) ps
     declarators none = refl

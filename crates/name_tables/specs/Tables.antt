@@ -13,7 +13,7 @@ value_of (Some o) = o
 abbrev pub value_at : {V : Type 0} → NameTable V → List ℕ → Option V
 value_at t w = value_of (get_by (λ k. bytes_eq w k.now) t.entries)
 
--- the same, with another value at one name
+-- a table with another value at one name
 abbrev pub with_value : {V : Type 0} → (List ℕ → Option V) → List ℕ → Option V → List ℕ → Option V
 with_value f name o w = cond (bytes_eq name w) o (f w)
 

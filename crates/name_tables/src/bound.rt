@@ -113,7 +113,7 @@ fn push_all_names<'t, H: Copy>(
     Ok(())
 }
 
-/// The same of a part that may be missing.
+/// Adds the names that a part binds, which may be missing.
 #[cycle(pattern)]
 #[tactic(auto, using(tree::proofs::PartWalk::part_steps))]
 pub fn push_part_names<'t, H: Copy>(

@@ -176,7 +176,7 @@ fn push_specifier<'t, H: Copy>(
     }
 }
 
-/// The same of a part that may be missing.
+/// Adds the names that a part declares, which may be missing.
 pub fn push_lexical_part<'t, H: Copy>(
     item: Option<Node<'t, '_>>,
     how: &LexicalAs<H>,

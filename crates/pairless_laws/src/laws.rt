@@ -9,7 +9,7 @@ pub fn pairless_cost_nothing()
     ensures { PairlessCostNothing }
 {}
 
-/// The same in each language.
+/// In each language, a text without pairs costs nothing.
 pub fn pairless_cost_nothing_in()
     ensures { PairlessCostNothingIn }
 {}
@@ -20,7 +20,7 @@ pub fn pairless_spans_cost_nothing()
     ensures { PairlessSpansCostNothing }
 {}
 
-/// The same in each language.
+/// In each language, a span without pairs costs nothing.
 pub fn pairless_spans_cost_nothing_in()
     ensures { PairlessSpansCostNothingIn }
 {}

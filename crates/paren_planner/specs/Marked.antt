@@ -25,7 +25,7 @@ pub record Round : Type 0 where
 abbrev pub round : WrapContext → Round
 round x = record { own = role_of x.own; may_wrap = x.may_wrap }
 
--- the same of the open nodes round it, the innermost first, the rows of the table from the next on, and the flags so far
+-- what is left to mark: the innermost node, the open ones round it, the rows of the table from the next on, and the flags so far
 pub record Marks : Type 0 where
   pub here : Round
   pub outer : List Round
@@ -88,6 +88,6 @@ marked_through (x ∷ xs) t = marked_through xs (marked x t)
 abbrev pub at_the_start : List Row → Marks
 at_the_start R = record { here = record { own = script; may_wrap = true }; outer = []; rows = R; flags = [] }
 
--- the same as vectors, the innermost node last
+-- what is left to mark as vectors have it, the innermost node last
 abbrev pub shown_marks : List Row → WrapContext → List WrapContext → RowFlags → Marks
 shown_marks T x xs w = record { here = round x; outer = reverse (map round xs); rows = drop w.next_row T; flags = w.wraps.flags.items }

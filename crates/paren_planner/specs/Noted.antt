@@ -38,7 +38,7 @@ abbrev pub is_settled_slot : Slot → Bool
 is_settled_slot (fixed a) = is_settled a
 is_settled_slot s = false
 
--- the same position wherever the node above stands
+-- whether the position is one wherever the node above stands
 abbrev pub is_fixed : Slot → Bool
 is_fixed (fixed a) = true
 is_fixed s = false

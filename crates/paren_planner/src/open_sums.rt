@@ -66,7 +66,7 @@ impl OpenSums {
         Ok(())
     }
 
-    /// The same where the sums of the innermost count.
+    /// One more open node, inside, where the sums of the innermost count.
     fn keep(&mut self) -> Result<(), AllocError>
         ensures here { OnOk result (here_of self.new ≡ no_pairs) }
         ensures outer { OnOk result (outer_of self.new ≡ self.old.here ∷ outer_of self.old) }

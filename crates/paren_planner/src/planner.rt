@@ -44,7 +44,7 @@ fn weigh(alloc: Global, program: &Program) -> Result<Weights, AllocError>
     weigh_by_pairs(alloc, program, &pairs)
 }
 
-/// The same where nodes may be passed by the text's pairs: the rows are those that the steps make.
+/// Weighs a script where nodes may be passed by the text's pairs: the rows are those that the steps make.
 pub(crate) fn weigh_by_pairs(
     alloc: Global,
     program: &Program,

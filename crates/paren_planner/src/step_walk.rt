@@ -72,7 +72,7 @@ pub(crate) fn visit_node(
     )
 }
 
-/// The same of an identifier or a literal.
+/// Notes the step of an identifier or a literal.
 #[cycle(visiting)]
 #[inline(always)]
 fn visit_atom(
@@ -112,7 +112,7 @@ fn visit_atom(
     Ok(true)
 }
 
-/// The same of any node.
+/// Notes the steps of any node.
 #[cycle(visiting)]
 #[inline(never)]
 fn visit_at(
@@ -152,7 +152,7 @@ fn visit_at(
     Ok(false)
 }
 
-/// The same of the parts of a node at its widest position, by its production. Behind a part that has no position none is noted.
+/// Notes the steps of a node's parts at its widest position, by its production; none behind a part that has no position.
 #[cycle(visiting)]
 #[tactic(auto, using(tree::proofs::PartWalk::part_steps))]
 fn visit_parts(

@@ -35,7 +35,7 @@ pub fn wraps_by_pairs(
     weighed_wraps(alloc, program, &weights)
 }
 
-/// The same, from a script's steps and the rows that they make.
+/// The wrapped nodes, from a script's steps and the rows that they make.
 fn weighed_wraps(
     alloc: Global,
     program: &Program<'_>,

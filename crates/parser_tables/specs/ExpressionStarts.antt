@@ -86,7 +86,7 @@ stands_at y i f with_private_name = takes y Relational && i
 stands_at y i f no_start = false
 stands_at y i f _ = true
 
--- the same of what the code has for it
+-- whether what the code has for it may stand there
 abbrev pub stood : Rank → Bool → Start → Coded → Bool
 stood y i f (code.List Properties) = takes_brace f
 stood y i f code.Function = takes_function_or_class f

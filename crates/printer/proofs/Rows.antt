@@ -26,7 +26,7 @@ settled-widest : (a b : Role) (xs : List Slot) → map widest (settled_roles a x
 settled-widest a b [] = refl
 settled-widest a b (x ∷ xs) = ap₂ (λ u v. u ∷ v) (settle-widest (own_rank a) (own_rank b) (own_in a) (own_in b) (own_start a) (own_start b) x) (settled-widest a b xs)
 
--- the same rows at two positions of which the second takes more
+-- the rows of parts are as many at two positions of which the second takes more
 same_rows : (ps : Parts) (a b : Role) (xs : List Slot) → parts_rows ps (settled_roles a xs) ≡ parts_rows ps (settled_roles b xs)
 same_rows ps a b xs = parts_rows-widest ps (settled_roles a xs) ∙ ap (parts_rows ps) (settled-widest a b xs) ∙ sym (parts_rows-widest ps (settled_roles b xs))
 

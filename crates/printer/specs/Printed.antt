@@ -80,7 +80,7 @@ pub record Printed (W : ℕ → Bool) (old new : View) (n : Tree) (a : Role) (r 
   pub reads : Reads W (r + rows n a) new.flags
   pub shows : (next : List ℕ) → Leads old new (layout W n a r d ++ next) next
 
--- the same without parentheses
+-- what is printed without parentheses
 pub record Direct (W : ℕ → Bool) (old new : View) (ps : Parts) (qss : List (List (PieceOf Role))) (r d : ℕ) : Type 0 where
   pub reads : Reads W (r + parts_rows ps (first_roles qss)) new.flags
   pub shows : (next : List ℕ) → Leads old new (parts_layout W ps (first_way qss) r d false ++ next) next
@@ -109,7 +109,7 @@ Sited (_ ∷ ms) ps xs = Sited ms ps xs
 abbrev pub Stands : NodeUse → Tree → List Mark → Parts → List Role → Type 0
 Stands st m ms ps xs = Sited ms ps xs × UsesAgree st m ps xs
 
--- the same, with positions left for the marks that are left
+-- what is printed so far, with positions left for the marks that are left
 pub record Gone (W : ℕ → Bool) (st : NodeUse) (m : Tree) (old new : View) (ms ms' : List Mark) (ps ps' : Parts) (xs : List Role) (b b' : Bool) (d r : ℕ) : Type 0 where
   pub left : List Role
   pub passed : Passed W old new ms ms' ps ps' xs left b b' d r

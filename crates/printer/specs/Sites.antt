@@ -30,7 +30,7 @@ site_of (piece.method x) = site.Method
 site_of (piece.head b) = site.ForDeclaration
 site_of _ = site.Plain
 
--- the same of a position in a spelling of the table
+-- the site of a position in a spelling of the table
 abbrev pub slot_site : Slot → Site
 slot_site (piece.fixed a) = site_of a
 slot_site _ = site.Plain

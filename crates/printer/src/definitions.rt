@@ -95,7 +95,7 @@ static ASYNC_GENERATOR: Frame = method_frame!("async *");
 
 static COMPUTED_ASYNC_GENERATOR: Frame = method_frame!("async *[", computed);
 
-/// The same of static ones.
+/// The frames of static methods.
 static STATIC_GENERATOR: Frame = method_frame!("static *");
 
 static COMPUTED_STATIC_GENERATOR: Frame = method_frame!("static *[", computed);
@@ -117,7 +117,7 @@ static STATIC_FIELD: Frame = field_frame!(STATIC, &[]);
 
 static COMPUTED_STATIC_FIELD: Frame = field_frame!(STATIC_BRACKET, END_BRACKET);
 
-/// The same with a value.
+/// The frames of fields with a value.
 static FIELD_VALUE: Frame = field_frame!(&[], EQUALS);
 
 static COMPUTED_FIELD_VALUE: Frame = field_frame!(BRACKET, BRACKET_EQUALS);
@@ -306,7 +306,7 @@ fn method_frame(function: Form, computed: bool) -> &'static Frame
     }
 }
 
-/// The same of a static one.
+/// The frame of a static method.
 fn static_method_frame(function: Form, computed: bool) -> &'static Frame
     ensures { shape_of result.now ≡ fused_shape (static_form_shape function computed) }
 {

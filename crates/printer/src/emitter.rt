@@ -59,7 +59,7 @@ impl<'w> Emitter<'w> {
         out.put(&mut self.room, text);
     }
 
-    /// The same where a sign may come first.
+    /// Writes some characters where a sign may come first.
     #[inline(never)]
     fn push_apart<O: TextSink>(&mut self, text: &str, out: &mut O)
         ensures written { Writes (seen (O.stands out.old self.old.room) self.old) (seen (O.stands out.new self.new.room) self.new) text.now }
@@ -118,7 +118,7 @@ impl<'w> Emitter<'w> {
         self.wraps.is_wrapped()
     }
 
-    /// The same, and goes on to the row behind it.
+    /// Whether the next row is wrapped; goes on to the row behind it.
     pub(crate) fn next_row(&mut self) -> bool
         ensures flag { result ≡ flag_at self.old.wraps.flags.now 0 }
         ensures others { self.new.wraps.flags.now ≡ other_flags self.old.wraps.flags.now }
@@ -150,7 +150,7 @@ impl<'w> Emitter<'w> {
         }
     }
 
-    /// The same, piece by piece.
+    /// Writes pieces one by one.
     #[inline(never)]
     fn push_each<O: TextSink>(
         &mut self,

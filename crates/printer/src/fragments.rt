@@ -38,7 +38,7 @@ pub enum ListLayout {
     Commas,
     /// Parameters with commas between them; then `)` and the body.
     Parameters,
-    /// The same of an arrow function, with `=>` before the body.
+    /// Parameters of an arrow function, with `=>` before the body.
     ArrowParameters,
     /// Each on a line of its own, a level deeper.
     Lines,
@@ -121,7 +121,7 @@ macro_rules! front_frame {
     };
 }
 
-/// The same with nothing behind them, where the layout asks something of them.
+/// A frame whose parts have nothing behind them, where the layout asks something of them.
 macro_rules! asking_frame {
     ($sites:ident, $front:expr) => {
         $crate::fragments::Frame {

@@ -172,13 +172,13 @@ static NEW: Frame = arguments_frame!(&[&[Fragment::Token("new ")]], OPEN);
 /// The frame of a function with its word: its name, if any, its parameters and its body.
 static NAMED_FUNCTION: Frame = function_frame!(FUNCTION);
 
-/// The same of a generator function.
+/// The frame of a generator function.
 static GENERATOR: Frame = function_frame!(&[Fragment::Token("function* ")]);
 
-/// The same of an async function.
+/// The frame of an async function.
 static ASYNC_FUNCTION: Frame = function_frame!(&[Fragment::Token("async function ")]);
 
-/// The same of an async generator function.
+/// The frame of an async generator function.
 static ASYNC_GENERATOR: Frame = function_frame!(&[Fragment::Token("async function* ")]);
 
 /// The frame of a private name.
@@ -254,7 +254,7 @@ pub(crate) fn frame_of(node: Node, site: Site) -> &'static Frame
     }
 }
 
-/// The same at a plain site, by the node's kind. (A template's part always has a site of its own.)
+/// The frame at a plain site, by the node's kind. (A template's part always has a site of its own.)
 fn frame_by_kind(node: Node) -> &'static Frame
     ensures { shape_of result.now ≡ fused_shape (shape_by_kind (kind_of (node_tree node.entry)) (text_of (node_tree node.entry)) (flags_of (node_tree node.entry)) (parts_of (node_tree node.entry))) }
 {

@@ -58,7 +58,8 @@ impl MeasuredNode {
         Ok(leaf)
     }
 
-    /// The same, but where these parts are what waits last, it waits before them: a callee that was read as one only behind its arguments.
+    /// A node as `leaf` makes it, but where these parts are what waits last, it waits before them: a callee that was read as one
+    /// only behind its arguments.
     ///
     /// # Errors
     /// `TooDeep` where a height of 1 is greater than `high`.

@@ -162,7 +162,7 @@ pub record FieldAt (text : SourceText) (k : PropertyName) (is_static : Bool) (fr
 abbrev pub NamedAsync : SourceText → ExpressionContext → Operand → ℕ → Token → Token → List Pair → Type 0
 NamedAsync text p r o m e Q = (s : Token) → ReadsHere text IdentifierName (codes "async") s m → ReadAt text p r o s e Q
 
--- the same of the token that it is, where parentheses stand behind it on its line and the position takes an arrow
+-- `async` as the token that it is, where parentheses stand behind it on its line and the position takes an arrow
 abbrev pub AsyncAt : SourceText → ExpressionContext → Scanned → Operand → ℕ → Token → Token → List Pair → Type 0
 AsyncAt text p t r o m e Q = (s : Token) → SeenNext text s (as_read (token_of t)) m → t.class ≡ IdentifierName → (as_read (token_of t)).text ≡ codes "async" → AsyncBegun text p m begun.Parentheses → ReadAt text p r o s e Q
 

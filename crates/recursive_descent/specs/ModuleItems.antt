@@ -161,7 +161,7 @@ module _ (s e : CursorState) (old new : List Pair) (high : ℕ) where
   BehindComplete c w from result = (o : ℕ) (n : Tree) (b k to : Token) (P : List Pair) → ReadsHere s.text IdentifierName (codes "export") b k → k.start ≡ from → ReadsHere s.text c w k s.last → SpellsIn s.text o module_item n b to P → OfLanguage s.text n →
       Agrees (Room s o (height n) high) (λ m. (m ≡ n) × EndsWith s e old new to P) result
 
-  -- The same of an export that ends where the next token says, so what may follow it follows: a declaration; behind `default` a function, a class or a value.
+  -- An export that ends where the next token says, so what may follow follows: a declaration; behind `default` a function, class or value.
   abbrev pub ExportComplete : ℕ → Result Tree Fault → Type 0
   ExportComplete from result = (o : ℕ) (n : Tree) (b to : Token) (P : List Pair) → ReadsHere s.text IdentifierName (codes "export") b s.last → s.last.start ≡ from → SpellsIn s.text o module_item n b to P → FinishedIn s.text n to → OfLanguage s.text n →
       Agrees (Room s o (height n) high) (λ m. (m ≡ n) × EndsWith s e old new to P) result

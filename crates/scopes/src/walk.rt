@@ -273,7 +273,7 @@ fn walk_in_scope<'t>(
     walk_opened(node, around, others, &mut saved, walk)
 }
 
-/// The same, with room for what names meant before.
+/// Walks a scope, with room for what names meant before.
 #[cycle(walk)]
 #[tactic(auto, using(tree::proofs::PartWalk::part_steps))]
 fn walk_opened<'t>(

@@ -76,7 +76,7 @@ pub fn list_of(production: Production) -> (ListSlots, usize)
     }
 }
 
-/// The same as `list_of`, by the whole outline: for productions that have no quicker way.
+/// Gives what `list_of` gives, by the whole outline: for productions that have no quicker way.
 #[inline(never)]
 fn list_of_outline(production: Production) -> (ListSlots, usize)
     ensures tail { result.0 ≡ (outline_of production).tail }
@@ -131,7 +131,7 @@ pub fn first_slot(production: &Production, ordinal: SlotIndex) -> Option<Slot>
     }
 }
 
-/// The same as `first_slot`, by the whole outline: for productions that have no quicker way.
+/// Gives what `first_slot` gives, by the whole outline: for productions that have no quicker way.
 #[inline(never)]
 fn slot_of_outline(production: Production, ordinal: SlotIndex) -> Option<Slot>
     ensures { result ≡ slot_at (outline_of production).front ordinal }

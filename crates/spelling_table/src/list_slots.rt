@@ -132,7 +132,7 @@ pub fn bound(binds: bool, kind: Kind) -> Option<Position>
     None
 }
 
-/// The same, with a default or without.
+/// The position of what is bound or assigned, with a default or without.
 pub fn with_default(binds: bool, kind: Kind) -> Option<Position>
     ensures { result ≡ default_at binds kind }
 {

@@ -33,7 +33,7 @@ pub enum ListSlots {
     Nothing,
     /// Each part at this position.
     Each(Slot),
-    /// The same, of one part at least.
+    /// Each part at this slot, of which there is one at least.
     Some(Slot),
     /// Arguments; the elements of an array, where holes may stand.
     Arguments { holes: bool },
@@ -95,7 +95,7 @@ impl Outline {
         }
     }
 
-    /// The same, opening so.
+    /// This outline, opening so.
     pub fn opening(self, opens: FirstToken) -> Outline
         ensures { result ≡ record self { opens = opens } }
     {

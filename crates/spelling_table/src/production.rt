@@ -82,7 +82,7 @@ pub enum Production {
         goes_on: bool,
         is_computed: bool,
     },
-    /// The same with a private name.
+    /// A link by a private name.
     PrivateMemberLink {
         goes_on: bool,
     },
@@ -125,7 +125,7 @@ pub enum Production {
     Module,
     /// The specifiers of an import, and its source.
     ImportList,
-    /// The same of an export, behind the gap of its declaration.
+    /// The list of an export, behind the gap of its declaration.
     ExportList,
     /// Declarators at a position.
     Declarators(Position),

@@ -220,7 +220,7 @@ pub(crate) fn case_production(node: Node, returns: bool) -> Option<Production>
     }
 }
 
-/// The same, by what stands at the place of its test.
+/// The production of a statement with a test, by what stands at the place of its test.
 fn tested_production(returns: bool, test: PartAt) -> Option<Production>
     ensures { option_map outline_of result ≡ outline_tested returns test }
 {
@@ -247,7 +247,7 @@ pub(crate) fn catch_clause_production(node: Node, returns: bool) -> Option<Produ
     }
 }
 
-/// The same, by what stands at the place of its parameter.
+/// The production of a `catch`, by what stands at the place of its parameter.
 fn caught_production(returns: bool, parameter: PartAt) -> Option<Production>
     ensures { option_map outline_of result ≡ outline_of_caught returns parameter }
 {

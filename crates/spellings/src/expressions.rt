@@ -95,7 +95,7 @@ pub(crate) fn function_production(form: Form, name: PartAt) -> Option<Production
     named_function(name)
 }
 
-/// The same, by what stands at its name's place.
+/// The production of a named function, by what stands at its name's place.
 fn named_function(name: PartAt) -> Option<Production>
     ensures { option_map outline_of result ≡ outline_of_named_function name }
 {

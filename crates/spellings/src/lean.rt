@@ -15,7 +15,7 @@ pub(crate) fn is_lean_node(node: Node) -> bool
     is_lean_label(node.kind(), node.text(), node.flags())
 }
 
-/// The same as `is_lean_node`, by the kind, the text and the flags of a node.
+/// Does what `is_lean_node` does, by the kind, the text and the flags of a node.
 #[inline(always)]
 fn is_lean_label(kind: Kind, text: &str, flags: Flags) -> bool
     ensures { result ≡ lean_label kind text.now flags }
@@ -47,7 +47,7 @@ pub(crate) fn has_no_flags(flags: Flags) -> bool
     !is_marked && is_init(flags.form)
 }
 
-/// The same, flag by flag.
+/// Whether a flag stands that its kind uses, flag by flag.
 #[inline(never)]
 fn has_used_flags(kind: Kind, flags: Flags) -> bool
     ensures { result ≡ is_within flags (flags_used kind flags) }

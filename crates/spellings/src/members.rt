@@ -143,7 +143,7 @@ fn method_definition_production(node: Node) -> Option<Production>
     )
 }
 
-/// The same, by the flags, the kind and the text of the key, and the form of the function.
+/// The production of a class's method, by the flags, the kind and the text of the key, and the form of the function.
 fn class_method_production(flags: Flags, key: Kind, text: &str, value: Form) -> Option<Production>
     ensures { option_map outline_of result ≡ only_if (form_fits (makes_constructor flags key text.now && is_init value) flags.form) (outline_of_method_keyed flags.computed flags.form value key) }
 {

@@ -62,7 +62,7 @@ fn import_fits(import: Node) -> bool
     }
 }
 
-/// The same of the parts behind a default name, by the kind of the second.
+/// Whether the parts behind a default name suit, by the kind of the second.
 fn behind_default_fits(import: Node) -> bool
     ensures { result ≡ parts_behind_default_fit (lead (others (parts_of (node_tree import.entry)))) (others (parts_of (node_tree import.entry))) }
 {

@@ -79,7 +79,7 @@ impl SlotCursor {
         Some(slot)
     }
 
-    /// The same, of a part that stands elsewhere.
+    /// The next slot of a part that stands elsewhere.
     #[inline(never)]
     fn take_after(&mut self, parts: NodeList) -> Option<Slot>
         ensures taken { TakesSlot (slots_left self.old.tail (parts_after self.old.from (list_parts parts.entry))) result (slots_left self.new.tail (parts_after self.new.from (list_parts parts.entry))) }

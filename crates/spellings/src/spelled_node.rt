@@ -63,7 +63,7 @@ fn goes_over(node: Node, production: Production) -> bool
     takes_list(node, production)
 }
 
-/// The same of one that has a list.
+/// Whether a production with a list takes the node's parts.
 #[inline(never)]
 fn takes_list(node: Node, production: Production) -> bool
     ensures { result ≡ list_goes_over (tail_slots (outline_of production).tail (parts_after (outline_of production).from (parts_of (node_tree node.entry)))) }

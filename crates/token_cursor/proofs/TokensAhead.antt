@@ -256,7 +256,7 @@ module _ (text : SourceText) where
       by false k = k
       by true k = absurd (none_ahead goal.Div s none t e (word_class_by n k))
 
-  -- the same of names that pass a test
+  -- a name that passes a test is read as it stands
   name_of : (u : LexicalToken) → u.class ≡ IdentifierName → (as_read u).text ≡ u.text
   name_of u e = ap (λ c. table_text c u.text) e
 

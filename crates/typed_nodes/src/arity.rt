@@ -30,7 +30,7 @@ fn has_arity(kind: Kind, count: usize) -> bool
     }
 }
 
-/// The same of a kind that isn't in the table above.
+/// Whether so many parts suit a kind that isn't in the table above.
 fn has_pair(kind: Kind, count: usize) -> bool
     ensures { result ≡ has_pair kind count }
 {
@@ -63,7 +63,7 @@ fn has_pair(kind: Kind, count: usize) -> bool
     }
 }
 
-/// The same of a kind with a list among its parts, or with one part.
+/// Whether so many parts suit a kind with a list among its parts, or with one part.
 fn has_length(kind: Kind, count: usize) -> bool
     ensures { result ≡ has_length kind count }
 {

@@ -45,8 +45,8 @@ module _ (S : Type 0) (Next : S → Token → S → Type 0) (behind : S → Toke
     pub found : {o : ℕ} {y : Rank} {i : Bool} {f : Start} {n : Tree} {s e : S} {P : List Pair} → height n ≤ h → (y ≡ Conditional → ⊥) → (y ≡ New → ⊥) → Spells ways S Next behind o (expr y i f) n s e P → Stops S Next behind y i n e → Found S Next behind o y i f s e n P
     pub callee : {o : ℕ} {n : Tree} {s e : S} {P : List Pair} → height n ≤ h → Callee S Next behind o n s e P → Stops S Next behind New true n e → FoundCallee S Next behind o s e n P
 
-  -- The same of each other position. An element or a property, by each of its readings, where a comma or the closing sign follows, is the only one
-  -- by this reading, and by each other reading there is none that ends elsewhere.
+  -- Each position spells one node only. An element or a property, by each of its readings, where a comma or the closing sign
+  -- follows, is the only one by this reading, and by each other reading there is none that ends elsewhere.
   pub record Unique (h : ℕ) : Type 0 where
     pub expressions : Expressions h
     pub closed : {a : Role} {o : ℕ} {n : Tree} {s e : S} {P : List Pair} → is_closed a ≡ true → height n ≤ h → Spells ways S Next behind o a n s e P → FoundAt S Next behind o a s e n P

@@ -28,7 +28,7 @@ EarlierScriptIsTheOne =
 abbrev pub ShortScriptsFit : Type 0
 ShortScriptsFit = (text : List ℕ) (n : Tree) (P : List Pair) → IsUtf8 text → length text < short_bytes → Derives text n P → WithinLimits text n P
 
--- the same in each language
+-- in each language, a short text derives only scripts that are within the limits
 abbrev pub ShortScriptsFitIn : Type 0
 ShortScriptsFitIn =
     (language : Language) (text : List ℕ) (n : Tree) (P : List Pair) → IsUtf8 text → length text < short_bytes → DerivesIn language text n P → (height n ≤ max_height) × DerivesOpenIn language max_open text n P
@@ -43,6 +43,6 @@ InOrder (p ∷ q ∷ P) = (p.left < p.right) × (p.left < q.left) × InOrder (q 
 abbrev pub PairsInOrder : Type 0
 PairsInOrder = (text : List ℕ) (n : Tree) (P : List Pair) → IsUtf8 text → Derives text n P → InOrder P
 
--- the same in each language
+-- in each language, the pairs of a derivation are in order
 abbrev pub PairsInOrderIn : Type 0
 PairsInOrderIn = (language : Language) (text : List ℕ) (n : Tree) (P : List Pair) → IsUtf8 text → DerivesIn language text n P → InOrder P

@@ -12,7 +12,7 @@ pub fn at_most_one_script()
     ensures { AtMostOneScript }
 {}
 
-/// The same in each language.
+/// A text derives at most one script in each language.
 pub fn at_most_one_script_in()
     ensures { AtMostOneScriptIn }
 {}
@@ -28,7 +28,7 @@ pub fn short_scripts_fit()
     ensures { ShortScriptsFit }
 {}
 
-/// The same in each language.
+/// In each language, a script of a text with fewer than `SHORT_BYTES` bytes is within the limits.
 pub fn short_scripts_fit_in()
     ensures { ShortScriptsFitIn }
 {}
@@ -38,7 +38,7 @@ pub fn pairs_in_order()
     ensures { PairsInOrder }
 {}
 
-/// The same in each language.
+/// In each language, the grouping pairs of a script come in order of their `(`.
 pub fn pairs_in_order_in()
     ensures { PairsInOrderIn }
 {}

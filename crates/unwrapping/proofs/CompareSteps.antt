@@ -24,7 +24,7 @@ use Rattle.unwrapping.specs.Comparing as settles
 use Rattle.unwrapping.proofs.OneReading.{same_readings}
 
 module _ {pairs pairs_again : List Pair} where
-  -- the same, said of equal things
+  -- what is kept, said of equal things
   kept_by : {u v a b : Bool} {p q x y : List Comment} {ss ts : List SpacedToken} → u ≡ v → a ≡ b → p ≡ q → x ≡ y → AreKept pairs pairs_again u a p x ss ts → AreKept pairs pairs_again v b q y ss ts
   kept_by {u} {v} {a} {b} {p} {q} {x} {y} {ss} {ts} e f g h k =
       subst (λ z. AreKept pairs pairs_again v b q z ss ts) h (subst (λ z. AreKept pairs pairs_again v b z x ss ts) g (subst (λ z. AreKept pairs pairs_again v z p x ss ts) f (subst (λ z. AreKept pairs pairs_again z a p x ss ts) e k)))
@@ -111,7 +111,7 @@ pub last_some : (text : List ℕ) (rows : List CommentRow) (row : CommentRow) �
 last_some text [] row e h = absurd (no_some row e)
 last_some text (r ∷ rows) row e h = last_at text (r ∷ rows) row (length (r ∷ rows) - 1) e (omega arith) h
 
--- the same, said of equal texts
+-- what settles, said of equal texts
 pub settles_by : {stays before after alike : Bool} {t text u unwrapped : List ℕ} (old old_again new new_again : List CommentRow) → t ≡ text → u ≡ unwrapped →
     Settles stays before after (comments_in t old) (comments_in u old_again) (comments_in t new) (comments_in u new_again) alike →
     Settles stays before after (comments_in text old) (comments_in unwrapped old_again) (comments_in text new) (comments_in unwrapped new_again) alike

@@ -48,7 +48,7 @@ impl<'s> Part<'s> {
         }
     }
 
-    /// The same from its first line end on.
+    /// This gap from its first line end on.
     pub(crate) fn from_line_end(self) -> Part<'s> {
         let text = self.text;
         let start = first_line_end(text);
@@ -58,7 +58,7 @@ impl<'s> Part<'s> {
         }
     }
 
-    /// The same without its line ends: a blank that has some is one space.
+    /// This gap without its line ends: a blank that has some is one space.
     pub(crate) fn on_one_line(self) -> Part<'s> {
         if self.is_line_end() {
             return Part::SPACE;

@@ -59,7 +59,7 @@ pub(crate) fn touch_over_opening(last: Last<'_>, end: u8, next: Next) -> bool {
     is_word || run_together(last, end, next.first)
 }
 
-/// The same where a `)` stood.
+/// Whether the tokens touch where a `)` stood between them.
 pub(crate) fn touch_over_closing(last: Last<'_>, end: u8, next: Next) -> bool {
     (next.is_word && end != b')') || run_together(last, end, next.first)
 }

@@ -84,7 +84,7 @@ impl<'w> WrapCursor<'w> {
         flag_at(self.flags, 0)
     }
 
-    /// The same, and goes on to the row behind it.
+    /// Whether the next row is wrapped; goes on to the row behind it.
     #[inline(always)]
     pub fn take(&mut self) -> bool
         ensures flag { result ≡ is_flagged self.old.flags.now 1 }

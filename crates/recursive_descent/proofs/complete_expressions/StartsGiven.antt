@@ -287,7 +287,7 @@ given_named text {p = p} r no_bracket uncalled (a_pattern d) = let u = pattern_o
 given_named text r no_bracket uncalled (a_name d ends) = inr (record { reading = refl; rank = refl; spelled = d; ends = ends })
 given_named text r no_bracket uncalled (an_async_call tk called fits d st gs) = absurd (uncalled called)
 
--- the same of an equal text
+-- what is first in a text is first in an equal one
 pub first_in : {text other : SourceText} {p : ExpressionContext} {o : ℕ} {n : Tree} {s m : Token} {Q : List Pair} {a : Reading} {h : Rank} → text ≡ other → FirstAs text p o n s m Q a h → FirstAs other p o n s m Q a h
 first_in {p = p} {o} {n} {s} {m} {Q} {a} {h} e g = subst (λ x. FirstAs x p o n s m Q a h) e g
 

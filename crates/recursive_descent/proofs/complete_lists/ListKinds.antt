@@ -1,4 +1,4 @@
--- The same of what parentheses hold, of sequences, declarators, templates, cases and members; and of all lists (ECMA-262 12.2, 12.16, 13.3, 13.12, 14.6).
+-- Parenthesized lists, sequences, declarators, templates, cases and members; and all lists (ECMA-262 12.2, 12.16, 13.3, 13.12, 14.6).
 use Rattle.std.proofs.Common.{◌+◌, ◌-◌, ◌≡◌, ◌⊎◌, inl, inr, ℕ, Bool, true, false, not, List, [], ◌∷◌, ◌++◌, refl, sym, ap, ◌∙◌, subst}
 use Rattle.std.specs.Prelude.{Option, Some, None, codes, ◌&&◌, ◌||◌}
 use Rattle.std.proofs.lemmas.Bool.{false≢true}

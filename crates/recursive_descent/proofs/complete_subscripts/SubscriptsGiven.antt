@@ -180,7 +180,7 @@ module _ (text : SourceText) where
       let one = one_part Token (SeenNext text) (behind_in text) (seen_determined text) d in
       record { mid = s; front = by_none refl (λ h. cc) refl; further = template_there refl one.parts one.spelled }
 
-  -- the same of what was read
+  -- what was read behind an operand is given
   pub behind_given : {o : ℕ} {s e : Token} {l : Subscript} {b : Bool} {ps : Parts} {P : List Pair} → Behind text o s e l b ps P → Given text o s e l b ps P
   behind_given (a_name r n) = record { mid = _; front = by_dot refl refl r; further = name_there refl refl (n.spelled _) }
   behind_given (optional_name q n) = record { mid = _; front = by_mark refl (λ h. cc) q; further = name_there refl refl (n.spelled _) }

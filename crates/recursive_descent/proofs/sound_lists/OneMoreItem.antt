@@ -90,7 +90,7 @@ module _ (text : SourceText) (i : Bool) (f : Start) where
   item_on None h p d = cc
   item_on {o} {a} {n = n} {s = s} {m = m} {P = P} (Some b) h p d = let same : a ≡ b = cc in within (subst (λ v. SpellsIn text o v n s m P) same p) d
 
-  -- the same where the piece is written otherwise
+  -- one more item where its piece is written otherwise
   item_by : {o : ℕ} {a : Role} {qs : List (PieceOf Role)} {n : Tree} {ps : Parts} {s m e : Token} {P Q : List Pair} (x : Option Role) (q : Piece) → put_at x ≡ q → x ≡ Some a → SpellsIn text o a n s m P → RunsIn text o qs ps m e Q → RunsIn text o (settle_piece Expression i f q ∷ qs) (part n ps) s e (P ++ Q)
   item_by {o} {qs = qs} {n = n} {ps = ps} {s = s} {e = e} {P = P} {Q = Q} x q w h p d = subst (λ y. RunsIn text o (settle_piece Expression i f y ∷ qs) (part n ps) s e (P ++ Q)) w (item_on x h p d)
 

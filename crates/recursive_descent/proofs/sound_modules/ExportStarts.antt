@@ -31,7 +31,7 @@ module _ (s x e : CursorState) (old mid new : List Pair) (from : ℕ) (same : x.
   there : (A : SourceText → Type 0) → A s.text → A x.text
   there A h = subst A (sym same) h
 
-  -- the same of completeness
+  -- the room that completeness asks for
   room_here : {o levels high : ℕ} → Room s o levels high → Room x o levels high
   room_here {o} room = (subst (λ k. o ≤ max_open - k) (sym same_open) room.0, room.1)
 

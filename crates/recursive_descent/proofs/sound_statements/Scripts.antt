@@ -140,7 +140,7 @@ module _ (text : SourceText) where
   first_token b (part n ps) (step q run) h = elim q [ ]
   first_token b (gap ps) run h = absurd (run_never Token (SeenNext text) (behind_in text) run)
 
-  -- the same of the items of a module
+  -- the items of a module run to its end
   module_to_end : {o : ℕ} (b : Bool) (ps : Parts) {s m e : Token} {P : List Pair} → RunsIn text o (anywhere (module_prologue b ps)) ps s m P → ReadsHere text End [] m e → RunsIn text o (anywhere (module_prologue b (bare_parts ps) ++ tok End [] ∷ [])) ps s e P
   module_to_end b none done h = step (token h) done
   module_to_end {o} b (part n ps) {s} {m} {e} {P} (within {Q = Q} d (step laid run)) h =

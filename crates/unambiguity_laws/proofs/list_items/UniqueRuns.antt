@@ -22,7 +22,7 @@ module _ (S : Type 0) (Next : S → Token → S → Type 0) (behind : S → Toke
   pub record UniqueRuns (h : ℕ) (Fine : Parts → S → Type 0) (left : Parts → List (PieceOf Role)) : Type 0 where
     pub found : {o : ℕ} {ps : Parts} {mid e : S} {P : List Pair} → parts_height ps ≤ h → Runs ways S Next behind o (left ps) ps mid e P → Fine ps e → FoundPartsWhere S Next behind Fine o left mid e ps P
 
-  -- the same of nodes at a position
+  -- nodes at a position are the only ones, and none is found elsewhere
   pub record UniqueWhere (h : ℕ) (Fine : Tree → S → Type 0) (a : Role) : Type 0 where
     pub found : {o : ℕ} {n : Tree} {s e : S} {P : List Pair} → height n ≤ h → Spells ways S Next behind o a n s e P → Fine n e → FoundWhere S Next behind Fine o a s e n P
 

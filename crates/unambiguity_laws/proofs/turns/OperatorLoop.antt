@@ -76,7 +76,7 @@ module _ (S : Type 0) (Next : S → Token → S → Type 0) (behind : S → Toke
           decide true k = no_further (ends_where_stops S Next behind det sp r k gs)
           decide false k = further t x r k
 
-  -- the same that can't go on, told of what is equal
+  -- what can't go on, told of what is equal
   stopped_at : (y : Rank) (i : Bool) {n m : Tree} {e mid : S} → n ≡ m → e ≡ mid → Stops S Next behind y i n e → Stops S Next behind y i m mid
   stopped_at y i {n} {m} {e} {mid} a b st = subst (λ v. Stops S Next behind y i m v) b (subst (λ v. Stops S Next behind y i v e) a st)
 
@@ -127,7 +127,7 @@ module _ (S : Type 0) (Next : S → Token → S → Type 0) (behind : S → Toke
         let v = c.climbing.leads o e n P d st in
         step_whole k no_test no_new low d st c.climbing more (goes_further S Next behind det v.spelled v.grows) (λ m' mid' Q' c' l. climbed_whole k m' mid' Q' no_test no_new low d st c' l)
 
-    -- the same behind `new`
+    -- a step of the loop behind `new`
     step_callee : {o : ℕ} {n : Tree} {s0 e : S} {P : List Pair} {r a : Rank} {j : Bool} {g : Start} {m : Tree} {mid : S} {Q : List Pair} (k : ℕ) → height n ≤ suc h →
         Callee S Next behind o n s0 e P → Stops S Next behind New true n e → ClimbingCallee S Next behind det o r s0 m mid Q → height n < height m + suc k → GoesOn S Next behind det New true (expr New true Any) n e P (expr a j g) m mid Q →
         ((m' : Tree) (mid' : S) (Q' : List Pair) → ClimbedCallee S Next behind det o s0 m' mid' Q' → height n < height m' + k → FoundCallee S Next behind o s0 e n P) → FoundCallee S Next behind o s0 e n P

@@ -42,7 +42,7 @@ module _ (S : Type 0) (Next : S → Token → S → Type 0) (behind : S → Toke
           subst (λ w. PropertyFound S Next behind det o s e w P) (sym u.tree) (subst (λ w. PropertyFound S Next behind det o s e (node Identifier u.text plain u.sign.start (behind e).stop none) w) (sym u.pairs) (property_found S Next behind det u.is_word u.reads))
 
 module _ (S : Type 0) (Next : S → Token → S → Type 0) (behind : S → Token) (det : IsDetermined S Next behind) (alike : IsAlike S Next behind) {h : ℕ} (u : Unique S Next behind det h) where
-  -- the same, told of what is equal
+  -- what is found, told of what is equal
   told : {o : ℕ} {z : Operator} {K : Kind} {G : Flags} {pieces : Parts → List (PieceOf Role)} {ps qs : Parts} {x e : S} {P Q : List Pair} → ps ≡ qs → P ≡ Q → FoundLink S Next behind det o z x e K G pieces qs Q → FoundLink S Next behind det o z x e K G pieces ps P
   told {o} {z} {K} {G} {pieces} {ps} {qs} {x} {e} {P} {Q} parts pairs found = subst (λ c. FoundLink S Next behind det o z x e K G pieces ps c) (sym pairs) (subst (λ c. FoundLink S Next behind det o z x e K G pieces c Q) (sym parts) found)
 

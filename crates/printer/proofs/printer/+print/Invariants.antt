@@ -23,7 +23,7 @@ invariant-print_front-loop-index g l = record {
   adds : Adds (g.O.TextSink.stands l.fn.out l.fn.emitter.room) (g.O.TextSink.stands l.out l.emitter.room);
 }
 
--- the same of the others
+-- the invariants of the other loops
 abbrev pub invariant-print_list-loop-index : goal.invariant-print_list-loop-index
 invariant-print_list-loop-index g l = record {
   laid : (W : ℕ → Bool) → (st : NodeUse) → HoldsRows st l.fn.framed.node → (ms : List Mark) → (xs : List Role) → (r : ℕ) → Reads W r l.fn.emitter.wraps.flags.now → parts_fit W (parts_after (length l.fn.framed.frame.now.front.now) (parts_of (node_tree l.fn.framed.node))) xs r ≡ true →

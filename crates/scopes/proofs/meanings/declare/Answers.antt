@@ -25,7 +25,7 @@ returns-then-declared-clause-meanings c = λ fs m b. meant-exported (value_at c.
 pub returns-then-declared-clause-kept : goal.returns-then-declared-clause-kept
 returns-then-declared-clause-kept c = undone-agrees saved_name saved_value (value_at c.save.new.self) (value_at c.args.meanings.now) c.args.saved.now.items c.in_ok-before.ensures.same
 
--- the same without an export
+-- the bindings of a declaration without an export
 pub returns-else-declared-clause-bindings : goal.returns-else-declared-clause-bindings
 returns-else-declared-clause-bindings c = λ fs m b.
     let bs = all_shown c.args.bindings.now.items in
