@@ -1,5 +1,5 @@
 'use strict';
-// The definitions of scopes, bindings, references and reports (crates scopes and rules), run by antt.js, with what they say in the plain model's form.
+// The definitions of scopes, bindings, references and reports (crates scopes, rule_words, node_rules and rules), run by antt.js, with what they say in the plain model's form.
 
 const path = require('node:path');
 const antt = require('./antt.js');
@@ -23,6 +23,9 @@ function plainFound(found) {
   };
 }
 
+// the crates whose definitions say what is reported
+const REPORTING = ['scopes', 'rule_words', 'node_rules', 'rules'];
+
 const flagsOf = (environments) => Object.fromEntries([...ENVIRONMENTS.keys()].map((name) => [name, environments.includes(name)]));
 // settings in the form of ../model/rules.js
 const settingsOf = ({ rules, globals, environments, allowNull, allowComments, ignoreUnderscore }) => ({
@@ -33,13 +36,14 @@ const settingsOf = ({ rules, globals, environments, allowNull, allowComments, ig
 const ORDER = (a, b) => a.start - b.start || (a.rule < b.rule ? -1 : a.rule > b.rule ? 1 : 0) || a.end - b.end || Buffer.compare(Buffer.from(a.text), Buffer.from(b.text));
 
 class Reports {
-  // The definitions of the folder's crates scopes and rules, above those of trees, the language and early errors.
+  // The definitions of the folder's crates of REPORTING, above those of trees, the language and early errors.
   constructor(folder) {
-    this.model = new Model([...CRATES, path.join(folder, 'scopes'), path.join(folder, 'rules')]);
+    this.model = new Model([...CRATES, ...REPORTING.map((crate) => path.join(folder, crate))]);
     const { spec } = this.model;
     this.found = spec.fn('found', 'Found', 'scopes');
     this.isOn = spec.fn('is_on', 'Settings', 'rules');
-    this.rules = RULE_NAMES.map((name) => [name, spec.fn(name.replace(/-/g, '_'), 'Rules', 'rules')]);
+    const called = spec.fn('called', 'RuleNames', 'rules'), finds = spec.fn('finds', 'AllRules', 'rules');
+    this.rules = antt.toArray(spec.fn('all_rules', 'RuleNames', 'rules')).map((rule) => [antt.text(called(rule)), (view) => finds(rule, view)]);
     this.hasGlobal = spec.fn('is_global', 'Settings', 'rules');
   }
   // whether a name is global, with one environment on
@@ -54,4 +58,4 @@ class Reports {
   }
 }
 
-module.exports = { Reports, plainFound };
+module.exports = { REPORTING, Reports, plainFound };

@@ -10,7 +10,7 @@ use crate::reports::AnyScript;
 use commands::{Command, LanguageChoice, Refused, ReportForm, write_refusal};
 use language::Language;
 use lint::run::run;
-use rules::{RULE_COUNT, Rule, of_each_rule};
+use rules::{RULES, Rule, ShippedRule};
 use source_text::{FailurePlan, Fault, MAX_PIECE, MemoryFeed, MemorySink, Sink};
 use std::alloc::{AllocError, Global};
 use std::str::from_utf8;
@@ -109,10 +109,9 @@ fn answered<W: Sink>(
     requires { W.failed writer.old ≡ false }
     ensures { IfOk result (λ answered. IfErr answered (λ refused. refused.fault ≢ Usage)) }
 {
-    let boxes: [Box<dyn Rule>; RULE_COUNT] = of_each_rule!(boxed_rule, alloc);
     let mut rules: Vec<Box<dyn Rule>> = Vec::new(alloc);
-    for rule in boxes {
-        rules.push(rule)?;
+    for name in RULES.as_slice() {
+        rules.push(Box::new(alloc, ShippedRule::new(alloc, *name))?)?;
     }
     if given.has_tenth {
         rules.push(Box::new(alloc, AnyScript::new(alloc))?)?;

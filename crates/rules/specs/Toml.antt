@@ -6,7 +6,7 @@ use Rattle.std.specs.BTreeSet.{insert_key}
 use Rattle.std.specs.Cmp.Lexicographic.{slice_cmp}
 use Rattle.std.specs.Ordering.{nat_cmp}
 use Rattle.std.specs.Str.{bytes_eq}
-use Rattle.rules.specs.NineRules.{is_rule, rule_names}
+use Rattle.rules.specs.RuleNames.{is_rule, rule_names}
 use Rattle.rules.specs.declared.environment.Environments.{Environments}
 use Rattle.rules.specs.Environments.{environment_of, no_environments, with_environment}
 use Rattle.rules.specs.Languages.{all_languages, both_of, edition_languages, has_none, source_type_languages}

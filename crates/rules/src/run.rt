@@ -1,18 +1,18 @@
 //! Running rules.
 
-ghost use Rattle.std.specs.Prelude.{◌≡◌, ◌++◌, IfOk, IfSome, OnOk, false, true};
+ghost use Rattle.std.specs.Prelude.{◌≡◌, ◌++◌, IfOk, IfSome, OnOk, true};
 ghost use Rattle.std.specs.List.Sorted.{IsPermutation, IsSorted};
-ghost use Rattle.rules.specs.NodeRules.{IsOnNodes, found_on_nodes, has};
-ghost use Rattle.rules.specs.Order.{report_cmp};
+ghost use Rattle.rules.specs.NodeRules.{IsOnNodes, found_on_nodes};
+ghost use Rattle.rule_words.specs.Order.{report_cmp};
 ghost use Rattle.rules.specs.Run.{all_found, found_by};
 ghost use Rattle.rules.specs.RuleViews.{seen};
 ghost use Rattle.rules.specs.Settings.{is_on};
 
-use crate::report::Report;
 use crate::rule::Rule;
-use crate::rule_list::{NodeRule, NodeRules};
+use crate::shipped_rule::push_on_nodes;
 use crate::view::View;
-use crate::walk::{NodeWalk, push_all_found};
+use node_rules::NodeRule;
+use rule_words::Report;
 use std::alloc::{AllocError, Global};
 
 /// Appends what a rule finds, if it is on.
@@ -25,11 +25,10 @@ fn run_alone(rule: &Box<dyn Rule>, view: &View, out: &mut Vec<Report>) -> Result
     Ok(())
 }
 
-/// Which rule on nodes finds the same as a rule that is on, unless it is among these.
-fn joining(rule: &Box<dyn Rule>, view: &View, together: NodeRules) -> Option<NodeRule>
+/// Which rule on nodes finds the same as a rule that is on.
+fn joining(rule: &Box<dyn Rule>, view: &View) -> Option<NodeRule>
     ensures on { IfSome result (λ joining. is_on (called rule.now) view.now.settings.now ≡ true) }
     ensures finds { IfSome result (λ joining. IsOnNodes joining (finds rule.now)) }
-    ensures joins { IfSome result (λ joining. has together joining ≡ false) }
 {
     let Some(joining) = rule.on_nodes() else {
         return None;
@@ -37,23 +36,20 @@ fn joining(rule: &Box<dyn Rule>, view: &View, together: NodeRules) -> Option<Nod
     if !view.settings.is_on(rule.name()) {
         return None;
     }
-    if together.contains(joining) {
-        return None;
-    }
     Some(joining)
 }
 
-/// Appends what a rule finds, if it is on. A rule on nodes joins those that run in one walk, unless it is among them.
+/// Appends what a rule finds, if it is on. A rule on nodes joins those that run in one walk.
 fn run_rule(
     rule: &Box<dyn Rule>,
     view: &View,
-    together: &mut NodeRules,
+    together: &mut Vec<NodeRule>,
     out: &mut Vec<Report>,
 ) -> Result<(), AllocError>
-    ensures { OnOk result (IsPermutation ((out.old.items ++ found_on_nodes together.old (seen view.now)) ++ found_by (λ b. called b) (λ b. finds b) rule.now (seen view.now)) (out.new.items ++ found_on_nodes together.new (seen view.now))) }
+    ensures { OnOk result (IsPermutation ((out.old.items ++ found_on_nodes together.old.items (seen view.now)) ++ found_by (λ b. called b) (λ b. finds b) rule.now (seen view.now)) (out.new.items ++ found_on_nodes together.new.items (seen view.now))) }
 {
-    if let Some(joining) = joining(rule, view, *together) {
-        *together = together.with(joining);
+    if let Some(joining) = joining(rule, view) {
+        together.push(joining)?;
         return Ok(());
     }
     run_alone(rule, view, out)
@@ -64,16 +60,11 @@ fn gather(alloc: Global, rules: &[Box<dyn Rule>], view: &View) -> Result<Vec<Rep
     ensures { IfOk result (λ v. IsPermutation (all_found (λ b. called b) (λ b. finds b) rules.now (seen view.now)) v.items) }
 {
     let mut found = Vec::new(alloc);
-    let mut together = NodeRules::none();
+    let mut together = Vec::new(alloc);
     for rule in rules {
         run_rule(rule, view, &mut together, &mut found)?;
     }
-    let walk = NodeWalk {
-        rules: together,
-        alloc,
-        view,
-    };
-    push_all_found(walk, &mut found)?;
+    push_on_nodes(alloc, &together, view, &mut found)?;
     Ok(found)
 }
 

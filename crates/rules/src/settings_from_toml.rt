@@ -5,12 +5,13 @@ ghost use Rattle.toml.specs.Data.{get_member};
 ghost use Rattle.toml.specs.View.{array_view, items_view, table_view, view};
 ghost use Rattle.rules.specs.Toml.{edition_of, environments_of, flag_of, globals_of, languages_of, off_among, off_of, off_of_members, on_of, set_of, settings_of, source_type_of, with_environments};
 ghost use Rattle.rules.specs.Environments.{no_environments};
+ghost use Rattle.rules.specs.RuleNames.{called};
 ghost use Rattle.rules.specs.Refusals.{IsRefusal, IsTomlRefusal};
 
 use crate::environment::{Environment, Environments};
 use crate::known_keys::{knows_keys, knows_rules};
 use crate::languages::Languages;
-use crate::rule_list::RULE_NAMES;
+use crate::rule_list::{RULES, RuleName};
 use crate::settings::Settings;
 use crate::settings_error::SettingsError;
 use source_text::MAX_BYTES;
@@ -162,18 +163,23 @@ fn rule_on(table: &Table, name: &str) -> Option<bool>
 }
 
 /// Those of these rules that are off.
-fn off_among(alloc: Global, names: &[&str], table: &Table) -> Result<Vec<String>, SettingsError>
-    ensures ok { IfOk result (λ v. off_among (map (λ n. n.now) names.now) (table_view table.now) ≡ Some (map string_bytes v.items)) }
-    ensures bad { result ≡ Err SettingsError.Unfit → off_among (map (λ n. n.now) names.now) (table_view table.now) ≡ None }
+fn off_among(
+    alloc: Global,
+    rules: &[RuleName],
+    table: &Table,
+) -> Result<Vec<String>, SettingsError>
+    ensures ok { IfOk result (λ v. off_among (map called rules.now) (table_view table.now) ≡ Some (map string_bytes v.items)) }
+    ensures bad { result ≡ Err SettingsError.Unfit → off_among (map called rules.now) (table_view table.now) ≡ None }
     ensures only { IfErr result IsRefusal }
 {
     let mut off = Vec::new(alloc);
-    for name in names {
-        let Some(is_on) = rule_on(table, *name) else {
+    for rule in rules {
+        let name = rule.as_str();
+        let Some(is_on) = rule_on(table, name) else {
             return Err(SettingsError::Unfit);
         };
         if !is_on {
-            let string = String::from_str(alloc, *name)?;
+            let string = String::from_str(alloc, name)?;
             off.push(string)?;
         }
     }
@@ -204,7 +210,7 @@ fn off_of_table(alloc: Global, table: &Table) -> Result<Vec<String>, SettingsErr
     if !knows_rules(table) {
         return Err(SettingsError::Unfit);
     }
-    off_among(alloc, RULE_NAMES.as_slice(), table)
+    off_among(alloc, RULES.as_slice(), table)
 }
 
 /// The settings that a table gives; refused if it has another key or value.
@@ -247,7 +253,8 @@ fn settings_of(alloc: Global, table: &Table) -> Result<Settings, SettingsError>
 impl Settings {
     ghost use Rattle.std.specs.Prelude.{◌≡◌, Some, IfErr, IfOk};
     ghost use Rattle.rules.specs.Toml.{settings_of_text};
-    ghost use Rattle.rules.specs.Refusals.{RefusesToml};
+    ghost use Rattle.rules.specs.RuleNames.{called};
+ghost use Rattle.rules.specs.Refusals.{RefusesToml};
 
     /// The settings of a TOML text: `rules`, a table of names of rules, each true or false; `globals`, an array of
     /// strings; `env`, an array of names of environments; `edition`, 2020 or 2022, and `source-type`, "script" or "module", where there are

@@ -1,18 +1,19 @@
 -- What rules find: none of a command but `check`, and the boxes of `check`.
-use Rattle.std.proofs.Common.{◌≡◌, ℕ, List, [], ◌∷◌, ◌++◌, Result, cond, refl, sym, subst}
-use Rattle.std.specs.DynBox.{dyn_box_with}
-use Rattle.std.specs.declared.dyn_box.DynBox.{DynBox}
+use Rattle.std.proofs.Common.{◌≡◌, ℕ, suc, ◌+◌, ◌<◌, ◌≤◌, List, [], ◌∷◌, ◌++◌, Result, length, drop, get_or, refl, sym, ap, ◌∙◌, subst, add-one, append_assoc, append-nil}
+use Rattle.std.proofs.Math.Seq.{drop-cons}
+use Rattle.std.proofs.lemmas.List.{drop_all}
 use Rattle.lint.specs.Run.{Runs, Seen}
 use Rattle.rules.specs.Reports.{Report}
 use Rattle.rules.specs.Rules.{View}
 use Rattle.rules.specs.Run.{all_found, found_by}
-use Rattle.rules.specs.Settings.{is_on}
 use Rattle.commands.specs.declared.command.Command.{Command}
 use Rattle.commands.specs.declared.command.Command.TheVariants.{Check, Tree, Fix, Unwrap, Cost, Verify, Same}
 use Rattle.commands.specs.declared.command.ReportForm.{ReportForm}
 use Rattle.commands.specs.declared.language_choice.LanguageChoice.{LanguageChoice}
 use Rattle.commands.specs.declared.refused.Refused.{Refused}
-use Rattle.rules.specs.NineRules.{NamedRule, nine_rules}
+use Rattle.rules.specs.AllRules.{finds as finds_by_name}
+use Rattle.rules.specs.RuleNames.{all_rules, called as name_of}
+use Rattle.rules.specs.declared.rule_list.RuleName.{RuleName}
 use Rattle.shipped_rules.specs.ShippedRules.{FindAs, RunsByRules, rules_of}
 
 -- ---- no rules
@@ -29,35 +30,37 @@ no_rules Same h = refl
 -- a run without rules is one by those of the command
 pub without_rules : (command : Command) (choice : LanguageChoice) (seen : Seen) (result : Result ℕ Refused) → ((form : ReportForm) → command ≡ Check form → ⊥) → Runs (λ view. []) command choice seen result → RunsByRules command choice seen result
 without_rules command choice seen result h =
-    subst (λ rules. Runs (λ view. all_found (λ (r : NamedRule). r.called) (λ (r : NamedRule). r.finds) rules view) command choice seen result) (sym (no_rules command h))
+    subst (λ rules. Runs (λ view. all_found name_of finds_by_name rules view) command choice seen result) (sym (no_rules command h))
 
 -- ---- boxes
 
--- what a rule of this name finds, if it is on
-abbrev pub named_found : List ℕ → (View → List Report) → View → List Report
-named_found name what view = cond (is_on name view.settings) (what view) []
+abbrev pub found_by_names : List RuleName → View → List Report
+found_by_names = all_found name_of finds_by_name
 
--- a box finds what a rule finds
-pub record HoldsRule {B : Type 0} (called : B → List ℕ) (finds : B → View → List Report) (b : B) (r : NamedRule) : Type 0 where
-  pub is : found_by called finds b ≡ named_found r.called r.finds
+-- boxes of the first rules, and the rules that are left, find what all find
+pub record HoldFirst {B : Type 0} (called : B → List ℕ) (finds : B → View → List Report) (bs : List B) (left all : List RuleName) : Type 0 where
+  pub is : (view : View) → all_found called finds bs view ++ found_by_names left view ≡ found_by_names all view
 
--- by the vtable that the box was made with
-pub by_vtable : {X Z : Type 0} {F : X → Type 0} {called : DynBox X Z F → List ℕ} {finds : DynBox X Z F → View → List Report} {d : DynBox X Z F} {r : NamedRule}
-    (i : X) → d.vtable ≡ i → ((w : F i) → found_by called finds (dyn_box_with d i w) ≡ named_found r.called r.finds) → HoldsRule called finds d r
-by_vtable {X} {Z} {F} {called} {finds} {d} {r} i e h =
-    record { is = subst (λ j. (w : F j) → found_by called finds (dyn_box_with d j w) ≡ named_found r.called r.finds) (sym e) h d.value }
+module _ {B : Type 0} (called : B → List ℕ) (finds : B → View → List Report) where
+  one-more : (bs : List B) (b : B) (view : View) → all_found called finds (bs ++ b ∷ []) view ≡ all_found called finds bs view ++ found_by called finds b view
+  one-more [] b view = append-nil (found_by called finds b view)
+  one-more (x ∷ xs) b view = ap (λ l. found_by called finds x view ++ l) (one-more xs b view) ∙ sym (append_assoc (found_by called finds x view) (all_found called finds xs view) (found_by called finds b view))
 
--- boxes that hold rules, one by one
-pub record HoldEach {B : Type 0} (called : B → List ℕ) (finds : B → View → List Report) (bs : List B) (rs : List NamedRule) : Type 0 where
-  pub is : all_found called finds bs ≡ all_found (λ (r : NamedRule). r.called) (λ (r : NamedRule). r.finds) rs
+  pub hold-begin : (bs : List B) (names : List RuleName) → bs ≡ [] → HoldFirst called finds bs names names
+  hold-begin bs names e = record { is = λ view. ap (λ xs. all_found called finds xs view ++ found_by_names names view) e }
 
-pub none : {B : Type 0} {called : B → List ℕ} {finds : B → View → List Report} → HoldEach called finds [] []
-none = record { is = refl }
+  pub hold-turn : (bs new : List B) (b : B) (names : List RuleName) (i : ℕ) (name : RuleName) → i < length names → name ≡ get_or names i name → new ≡ bs ++ b ∷ [] → called b ≡ name_of name → finds b ≡ finds_by_name name →
+      HoldFirst called finds bs (drop i names) names → HoldFirst called finds new (drop (i + 1) names) names
+  hold-turn bs new b names i name l is e same_name same_finds so =
+      let rest : List RuleName = drop (suc i) names in
+      let found : View → List Report = λ view. found_by called finds b view in
+      rw (add-one i) (record { is = λ view.
+          ap (λ xs. all_found called finds xs view ++ found_by_names rest view) e
+          ∙ ap (λ r. r ++ found_by_names rest view) (one-more bs b view)
+          ∙ append_assoc (all_found called finds bs view) (found view) (found_by_names rest view)
+          ∙ ap (λ r. all_found called finds bs view ++ (r ++ found_by_names rest view)) (λ j. found_by (λ (x : B). same_name j) (λ (x : B). same_finds j) b view)
+          ∙ ap (λ ns. all_found called finds bs view ++ found_by_names ns view) (ap (λ n. n ∷ rest) is ∙ sym (drop-cons names i name l))
+          ∙ so.is view })
 
-pub next : {B : Type 0} {called : B → List ℕ} {finds : B → View → List Report} {b : B} {bs : List B} {r : NamedRule} {rs : List NamedRule}
-    → HoldsRule called finds b r → HoldEach called finds bs rs → HoldEach called finds (b ∷ bs) (r ∷ rs)
-next e es = record { is = λ i view. e.is i view ++ es.is i view }
-
--- boxes that hold the rules of `check`
-pub by_each : {B : Type 0} {called : B → List ℕ} {finds : B → View → List Report} {bs : List B} {form : ReportForm} → HoldEach called finds bs nine_rules → FindAs called finds (Check form) bs
-by_each es = record { is = es.is }
+  pub hold-end : {form : ReportForm} (bs : List B) (i : ℕ) → length all_rules ≤ i → HoldFirst called finds bs (drop i all_rules) all_rules → FindAs called finds (Check form) bs
+  hold-end bs i l so = record { is = λ j view. (sym (append-nil (all_found called finds bs view)) ∙ ap (λ ns. all_found called finds bs view ++ found_by_names ns view) (sym (drop_all i all_rules l)) ∙ so.is view) j }

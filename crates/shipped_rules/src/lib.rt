@@ -12,7 +12,7 @@ ghost use Rattle.shipped_rules.specs.ShippedRules.{FindAs, RunsByRules};
 
 use commands::{Command, LanguageChoice, Refused, ReportForm};
 use lint::run::run;
-use rules::{RULE_COUNT, Rule, of_each_rule};
+use rules::{RULES, Rule, ShippedRule};
 use source_text::{Feed, Sink};
 use std::alloc::Global;
 
@@ -75,7 +75,11 @@ fn check<F: Feed, S: Feed, W: Sink>(
       writer_failed = W.failed output.new;
     }) result }
 {
-    let rules: [Box<dyn Rule>; RULE_COUNT] = of_each_rule!(boxed_rule, alloc);
+    let names = RULES.as_slice();
+    let mut rules: Vec<Box<dyn Rule>> = Vec::new(alloc);
+    for name in names {
+        rules.push(Box::new(alloc, ShippedRule::new(alloc, *name))?)?;
+    }
     check_by(alloc, form, choice, &rules, file, settings, output)
 }
 
