@@ -19,11 +19,38 @@ pub enum RuleName {
     PreferConst,
 }
 
-/// How many rules there are.
-pub const RULE_COUNT: usize = 9;
-
 /// The rules, in the order of their names.
-pub const RULES: [RuleName; RULE_COUNT] = [
+pub const RULES: [RuleName; 26] = [
+    RuleName::OnNodes(NodeRule::EqEqEq),
+    RuleName::OnNodes(NodeRule::ForDirection),
+    RuleName::OnNodes(NodeRule::NoAsyncPromiseExecutor),
+    RuleName::OnNodes(NodeRule::NoCaseDeclarations),
+    RuleName::OnNodes(NodeRule::NoCompareNegZero),
+    RuleName::OnNodes(NodeRule::NoDebugger),
+    RuleName::OnNodes(NodeRule::NoEmpty),
+    RuleName::OnNodes(NodeRule::NoEmptyPattern),
+    RuleName::OnNodes(NodeRule::NoEmptyStaticBlock),
+    RuleName::OnNodes(NodeRule::NoExtraBooleanCast),
+    RuleName::NoExtraParens,
+    RuleName::OnNodes(NodeRule::NoExtraSemi),
+    RuleName::OnNodes(NodeRule::NoInnerDeclarations),
+    RuleName::OnNodes(NodeRule::NoPrototypeBuiltins),
+    RuleName::OnNodes(NodeRule::NoSetterReturn),
+    RuleName::NoShadow,
+    RuleName::OnNodes(NodeRule::NoSparseArrays),
+    RuleName::NoUndef,
+    RuleName::OnNodes(NodeRule::NoUnusedLabels),
+    RuleName::NoUnusedVars,
+    RuleName::OnNodes(NodeRule::NoUselessCatch),
+    RuleName::OnNodes(NodeRule::NoVar),
+    RuleName::PreferConst,
+    RuleName::OnNodes(NodeRule::RequireYield),
+    RuleName::OnNodes(NodeRule::UseIsNan),
+    RuleName::OnNodes(NodeRule::ValidTypeof),
+];
+
+/// The nine rules that are on where settings say nothing.
+pub(crate) const NINE: [RuleName; 9] = [
     RuleName::OnNodes(NodeRule::EqEqEq),
     RuleName::OnNodes(NodeRule::NoDebugger),
     RuleName::OnNodes(NodeRule::NoEmpty),
@@ -33,6 +60,31 @@ pub const RULES: [RuleName; RULE_COUNT] = [
     RuleName::NoUnusedVars,
     RuleName::OnNodes(NodeRule::NoVar),
     RuleName::PreferConst,
+];
+
+/// Those that ESLint recommends, by its 8th version or by its 9th.
+pub(crate) const RECOMMENDED: [RuleName; 21] = [
+    RuleName::OnNodes(NodeRule::ForDirection),
+    RuleName::OnNodes(NodeRule::NoAsyncPromiseExecutor),
+    RuleName::OnNodes(NodeRule::NoCaseDeclarations),
+    RuleName::OnNodes(NodeRule::NoCompareNegZero),
+    RuleName::OnNodes(NodeRule::NoDebugger),
+    RuleName::OnNodes(NodeRule::NoEmpty),
+    RuleName::OnNodes(NodeRule::NoEmptyPattern),
+    RuleName::OnNodes(NodeRule::NoEmptyStaticBlock),
+    RuleName::OnNodes(NodeRule::NoExtraBooleanCast),
+    RuleName::OnNodes(NodeRule::NoExtraSemi),
+    RuleName::OnNodes(NodeRule::NoInnerDeclarations),
+    RuleName::OnNodes(NodeRule::NoPrototypeBuiltins),
+    RuleName::OnNodes(NodeRule::NoSetterReturn),
+    RuleName::OnNodes(NodeRule::NoSparseArrays),
+    RuleName::NoUndef,
+    RuleName::OnNodes(NodeRule::NoUnusedLabels),
+    RuleName::NoUnusedVars,
+    RuleName::OnNodes(NodeRule::NoUselessCatch),
+    RuleName::OnNodes(NodeRule::RequireYield),
+    RuleName::OnNodes(NodeRule::UseIsNan),
+    RuleName::OnNodes(NodeRule::ValidTypeof),
 ];
 
 impl RuleName {
