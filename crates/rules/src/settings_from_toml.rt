@@ -216,11 +216,7 @@ fn on_of_table(
 }
 
 /// The rules that are on by a set and by `rules`: those of the set if it is left out; refused if it is no table of rules.
-fn rules_on(
-    alloc: Global,
-    set: &[RuleName],
-    table: &Table,
-) -> Result<Vec<RuleName>, SettingsError>
+fn rules_on(alloc: Global, set: &[RuleName], table: &Table) -> Result<Vec<RuleName>, SettingsError>
     ensures ok { IfOk result (λ v. rules_on set.now (get_member (codes "rules") (table_view table.now)) ≡ Some v.items) }
     ensures bad { result ≡ Err SettingsError.Unfit → rules_on set.now (get_member (codes "rules") (table_view table.now)) ≡ None }
     ensures only { IfErr result IsRefusal }
@@ -287,7 +283,7 @@ impl Settings {
     ghost use Rattle.std.specs.Prelude.{◌≡◌, Some, IfErr, IfOk};
     ghost use Rattle.rules.specs.Toml.{settings_of_text};
     ghost use Rattle.rules.specs.RuleNames.{has_name};
-ghost use Rattle.rules.specs.Refusals.{RefusesToml};
+    ghost use Rattle.rules.specs.Refusals.{RefusesToml};
 
     /// The settings of a TOML text: `extends`, the name of a set of rules, which are on: "nine", "recommended", "all" or "none"; `rules`, a
     /// table of names of rules, each true or false, on or off whatever the set says; `globals`, an array of strings; `env`, an array of names of environments; `edition`, 2020 or 2022, and `source-type`, "script" or "module", where there are

@@ -54,13 +54,15 @@ module _ {B : Type 0} (called : B → List ℕ) (finds : B → View → List Rep
   hold-turn bs new b names i name l is e same_name same_finds so =
       let rest : List RuleName = drop (suc i) names in
       let found : View → List Report = λ view. found_by called finds b view in
-      rw (add-one i) (record { is = λ view.
-          ap (λ xs. all_found called finds xs view ++ found_by_names rest view) e
-          ∙ ap (λ r. r ++ found_by_names rest view) (one-more bs b view)
-          ∙ append_assoc (all_found called finds bs view) (found view) (found_by_names rest view)
-          ∙ ap (λ r. all_found called finds bs view ++ (r ++ found_by_names rest view)) (λ j. found_by (λ (x : B). same_name j) (λ (x : B). same_finds j) b view)
-          ∙ ap (λ ns. all_found called finds bs view ++ found_by_names ns view) (ap (λ n. n ∷ rest) is ∙ sym (drop-cons names i name l))
-          ∙ so.is view })
+      rw (add-one i) (record {
+        is = λ view.
+            ap (λ xs. all_found called finds xs view ++ found_by_names rest view) e
+            ∙ ap (λ r. r ++ found_by_names rest view) (one-more bs b view)
+            ∙ append_assoc (all_found called finds bs view) (found view) (found_by_names rest view)
+            ∙ ap (λ r. all_found called finds bs view ++ (r ++ found_by_names rest view)) (λ j. found_by (λ (x : B). same_name j) (λ (x : B). same_finds j) b view)
+            ∙ ap (λ ns. all_found called finds bs view ++ found_by_names ns view) (ap (λ n. n ∷ rest) is ∙ sym (drop-cons names i name l))
+            ∙ so.is view;
+      })
 
   pub hold-end : {form : ReportForm} (bs : List B) (i : ℕ) → length all_rules ≤ i → HoldFirst called finds bs (drop i all_rules) all_rules → FindAs called finds (Check form) bs
   hold-end bs i l so = record { is = λ j view. (sym (append-nil (all_found called finds bs view)) ∙ ap (λ ns. all_found called finds bs view ++ found_by_names ns view) (sym (drop_all i all_rules l)) ∙ so.is view) j }
