@@ -217,7 +217,7 @@ fn push_of_refused(
     write!(
         out,
         "{:?}",
-        (refused, run_rules(alloc, rules, view).is_err())
+        (refused, run_rules(alloc, &[], rules, view).is_err())
     )?;
     push_reports(found.get(..front).unwrap_or(&[]), out)
 }
@@ -258,7 +258,7 @@ fn push_of_all(alloc: Global, view: &View, out: &mut String) -> Result<(), Alloc
         rules.push(Box::new(alloc, ShippedRule::new(alloc, *name))?)?;
     }
     push_kept(alloc, &rules, view, out)?;
-    push_reports(&run_rules(alloc, &rules, view)?, out)
+    push_reports(&run_rules(alloc, RULES.as_slice(), &[], view)?, out)
 }
 
 /// What is said of a rule that is refused memory.
@@ -272,16 +272,10 @@ fn push_of_insatiable(alloc: Global, view: &View, out: &mut String) -> Result<()
 fn push_of_like(alloc: Global, view: &View, out: &mut String) -> Result<(), AllocError> {
     let alone: [Box<dyn Rule>; 1] = [Box::new(alloc, LikeNoVar { alloc })?];
     out.push_str("alone")?;
-    push_reports(&run_rules(alloc, &alone, view)?, out)?;
+    push_reports(&run_rules(alloc, &[], &alone, view)?, out)?;
     out.push_str("; behind")?;
-    let both: [Box<dyn Rule>; 2] = [
-        Box::new(
-            alloc,
-            ShippedRule::new(alloc, RuleName::OnNodes(NodeRule::NoVar)),
-        )?,
-        Box::new(alloc, LikeNoVar { alloc })?,
-    ];
-    push_reports(&run_rules(alloc, &both, view)?, out)
+    let no_var = [RuleName::OnNodes(NodeRule::NoVar)];
+    push_reports(&run_rules(alloc, &no_var, &alone, view)?, out)
 }
 
 /// What a call on rules answers for a script under these settings.
