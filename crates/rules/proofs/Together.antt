@@ -69,3 +69,11 @@ pub rules-end : {X : Type 0} (xs : List X) (i : ℕ) (each : List X → List Rep
 rules-end xs i each nothing all out found new l e so =
     IsPermutation-trans _ _ _ so
     (same-permutation _ _ (ap (λ t. out ++ (found ++ t)) (ap each (drop_all i xs l) ∙ nothing) ∙ ap (λ t. out ++ t) (append-nil found) ∙ sym e))
+
+-- rules of names begin behind what was found
+pub named-begin : (each out found : List Report) → found ≡ [] → IsPermutation (each ++ out) (out ++ (found ++ each))
+named-begin each out found e = IsPermutation-trans _ _ _ (IsPermutation-append_comm each out) (same-permutation _ _ (ap (λ l. out ++ (l ++ each)) (sym e)))
+
+-- what rules of names find, and what the others do
+pub with-others : (each found out new : List Report) → IsPermutation found out → IsPermutation (each ++ out) new → IsPermutation (each ++ found) new
+with-others each found out new f n = IsPermutation-trans _ _ _ (IsPermutation-append_right each _ _ f) n

@@ -13,4 +13,4 @@ pub returns-in_ok-push : goal.returns-in_ok-push
 returns-in_ok-push g c =
     let v = seen c.args.view.now in
     after-joining c.args.out.now.items (found_on_nodes c.args.together.now.items v) (found_on_nodes c.push.new.self.items v) _ (on_nodes c.in-Some.joining v) (is-on _ _ _ c.in-Some.ensures.on (c.in-Some.ensures.finds v))
-    (subst (λ rs. IsPermutation (found_on_nodes c.args.together.now.items v ++ on_nodes c.in-Some.joining v) (found_on_nodes rs v)) (sym c.in_ok-push.ensures) (joins c.args.together.now.items c.in-Some.joining v))
+    (subst (λ rs. IsPermutation (found_on_nodes c.args.together.now.items v ++ on_nodes c.in-Some.joining v) (found_on_nodes rs v)) (sym c.in_ok-push.ensures.items) (joins c.args.together.now.items c.in-Some.joining v))
