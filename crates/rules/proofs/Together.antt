@@ -5,7 +5,6 @@ use Rattle.std.proofs.Math.Seq.{drop-cons}
 use Rattle.std.proofs.lemmas.List.{drop_all}
 use Rattle.tree.specs.Tree.{Tree}
 use Rattle.rule_words.specs.Reports.{Report}
-use Rattle.node_rules.specs.declared.around.Around.{Around}
 use Rattle.node_rules.specs.declared.node_rule.NodeOptions.{NodeOptions}
 use Rattle.node_rules.specs.declared.node_rule.NodeRule.{NodeRule}
 use Rattle.node_rules.specs.Arounds.{round_root}
@@ -20,7 +19,7 @@ pub none-on-nodes : (v : View) → found_on_nodes [] v ≡ []
 none-on-nodes v = none-found (node_options v.settings) v.text v.tree
 
 -- one more rule reports what it reports
-joined : (options : NodeOptions) (source : List ℕ) (rs : List NodeRule) (r : NodeRule) (a : Around) (t : Tree) → of_rules options source (rs ++ r ∷ []) a t ≡ of_rules options source rs a t ++ of_node options source r a t
+joined : (options : NodeOptions) (source : List ℕ) (rs : List NodeRule) (r : NodeRule) (a : _) (t : Tree) → of_rules options source (rs ++ r ∷ []) a t ≡ of_rules options source rs a t ++ of_node options source r a t
 joined options source [] r a t = append-nil (of_node options source r a t)
 joined options source (x ∷ xs) r a t = ap (λ l. of_node options source x a t ++ l) (joined options source xs r a t) ∙ sym (append_assoc (of_node options source x a t) (of_rules options source xs a t) (of_node options source r a t))
 
