@@ -10,13 +10,13 @@ use Rattle.node_rules.specs.declared.node_rule.NodeRule.{NodeRule}
 use Rattle.node_rules.specs.Arounds.{round_root}
 use Rattle.node_rules.specs.Over.{over_nodes}
 use Rattle.node_rules.specs.Rows.{of_node, of_rules}
-use Rattle.node_rules.proofs.Together.{both-nodes, none-found, same-permutation}
+use Rattle.node_rules.proofs.Together.{both-nodes, no-rules, same-permutation}
 use Rattle.rules.specs.NodeRules.{found_on_nodes}
 use Rattle.rules.specs.Rules.{View, node_options, on_nodes}
 
 -- no rules find nothing
 pub none-on-nodes : (v : View) → found_on_nodes [] v ≡ []
-none-on-nodes v = none-found (node_options v.settings) v.text v.tree
+none-on-nodes v = no-rules (node_options v.settings) v.text [] v.tree refl
 
 -- one more rule reports what it reports
 joined : (options : NodeOptions) (source : List ℕ) (rs : List NodeRule) (r : NodeRule) (a : _) (t : Tree) → of_rules options source (rs ++ r ∷ []) a t ≡ of_rules options source rs a t ++ of_node options source r a t
@@ -55,14 +55,20 @@ is-on on fs gs h e = ap (λ b. cond b fs []) h ∙ e
 pub rules-begin : (each out found : List Report) → out ≡ [] → found ≡ [] → IsPermutation each (out ++ (found ++ each))
 rules-begin each out found o e = same-permutation each (out ++ (found ++ each)) (ap (λ l. l ++ each) (sym e) ∙ ap (λ l. l ++ (found ++ each)) (sym o))
 
-pub rules-turn : {X : Type 0} (xs : List X) (i : ℕ) (x : X) (each : List X → List Report) (one : X → List Report) → ((y : X) (ys : List X) → each (y ∷ ys) ≡ one y ++ each ys) → (all out found out' found' : List Report) → i < length xs → x ≡ get_or xs i x →
-    IsPermutation ((out ++ found) ++ one x) (out' ++ found') → IsPermutation all (out ++ (found ++ each (drop i xs))) → IsPermutation all (out' ++ (found' ++ each (drop (i + 1) xs)))
-rules-turn {X} xs i x each one step all out found out' found' l is h so =
+pub names-turn : {X : Type 0} (xs : List X) (i : ℕ) (d : X) (each : List X → List Report) (one : X → List Report) → ((y : X) (ys : List X) → each (y ∷ ys) ≡ one y ++ each ys) → (all out found out' found' : List Report) → i < length xs →
+    IsPermutation ((out ++ found) ++ one (get_or xs i d)) (out' ++ found') → IsPermutation all (out ++ (found ++ each (drop i xs))) → IsPermutation all (out' ++ (found' ++ each (drop (i + 1) xs)))
+names-turn {X} xs i d each one step all out found out' found' l h so =
+    let x : X = get_or xs i d in
     let rest : List Report = each (drop (suc i) xs) in
-    let split : each (drop i xs) ≡ one x ++ rest = ap each (drop-cons xs i x l) ∙ ap (λ (y : X). each (y ∷ drop (suc i) xs)) (sym is) ∙ step x (drop (suc i) xs) in
+    let split : each (drop i xs) ≡ one x ++ rest = ap each (drop-cons xs i d l) ∙ step x (drop (suc i) xs) in
     rw (add-one i) (IsPermutation-trans _ _ _ so
     (IsPermutation-trans _ _ _ (same-permutation _ _ (ap (λ t. out ++ (found ++ t)) split ∙ sym (append_assoc out found (one x ++ rest)) ∙ sym (append_assoc (out ++ found) (one x) rest)))
     (IsPermutation-trans _ _ _ (IsPermutation-append_left rest _ _ h) (same-permutation _ _ (append_assoc out' found' rest)))))
+
+pub rules-turn : {X : Type 0} (xs : List X) (i : ℕ) (x : X) (each : List X → List Report) (one : X → List Report) → ((y : X) (ys : List X) → each (y ∷ ys) ≡ one y ++ each ys) → (all out found out' found' : List Report) → i < length xs → x ≡ get_or xs i x →
+    IsPermutation ((out ++ found) ++ one x) (out' ++ found') → IsPermutation all (out ++ (found ++ each (drop i xs))) → IsPermutation all (out' ++ (found' ++ each (drop (i + 1) xs)))
+rules-turn xs i x each one step all out found out' found' l is h so =
+    names-turn xs i x each one step all out found out' found' l (subst (λ y. IsPermutation ((out ++ found) ++ one y) (out' ++ found')) is h) so
 
 pub rules-end : {X : Type 0} (xs : List X) (i : ℕ) (each : List X → List Report) → each [] ≡ [] → (all out found new : List Report) → length xs ≤ i → new ≡ out ++ found → IsPermutation all (out ++ (found ++ each (drop i xs))) → IsPermutation all new
 rules-end xs i each nothing all out found new l e so =

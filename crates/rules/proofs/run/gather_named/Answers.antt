@@ -3,7 +3,7 @@ use Rattle.rules.specs.NodeRules.{found_on_nodes}
 use Rattle.rules.specs.Run.{found_by_name, found_by_names}
 use Rattle.rules.specs.RuleViews.{seen}
 use Rattle.rule_words.proofs.Results.{on_ok}
-use Rattle.rules.proofs.Together.{named-begin, none-on-nodes, rules-turn, rules-end}
+use Rattle.rules.proofs.Together.{named-begin, none-on-nodes, names-turn, rules-end}
 use Rattle.rules.proofs.run.gather_named.Goals as goal
 
 pub loop-name-init : goal.loop-name-init
@@ -14,8 +14,8 @@ loop-name-init c =
 pub loop-name-preserved : goal.loop-name-preserved
 loop-name-preserved c =
     let v = seen c.args.view.now in
-    rules-turn c.args.names.now c.loop-name.name-index c.name-item.result (λ ns. found_by_names ns v) (λ n. found_by_name n v)
-    (λ n ns. refl) _ c.loop-name.out.items (found_on_nodes c.loop-name.together.items v) c.run_named.new.out.items (found_on_nodes c.run_named.new.together.items v) c.loop-name-test.true c.name-item.is c.in_ok-run_named.ensures c.loop-name.invariant
+    names-turn c.args.names.now c.loop-name.name-index _ (λ ns. found_by_names ns v) (λ n. found_by_name n v)
+    (λ n ns. refl) _ c.loop-name.out.items (found_on_nodes c.loop-name.together.items v) c.run_named.new.out.items (found_on_nodes c.run_named.new.together.items v) c.loop-name-test.true c.in_ok-run_named.ensures c.loop-name.invariant
 
 pub returns : goal.returns
 returns c =
