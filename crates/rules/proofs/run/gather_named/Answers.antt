@@ -1,4 +1,4 @@
-use Rattle.std.proofs.Common.{◌++◌, [], refl, ap, ◌∙◌}
+use Rattle.std.proofs.Common.{◌++◌, refl, ap, ◌∙◌}
 use Rattle.rules.specs.NodeRules.{found_on_nodes}
 use Rattle.rules.specs.Run.{found_by_name, found_by_names}
 use Rattle.rules.specs.RuleViews.{seen}

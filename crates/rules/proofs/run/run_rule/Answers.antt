@@ -1,4 +1,4 @@
-use Rattle.std.proofs.Common.{◌++◌, ◌∷◌, [], sym, subst, IsPermutation}
+use Rattle.std.proofs.Common.{◌++◌, sym, subst, IsPermutation}
 use Rattle.rules.specs.NodeRules.{found_on_nodes}
 use Rattle.rules.specs.Rules.{on_nodes}
 use Rattle.rules.specs.RuleViews.{seen}
