@@ -21,7 +21,7 @@ let rows = 0, otherwise = 0;
 for (const line of fs.readFileSync(path.join(crates, 'cases/data/node_rules'), 'utf8').split('\n')) {
   if (line === '' || line.startsWith('#')) continue;
   const [head, text, name, want] = line.split('\t');
-  const [language, more] = LANGUAGES[/^(?:(script|module) )?node rule$/.exec(head)[1] ?? ''];
+  const [language, more] = LANGUAGES[/^(?:(script|module) )?rule alone$/.exec(head)[1] ?? ''];
   const read = parseOnly(text, { maxHeight: 1e5, maxParens: 1e5, ...more });
   const got = read.ok ? antt.toArray(found(options, antt.bytes(text), rules.get(name), model.tree(plainTree(read.tree, language)))).map((it) => `${it.start} ${antt.text(it.text)}; `).join('') : 'no script';
   rows += 1;

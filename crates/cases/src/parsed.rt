@@ -174,7 +174,7 @@ fn push_shown(
         "items" => push_count(program.root().part_count(), out),
         "extra" => push_extra(alloc, program, parsed.grouping_pairs(), out),
         "rules" | "refused rule" | "rule on nodes" => push_rules(alloc, row, parsed, out),
-        "node rule" => push_node_rule(alloc, row, parsed, out),
+        "rule alone" => push_node_rule(alloc, row, parsed, out),
         "alike" => push_alike(alloc, program, row, out),
         "kept" => push_kept(alloc, parsed, row, out),
         "reading" => push_reading(alloc, parsed, row.text(1), out),
