@@ -11,7 +11,7 @@ With `--quarter` each crate has a quarter of its wrong bodies tried, and all tha
 the crate and of those below it: it is another one after most changes, and for the same files the same one on every machine.
 
 With `--fit` it only says which edits can't be read, or don't fit their crate: each old text has to stand just once in its file, each accepted edit has to be
-of another function, and a crate with edits has at least three of those. That takes a second and no toolchain, and comes first where no edits are named.
+of another function, and a crate with edits has at least three of those, or as many as functions. That takes a second and no toolchain, and comes first where no edits are named.
 
 An edit whose try ended as it must in an earlier run on this machine isn't tried again, where nothing that its try read has changed: the edit itself, the
 crate, the libraries below it, the kit, and verdicts.py. Where `rt ci` keeps what it passed, that is in its folder, for runs with `--built`; a kit that keeps
@@ -35,7 +35,7 @@ import verdicts
 
 OPTIONS = ('--anew', '--built', '--fit', '--quarter')
 TURNS = 4
-# How many bodies that mean the same each crate with edits has at least.
+# How many bodies that mean the same each crate with edits has at least, if it has so many functions.
 LEAST_ACCEPTED = 3
 # Of a crate its name and its folder, which is all that it takes to see where edits stand.
 Crate = collections.namedtuple('Crate', 'name folder')
@@ -72,8 +72,15 @@ def faults_of(name):
     found = [(it.name, why) for it in edits for why in misfits(crate, it)]
     accepted = [it for it in edits if it.must_be == 'accepted']
     found += doubled(crate, [it for it in accepted if it.name not in dict(found)])
-    few = [f'edits/{name}{form.ENDING}: fewer than {LEAST_ACCEPTED} accepted edits'] * (len(accepted) < LEAST_ACCEPTED)
+    least = min(LEAST_ACCEPTED, function_count(crate))
+    few = [f'edits/{name}{form.ENDING}: fewer than {least} accepted edits'] * (len(accepted) < least)
     return [f'{name}/{edit}: {why}' for edit, why in found] + few
+
+
+def function_count(crate):
+    folder = f'{crate.folder}/src'
+    texts = (verdicts.text_of(crate, f'src/{os.path.relpath(f"{at}/{name}", folder)}') for at, _, names in os.walk(folder) for name in names if name.endswith('.rt'))
+    return sum(len(re.findall(r'^ *(?:pub(?:\([a-z]+\))? )?(?:unsafe )?fn \w', text, re.M)) for text in texts)
 
 
 def lacking(word):

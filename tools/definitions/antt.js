@@ -27,7 +27,7 @@ const LEFT_OUT = {
   scopes: 'specs: Shown Walks Gathered; proofs: Tables',
   rule_words: 'specs: Order Appends',
   node_rules: 'specs: KindNumbers Due Laws',
-  rules: 'specs: NineRules Toml Order Run RuleViews Used Nodes NodeRules Appends Refusals Lines',
+  rules: 'specs: Toml NameOrder Run RuleViews Used Nodes NodeRules Refusals Lines',
   estree_json: 'specs: Sent Primitives Table',
 };
 const LEFT_OUT_NAMES = new Set(Object.entries(LEFT_OUT).flatMap(([crate, parts]) => parts.split('; ').flatMap((part) => {

@@ -9,7 +9,7 @@ const fs = require('node:fs');
 const path = require('node:path');
 const behind = require('./behind.js');
 const scopes = require('./scopes.js');
-const { Reports } = require('./reports.js');
+const { REPORTING, Reports } = require('./reports.js');
 const { copyOf, chosen, partOf } = require('./planting.js');
 
 const argv = process.argv.slice(2);
@@ -17,6 +17,7 @@ const value = (name, d) => { const i = argv.indexOf(name); return i < 0 ? d : ar
 const n = Number(value('--n', '600'));
 
 const ROLES = 'scopes/specs/Roles.antt', OPENINGS = 'scopes/specs/Openings.antt', BINDINGS = 'scopes/specs/Bindings.antt', BUILT_IN = 'rules/specs/BuiltIn.antt';
+const NODE_ROWS = 'node_rules/specs/Rows.antt', TESTS = 'node_rules/specs/Tests.antt';
 
 // what, file, old, new
 const FAULTS = [
@@ -45,10 +46,10 @@ const FAULTS = [
   ['the outermost is meant', 'scopes/specs/Found.antt', 'here_or_outer n (Some i) o = Some (n, i)', 'here_or_outer n (Some i) None = Some (n, i)\nhere_or_outer n (Some i) (Some p) = Some p'],
   ['arrows have arguments', OPENINGS, 'has_arguments FunctionExpression = true', 'has_arguments FunctionExpression = true\nhas_arguments ArrowFunctionExpression = true'],
   ['arguments is a reference', 'scopes/specs/Found.antt', 'is_reference z.role && not (z.in_function && is word "arguments")', 'is_reference z.role'],
-  ['eqeqeq ignores allow-null', 'rules/specs/Rules.antt', 'not (null && has_null parts)', 'true'],
-  ['bodies count as empty', 'rules/specs/Rules.antt', 'not (b || lets_be v from to)', 'not (lets_be v from to)'],
-  ['a comment is enough without settings', 'rules/specs/Rules.antt', 'v.settings.allow_comments && has_comment', 'has_comment'],
-  ['a comment before a block is in it', 'rules/specs/Rules.antt', 'slice_range text from to', 'slice_range text 0 to'],
+  ['eqeqeq ignores allow-null', NODE_ROWS, 'options.allow_null && any_part is_null (parts_of tree)', 'false'],
+  ['bodies count as empty', TESTS, 'not (is_function around.parent || (options', 'not (false || (options'],
+  ['a comment is enough without settings', TESTS, 'options.allow_comments && has_comment', 'has_comment'],
+  ['a comment before a block is in it', TESTS, 'slice_range source from to', 'slice_range source 0 to'],
   ['typeof counts as use', 'rules/specs/Rules.antt', 'not (r.typeof_operand || is_known of_2022 s r.name)', 'not (is_known of_2022 s r.name)'],
   ['parameters are looked at', 'rules/specs/Rules.antt', 'is_for_reading Param = false', 'is_for_reading Param = true'],
   ['underscore is always ignored', 'rules/specs/Rules.antt', 'not (ignore && begins_with_underscore b.name)', 'not (begins_with_underscore b.name)'],
@@ -78,7 +79,7 @@ const NAMES = [...source(BUILT_IN).matchAll(/"(\w+)" ∷ /g)].map(([written, nam
 const HOLDERS = [...source(BINDINGS).matchAll(/holds_statements (\w+) = true\n/g)].map(([written, kind]) => [`${kind} holds no statements`, BINDINGS, written, '']);
 const ROWS = [...OF_ROWS, ...NAMES, ...HOLDERS];
 
-const copy = copyOf(path.join(__dirname, '../../crates'), ['scopes', 'rules']);
+const copy = copyOf(path.join(__dirname, '../../crates'), REPORTING);
 const rows = behind.rowsOfReports();
 
 // the first disagreement with the definitions in the copy, of the rows alone or of the texts too; null where there is none
@@ -102,7 +103,7 @@ function one([what, file, old, other], withTexts) {
   } finally { fs.writeFileSync(target, whole); }
 }
 
-const [part, of] = partOf(argv, ['scopes', 'rules'].map((crate) => path.join(copy, crate)));
+const [part, of] = partOf(argv, REPORTING.map((crate) => path.join(copy, crate)));
 const mine = (faults) => chosen(faults, value('--only', null)).filter((_, i) => i % of === part);
 const answers = [...mine(FAULTS).map((it) => one(it, true)), ...mine(ROWS).map((it) => one(it, false))];
 const own = first(false);

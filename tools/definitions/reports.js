@@ -1,11 +1,10 @@
 'use strict';
-// The definitions of scopes, bindings, references and reports (crates scopes and rules), run by antt.js, with what they say in the plain model's form.
+// The definitions of scopes, bindings, references and reports (crates scopes, rule_words, node_rules and rules), run by antt.js, with what they say in the plain model's form.
 
 const path = require('node:path');
 const antt = require('./antt.js');
 const { CRATES, Model } = require('./model.js');
 const { ENVIRONMENTS } = require('../model/environments.js');
-const { RULE_NAMES } = require('../model/rules.js');
 
 const KINDS = { Var: 'var', Let: 'let', Const: 'const', Function: 'function', Class: 'class', Param: 'param', Catch: 'catch', OwnName: 'self', Import: 'import' };
 const opt = (o) => (o.a.length === 0 ? null : o.a[0]);
@@ -23,35 +22,40 @@ function plainFound(found) {
   };
 }
 
-const flagsOf = (environments) => Object.fromEntries([...ENVIRONMENTS.keys()].map((name) => [name, environments.includes(name)]));
-// settings in the form of ../model/rules.js
-const settingsOf = ({ rules, globals, environments, allowNull, allowComments, ignoreUnderscore }) => ({
-  off: antt.fromArray(RULE_NAMES.filter((name) => !rules[name]).map(antt.bytes)), globals: antt.fromArray([...globals].map(antt.bytes)),
-  environments: flagsOf([...environments]), allow_null: allowNull, allow_comments: allowComments, ignore_underscore: ignoreUnderscore,
-});
+// the crates whose definitions say what is reported
+const REPORTING = ['scopes', 'rule_words', 'node_rules', 'rules'];
 
+const flagsOf = (environments) => Object.fromEntries([...ENVIRONMENTS.keys()].map((name) => [name, environments.includes(name)]));
 const ORDER = (a, b) => a.start - b.start || (a.rule < b.rule ? -1 : a.rule > b.rule ? 1 : 0) || a.end - b.end || Buffer.compare(Buffer.from(a.text), Buffer.from(b.text));
 
 class Reports {
-  // The definitions of the folder's crates scopes and rules, above those of trees, the language and early errors.
+  // The definitions of the folder's crates of REPORTING, above those of trees, the language and early errors.
   constructor(folder) {
-    this.model = new Model([...CRATES, path.join(folder, 'scopes'), path.join(folder, 'rules')]);
+    this.model = new Model([...CRATES, ...REPORTING.map((crate) => path.join(folder, crate))]);
     const { spec } = this.model;
     this.found = spec.fn('found', 'Found', 'scopes');
     this.isOn = spec.fn('is_on', 'Settings', 'rules');
-    this.rules = RULE_NAMES.map((name) => [name, spec.fn(name.replace(/-/g, '_'), 'Rules', 'rules')]);
+    const called = spec.fn('called', 'RuleNames', 'rules'), finds = spec.fn('finds', 'AllRules', 'rules');
+    this.rules = antt.toArray(spec.fn('all_rules', 'RuleNames', 'rules')).map((rule) => [antt.text(called(rule)), (view) => finds(rule, view), rule]);
     this.hasGlobal = spec.fn('is_global', 'Settings', 'rules');
+  }
+  // settings in the form of ../model/rules.js
+  settings({ rules, globals, environments, allowNull, allowComments, ignoreUnderscore }) {
+    return {
+      on: antt.fromArray(this.rules.filter(([name]) => rules[name]).map(([, , rule]) => rule)), globals: antt.fromArray([...globals].map(antt.bytes)),
+      environments: flagsOf([...environments]), allow_null: allowNull, allow_comments: allowComments, ignore_underscore: ignoreUnderscore,
+    };
   }
   // whether a name is global, with one environment on
   isGlobal(name, environment) {
-    return this.hasGlobal(antt.bytes(name), { off: null, globals: null, environments: flagsOf([environment]), allow_null: false, allow_comments: false, ignore_underscore: false });
+    return this.hasGlobal(antt.bytes(name), { on: null, globals: null, environments: flagsOf([environment]), allow_null: false, allow_comments: false, ignore_underscore: false });
   }
   // the reports of the rules that are on, in order; `text` is what the tree was read of, `found` what this.found(tree) answers, `extra` the spans of extra pairs
   reports(tree, text, found, extra, settings) {
-    const view = { tree, text: antt.bytes(text), found, extra: antt.fromArray(extra), settings: settingsOf(settings) };
+    const view = { tree, text: antt.bytes(text), found, extra: antt.fromArray(extra), settings: this.settings(settings) };
     return this.rules.filter(([name]) => this.isOn(antt.bytes(name), view.settings)).flatMap(([, rule]) => antt.toArray(rule(view)))
       .map((r) => ({ start: r.start, end: r.stop, rule: antt.text(r.rule), text: antt.text(r.text) })).sort(ORDER);
   }
 }
 
-module.exports = { Reports, plainFound };
+module.exports = { REPORTING, Reports, plainFound };

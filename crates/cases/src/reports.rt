@@ -5,8 +5,7 @@ use crate::plans::spans_of;
 use crate::print::word;
 use parser::Parsed;
 use rules::{
-    NoDebugger, NoVar, NodeRule, RULE_COUNT, Report, Rule, Settings, SettingsError, View,
-    of_each_rule, run_rules,
+    NodeRule, RULES, Report, Rule, RuleName, Settings, SettingsError, ShippedRule, View, run_rules,
 };
 use scopes::{Binding, Reference, Scopes, resolve};
 use spellings::pair_rows;
@@ -81,11 +80,12 @@ struct LikeNoVar {
 
 impl Rule for LikeNoVar {
     ghost use Rattle.std.specs.Prelude.{codes};
-    ghost use Rattle.rules.specs.Rules.{no_var};
+    ghost use Rattle.node_rules.specs.declared.node_rule.NodeRule.TheVariants.{NoVar};
+    ghost use Rattle.rules.specs.Rules.{on_nodes};
 
     ghost called = { λ _. codes "like-no-var" };
 
-    ghost finds = { λ _ v. no_var v };
+    ghost finds = { λ _ v. on_nodes NoVar v };
 
     /// The rule's name.
     fn name(&self) -> &str {
@@ -94,12 +94,12 @@ impl Rule for LikeNoVar {
 
     /// Adds what `no-var` finds.
     fn check(&self, view: &View, out: &mut Vec<Report>) -> Result<(), AllocError> {
-        NoVar::new(self.alloc).check(view, out)
+        ShippedRule::new(self.alloc, RuleName::OnNodes(NodeRule::NoVar)).check(view, out)
     }
 
     /// It is a rule over nodes, as `no-var` is.
     fn on_nodes(&self) -> Option<NodeRule> {
-        Some(NodeRule::Var)
+        Some(NodeRule::NoVar)
     }
 }
 
@@ -211,13 +211,13 @@ fn push_of_refused(
     out: &mut String,
 ) -> Result<(), AllocError> {
     let mut found = Vec::new(alloc);
-    NoDebugger::new(alloc).check(view, &mut found)?;
+    ShippedRule::new(alloc, RuleName::OnNodes(NodeRule::NoDebugger)).check(view, &mut found)?;
     let front = found.len();
     let refused = is_refused(rules, view, &mut found);
     write!(
         out,
         "{:?}",
-        (refused, run_rules(alloc, rules, view).is_err())
+        (refused, run_rules(alloc, &[], rules, view).is_err())
     )?;
     push_reports(found.get(..front).unwrap_or(&[]), out)
 }
@@ -252,10 +252,13 @@ fn push_kept(
 }
 
 /// What the rules find, and that each keeps what stands in front.
-fn push_of_nine(alloc: Global, view: &View, out: &mut String) -> Result<(), AllocError> {
-    let rules: [Box<dyn Rule>; RULE_COUNT] = of_each_rule!(boxed_rule, alloc);
+fn push_of_all(alloc: Global, view: &View, out: &mut String) -> Result<(), AllocError> {
+    let mut rules: Vec<Box<dyn Rule>> = Vec::new(alloc);
+    for name in RULES.as_slice() {
+        rules.push(Box::new(alloc, ShippedRule::new(alloc, *name))?)?;
+    }
     push_kept(alloc, &rules, view, out)?;
-    push_reports(&run_rules(alloc, &rules, view)?, out)
+    push_reports(&run_rules(alloc, RULES.as_slice(), &[], view)?, out)
 }
 
 /// What is said of a rule that is refused memory.
@@ -269,13 +272,10 @@ fn push_of_insatiable(alloc: Global, view: &View, out: &mut String) -> Result<()
 fn push_of_like(alloc: Global, view: &View, out: &mut String) -> Result<(), AllocError> {
     let alone: [Box<dyn Rule>; 1] = [Box::new(alloc, LikeNoVar { alloc })?];
     out.push_str("alone")?;
-    push_reports(&run_rules(alloc, &alone, view)?, out)?;
+    push_reports(&run_rules(alloc, &[], &alone, view)?, out)?;
     out.push_str("; behind")?;
-    let both: [Box<dyn Rule>; 2] = [
-        Box::new(alloc, NoVar::new(alloc))?,
-        Box::new(alloc, LikeNoVar { alloc })?,
-    ];
-    push_reports(&run_rules(alloc, &both, view)?, out)
+    let no_var = [RuleName::OnNodes(NodeRule::NoVar)];
+    push_reports(&run_rules(alloc, &no_var, &alone, view)?, out)
 }
 
 /// What a call on rules answers for a script under these settings.
@@ -292,7 +292,7 @@ fn push_checked(
     let scopes = resolve(alloc, program)?;
     let view = View::new(program, row.text(1), &scopes, &extra, settings);
     match row.text(0) {
-        "rules" => push_of_nine(alloc, &view, out),
+        "rules" => push_of_all(alloc, &view, out),
         "rule on nodes" => push_of_like(alloc, &view, out),
         _ => push_of_insatiable(alloc, &view, out),
     }

@@ -10,7 +10,7 @@ use crate::reports::AnyScript;
 use commands::{Command, LanguageChoice, Refused, ReportForm, write_refusal};
 use language::Language;
 use lint::run::run;
-use rules::{RULE_COUNT, Rule, of_each_rule};
+use rules::{RULES, Rule};
 use source_text::{FailurePlan, Fault, MAX_PIECE, MemoryFeed, MemorySink, Sink};
 use std::alloc::{AllocError, Global};
 use std::str::from_utf8;
@@ -93,6 +93,7 @@ fn answered_by<W: Sink>(
         alloc,
         given.command,
         choice(given.language),
+        RULES.as_slice(),
         rules,
         &mut file,
         &mut second,
@@ -109,11 +110,7 @@ fn answered<W: Sink>(
     requires { W.failed writer.old ≡ false }
     ensures { IfOk result (λ answered. IfErr answered (λ refused. refused.fault ≢ Usage)) }
 {
-    let boxes: [Box<dyn Rule>; RULE_COUNT] = of_each_rule!(boxed_rule, alloc);
     let mut rules: Vec<Box<dyn Rule>> = Vec::new(alloc);
-    for rule in boxes {
-        rules.push(rule)?;
-    }
     if given.has_tenth {
         rules.push(Box::new(alloc, AnyScript::new(alloc))?)?;
     }

@@ -4,7 +4,7 @@ ghost use Rattle.std.specs.Prelude.{◌≡◌, ◌≢◌, false, IfErr, IfOk, So
 ghost use Rattle.std.specs.Str.{IsUtf8};
 ghost use Rattle.source_text.specs.declared.fault.Fault.TheVariants.{Usage};
 ghost use Rattle.commands.specs.declared.command.Command.TheVariants.{Check};
-ghost use Rattle.rules.specs.Run.{all_found};
+ghost use Rattle.rules.specs.Run.{found_with};
 ghost use Rattle.rules.specs.Toml.{settings_of_text};
 ghost use Rattle.lint.specs.ReadScripts.{IsScript};
 ghost use Rattle.lint.specs.Outputs.{IsExtra, Reports};
@@ -19,7 +19,9 @@ use commands::{LanguageChoice, Refused, ReportForm, read_up_to};
 use language::Language;
 use paren_planner::{extra_pairs, wraps_by_pairs};
 use parser::Parsed;
-use rules::{Report, Rule, Settings, View, report_lines, report_status, run_rules, span_lines};
+use rules::{
+    Report, Rule, RuleName, Settings, View, report_lines, report_status, run_rules, span_lines,
+};
 use scopes::resolve;
 use source_text::{Fault, Feed, MAX_BYTES, Source};
 use spellings::pair_rows;
@@ -128,6 +130,7 @@ fn extra_spans(alloc: Global, parsed: &Parsed<'_>) -> Result<Vec<Span>, AllocErr
 /// What the rules that are on report of a script, in order.
 fn reports(
     alloc: Global,
+    names: &[RuleName],
     rules: &[Box<dyn Rule>],
     source: &Source<'_>,
     parsed: &Parsed<'_>,
@@ -135,12 +138,12 @@ fn reports(
 ) -> Result<Vec<Report>, AllocError>
     requires script { IsScript parsed.now.program parsed.now.pairs.items }
     requires utf8 { IsUtf8 source.now }
-    ensures { IfOk result (λ reports. (language : _) → Reports (all_found (λ b. called b) (λ b. finds b) rules.now) language source.now parsed.now.program parsed.now.pairs.items settings.now reports.items) }
+    ensures { IfOk result (λ reports. (language : _) → Reports (found_with (λ b. called b) (λ b. finds b) names.now rules.now) language source.now parsed.now.program parsed.now.pairs.items settings.now reports.items) }
 {
     let extra = extra_spans(alloc, parsed)?;
     let scopes = resolve(alloc, parsed.program())?;
     let view = View::new(parsed.program(), source.text(), &scopes, &extra, settings);
-    let reports = run_rules(alloc, rules, &view)?;
+    let reports = run_rules(alloc, names, rules, &view)?;
     Ok(reports)
 }
 
@@ -163,6 +166,7 @@ fn lines_of(
 fn report<'s>(
     alloc: Global,
     form: ReportForm,
+    names: &[RuleName],
     rules: &[Box<dyn Rule>],
     source: &Source<'_>,
     parsed: &Parsed<'_>,
@@ -170,10 +174,10 @@ fn report<'s>(
 ) -> Result<Answer<'s>, AllocError>
     requires script { IsScript parsed.now.program parsed.now.pairs.items }
     requires utf8 { IsUtf8 source.now }
-    ensures lines { IfOk result (λ answer. (language : _) → ReportsLines (all_found (λ b. called b) (λ b. finds b) rules.now) form language source.now parsed.now.program parsed.now.pairs.items settings.now answer) }
+    ensures lines { IfOk result (λ answer. (language : _) → ReportsLines (found_with (λ b. called b) (λ b. finds b) names.now rules.now) form language source.now parsed.now.program parsed.now.pairs.items settings.now answer) }
     ensures writable { IfOk result IsWritable }
 {
-    let reports = reports(alloc, rules, source, parsed, settings)?;
+    let reports = reports(alloc, names, rules, source, parsed, settings)?;
     let lines = lines_of(alloc, form, source, &reports)?;
     Ok(Answer::Text(lines, report_status(&reports)))
 }
@@ -191,6 +195,7 @@ pub(crate) fn check<'s, S: Feed>(
     alloc: Global,
     form: ReportForm,
     choice: LanguageChoice,
+    names: &[RuleName],
     rules: &[Box<dyn Rule>],
     texts: &TextArena,
     source: &Source<'_>,
@@ -198,7 +203,7 @@ pub(crate) fn check<'s, S: Feed>(
 ) -> Result<Answer<'s>, Refused>
     requires source { IsSource source.now }
     requires ready { S.failed second.old ≡ false }
-    ensures answer { AnswersBytes (all_found (λ b. called b) (λ b. finds b) rules.now) (Check form) choice source.now (S.left second.old) result (S.failed second.new) }
+    ensures answer { AnswersBytes (found_with (λ b. called b) (λ b. finds b) names.now rules.now) (Check form) choice source.now (S.left second.old) result (S.failed second.new) }
     ensures writable { IfOk result IsWritable }
     ensures told { IfErr result (λ refused. refused.fault ≢ Usage) }
 {
@@ -210,7 +215,7 @@ pub(crate) fn check<'s, S: Feed>(
         Ok(parsed) => parsed,
         Err(fault) => return Err(refused_at(source, fault)),
     };
-    match report(alloc, form, rules, source, &parsed, &settings) {
+    match report(alloc, form, names, rules, source, &parsed, &settings) {
         Ok(answer) => Ok(answer),
         Err(AllocError) => Err(Refused::at_no_place(Fault::OutOfMemory)),
     }

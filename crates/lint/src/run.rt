@@ -1,7 +1,7 @@
 //! A run of a command: read all, answer, write all.
 
 ghost use Rattle.std.specs.Prelude.{IfErr, IfOk, ◌≡◌, ◌≢◌, None, false};
-ghost use Rattle.rules.specs.Run.{all_found};
+ghost use Rattle.rules.specs.Run.{found_with};
 ghost use Rattle.lint.specs.Outputs.{second_limit};
 ghost use Rattle.commands.specs.declared.command.Command.TheVariants.{Check};
 ghost use Rattle.lint.specs.Languages.{asked_language};
@@ -17,7 +17,7 @@ use crate::same_command::same;
 use crate::script_reader::read_script;
 use commands::{Command, LanguageChoice, Refused, read_up_to};
 use language::Language;
-use rules::Rule;
+use rules::{Rule, RuleName};
 use source_text::{DeviceFault, Fault, Feed, MAX_BYTES, Sink, Source};
 use std::alloc::Global;
 use tree::TextArena;
@@ -58,13 +58,14 @@ fn answer_bytes<'s, S: Feed>(
     alloc: Global,
     command: Command,
     choice: LanguageChoice,
+    names: &[RuleName],
     rules: &[Box<dyn Rule>],
     texts: &'s TextArena,
     bytes: &'s [u8],
     second: &mut S,
 ) -> Result<Answer<'s>, Refused>
     requires ready { S.failed second.old ≡ false }
-    ensures answer { AnswersBytes (all_found (λ b. called b) (λ b. finds b) rules.now) command choice bytes.now (S.left second.old) result (S.failed second.new) }
+    ensures answer { AnswersBytes (found_with (λ b. called b) (λ b. finds b) names.now rules.now) command choice bytes.now (S.left second.old) result (S.failed second.new) }
     ensures writable { IfOk result IsWritable }
     ensures told { IfErr result (λ refused. refused.fault ≢ Fault.Usage) }
     ensures unread { second_limit command ≡ None → second.new ≡ second.old }
@@ -74,7 +75,7 @@ fn answer_bytes<'s, S: Feed>(
         Err(fault) => return Err(Refused::at_no_place(fault)),
     };
     match command {
-        Command::Check(form) => check(alloc, form, choice, rules, texts, &source, second),
+        Command::Check(form) => check(alloc, form, choice, names, rules, texts, &source, second),
         _ => answer_script(
             alloc,
             command,
@@ -89,7 +90,8 @@ fn answer_bytes<'s, S: Feed>(
 /// Runs a command. The first file is read to its end, or to one byte past the longest text, and has to be a script, for `check` in the
 /// language that its settings leave, which are read before that; then `verify` reads its table and `same` its other script; no other
 /// command has a second file. All that takes memory is done before anything is written: the
-/// texts of `fix` and `cost` are made by a plan as they are written. The rules of `check` are those that are handed in. Answers the exit status: 1 where `check` has a
+/// texts of `fix` and `cost` are made by a plan as they are written. The rules of `check` are those that are handed in: names of rules
+/// that ship with the program, and other rules in boxes. Answers the exit status: 1 where `check` has a
 /// report or `same` has two trees, else 0.
 ///
 /// # Errors
@@ -104,6 +106,7 @@ pub fn run<R: Feed, S: Feed, W: Sink>(
     alloc: Global,
     command: Command,
     choice: LanguageChoice,
+    names: &[RuleName],
     rules: &[Box<dyn Rule>],
     file: &mut R,
     second: &mut S,
@@ -114,7 +117,7 @@ pub fn run<R: Feed, S: Feed, W: Sink>(
     requires writes { W.failed writer.old ≡ false }
     ensures told { IfErr result (λ refused. refused.fault ≢ Fault.Usage) }
     ensures unread { second_limit command ≡ None → second.new ≡ second.old }
-    ensures answer { Runs (all_found (λ b. called b) (λ b. finds b) rules.now) command choice (record {
+    ensures answer { Runs (found_with (λ b. called b) (λ b. finds b) names.now rules.now) command choice (record {
       given = R.left file.old;
       second = S.left second.old;
       before = W.taken writer.old;
@@ -129,7 +132,7 @@ pub fn run<R: Feed, S: Feed, W: Sink>(
         Err(fault) => return Err(Refused::at_no_place(fault)),
     };
     let texts = TextArena::new(alloc);
-    let answer = match answer_bytes(alloc, command, choice, rules, &texts, &bytes, second) {
+    let answer = match answer_bytes(alloc, command, choice, names, rules, &texts, &bytes, second) {
         Ok(answer) => answer,
         Err(refused) => return Err(refused),
     };

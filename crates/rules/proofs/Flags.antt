@@ -10,7 +10,7 @@ use Rattle.scopes.specs.Found.{Reference, Scope}
 use Rattle.rules.specs.declared.bindings.BindingRule.{BindingRule}
 use Rattle.rules.specs.declared.bindings.BindingRule.TheVariants.{Shadow, Unused, Constant}
 use Rattle.rules.specs.declared.used_bindings.UsedBindings.{UsedBindings}
-use Rattle.rules.specs.Reports.{Report}
+use Rattle.rule_words.specs.Reports.{Report}
 use Rattle.rules.specs.Rules.{means, of_bindings, of_const, of_scopes, of_unused, uses}
 use Rattle.rules.specs.Used.{HasBinding, IsLaidOut, Notes, binding_count, bindings_before, first_flags, flag_index, is_marked, of_binding}
 

@@ -4,7 +4,7 @@ use Rattle.std.specs.Str.{IsUtf8, IsCharBoundary}
 use Rattle.source_text.specs.LineBytes.{after_bytes}
 use Rattle.source_text.specs.Lines.{line_column}
 use Rattle.source_text.proofs.Lines.{line_column_by_bytes}
-use Rattle.rules.specs.Reports.{Report}
+use Rattle.rule_words.specs.Reports.{Report}
 use Rattle.rules.specs.Lines.{place_before, line_of, report_line, report_lines, span_line, span_lines}
 use Rattle.source_text.specs.Located.{IsLocated}
 use Rattle.source_text.specs.declared.line_walker.LineWalker.{LineWalker}

@@ -13,7 +13,7 @@ use Rattle.std.proofs.lemmas.Cmp.{nat_list_cmp_total}
 use Rattle.std.proofs.lemmas.List.Sorted.{searchable_from_sorted}
 use Rattle.std.proofs.lemmas.List.Folds.{list_any_at, list_any_none}
 use Rattle.std.proofs.lemmas.Map.Text.{is_eq-slice_cmp}
-use Rattle.rules.specs.Order.{is_sorted}
+use Rattle.rules.specs.NameOrder.{is_sorted}
 
 first_passes : (a b : Bool) → (not a && b) ≡ true → a ≡ false
 first_passes true b h = absurd (false≢true h)

@@ -1,93 +1,38 @@
 -- Rules on nodes in one walk: what they find is what each of them finds, in another order.
-use Rattle.std.proofs.Common.{◌≡◌, ℕ, suc, ◌+◌, ◌<◌, ◌≤◌, length, drop, get_or, add-one, Bool, true, false, cond, List, [], ◌∷◌, ◌++◌, Option, Some, None, refl, sym, ap, ◌∙◌, subst, append_assoc, append-nil, IsPermutation}
-use Rattle.std.proofs.lemmas.List.Sorted.{IsPermutation-refl, IsPermutation-trans, IsPermutation-append, IsPermutation-append_left, IsPermutation-append_right, IsPermutation-append_comm}
+use Rattle.std.proofs.Common.{◌≡◌, ℕ, suc, ◌+◌, ◌<◌, ◌≤◌, length, drop, get_or, add-one, Bool, true, cond, List, [], ◌∷◌, ◌++◌, refl, sym, ap, ◌∙◌, subst, append_assoc, append-nil, IsPermutation}
+use Rattle.std.proofs.lemmas.List.Sorted.{IsPermutation-trans, IsPermutation-append_left, IsPermutation-append_right, IsPermutation-append_comm}
 use Rattle.std.proofs.Math.Seq.{drop-cons}
 use Rattle.std.proofs.lemmas.List.{drop_all}
-use Rattle.tree.specs.declared.kind.Kind.TheVariants.{BinaryExpression, BlockStatement, DebuggerStatement, SwitchStatement, VariableDeclaration}
-use Rattle.tree.specs.Tree.{Tree, node, Parts, none, part, gap, kind_of}
-use Rattle.rules.specs.declared.rule_list.NodeRule.{NodeRule}
-use Rattle.rules.specs.declared.rule_list.NodeRule.TheVariants.{Equality, Debugger, Empty, Var}
-use Rattle.rules.specs.declared.rule_list.NodeRules.{NodeRules}
-use Rattle.rules.specs.NodeRules.{of_node, looking_at, no_rules, has, with_rule, of_looking, of_rules, found_on_nodes, found_alone}
-use Rattle.rules.specs.Reports.{Report}
-use Rattle.rules.specs.Rules.{View, is_function, over_nodes, over_parts}
-
-pub same-permutation : {X : Type 0} (xs ys : List X) → xs ≡ ys → IsPermutation xs ys
-same-permutation xs ys e = subst (IsPermutation xs) e (IsPermutation-refl xs)
-
--- the two in the middle change places
-pub middle-permutation : {X : Type 0} (a b c d : List X) → IsPermutation ((a ++ b) ++ (c ++ d)) ((a ++ c) ++ (b ++ d))
-middle-permutation a b c d =
-    IsPermutation-trans _ _ _ (same-permutation _ _ (append_assoc a b (c ++ d) ∙ ap (λ l. a ++ l) (sym (append_assoc b c d))))
-    (IsPermutation-trans _ _ _ (IsPermutation-append_right a _ _ (IsPermutation-append_left d _ _ (IsPermutation-append_comm b c)))
-    (same-permutation _ _ (ap (λ l. a ++ l) (append_assoc c b d) ∙ sym (append_assoc a c (b ++ d)))))
-
-mutual
-  unfolding over_nodes over_parts
-
-  both-nodes : (f g : Bool → Tree → List Report) (b : Bool) (t : Tree) → IsPermutation (over_nodes f b t ++ over_nodes g b t) (over_nodes (λ b t. f b t ++ g b t) b t)
-  both-nodes f g b (node k w x s e ps) =
-      IsPermutation-trans _ _ _ (middle-permutation (f b (node k w x s e ps)) (over_parts f (is_function k) ps) (g b (node k w x s e ps)) (over_parts g (is_function k) ps))
-      (IsPermutation-append_right (f b (node k w x s e ps) ++ g b (node k w x s e ps)) _ _ (both-parts f g (is_function k) ps))
-
-  both-parts : (f g : Bool → Tree → List Report) (b : Bool) (ps : Parts) → IsPermutation (over_parts f b ps ++ over_parts g b ps) (over_parts (λ b t. f b t ++ g b t) b ps)
-  both-parts f g b none = IsPermutation-refl []
-  both-parts f g b (part t ps) =
-      IsPermutation-trans _ _ _ (middle-permutation (over_nodes f b t) (over_parts f b ps) (over_nodes g b t) (over_parts g b ps))
-      (IsPermutation-append _ _ _ _ (both-nodes f g b t) (both-parts f g b ps))
-  both-parts f g b (gap ps) = both-parts f g b ps
-
-mutual
-  unfolding over_nodes over_parts
-
-  nothing-nodes : (b : Bool) (t : Tree) → over_nodes (λ b t. []) b t ≡ []
-  nothing-nodes b (node k w x s e ps) = nothing-parts (is_function k) ps
-
-  nothing-parts : (b : Bool) (ps : Parts) → over_parts (λ b t. []) b ps ≡ []
-  nothing-parts b none = refl
-  nothing-parts b (part t ps) = ap (λ l. l ++ over_parts (λ b t. []) b ps) (nothing-nodes b t) ∙ nothing-parts b ps
-  nothing-parts b (gap ps) = nothing-parts b ps
-
-none-looking : (v : View) (b : Bool) (t : Tree) (o : Option NodeRule) → of_looking no_rules v b t o ≡ []
-none-looking v b t None = refl
-none-looking v b t (Some Equality) = refl
-none-looking v b t (Some Debugger) = refl
-none-looking v b t (Some Empty) = refl
-none-looking v b t (Some Var) = refl
+use Rattle.tree.specs.Tree.{Tree}
+use Rattle.rule_words.specs.Reports.{Report}
+use Rattle.node_rules.specs.declared.node_rule.NodeOptions.{NodeOptions}
+use Rattle.node_rules.specs.declared.node_rule.NodeRule.{NodeRule}
+use Rattle.node_rules.specs.Arounds.{round_root}
+use Rattle.node_rules.specs.Over.{over_nodes}
+use Rattle.node_rules.specs.Rows.{of_node, of_rules}
+use Rattle.node_rules.proofs.Together.{both-nodes, no-rules, same-permutation}
+use Rattle.rules.specs.NodeRules.{found_on_nodes}
+use Rattle.rules.specs.Rules.{View, node_options, on_nodes}
 
 -- no rules find nothing
-pub none-found : (v : View) → found_on_nodes no_rules v ≡ []
-none-found v = (λ i. over_nodes (λ b t. none-looking v b t (looking_at (kind_of t)) i) false v.tree) ∙ nothing-nodes false v.tree
+pub none-on-nodes : (v : View) → found_on_nodes [] v ≡ []
+none-on-nodes v = no-rules (node_options v.settings) v.text [] v.tree refl
 
--- one more rule reports what it reports, of the kinds that it looks at
-joined : (rs : NodeRules) (r : NodeRule) (v : View) (b : Bool) (t : Tree) → has rs r ≡ false → of_rules rs v b t ++ of_node r v b t ≡ of_rules (with_rule rs r) v b t
-joined rs Equality v b (node BinaryExpression w x s e ps) h = ap (λ c. cond c (of_node Equality v b (node BinaryExpression w x s e ps)) [] ++ of_node Equality v b (node BinaryExpression w x s e ps)) h
-joined rs Equality v b (node _ w x s e ps) h = append-nil _
-joined rs Debugger v b (node DebuggerStatement w x s e ps) h = ap (λ c. cond c (of_node Debugger v b (node DebuggerStatement w x s e ps)) [] ++ of_node Debugger v b (node DebuggerStatement w x s e ps)) h
-joined rs Debugger v b (node _ w x s e ps) h = append-nil _
-joined rs Empty v b (node BlockStatement w x s e ps) h = ap (λ c. cond c (of_node Empty v b (node BlockStatement w x s e ps)) [] ++ of_node Empty v b (node BlockStatement w x s e ps)) h
-joined rs Empty v b (node SwitchStatement w x s e ps) h = ap (λ c. cond c (of_node Empty v b (node SwitchStatement w x s e ps)) [] ++ of_node Empty v b (node SwitchStatement w x s e ps)) h
-joined rs Empty v b (node _ w x s e ps) h = append-nil _
-joined rs Var v b (node VariableDeclaration w x s e ps) h = ap (λ c. cond c (of_node Var v b (node VariableDeclaration w x s e ps)) [] ++ of_node Var v b (node VariableDeclaration w x s e ps)) h
-joined rs Var v b (node _ w x s e ps) h = append-nil _
+-- one more rule reports what it reports
+joined : (options : NodeOptions) (source : List ℕ) (rs : List NodeRule) (r : NodeRule) (a : _) (t : Tree) → of_rules options source (rs ++ r ∷ []) a t ≡ of_rules options source rs a t ++ of_node options source r a t
+joined options source [] r a t = append-nil (of_node options source r a t)
+joined options source (x ∷ xs) r a t = ap (λ l. of_node options source x a t ++ l) (joined options source xs r a t) ∙ sym (append_assoc (of_node options source x a t) (of_rules options source xs a t) (of_node options source r a t))
 
-unheld : (r : NodeRule) → has no_rules r ≡ false
-unheld Equality = refl
-unheld Debugger = refl
-unheld Empty = refl
-unheld Var = refl
-
--- a rule that isn't among them joins them
-pub joins : (rs : NodeRules) (r : NodeRule) (v : View) → has rs r ≡ false → IsPermutation (found_on_nodes rs v ++ found_alone r v) (found_on_nodes (with_rule rs r) v)
-joins rs r v h =
-    subst (IsPermutation (found_on_nodes rs v ++ found_alone r v)) (λ i. over_nodes (λ b t. joined rs r v b t h i) false v.tree)
-    (both-nodes (of_rules rs v) (of_node r v) false v.tree)
+-- a rule joins those that run together
+pub joins : (rs : List NodeRule) (r : NodeRule) (v : View) → IsPermutation (found_on_nodes rs v ++ on_nodes r v) (found_on_nodes (rs ++ r ∷ []) v)
+joins rs r v =
+    let o : NodeOptions = node_options v.settings in
+    subst (IsPermutation (found_on_nodes rs v ++ on_nodes r v)) (λ i. over_nodes (λ a t. sym (joined o v.text rs r a t) i) round_root v.tree)
+    (both-nodes (of_rules o v.text rs) (of_node o v.text r) round_root v.tree)
 
 -- one rule alone
-pub alone : (r : NodeRule) (v : View) (t : Tree) → over_nodes (of_rules (with_rule no_rules r) v) false t ≡ over_nodes (of_node r v) false t
-alone r v t =
-    sym (λ i. over_nodes (λ b t. joined no_rules r v b t (unheld r) i) false t)
-    ∙ (λ i. over_nodes (λ b t. none-looking v b t (looking_at (kind_of t)) i ++ of_node r v b t) false t)
+pub alone : (r : NodeRule) (v : View) → found_on_nodes (r ∷ []) v ≡ on_nodes r v
+alone r v = λ i. over_nodes (λ a t. append-nil (of_node (node_options v.settings) v.text r a t) i) round_root v.tree
 
 -- ---- a list of rules, one by one
 
@@ -110,16 +55,30 @@ is-on on fs gs h e = ap (λ b. cond b fs []) h ∙ e
 pub rules-begin : (each out found : List Report) → out ≡ [] → found ≡ [] → IsPermutation each (out ++ (found ++ each))
 rules-begin each out found o e = same-permutation each (out ++ (found ++ each)) (ap (λ l. l ++ each) (sym e) ∙ ap (λ l. l ++ (found ++ each)) (sym o))
 
-pub rules-turn : {X : Type 0} (xs : List X) (i : ℕ) (x : X) (each : List X → List Report) (one : X → List Report) → ((y : X) (ys : List X) → each (y ∷ ys) ≡ one y ++ each ys) → (all out found out' found' : List Report) → i < length xs → x ≡ get_or xs i x →
-    IsPermutation ((out ++ found) ++ one x) (out' ++ found') → IsPermutation all (out ++ (found ++ each (drop i xs))) → IsPermutation all (out' ++ (found' ++ each (drop (i + 1) xs)))
-rules-turn {X} xs i x each one step all out found out' found' l is h so =
+pub names-turn : {X : Type 0} (xs : List X) (i : ℕ) (d : X) (each : List X → List Report) (one : X → List Report) → ((y : X) (ys : List X) → each (y ∷ ys) ≡ one y ++ each ys) → (all out found out' found' : List Report) → i < length xs →
+    IsPermutation ((out ++ found) ++ one (get_or xs i d)) (out' ++ found') → IsPermutation all (out ++ (found ++ each (drop i xs))) → IsPermutation all (out' ++ (found' ++ each (drop (i + 1) xs)))
+names-turn {X} xs i d each one step all out found out' found' l h so =
+    let x : X = get_or xs i d in
     let rest : List Report = each (drop (suc i) xs) in
-    let split : each (drop i xs) ≡ one x ++ rest = ap each (drop-cons xs i x l) ∙ ap (λ (y : X). each (y ∷ drop (suc i) xs)) (sym is) ∙ step x (drop (suc i) xs) in
+    let split : each (drop i xs) ≡ one x ++ rest = ap each (drop-cons xs i d l) ∙ step x (drop (suc i) xs) in
     rw (add-one i) (IsPermutation-trans _ _ _ so
     (IsPermutation-trans _ _ _ (same-permutation _ _ (ap (λ t. out ++ (found ++ t)) split ∙ sym (append_assoc out found (one x ++ rest)) ∙ sym (append_assoc (out ++ found) (one x) rest)))
     (IsPermutation-trans _ _ _ (IsPermutation-append_left rest _ _ h) (same-permutation _ _ (append_assoc out' found' rest)))))
+
+pub rules-turn : {X : Type 0} (xs : List X) (i : ℕ) (x : X) (each : List X → List Report) (one : X → List Report) → ((y : X) (ys : List X) → each (y ∷ ys) ≡ one y ++ each ys) → (all out found out' found' : List Report) → i < length xs → x ≡ get_or xs i x →
+    IsPermutation ((out ++ found) ++ one x) (out' ++ found') → IsPermutation all (out ++ (found ++ each (drop i xs))) → IsPermutation all (out' ++ (found' ++ each (drop (i + 1) xs)))
+rules-turn xs i x each one step all out found out' found' l is h so =
+    names-turn xs i x each one step all out found out' found' l (subst (λ y. IsPermutation ((out ++ found) ++ one y) (out' ++ found')) is h) so
 
 pub rules-end : {X : Type 0} (xs : List X) (i : ℕ) (each : List X → List Report) → each [] ≡ [] → (all out found new : List Report) → length xs ≤ i → new ≡ out ++ found → IsPermutation all (out ++ (found ++ each (drop i xs))) → IsPermutation all new
 rules-end xs i each nothing all out found new l e so =
     IsPermutation-trans _ _ _ so
     (same-permutation _ _ (ap (λ t. out ++ (found ++ t)) (ap each (drop_all i xs l) ∙ nothing) ∙ ap (λ t. out ++ t) (append-nil found) ∙ sym e))
+
+-- rules of names begin behind what was found
+pub named-begin : (each out found : List Report) → found ≡ [] → IsPermutation (each ++ out) (out ++ (found ++ each))
+named-begin each out found e = IsPermutation-trans _ _ _ (IsPermutation-append_comm each out) (same-permutation _ _ (ap (λ l. out ++ (l ++ each)) (sym e)))
+
+-- what rules of names find, and what the others do
+pub with-others : (each found out new : List Report) → IsPermutation found out → IsPermutation (each ++ out) new → IsPermutation (each ++ found) new
+with-others each found out new f n = IsPermutation-trans _ _ _ (IsPermutation-append_right each _ _ f) n

@@ -3,7 +3,7 @@ use Rattle.std.specs.Prelude.{ℕ, zero, suc, Bool, not, cond, ◌&&◌, nat_le,
 use Rattle.std.specs.Fmt.{decimal}
 use Rattle.source_text.specs.LineBytes.{continues}
 use Rattle.source_text.specs.Lines.{line_column}
-use Rattle.rules.specs.Reports.{Report}
+use Rattle.rule_words.specs.Reports.{Report}
 
 -- an offset within the text, not one inside a character
 abbrev pub is_place : List ℕ → ℕ → Bool

@@ -1,19 +1,18 @@
 -- What each rule reports. Names of rules and texts are bytes.
 use Rattle.std.specs.Prelude.{ℕ, Bool, true, false, not, cond, ◌+◌, ◌&&◌, ◌||◌, nat_eq, List, [], ◌∷◌, ◌++◌, map, Option, Some, None, is_none, codes}
-use Rattle.std.specs.List.{list_any, slice_range}
-use Prim.Native.String.{String}
-use Rattle.tree.specs.declared.kind.Kind.{Kind}
-use Rattle.tree.specs.declared.kind.Kind.TheVariants.{BinaryExpression, BlockStatement, DebuggerStatement, Literal, SwitchStatement, VariableDeclaration, FunctionExpression, FunctionDeclaration, ArrowFunctionExpression}
+use Rattle.std.specs.List.{list_any}
 use Rattle.tree.specs.declared.kind.Span.{Span}
-use Rattle.tree.specs.Tree.{Tree, node, Parts, none, part, gap, text_of}
-use Rattle.language.specs.FirstPart.{others}
+use Rattle.tree.specs.Tree.{Tree, text_of}
 use Rattle.language.specs.Vocabulary.{is}
 use Rattle.scopes.specs.declared.kind.BindingKind.{BindingKind}
 use Rattle.scopes.specs.declared.kind.BindingKind.TheVariants.{Let, Param, Catch, OwnName}
 use Rattle.scopes.specs.Bindings.{Binding}
 use Rattle.scopes.specs.Found.{Found, Reference, Scope}
 use Rattle.rules.specs.BuiltIn.{is_built_in_for}
-use Rattle.rules.specs.Reports.{Report}
+use Rattle.rule_words.specs.Reports.{Report, report, quoted}
+use Rattle.node_rules.specs.Found.{found_by_rule}
+use Rattle.node_rules.specs.declared.node_rule.NodeOptions.{NodeOptions}
+use Rattle.node_rules.specs.declared.node_rule.NodeRule.{NodeRule}
 use Rattle.rules.specs.Settings.{Settings, is_global}
 
 -- what rules look at: the script, its text, its scopes, the spans of the extra pairs, the settings
@@ -24,83 +23,15 @@ pub record View : Type 0 where
   pub extra : List Span
   pub settings : Settings
 
-abbrev pub report : String → ℕ → ℕ → List ℕ → Report
-report rule s e text = record { start = s; stop = e; rule = codes rule; text = text }
+-- Rules that look at single nodes: `specs/Rows.antt` of `node_rules` says what each reports.
 
--- a name between quotes, and words behind it
-abbrev pub quoted : List ℕ → String → List ℕ
-quoted text rest = codes "'" ++ (text ++ (codes "' " ++ codes rest))
+-- what they ask of the settings
+abbrev pub node_options : Settings → NodeOptions
+node_options s = record { allow_null = s.allow_null; allow_comments = s.allow_comments }
 
--- Rules that look at single nodes.
-
-abbrev pub is_function : Kind → Bool
-is_function FunctionExpression = true
-is_function FunctionDeclaration = true
-is_function ArrowFunctionExpression = true
-is_function _ = false
-
-unfoldable mutual
-  -- what is reported of a node and of all below it, in the order of the tree; the flag says that the node is a part of a function
-  pub over_nodes : (Bool → Tree → List Report) → Bool → Tree → List Report
-  over_nodes f b (node kind text flags from to parts) = f b (node kind text flags from to parts) ++ over_parts f (is_function kind) parts
-
-  pub over_parts : (Bool → Tree → List Report) → Bool → Parts → List Report
-  over_parts f b none = []
-  over_parts f b (part first_tree rest) = over_nodes f b first_tree ++ over_parts f b rest
-  over_parts f b (gap rest) = over_parts f b rest
-
-abbrev pub is_null : Tree → Bool
-is_null (node Literal text flags from to parts) = is text "null"
-is_null (node _ text flags from to parts) = false
-
-abbrev pub has_null : Parts → Bool
-has_null none = false
-has_null (part first_tree rest) = is_null first_tree || has_null rest
-has_null (gap rest) = has_null rest
-
-abbrev pub of_equality : Bool → Tree → List Report
-of_equality null (node BinaryExpression text flags from to parts) =
-    cond ((is text "==" || is text "!=") && not (null && has_null parts))
-    (report "eqeqeq" from to (codes "use '" ++ (text ++ (codes "=' instead of '" ++ (text ++ codes "'")))) ∷ []) []
-of_equality null (node _ text flags from to parts) = []
-
-abbrev pub of_debugger : Tree → List Report
-of_debugger (node DebuggerStatement text flags from to parts) = report "no-debugger" from to (codes "debugger statement") ∷ []
-of_debugger (node _ text flags from to parts) = []
-
-abbrev pub is_empty : Parts → Bool
-is_empty none = true
-is_empty _ = false
-
--- A comment stands in an empty block, from its `{` to behind its `}`: there is only white space and comments between the two, and of all these only a
--- comment has a `/`.
-abbrev pub has_comment : List ℕ → ℕ → ℕ → Bool
-has_comment text from to = list_any (λ b. nat_eq b 47) (slice_range text from to)
-
--- the settings let an empty block be for the comment in it
-abbrev pub lets_be : View → ℕ → ℕ → Bool
-lets_be v from to = v.settings.allow_comments && has_comment v.text from to
-
-abbrev pub of_empty : View → Bool → Tree → List Report
-of_empty v b (node BlockStatement text flags from to parts) = cond (is_empty parts && not (b || lets_be v from to)) (report "no-empty" from to (codes "empty block") ∷ []) []
-of_empty v b (node SwitchStatement text flags from to parts) = cond (is_empty (others parts)) (report "no-empty" from to (codes "empty switch") ∷ []) []
-of_empty v b (node _ text flags from to parts) = []
-
-abbrev pub of_var : Tree → List Report
-of_var (node VariableDeclaration text flags from to parts) = cond (is text "var") (report "no-var" from to (codes "use let or const instead of var") ∷ []) []
-of_var (node _ text flags from to parts) = []
-
-abbrev pub eqeqeq : View → List Report
-eqeqeq v = over_nodes (λ b t. of_equality v.settings.allow_null t) false v.tree
-
-abbrev pub no_debugger : View → List Report
-no_debugger v = over_nodes (λ b t. of_debugger t) false v.tree
-
-abbrev pub no_empty : View → List Report
-no_empty v = over_nodes (of_empty v) false v.tree
-
-abbrev pub no_var : View → List Report
-no_var v = over_nodes (λ b t. of_var t) false v.tree
+-- what one of them finds
+abbrev pub on_nodes : NodeRule → View → List Report
+on_nodes rule v = found_by_rule (node_options v.settings) v.text rule v.tree
 
 abbrev pub of_extra : Span → Report
 of_extra p = report "no-extra-parens" p.start p.end (codes "unnecessary parentheses")

@@ -6,7 +6,10 @@ use Rattle.std.specs.BTreeSet.{insert_key}
 use Rattle.std.specs.Cmp.Lexicographic.{slice_cmp}
 use Rattle.std.specs.Ordering.{nat_cmp}
 use Rattle.std.specs.Str.{bytes_eq}
-use Rattle.rules.specs.NineRules.{is_rule, rule_names}
+use Rattle.rules.specs.RuleNames.{all_rules, called, has_name, is_rule, rules_in, set_named}
+use Rattle.rules.specs.declared.rule_list.RuleName.{RuleName}
+use Rattle.rules.specs.declared.rule_set.RuleSet.{RuleSet}
+use Rattle.rules.specs.declared.rule_set.RuleSet.TheVariants.{Nine}
 use Rattle.rules.specs.declared.environment.Environments.{Environments}
 use Rattle.rules.specs.Environments.{environment_of, no_environments, with_environment}
 use Rattle.rules.specs.Languages.{all_languages, both_of, edition_languages, has_none, source_type_languages}
@@ -14,7 +17,7 @@ use Rattle.rules.specs.declared.languages.Languages.{Languages}
 use Rattle.rules.specs.Settings.{Settings}
 
 unfoldable pub is_key : List ℕ → Bool
-is_key text = bytes_eq text (codes "rules") || (bytes_eq text (codes "globals") || (bytes_eq text (codes "env") || (bytes_eq text (codes "edition") || (bytes_eq text (codes "source-type") || (bytes_eq text (codes "allow-null") || (bytes_eq text (codes "allow-comments") || bytes_eq text (codes "ignore-underscore")))))))
+is_key text = bytes_eq text (codes "rules") || (bytes_eq text (codes "extends") || (bytes_eq text (codes "globals") || (bytes_eq text (codes "env") || (bytes_eq text (codes "edition") || (bytes_eq text (codes "source-type") || (bytes_eq text (codes "allow-null") || (bytes_eq text (codes "allow-comments") || bytes_eq text (codes "ignore-underscore"))))))))
 
 abbrev pub knows_keys : Members → Bool
 knows_keys no_members = true
@@ -70,28 +73,37 @@ abbrev pub knows_rules : Members → Bool
 knows_rules no_members = true
 knows_rules (member k d ms) = is_rule k && knows_rules ms
 
--- a rule that is left out is on
-abbrev pub on_of : Option Data → Option Bool
-on_of None = Some true
-on_of (Some d) = as_bool d
+-- the set of rules that is extended: the nine where none is named
+abbrev pub set_of_rules : Option Data → Option RuleSet
+set_of_rules None = Some Nine
+set_of_rules (Some d) = option_and_then set_named (as_str d)
 
--- those of these rules that are false, where each is true, false or left out
-abbrev pub off_among : List (List ℕ) → Members → Option (List (List ℕ))
-off_among [] ms = Some []
-off_among (k ∷ ks) ms = option_and_then (λ b. option_map (λ ws. cond b ws (k ∷ ws)) (off_among ks ms)) (on_of (get_member k ms))
+-- a rule that is left out is on if the set has it
+abbrev pub on_of : Bool → Option Data → Option Bool
+on_of in_set None = Some in_set
+on_of in_set (Some d) = as_bool d
 
-abbrev pub off_of_members : Members → Option (List (List ℕ))
-off_of_members ms = cond (knows_rules ms) (off_among rule_names ms) None
+-- those of these rules that are on, where each is true, false or left out
+abbrev pub on_among : (set : List RuleName) → List RuleName → Members → Option (List RuleName)
+on_among set [] ms = Some []
+on_among set (r ∷ rs) ms = option_and_then (λ b. option_map (λ on. cond b (r ∷ on) on) (on_among set rs ms)) (on_of (has_name set (called r)) (get_member (called r) ms))
 
-abbrev pub off_of : Option Data → Option (List (List ℕ))
-off_of None = Some []
-off_of (Some d) = option_and_then off_of_members (as_table d)
+abbrev pub on_of_members : List RuleName → Members → Option (List RuleName)
+on_of_members set ms = cond (knows_rules ms) (on_among set all_rules ms) None
+
+-- the rules that are on, by the set and by the table `rules`
+abbrev pub rules_on : List RuleName → Option Data → Option (List RuleName)
+rules_on set None = Some set
+rules_on set (Some d) = option_and_then (on_of_members set) (as_table d)
+
+abbrev pub rules_of : Members → Option (List RuleName)
+rules_of ms = option_and_then (λ set. rules_on (rules_in set) (get_member (codes "rules") ms)) (set_of_rules (get_member (codes "extends") ms))
 
 abbrev pub settings_of : Members → Option Settings
 settings_of ms = cond (knows_keys ms)
-    (option_and_then (λ o. option_and_then (λ g. option_and_then (λ e. option_and_then (λ l. option_and_then (λ a. option_and_then (λ c. option_map (λ u. record { off = o; globals = g; environments = e; languages = l; allow_null = a; allow_comments = c; ignore_underscore = u })
+    (option_and_then (λ o. option_and_then (λ g. option_and_then (λ e. option_and_then (λ l. option_and_then (λ a. option_and_then (λ c. option_map (λ u. record { on = o; globals = g; environments = e; languages = l; allow_null = a; allow_comments = c; ignore_underscore = u })
     (flag_of (get_member (codes "ignore-underscore") ms))) (flag_of (get_member (codes "allow-comments") ms))) (flag_of (get_member (codes "allow-null") ms))) (languages_of ms)) (environments_of (get_member (codes "env") ms))) (globals_of (get_member (codes "globals") ms)))
-    (off_of (get_member (codes "rules") ms)))
+    (rules_of ms))
     None
 
 -- the settings that a text gives: none where it is refused

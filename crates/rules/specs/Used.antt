@@ -5,7 +5,7 @@ use Rattle.scopes.specs.Found.{Scope}
 use Rattle.rules.specs.declared.bindings.BindingRule.{BindingRule}
 use Rattle.rules.specs.declared.bindings.BindingRule.TheVariants.{Shadow, Unused, Constant}
 use Rattle.rules.specs.declared.used_bindings.UsedBindings.{UsedBindings}
-use Rattle.rules.specs.Reports.{Report}
+use Rattle.rule_words.specs.Reports.{Report}
 use Rattle.rules.specs.Rules.{of_const, of_shadow, of_unused}
 
 -- the index of a scope's first flag; behind all flags where there is no such scope

@@ -2,16 +2,15 @@
 
 ghost use Rattle.std.specs.Prelude.{◌≡◌, ◌++◌, ◌∷◌, [], ℕ, Bool, codes, OnOk};
 ghost use Rattle.scopes.specs.Shown.{all_shown, shown};
-ghost use Rattle.rules.specs.Appends.{Grows};
+ghost use Rattle.rule_words.specs.Appends.{Grows};
 ghost use Rattle.rules.specs.Used.{is_marked, of_binding};
 ghost use Rattle.rules.specs.Rules.{is_used, of_bindings, of_scopes};
 
-use crate::new_report::{push_report, quoted};
 use crate::no_shadow::push_shadow;
 use crate::no_unused_vars::push_unused;
 use crate::prefer_const::push_constant;
-use crate::report::Report;
 use crate::used_bindings::{UsedBindings, used_by};
+use rule_words::{Report, push_report, quoted};
 use scopes::{Binding, Scopes};
 use std::alloc::{AllocError, Global};
 use tree::Span;

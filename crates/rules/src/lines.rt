@@ -3,7 +3,7 @@
 ghost use Rattle.std.specs.Prelude.{◌≡◌, ◌++◌, IfOk, OnOk, string_bytes};
 ghost use Rattle.rules.specs.Lines.{line_of, report_lines as lines_of, report_status as status_of, span_line, span_lines as spans_of};
 
-use crate::report::Report;
+use rule_words::Report;
 use source_text::{LineWalker, Source};
 use std::alloc::{AllocError, Global};
 use std::fmt::Write;

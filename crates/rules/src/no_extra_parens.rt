@@ -1,13 +1,12 @@
 //! `no-extra-parens`: no parentheses that the script can do without.
 
 ghost use Rattle.std.specs.Prelude.{◌≡◌, ◌++◌, map, OnOk};
-ghost use Rattle.rules.specs.Appends.{Grows};
+ghost use Rattle.rule_words.specs.Appends.{Grows};
 ghost use Rattle.rules.specs.Rules.{of_extra};
 
-use crate::new_report::push_fixed_report;
-use crate::report::Report;
 use crate::rule::Rule;
 use crate::view::View;
+use rule_words::{Report, push_fixed_report};
 use std::alloc::{AllocError, Global};
 use tree::Span;
 

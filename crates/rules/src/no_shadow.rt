@@ -2,14 +2,14 @@
 
 ghost use Rattle.std.specs.Prelude.{◌≡◌, ◌++◌, OnOk};
 ghost use Rattle.scopes.specs.Shown.{shown};
-ghost use Rattle.rules.specs.Appends.{Grows};
+ghost use Rattle.rule_words.specs.Appends.{Grows};
 ghost use Rattle.rules.specs.Rules.{is_itself, of_shadow};
 
 use crate::bindings::{BindingRule, BindingWalk, push_bindings, push_named};
-use crate::report::Report;
 use crate::rule::Rule;
 use crate::used_bindings::UsedBindings;
 use crate::view::View;
+use rule_words::Report;
 use scopes::{Binding, BindingKind};
 use std::alloc::{AllocError, Global};
 

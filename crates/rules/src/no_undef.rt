@@ -2,17 +2,16 @@
 
 ghost use Rattle.std.specs.Prelude.{◌≡◌, ◌++◌, ◌∷◌, [], cond, map, OnOk};
 ghost use Rattle.scopes.specs.Shown.{reference_shown};
-ghost use Rattle.rules.specs.Appends.{Grows};
+ghost use Rattle.rule_words.specs.Appends.{Grows};
 ghost use Rattle.tree.specs.Node.{node_tree};
 ghost use Rattle.rules.specs.Rules.{each_undefined, is_of_2022, of_undefined};
 ghost use Rattle.rules.specs.Nodes.{undefined_at};
 
 use crate::built_in::is_built_in_for;
-use crate::new_report::{push_report, quoted};
-use crate::report::Report;
 use crate::rule::Rule;
 use crate::settings::Settings;
 use crate::view::View;
+use rule_words::{Report, push_report, quoted};
 use scopes::Reference;
 use std::alloc::{AllocError, Global};
 use tree::{Node, Span};

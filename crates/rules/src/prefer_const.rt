@@ -2,13 +2,13 @@
 
 ghost use Rattle.std.specs.Prelude.{◌≡◌, ◌++◌, ℕ, Bool, OnOk};
 ghost use Rattle.scopes.specs.Shown.{shown};
-ghost use Rattle.rules.specs.Appends.{Grows};
+ghost use Rattle.rule_words.specs.Appends.{Grows};
 ghost use Rattle.rules.specs.Rules.{is_let, of_const};
 
 use crate::bindings::{BindingRule, push_by_use, push_named};
-use crate::report::Report;
 use crate::rule::Rule;
 use crate::view::View;
+use rule_words::Report;
 use scopes::{Binding, BindingKind};
 use std::alloc::{AllocError, Global};
 

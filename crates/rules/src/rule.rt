@@ -1,8 +1,8 @@
 //! A rule.
 
-use crate::report::Report;
-use crate::rule_list::NodeRule;
 use crate::view::View;
+use node_rules::NodeRule;
+use rule_words::Report;
 use std::alloc::AllocError;
 
 /// A rule, which finds reports in a view. The two ghost members say what a rule means: its name, and what it finds; who
@@ -10,7 +10,7 @@ use std::alloc::AllocError;
 pub trait Rule: Drop {
     ghost use Rattle.std.specs.Prelude.{◌≡◌, ◌++◌, List, ℕ, IfSome, OnOk};
     ghost use Rattle.rules.specs.NodeRules.{IsOnNodes};
-    ghost use Rattle.rules.specs.Reports.{Report};
+    ghost use Rattle.rule_words.specs.Reports.{Report};
     ghost use Rattle.rules.specs.Rules.{View};
     ghost use Rattle.rules.specs.RuleViews.{seen};
 

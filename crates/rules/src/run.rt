@@ -1,18 +1,20 @@
 //! Running rules.
 
-ghost use Rattle.std.specs.Prelude.{◌≡◌, ◌++◌, IfOk, IfSome, OnOk, false, true};
+ghost use Rattle.std.specs.Prelude.{◌≡◌, ◌++◌, IfOk, IfSome, OnOk, true};
 ghost use Rattle.std.specs.List.Sorted.{IsPermutation, IsSorted};
-ghost use Rattle.rules.specs.NodeRules.{IsOnNodes, found_on_nodes, has};
-ghost use Rattle.rules.specs.Order.{report_cmp};
-ghost use Rattle.rules.specs.Run.{all_found, found_by};
+ghost use Rattle.rules.specs.AllRules.{finds as finds_by_name};
+ghost use Rattle.rules.specs.NodeRules.{IsOnNodes, found_on_nodes};
+ghost use Rattle.rule_words.specs.Order.{report_cmp};
+ghost use Rattle.rules.specs.Run.{all_found, found_by, found_by_name, found_by_names, found_with};
 ghost use Rattle.rules.specs.RuleViews.{seen};
 ghost use Rattle.rules.specs.Settings.{is_on};
 
-use crate::report::Report;
 use crate::rule::Rule;
-use crate::rule_list::{NodeRule, NodeRules};
+use crate::rule_list::RuleName;
+use crate::shipped_rule::{ShippedRule, push_on_nodes};
 use crate::view::View;
-use crate::walk::{NodeWalk, push_all_found};
+use node_rules::NodeRule;
+use rule_words::Report;
 use std::alloc::{AllocError, Global};
 
 /// Appends what a rule finds, if it is on.
@@ -25,11 +27,10 @@ fn run_alone(rule: &Box<dyn Rule>, view: &View, out: &mut Vec<Report>) -> Result
     Ok(())
 }
 
-/// Which rule on nodes finds the same as a rule that is on, unless it is among these.
-fn joining(rule: &Box<dyn Rule>, view: &View, together: NodeRules) -> Option<NodeRule>
+/// Which rule on nodes finds the same as a rule that is on.
+fn joining(rule: &Box<dyn Rule>, view: &View) -> Option<NodeRule>
     ensures on { IfSome result (λ joining. is_on (called rule.now) view.now.settings.now ≡ true) }
     ensures finds { IfSome result (λ joining. IsOnNodes joining (finds rule.now)) }
-    ensures joins { IfSome result (λ joining. has together joining ≡ false) }
 {
     let Some(joining) = rule.on_nodes() else {
         return None;
@@ -37,23 +38,20 @@ fn joining(rule: &Box<dyn Rule>, view: &View, together: NodeRules) -> Option<Nod
     if !view.settings.is_on(rule.name()) {
         return None;
     }
-    if together.contains(joining) {
-        return None;
-    }
     Some(joining)
 }
 
-/// Appends what a rule finds, if it is on. A rule on nodes joins those that run in one walk, unless it is among them.
+/// Appends what a rule finds, if it is on. A rule on nodes joins those that run in one walk.
 fn run_rule(
     rule: &Box<dyn Rule>,
     view: &View,
-    together: &mut NodeRules,
+    together: &mut Vec<NodeRule>,
     out: &mut Vec<Report>,
 ) -> Result<(), AllocError>
-    ensures { OnOk result (IsPermutation ((out.old.items ++ found_on_nodes together.old (seen view.now)) ++ found_by (λ b. called b) (λ b. finds b) rule.now (seen view.now)) (out.new.items ++ found_on_nodes together.new (seen view.now))) }
+    ensures { OnOk result (IsPermutation ((out.old.items ++ found_on_nodes together.old.items (seen view.now)) ++ found_by (λ b. called b) (λ b. finds b) rule.now (seen view.now)) (out.new.items ++ found_on_nodes together.new.items (seen view.now))) }
 {
-    if let Some(joining) = joining(rule, view, *together) {
-        *together = together.with(joining);
+    if let Some(joining) = joining(rule, view) {
+        together.push(joining)?;
         return Ok(());
     }
     run_alone(rule, view, out)
@@ -64,34 +62,81 @@ fn gather(alloc: Global, rules: &[Box<dyn Rule>], view: &View) -> Result<Vec<Rep
     ensures { IfOk result (λ v. IsPermutation (all_found (λ b. called b) (λ b. finds b) rules.now (seen view.now)) v.items) }
 {
     let mut found = Vec::new(alloc);
-    let mut together = NodeRules::none();
+    let mut together = Vec::new(alloc);
     for rule in rules {
         run_rule(rule, view, &mut together, &mut found)?;
     }
-    let walk = NodeWalk {
-        rules: together,
-        alloc,
-        view,
-    };
-    push_all_found(walk, &mut found)?;
+    push_on_nodes(alloc, &together, view, &mut found)?;
     Ok(found)
 }
 
-/// All reports of the rules that are on, sorted by start, rule name, end and text. A rule of another name than these is
-/// on, and is run like any other; a rule that stands twice in the list reports twice.
+/// Appends what a rule of a name finds.
+fn run_shipped(
+    alloc: Global,
+    name: RuleName,
+    view: &View,
+    out: &mut Vec<Report>,
+) -> Result<(), AllocError>
+    ensures { OnOk result (out.new.items ≡ out.old.items ++ finds_by_name name (seen view.now)) }
+{
+    ShippedRule::new(alloc, name).check(view, out)
+}
+
+/// Appends what a rule of a name finds, if it is on. A rule on nodes joins those that run in one walk.
+fn run_named(
+    alloc: Global,
+    name: RuleName,
+    view: &View,
+    together: &mut Vec<NodeRule>,
+    out: &mut Vec<Report>,
+) -> Result<(), AllocError>
+    ensures { OnOk result (IsPermutation ((out.old.items ++ found_on_nodes together.old.items (seen view.now)) ++ found_by_name name (seen view.now)) (out.new.items ++ found_on_nodes together.new.items (seen view.now))) }
+{
+    if !view.settings.is_on(name.as_str()) {
+        return Ok(());
+    }
+    match name {
+        RuleName::OnNodes(rule) => {
+            together.push(rule)?;
+            Ok(())
+        },
+        _ => run_shipped(alloc, name, view, out),
+    }
+}
+
+/// Appends what the rules of these names that are on find, in no order.
+fn gather_named(
+    alloc: Global,
+    names: &[RuleName],
+    view: &View,
+    out: &mut Vec<Report>,
+) -> Result<(), AllocError>
+    ensures { OnOk result (IsPermutation (found_by_names names.now (seen view.now) ++ out.old.items) out.new.items) }
+{
+    let mut together = Vec::new(alloc);
+    for name in names {
+        run_named(alloc, *name, view, &mut together, out)?;
+    }
+    push_on_nodes(alloc, &together, view, out)
+}
+
+/// All reports of the rules that are on, of those that ship with the program by their names and of others in boxes, sorted by start, rule
+/// name, end and text. A rule of another name than these is on, and is run like any other; a rule that stands twice reports twice.
 ///
 /// # Errors
 ///
 /// `AllocError` where memory is refused, by a rule or here, and nothing else.
 pub fn run_rules(
     alloc: Global,
+    names: &[RuleName],
     rules: &[Box<dyn Rule>],
     view: &View,
 ) -> Result<Vec<Report>, AllocError>
-    ensures found { IfOk result (λ v. IsPermutation (all_found (λ b. called b) (λ b. finds b) rules.now (seen view.now)) v.items) }
+    ensures found { IfOk result (λ v. IsPermutation (found_with (λ b. called b) (λ b. finds b) names.now rules.now (seen view.now)) v.items) }
     ensures sorted { IfOk result (λ v. IsSorted report_cmp v.items) }
 {
     let mut found = gather(alloc, rules, view)?;
+    gather_named(alloc, names, view, &mut found)?;
     found.sort_by(|a, b| a.compare(b))?;
     Ok(found)
 }

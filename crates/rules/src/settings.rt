@@ -1,12 +1,10 @@
 //! Settings.
 
-ghost use Rattle.std.specs.Prelude.{◌≡◌, string_bytes};
-ghost use Rattle.std.specs.List.{list_any};
-ghost use Rattle.std.specs.Str.{bytes_eq};
-
 use crate::environment::Environments;
+use crate::known_keys::{is_one_of, is_rule};
 use crate::languages::Languages;
-use std::alloc::Global;
+use crate::rule_list::{NINE, RuleName};
+use std::alloc::{AllocError, Global};
 use std::collections::BTreeSet;
 use std::marker::Model;
 
@@ -17,7 +15,7 @@ use std::marker::Model;
 /// alike.
 #[derive(Drop)]
 pub struct Settings {
-    off: Vec<String>,
+    on: Vec<RuleName>,
     globals: BTreeSet<String>,
     environments: Environments,
     languages: Languages,
@@ -32,25 +30,18 @@ impl Model for Settings {
 
     ghost Value = { Settings };
 
-    ghost view = { λ s. record { off = map string_bytes s.off.items; globals = map string_bytes s.globals.keys; environments = s.environments; languages = s.languages; allow_null = s.allow_null; allow_comments = s.allow_comments; ignore_underscore = s.ignore_underscore } };
-}
-
-/// Whether the name is among these.
-fn stands_in(name: &str, names: &[String]) -> bool
-    ensures { result ≡ list_any (λ x. bytes_eq (string_bytes x) name.now) names.now }
-{
-    names.iter().any(|other| other.as_str() == name)
+    ghost view = { λ s. record { on = s.on.items; globals = map string_bytes s.globals.keys; environments = s.environments; languages = s.languages; allow_null = s.allow_null; allow_comments = s.allow_comments; ignore_underscore = s.ignore_underscore } };
 }
 
 impl Settings {
-    ghost use Rattle.std.specs.Prelude.{◌≡◌, map, string_bytes};
+    ghost use Rattle.std.specs.Prelude.{◌≡◌, IfOk, map, string_bytes};
     ghost use Rattle.std.specs.List.{list_any};
     ghost use Rattle.std.specs.Str.{bytes_eq};
     ghost use Rattle.rules.specs.Settings.{default_settings, is_global, is_on};
 
-    /// Settings with these rules turned off, these globals, these environments, these languages and these three options.
+    /// Settings with these rules on, these globals, these environments, these languages and these three options.
     pub(crate) fn new(
-        off: Vec<String>,
+        on: Vec<RuleName>,
         globals: BTreeSet<String>,
         environments: Environments,
         languages: Languages,
@@ -58,10 +49,10 @@ impl Settings {
         allow_comments: bool,
         ignore_underscore: bool,
     ) -> Settings
-        ensures { result ≡ record { off = map string_bytes off.items; globals = map string_bytes globals.keys; environments = environments; languages = languages; allow_null = allow_null; allow_comments = allow_comments; ignore_underscore = ignore_underscore } }
+        ensures { result ≡ record { on = on.items; globals = map string_bytes globals.keys; environments = environments; languages = languages; allow_null = allow_null; allow_comments = allow_comments; ignore_underscore = ignore_underscore } }
     {
         Settings {
-            off,
+            on,
             globals,
             environments,
             languages,
@@ -71,27 +62,32 @@ impl Settings {
         }
     }
 
-    /// The settings where nothing is said: every rule is on, there are no global names and no environments, a script may be in any
-    /// language, the three options are off. Takes no memory.
-    pub fn default_settings(alloc: Global) -> Settings
-        ensures { result ≡ default_settings }
+    /// The settings where nothing is said: nine rules are on, there are no global names and no environments, a script may be in any
+    /// language, the three options are off.
+    ///
+    /// # Errors
+    ///
+    /// `AllocError` where memory is refused, and nothing else.
+    pub fn default_settings(alloc: Global) -> Result<Settings, AllocError>
+        ensures { IfOk result (λ s. s ≡ default_settings) }
     {
-        Settings {
-            off: Vec::new(alloc),
+        let on = Vec::from_slice(alloc, NINE.as_slice())?;
+        Ok(Settings {
+            on,
             globals: BTreeSet::new(alloc),
             environments: Environments::none(),
             languages: Languages::all(),
             allow_null: false,
             allow_comments: false,
             ignore_underscore: false,
-        }
+        })
     }
 
-    /// Whether a rule of this name is on: each name that isn't turned off is, also one that no rule here has.
+    /// Whether a rule of this name is on. A name that no rule here has is on: settings can't turn it off.
     pub fn is_on(&self, name: &str) -> bool
         ensures { result ≡ is_on name.now self.now }
     {
-        !stands_in(name, self.off.as_slice())
+        is_one_of(name, self.on.as_slice()) || !is_rule(name)
     }
 
     /// Whether `globals` has the name.

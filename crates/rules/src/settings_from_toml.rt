@@ -3,14 +3,16 @@
 ghost use Rattle.std.specs.Prelude.{◌≡◌, Some, None, Err, codes, map, option_map, string_bytes, IfOk, IfErr};
 ghost use Rattle.toml.specs.Data.{get_member};
 ghost use Rattle.toml.specs.View.{array_view, items_view, table_view, view};
-ghost use Rattle.rules.specs.Toml.{edition_of, environments_of, flag_of, globals_of, languages_of, off_among, off_of, off_of_members, on_of, set_of, settings_of, source_type_of, with_environments};
+ghost use Rattle.rules.specs.Toml.{edition_of, environments_of, flag_of, globals_of, languages_of, on_among, on_of, on_of_members, rules_of, rules_on, set_of, set_of_rules, settings_of, source_type_of, with_environments};
 ghost use Rattle.rules.specs.Environments.{no_environments};
+ghost use Rattle.rules.specs.RuleNames.{has_name};
 ghost use Rattle.rules.specs.Refusals.{IsRefusal, IsTomlRefusal};
 
 use crate::environment::{Environment, Environments};
-use crate::known_keys::{knows_keys, knows_rules};
+use crate::known_keys::{is_one_of, knows_keys, knows_rules};
 use crate::languages::Languages;
-use crate::rule_list::RULE_NAMES;
+use crate::rule_list::{RULES, RuleName};
+use crate::rule_set::RuleSet;
 use crate::settings::Settings;
 use crate::settings_error::SettingsError;
 use source_text::MAX_BYTES;
@@ -151,60 +153,93 @@ fn languages(table: &Table) -> Option<Languages>
     Some(languages)
 }
 
-/// Whether a rule is on, where that is true, false or left out.
-fn rule_on(table: &Table, name: &str) -> Option<bool>
-    ensures { result ≡ on_of (get_member name.now (table_view table.now)) }
+/// The set of rules at `extends`: the nine if it is left out; refused, as `None`, if it is no name of a set.
+fn rule_set(table: &Table) -> Option<RuleSet>
+    ensures { result ≡ set_of_rules (get_member (codes "extends") (table_view table.now)) }
 {
-    match look(table, name) {
-        None => Some(true),
-        Some(value) => value.as_bool(),
-    }
-}
-
-/// Those of these rules that are off.
-fn off_among(alloc: Global, names: &[&str], table: &Table) -> Result<Vec<String>, SettingsError>
-    ensures ok { IfOk result (λ v. off_among (map (λ n. n.now) names.now) (table_view table.now) ≡ Some (map string_bytes v.items)) }
-    ensures bad { result ≡ Err SettingsError.Unfit → off_among (map (λ n. n.now) names.now) (table_view table.now) ≡ None }
-    ensures only { IfErr result IsRefusal }
-{
-    let mut off = Vec::new(alloc);
-    for name in names {
-        let Some(is_on) = rule_on(table, *name) else {
-            return Err(SettingsError::Unfit);
-        };
-        if !is_on {
-            let string = String::from_str(alloc, *name)?;
-            off.push(string)?;
-        }
-    }
-    Ok(off)
-}
-
-/// The rules that `rules` turns off: none if it is left out; refused if it is no table of rules.
-fn off(alloc: Global, table: &Table) -> Result<Vec<String>, SettingsError>
-    ensures ok { IfOk result (λ v. off_of (get_member (codes "rules") (table_view table.now)) ≡ Some (map string_bytes v.items)) }
-    ensures bad { result ≡ Err SettingsError.Unfit → off_of (get_member (codes "rules") (table_view table.now)) ≡ None }
-    ensures only { IfErr result IsRefusal }
-{
-    match look(table, "rules") {
-        None => Ok(Vec::new(alloc)),
-        Some(value) => match value.as_table() {
-            Some(rules) => off_of_table(alloc, rules),
-            None => Err(SettingsError::Unfit),
+    match look(table, "extends") {
+        None => Some(RuleSet::Nine),
+        Some(value) => match value.as_str() {
+            Some(name) => RuleSet::named(name),
+            None => None,
         },
     }
 }
 
-/// The rules that a table turns off; refused if it has another key or value.
-fn off_of_table(alloc: Global, table: &Table) -> Result<Vec<String>, SettingsError>
-    ensures ok { IfOk result (λ v. off_of_members (table_view table.now) ≡ Some (map string_bytes v.items)) }
-    ensures bad { result ≡ Err SettingsError.Unfit → off_of_members (table_view table.now) ≡ None }
+/// Whether a rule is on, where that is true, false or left out.
+fn rule_on(set: &[RuleName], name: &str, table: &Table) -> Option<bool>
+    ensures { result ≡ on_of (has_name set.now name.now) (get_member name.now (table_view table.now)) }
+{
+    match look(table, name) {
+        None => Some(is_one_of(name, set)),
+        Some(value) => value.as_bool(),
+    }
+}
+
+/// Those of these rules that are on.
+fn on_among(
+    alloc: Global,
+    set: &[RuleName],
+    rules: &[RuleName],
+    table: &Table,
+) -> Result<Vec<RuleName>, SettingsError>
+    ensures ok { IfOk result (λ v. on_among set.now rules.now (table_view table.now) ≡ Some v.items) }
+    ensures bad { result ≡ Err SettingsError.Unfit → on_among set.now rules.now (table_view table.now) ≡ None }
+    ensures only { IfErr result IsRefusal }
+{
+    let mut on = Vec::new(alloc);
+    for rule in rules {
+        let Some(is_on) = rule_on(set, rule.as_str(), table) else {
+            return Err(SettingsError::Unfit);
+        };
+        if is_on {
+            on.push(*rule)?;
+        }
+    }
+    Ok(on)
+}
+
+/// The rules that are on by a set and a table; refused if it has another key or value.
+fn on_of_table(
+    alloc: Global,
+    set: &[RuleName],
+    table: &Table,
+) -> Result<Vec<RuleName>, SettingsError>
+    ensures ok { IfOk result (λ v. on_of_members set.now (table_view table.now) ≡ Some v.items) }
+    ensures bad { result ≡ Err SettingsError.Unfit → on_of_members set.now (table_view table.now) ≡ None }
     ensures only { IfErr result IsRefusal }
 {
     if !knows_rules(table) {
         return Err(SettingsError::Unfit);
     }
-    off_among(alloc, RULE_NAMES.as_slice(), table)
+    on_among(alloc, set, RULES.as_slice(), table)
+}
+
+/// The rules that are on by a set and by `rules`: those of the set if it is left out; refused if it is no table of rules.
+fn rules_on(alloc: Global, set: &[RuleName], table: &Table) -> Result<Vec<RuleName>, SettingsError>
+    ensures ok { IfOk result (λ v. rules_on set.now (get_member (codes "rules") (table_view table.now)) ≡ Some v.items) }
+    ensures bad { result ≡ Err SettingsError.Unfit → rules_on set.now (get_member (codes "rules") (table_view table.now)) ≡ None }
+    ensures only { IfErr result IsRefusal }
+{
+    match look(table, "rules") {
+        None => Ok(Vec::from_slice(alloc, set)?),
+        Some(value) => match value.as_table() {
+            Some(rules) => on_of_table(alloc, set, rules),
+            None => Err(SettingsError::Unfit),
+        },
+    }
+}
+
+/// The rules that are on by `extends` and `rules`; refused if one of them has another value.
+fn rules_of(alloc: Global, table: &Table) -> Result<Vec<RuleName>, SettingsError>
+    ensures ok { IfOk result (λ v. rules_of (table_view table.now) ≡ Some v.items) }
+    ensures bad { result ≡ Err SettingsError.Unfit → rules_of (table_view table.now) ≡ None }
+    ensures only { IfErr result IsRefusal }
+{
+    let Some(set) = rule_set(table) else {
+        return Err(SettingsError::Unfit);
+    };
+    rules_on(alloc, set.rules(), table)
 }
 
 /// The settings that a table gives; refused if it has another key or value.
@@ -216,7 +251,7 @@ fn settings_of(alloc: Global, table: &Table) -> Result<Settings, SettingsError>
     if !knows_keys(table) {
         return Err(SettingsError::Unfit);
     }
-    let off = off(alloc, table)?;
+    let on = rules_of(alloc, table)?;
     let globals = globals(alloc, table)?;
     let Some(environments) = environments(table) else {
         return Err(SettingsError::Unfit);
@@ -234,7 +269,7 @@ fn settings_of(alloc: Global, table: &Table) -> Result<Settings, SettingsError>
         return Err(SettingsError::Unfit);
     };
     Ok(Settings::new(
-        off,
+        on,
         globals,
         environments,
         languages,
@@ -247,17 +282,18 @@ fn settings_of(alloc: Global, table: &Table) -> Result<Settings, SettingsError>
 impl Settings {
     ghost use Rattle.std.specs.Prelude.{◌≡◌, Some, IfErr, IfOk};
     ghost use Rattle.rules.specs.Toml.{settings_of_text};
+    ghost use Rattle.rules.specs.RuleNames.{has_name};
     ghost use Rattle.rules.specs.Refusals.{RefusesToml};
 
-    /// The settings of a TOML text: `rules`, a table of names of rules, each true or false; `globals`, an array of
-    /// strings; `env`, an array of names of environments; `edition`, 2020 or 2022, and `source-type`, "script" or "module", where there are
+    /// The settings of a TOML text: `extends`, the name of a set of rules, which are on: "nine", "recommended", "all" or "none"; `rules`, a
+    /// table of names of rules, each true or false, on or off whatever the set says; `globals`, an array of strings; `env`, an array of names of environments; `edition`, 2020 or 2022, and `source-type`, "script" or "module", where there are
     /// no modules of 2020; `allow-null`, `allow-comments` and `ignore-underscore`, each true or false;
     /// each key at most once, and left out as in `default_settings`.
     ///
     /// # Errors
     ///
     /// `Unfit` where the text has more than 16,777,216 bytes, which is seen before it is read, or is TOML that has another key,
-    /// another rule, another environment or a value of another kind, and nowhere else; `NotToml` where it isn't TOML, with the place of the error;
+    /// another rule, another set, another environment or a value of another kind, and nowhere else; `NotToml` where it isn't TOML, with the place of the error;
     /// `Memory`.
     pub fn from_toml(alloc: Global, text: &str) -> Result<Settings, SettingsError>
         ensures ok { IfOk result (λ s. settings_of_text text.now ≡ Some s) }

@@ -3,7 +3,7 @@
 ghost use Rattle.std.specs.Prelude.{◌≡◌, true, map};
 ghost use Rattle.std.specs.List.{list_any};
 ghost use Rattle.std.specs.Str.{bytes_eq};
-ghost use Rattle.rules.specs.Order.{is_sorted};
+ghost use Rattle.rules.specs.NameOrder.{is_sorted};
 
 /// Whether a name is one of these, which are in the order of their bytes.
 pub(crate) fn is_among(name: &str, names: &[&str]) -> bool

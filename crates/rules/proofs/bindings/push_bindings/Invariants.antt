@@ -1,5 +1,5 @@
 use Rattle.std.proofs.Common.{◌≡◌, ◌++◌, drop}
-use Rattle.rules.specs.Appends.{Grows}
+use Rattle.rule_words.specs.Appends.{Grows}
 use Rattle.rules.specs.Used.{is_marked, of_binding}
 use Rattle.rules.specs.Rules.{of_scopes}
 use Rattle.rules.proofs.bindings.push_bindings.Given as goal

@@ -1,6 +1,6 @@
 use Rattle.std.proofs.Common.{sym}
 use Rattle.rules.specs.Used.{is_marked, of_binding}
-use Rattle.rules.proofs.NodeLemmas.{grows-on}
+use Rattle.node_rules.proofs.WalkLemmas.{grows-on}
 use Rattle.rules.proofs.AppendLoops.{bindings-turn}
 use Rattle.rules.proofs.bindings.push_scope.Goals as goal
 

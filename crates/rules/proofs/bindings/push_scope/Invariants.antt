@@ -1,6 +1,6 @@
 use Rattle.std.proofs.Common.{◌≡◌, ◌++◌, drop}
 use Rattle.scopes.specs.Shown.{all_shown}
-use Rattle.rules.specs.Appends.{Grows}
+use Rattle.rule_words.specs.Appends.{Grows}
 use Rattle.rules.specs.Used.{is_marked, of_binding}
 use Rattle.rules.specs.Rules.{of_bindings}
 use Rattle.rules.proofs.bindings.push_scope.Given as goal

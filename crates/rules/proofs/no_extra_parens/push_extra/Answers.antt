@@ -1,6 +1,6 @@
 use Rattle.std.proofs.Common.{map, refl, [], ◌∷◌}
 use Rattle.rules.specs.Rules.{of_extra}
-use Rattle.rules.proofs.NodeLemmas.{grows-on}
+use Rattle.node_rules.proofs.WalkLemmas.{grows-on}
 use Rattle.rules.proofs.AppendLoops.{append-turn}
 use Rattle.rules.proofs.no_extra_parens.push_extra.Goals as goal
 

@@ -1,5 +1,5 @@
 use Rattle.std.proofs.Common.{◌≡◌, ◌++◌, map, drop}
-use Rattle.rules.specs.Appends.{Grows}
+use Rattle.rule_words.specs.Appends.{Grows}
 use Rattle.rules.specs.Rules.{of_extra}
 use Rattle.rules.proofs.no_extra_parens.push_extra.Given as goal
 

@@ -1,7 +1,7 @@
 use Rattle.std.proofs.Common.{map, refl}
 use Rattle.scopes.specs.Shown.{reference_shown}
 use Rattle.rules.specs.Rules.{each_undefined, of_undefined}
-use Rattle.rules.proofs.NodeLemmas.{grows-on}
+use Rattle.node_rules.proofs.WalkLemmas.{grows-on}
 use Rattle.rules.proofs.AppendLoops.{append-turn}
 use Rattle.rules.proofs.no_undef.push_all_undefined.Goals as goal
 

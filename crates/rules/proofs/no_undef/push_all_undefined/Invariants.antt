@@ -1,6 +1,6 @@
 use Rattle.std.proofs.Common.{◌≡◌, ◌++◌, map, drop}
 use Rattle.scopes.specs.Shown.{reference_shown}
-use Rattle.rules.specs.Appends.{Grows}
+use Rattle.rule_words.specs.Appends.{Grows}
 use Rattle.rules.specs.Rules.{each_undefined}
 use Rattle.rules.proofs.no_undef.push_all_undefined.Given as goal
 

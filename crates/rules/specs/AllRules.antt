@@ -1,0 +1,14 @@
+-- What each rule finds.
+use Rattle.std.specs.Prelude.{List}
+use Rattle.rule_words.specs.Reports.{Report}
+use Rattle.rules.specs.declared.rule_list.RuleName.{RuleName}
+use Rattle.rules.specs.declared.rule_list.RuleName.TheVariants.{OnNodes, NoExtraParens, NoShadow, NoUndef, NoUnusedVars, PreferConst}
+use Rattle.rules.specs.Rules.{View, no_extra_parens, no_shadow, no_undef, no_unused_vars, on_nodes, prefer_const}
+
+abbrev pub finds : RuleName → View → List Report
+finds (OnNodes rule) v = on_nodes rule v
+finds NoExtraParens v = no_extra_parens v
+finds NoShadow v = no_shadow v
+finds NoUndef v = no_undef v
+finds NoUnusedVars v = no_unused_vars v
+finds PreferConst v = prefer_const v

@@ -1,0 +1,103 @@
+//! A rule that ships with the program, as what a box holds.
+
+ghost use Rattle.std.specs.Prelude.{◌≡◌, ◌++◌, OnOk};
+ghost use Rattle.rule_words.specs.Appends.{Grows};
+ghost use Rattle.rules.specs.NodeRules.{found_on_nodes};
+ghost use Rattle.rules.specs.Rules.{node_options};
+ghost use Rattle.rules.specs.RuleViews.{seen};
+
+use crate::no_extra_parens::NoExtraParens;
+use crate::no_shadow::NoShadow;
+use crate::no_undef::NoUndef;
+use crate::no_unused_vars::NoUnusedVars;
+use crate::prefer_const::PreferConst;
+use crate::rule::Rule;
+use crate::rule_list::RuleName;
+use crate::settings::Settings;
+use crate::view::View;
+use node_rules::{NodeOptions, NodeRule, push_found};
+use rule_words::Report;
+use std::alloc::{AllocError, Global};
+
+/// A rule of `RULES`, by its name: boxes of one type hold any of them.
+#[derive(Drop)]
+pub struct ShippedRule {
+    name: RuleName,
+    alloc: Global,
+}
+
+impl ShippedRule {
+    ghost use Rattle.std.specs.Prelude.{◌≡◌};
+
+    /// The rule of a name; its reports take their memory from here.
+    pub fn new(alloc: Global, name: RuleName) -> ShippedRule
+        ensures { result.name ≡ name }
+    {
+        ShippedRule { name, alloc }
+    }
+}
+
+impl Rule for ShippedRule {
+    ghost use Rattle.rules.specs.AllRules.{finds};
+    ghost use Rattle.rules.specs.RuleNames.{called};
+    ghost use Rattle.rules.specs.RuleViews.{seen};
+
+    ghost called = { λ r. called r.name };
+
+    ghost finds = { λ r v. finds r.name v };
+
+    /// The rule's name, by which settings turn it on or off.
+    fn name(&self) -> &str {
+        self.name.as_str()
+    }
+
+    /// Adds what the rule finds.
+    fn check(&self, view: &View, out: &mut Vec<Report>) -> Result<(), AllocError> {
+        match self.name {
+            RuleName::OnNodes(rule) => push_on_nodes(self.alloc, &[rule], view, out),
+            RuleName::NoExtraParens => NoExtraParens::new(self.alloc).check(view, out),
+            RuleName::NoShadow => NoShadow::new(self.alloc).check(view, out),
+            RuleName::NoUndef => NoUndef::new(self.alloc).check(view, out),
+            RuleName::NoUnusedVars => NoUnusedVars::new(self.alloc).check(view, out),
+            RuleName::PreferConst => PreferConst::new(self.alloc).check(view, out),
+        }
+    }
+
+    /// A rule that looks at single nodes runs in one walk with the others of its kind.
+    fn on_nodes(&self) -> Option<NodeRule> {
+        match self.name {
+            RuleName::OnNodes(rule) => Some(rule),
+            _ => None,
+        }
+    }
+}
+
+/// What rules on nodes ask of the settings.
+fn node_options(settings: &Settings) -> NodeOptions
+    ensures { result ≡ node_options settings.now }
+{
+    NodeOptions {
+        allow_null: settings.allows_null(),
+        allow_comments: settings.allows_comments(),
+    }
+}
+
+/// Appends what rules on nodes find in a view.
+pub(crate) fn push_on_nodes(
+    alloc: Global,
+    rules: &[NodeRule],
+    view: &View,
+    out: &mut Vec<Report>,
+) -> Result<(), AllocError>
+    ensures found { OnOk result (out.new.items ≡ out.old.items ++ found_on_nodes rules.now (seen view.now)) }
+    ensures kept { Grows out.old.items out.new.items }
+{
+    push_found(
+        alloc,
+        node_options(view.settings),
+        view.text,
+        rules,
+        view.program,
+        out,
+    )
+}
