@@ -19,6 +19,10 @@ HasPlace text (Syntax at) = IsPlace text at
 HasPlace text (Early number at) = IsPlace text at
 HasPlace text other = Unit {0}
 
+-- a refusal that speaks of no place, without a hint
+abbrev pub at_no_place : Fault → Refused
+at_no_place fault = record { fault = fault; in_second = false; line = 0; column = 0; hint = Nothing }
+
 -- memory is refused
 abbrev pub no_memory : Refused
-no_memory = record { fault = OutOfMemory; in_second = false; line = 0; column = 0; hint = Nothing }
+no_memory = at_no_place OutOfMemory

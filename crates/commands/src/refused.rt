@@ -1,7 +1,7 @@
 //! Refusals of a run, with the line and the column that they speak of.
 
-ghost use Rattle.std.specs.Prelude.{◌≡◌, false};
-ghost use Rattle.commands.specs.declared.hint.Hint.TheVariants.{Nothing};
+ghost use Rattle.std.specs.Prelude.{◌≡◌};
+ghost use Rattle.commands.specs.Refused.{at_no_place};
 
 use crate::hint::Hint;
 use source_text::Fault;
@@ -22,7 +22,7 @@ pub struct Refused {
 impl Refused {
     /// A refusal that speaks of no place, without a hint.
     pub fn at_no_place(fault: Fault) -> Refused
-        ensures { result ≡ record { fault = fault; in_second = false; line = 0; column = 0; hint = Nothing } }
+        ensures { result ≡ at_no_place fault }
     {
         Refused {
             fault,
