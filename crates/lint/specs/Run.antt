@@ -158,7 +158,7 @@ abbrev pub RefusesSecond : Command → LanguageChoice → Seen → Fault → ℕ
 RefusesSecond command choice seen fault place hint =
     (command ≡ Same) × (fault ≢ OutOfMemory) × NoneFailed seen × NothingWritten seen
     × ((read : ReadsBoth (asked_language choice) command seen.given seen.second)
-       × RefusesText (asked_language choice) read.second fault × (place ≡ place_of read.second fault) × IsHint (asked_language choice) read.second fault hint)
+    × RefusesText (asked_language choice) read.second fault × (place ≡ place_of read.second fault) × IsHint (asked_language choice) read.second fault hint)
 
 -- a refusal, of the second script or not
 abbrev pub RefusesIn : Bool → (View → List Report) → Command → LanguageChoice → Seen → Fault → ℕ × ℕ → Hint → Type 0

@@ -105,7 +105,7 @@ abbrev pub RefusesChecked : LanguageChoice → List ℕ → Refused → Refused 
 RefusesChecked choice text of_settings refused =
     ((refused ≡ of_settings) × ((of_settings.fault ≡ OutOfMemory) ⊎ ((n : SyntaxTree) × (P : List Pair) × IsReading (asked_language choice) text n P)))
     ⊎ ((of_settings.fault ≢ OutOfMemory) × (refused.in_second ≡ false) × RefusesReading (asked_language choice) text refused.fault
-       × ((refused.line, refused.column) ≡ place_of text refused.fault) × IsHint (asked_language choice) text refused.fault refused.hint)
+    × ((refused.line, refused.column) ≡ place_of text refused.fault) × IsHint (asked_language choice) text refused.fault refused.hint)
 
 -- a table, from what the second reader has to give
 abbrev pub ReadsTable : Option (List ℕ) → Result CostTable Fault → Bool → Type 0

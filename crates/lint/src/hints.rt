@@ -12,11 +12,7 @@ use std::alloc::{AllocError, Global};
 use tree::TextArena;
 
 /// Whether a text is a script, or a module, of a language.
-fn is_accepted(
-    alloc: Global,
-    source: &Source<'_>,
-    language: Language,
-) -> Result<bool, AllocError>
+fn is_accepted(alloc: Global, source: &Source<'_>, language: Language) -> Result<bool, AllocError>
     ensures { IfOk result (TellsAccepted language source.now) }
 {
     let texts = TextArena::new(alloc);
@@ -48,11 +44,7 @@ fn edition_hint(alloc: Global, source: &Source<'_>) -> Result<Hint, AllocError>
 }
 
 /// The hint for the first language later than this one that takes a text.
-fn hint_for(
-    alloc: Global,
-    source: &Source<'_>,
-    language: Language,
-) -> Result<Hint, AllocError>
+fn hint_for(alloc: Global, source: &Source<'_>, language: Language) -> Result<Hint, AllocError>
     ensures { IfOk result (IsForFirst (later_languages language) source.now) }
 {
     match language {
