@@ -54,7 +54,7 @@ without_place : (in_second : Bool) (fault : Fault) (at column : ℕ) (hint : Hin
     → RunsByRules command choice seen (Err (record { fault = fault; in_second = in_second; line = at; column = column; hint = hint })) → RunsByRules command choice seen (Err no_file)
 without_place false fault at column hint command choice seen is run =
     let none = subst (λ (f : Fault). RunsByRules command choice seen (Err (record { fault = f; in_second = false; line = at; column = column; hint = hint }))) is run in
-    (none.0, none.1, none.2, refl, refl)
+    (none.0, none.1, none.2, (refl, refl))
 without_place true fault at column hint command choice seen is run =
     absurd (subst (λ (f : Fault). RunsByRules command choice seen (Err (record { fault = f; in_second = true; line = at; column = column; hint = hint }))) is run).4.1.1
 

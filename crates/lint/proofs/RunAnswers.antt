@@ -87,9 +87,9 @@ module _ (finds : View → List Report) (command : Command) (choice : LanguageCh
   pub bytes_refused : (fault : Fault) (seen : Seen) → IsRefusal bytes fault → IsBefore bytes second false seen → Refuses finds command choice seen fault (0, 0) Nothing
   bytes_refused TooLong seen refused before =
       let found = more_given seen.given bytes before.read refused in
-      (none_failed false seen before refl, before.kept, inl found, refl, refl)
+      (none_failed false seen before refl, before.kept, inl found, (refl, refl))
   bytes_refused (NotUtf8 at) seen refused before =
-      (none_failed false seen before refl, before.kept, (bytes, all_read seen.given bytes before.read refused.0, refused), refl, refl)
+      (none_failed false seen before refl, before.kept, (bytes, all_read seen.given bytes before.read refused.0, refused), (refl, refl))
   bytes_refused _ seen refused before = absurd refused
 
   -- source text that is no script in the language in which it is read is refused, at its place and with its hint
@@ -101,7 +101,7 @@ module _ (finds : View → List Report) (command : Command) (choice : LanguageCh
       (before.kept, (bytes, all_read seen.given bytes before.read source.1, source, (language, tried, refused, hinted), is))
   script_refused language (Early number at) place hint failed seen source refused is hinted before tried =
       (before.kept, (bytes, all_read seen.given bytes before.read source.1, source, (language, tried, refused, hinted), is))
-  script_refused language OutOfMemory place hint failed seen source refused is hinted before tried = (tried_failed language seen tried, before.kept, is, hinted)
+  script_refused language OutOfMemory place hint failed seen source refused is hinted before tried = (tried_failed language seen tried, before.kept, (is, hinted))
   script_refused language _ place hint failed seen source refused is hinted before tried = absurd refused
 
   -- what a script and its second file were read as
@@ -118,18 +118,17 @@ module _ (finds : View → List Report) (command : Command) (choice : LanguageCh
       → IsBefore bytes second failed seen → Refuses finds command choice seen fault (0, 0) Nothing
   unfolding both_read script_read
   command_refused n P ReadFailed failed seen source reading answers before =
-      (before.writer, before.kept, inr (before.reader, before.of_failed ∙ answers.0, answers.1, script_read own seen.given bytes n P before.read source reading), refl, refl)
-  command_refused n P OutOfMemory failed seen source reading answers before = (inl (none_failed failed seen before answers), before.kept, refl, refl)
+      (before.writer, before.kept, inr (before.reader, before.of_failed ∙ answers.0, answers.1, script_read own seen.given bytes n P before.read source reading), (refl, refl))
+  command_refused n P OutOfMemory failed seen source reading answers before = (inl (none_failed failed seen before answers), before.kept, (refl, refl))
   command_refused n P (BadTable row why) failed seen source reading answers before =
-      ((before.reader, before.of_failed ∙ answers.0, before.writer), before.kept, (both_read own seen n P failed answers.1.0 source reading before answers.1.1, answers.1.2), refl, refl)
+      ((before.reader, before.of_failed ∙ answers.0, before.writer), before.kept, (both_read own seen n P failed answers.1.0 source reading before answers.1.1, answers.1.2), (refl, refl))
   command_refused n P UnwrapFailed failed seen source reading answers before =
-      ((before.reader, before.of_failed ∙ answers.0, before.writer), before.kept, (both_read own seen n P failed answers.1.0 source reading before answers.1.1, answers.1.2), refl, refl)
+      ((before.reader, before.of_failed ∙ answers.0, before.writer), before.kept, (both_read own seen n P failed answers.1.0 source reading before answers.1.1, answers.1.2), (refl, refl))
   command_refused n P TooLong failed seen source reading answers before = (
     (before.reader, before.of_failed ∙ answers.0, before.writer),
     before.kept,
     inr (both_read own seen n P failed answers.1.0 source reading before answers.1.1, answers.1.2),
-    refl,
-    refl,
+    (refl, refl),
   )
   command_refused n P _ failed seen source reading answers before = absurd answers.1.2
 
@@ -190,7 +189,7 @@ module _ (finds : View → List Report) (form : ReportForm) (choice : LanguageCh
   no_memory_for refused failed seen is (inl (inl unread)) before = absurd (unlike_memory ReadFailed refused (ap (λ (r : Refused). r.fault) unread.1) is (λ e. cc))
   no_memory_for refused failed seen is (inl (inr (well, inl memory))) before =
       subst (λ (r : Refused). RefusesIn r.in_second finds (Check form) choice seen r.fault (r.line, r.column) r.hint) (sym memory)
-      (inl (none_failed finds (Check form) choice bytes second failed seen before well), before.kept, refl, refl)
+      (inl (none_failed finds (Check form) choice bytes second failed seen before well), before.kept, (refl, refl))
   no_memory_for refused failed seen is (inl (inr (well, inr (read, second_is, why)))) before = absurd (unlike_memory BadSettings refused why.0 is (λ e. cc))
   no_memory_for refused failed seen is (inr (well, same, contradicts)) before = absurd (unlike_memory BadSettings refused (ap (λ (r : Refused). r.fault) same) is (λ e. cc))
 
@@ -200,10 +199,10 @@ module _ (finds : View → List Report) (form : ReportForm) (choice : LanguageCh
   unfolding both_read script_read
   check_lacks n P refused failed seen source reading (inl (inl unread)) before =
       subst (λ (r : Refused). RefusesIn r.in_second finds (Check form) choice seen r.fault (r.line, r.column) r.hint) (sym unread.1)
-      (before.writer, before.kept, inr (before.reader, before.of_failed ∙ unread.0, refl, script_read (asked_language choice) seen.given bytes n P before.read source reading), refl, refl)
+      (before.writer, before.kept, inr (before.reader, before.of_failed ∙ unread.0, refl, script_read (asked_language choice) seen.given bytes n P before.read source reading), (refl, refl))
   check_lacks n P refused failed seen source reading (inl (inr (well, inl memory))) before =
       subst (λ (r : Refused). RefusesIn r.in_second finds (Check form) choice seen r.fault (r.line, r.column) r.hint) (sym memory)
-      (inl (none_failed finds (Check form) choice bytes second failed seen before well), before.kept, refl, refl)
+      (inl (none_failed finds (Check form) choice bytes second failed seen before well), before.kept, (refl, refl))
   check_lacks n P refused failed seen source reading (inl (inr (well, inr other))) before =
       subst (λ (b : Bool). RefusesIn b finds (Check form) choice seen refused.fault (refused.line, refused.column) refused.hint) (sym other.2.1)
       (subst (λ (f : Fault). Refuses finds (Check form) choice seen f (refused.line, refused.column) refused.hint) (sym other.2.0) (
@@ -241,10 +240,10 @@ module _ (finds : View → List Report) (choice : LanguageChoice) (bytes : List 
   unfolding both_read script_read
   same_refused n P refused failed seen source reading (inl answers) before =
       subst (λ (r : Refused). RefusesIn r.in_second finds Same choice seen r.fault (r.line, r.column) r.hint) (sym answers.1)
-      (before.writer, before.kept, inr (before.reader, before.of_failed ∙ answers.0, refl, script_read (asked_language choice) seen.given bytes n P before.read source reading), refl, refl)
+      (before.writer, before.kept, inr (before.reader, before.of_failed ∙ answers.0, refl, script_read (asked_language choice) seen.given bytes n P before.read source reading), (refl, refl))
   same_refused n P refused failed seen source reading (inr (well, inl memory)) before =
       subst (λ (r : Refused). RefusesIn r.in_second finds Same choice seen r.fault (r.line, r.column) r.hint) (sym memory)
-      (inl (none_failed finds Same choice bytes second failed seen before well), before.kept, refl, refl)
+      (inl (none_failed finds Same choice bytes second failed seen before well), before.kept, (refl, refl))
   same_refused n P refused failed seen source reading (inr (well, inr other)) before =
       subst (λ (b : Bool). RefusesIn b finds Same choice seen refused.fault (refused.line, refused.column) refused.hint) (sym other.2.0) (
         refl,

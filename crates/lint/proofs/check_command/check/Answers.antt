@@ -19,4 +19,4 @@ returns-in-Ok-report-clause-answer g c =
     check_answers _ c.args.form c.args.choice c.args.source.now parsed.program parsed.pairs.items _ c.in-Ok.checked c.in-Ok-report.answer _ c.requires.source reading c.in-Ok.ensures (c.in-Ok-report.ensures.lines c.in-Ok.checked.language)
 
 pub returns-clause-answer : goal.returns-clause-answer
-returns-clause-answer g c = λ seen before. rw c.at_no_place.ensures (inl (before.reader, before.of_failed ∙ c.in-Ok.ensures.0.0, before.writer), before.kept, refl, refl)
+returns-clause-answer g c = λ seen before. rw c.at_no_place.ensures (inl (before.reader, before.of_failed ∙ c.in-Ok.ensures.0.0, before.writer), before.kept, (refl, refl))
