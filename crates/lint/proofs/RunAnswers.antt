@@ -250,7 +250,7 @@ module _ (finds : View → List Report) (choice : LanguageChoice) (bytes : List 
         other.2.1,
         (before.reader, before.of_failed ∙ well, before.writer),
         before.kept,
-        (both_read finds Same choice bytes second (asked_language choice) seen n P failed other.0 source reading before other.1, other.2.2, other.2.3),
+        (both_read finds Same choice bytes second (asked_language choice) seen n P failed other.0 source reading before other.1, other.2.2, other.2.3, other.2.4),
       )
 
   -- what it answers

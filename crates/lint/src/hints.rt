@@ -11,16 +11,28 @@ use source_text::{Fault, Source};
 use std::alloc::{AllocError, Global};
 use tree::TextArena;
 
+/// Whether a text is a script, or a module, of a language; texts of the script that are no slice of its source stay in `texts`.
+fn reads(
+    alloc: Global,
+    texts: &TextArena,
+    source: &Source<'_>,
+    language: Language,
+) -> Result<bool, AllocError>
+    ensures { IfOk result (TellsAccepted language source.now) }
+{
+    match read_script(alloc, texts, source, language) {
+        Ok(_) => Ok(true),
+        Err(Fault::OutOfMemory) => Err(AllocError),
+        Err(_) => Ok(false),
+    }
+}
+
 /// Whether a text is a script, or a module, of a language.
 fn is_accepted(alloc: Global, source: &Source<'_>, language: Language) -> Result<bool, AllocError>
     ensures { IfOk result (TellsAccepted language source.now) }
 {
     let texts = TextArena::new(alloc);
-    match read_script(alloc, &texts, source, language) {
-        Ok(_) => Ok(true),
-        Err(Fault::OutOfMemory) => Err(AllocError),
-        Err(_) => Ok(false),
-    }
+    reads(alloc, &texts, source, language)
 }
 
 /// The hint for modules, where a text is one.
