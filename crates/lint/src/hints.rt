@@ -1,6 +1,7 @@
 //! The hint of a refusal: which later language takes a text that is refused in an earlier one.
 
-ghost use Rattle.std.specs.Prelude.{[], ◌∷◌, IfOk};
+ghost use Rattle.std.specs.Prelude.{◌≡◌, ◌≢◌, [], ◌∷◌, false, IfOk};
+ghost use Rattle.source_text.specs.declared.fault.Fault.TheVariants.{OutOfMemory};
 ghost use Rattle.language.specs.declared.Language.TheVariants as languages;
 ghost use Rattle.lint.specs.Hints.{IsForFirst, IsLaterHint, TellsAccepted, later_languages};
 
@@ -10,6 +11,17 @@ use language::Language;
 use source_text::{Fault, Source};
 use std::alloc::{AllocError, Global};
 use tree::TextArena;
+
+/// That a text which is refused is no script, unless memory was refused.
+fn no_script(fault: Fault) -> Result<bool, AllocError>
+    ensures accepted { IfOk result (λ accepted. accepted ≡ false) }
+    ensures memory { IfOk result (λ _. fault ≢ OutOfMemory) }
+{
+    match fault {
+        Fault::OutOfMemory => Err(AllocError),
+        _ => Ok(false),
+    }
+}
 
 /// Whether a text is a script, or a module, of a language; texts of the script that are no slice of its source stay in `texts`.
 fn reads(
@@ -22,8 +34,7 @@ fn reads(
 {
     match read_script(alloc, texts, source, language) {
         Ok(_) => Ok(true),
-        Err(Fault::OutOfMemory) => Err(AllocError),
-        Err(_) => Ok(false),
+        Err(fault) => no_script(fault),
     }
 }
 
