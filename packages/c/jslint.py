@@ -40,15 +40,21 @@ _REFUSALS = [
     (r"can't be unwrapped", 'unwrap', ()), (r'out of memory', 'memory', ()), (r'out of stack', 'stack', ()),
 ]
 _SECOND = 'second file: '
+# What stands behind them where a later language takes the text.
+_HINT = re.compile(r' \(perhaps: --(?:edition )?(2022|module)\)$')
 
 
 class Refused(Exception):
     """A text that was refused: the words of the program, as `syntax error at 1:9`, its status, and of the words a code (`syntax`, `early`, `deep`, `utf8`, `long`,
     `settings`, `table`, `unwrap`, `memory`, `stack`) and what they name: `line`, `column`, `number`, `byte`, `most`, `row`, `reason`, each None where they
-    don't. `in_second`: it is the other text of `same`, whose words begin with `second file: `."""
+    don't. `in_second`: it is the other text of `same`, whose words begin with `second file: `. `hint`: the first later language that takes the text, '2022' or
+    'module', else None; the words are without it."""
 
     def __init__(self, words, status):
+        hint = _HINT.search(words)
+        words = words[:hint.start()] if hint else words
         super().__init__(words)
+        self.hint = hint[1] if hint else None
         self.status, self.code, self.in_second = status, None, words.startswith(_SECOND)
         self.line = self.column = self.number = self.byte = self.most = self.row = self.reason = None
         for form, code, names in _REFUSALS:

@@ -32,19 +32,21 @@ const REFUSALS = [
   [/^out of stack$/, 'stack', []],
 ];
 
-// What stands before them where the other text of `same` is refused.
-const SECOND = 'second file: ';
+// What stands before them where the other text of `same` is refused, and behind them where a later language takes the text.
+const SECOND = 'second file: ', HINT = / \(perhaps: --(?:edition )?(2022|module)\)$/;
 
 /** A text that was refused, or one for which the engine had too little stack or memory. */
 export class Refused extends Error {
   constructor(command, words, status) {
-    super(words);
+    const hint = HINT.exec(words), plain = hint ? words.slice(0, hint.index) : words;
+    super(plain);
     this.name = 'Refused';
     this.command = command;
     this.status = status;
-    this.inSecond = words.startsWith(SECOND);
+    if (hint) this.hint = hint[1];
+    this.inSecond = plain.startsWith(SECOND);
     for (const [form, code, names] of REFUSALS) {
-      const found = form.exec(this.inSecond ? words.slice(SECOND.length) : words);
+      const found = form.exec(this.inSecond ? plain.slice(SECOND.length) : plain);
       if (found === null) continue;
       this.code = code;
       names.forEach((name, at) => { this[name] = /^\d+$/.test(found[at + 1]) ? Number(found[at + 1]) : found[at + 1]; });

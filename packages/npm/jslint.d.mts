@@ -32,6 +32,8 @@ export class Refused extends Error {
   code: Code;
   /** Whether it is the other text of `same` that is refused. */
   inSecond: boolean;
+  /** The first language that takes the text, of those later than the one in which it was read; the message is without it. */
+  hint?: '2022' | 'module';
   /** The place of a syntax error or an early error; of settings, where they are no TOML or no UTF-8. */
   line?: number;
   column?: number;

@@ -18,7 +18,7 @@ const { randomSource } = require('../model/random.js');
 const { ENVIRONMENTS } = require('../model/environments.js');
 const { RULE_NAMES, fromToml, runRules } = require('../model/rules.js');
 const { resolve } = require('../model/scopes.js');
-const { linesColumns, words } = require('./scripts.js');
+const { linesColumns, withoutHint, words } = require('./scripts.js');
 const { OWN, scopeScript } = require('../rows/scope_texts.js');
 
 
@@ -75,7 +75,7 @@ function main() {
     const words = source.below(2) || settings !== '' ? ['check', file, '--settings', second] : ['check', file];
     const done = spawnSync(program(), words, { encoding: 'utf8', maxBuffer: 1 << 28 });
     const wanted = model(text, settings);
-    if (done.status === wanted.status && done.stdout === wanted.out && placed(done.stderr) === placed(wanted.err)) {
+    if (done.status === wanted.status && done.stdout === wanted.out && placed(withoutHint(done.stderr)) === placed(wanted.err)) {
       counts[['clean', 'reports', 'refused'][wanted.status]] += 1;
       continue;
     }

@@ -19,7 +19,7 @@ const { makeScript } = require('./early.js');
 const { makeTexts, nested } = require('./parser.js');
 const { runInBigStack } = require('../model/bigstack.js');
 const { randomSource } = require('../model/random.js');
-const { judgement, modelOf } = require('./scripts.js');
+const { judgement, modelOf, withoutHint } = require('./scripts.js');
 const strewn = require('./unwrap.js');
 const isUnwrapAlone = process.argv.includes('--unwrap');
 const COMMANDS = isUnwrapAlone ? ['unwrap'] : ['tree', 'fix', 'unwrap', 'cost', 'check', 'verify'];
@@ -45,7 +45,7 @@ function modelAnswers(texts, limits, commands) {
 
 function jslint(...words) {
   const done = spawnSync(program(), words, { encoding: 'utf8', maxBuffer: 1 << 30 });
-  return { text: `${done.status} ${plain(done.stderr)}${done.stdout}`, out: done.stdout };
+  return { text: `${done.status} ${plain(withoutHint(done.stderr))}${done.stdout}`, out: done.stdout };
 }
 
 // The same of the program, and the commands that don't give again what they wrote.

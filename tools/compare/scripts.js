@@ -137,9 +137,12 @@ function models(commands, list) {
   });
 }
 
+// The model reads one language, so it has no hint of another.
+const withoutHint = (line) => line.replace(/ \(perhaps: --(?:edition 2022|module)\)\n$/, '\n');
+
 function jslint(...words) {
   const done = spawnSync(program(), words, { encoding: 'utf8', maxBuffer: 1 << 30 });
-  return { status: done.status, out: done.stdout, err: done.stderr };
+  return { status: done.status, out: done.stdout, err: withoutHint(done.stderr) };
 }
 
 // What the program answers: `verify` of the table that `cost` wrote.
@@ -238,5 +241,5 @@ function main() {
   return every.length > 0 && seen.every((it) => it.apart === 0) ? 0 : 1;
 }
 
-module.exports = { files, judgement, lineColumn, linesColumns, modelOf, models, packaged, words };
+module.exports = { files, judgement, lineColumn, linesColumns, modelOf, models, packaged, withoutHint, words };
 if (require.main === module) process.exitCode = main();

@@ -122,7 +122,7 @@ const RUNS = [
   ['same', 'a + (b);', '(a)+b'],
   ['same', 'a + (b);', 'a - b'],
 ];
-const fault = (kind) => `Err(Refused { fault: ${kind}, in_second: false, line: 0, column: 0 }) `;
+const fault = (kind) => `Err(Refused { fault: ${kind}, in_second: false, line: 0, column: 0, hint: Nothing }) `;
 
 // A run, by the plans of the reader, of the writer and of the second reader.
 const run = ([command, text, second], plans, found) => `run\t${[command, text, plans[0], plans[1], second, plans[2]].map(written).join('\t')}\t${written(found)}`;

@@ -134,7 +134,7 @@ def c_example(room):
     room.put('m.mjs', 'export let a=(1);')
     room.put('t.js', 'async()=>(1)')
     same([ran([program, 'fix', *it], **how)[0] for it in (['--module', 'm.mjs'], ['m.mjs', '--edition', '2022', '--module'], ['t.js', '--edition', '2022'])], ['export let a = 1;\n'] * 2 + ['async () => 1;\n'])
-    same([ran([program, 'fix', *it], 2, **how) for it in (['m.mjs'], ['--edition', '2022', 'm.mjs'], ['--edition', '2020', 't.js'])], [('', f'jslint: syntax error at {it}\n') for it in ('1:1', '1:1', '1:8')])
+    same([ran([program, 'fix', *it], 2, **how) for it in (['m.mjs'], ['--edition', '2022', 'm.mjs'], ['--edition', '2020', 't.js'])], [('', f'jslint: syntax error at {it}\n') for it in ('1:1 (perhaps: --module)', '1:1 (perhaps: --module)', '1:8 (perhaps: --edition 2022)')])
     for it in (['--edition', '2020', '--module'], ['--module', '--edition', '2020'], ['--edition', '2021'], ['--edition']):
         is_well(ran([program, 'fix', 'm.mjs', *it], 2, **how)[1].startswith('jslint: usage: '), it)
     # (an answer that is longer than the room at first)
@@ -165,6 +165,8 @@ def python_example(room):
         is_well(found == want or want.startswith(f'{found}:'), f'{call}: {found} where {want} is wanted')
     refused = "import jslint\ntry: jslint.fix('a b')\nexcept jslint.Refused as it: print(it, it.status)"
     same(ran([sys.executable, '-c', refused], cwd=folder), ('syntax error at 1:3 2\n', ''))
+    hinted = "import jslint\nfor text in 'a b', 'export {};', 'async () => 1;':\n try: jslint.fix(text)\n except jslint.Refused as it: print(it, it.code, it.line, it.column, it.hint)"
+    same(ran([sys.executable, '-c', hinted], cwd=folder), ('syntax error at 1:3 syntax 1 3 None\nsyntax error at 1:1 syntax 1 1 module\nsyntax error at 1:10 syntax 1 10 2022\n', ''))
 
 
 # What each call answers or is refused as, in threads whose stack is too small for a deep text, and in one whose is not.

@@ -1,5 +1,5 @@
-/* Refuses the library memory, one request after the other: each answer has to be that of the call with all memory, or `out of memory`, and no block
-   may be left. Linked with --wrap for malloc, realloc and free. Prints how many calls were made; status 1 where anything else was seen. */
+/* Refuses the library memory, one request after the other: each answer has to be that of the call with all memory, a refusal's perhaps without its
+   hint, or `out of memory`, and no block may be left. Linked with --wrap for malloc, realloc and free. Prints how many calls were made; status 1 where anything else was seen. */
 #include "jslint.h"
 #include <stdio.h>
 #include <stdlib.h>
@@ -7,6 +7,7 @@
 
 #define ROOM 65536
 #define NO_MEMORY "jslint: out of memory\n"
+#define HINT " (perhaps: --"
 
 void *__real_malloc(size_t size);
 void *__real_realloc(void *block, size_t size);
@@ -55,6 +56,13 @@ static int is_no_memory(const struct answer *answer) {
            !memcmp(answer->bytes, NO_MEMORY, strlen(NO_MEMORY));
 }
 
+/* Whether it is the whole answer, a refusal, without the hint, for which memory was refused. */
+static int is_without_hint(const struct answer *now, const struct answer *whole) {
+    size_t hint = strlen(HINT), front = now->outcome.length - 1;
+    return now->outcome.length > 0 && now->outcome.status == whole->outcome.status && now->outcome.is_refusal && whole->outcome.is_refusal && now->bytes[front] == '\n' &&
+           front + hint <= whole->outcome.length && !memcmp(now->bytes, whole->bytes, front) && !memcmp(whole->bytes + front, HINT, hint);
+}
+
 /* The calls that were made for a command with each request refused, or -1. */
 static long refuse_each(uint32_t command, const char *text, const char *second) {
     static struct answer whole, now;
@@ -65,7 +73,7 @@ static long refuse_each(uint32_t command, const char *text, const char *second) 
         refused++;
         ask(&now, command, text, second);
         calls++;
-        if (held || !(is_same(&now, &whole) || (asked >= refused && is_no_memory(&now)))) {
+        if (held || !(is_same(&now, &whole) || (asked >= refused && (is_no_memory(&now) || is_without_hint(&now, &whole))))) {
             fprintf(stderr, "command %u, request %ld of %ld refused, %ld blocks held: %.*s\n", command, refused, asked, held, (int)now.outcome.length, now.bytes);
             return -1;
         }
@@ -74,10 +82,10 @@ static long refuse_each(uint32_t command, const char *text, const char *second) 
 }
 
 int main(void) {
-    enum { COMMANDS = JSLINT_UNWRAP + 1, TEXTS = 7 };
+    enum { COMMANDS = JSLINT_UNWRAP + 1, TEXTS = 8 };
     static const char *const texts[TEXTS] = {"", "let x = (1); x; { let x = 2; x = 3; }", "for (x = (a in b) && (c in d);;); (({})).a", "a b", "let a; let a;",
                                              "class A extends B { m(x = `${[...y]}`) { return super.m({ x, ...z }) ** 2 } } new (f())(), a?.[b]",
-                                             "x = ( // c\n  (a) /* d */ + (b)); let q = (new (f().g))(1), h = (i)++ + (j)"};
+                                             "x = ( // c\n  (a) /* d */ + (b)); let q = (new (f().g))(1), h = (i)++ + (j)", "async () => await import.meta;"};
     static const char *const seconds[] = {"globals = [\"a\"]\n[rules]\nno-var = false\n", "jslint-cost 2\n1 Identifier\ntotal 0\n"};
     long calls = 0;
     for (int at = 0; at < 2 * 2 * COMMANDS * TEXTS; at++) {

@@ -130,8 +130,12 @@ def place(text, at):
     return f'{len(lines)}:{len(lines[-1]) + 1}'
 
 
+# What stands behind a place where a later language takes the text: rows that have a refusal in short don't say it.
+HINT = re.compile(r' \(perhaps: --(?:edition 2022|module)\)$')
+
+
 def refused(text, want):
-    """What the program says of a text that is refused with these words of the row's."""
+    """What the program says of a text that is refused with these words of the row's, but for its hint."""
     early = re.fullmatch(r'E(\d+) (\d+)', want)
     return f'early error {want.split()[0]} at {place(text, int(early[2]))}' if early else want
 
@@ -140,7 +144,8 @@ def is_refused(text, want, answer):
     """Whether the answer is the refusal that the row wants."""
     if answer.refusal is None or answer.out or answer.status != 2:
         return False
-    return answer.refusal.startswith('syntax error at ') if want == 'syntax' else answer.refusal == refused(text, want)
+    said = HINT.sub('', answer.refusal)
+    return re.fullmatch(r'syntax error at \d+:\d+', said) is not None if want == 'syntax' else said == refused(text, want)
 
 
 def is_refusal(want):
@@ -335,10 +340,11 @@ def source(texts, want):
 
 def line_of(want):
     """The status and what is on standard error where a run answers so."""
-    match = re.fullmatch(r'Err\(Refused \{ fault: (\w+)(?:\((.*)\))?, in_second: (\w+), line: (\d+), column: (\d+) \}\)', want)
+    match = re.fullmatch(r'Err\(Refused \{ fault: (\w+)(?:\((.*)\))?, in_second: (\w+), line: (\d+), column: (\d+), hint: (\w+) \}\)', want)
     if not match:
         return int(re.fullmatch(r'Ok\((\d+)\)', want)[1]), ''
-    name, has, at = match[1], match[2], f' at {match[4]}:{match[5]}'
+    hint = {'Edition2022': ' (perhaps: --edition 2022)', 'Module': ' (perhaps: --module)'}.get(match[6], '')
+    name, has, at = match[1], match[2], f' at {match[4]}:{match[5]}{hint}'
     words = {
         'Syntax': 'syntax error' + at, 'TooLong': 'longer than 16777216 bytes', 'TooDeep': 'nested too deep',
         # (what can't be read is this folder, as `device` has it)

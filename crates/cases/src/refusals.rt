@@ -2,7 +2,7 @@
 
 use crate::case::Case;
 use crate::devices::{plan, push_answer};
-use commands::{Refused, write_refusal};
+use commands::{Hint, Refused, write_refusal};
 use source_text::{Fault, MemorySink, Reason};
 use std::alloc::{AllocError, Global};
 
@@ -68,6 +68,16 @@ fn fault_of(row: &Case) -> Fault {
     fault(row.text(1), row.text(2), row.text(3))
 }
 
+/// The hint that a word names.
+fn hint(word: &str) -> Hint {
+    match word {
+        "2022" => Hint::Edition2022,
+        "module" => Hint::Module,
+        "unknown" => Hint::Unknown,
+        _ => Hint::Nothing,
+    }
+}
+
 /// The message of a refusal.
 pub(crate) fn push_message(row: &Case, out: &mut String) -> Result<(), AllocError> {
     write!(out, "{}", fault_of(row))
@@ -80,13 +90,14 @@ pub(crate) fn push_line(alloc: Global, row: &Case, out: &mut String) -> Result<(
         return Ok(());
     }
     let (line, column) = (12, u32::MAX);
-    let mut writer = MemorySink::new(alloc, 64, plan(row.text(4)))?;
+    let mut writer = MemorySink::new(alloc, 128, plan(row.text(4)))?;
     let status = write_refusal(
         &Refused {
             fault,
             in_second: row.text(5) == "second",
             line,
             column,
+            hint: hint(row.text(6)),
         },
         &mut writer,
     );

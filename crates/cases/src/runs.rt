@@ -162,7 +162,7 @@ pub(crate) fn push_run_bytes(
 fn push_refused(alloc: Global, refused: &Refused, out: &mut String) -> Result<(), AllocError>
     requires { refused.now.fault ≢ Usage }
 {
-    let mut writer = MemorySink::new(alloc, 64, plan(""))?;
+    let mut writer = MemorySink::new(alloc, 128, plan(""))?;
     let status = write_refusal(refused, &mut writer);
     write!(out, "{status} ")?;
     push_bytes(writer.bytes(), out)

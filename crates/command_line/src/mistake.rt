@@ -7,6 +7,7 @@ ghost use Rattle.command_line.specs.Shown.{AreOnOneLine, on_one_line};
 ghost use Rattle.command_line.specs.Tip.{WritesMistake, is_plain, looks_like_file, tip_for, tip_of};
 ghost use Rattle.source_text.specs.declared.fault.Fault.TheVariants.{OutOfMemory, WriteFailed};
 ghost use Rattle.commands.specs.Refusal.{WritesLine, refusal_line};
+ghost use Rattle.commands.specs.Refused.{at_no_place};
 
 use crate::escaped::write_escaped;
 use crate::line::jslint_command;
@@ -152,12 +153,12 @@ pub fn explain<R: AllocGlobal + Print + Eprint, W: Sink>(
     requires { W.failed errors.old ≡ false }
     ensures mistake { is_asked_for (kind_of error.now) ≡ false → result ≡ 2 }
     ensures memory { kind_of error.now ≡ ErrorKind.OutOfMemory →
-        WritesLine (refusal_line (record { fault = OutOfMemory; in_second = false; line = 0; column = 0 })) (W.taken errors.old) (W.taken errors.new) (W.failed errors.new) }
+        WritesLine (refusal_line (at_no_place OutOfMemory)) (W.taken errors.old) (W.taken errors.new) (W.failed errors.new) }
     ensures said { is_asked_for (kind_of error.now) ≡ false →
         WritesMistake (tip_of (kind_of error.now) (map (λ w. w.now) words.now)) (W.taken errors.old) (W.taken errors.new) (W.failed errors.new) }
     ensures shown { result ≡ 0 → W.taken errors.new ≡ W.taken errors.old }
     ensures lost { is_asked_for (kind_of error.now) ≡ true → result ≢ 0 →
-        WritesLine (refusal_line (record { fault = WriteFailed; in_second = false; line = 0; column = 0 })) (W.taken errors.old) (W.taken errors.new) (W.failed errors.new) }
+        WritesLine (refusal_line (at_no_place WriteFailed)) (W.taken errors.old) (W.taken errors.new) (W.failed errors.new) }
     ensures status { result ≢ 0 → result ≡ 2 }
 {
     if error.kind() == ErrorKind::OutOfMemory {

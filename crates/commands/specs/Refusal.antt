@@ -7,6 +7,8 @@ use Rattle.source_text.specs.declared.fault.Fault.TheVariants.{NotUtf8, TooLong,
 use Rattle.source_text.specs.declared.fault.Reason.{Reason}
 use Rattle.source_text.specs.declared.fault.Reason.TheVariants as reason
 use Rattle.source_text.specs.Writing.{AppendsBeginning}
+use Rattle.commands.specs.declared.hint.Hint.{Hint}
+use Rattle.commands.specs.declared.hint.Hint.TheVariants.{Nothing, Edition2022, Module, Unknown}
 use Rattle.commands.specs.declared.refused.Refused.{Refused}
 
 -- 1 for a bad cost table, else 2
@@ -50,8 +52,15 @@ abbrev pub script_words : Bool → List ℕ
 script_words true = codes "second file: "
 script_words false = []
 
+-- what to say on the command line for a later language, as a guess; nothing where none is known to take the text
+abbrev pub hint_words : Hint → List ℕ
+hint_words Nothing = []
+hint_words Edition2022 = codes " (perhaps: --edition 2022)"
+hint_words Module = codes " (perhaps: --module)"
+hint_words Unknown = []
+
 abbrev pub refusal_words : Refused → List ℕ
-refusal_words refused = script_words refused.in_second ++ fault_words refused.fault refused.line refused.column
+refusal_words refused = script_words refused.in_second ++ fault_words refused.fault refused.line refused.column ++ hint_words refused.hint
 
 -- the line of a refusal, with its line feed
 abbrev pub refusal_line : Refused → List ℕ

@@ -4,6 +4,7 @@ use Rattle.source_text.specs.Source.{IsPlace}
 use Rattle.source_text.specs.Lines.{line_column}
 use Rattle.source_text.specs.declared.fault.Fault.{Fault}
 use Rattle.source_text.specs.declared.fault.Fault.TheVariants.{Syntax, Early, OutOfMemory}
+use Rattle.commands.specs.declared.hint.Hint.TheVariants.{Nothing}
 use Rattle.commands.specs.declared.refused.Refused.{Refused}
 
 -- the line and the column of the place that a fault speaks of, both 0 where it speaks of none
@@ -18,6 +19,10 @@ HasPlace text (Syntax at) = IsPlace text at
 HasPlace text (Early number at) = IsPlace text at
 HasPlace text other = Unit {0}
 
+-- a refusal that speaks of no place, without a hint
+abbrev pub at_no_place : Fault → Refused
+at_no_place fault = record { fault = fault; in_second = false; line = 0; column = 0; hint = Nothing }
+
 -- memory is refused
 abbrev pub no_memory : Refused
-no_memory = record { fault = OutOfMemory; in_second = false; line = 0; column = 0 }
+no_memory = at_no_place OutOfMemory

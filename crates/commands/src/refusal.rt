@@ -2,8 +2,9 @@
 
 ghost use Rattle.std.specs.Prelude.{◌≡◌, ◌≢◌, ◌≤◌, ◌+◌, ◌++◌, false, length};
 ghost use Rattle.std.specs.Fmt.{decimal};
-ghost use Rattle.commands.specs.Refusal.{WritesLine, at_place_words, fault_words, place_words, reason_words, refusal_line, script_words, status_of};
+ghost use Rattle.commands.specs.Refusal.{WritesLine, at_place_words, fault_words, hint_words, place_words, reason_words, refusal_line, script_words, status_of};
 
+use crate::hint::Hint;
 use crate::refused::Refused;
 use source_text::{Fault, OutputBuffer, Reason, Sink, write_text};
 
@@ -116,7 +117,20 @@ fn push_words(line: &mut OutputBuffer, refused: &Refused)
     }
 }
 
-/// Writes the line of a refusal: `jslint: `, what it says, and a line feed. It takes no memory, and stops where the
+/// Adds what to say for the later language that takes the text, where one is known to.
+fn push_hint(line: &mut OutputBuffer, hint: Hint)
+    requires start { length line.old ≤ 108 }
+    ensures words { line.new ≡ line.old ++ hint_words hint }
+    ensures short { length line.new ≤ 134 }
+{
+    match hint {
+        Hint::Edition2022 => line.push_text(" (perhaps: --edition 2022)"),
+        Hint::Module => line.push_text(" (perhaps: --module)"),
+        Hint::Nothing | Hint::Unknown => {}
+    }
+}
+
+/// Writes the line of a refusal: `jslint: `, what it says, its hint, and a line feed. It takes no memory, and stops where the
 /// writer fails. Answers the refusal's exit status in either case.
 pub fn write_refusal<W: Sink>(refused: &Refused, writer: &mut W) -> u8
     requires ready { W.failed writer.old ≡ false }
@@ -128,6 +142,7 @@ pub fn write_refusal<W: Sink>(refused: &Refused, writer: &mut W) -> u8
     line.push_text("jslint: ");
     push_script(&mut line, refused.in_second);
     push_words(&mut line, refused);
+    push_hint(&mut line, refused.hint);
     line.push(b'\n');
     let _ = write_text(line.as_bytes(), writer);
     status(refused.fault)

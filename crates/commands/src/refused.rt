@@ -1,11 +1,13 @@
 //! Refusals of a run, with the line and the column that they speak of.
 
-ghost use Rattle.std.specs.Prelude.{◌≡◌, false};
+ghost use Rattle.std.specs.Prelude.{◌≡◌};
+ghost use Rattle.commands.specs.Refused.{at_no_place};
 
+use crate::hint::Hint;
 use source_text::Fault;
 use std::alloc::{AllocError, AllocFailed};
 
-/// A refusal, and the place that it speaks of: its line and its column from 1, both 0 where there is none.
+/// A refusal, the place that it speaks of, its line and its column from 1, both 0 where there is none, and its hint.
 #[derive(Clone, Copy, Debug, PartialEq, Eq)]
 pub struct Refused {
     pub fault: Fault,
@@ -13,18 +15,21 @@ pub struct Refused {
     pub in_second: bool,
     pub line: u32,
     pub column: u32,
+    /// Which later language takes the text.
+    pub hint: Hint,
 }
 
 impl Refused {
-    /// A refusal that speaks of no place.
+    /// A refusal that speaks of no place, without a hint.
     pub fn at_no_place(fault: Fault) -> Refused
-        ensures { result ≡ record { fault = fault; in_second = false; line = 0; column = 0 } }
+        ensures { result ≡ at_no_place fault }
     {
         Refused {
             fault,
             in_second: false,
             line: 0,
             column: 0,
+            hint: Hint::Nothing,
         }
     }
 }

@@ -7,6 +7,7 @@ use Rattle.source_text.specs.declared.fault.Fault.{Fault}
 use Rattle.source_text.specs.declared.fault.Fault.TheVariants.{ReadFailed}
 use Rattle.commands.specs.declared.command.Command.{Command}
 use Rattle.commands.specs.declared.language_choice.LanguageChoice.{LanguageChoice}
+use Rattle.commands.specs.declared.hint.Hint.{Hint}
 use Rattle.commands.specs.declared.refused.Refused.{Refused}
 use Rattle.command_line.specs.declared.line.Line.{Line}
 use Rattle.shipped_rules.specs.ShippedRules.{RunsByRules}
@@ -48,19 +49,19 @@ run_of_two gives line choice name before after given second failed reader_failed
   runs = runs;
 }
 
--- a run that was refused since a file failed has no place, and is refused for no script
-without_place : (in_second : Bool) (fault : Fault) (at column : ℕ) (command : Command) (choice : LanguageChoice) (seen : _) → fault ≡ ReadFailed
-    → RunsByRules command choice seen (Err (record { fault = fault; in_second = in_second; line = at; column = column })) → RunsByRules command choice seen (Err no_file)
-without_place false fault at column command choice seen is run =
-    let none = subst (λ (f : Fault). RunsByRules command choice seen (Err (record { fault = f; in_second = false; line = at; column = column }))) is run in
-    (none.0, none.1, none.2, refl)
-without_place true fault at column command choice seen is run =
-    absurd (subst (λ (f : Fault). RunsByRules command choice seen (Err (record { fault = f; in_second = true; line = at; column = column }))) is run).4.1.1
+-- a run that was refused since a file failed has no place and no hint, and is refused for no script
+without_place : (in_second : Bool) (fault : Fault) (at column : ℕ) (hint : Hint) (command : Command) (choice : LanguageChoice) (seen : _) → fault ≡ ReadFailed
+    → RunsByRules command choice seen (Err (record { fault = fault; in_second = in_second; line = at; column = column; hint = hint })) → RunsByRules command choice seen (Err no_file)
+without_place false fault at column hint command choice seen is run =
+    let none = subst (λ (f : Fault). RunsByRules command choice seen (Err (record { fault = f; in_second = false; line = at; column = column; hint = hint }))) is run in
+    (none.0, none.1, none.2, (refl, refl))
+without_place true fault at column hint command choice seen is run =
+    absurd (subst (λ (f : Fault). RunsByRules command choice seen (Err (record { fault = f; in_second = true; line = at; column = column; hint = hint }))) is run).4.1.1
 
 -- the same run, with the refusal that says no more than this
 same_run : (gives : Contents) (line : Line) (choice : LanguageChoice) (before after : Option (List ℕ)) (failed : Bool) (refused : Refused) → refused.fault ≡ ReadFailed → (run : RunsOpened gives line choice before after failed (Err refused))
     → RunsOver line choice run.given run.second before after run.reader_failed run.second_failed failed (Err no_file)
-same_run gives line choice before after failed refused is run = without_place refused.in_second refused.fault refused.line refused.column line.command choice _ is run.runs
+same_run gives line choice before after failed refused is run = without_place refused.in_second refused.fault refused.line refused.column refused.hint line.command choice _ is run.runs
 
 -- which of the two files failed, by whether the second did
 which_failed : (gives : Contents) (line : Line) (choice : LanguageChoice) (before after : Option (List ℕ)) (failed : Bool) (refused : Refused) (unread : Text) (run : RunsOpened gives line choice before after failed (Err refused))

@@ -20,6 +20,7 @@ use Rattle.command_line.specs.declared.unread.ReadFailure.{ReadFailure}
 use Rattle.command_line.specs.declared.unread.ReadFailure.TheVariants.{Missing, Folder, NotPermitted, LinkCircle, Twice, Other}
 use Rattle.shipped_rules.specs.ShippedRules.{RunsByRules}
 use Rattle.commands.specs.Refusal.{WritesLine, refusal_line, status_of}
+use Rattle.commands.specs.Refused.{at_no_place}
 use Rattle.commands.specs.declared.language_choice.LanguageChoice.{LanguageChoice}
 use Rattle.commands.specs.declared.refused.Refused.{Refused}
 use Rattle.jslint.specs.Opened.{Contents, is_input}
@@ -28,7 +29,7 @@ use Rattle.jslint.specs.declared.files.Stop.TheVariants.{Refuses, Unread}
 
 -- a file can't be opened or read
 abbrev pub no_file : Refused
-no_file = record { fault = ReadFailed; in_second = false; line = 0; column = 0 }
+no_file = at_no_place ReadFailed
 
 -- the name of the second file, where there is one
 abbrev pub second_name : Line → Option Text
@@ -144,10 +145,6 @@ IsKept writer = writer.after ≡ writer.before
 -- a line, or a beginning of it and the writer has failed
 abbrev pub GetsLine : List ℕ → Written → Type 0
 GetsLine line writer = WritesLine line writer.before writer.after writer.failed
-
--- a fault that speaks of no place
-abbrev pub at_no_place : Fault → Refused
-at_no_place fault = record { fault = fault; in_second = false; line = 0; column = 0 }
 
 -- a run's status is the program's, or its refusal is, which is said in a line; for a file that can't be opened or read the line has its
 -- name, and why, as far as the system told

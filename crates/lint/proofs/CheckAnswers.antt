@@ -25,12 +25,14 @@ use Rattle.rules.specs.Rules.{View}
 use Rattle.rules.specs.Settings.{Settings}
 use Rattle.rules.specs.Toml.{settings_of_text}
 use Rattle.lint.specs.declared.answer.Answer.{Answer}
-use Rattle.commands.specs.Refused.{place_of}
+use Rattle.commands.specs.declared.hint.Hint.{Hint}
+use Rattle.commands.specs.Refused.{at_no_place, place_of}
 use Rattle.commands.specs.declared.language_choice.LanguageChoice.{LanguageChoice}
 use Rattle.lint.specs.declared.check_command.Checked.{Checked}
 use Rattle.lint.specs.Languages.{asked_language, language_of}
 use Rattle.lint.specs.Outputs.{Checks, IsExtra, IsOutput, IsSecond, IsView}
 use Rattle.lint.specs.ReadScripts.{IsReading, RefusesReading}
+use Rattle.lint.specs.Hints.{IsHint}
 use Rattle.lint.specs.Run.{IsSource, Refuses, Seen}
 use Rattle.lint.specs.Steps.{AnswersBytes, IsBefore, LacksLanguage, LacksSettings, ReadsLanguage, ReadsSettings, RefusesChecked, RefusesSettingsBy, ReportsLines, output_of, status_of}
 use Rattle.lint.proofs.RunAnswers.{none_failed, script_read, script_refused}
@@ -94,17 +96,18 @@ check_answers finds form choice text n P second checked answer failed source rea
 )
 
 -- a text that is no script in that language is refused
-pub check_unread : (finds : View → List Report) (form : ReportForm) (choice : LanguageChoice) (text : List ℕ) (second : Option (List ℕ)) (checked : Checked) (fault : Fault) (place : ℕ × ℕ) (failed : Bool) (seen : Seen)
-    → IsSource text → ReadsLanguage choice second (Ok checked) failed → RefusesReading checked.language text fault → place ≡ place_of text fault → IsBefore text second failed seen → Refuses finds (Check form) choice seen fault place
-check_unread finds form choice text second checked fault place failed seen source ((well, (other, is, utf8, are)), language_is) why at before =
-    script_refused finds (Check form) choice text second checked.language fault place failed seen source why at before
+pub check_unread : (finds : View → List Report) (form : ReportForm) (choice : LanguageChoice) (text : List ℕ) (second : Option (List ℕ)) (checked : Checked) (fault : Fault) (place : ℕ × ℕ) (hint : Hint) (failed : Bool) (seen : Seen)
+    → IsSource text → ReadsLanguage choice second (Ok checked) failed → RefusesReading checked.language text fault → place ≡ place_of text fault → IsHint checked.language text fault hint → IsBefore text second failed seen
+    → Refuses finds (Check form) choice seen fault place hint
+check_unread finds form choice text second checked fault place hint failed seen source ((well, (other, is, utf8, are)), language_is) why at hinted before =
+    script_refused finds (Check form) choice text second checked.language fault place hint failed seen source why at hinted before
     (inl (none_failed finds (Check form) choice text second failed seen before well, (other, subst (λ o. IsSecond (Check form) o other) (sym before.of_second) is, (checked.settings, are, language_is))))
 
 -- ---- the second file
 
 -- it can't be read
 pub unread_settings : (given : Option (List ℕ)) (fault : Fault) (failed : Bool) (refused : Refused) → ReadsUpTo max_bytes given (Err fault) failed
-    → refused ≡ record { fault = fault; in_second = false; line = 0; column = 0 } → LacksSettings given refused failed
+    → refused ≡ at_no_place fault → LacksSettings given refused failed
 unread_settings given ReadFailed failed refused read is = inl (read, is)
 unread_settings given OutOfMemory failed refused read is = inr (read, inl is)
 unread_settings given _ failed refused read is = absurd read
@@ -136,7 +139,7 @@ language_told choice given refused failed (inr (well, is, other)) = unlike BadSe
 
 -- settings that were read leave no language that a call asks for
 pub contradicted : (choice : LanguageChoice) (given : Option (List ℕ)) (settings : Settings) (failed : Bool) (refused : Refused) → ReadsSettings given (Ok settings) failed → language_of choice settings.languages ≡ None
-    → refused ≡ record { fault = BadSettings; in_second = false; line = 0; column = 0 } → LacksLanguage choice given refused failed
+    → refused ≡ at_no_place BadSettings → LacksLanguage choice given refused failed
 contradicted choice given settings failed refused (well, (second, is, utf8, are)) none same = inr (well, same, (second, is, (utf8, (settings, are, none))))
 
 -- settings are refused of a text that is a script in the language that is asked for
@@ -146,6 +149,11 @@ settings_refused choice text language n P of_settings refused is reading same = 
 
 -- else the text is
 pub text_refused : (choice : LanguageChoice) (text : List ℕ) (language : Language) (fault : Fault) (of_settings refused : Refused) → of_settings.fault ≢ OutOfMemory → language ≡ asked_language choice → RefusesReading language text fault → refused.in_second ≡ false → refused.fault ≡ fault
-    → (refused.line, refused.column) ≡ place_of text fault → RefusesChecked choice text of_settings refused
-text_refused choice text language fault of_settings refused other is why first same place =
-    inr (other, first, subst (RefusesReading (asked_language choice) text) (sym same) (subst (λ (l : Language). RefusesReading l text fault) is why), place ∙ ap (place_of text) (sym same))
+    → (refused.line, refused.column) ≡ place_of text fault → IsHint language text fault refused.hint → RefusesChecked choice text of_settings refused
+text_refused choice text language fault of_settings refused other is why first same place hinted = inr (
+  other,
+  first,
+  subst (RefusesReading (asked_language choice) text) (sym same) (subst (λ (l : Language). RefusesReading l text fault) is why),
+  place ∙ ap (place_of text) (sym same),
+  subst (λ (f : Fault). IsHint (asked_language choice) text f refused.hint) (sym same) (subst (λ (l : Language). IsHint l text fault refused.hint) is hinted),
+)

@@ -13,7 +13,8 @@ use Rattle.language.proofs.layout.SameLayouts.{same_layout}
 use Rattle.language.proofs.layout.FixedReads.{within_always_in}
 use Rattle.language.proofs.layout.ReadableScript.{script_readable}
 use Rattle.language.specs.Cost.{AtMost, at_most, least}
-use Rattle.language.proofs.lower_bound.LeastPairs.{derived_at_least_in}
+use Rattle.language_laws.specs.Laws.{SameItems}
+use Rattle.language_laws.proofs.OtherLanguages.{no_fewer_across}
 use Rattle.paren_planner.proofs.Totals.{wrapped_count}
 use Rattle.language.specs.Pieces.{script}
 use Rattle.language.specs.Layout.{fixed_text, has_number, wrapped_rows}
@@ -55,9 +56,9 @@ counted : (n : Tree) (l : Option ℕ) (k : ℕ) → l ≡ least n script → AtM
 counted n None k is h = elim h [ ]
 counted n (Some m) k is (at_most h) = let count : length (wrapped_rows n script 1) ≡ m = wrapped_count n m (sym is) in omega (arith, count, h)
 
--- no derivation of the same tree has fewer pairs than nodes are wrapped
-pub fewest : (language : Language) (n m : Tree) (source : List ℕ) (P : List Pair) → SameTree m n → DerivesIn language source m P → length (wrapped_rows n script 1) ≤ length P
-fewest language n m source P same derived = counted n (least n script) (length P) refl (derived_at_least_in language n m source P same derived)
+-- no derivation of a tree with the same items has fewer pairs than nodes are wrapped in one that is derived
+pub fewest : (own language : Language) (text source : List ℕ) (n m : Tree) (P Q : List Pair) → DerivesIn own text n P → SameItems m n → DerivesIn language source m Q → length (wrapped_rows n script 1) ≤ length Q
+fewest own language text source n m P Q derived same other = counted n (least n script) (length Q) refl (no_fewer_across own language text source n m P Q derived same other)
 
 -- ---- the fixed text
 
@@ -82,7 +83,7 @@ fixes language text fixed n P utf8 is laid = from (within_always_in language tex
       accepted_again = record { source = utf8; derived = subst (λ t. WithinLimitsIn language t m Q) (sym laid) within; lawful = none_either n m (sym same) is.lawful };
       fewest = record {
         attained = (language, fixed_text n, m, Q, same, (max_open, within.1), refl);
-        least = λ any source k R alike d. subst (λ x. x ≤ length R) (sym count) (fewest any n k source R alike d);
+        least = λ any source k R alike d. subst (λ x. x ≤ length R) (sym count) (fewest language any text source n k P R (max_open, is.derived.1) alike d);
       };
       stable = λ k R d. ap fixed_text (only_again m Q within k R d).0 ∙ same_layout m n same ∙ sym laid;
     }

@@ -6,3 +6,4 @@ pub mod VerifyAnswers
 pub mod CheckAnswers
 pub mod PlannedScripts
 pub mod SameAnswers
+pub mod HintAnswers

@@ -9,6 +9,8 @@ use Rattle.commands.specs.declared.command.Command.{Command}
 use Rattle.commands.specs.declared.command.Command.TheVariants.{Check, Same}
 use Rattle.commands.specs.declared.command.ReportForm.{ReportForm}
 use Rattle.commands.specs.declared.language_choice.LanguageChoice.{LanguageChoice}
+use Rattle.commands.specs.declared.hint.Hint.{Hint}
+use Rattle.commands.specs.declared.hint.Hint.TheVariants.{Nothing}
 use Rattle.commands.specs.declared.refused.Refused.{Refused}
 use Rattle.commands.specs.Refused.{place_of}
 use Rattle.language.specs.declared.Language.{Language}
@@ -20,6 +22,7 @@ use Rattle.lint.specs.declared.answer.Answer.{Answer}
 use Rattle.lint.specs.Languages.{asked_language}
 use Rattle.lint.specs.Outputs.{IsLanguage, IsSecond, IsSecondTo, second_limit}
 use Rattle.lint.specs.ReadScripts.{IsReading, RefusesReading}
+use Rattle.lint.specs.Hints.{IsHint}
 use Rattle.lint.specs.Run.{IsSource, IsGiven, IsTried, NoneFailed, SettingsUnread, SettingsRefused, ReadsScript, ReadsBoth, HasOutput, Seen, Refuses, RefusesIn}
 use Rattle.lint.specs.Steps.{IsRead, IsBefore, Answers, AnswersBytes, AnswersSame, LacksLanguage, RefusesChecked, output_of, status_of}
 
@@ -81,23 +84,25 @@ module _ (finds : View → List Report) (command : Command) (choice : LanguageCh
       inl (none_failed failed seen before well, (read.0, read.1, subst (λ l. IsLanguage command choice read.0 l) (sym is) (own_language command choice read.0 other)))
 
   -- bytes that are no source text are refused
-  pub bytes_refused : (fault : Fault) (seen : Seen) → IsRefusal bytes fault → IsBefore bytes second false seen → Refuses finds command choice seen fault (0, 0)
+  pub bytes_refused : (fault : Fault) (seen : Seen) → IsRefusal bytes fault → IsBefore bytes second false seen → Refuses finds command choice seen fault (0, 0) Nothing
   bytes_refused TooLong seen refused before =
       let found = more_given seen.given bytes before.read refused in
-      (none_failed false seen before refl, before.kept, inl found, refl)
+      (none_failed false seen before refl, before.kept, inl found, (refl, refl))
   bytes_refused (NotUtf8 at) seen refused before =
-      (none_failed false seen before refl, before.kept, (bytes, all_read seen.given bytes before.read refused.0, refused), refl)
+      (none_failed false seen before refl, before.kept, (bytes, all_read seen.given bytes before.read refused.0, refused), (refl, refl))
   bytes_refused _ seen refused before = absurd refused
 
-  -- source text that is no script in the language in which it is read is refused, at its place
-  pub script_refused : (language : Language) (fault : Fault) (place : ℕ × ℕ) (failed : Bool) (seen : Seen) → IsSource bytes → RefusesReading language bytes fault → place ≡ place_of bytes fault → IsBefore bytes second failed seen
-      → IsTried command choice seen language → Refuses finds command choice seen fault place
-  script_refused language (Syntax at) place failed seen source refused is before tried = (before.kept, (bytes, all_read seen.given bytes before.read source.1, source, (language, tried, refused), is))
-  script_refused language TooDeep place failed seen source refused is before tried = (before.kept, (bytes, all_read seen.given bytes before.read source.1, source, (language, tried, refused), is))
-  script_refused language (Early number at) place failed seen source refused is before tried =
-      (before.kept, (bytes, all_read seen.given bytes before.read source.1, source, (language, tried, refused), is))
-  script_refused language OutOfMemory place failed seen source refused is before tried = (tried_failed language seen tried, before.kept, is)
-  script_refused language _ place failed seen source refused is before tried = absurd refused
+  -- source text that is no script in the language in which it is read is refused, at its place and with its hint
+  pub script_refused : (language : Language) (fault : Fault) (place : ℕ × ℕ) (hint : Hint) (failed : Bool) (seen : Seen) → IsSource bytes → RefusesReading language bytes fault → place ≡ place_of bytes fault
+      → IsHint language bytes fault hint → IsBefore bytes second failed seen → IsTried command choice seen language → Refuses finds command choice seen fault place hint
+  script_refused language (Syntax at) place hint failed seen source refused is hinted before tried =
+      (before.kept, (bytes, all_read seen.given bytes before.read source.1, source, (language, tried, refused, hinted), is))
+  script_refused language TooDeep place hint failed seen source refused is hinted before tried =
+      (before.kept, (bytes, all_read seen.given bytes before.read source.1, source, (language, tried, refused, hinted), is))
+  script_refused language (Early number at) place hint failed seen source refused is hinted before tried =
+      (before.kept, (bytes, all_read seen.given bytes before.read source.1, source, (language, tried, refused, hinted), is))
+  script_refused language OutOfMemory place hint failed seen source refused is hinted before tried = (tried_failed language seen tried, before.kept, (is, hinted))
+  script_refused language _ place hint failed seen source refused is hinted before tried = absurd refused
 
   -- what a script and its second file were read as
   both_read : (language : Language) (seen : Seen) (n : SyntaxTree) (P : List Pair) (failed : Bool) (read : List ℕ) → IsSource bytes → IsReading language bytes n P → IsBefore bytes second failed seen
@@ -110,20 +115,20 @@ module _ (finds : View → List Report) (command : Command) (choice : LanguageCh
 
   -- what a command refuses behind a script
   pub command_refused : (n : SyntaxTree) (P : List Pair) (fault : Fault) (failed : Bool) (seen : Seen) → IsSource bytes → IsReading own bytes n P → Answers finds own command bytes n P second (Err fault) failed
-      → IsBefore bytes second failed seen → Refuses finds command choice seen fault (0, 0)
+      → IsBefore bytes second failed seen → Refuses finds command choice seen fault (0, 0) Nothing
   unfolding both_read script_read
   command_refused n P ReadFailed failed seen source reading answers before =
-      (before.writer, before.kept, inr (before.reader, before.of_failed ∙ answers.0, answers.1, script_read own seen.given bytes n P before.read source reading), refl)
-  command_refused n P OutOfMemory failed seen source reading answers before = (inl (none_failed failed seen before answers), before.kept, refl)
+      (before.writer, before.kept, inr (before.reader, before.of_failed ∙ answers.0, answers.1, script_read own seen.given bytes n P before.read source reading), (refl, refl))
+  command_refused n P OutOfMemory failed seen source reading answers before = (inl (none_failed failed seen before answers), before.kept, (refl, refl))
   command_refused n P (BadTable row why) failed seen source reading answers before =
-      ((before.reader, before.of_failed ∙ answers.0, before.writer), before.kept, (both_read own seen n P failed answers.1.0 source reading before answers.1.1, answers.1.2), refl)
+      ((before.reader, before.of_failed ∙ answers.0, before.writer), before.kept, (both_read own seen n P failed answers.1.0 source reading before answers.1.1, answers.1.2), (refl, refl))
   command_refused n P UnwrapFailed failed seen source reading answers before =
-      ((before.reader, before.of_failed ∙ answers.0, before.writer), before.kept, (both_read own seen n P failed answers.1.0 source reading before answers.1.1, answers.1.2), refl)
+      ((before.reader, before.of_failed ∙ answers.0, before.writer), before.kept, (both_read own seen n P failed answers.1.0 source reading before answers.1.1, answers.1.2), (refl, refl))
   command_refused n P TooLong failed seen source reading answers before = (
     (before.reader, before.of_failed ∙ answers.0, before.writer),
     before.kept,
     inr (both_read own seen n P failed answers.1.0 source reading before answers.1.1, answers.1.2),
-    refl,
+    (refl, refl),
   )
   command_refused n P _ failed seen source reading answers before = absurd answers.1.2
 
@@ -140,7 +145,7 @@ module _ (finds : View → List Report) (command : Command) (choice : LanguageCh
 
   -- what a command but `check` refuses behind a script, in a language that is the one that is asked for
   pub refused_behind : (language : Language) (n : SyntaxTree) (P : List Pair) (fault : Fault) (failed : Bool) (seen : Seen) → language ≡ own → IsSource bytes → IsReading language bytes n P
-      → ((found : View → List Report) → Answers found language command bytes n P second (Err fault) failed) → IsBefore bytes second failed seen → Refuses finds command choice seen fault (0, 0)
+      → ((found : View → List Report) → Answers found language command bytes n P second (Err fault) failed) → IsBefore bytes second failed seen → Refuses finds command choice seen fault (0, 0) Nothing
   refused_behind language n P fault failed seen is source reading answers before =
       command_refused n P fault failed seen source (subst (λ l. IsReading l bytes n P) is reading) (subst (λ l. Answers finds l command bytes n P second (Err fault) failed) is (answers finds)) before
 
@@ -153,7 +158,7 @@ module _ (finds : View → List Report) (command : Command) (choice : LanguageCh
   pub told_behind : (language : Language) (n : SyntaxTree) (P : List Pair) (fault : Fault) (failed : Bool) (text : List ℕ) → Answers finds language command text n P second (Err fault) failed → fault ≢ Usage
   told_behind language n P fault failed text answers usage = absurd (subst (λ (f : Fault). Answers finds language command text n P second (Err f) failed) usage answers).1.2
 
-  pub refused_bytes : (fault : Fault) (failed : Bool) (seen : Seen) → failed ≡ false → IsRefusal bytes fault → IsBefore bytes second failed seen → Refuses finds command choice seen fault (0, 0)
+  pub refused_bytes : (fault : Fault) (failed : Bool) (seen : Seen) → failed ≡ false → IsRefusal bytes fault → IsBefore bytes second failed seen → Refuses finds command choice seen fault (0, 0) Nothing
   refused_bytes fault failed seen none refused before = bytes_refused fault seen refused (subst (λ f. IsBefore bytes second f seen) none before)
 
 -- ---- `check`
@@ -170,7 +175,7 @@ module _ (finds : View → List Report) (form : ReportForm) (choice : LanguageCh
   no_settings refused failed seen (inl (inr (well, inr (read, is, why)))) other before = inr (
     (form, refl),
     none_failed finds (Check form) choice bytes second failed seen before well,
-    (read, subst (λ o. IsSecond (Check form) o read) (sym before.of_second) is, ((refused.line, refused.column), inl why.2)),
+    (read, subst (λ o. IsSecond (Check form) o read) (sym before.of_second) is, ((refused.line, refused.column), inl why.3)),
   )
   no_settings refused failed seen (inr (well, is, (read, second_is, contradicts))) other before = inr (
     (form, refl),
@@ -180,48 +185,50 @@ module _ (finds : View → List Report) (form : ReportForm) (choice : LanguageCh
 
   -- memory was refused while they were read
   no_memory_for : (refused : Refused) (failed : Bool) (seen : Seen) → refused.fault ≡ OutOfMemory → LacksLanguage choice second refused failed → IsBefore bytes second failed seen
-      → RefusesIn refused.in_second finds (Check form) choice seen refused.fault (refused.line, refused.column)
+      → RefusesIn refused.in_second finds (Check form) choice seen refused.fault (refused.line, refused.column) refused.hint
   no_memory_for refused failed seen is (inl (inl unread)) before = absurd (unlike_memory ReadFailed refused (ap (λ (r : Refused). r.fault) unread.1) is (λ e. cc))
   no_memory_for refused failed seen is (inl (inr (well, inl memory))) before =
-      subst (λ (r : Refused). RefusesIn r.in_second finds (Check form) choice seen r.fault (r.line, r.column)) (sym memory)
-      (inl (none_failed finds (Check form) choice bytes second failed seen before well), before.kept, refl)
+      subst (λ (r : Refused). RefusesIn r.in_second finds (Check form) choice seen r.fault (r.line, r.column) r.hint) (sym memory)
+      (inl (none_failed finds (Check form) choice bytes second failed seen before well), before.kept, (refl, refl))
   no_memory_for refused failed seen is (inl (inr (well, inr (read, second_is, why)))) before = absurd (unlike_memory BadSettings refused why.0 is (λ e. cc))
   no_memory_for refused failed seen is (inr (well, same, contradicts)) before = absurd (unlike_memory BadSettings refused (ap (λ (r : Refused). r.fault) same) is (λ e. cc))
 
   -- its settings are refused, of a script in the language that is asked for
   check_lacks : (n : SyntaxTree) (P : List Pair) (refused : Refused) (failed : Bool) (seen : Seen) → IsSource bytes → IsReading (asked_language choice) bytes n P
-      → LacksLanguage choice second refused failed → IsBefore bytes second failed seen → RefusesIn refused.in_second finds (Check form) choice seen refused.fault (refused.line, refused.column)
+      → LacksLanguage choice second refused failed → IsBefore bytes second failed seen → RefusesIn refused.in_second finds (Check form) choice seen refused.fault (refused.line, refused.column) refused.hint
   unfolding both_read script_read
   check_lacks n P refused failed seen source reading (inl (inl unread)) before =
-      subst (λ (r : Refused). RefusesIn r.in_second finds (Check form) choice seen r.fault (r.line, r.column)) (sym unread.1)
-      (before.writer, before.kept, inr (before.reader, before.of_failed ∙ unread.0, refl, script_read (asked_language choice) seen.given bytes n P before.read source reading), refl)
+      subst (λ (r : Refused). RefusesIn r.in_second finds (Check form) choice seen r.fault (r.line, r.column) r.hint) (sym unread.1)
+      (before.writer, before.kept, inr (before.reader, before.of_failed ∙ unread.0, refl, script_read (asked_language choice) seen.given bytes n P before.read source reading), (refl, refl))
   check_lacks n P refused failed seen source reading (inl (inr (well, inl memory))) before =
-      subst (λ (r : Refused). RefusesIn r.in_second finds (Check form) choice seen r.fault (r.line, r.column)) (sym memory)
-      (inl (none_failed finds (Check form) choice bytes second failed seen before well), before.kept, refl)
+      subst (λ (r : Refused). RefusesIn r.in_second finds (Check form) choice seen r.fault (r.line, r.column) r.hint) (sym memory)
+      (inl (none_failed finds (Check form) choice bytes second failed seen before well), before.kept, (refl, refl))
   check_lacks n P refused failed seen source reading (inl (inr (well, inr other))) before =
-      subst (λ (b : Bool). RefusesIn b finds (Check form) choice seen refused.fault (refused.line, refused.column)) (sym other.2.1)
-      (subst (λ (f : Fault). Refuses finds (Check form) choice seen f (refused.line, refused.column)) (sym other.2.0) (
+      subst (λ (b : Bool). RefusesIn b finds (Check form) choice seen refused.fault (refused.line, refused.column) refused.hint) (sym other.2.1)
+      (subst (λ (f : Fault). Refuses finds (Check form) choice seen f (refused.line, refused.column) refused.hint) (sym other.2.0) (
         (before.reader, before.of_failed ∙ well, before.writer),
         before.kept,
-        (both_read finds (Check form) choice bytes second (asked_language choice) seen n P failed other.0 source reading before other.1, (form, refl), inl other.2.2),
+        (both_read finds (Check form) choice bytes second (asked_language choice) seen n P failed other.0 source reading before other.1, (form, refl), inl other.2.3),
+        other.2.2,
       ))
   check_lacks n P refused failed seen source reading (inr (well, is, (read, second_is, contradicts))) before =
-      subst (λ (r : Refused). RefusesIn r.in_second finds (Check form) choice seen r.fault (r.line, r.column)) (sym is) (
+      subst (λ (r : Refused). RefusesIn r.in_second finds (Check form) choice seen r.fault (r.line, r.column) r.hint) (sym is) (
         (before.reader, before.of_failed ∙ well, before.writer),
         before.kept,
         (both_read finds (Check form) choice bytes second (asked_language choice) seen n P failed read source reading before second_is, (form, refl), inr (refl, contradicts)),
+        refl,
       )
 
   -- so it refuses its settings, or the text
   pub check_refuses : (of_settings refused : Refused) (failed : Bool) (seen : Seen) → IsSource bytes → RefusesChecked choice bytes of_settings refused → LacksLanguage choice second of_settings failed
-      → IsBefore bytes second failed seen → RefusesIn refused.in_second finds (Check form) choice seen refused.fault (refused.line, refused.column)
+      → IsBefore bytes second failed seen → RefusesIn refused.in_second finds (Check form) choice seen refused.fault (refused.line, refused.column) refused.hint
   check_refuses of_settings refused failed seen source (inl (same, inl memory)) lacks before =
-      subst (λ (r : Refused). RefusesIn r.in_second finds (Check form) choice seen r.fault (r.line, r.column)) (sym same) (no_memory_for of_settings failed seen memory lacks before)
+      subst (λ (r : Refused). RefusesIn r.in_second finds (Check form) choice seen r.fault (r.line, r.column) r.hint) (sym same) (no_memory_for of_settings failed seen memory lacks before)
   check_refuses of_settings refused failed seen source (inl (same, inr (n, P, reading))) lacks before =
-      subst (λ (r : Refused). RefusesIn r.in_second finds (Check form) choice seen r.fault (r.line, r.column)) (sym same) (check_lacks n P of_settings failed seen source reading lacks before)
-  check_refuses of_settings refused failed seen source (inr (other, first, why, place)) lacks before =
-      subst (λ (b : Bool). RefusesIn b finds (Check form) choice seen refused.fault (refused.line, refused.column)) (sym first)
-      (script_refused finds (Check form) choice bytes second (asked_language choice) refused.fault (refused.line, refused.column) failed seen source why place before
+      subst (λ (r : Refused). RefusesIn r.in_second finds (Check form) choice seen r.fault (r.line, r.column) r.hint) (sym same) (check_lacks n P of_settings failed seen source reading lacks before)
+  check_refuses of_settings refused failed seen source (inr (other, first, why, place, hinted)) lacks before =
+      subst (λ (b : Bool). RefusesIn b finds (Check form) choice seen refused.fault (refused.line, refused.column) refused.hint) (sym first)
+      (script_refused finds (Check form) choice bytes second (asked_language choice) refused.fault (refused.line, refused.column) refused.hint failed seen source why place hinted before
       (inr (no_settings of_settings failed seen lacks other before, refl)))
 
 -- ---- `same`
@@ -229,21 +236,21 @@ module _ (finds : View → List Report) (form : ReportForm) (choice : LanguageCh
 module _ (finds : View → List Report) (choice : LanguageChoice) (bytes : List ℕ) (second : Option (List ℕ)) where
   -- what `same` refuses behind a script
   same_refused : (n : SyntaxTree) (P : List Pair) (refused : Refused) (failed : Bool) (seen : Seen) → IsSource bytes → IsReading (asked_language choice) bytes n P
-      → AnswersSame (asked_language choice) n second (Err refused) failed → IsBefore bytes second failed seen → RefusesIn refused.in_second finds Same choice seen refused.fault (refused.line, refused.column)
+      → AnswersSame (asked_language choice) n second (Err refused) failed → IsBefore bytes second failed seen → RefusesIn refused.in_second finds Same choice seen refused.fault (refused.line, refused.column) refused.hint
   unfolding both_read script_read
   same_refused n P refused failed seen source reading (inl answers) before =
-      subst (λ (r : Refused). RefusesIn r.in_second finds Same choice seen r.fault (r.line, r.column)) (sym answers.1)
-      (before.writer, before.kept, inr (before.reader, before.of_failed ∙ answers.0, refl, script_read (asked_language choice) seen.given bytes n P before.read source reading), refl)
+      subst (λ (r : Refused). RefusesIn r.in_second finds Same choice seen r.fault (r.line, r.column) r.hint) (sym answers.1)
+      (before.writer, before.kept, inr (before.reader, before.of_failed ∙ answers.0, refl, script_read (asked_language choice) seen.given bytes n P before.read source reading), (refl, refl))
   same_refused n P refused failed seen source reading (inr (well, inl memory)) before =
-      subst (λ (r : Refused). RefusesIn r.in_second finds Same choice seen r.fault (r.line, r.column)) (sym memory)
-      (inl (none_failed finds Same choice bytes second failed seen before well), before.kept, refl)
+      subst (λ (r : Refused). RefusesIn r.in_second finds Same choice seen r.fault (r.line, r.column) r.hint) (sym memory)
+      (inl (none_failed finds Same choice bytes second failed seen before well), before.kept, (refl, refl))
   same_refused n P refused failed seen source reading (inr (well, inr other)) before =
-      subst (λ (b : Bool). RefusesIn b finds Same choice seen refused.fault (refused.line, refused.column)) (sym other.2.0) (
+      subst (λ (b : Bool). RefusesIn b finds Same choice seen refused.fault (refused.line, refused.column) refused.hint) (sym other.2.0) (
         refl,
         other.2.1,
         (before.reader, before.of_failed ∙ well, before.writer),
         before.kept,
-        (both_read finds Same choice bytes second (asked_language choice) seen n P failed other.0 source reading before other.1, other.2.2, other.2.3),
+        (both_read finds Same choice bytes second (asked_language choice) seen n P failed other.0 source reading before other.1, other.2.2, other.2.3, other.2.4),
       )
 
   -- what it answers

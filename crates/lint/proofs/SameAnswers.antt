@@ -3,7 +3,9 @@ use Rattle.std.proofs.Common.{◌≡◌, ◌≢◌, ◌∙◌, ℕ, List, Bool, 
 use Rattle.source_text.specs.Source.{IsRefusal, max_bytes}
 use Rattle.source_text.specs.declared.fault.Fault.{Fault}
 use Rattle.source_text.specs.declared.fault.Fault.TheVariants.{NotUtf8, TooLong, OutOfMemory, ReadFailed, Usage}
-use Rattle.commands.specs.Refused.{place_of}
+use Rattle.commands.specs.declared.hint.Hint.{Hint}
+use Rattle.commands.specs.declared.hint.Hint.TheVariants.{Nothing}
+use Rattle.commands.specs.Refused.{at_no_place, place_of}
 use Rattle.commands.specs.WholeTexts.{ReadsUpTo}
 use Rattle.commands.specs.declared.command.Command.TheVariants.{Same}
 use Rattle.commands.specs.declared.refused.Refused.{Refused}
@@ -11,15 +13,17 @@ use Rattle.language.specs.declared.Language.{Language}
 use Rattle.tree.specs.Tree.{Tree}
 use Rattle.lint.specs.ReadScripts.{RefusesReading}
 use Rattle.lint.specs.Outputs.{IsSecond}
+use Rattle.lint.specs.Hints.{IsHint}
 use Rattle.lint.specs.Run.{IsSource, RefusesText}
 use Rattle.lint.specs.Steps.{AnswersSame, IsOfOther, RefusesAsSecond, RefusesOther}
 
 -- ---- the text of the second file
 
--- bytes that are no source text are refused as such, at no place
-pub no_source : (language : Language) (bytes : List ℕ) (fault : Fault) → IsRefusal bytes fault → RefusesText language bytes fault × ((0, 0) ≡ place_of bytes fault)
-no_source language bytes (NotUtf8 at) why = (why, refl)
-no_source language bytes TooLong why = (why, refl)
+-- bytes that are no source text are refused as such, at no place and without a hint
+pub no_source : (language : Language) (bytes : List ℕ) (fault : Fault) → IsRefusal bytes fault
+    → RefusesText language bytes fault × ((0, 0) ≡ place_of bytes fault) × IsHint language bytes fault Nothing
+no_source language bytes (NotUtf8 at) why = (why, refl, refl)
+no_source language bytes TooLong why = (why, refl, refl)
 no_source language bytes _ why = absurd why
 
 -- source text that is no script is refused as such
@@ -29,10 +33,17 @@ no_script language bytes TooLong source why = absurd why
 no_script language bytes _ source why = (source, why)
 
 -- and so as the text of the second script
-pub other_refused : (language : Language) (bytes : List ℕ) (fault : Fault) (first refused : Refused) → IsOfOther first refused → first.fault ≡ fault → RefusesText language bytes fault → (first.line, first.column) ≡ place_of bytes fault → RefusesOther language bytes refused
-other_refused language bytes fault first refused (inl memory) same why place = inl memory.1
-other_refused language bytes fault first refused (inr other) same why place =
-    inr (subst (RefusesAsSecond language bytes) (sym other.1) (refl, other.0, subst (RefusesText language bytes) (sym same) why, place ∙ ap (place_of bytes) (sym same)))
+pub other_refused : (language : Language) (bytes : List ℕ) (fault : Fault) (first refused : Refused) → IsOfOther first refused → first.fault ≡ fault → RefusesText language bytes fault → (first.line, first.column) ≡ place_of bytes fault
+    → IsHint language bytes fault first.hint → RefusesOther language bytes refused
+other_refused language bytes fault first refused (inl memory) same why place hinted = inl memory.1
+other_refused language bytes fault first refused (inr other) same why place hinted =
+    inr (subst (RefusesAsSecond language bytes) (sym other.1) (
+      refl,
+      other.0,
+      subst (RefusesText language bytes) (sym same) why,
+      place ∙ ap (place_of bytes) (sym same),
+      subst (λ (f : Fault). IsHint language bytes f first.hint) (sym same) hinted,
+    ))
 
 -- what it is refused for has words of its own
 pub other_told : (language : Language) (bytes : List ℕ) (refused : Refused) → RefusesOther language bytes refused → refused.fault ≢ Usage
@@ -46,7 +57,7 @@ other_told language bytes refused (inr other) usage = absurd (subst (RefusesText
 
 -- it can't be read
 pub unread : (language : Language) (n : Tree) (given : Option (List ℕ)) (fault : Fault) (failed : Bool) (refused : Refused) → ReadsUpTo max_bytes given (Err fault) failed
-    → refused ≡ record { fault = fault; in_second = false; line = 0; column = 0 } → AnswersSame language n given (Err refused) failed
+    → refused ≡ at_no_place fault → AnswersSame language n given (Err refused) failed
 unread language n given ReadFailed failed refused read is = inl (read, is)
 unread language n given OutOfMemory failed refused read is = inr (read, inl is)
 unread language n given _ failed refused read is = absurd read

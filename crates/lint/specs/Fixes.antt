@@ -9,7 +9,7 @@ use Rattle.early_errors.specs.Accepted.{Accepted}
 use Rattle.lint.specs.ReadScripts.{FewestInAny, IsOnly}
 
 -- The text is accepted in a language with a tree whose fixed text this is, and derives no other there. The fixed text is accepted there with the same tree,
--- places aside; no text of any language that derives that tree has fewer grouping pairs; the fixed text derives no other tree either, and whatever it derives
+-- places aside; no text of any language that derives a tree with the same items has fewer grouping pairs; the fixed text derives no other tree either, and whatever it derives
 -- has the same fixed text.
 pub record Fixes (language : Language) (text fixed : List ℕ) : Type 0 where
   pub tree : Tree

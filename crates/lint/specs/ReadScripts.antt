@@ -10,6 +10,7 @@ use Rattle.tree.specs.Tree.{SameTree, Tree}
 use Rattle.language.specs.declared.Language.{Language}
 use Rattle.language.specs.Claims.{short_bytes}
 use Rattle.language.specs.Languages.{DerivesIn}
+use Rattle.language_laws.specs.Laws.{SameItems}
 use Rattle.recursive_descent.specs.Limits.{WithinLimitsIn}
 use Rattle.early_errors.specs.Accepted.{Accepted}
 use Rattle.early_errors.specs.Early.{errors, least_error}
@@ -58,7 +59,7 @@ pub record IsScript (n : Tree) (P : List Pair) : Type 0 where
   pub short : length text ≤ max_bytes
   pub derived : DerivesIn language text n P
 
--- some text of a language derives the tree, places aside, with this number of pairs, and none of any language derives it with fewer
+-- some text of a language derives the tree, places aside, with this number of pairs, and none of any language derives one with the same items with fewer
 pub record FewestInAny (n : Tree) (count : ℕ) : Type 0 where
   pub attained : (language : Language) × (text : List ℕ) × (m : Tree) × (P : List Pair) × SameTree m n × DerivesIn language text m P × (length P ≡ count)
-  pub least : (language : Language) (text : List ℕ) (m : Tree) (P : List Pair) → SameTree m n → DerivesIn language text m P → count ≤ length P
+  pub least : (language : Language) (text : List ℕ) (m : Tree) (P : List Pair) → SameItems m n → DerivesIn language text m P → count ≤ length P

@@ -10,6 +10,8 @@ use Rattle.commands.specs.declared.command.Command.{Command}
 use Rattle.commands.specs.declared.command.Command.TheVariants.{Check, Same}
 use Rattle.commands.specs.declared.command.ReportForm.{ReportForm}
 use Rattle.commands.specs.declared.language_choice.LanguageChoice.{LanguageChoice}
+use Rattle.commands.specs.declared.hint.Hint.{Hint}
+use Rattle.commands.specs.declared.hint.Hint.TheVariants.{Nothing}
 use Rattle.commands.specs.declared.refused.Refused.{Refused}
 use Rattle.commands.specs.Refused.{place_of}
 use Rattle.language.specs.declared.Language.{Language}
@@ -19,6 +21,7 @@ use Rattle.rules.specs.Reports.{Report}
 use Rattle.rules.specs.Rules.{View}
 use Rattle.lint.specs.Languages.{asked_language}
 use Rattle.lint.specs.ReadScripts.{IsReading, RefusesReading}
+use Rattle.lint.specs.Hints.{IsHint}
 use Rattle.lint.specs.Outputs.{second_limit, IsLanguage, IsSecond, IsOutput, CommandRefuses, RefusesSettings}
 
 -- the bytes are source text: UTF-8, and not too long
@@ -126,36 +129,43 @@ IsTried command choice seen language =
 abbrev pub RefusesSource : Seen → Fault → Type 0
 RefusesSource seen fault = (text : List ℕ) × IsGiven seen.given text × IsRefusal text fault
 
--- they are source text that is refused in the language in which it is read, at this place
-abbrev pub RefusesFirst : Command → LanguageChoice → Seen → Fault → ℕ × ℕ → Type 0
-RefusesFirst command choice seen fault place =
-    (text : List ℕ) × IsGiven seen.given text × IsSource text × ((language : Language) × IsTried command choice seen language × RefusesReading language text fault) × (place ≡ place_of text fault)
+-- they are source text that is refused in the language in which it is read, at this place and with this hint
+abbrev pub RefusesFirst : Command → LanguageChoice → Seen → Fault → ℕ × ℕ → Hint → Type 0
+RefusesFirst command choice seen fault place hint =
+    (text : List ℕ) × IsGiven seen.given text × IsSource text
+    × ((language : Language) × IsTried command choice seen language × RefusesReading language text fault × IsHint language text fault hint)
+    × (place ≡ place_of text fault)
 
--- a refusal by its fault, with the line and the column of its place
-abbrev pub Refuses : (View → List Report) → Command → LanguageChoice → Seen → Fault → ℕ × ℕ → Type 0
-Refuses finds command choice seen ReadFailed place = (seen.writer_failed ≡ false) × NothingWritten seen × FailsToRead command choice seen × (place ≡ (0, 0))
-Refuses finds command choice seen WriteFailed place =
-    (seen.reader_failed ≡ false) × (seen.second_failed ≡ false) × (seen.writer_failed ≡ true) × BeginsOutput finds command choice seen × (place ≡ (0, 0))
-Refuses finds command choice seen OutOfMemory place = (NoneFailed seen ⊎ SettingsUnread command seen) × NothingWritten seen × (place ≡ (0, 0))
-Refuses finds command choice seen BadSettings place = NoneFailed seen × NothingWritten seen × RefusesSettingsAfter command choice seen place
-Refuses finds command choice seen (BadTable row why) place = NoneFailed seen × NothingWritten seen × RefusesAfter command choice seen (BadTable row why) × (place ≡ (0, 0))
-Refuses finds command choice seen UnwrapFailed place = NoneFailed seen × NothingWritten seen × RefusesAfter command choice seen UnwrapFailed × (place ≡ (0, 0))
-Refuses finds command choice seen (NotUtf8 at) place = NoneFailed seen × NothingWritten seen × RefusesSource seen (NotUtf8 at) × (place ≡ (0, 0))
-Refuses finds command choice seen TooLong place = NoneFailed seen × NothingWritten seen × (RefusesSource seen TooLong ⊎ RefusesAfter command choice seen TooLong) × (place ≡ (0, 0))
-Refuses finds command choice seen fault place = NothingWritten seen × RefusesFirst command choice seen fault place
+-- no place is named, and there is no hint
+abbrev pub IsBare : ℕ × ℕ → Hint → Type 0
+IsBare place hint = (place ≡ (0, 0)) × (hint ≡ Nothing)
 
--- `same` refuses its second script: the text of the second file is refused in the language of the first, at this place
-abbrev pub RefusesSecond : Command → LanguageChoice → Seen → Fault → ℕ × ℕ → Type 0
-RefusesSecond command choice seen fault place =
+-- a refusal by its fault, with the line and the column of its place, and its hint
+abbrev pub Refuses : (View → List Report) → Command → LanguageChoice → Seen → Fault → ℕ × ℕ → Hint → Type 0
+Refuses finds command choice seen ReadFailed place hint = (seen.writer_failed ≡ false) × NothingWritten seen × FailsToRead command choice seen × IsBare place hint
+Refuses finds command choice seen WriteFailed place hint =
+    (seen.reader_failed ≡ false) × (seen.second_failed ≡ false) × (seen.writer_failed ≡ true) × BeginsOutput finds command choice seen × IsBare place hint
+Refuses finds command choice seen OutOfMemory place hint = (NoneFailed seen ⊎ SettingsUnread command seen) × NothingWritten seen × IsBare place hint
+Refuses finds command choice seen BadSettings place hint = NoneFailed seen × NothingWritten seen × RefusesSettingsAfter command choice seen place × (hint ≡ Nothing)
+Refuses finds command choice seen (BadTable row why) place hint = NoneFailed seen × NothingWritten seen × RefusesAfter command choice seen (BadTable row why) × IsBare place hint
+Refuses finds command choice seen UnwrapFailed place hint = NoneFailed seen × NothingWritten seen × RefusesAfter command choice seen UnwrapFailed × IsBare place hint
+Refuses finds command choice seen (NotUtf8 at) place hint = NoneFailed seen × NothingWritten seen × RefusesSource seen (NotUtf8 at) × IsBare place hint
+Refuses finds command choice seen TooLong place hint = NoneFailed seen × NothingWritten seen × (RefusesSource seen TooLong ⊎ RefusesAfter command choice seen TooLong) × IsBare place hint
+Refuses finds command choice seen fault place hint = NothingWritten seen × RefusesFirst command choice seen fault place hint
+
+-- `same` refuses its second script: the text of the second file is refused in the language of the first, at this place and with this hint
+abbrev pub RefusesSecond : Command → LanguageChoice → Seen → Fault → ℕ × ℕ → Hint → Type 0
+RefusesSecond command choice seen fault place hint =
     (command ≡ Same) × (fault ≢ OutOfMemory) × NoneFailed seen × NothingWritten seen
-    × ((read : ReadsBoth (asked_language choice) command seen.given seen.second) × RefusesText (asked_language choice) read.second fault × (place ≡ place_of read.second fault))
+    × ((read : ReadsBoth (asked_language choice) command seen.given seen.second)
+    × RefusesText (asked_language choice) read.second fault × (place ≡ place_of read.second fault) × IsHint (asked_language choice) read.second fault hint)
 
 -- a refusal, of the second script or not
-abbrev pub RefusesIn : Bool → (View → List Report) → Command → LanguageChoice → Seen → Fault → ℕ × ℕ → Type 0
-RefusesIn true finds command choice seen fault place = RefusesSecond command choice seen fault place
-RefusesIn false finds command choice seen fault place = Refuses finds command choice seen fault place
+abbrev pub RefusesIn : Bool → (View → List Report) → Command → LanguageChoice → Seen → Fault → ℕ × ℕ → Hint → Type 0
+RefusesIn true finds command choice seen fault place hint = RefusesSecond command choice seen fault place hint
+RefusesIn false finds command choice seen fault place hint = Refuses finds command choice seen fault place hint
 
 -- a run: the whole output and its status, or a refusal
 abbrev pub Runs : (View → List Report) → Command → LanguageChoice → Seen → Result ℕ Refused → Type 0
 Runs finds command choice seen (Ok status) = NoneFailed seen × WritesOutput finds command choice seen status
-Runs finds command choice seen (Err refused) = RefusesIn refused.in_second finds command choice seen refused.fault (refused.line, refused.column)
+Runs finds command choice seen (Err refused) = RefusesIn refused.in_second finds command choice seen refused.fault (refused.line, refused.column) refused.hint

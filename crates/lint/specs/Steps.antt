@@ -11,7 +11,8 @@ use Rattle.commands.specs.declared.command.ReportForm.{ReportForm}
 use Rattle.commands.specs.declared.command.ReportForm.TheVariants.{Places, Spans}
 use Rattle.commands.specs.declared.language_choice.LanguageChoice.{LanguageChoice}
 use Rattle.commands.specs.declared.refused.Refused.{Refused}
-use Rattle.commands.specs.Refused.{no_memory, place_of}
+use Rattle.commands.specs.declared.hint.Hint.TheVariants.{Nothing}
+use Rattle.commands.specs.Refused.{at_no_place, no_memory, place_of}
 use Rattle.tree.specs.Tree.{Tree as SyntaxTree}
 use Rattle.tree.specs.declared.kind.Pair.{Pair}
 use Rattle.rules.specs.Reports.{Report}
@@ -31,6 +32,7 @@ use Rattle.lint.specs.declared.check_command.Checked.{Checked}
 use Rattle.lint.specs.Languages.{asked_language, language_of}
 use Rattle.lint.specs.ReadScripts.{IsReading, IsScript, RefusesReading}
 use Rattle.lint.specs.Outputs.{Compares, Contradicts, second_limit, IsSecond, IsOutput, CommandRefuses, RefusesSettingsText, Reports}
+use Rattle.lint.specs.Hints.{IsHint}
 use Rattle.lint.specs.Run.{Seen, NothingWritten, HasOutput, RefusesIn, RefusesText}
 
 -- what an answer writes, and its status
@@ -55,7 +57,8 @@ IsWritable (Table parsed plan) = length plan.table.rows.items ≤ 16777216
 
 -- the refusal of settings for their text, at its place
 abbrev pub IsSettingsRefusal : List ℕ → Refused → Type 0
-IsSettingsRefusal bytes refused = (refused.fault ≡ BadSettings) × (refused.in_second ≡ false) × RefusesSettingsText bytes (refused.line, refused.column)
+IsSettingsRefusal bytes refused =
+    (refused.fault ≡ BadSettings) × (refused.in_second ≡ false) × (refused.hint ≡ Nothing) × RefusesSettingsText bytes (refused.line, refused.column)
 
 -- why bytes give no settings
 abbrev pub RefusesSettingsBy : List ℕ → Refused → Type 0
@@ -76,7 +79,7 @@ pub record ReportsLines (finds : View → List Report) (form : ReportForm) (lang
 -- why no settings are read, by what the second reader has to give
 abbrev pub LacksSettings : Option (List ℕ) → Refused → Bool → Type 0
 LacksSettings given refused failed =
-    ((failed ≡ true) × (refused ≡ record { fault = ReadFailed; in_second = false; line = 0; column = 0 }))
+    ((failed ≡ true) × (refused ≡ at_no_place ReadFailed))
     ⊎ ((failed ≡ false) × ((refused ≡ no_memory) ⊎ ((second : List ℕ) × IsSecond (Check Places) given second × IsSettingsRefusal second refused)))
 
 -- settings, from what the second reader has to give
@@ -88,7 +91,7 @@ ReadsSettings given (Err refused) failed = LacksSettings given refused failed
 abbrev pub LacksLanguage : LanguageChoice → Option (List ℕ) → Refused → Bool → Type 0
 LacksLanguage choice given refused failed =
     LacksSettings given refused failed
-    ⊎ ((failed ≡ false) × (refused ≡ record { fault = BadSettings; in_second = false; line = 0; column = 0 }) × ((second : List ℕ) × IsSecond (Check Places) given second × Contradicts choice second))
+    ⊎ ((failed ≡ false) × (refused ≡ at_no_place BadSettings) × ((second : List ℕ) × IsSecond (Check Places) given second × Contradicts choice second))
 
 -- settings, and the language that a call asks for and that they leave
 abbrev pub ReadsLanguage : LanguageChoice → Option (List ℕ) → Result Checked Refused → Bool → Type 0
@@ -101,7 +104,8 @@ ReadsLanguage choice given (Err refused) failed = LacksLanguage choice given ref
 abbrev pub RefusesChecked : LanguageChoice → List ℕ → Refused → Refused → Type 0
 RefusesChecked choice text of_settings refused =
     ((refused ≡ of_settings) × ((of_settings.fault ≡ OutOfMemory) ⊎ ((n : SyntaxTree) × (P : List Pair) × IsReading (asked_language choice) text n P)))
-    ⊎ ((of_settings.fault ≢ OutOfMemory) × (refused.in_second ≡ false) × RefusesReading (asked_language choice) text refused.fault × ((refused.line, refused.column) ≡ place_of text refused.fault))
+    ⊎ ((of_settings.fault ≢ OutOfMemory) × (refused.in_second ≡ false) × RefusesReading (asked_language choice) text refused.fault
+    × ((refused.line, refused.column) ≡ place_of text refused.fault) × IsHint (asked_language choice) text refused.fault refused.hint)
 
 -- a table, from what the second reader has to give
 abbrev pub ReadsTable : Option (List ℕ) → Result CostTable Fault → Bool → Type 0
@@ -127,12 +131,13 @@ AnswersAlone language command text n P result = (finds : View → List Report) (
 abbrev pub IsOfOther : Refused → Refused → Type 0
 IsOfOther refused result =
     ((refused.fault ≡ OutOfMemory) × (result ≡ no_memory))
-    ⊎ ((refused.fault ≢ OutOfMemory) × (result ≡ record { fault = refused.fault; in_second = true; line = refused.line; column = refused.column }))
+    ⊎ ((refused.fault ≢ OutOfMemory) × (result ≡ record { fault = refused.fault; in_second = true; line = refused.line; column = refused.column; hint = refused.hint }))
 
 -- these bytes are refused as the text of the second script, of a language
 abbrev pub RefusesAsSecond : Language → List ℕ → Refused → Type 0
 RefusesAsSecond language bytes refused =
-    (refused.in_second ≡ true) × (refused.fault ≢ OutOfMemory) × RefusesText language bytes refused.fault × ((refused.line, refused.column) ≡ place_of bytes refused.fault)
+    (refused.in_second ≡ true) × (refused.fault ≢ OutOfMemory) × RefusesText language bytes refused.fault
+    × ((refused.line, refused.column) ≡ place_of bytes refused.fault) × IsHint language bytes refused.fault refused.hint
 
 -- why the bytes of the second file are no script to compare with
 abbrev pub RefusesOther : Language → List ℕ → Refused → Type 0
@@ -142,7 +147,7 @@ RefusesOther language bytes refused = (refused ≡ no_memory) ⊎ RefusesAsSecon
 abbrev pub AnswersSame : Language → SyntaxTree → Option (List ℕ) → Result Answer Refused → Bool → Type 0
 AnswersSame language n given (Ok answer) failed = (failed ≡ false) × ((second : List ℕ) × IsSecond Same given second × Compares language n second (status_of answer) × (output_of answer ≡ []))
 AnswersSame language n given (Err refused) failed =
-    ((failed ≡ true) × (refused ≡ record { fault = ReadFailed; in_second = false; line = 0; column = 0 }))
+    ((failed ≡ true) × (refused ≡ at_no_place ReadFailed))
     ⊎ ((failed ≡ false) × ((refused ≡ no_memory) ⊎ ((second : List ℕ) × IsSecond Same given second × RefusesAsSecond language second refused)))
 
 -- bytes that were read up to one byte past the longest text
@@ -163,4 +168,5 @@ abbrev pub AnswersBytes : (View → List Report) → Command → LanguageChoice 
 AnswersBytes finds command choice bytes second (Ok answer) failed =
     (failed ≡ false) × ((given : Option (List ℕ)) → IsRead given bytes → HasOutput finds command choice given second (output_of answer) (status_of answer))
 AnswersBytes finds command choice bytes second (Err refused) failed =
-    (seen : Seen) → IsBefore bytes second failed seen → RefusesIn refused.in_second finds command choice seen refused.fault (refused.line, refused.column)
+    (seen : Seen) → IsBefore bytes second failed seen
+    → RefusesIn refused.in_second finds command choice seen refused.fault (refused.line, refused.column) refused.hint

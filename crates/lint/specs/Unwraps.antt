@@ -15,7 +15,7 @@ use Rattle.unwrapping.specs.Keeps.{Keeps}
 use Rattle.lint.specs.ReadScripts.{FewestInAny, IsOnly, RefusesReading}
 
 -- The text is accepted in a language with a tree, and derives no other there. So is the unwrapped text, with the same tree, places aside; no text of any
--- language that derives that tree has fewer grouping pairs. It keeps the tokens of the text but for grouping parentheses, each with the comments before it, and the
+-- language that derives a tree with the same items has fewer grouping pairs. It keeps the tokens of the text but for grouping parentheses, each with the comments before it, and the
 -- bytes between tokens where no parenthesis goes or comes. Where the text has no more pairs, the unwrapped text is the text itself.
 pub record Unwraps (language : Language) (text unwrapped : List ℕ) : Type 0 where
   pub tree : Tree

@@ -105,11 +105,12 @@ fn refusal(
     requires source { IsSource source.now }
     ensures { RefusesChecked choice source.now of_settings result }
 {
+    let language = asked_language(choice);
     match of_settings.fault {
         Fault::OutOfMemory => of_settings,
-        _ => match read_script(alloc, texts, source, asked_language(choice)) {
+        _ => match read_script(alloc, texts, source, language) {
             Ok(_) => of_settings,
-            Err(fault) => refused_at(source, fault),
+            Err(fault) => refused_at(alloc, source, language, fault),
         },
     }
 }
@@ -213,7 +214,7 @@ pub(crate) fn check<'s, S: Feed>(
     };
     let parsed = match read_script(alloc, texts, source, language) {
         Ok(parsed) => parsed,
-        Err(fault) => return Err(refused_at(source, fault)),
+        Err(fault) => return Err(refused_at(alloc, source, language, fault)),
     };
     match report(alloc, form, names, rules, source, &parsed, &settings) {
         Ok(answer) => Ok(answer),

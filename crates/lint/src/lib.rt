@@ -13,6 +13,7 @@ mod check_command;
 mod command_answers;
 mod cost_commands;
 mod fix_command;
+mod hints;
 mod languages;
 mod refusals;
 pub mod run;

@@ -1,32 +1,45 @@
-//! Refusals of texts, with the line and the column of their places.
+//! Refusals of texts, with the line and the column of their places and their hints.
 
 ghost use Rattle.std.specs.Prelude.{◌≡◌, ◌≤◌, false, length};
 ghost use Rattle.std.specs.Str.{IsUtf8};
 ghost use Rattle.source_text.specs.Lines.{line_column};
 ghost use Rattle.source_text.specs.Source.{IsRefusal};
 ghost use Rattle.commands.specs.Refused.{HasPlace, place_of};
+ghost use Rattle.commands.specs.declared.hint.Hint.TheVariants.{Nothing};
 ghost use Rattle.rules.specs.Refusals.{RefusesToml};
+ghost use Rattle.lint.specs.Hints.{IsHint};
 ghost use Rattle.lint.specs.Steps.{IsOfOther, IsSettingsRefusal, RefusesSettingsBy};
 
-use commands::Refused;
+use crate::hints::later_hint;
+use commands::{Hint, Refused};
+use language::Language;
 use rules::SettingsError;
 use source_text::{Fault, MAX_BYTES, Source};
+use std::alloc::Global;
 
-/// A refusal of a text, with the line and the column of its place.
-pub(crate) fn refused_at(source: &Source<'_>, fault: Fault) -> Refused
+/// A refusal of a text that was read in a language, with the line and the column of its place and its hint.
+pub(crate) fn refused_at(
+    alloc: Global,
+    source: &Source<'_>,
+    language: Language,
+    fault: Fault,
+) -> Refused
     requires { HasPlace source.now fault }
     ensures fault { result.fault ≡ fault }
     ensures first { result.in_second ≡ false }
     ensures place { (result.line, result.column) ≡ place_of source.now fault }
+    ensures hint { IsHint language source.now fault result.hint }
 {
     match fault {
         Fault::Syntax(at) | Fault::Early(_, at) => {
             let (line, column) = source.line_column(at);
+            let hint = later_hint(alloc, source, language);
             Refused {
                 fault,
                 in_second: false,
                 line,
                 column,
+                hint,
             }
         }
         _ => Refused::at_no_place(fault),
@@ -48,7 +61,7 @@ pub(crate) fn of_second(refused: Refused) -> Refused
 
 /// The refusal of settings at a line and a column.
 fn bad_settings_at(place: (u32, u32)) -> Refused
-    ensures { result ≡ record { fault = Fault.BadSettings; in_second = false; line = place.0; column = place.1 } }
+    ensures { result ≡ record { fault = Fault.BadSettings; in_second = false; line = place.0; column = place.1; hint = Nothing } }
 {
     let (line, column) = place;
     Refused {
@@ -56,6 +69,7 @@ fn bad_settings_at(place: (u32, u32)) -> Refused
         in_second: false,
         line,
         column,
+        hint: Hint::Nothing,
     }
 }
 

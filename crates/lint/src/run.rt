@@ -41,7 +41,7 @@ fn answer_script<'s, S: Feed>(
 {
     let parsed = match read_script(alloc, texts, source, language) {
         Ok(parsed) => parsed,
-        Err(fault) => return Err(refused_at(source, fault)),
+        Err(fault) => return Err(refused_at(alloc, source, language, fault)),
     };
     match command {
         Command::Same => same(alloc, &parsed, language, second),

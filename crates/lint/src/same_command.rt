@@ -38,7 +38,7 @@ fn read_other<'b>(
     };
     match read_script(alloc, texts, &source, language) {
         Ok(other) => Ok(other),
-        Err(fault) => Err(of_second(refused_at(&source, fault))),
+        Err(fault) => Err(of_second(refused_at(alloc, &source, language, fault))),
     }
 }
 

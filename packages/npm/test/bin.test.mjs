@@ -69,7 +69,8 @@ test('each command takes a language, and refuses words that make no sense', () =
     assert.deepEqual(ran('jslint', ['unwrap', path('m.mjs'), '--module', '--edition', '2022']), [0, 'export let a = 1;\n', '']);
     assert.deepEqual(ran('jslint', ['same', '--module', path('m.mjs'), path('m.mjs')]), [0, '', '']);
     for (const words of [['--edition', '2022'], ['--edition=2022']]) assert.deepEqual(ran('jslint', ['unwrap', ...words, path('a.js')]), [0, 'async () => await 1;\n', '']);
-    assert.deepEqual(ran('jslint', ['fix', '--edition', '2022', path('m.mjs')]), [2, '', 'jslint: syntax error at 1:1\n']);
+    assert.deepEqual(ran('jslint', ['fix', '--edition', '2022', path('m.mjs')]), [2, '', 'jslint: syntax error at 1:1 (perhaps: --module)\n']);
+    assert.deepEqual(ran('jslint', ['fix', path('a.js')]), [2, '', 'jslint: syntax error at 1:10 (perhaps: --edition 2022)\n']);
     for (const words of [['--edition', '2021'], ['--edition=']]) assert.deepEqual(ran('jslint', ['fix', ...words, path('a.js')]), [2, '', 'jslint: --edition is 2020 or 2022\n']);
     assert.deepEqual(ran('jslint', ['check', '--module', '--edition=2020', path('m.mjs')]), [2, '', "jslint: --module doesn't go with --edition 2020\n"]);
   });

@@ -77,6 +77,10 @@ test('refusals have codes, and places where they speak of one', () => {
   assert.deepEqual(told(refusal(() => unwrap('é; b c')), 'code', 'line', 'column', 'status', 'command'), ['syntax', 1, 6, 2, 'unwrap']);
   assert.deepEqual(told(refusal(() => tree('let a; let a;')), 'code', 'number', 'line', 'column'), ['early', 3, 1, 12]);
   assert.deepEqual(told(refusal(() => unwrap('let a; (let_); let a;')), 'code', 'number', 'line', 'column'), ['early', 3, 1, 20]);
+  assert.deepEqual(told(refusal(() => fix('export {};')), 'message', 'code', 'line', 'column', 'hint'), ['syntax error at 1:1', 'syntax', 1, 1, 'module']);
+  assert.deepEqual(told(refusal(() => tree('async () => 1;')), 'message', 'hint'), ['syntax error at 1:10', '2022']);
+  assert.equal(refusal(() => fix('a b')).hint, undefined);
+  assert.deepEqual(told(refusal(() => same('a', 'export {};')), 'message', 'inSecond', 'hint'), ['second file: syntax error at 1:1', true, 'module']);
   assert.deepEqual(told(refusal(() => fix(Uint8Array.of(0x61, 0xff))), 'code', 'byte'), ['utf8', 1]);
   assert.deepEqual(told(refusal(() => check('a', { settings: '\nx' })), 'code', 'line', 'column'), ['settings', 2, 2]);
   assert.deepEqual(told(refusal(() => check('a', { settings: 'x = 1' })), 'code', 'line', 'column'), ['settings', undefined, undefined]);

@@ -103,7 +103,8 @@ ProgramAnswer program_answer(const string &text, Language language) {
     if (early == string::npos || at == string::npos) return out;
     out.verdict = Verdict::EarlyError;
     out.error_number = atoi(tree.text.c_str() + early + strlen("early error E"));
-    out.place = tree.text.substr(at + 4, tree.text.find_last_not_of('\n') - at - 3);
+    // (a hint may stand behind the place)
+    out.place = tree.text.substr(at + 4, tree.text.find_first_of(" \n", at + 4) - at - 4);
     return out;
 }
 

@@ -1,7 +1,7 @@
 use Rattle.std.proofs.Common.{inr, refl}
 use Rattle.commands.specs.Refusal.{refusal_line}
 use Rattle.source_text.specs.declared.fault.Fault.TheVariants.{WriteFailed}
-use Rattle.jslint.specs.Program.{at_no_place}
+use Rattle.commands.specs.Refused.{at_no_place}
 use Rattle.jslint.proofs.HelpAnswers.{asked_for}
 use Rattle.jslint.proofs.run_arguments.Goals as goal
 

@@ -7,7 +7,7 @@ use Rattle.lint.proofs.run.answer_script.Goals as goal
 pub returns-in-Err-clause-answer : goal.returns-in-Err-clause-answer
 returns-in-Err-clause-answer g c = λ finds choice own seen before.
     rw (c.refused_at.ensures.fault, c.refused_at.ensures.first)
-    (script_refused finds c.args.command choice c.args.source.now _ c.args.language c.in-Err.fault _ _ seen c.requires.source c.in-Err.ensures.refused c.refused_at.ensures.place before
+    (script_refused finds c.args.command choice c.args.source.now _ c.args.language c.in-Err.fault _ _ _ seen c.requires.source c.in-Err.ensures.refused c.refused_at.ensures.place c.refused_at.ensures.hint before
     (own_tried finds c.args.command choice c.args.source.now _ c.args.language _ seen c.requires.unchecked own before c.requires.ready))
 
 pub returns-in-Same-clause-answer : goal.returns-in-Same-clause-answer

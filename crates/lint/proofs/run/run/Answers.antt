@@ -23,4 +23,4 @@ pub returns-clause-answer : goal.returns-clause-answer
 returns-clause-answer g c =
     let read = subst (λ (bytes : List ℕ). IsRead (g.R.Feed.left c.args.file.now) bytes) (sym c.deref.ensures.value) c.in-Ok.ensures.0 in
     let has = c.in-Ok-answer_bytes.ensures.answer.1 (g.R.Feed.left c.args.file.now) read in
-    rw c.at_no_place-in-Err-write.ensures (c.in-Ok.ensures.1, c.in-Ok-answer_bytes.ensures.answer.0, c.in-Err-write.ensures.1, (output_of c.in-Ok-answer_bytes.answer, status_of c.in-Ok-answer_bytes.answer, has, c.in-Err-write.ensures.0), refl)
+    rw c.at_no_place-in-Err-write.ensures (c.in-Ok.ensures.1, c.in-Ok-answer_bytes.ensures.answer.0, c.in-Err-write.ensures.1, (output_of c.in-Ok-answer_bytes.answer, status_of c.in-Ok-answer_bytes.answer, has, c.in-Err-write.ensures.0), (refl, refl))

@@ -1,0 +1,14 @@
+//! What a refusal of a text says of later languages.
+
+/// Which later language takes a text that is refused in an earlier one.
+#[derive(Clone, Copy, Debug, PartialEq, Eq)]
+pub enum Hint {
+    /// None does, or the refusal speaks of no text that one might take.
+    Nothing,
+    /// Scripts of ECMAScript 2022 do.
+    Edition2022,
+    /// Modules of ECMAScript 2022 do, and no scripts of a later language.
+    Module,
+    /// Memory was refused while they were asked.
+    Unknown,
+}
