@@ -1,15 +1,10 @@
-"""The rules in a sentence each, and the pages that explain them."""
+"""The pages that explain the rules and the early errors."""
 import os
 import re
 
+from .rule_table import RULES
 from .streams import Wrong, shown
 
-RULES = {
-    'eqeqeq': 'Use === and !== instead of == and !=', 'no-debugger': 'No debugger statements', 'no-empty': 'No empty blocks, and no switch without cases',
-    'no-extra-parens': 'No parentheses that the script can do without', 'no-shadow': 'No name that hides one of an enclosing scope',
-    'no-undef': 'No names that nothing declares', 'no-unused-vars': 'No names that nothing reads', 'no-var': 'Use let or const instead of var',
-    'prefer-const': 'Use const instead of a let that never changes',
-}
 HERE = os.path.dirname(os.path.realpath(__file__))
 # The documents: where `make install` puts them, and where they are in the repository.
 PLACES = (f'{HERE}/../../doc/jslint/docs', f'{HERE}/../../docs')

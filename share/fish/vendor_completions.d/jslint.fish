@@ -27,7 +27,7 @@ complete -c jslint-files -n "not __fish_seen_subcommand_from $rewriting" -l colo
 complete -c jslint-files -n "not __fish_seen_subcommand_from $rewriting" -l ends -d 'Ends of reports in --format json'
 complete -c jslint-files -n "not __fish_seen_subcommand_from $rewriting" -l suppressions -d 'Comments turn reports off'
 complete -c jslint-files -n "not __fish_seen_subcommand_from $rewriting" -l max-warnings -x -d 'Status 0 up to so many reports'
-complete -c jslint-files -n "not __fish_seen_subcommand_from $rewriting" -l explain -x -a 'eqeqeq no-debugger no-empty no-extra-parens no-shadow no-undef no-unused-vars no-var prefer-const' -d 'Explain a rule or an early error'
+complete -c jslint-files -n "not __fish_seen_subcommand_from $rewriting" -l explain -x -a 'eqeqeq for-direction no-async-promise-executor no-case-declarations no-compare-neg-zero no-debugger no-empty no-empty-pattern no-empty-static-block no-extra-boolean-cast no-extra-parens no-extra-semi no-inner-declarations no-prototype-builtins no-setter-return no-shadow no-sparse-arrays no-undef no-unused-labels no-unused-vars no-useless-catch no-var prefer-const require-yield use-isnan valid-typeof' -d 'Explain a rule or an early error'
 complete -c jslint-files -n "__fish_seen_subcommand_from $rewriting" -l write -d 'Replace the scripts'
 complete -c jslint-files -n "__fish_seen_subcommand_from $rewriting" -l diff -d 'Show how the scripts would differ'
 complete -c jslint-files -n '__fish_seen_subcommand_from fix' -l drop-comments -d 'Replace scripts whose comments are lost, too'
