@@ -14,6 +14,7 @@ import subprocess
 import sys
 
 import rows
+from jslint_files.rule_table import RULES
 from recipes import is_well, same
 
 TOP = os.path.dirname(os.path.dirname(os.path.dirname(os.path.realpath(__file__))))
@@ -27,7 +28,7 @@ PACKED = {
     *(f'lib/{it}.mjs' for it in (
         'actions', 'beside', 'casts', 'changes', 'checking', 'connection', 'document', 'editor', 'edits', 'engine', 'frames', 'git', 'hinting', 'hints', 'ignore', 'jobs', 'languages', 'progress',
         'protocol', 'rewriting', 'server', 'settings', 'shown', 'suppressions', 'texts', 'thread', 'workspace')),
-    *(f'lib/{it}.md' for it in ('eqeqeq', 'no-debugger', 'no-empty', 'no-extra-parens', 'no-shadow', 'no-undef', 'no-unused-vars', 'no-var', 'prefer-const')),
+    *(f'lib/{it}.md' for it in RULES),
 }
 # Where the libraries are, or why there are none.
 PLACE, WHY = None, None

@@ -23,7 +23,7 @@ from recipes import RIGHT, TOP, WRONG, is_well, same
 
 sys.path.insert(0, f'{TOP}/tools')
 from jslint_files import checking, hints  # noqa: E402
-from jslint_files.rules import RULES  # noqa: E402
+from jslint_files.rule_table import RULES  # noqa: E402
 
 BUG, CLEAN, MODULE = 'debugger;\n', 'globalThis.a = 1;\n', 'export {};\n'
 FOUND_BUG = '1:1: no-debugger debugger statement\n'
