@@ -48,6 +48,30 @@ def wrong_names(rules, top):
     yield from (f'rules/{name}.toml: no definition of the crates is called {name}' for name, it in known.items() if name not in found and (has_all or it.on))
 
 
+def variants_of(top):
+    """The names of rules by their variants in the definitions."""
+    files = sorted(glob.glob(f'{top}/crates/*rules/specs/*.antt'))
+    return dict(it for path in files for it in re.findall(r'^called (\w+) = codes "([\w-]+)"', read(os.path.relpath(path, top), top), re.M))
+
+
+def wrong_sets(rules, top):
+    """Sets of the definitions that have other rules than the files say."""
+    path = 'crates/rules/specs/RuleNames.antt'
+    text, variants = read(path, top) or '', variants_of(top)
+    for name, wanted in (('nine_rules', {it.name for it in rules if it.on}), ('recommended_rules', {it.name for it in rules if it.eslint})):
+        listed = re.search(rf'^{name} =\n(.*?)\n    ∷ \[\]$', text, re.M | re.S)
+        found = {variants.get(it, it) for it in re.findall(r'(\w+)$', listed[1], re.M)} if listed else wanted
+        yield from (f'rules/{it}.toml: {name} of {path} says otherwise' for it in sorted(found ^ wanted))
+
+
+def wrong_model(rules, top):
+    """Names of rules that the model in tools/model lacks, or has too many."""
+    lists = re.findall(r'^const (?:OTHER_)?RULE_NAMES = \[(.*?)\];', read('tools/model/rules.js', top), re.M | re.S)
+    found, on = re.findall(r"'([\w-]+)'", ' '.join(lists)), {it.name for it in rules if it.on}
+    wanted = {it.name for it in rules} if len(lists) > 1 else on
+    yield from (f'tools/model/rules.js: {it} is missing in the lists of names, or too much' for it in sorted({*found} ^ wanted))
+
+
 def wrong_versions(rules, top):
     headings = re.findall(r'^## (\d+\.\d+\.\d+)\b', read('CHANGELOG.md', top) or '', re.M)
     yield from (f'rules/{it.name}.toml: CHANGELOG.md has no version {it.since}' for it in rules if it.since not in headings)
@@ -72,7 +96,7 @@ def wrong_numbers(_, top):
         yield from (f'{path}:{text.count(chr(10), 0, it.start()) + 1}: {" ".join(it[0].split())!r}: a number of rules, which no document says by hand' for it in COUNTED.finditer(text))
 
 
-CHECKS = (wrong_texts, wrong_pages, wrong_names, wrong_versions, wrong_options, wrong_numbers)
+CHECKS = (wrong_texts, wrong_pages, wrong_names, wrong_sets, wrong_model, wrong_versions, wrong_options, wrong_numbers)
 
 
 def faults(rules, top=TOP):

@@ -10,11 +10,17 @@ def listed(words):
     return f'{", ".join(most)} and {last}' if most else last
 
 
+def sets(rule):
+    """The sets of `extends` that have the rule, but for that of all."""
+    return [name for name, has in (('nine', rule.on), ('recommended', rule.eslint)) if has]
+
+
 def standing(rule):
     """Whether a rule is on without settings, since which version it is there, and where ESLint recommends it."""
-    how = 'On unless the settings turn it off' if rule.on else f'Off unless the settings turn it on: `rules.{rule.name} = true`'
+    by_set = f'`extends = "{"recommended" if rule.eslint else "all"}"`'
+    off = f'Off unless [the settings](README.md#a-settings-file) turn it on, by {by_set} or `rules.{rule.name} = true`'
     eslint = f' In `eslint:recommended` of ESLint {listed(map(str, rule.eslint))}.' if rule.eslint else ''
-    return f'{how}. There since {rule.since}.{eslint}'
+    return f'{"On unless the settings turn it off" if rule.on else off}. There since {rule.since}.{eslint}'
 
 
 def code(texts):
@@ -47,27 +53,20 @@ def table(columns, rows):
     return ''.join([line(columns), '|---' * len(columns) + '|\n', *map(line, rows)])
 
 
-def index_row(rule):
-    return [link(rule, ''), rule.summary, ', '.join(f'`{it.key}`' for it in rule.options), ', '.join(map(str, rule.eslint))]
-
-
 def index(rules):
-    """The tables of docs/rules/README.md."""
-    columns = ['Rule', 'Reports', 'Settings', '`eslint:recommended`']
-    on, off = ([it for it in rules if it.on is wish] for wish in (True, False))
-    told = [f'On unless the settings turn them off:\n\n{table(columns, map(index_row, on))}']
-    told += [f'Off unless the settings turn them on, as `rules.{off[0].name} = true`:\n\n{table(columns, map(index_row, off))}'] if off else []
-    return '\n'.join(told)
+    """The table of docs/rules/README.md."""
+    rows = [[link(it, ''), it.summary, ', '.join(f'`{each.key}`' for each in it.options), ', '.join(sets(it))] for it in rules]
+    return table(['Rule', 'Reports', 'Settings', 'Sets'], rows)
 
 
 def readme_table(rules):
     """The table of the README."""
-    rows = [[link(it, 'docs/rules/'), it.summary, 'on' if it.on else 'off'] for it in sorted(rules, key=lambda it: not it.on)]
-    return table(['Rule', 'Reports', 'Without settings'], rows)
+    return table(['Rule', 'Reports', 'Sets'], [[link(it, 'docs/rules/'), it.summary, ', '.join(sets(it))] for it in rules])
 
 
 def usage_table(rules):
     """The table of docs/USAGE.md: the rules by their sets."""
-    sets = {'nine': 'on', 'recommended': "off; in ESLint's recommended set", 'other': 'off; others'}
-    rows = [[told, ', '.join(link(it, 'rules/') for it in rules if it.set == key)] for key, told in sets.items()]
-    return table(['Without settings', 'Rules'], [it for it in rows if it[1]])
+    links = lambda them: ', '.join(link(it, 'rules/') for it in them)
+    rows = [[f'`"{name}"`', links(it for it in rules if name in sets(it))] for name in ('nine', 'recommended')]
+    others = links(it for it in rules if not sets(it))
+    return table(['`extends`', 'The rules that are on'], [*rows, ['`"all"`', f'all; also {others}' if others else 'all of these'], ['`"none"`', 'none']])

@@ -4,7 +4,7 @@ import re
 from dataclasses import dataclass
 from typing import Callable
 
-from .pages import index, page, readme_table, usage_table
+from .pages import index, page, readme_table, sets, usage_table
 from .reading import TOP, Refused
 
 # Between these two lines a document has what is made.
@@ -29,9 +29,11 @@ def in_roff(rules):
 
 
 def manual(rules):
-    on, off = ([it for it in rules if it.on is wish] for wish in (True, False))
-    told = f'On unless the settings turn them off are the rules\n{in_roff(on)}'
-    return told + (f'Off unless the settings turn them on are\n{in_roff(off)}' if off else '')
+    """The list of the manual page: each set of rules, and the rules of none."""
+    told = {'Without settings these rules are on, the set "nine":': [it for it in rules if 'nine' in sets(it)],
+            'The set "recommended" has': [it for it in rules if 'recommended' in sets(it)],
+            'The set "all" also has': [it for it in rules if not sets(it)]}
+    return ''.join(f'{head}\n{in_roff(them)}' for head, them in told.items() if them)
 
 
 def schema(rules):

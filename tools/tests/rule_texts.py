@@ -88,7 +88,7 @@ def on_by_default(room):
 
 # ---- tools/rules
 
-FILES = ('README.md', 'CHANGELOG.md', 'tools/rules', 'tools/jslint_files/rule_table.py')
+FILES = ('README.md', 'CHANGELOG.md', 'tools/rules', 'tools/jslint_files/rule_table.py', 'tools/model/rules.js')
 FOLDERS = ('rules', 'docs', 'share', 'tools/rule_files')
 
 

@@ -1,5 +1,5 @@
-// Has the proved calls done, one after the other, in a thread of their own. A job that isn't wanted any more is left out; one that runs is waited for, and
-// given up by ending the thread only if it goes on for long: a new thread is slow at first, so there is none after each key.
+// Has the proved calls done, one after the other, in a thread of their own. A job that isn't wanted any more is left out; one that runs ends before its next
+// proved call. If a call goes on for long, the thread is ended with it: a new thread is slow at first, so there is none after each key.
 import { readFileSync } from 'node:fs';
 import { Worker } from 'node:worker_threads';
 import { aborted } from './protocol.mjs';
@@ -24,12 +24,14 @@ const sizeOf = (it) => it.job?.text?.length ?? 0;
 
 export class Engine {
   constructor({ isTest = false, idleMs = IDLE_MS, onLog = () => {} } = {}) {
-    Object.assign(this, { isTest, idleMs, onLog, isLarge: false, waiting: [], now: null, worker: null, lastId: 0, isEnded: false });
+    // (the number of the last job that isn't wanted any more, which the thread sees while it works)
+    const unwanted = new Int32Array(new SharedArrayBuffer(4));
+    Object.assign(this, { isTest, idleMs, onLog, unwanted, isLarge: false, waiting: [], now: null, worker: null, lastId: 0, isEnded: false });
   }
 
   start() {
     const worker = new Worker(new URL('./thread.mjs', import.meta.url), {
-      workerData: { module: compiled(), isTest: this.isTest }, resourceLimits: { stackSizeMb: STACK_MB }, stdout: true, stderr: true,
+      workerData: { module: compiled(), isTest: this.isTest, unwanted: this.unwanted }, resourceLimits: { stackSizeMb: STACK_MB }, stdout: true, stderr: true,
     });
     const gone = (why) => {
       if (this.worker !== worker) return;
@@ -109,7 +111,9 @@ export class Engine {
     it.reject(aborted());
     const at = this.waiting.indexOf(it);
     if (at >= 0) this.waiting.splice(at, 1);
-    else if (this.now === it) this.patience = setTimeout(() => this.giveUp('cancelled'), PATIENCE_MS).unref();
+    if (this.now !== it) return;
+    Atomics.store(this.unwanted, 0, it.id);
+    this.patience = setTimeout(() => this.giveUp('cancelled'), PATIENCE_MS).unref();
   }
 
   end() {

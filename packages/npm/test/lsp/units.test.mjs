@@ -298,6 +298,18 @@ test('engine: a job that is not wanted any more is waited for, and no thread is 
   }
 });
 
+test('engine: a job of many proved calls ends before its next one once it is not wanted, and its thread goes on', async () => {
+  const said = [], engine = new Engine({ isTest: true, onLog: (it) => said.push(it) }), control = new AbortController();
+  assert.equal(await engine.run('areTaken', 'env = []'), true);
+  const { worker } = engine, calling = engine.run('callOn', {}, { signal: control.signal });
+  control.abort();
+  await assert.rejects(calling, { name: 'AbortError' });
+  assert.equal(await engine.run('areTaken', 'env ='), false);
+  assert.equal(engine.worker, worker);
+  assert.deepEqual(said, []);
+  await engine.end();
+});
+
 test('casts', () => {
   const is = (text) => isCast(text, text.lastIndexOf('('));
   for (const text of ['/** @type {T} */ (a)', '/** @satisfies {T} */(a)', '/**\n * Why.\n * @type {import("x").T}\n */\n\u2028(a)', '/** @type {T} */ /* b */ // c\n// d */\n(a)', '/* b */ /** @type {/*} */ (a)', 'x = "/*"; /** @type {T} */ (a)']) assert.ok(is(text), text);
