@@ -208,7 +208,7 @@ def long_files(room):
     os.truncate(room.path('long.js'), 100_000_000)
     for text in ('', 'fix --write', 'unwrap --diff', '--format sarif', '--format pretty'):
         status, out, err = files(room, *text.split(), 'long.js')
-        is_well(status == 2 and (out + err).count('longer than 16777216 bytes') == 1 and len(out + err) < 3000, text)
+        is_well(status == 2 and (out + err).count('longer than 16777216 bytes') == 1 and len(out + err) < 1000 + 300 * len(RULES), text)
     room.put('a.js', 'a' * (16 << 20))
     same(files(room, 'a.js')[0], 1)
     room.put('deep.js', '(' * 1100 + '1' + ')' * 1100 + ';')
