@@ -86,6 +86,8 @@ def faults_of_texts(key, texts):
             yield f'{key!r}: text {at + 1} is not a string, is empty, or begins or ends with an empty line'
         elif text in texts[:at]:
             yield f'{key!r}: {text!r} stands twice'
+        elif '](' in text:
+            yield f"{key!r}: {text!r} has '](', which those who show a page without its links take for one"
 
 
 def faults_of_words(table):

@@ -158,6 +158,7 @@ MALFORMED = [
     ('eslint = [8]', 'eslint = "8"', "'eslint' is not an array"), ('on = false', 'on = true', "'on' is for the rules of the set 'nine'"), ('on = false', 'on = 0', "'on' is not true or false"), ('since = "2.4.0"', 'since = "2.4"', "'since' is '2.4', and no version"),
     ('fix = "none"', 'fix = "all"', "'fix' is 'all': it takes none, unwrap"), ('fix = "none"', 'fix = "none"\nlanguage = "2020"', "'language' is '2020': it takes base, 2022, module"), ('description = "', 'description = "A\\nB', "'description' has a line end"),
     ("    'a;;',\n", "    'a;;',\n    'a;;',\n", "'wrong': 'a;;' stands twice"), ("    'for (;;);',\n", "    'a;;',\n", "'a;;' is both wrong and right"), ("    'a;;',\n", "    '',\n", "'wrong': text 2 is not a string, is empty"), ("    'a;;',\n", '    1,\n', "'wrong': text 2 is not a string"),
+    ("    'a;;',\n", "    'a[b](c);;',\n", "'wrong': 'a[b](c);;' has ']('"),
     ('fix = "none"', 'fix = none', 'Invalid value (at line 6, column 7)'), ('wrong = [', 'name = "a"\nwrong = [', 'Cannot overwrite a value'),
 ]
 
