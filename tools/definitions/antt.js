@@ -20,11 +20,13 @@ const EXAMPLES = /\/(?:language\/proofs\/examples|(?:early_errors|scopes)\/proof
 const LEFT_OUT = {
   source_text: 'specs: Io Memory Source LineBytes Located Writing',
   tokens: 'specs: Scanned Reading Closers TokenStarts States PunctuatorSets Sets Escaped Laws',
-  tree: 'specs: Whole Places PartNumber RowNumber FlagBits KeptFlags Linked Flat Growth TreeCode Node Fields Labels Standing Building Witness',
+  tree: 'specs: Whole Places PartNumber RowNumber FlagBits KeptFlags Linked Flat Growth TreeCode Node Labels Standing Building Witness',
   language: 'specs: Promises',
   early_errors: 'specs: Owns Walk Walks Passed Knowing PrivateUses ExportsRead; proofs: Tables',
   name_tables: 'specs: DeclaratorParts Keys PatternParts Sets Tables',
   scopes: 'specs: Shown Walks Gathered; proofs: Tables',
+  rule_words: 'specs: Order Appends',
+  node_rules: 'specs: KindNumbers Due Laws',
   rules: 'specs: NineRules Toml Order Run RuleViews Used Nodes NodeRules Appends Refusals Lines',
   estree_json: 'specs: Sent Primitives Table',
 };

@@ -14,7 +14,7 @@ import sys
 from lemmas import TOP
 
 # The word in the names of a kind (of `import(..)` not those of import declarations), ESTree's name, and the most files that may know it.
-KINDS = (('import_?(?:call|expression|given|production|start)|head_import(?!_meta)', 'ImportExpression', 58), ('(?<!no)(?<!no[-_])debugger', 'DebuggerStatement', 49))
+KINDS = (('import_?(?:call|expression|given|production|start)|head_import(?!_meta)', 'ImportExpression', 61), ('(?<!no)(?<!no[-_])debugger', 'DebuggerStatement', 54))
 SUFFIXES = ('.js', '.mjs', '.py', '.json', '.md')
 
 
@@ -32,7 +32,7 @@ def files():
     """Every file that may know a kind."""
     for top in ('crates', 'tools', 'docs'):
         for path in sorted((TOP / top).glob('**/*')):
-            is_left_out = {'out', 'node_modules', '__pycache__', 'rules', 'rules.js', 'kinds.py', 'CONTRIBUTING.md'} & {*path.parts}
+            is_left_out = {'out', 'node_modules', '__pycache__', 'rules', 'rules.js', 'kinds.py', 'CONTRIBUTING.md'} & {*path.relative_to(TOP).parts}
             suffixes = (*SUFFIXES, '.cpp', '.txt', '') if top == 'tools' else SUFFIXES
             if path.is_file() and not is_left_out and (is_source(path) or path.suffix in suffixes):
                 yield path

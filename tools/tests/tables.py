@@ -10,7 +10,7 @@ import subprocess
 import sys
 
 import rows
-from recipes import block, is_well, same
+from recipes import is_well, same
 
 TOP = os.path.dirname(os.path.dirname(os.path.dirname(os.path.realpath(__file__))))
 CHECKER = f'{TOP}/tools/table_checker'
@@ -87,16 +87,10 @@ def table_words(room):
     same(closed.returncode, 2)
 
 
-def table_page(room):
-    """The commands of docs/USAGE.md."""
-    room.put('d.js', '({}).a;\n')
-    same(room.sh(block('Without trusting the prover', 'sh').replace('tools/table_checker', CHECKER)), (0, 'pairs 1 least 1\n', ''))
-
-
 def table_lines(room):
     """That it is short enough to be read in an hour."""
     with open(CHECKER, encoding='utf-8') as file:
         is_well(len(file.readlines()) <= 300, 'more than 300 lines')
 
 
-TESTS = [table_rows, table_slips, table_words, table_page, table_lines]
+TESTS = [table_rows, table_slips, table_words, table_lines]

@@ -23,6 +23,7 @@ mod heights;
 mod kept;
 mod kinds;
 mod lexemes;
+mod node_rule_rows;
 mod nodes;
 mod parsed;
 mod placed;

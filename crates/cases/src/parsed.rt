@@ -4,6 +4,7 @@ use crate::case::Case;
 use crate::devices::{plan, push_answer};
 use crate::finished::{push_nodes, push_row_counts};
 use crate::kept::{push_kept, push_reading};
+use crate::node_rule_rows::push_node_rule;
 use crate::nodes::{push_copy, push_equal_copy};
 use crate::plans::{push_extra, push_extra_pairs, push_gauged_table, push_plan};
 use crate::printing::{is_fixed, push_gauged_layout, push_layout, push_pieces, push_written};
@@ -173,6 +174,7 @@ fn push_shown(
         "items" => push_count(program.root().part_count(), out),
         "extra" => push_extra(alloc, program, parsed.grouping_pairs(), out),
         "rules" | "refused rule" | "rule on nodes" => push_rules(alloc, row, parsed, out),
+        "rule alone" => push_node_rule(alloc, row, parsed, out),
         "alike" => push_alike(alloc, program, row, out),
         "kept" => push_kept(alloc, parsed, row, out),
         "reading" => push_reading(alloc, parsed, row.text(1), out),

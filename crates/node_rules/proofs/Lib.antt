@@ -1,0 +1,6 @@
+pub mod PartTestLemmas
+pub mod SearchLemmas
+pub mod PartCounts
+pub mod WalkLemmas
+pub mod Together
+pub mod DueLemmas

@@ -1,0 +1,11 @@
+pub mod PartTests
+pub mod Words
+pub mod Searches
+pub mod Tests
+pub mod Arounds
+pub mod Over
+pub mod Rows
+pub mod Found
+pub mod KindNumbers
+pub mod Due
+pub mod Laws

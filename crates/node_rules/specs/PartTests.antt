@@ -1,0 +1,26 @@
+-- Tests of a node's parts.
+use Rattle.std.specs.Prelude.{Bool, true, false, ◌||◌, ◌&&◌, Option, Some, None}
+use Rattle.tree.specs.declared.kind.Kind.TheVariants.{Literal}
+use Rattle.tree.specs.Tree.{Tree, node, Parts, none, part, gap}
+use Rattle.language.specs.Vocabulary.{is}
+use Rattle.node_rules.specs.declared.part_test.PartTest.{PartTest}
+use Rattle.node_rules.specs.declared.part_test.PartTest.TheVariants.{IsGap, IsNull}
+
+-- some part, or gap, is so
+unfoldable pub any_part : (Option Tree → Bool) → Parts → Bool
+any_part test none = false
+any_part test (part tree rest) = test (Some tree) || any_part test rest
+any_part test (gap rest) = test None || any_part test rest
+
+abbrev pub is_null : Option Tree → Bool
+is_null None = false
+is_null (Some (node Literal text flags from to parts)) = is text "null"
+is_null (Some (node _ text flags from to parts)) = false
+
+abbrev pub is_gap : Option Tree → Bool
+is_gap None = true
+is_gap (Some tree) = false
+
+abbrev pub passes : PartTest → Option Tree → Bool
+passes IsGap it = is_gap it
+passes IsNull it = is_null it

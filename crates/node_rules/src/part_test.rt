@@ -1,0 +1,60 @@
+//! Tests of a node's parts.
+
+ghost use Rattle.std.specs.Prelude.{◌≡◌, option_map};
+ghost use Rattle.tree.specs.Node.{node_tree};
+ghost use Rattle.tree.specs.Tree.{parts_of};
+ghost use Rattle.node_rules.specs.PartTests.{any_part, is_gap, is_null, passes};
+
+use tree::{Kind, Node};
+
+/// What is asked of each part of a node.
+#[derive(Clone, Copy)]
+pub(crate) enum PartTest {
+    /// It is missing.
+    IsGap,
+    /// It is the literal `null`.
+    IsNull,
+}
+
+/// Whether some part of a node passes a test.
+pub(crate) fn any_part(test: PartTest, node: Node) -> bool
+    ensures { result ≡ any_part (passes test) (parts_of (node_tree node.entry)) }
+{
+    let parts = node.parts();
+    for index in 0..parts.len() {
+        if passes(test, parts.get(index)) {
+            return true;
+        }
+    }
+    false
+}
+
+/// Whether a part passes a test.
+fn passes(test: PartTest, part: Option<Node>) -> bool
+    ensures { result ≡ passes test (option_map node_tree part.entry) }
+{
+    match test {
+        PartTest::IsGap => is_gap(part),
+        PartTest::IsNull => is_null(part),
+    }
+}
+
+/// Whether a part is missing.
+fn is_gap(part: Option<Node>) -> bool
+    ensures { result ≡ is_gap (option_map node_tree part.entry) }
+{
+    part.is_none()
+}
+
+/// Whether a part is the literal `null`.
+fn is_null(part: Option<Node>) -> bool
+    ensures { result ≡ is_null (option_map node_tree part.entry) }
+{
+    let Some(node) = part else {
+        return false;
+    };
+    match node.kind() {
+        Kind::Literal => node.text() == "null",
+        _ => false,
+    }
+}
