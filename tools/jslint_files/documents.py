@@ -5,7 +5,7 @@ import re
 
 from .forms import Columns, absolute
 from .reading import MOST
-from .rules import RULES
+from .rule_table import ON, RULES
 
 OTHERS = {'refused': 'The text was not checked', 'suppression': 'A comment that turns nothing off'}
 
@@ -76,7 +76,8 @@ def as_result(name, it, has_mark, ids):
 
 
 def described(rule, text):
-    return {'id': rule, 'shortDescription': {'text': text}, 'defaultConfiguration': {'level': 'error' if rule == 'refused' else 'warning'}}
+    is_off = {'enabled': False} if rule in RULES and rule not in ON else {}
+    return {'id': rule, 'shortDescription': {'text': text}, 'defaultConfiguration': {**is_off, 'level': 'error' if rule == 'refused' else 'warning'}}
 
 
 def sarif(version):

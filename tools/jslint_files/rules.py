@@ -1,24 +1,10 @@
-"""The rules in a sentence each, and the pages that explain them."""
+"""The pages that explain the rules and the early errors."""
 import os
 import re
 
+from .rule_table import RULES
 from .streams import Wrong, shown
 
-RULES = {
-    'eqeqeq': 'Use === and !== instead of == and !=', 'for-direction': 'No loop whose counter goes away from its bound',
-    'no-async-promise-executor': 'No async function as the executor of a promise', 'no-case-declarations': 'No declarations right in a case',
-    'no-compare-neg-zero': 'No comparison with -0', 'no-debugger': 'No debugger statements',
-    'no-empty': 'No empty blocks, and no switch without cases', 'no-empty-pattern': 'No empty patterns',
-    'no-empty-static-block': 'No empty static blocks', 'no-extra-boolean-cast': 'No !! or Boolean() where a boolean is made anyway',
-    'no-extra-parens': 'No parentheses that the script can do without', 'no-extra-semi': 'No semicolon too many',
-    'no-inner-declarations': 'No function declarations in blocks', 'no-prototype-builtins': 'No call of hasOwnProperty and its like as a member',
-    'no-setter-return': 'No value returned by a setter', 'no-shadow': 'No name that hides one of an enclosing scope',
-    'no-sparse-arrays': 'No arrays with holes', 'no-undef': 'No names that nothing declares', 'no-unused-labels': 'No labels that nothing jumps to',
-    'no-unused-vars': 'No names that nothing reads', 'no-useless-catch': 'No catch that only throws again',
-    'no-var': 'Use let or const instead of var', 'prefer-const': 'Use const instead of a let that never changes',
-    'require-yield': 'No generator without yield', 'use-isnan': 'No comparison with NaN',
-    'valid-typeof': 'No typeof beside a text that it never gives',
-}
 HERE = os.path.dirname(os.path.realpath(__file__))
 # The documents: where `make install` puts them, and where they are in the repository.
 PLACES = (f'{HERE}/../../doc/jslint/docs', f'{HERE}/../../docs')

@@ -9,7 +9,7 @@ import collections
 import re
 
 from .outcomes import LINE_END, Found
-from .rules import RULES
+from .rule_table import RULES
 
 WORDS = re.compile(r'//[^\S\n\r\u2028\u2029]*jslint-disable-(next-line|line)(?![\w-])([^\n\r\u2028\u2029]*)')
 KEPT = 'no-extra-parens'

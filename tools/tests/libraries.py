@@ -14,6 +14,7 @@ import subprocess
 import sys
 
 import rows
+from jslint_files.rule_table import RULES
 from recipes import is_well, same
 
 TOP = os.path.dirname(os.path.dirname(os.path.dirname(os.path.realpath(__file__))))
@@ -27,11 +28,7 @@ PACKED = {
     *(f'lib/{it}.mjs' for it in (
         'actions', 'beside', 'casts', 'changes', 'checking', 'connection', 'document', 'editor', 'edits', 'engine', 'frames', 'git', 'hinting', 'hints', 'ignore', 'jobs', 'languages', 'progress',
         'protocol', 'rewriting', 'server', 'settings', 'shown', 'suppressions', 'texts', 'thread', 'workspace')),
-    *(f'lib/{it}.md' for it in (
-        'eqeqeq', 'for-direction', 'no-async-promise-executor', 'no-case-declarations', 'no-compare-neg-zero', 'no-debugger', 'no-empty',
-        'no-empty-pattern', 'no-empty-static-block', 'no-extra-boolean-cast', 'no-extra-parens', 'no-extra-semi', 'no-inner-declarations',
-        'no-prototype-builtins', 'no-setter-return', 'no-shadow', 'no-sparse-arrays', 'no-undef', 'no-unused-labels', 'no-unused-vars',
-        'no-useless-catch', 'no-var', 'prefer-const', 'require-yield', 'use-isnan', 'valid-typeof')),
+    *(f'lib/{it}.md' for it in RULES),
 }
 # Where the libraries are, or why there are none.
 PLACE, WHY = None, None

@@ -23,7 +23,7 @@ from recipes import RIGHT, TOP, WRONG, is_well, same
 
 sys.path.insert(0, f'{TOP}/tools')
 from jslint_files import checking, hints  # noqa: E402
-from jslint_files.rules import RULES  # noqa: E402
+from jslint_files.rule_table import RULES  # noqa: E402
 
 BUG, CLEAN, MODULE = 'debugger;\n', 'globalThis.a = 1;\n', 'export {};\n'
 FOUND_BUG = '1:1: no-debugger debugger statement\n'
@@ -208,7 +208,7 @@ def long_files(room):
     os.truncate(room.path('long.js'), 100_000_000)
     for text in ('', 'fix --write', 'unwrap --diff', '--format sarif', '--format pretty'):
         status, out, err = files(room, *text.split(), 'long.js')
-        is_well(status == 2 and (out + err).count('longer than 16777216 bytes') == 1 and len(out + err) < 3000, text)
+        is_well(status == 2 and (out + err).count('longer than 16777216 bytes') == 1 and len(out + err) < 1000 + 300 * len(RULES), text)
     room.put('a.js', 'a' * (16 << 20))
     same(files(room, 'a.js')[0], 1)
     room.put('deep.js', '(' * 1100 + '1' + ')' * 1100 + ';')

@@ -14,14 +14,16 @@ import re
 import resource
 import signal
 import subprocess
+import sys
 import tempfile
 
 # Which program answers, what gives a command's answer, and the folder for the files of this process.
 PROGRAM, ANSWERS, ROOM = None, None, None
-# Each rule has a page of its name.
-PAGES = os.path.join(os.path.dirname(os.path.abspath(__file__)), '../../docs/rules')
-RULES = sorted(it[:-3] for it in os.listdir(PAGES) if it != 'README.md')
-ONLY_PARENS = b'[rules]\n' + b''.join(b'%s = false\n' % it.encode() for it in RULES if it != 'no-extra-parens')
+sys.path.insert(0, os.path.join(os.path.dirname(os.path.abspath(__file__)), '..'))
+from jslint_files.rule_table import ON  # noqa: E402
+
+# Settings that leave one rule of those that are on without any.
+ONLY_PARENS = b'[rules]\n' + b''.join(b'%s = false\n' % it.encode() for it in sorted(ON) if it != 'no-extra-parens')
 
 
 # What stands before the call of a row of another language, the words for it, and the number and the name that the libraries have for it.

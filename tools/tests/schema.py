@@ -2,12 +2,14 @@
 
 Each test is a function that raises where something is wrong, and libraries.Skipped where it can't be tried. Its argument is a room: a folder of its own.
 """
+import copy
 import json
 import os
 import random
 import re
 
 import recipes
+import rule_texts
 from libraries import Skipped
 from recipes import TOP, is_well, same
 
@@ -93,14 +95,24 @@ def by_program(room, settings):
     return status == 0
 
 
+def without_later(it, version):
+    """A schema without the rules of later versions than the program's."""
+    later = [each.name for each in rule_texts.rules() if rule_texts.version_of(each.since) > rule_texts.version_of(version)]
+    found = copy.deepcopy(it)
+    found['properties']['rules']['properties'] = {name: each for name, each in it['properties']['rules']['properties'].items() if name not in later}
+    return found
+
+
 def as_program(room):
-    """It takes just what the program takes; each key and rule of the documents is in it; `make install` puts it where docs/EDITORS.md says."""
+    """It takes just what the program takes, rules of later versions aside; each key and rule of the documents is in it; `make install` puts it where
+    docs/EDITORS.md says."""
     room.put('a.js', '')
-    it = schema()
+    it = without_later(schema(), room.run(['jslint', '--version'])[1].split()[1])
     verdicts = [(is_valid(it, each), each) for each in all_settings(it)]
     same([each for is_taken, each in verdicts if by_program(room, each) != is_taken], [])
     counts = [sum(is_taken is wish for is_taken, _ in verdicts) for wish in (True, False)]
     is_well(min(counts) > 50, counts)
+    it = schema()
     with open(f'{TOP}/docs/rules/README.md', encoding='utf-8') as file:
         page = file.read()
     same(sorted(it['properties']['rules']['properties']), sorted(re.findall(r'^\| \[([\w-]+)\]', page, re.M)))
@@ -130,7 +142,7 @@ def words(_):
     same([key for key, each in keys if not each.get('description') or 'default' in each and not is_valid(each, each['default'])], [])
     same([key for key, each in keys if 'default' not in each], ['edition', 'source-type'])
     recipes.sys.path.insert(0, f'{TOP}/tools')
-    from jslint_files.rules import RULES
+    from jslint_files.rule_table import RULES
     same({key: each['description'] for key, each in rules.items()}, RULES)
 
 

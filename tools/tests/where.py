@@ -3,9 +3,9 @@ import os
 import re
 import subprocess
 
-from recipes import is_well, same
-
-TOP = os.path.dirname(os.path.dirname(os.path.dirname(os.path.realpath(__file__))))
+from recipes import TOP, is_well, same
+from rule_texts import ON
+from rule_files import checks
 
 
 def lines_of(path):
@@ -47,7 +47,9 @@ def productions():
 
 
 def each_name(_):
-    rules = sorted(it[:-3] for it in os.listdir(f'{TOP}/docs/rules') if it != 'README.md')
+    # (a rule whose crate isn't here yet has no code)
+    rules = sorted(checks.names_of_crates(TOP))
+    is_well({*rules} >= ON, rules)
     commands = [it.lower() for it in variants('crates/commands/src/command.rt', 'Command')]
     errors = [f'E{it + 1}' for it in range(len(variants('crates/early_errors/src/lib.rt', 'EarlyError')))]
     names = [*variants('crates/tree/src/kind.rt', 'Kind'), *productions(), *rules, *commands, *errors, 'first_early_error', 'parser::parse']

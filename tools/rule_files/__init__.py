@@ -1,0 +1,1 @@
+"""The files of the rules, rules/NAME.toml, and what tools/rules writes from them."""

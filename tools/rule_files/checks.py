@@ -1,0 +1,103 @@
+"""What else has to be so: the crates' definitions have just the rules of the files, and no document says by hand how many there are."""
+import glob
+import json
+import os
+import re
+
+from .places import plain, read, stray_pages, wished
+from .reading import TOP
+
+# A rule's name in definitions, as `called NoVar = codes "no-var"` or `record { called = codes "no-var"; .. }`.
+CALLED = re.compile(r'^[^\n"]*\bcalled\b[^\n"=]*= codes "([\w-]+)"', re.M)
+UNITS = 'one two three four five six seven eight nine'.split()
+TEENS = 'ten eleven twelve thirteen fourteen fifteen sixteen seventeen eighteen nineteen'.split()
+TENS = 'twenty thirty forty fifty sixty seventy eighty ninety'.split()
+# Five rules and more, in words or digits; fewer are said of a few that are named.
+NUMBER = rf'(?:[5-9]|[1-9]\d+|{"|".join(UNITS[4:] + TEENS)}|(?:{"|".join(TENS)})(?:-(?:{"|".join(UNITS)}))?|(?:a|one|two) hundred)'
+COUNTED = re.compile(rf'\b{NUMBER}(?:\s+(?:of\s+)?(?:the|these|its|our|all|new|own|other|more|shipped|built-in|boxed))*\s+rules\b', re.I)
+# Documents in which a number of rules is no history.
+DOCUMENTS = ('*.md', 'docs/**/*.md', 'packages/**/*.md', 'release/*.md', 'tools/**/*.md', 'share/man/man1/*.1', 'packages/page/page.html', 'action.yml')
+
+
+def wrong_texts(rules, top):
+    """Files that aren't what is made of the files of the rules: the first line that differs."""
+    for path, (old, new) in wished(rules, top).items():
+        if old is None:
+            yield f'{path}: there is no such file'
+        elif old != new:
+            is_here, should_be = ([*it.split('\n'), ''] for it in (old, new))
+            at = next((i for i, pair in enumerate(zip(is_here, should_be)) if pair[0] != pair[1]), min(len(is_here), len(should_be)) - 1)
+            yield f'{path}:{at + 1}: {is_here[at]!r}, and not {should_be[at]!r}'
+
+
+def wrong_pages(rules, top):
+    yield from (f'docs/rules/{it}: there is no rules/{it[:-3]}.toml' for it in stray_pages(rules, top))
+
+
+def names_of_crates(top):
+    """The names of rules in the definitions of the crates of rules, each with its file."""
+    files = sorted(glob.glob(f'{top}/crates/*rules/specs/*.antt'))
+    return {name: os.path.relpath(path, top) for path in files for name in CALLED.findall(read(os.path.relpath(path, top), top))}
+
+
+def wrong_names(rules, top):
+    """Rules of the crates without a file, and files without a rule; of rules on nodes only where their crate is there."""
+    known, found = {it.name: it for it in rules}, names_of_crates(top)
+    yield from (f'{path}: {name} has no rules/{name}.toml' for name, path in found.items() if name not in known)
+    has_all = os.path.isdir(f'{top}/crates/node_rules/specs')
+    yield from (f'rules/{name}.toml: no definition of the crates is called {name}' for name, it in known.items() if name not in found and (has_all or it.on))
+
+
+def variants_of(top):
+    """The names of rules by their variants in the definitions."""
+    files = sorted(glob.glob(f'{top}/crates/*rules/specs/*.antt'))
+    return dict(it for path in files for it in re.findall(r'^called (\w+) = codes "([\w-]+)"', read(os.path.relpath(path, top), top), re.M))
+
+
+def wrong_sets(rules, top):
+    """Sets of the definitions that have other rules than the files say."""
+    path = 'crates/rules/specs/RuleNames.antt'
+    text, variants = read(path, top) or '', variants_of(top)
+    for name, wanted in (('nine_rules', {it.name for it in rules if it.on}), ('recommended_rules', {it.name for it in rules if it.eslint})):
+        listed = re.search(rf'^{name} =\n(.*?)\n    ∷ \[\]$', text, re.M | re.S)
+        found = {variants.get(it, it) for it in re.findall(r'(\w+)$', listed[1], re.M)} if listed else wanted
+        yield from (f'rules/{it}.toml: {name} of {path} says otherwise' for it in sorted(found ^ wanted))
+
+
+def wrong_model(rules, top):
+    """Names of rules that the model in tools/model lacks, or has too many."""
+    lists = re.findall(r'^const (?:OTHER_)?RULE_NAMES = \[(.*?)\];', read('tools/model/rules.js', top), re.M | re.S)
+    found, on = re.findall(r"'([\w-]+)'", ' '.join(lists)), {it.name for it in rules if it.on}
+    wanted = {it.name for it in rules} if len(lists) > 1 else on
+    yield from (f'tools/model/rules.js: {it} is missing in the lists of names, or too much' for it in sorted({*found} ^ wanted))
+
+
+def wrong_versions(rules, top):
+    headings = re.findall(r'^## (\d+\.\d+\.\d+)\b', read('CHANGELOG.md', top) or '', re.M)
+    yield from (f'rules/{it.name}.toml: CHANGELOG.md has no version {it.since}' for it in rules if it.since not in headings)
+
+
+def wrong_options(rules, top):
+    """Settings of rules that the schema or the table of settings lacks, or that the schema describes otherwise."""
+    keys = json.loads(read('share/jslint/jslint.schema.json', top))['properties']
+    listed = re.findall(r'^\| `([\w-]+)` \| ', read('docs/rules/README.md', top).partition('\n## A settings file\n')[2], re.M)
+    for rule, option in ((rule, option) for rule in rules for option in rule.options):
+        if option.key not in listed:
+            yield f'rules/{rule.name}.toml: the table of settings in docs/rules/README.md has no {option.key}'
+        if keys.get(option.key, {}).get('description') != plain(option.description):
+            yield f'rules/{rule.name}.toml: the schema in share/jslint has no {option.key} with this description: {plain(option.description)}'
+
+
+def wrong_numbers(_, top):
+    """Documents that say by hand how many rules there are."""
+    paths = {os.path.relpath(it, top) for pattern in DOCUMENTS for it in glob.glob(f'{top}/{pattern}', recursive=True)} - {'CHANGELOG.md'}
+    for path in sorted(it for it in paths if 'node_modules' not in it):
+        text = re.sub(r'`[^`\n]*`', lambda it: ' ' * len(it[0]), read(path, top))
+        yield from (f'{path}:{text.count(chr(10), 0, it.start()) + 1}: {" ".join(it[0].split())!r}: a number of rules, which no document says by hand' for it in COUNTED.finditer(text))
+
+
+CHECKS = (wrong_texts, wrong_pages, wrong_names, wrong_sets, wrong_model, wrong_versions, wrong_options, wrong_numbers)
+
+
+def faults(rules, top=TOP):
+    return [it for check in CHECKS for it in check(rules, top)]

@@ -1,0 +1,72 @@
+"""The Markdown that is made of the files of the rules: a page a rule, and tables."""
+
+HEADING = 'What differs from ESLint'
+# What a page says of the language of its texts.
+TEXTS = {'base': 'a script a line', '2022': 'a script of ES2022 a line', 'module': 'a module a line'}
+
+
+def listed(words):
+    *most, last = words
+    return f'{", ".join(most)} and {last}' if most else last
+
+
+def sets(rule):
+    """The sets of `extends` that have the rule, but for that of all."""
+    return [name for name, has in (('nine', rule.on), ('recommended', rule.eslint)) if has]
+
+
+def standing(rule):
+    """Whether a rule is on without settings, since which version it is there, and where ESLint recommends it."""
+    by_set = f'`extends = "{"recommended" if rule.eslint else "all"}"`'
+    off = f'Off unless [the settings](README.md#a-settings-file) turn it on, by {by_set} or `rules.{rule.name} = true`'
+    eslint = f' In `eslint:recommended` of ESLint {listed(map(str, rule.eslint))}.' if rule.eslint else ''
+    return f'{"On unless the settings turn it off" if rule.on else off}. There since {rule.since}.{eslint}'
+
+
+def code(texts):
+    return '```js\n' + ''.join(f'{it}\n' for it in texts) + '```'
+
+
+def section_of_option(option):
+    with_it = 'it' if option.tried == option.value else f'`{option.key} = {option.tried}`'
+    return f'`{option.key} = {option.value}`: {option.reports} Right with {with_it}:\n\n{code(option.right)}'
+
+
+def page(rule):
+    """docs/rules/NAME.md"""
+    parts = [f'# {rule.name}', f'{rule.description}.', rule.why, standing(rule), '## What it reports', rule.reports]
+    parts += [f'Wrong, {TEXTS[rule.language]}:', code(rule.wrong), 'Right:', code(rule.right), rule.note]
+    parts += ['## Settings', *map(section_of_option, rule.options)] if rule.options else []
+    parts += [rule.more, f'## {HEADING}', rule.differs]
+    return '\n\n'.join(it for it in parts if it) + '\n'
+
+
+def link(rule, folder):
+    return f'[{rule.name}]({folder}{rule.name}.md)'
+
+
+def line(cells):
+    return '|' + '|'.join(f' {it} ' if it else ' ' for it in cells) + '|\n'
+
+
+def table(columns, rows):
+    return ''.join([line(columns), '|---' * len(columns) + '|\n', *map(line, rows)])
+
+
+def index(rules):
+    """The table of docs/rules/README.md."""
+    rows = [[link(it, ''), it.summary, ', '.join(f'`{each.key}`' for each in it.options), ', '.join(sets(it))] for it in rules]
+    return table(['Rule', 'Reports', 'Settings', 'Sets'], rows)
+
+
+def readme_table(rules):
+    """The table of the README."""
+    return table(['Rule', 'Reports', 'Sets'], [[link(it, 'docs/rules/'), it.summary, ', '.join(sets(it))] for it in rules])
+
+
+def usage_table(rules):
+    """The table of docs/USAGE.md: the rules by their sets."""
+    links = lambda them: ', '.join(link(it, 'rules/') for it in them)
+    rows = [[f'`"{name}"`', links(it for it in rules if name in sets(it))] for name in ('nine', 'recommended')]
+    others = links(it for it in rules if not sets(it))
+    return table(['`extends`', 'The rules that are on'], [*rows, ['`"all"`', f'all; also {others}' if others else 'all of these'], ['`"none"`', 'none']])

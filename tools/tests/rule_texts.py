@@ -1,0 +1,262 @@
+"""The files of the rules, rules/NAME.toml: with just one rule on, the program reports each text that its file calls wrong, and none that it calls right; and
+what tools/rules writes and refuses, over a copy of what it reads.
+
+Each test is a function that raises where something is wrong, and libraries.Skipped where it can't be tried. Its argument is a room: a folder of its own.
+"""
+import glob
+import os
+import re
+import shutil
+import subprocess
+import sys
+
+from libraries import Skipped
+from recipes import TOP, is_well, same
+
+sys.path.insert(0, f'{TOP}/tools')
+from jslint_files.rule_table import ON  # noqa: E402
+from rule_files import reading  # noqa: E402
+
+WORDS = {'base': [], '2022': ['--edition', '2022'], 'module': ['--module']}
+
+
+def rules():
+    if reading.tomllib is None:
+        raise Skipped('there is no Python 3.11 here, which reads TOML')
+    return reading.read_rules()
+
+
+# ---- the texts, by the program
+
+def checked(room, rule, text, option=''):
+    """What the program says of a text with just this rule on, and perhaps a setting."""
+    off = ''.join(f'{it} = false\n' for it in sorted(ON - {rule.name}))
+    room.put('s.toml', f'{option}[rules]\n{off}{rule.name} = true\n')
+    room.put('a.js', text)
+    return room.run(['jslint', 'check', *WORDS[rule.language], '--settings', 's.toml', 'a.js'])
+
+
+def is_known(room, rule):
+    """Whether the program has a rule of this name."""
+    return checked(room, rule, '') != (2, '', 'jslint: bad settings\n')
+
+
+def is_reported(rule, answer):
+    """Whether an answer has reports, all of this rule; None where it is no such answer, nor one without any."""
+    status, out, err = answer
+    names = {it.split(' ')[1] for it in out.splitlines()}
+    return None if err or (status, names) not in [(0, set()), (1, {rule.name})] else status == 1
+
+
+def texts(room):
+    """Of each rule that the program has: its wrong texts are reported, its right ones aren't."""
+    known = [it for it in rules() if is_known(room, it)]
+    is_well({it.name for it in known} >= ON, known)
+    asked = [(rule, text, wish) for rule in known for wish, them in ((True, rule.wrong), (False, rule.right)) for text in them]
+    answers = [(rule, text, wish, checked(room, rule, text)) for rule, text, wish in asked]
+    same([(rule.name, text, answer) for rule, text, wish, answer in answers if is_reported(rule, answer) is not wish], [])
+
+
+def options(room):
+    """The texts that are right with a setting aren't reported with it, and are without."""
+    asked = [(rule, f'{it.key} = {it.tried}\n', text) for rule in rules() for it in rule.options for text in it.right]
+    is_well(len(asked) > 4, asked)
+    answers = [(rule, option, text, checked(room, rule, text), checked(room, rule, text, option)) for rule, option, text in asked]
+    same([it for it in answers if (is_reported(it[0], it[3]), is_reported(it[0], it[4])) != (True, False)], [])
+
+
+def version_of(text):
+    return [int(it) for it in text.split('.')]
+
+
+def all_known(room):
+    """The program has all rules but those of a later version; these can't be tried with it."""
+    version = room.run(['jslint', '--version'])[1].split()[1]
+    lacking = [it for it in rules() if not is_known(room, it)]
+    same([it.name for it in lacking if version_of(it.since) <= version_of(version)], [])
+    if lacking:
+        raise Skipped(f'the program is {version}, and has no {", ".join(it.name for it in lacking)}')
+
+
+def on_by_default(room):
+    """Without settings those rules report their wrong texts whose files say so, and no others."""
+    for rule in rules():
+        room.put('a.js', rule.wrong[0])
+        out = room.run(['jslint', 'check', *WORDS[rule.language], 'a.js'])[1]
+        same(rule.name in {it.split(' ')[1] for it in out.splitlines()}, rule.on, rule.name)
+
+
+# ---- tools/rules
+
+FILES = ('README.md', 'CHANGELOG.md', 'tools/rules', 'tools/jslint_files/rule_table.py', 'tools/model/rules.js')
+FOLDERS = ('rules', 'docs', 'share', 'tools/rule_files')
+
+
+def copied(room, name):
+    """A copy of what tools/rules reads and writes, in a folder of the room."""
+    rules()
+    top = os.fsdecode(room.path(name))
+    for it in FOLDERS:
+        shutil.copytree(f'{TOP}/{it}', f'{top}/{it}')
+    for it in [*FILES, *(os.path.relpath(it, TOP) for it in glob.glob(f'{TOP}/crates/*rules/specs/*.antt'))]:
+        os.makedirs(os.path.dirname(f'{top}/{it}'), exist_ok=True)
+        shutil.copy(f'{TOP}/{it}', f'{top}/{it}')
+    return top
+
+
+def contents(top):
+    """Each file below a folder."""
+    found = {}
+    for at, _, names in os.walk(top):
+        for it in names:
+            with open(f'{at}/{it}', 'rb') as file:
+                found[os.path.relpath(f'{at}/{it}', top)] = file.read()
+    return found
+
+
+def called(top, *words):
+    ran = subprocess.run([sys.executable, f'{top}/tools/rules', *words], stdout=subprocess.PIPE, stderr=subprocess.PIPE, encoding='utf-8')
+    return ran.returncode, ran.stdout, ran.stderr
+
+
+def change(path, old, new):
+    with open(path, encoding='utf-8') as file:
+        text = file.read()
+    is_well(old in text, f'{path}: {old}')
+    with open(path, 'w', encoding='utf-8') as file:
+        file.write(text.replace(old, new, 1))
+
+
+def rewritten(room):
+    """It changes nothing that is as it should be, and mends each place where a name is missing, byte for byte; --check names the file and its line."""
+    top = copied(room, 'top')
+    whole, count = contents(top), len(rules())
+    same(called(top), (0, '', ''))
+    same(called(top, '--check'), (0, f'tools/rules: {count} rules, 0 faults\n', ''))
+    same(contents(top), whole)
+    places = [it for it, text in whole.items() if b'no-extra-semi' in text.replace(b'\\-', b'-') and not it.startswith(('rules/', 'crates/', 'CHANGELOG')) and it != 'docs/rules/no-var.md']
+    is_well(len(places) > 8, places)
+    for path in places:
+        text = whole[path]
+        for it in (b'no-extra-semi', b'no\\-extra\\-semi'):
+            text = text.replace(it, b'no-such')
+        with open(f'{top}/{path}', 'wb') as file:
+            file.write(text)
+        status, out, _ = called(top, '--check')
+        is_well(status == 1 and re.search(rf'^{re.escape(path)}:[1-9]\d*: ', out, re.M), f'{path}: {status} {out}')
+        same(called(top), (0, f'tools/rules: wrote {path}\n', ''))
+        same(contents(top), whole)
+    os.remove(f'{top}/docs/rules/no-var.md')
+    same(called(top, '--check')[:2], (1, f'docs/rules/no-var.md: there is no such file\ntools/rules: {count} rules, 1 faults\n'))
+    same((called(top)[0], contents(top)), (0, whole))
+
+
+# What is changed in the file of no-extra-semi, and what is said of it.
+MALFORMED = [
+    ('summary =', 'sumary =', "there is no key 'sumary'"), ('summary =', 'sumary =', "'summary' is missing"), ('name = "no-extra-semi"', 'name = "no-semi"', "'name' is 'no-semi', and not that of the file"),
+    ('set = "recommended"', 'set = "best"', "'set' is 'best': it takes nine, recommended, other"), ('set = "recommended"', 'set = "other"', "'set' is 'other', and 'eslint' is [8]"), ('eslint = [8]', 'eslint = [7]', "'eslint' takes 8 and 9"),
+    ('eslint = [8]', 'eslint = "8"', "'eslint' is not an array"), ('on = false', 'on = true', "'on' is for the rules of the set 'nine'"), ('on = false', 'on = 0', "'on' is not true or false"), ('since = "2.4.0"', 'since = "2.4"', "'since' is '2.4', and no version"),
+    ('fix = "none"', 'fix = "all"', "'fix' is 'all': it takes none, unwrap"), ('fix = "none"', 'fix = "none"\nlanguage = "2020"', "'language' is '2020': it takes base, 2022, module"), ('description = "', 'description = "A\\nB', "'description' has a line end"),
+    ("    'a;;',\n", "    'a;;',\n    'a;;',\n", "'wrong': 'a;;' stands twice"), ("    'for (;;);',\n", "    'a;;',\n", "'a;;' is both wrong and right"), ("    'a;;',\n", "    '',\n", "'wrong': text 2 is not a string, is empty"), ("    'a;;',\n", '    1,\n', "'wrong': text 2 is not a string"),
+    ("    'a;;',\n", "    'a[b](c);;',\n", "'wrong': 'a[b](c);;' has ']('"),
+    ('fix = "none"', 'fix = none', 'Invalid value (at line 6, column 7)'), ('wrong = [', 'name = "a"\nwrong = [', 'Cannot overwrite a value'),
+]
+
+
+def refused_files(room):
+    """A file that isn't well is named with the key; the status is 2, and nothing is written, though there would be something to write."""
+    top = copied(room, 'top')
+    change(f'{top}/docs/rules/no-var.md', '# no-var', '# no-vars')
+    file = f'{top}/rules/no-extra-semi.toml'
+    with open(file, encoding='utf-8') as it:
+        kept = it.read()
+    for old, new, said in MALFORMED:
+        change(file, old, new)
+        whole = contents(top)
+        for words in ([], ['--check']):
+            status, out, err = called(top, *words)
+            is_well((status, out) == (2, '') and any(it.startswith(f'rules/no-extra-semi.toml: {said}') for it in err.splitlines()), f'{new}: {status} {out} {err}')
+        same(contents(top), whole, new)
+        with open(file, 'w', encoding='utf-8') as it:
+            it.write(kept)
+    with open(file, 'wb') as it:
+        it.write(b'name = "\xff"\n')
+    change(f'{top}/rules/eqeqeq.toml', "right = [\n    'a == null;',\n    'null != a;',\n]", 'right = []')
+    change(f'{top}/rules/no-empty.toml', 'value = "true"', 'valu = true')
+    change(f'{top}/rules/no-var.toml', 'wrong = [', 'wong = [')
+    status, out, err = called(top)
+    same((status, out, [it.split(': ')[0] for it in err.splitlines()]), (2, '', [f'rules/{it}.toml' for it in ('eqeqeq', 'no-empty', 'no-empty', 'no-extra-semi', 'no-var', 'no-var')]), err)
+    for said in ("'options', allow-null: 'right' is empty", "'options', allow-comments: there is no key 'valu'", "'wrong' is missing", 'utf-8'):
+        is_well(said in err, f'{said}: {err}')
+    shutil.rmtree(f'{top}/rules')
+    same(called(top), (2, '', 'rules: there is no file of a rule\n'))
+
+
+def refused_places(room):
+    """Where a document has no one place for the rules, or a word makes no sense, nothing is written."""
+    top = copied(room, 'top')
+    change(f'{top}/docs/rules/no-var.md', '# no-var', '# no-vars')
+    kept = contents(top)
+    for path, old, new in [('README.md', '<!-- end of rules -->', ''), ('share/man/man1/jslint.1', '.\\" rules: ', '.\\" '), ('docs/USAGE.md', '<!-- rules: ', '<!-- rules: tools/rules writes this -->\n<!-- end of rules -->\n<!-- rules: '),
+                           ('share/bash-completion/completions/jslint', 'local rules=', 'local names='), ('share/jslint/jslint.schema.json', '"rules": {', '"rule": {')]:
+        change(f'{top}/{path}', old, new)
+        whole = contents(top)
+        status, out, err = called(top)
+        is_well((status, out) == (2, '') and re.fullmatch(rf'{re.escape(path)}: there are [02] places for the rules, and not one\n', err), f'{path}: {status} {out} {err}')
+        same(contents(top), whole, path)
+        with open(f'{top}/{path}', 'wb') as file:
+            file.write(kept[path])
+    for words in (['--chek'], ['--check', 'README.md'], ['no-var']):
+        same(called(top, *words)[:2], (2, ''), words)
+    same(contents(top), kept)
+
+
+def faults_of(top):
+    status, out, _ = called(top, '--check')
+    return status, out.splitlines()[:-1]
+
+
+def unlike_crates(room):
+    """A rule of the crates without a file, a file without a rule, a page without a file, a version or a setting that isn't there."""
+    top = copied(room, 'top')
+    os.makedirs(f'{top}/crates/node_rules/specs', exist_ok=True)
+    others = [it.name for it in rules() if not it.on]
+    with open(f'{top}/crates/node_rules/specs/Rows.antt', 'w', encoding='utf-8') as file:
+        file.write(''.join(f'called X = codes "{it}"\n' for it in others))
+    same(faults_of(top), (0, []))
+    change(f'{top}/crates/node_rules/specs/Rows.antt', f'"{others[0]}"', '"no-such-rule"')
+    same(faults_of(top), (1, ['crates/node_rules/specs/Rows.antt: no-such-rule has no rules/no-such-rule.toml', f'rules/{others[0]}.toml: no definition of the crates is called {others[0]}']))
+    shutil.rmtree(f'{top}/crates/node_rules')
+    same(faults_of(top), (0, []))
+    os.rename(f'{top}/rules/no-var.toml', f'{top}/rules/no-vars.toml')
+    change(f'{top}/rules/no-vars.toml', 'name = "no-var"', 'name = "no-vars"')
+    same(called(top)[0], 0)
+    found = faults_of(top)
+    same((found[0], [it.split(': ')[1] for it in found[1]]), (1, ['there is no rules/no-var.toml', 'no-var has no rules/no-var.toml', 'no definition of the crates is called no-vars']))
+    change(f'{top}/rules/no-vars.toml', '"1.0.0"', '"1.0.9"')
+    change(f'{top}/share/jslint/jslint.schema.json', '"allow-null"', '"allow-nil"')
+    change(f'{top}/docs/rules/README.md', '| `allow-comments` | `true`', '| `allow-comment` | `true`')
+    called(top)
+    found = faults_of(top)[1]
+    for it in ('rules/no-vars.toml: CHANGELOG.md has no version 1.0.9', 'rules/no-empty.toml: the table of settings in docs/rules/README.md has no allow-comments',
+               'rules/eqeqeq.toml: the schema in share/jslint has no allow-null with this description: eqeqeq allows comparisons with the literal null'):
+        is_well(it in found, f'{it}: {found}')
+
+
+def numbers_by_hand(room):
+    """A number of rules in a document, in words or digits, but not in backticks, nor in CHANGELOG.md."""
+    top = copied(room, 'top')
+    texts = {'nine rules': True, 'the 26 rules': True, 'Twenty-six new\nrules': True, 'seventeen of the rules': True, '120 shipped rules': True, '`nine rules`': False, 'two rules': False, 'rules of 2022': False, 'the 11th edition has rules': False}
+    for text, is_wrong in texts.items():
+        with open(f'{top}/docs/GLOSSARY.md', 'a', encoding='utf-8') as file:
+            file.write(f'\nOf {text} it is said.\n')
+        status, found = faults_of(top)
+        same((status, len(found)), (int(is_wrong), int(is_wrong)), f'{text}: {found}')
+        is_well(not found or found[0].startswith('docs/GLOSSARY.md:') and found[0].endswith(': a number of rules, which no document says by hand'), found)
+        shutil.copy(f'{TOP}/docs/GLOSSARY.md', f'{top}/docs/GLOSSARY.md')
+    with open(f'{top}/CHANGELOG.md', 'a', encoding='utf-8') as file:
+        file.write('\nnine rules\n')
+    same(faults_of(top), (0, []))
+
+
+TESTS = [texts, options, all_known, on_by_default, rewritten, refused_files, refused_places, unlike_crates, numbers_by_hand]
