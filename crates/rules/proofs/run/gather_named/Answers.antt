@@ -22,5 +22,5 @@ returns c =
     let v = seen c.args.view.now in
     on_ok c.push_on_nodes.result
     (λ e. rules-end c.args.names.now c.loop-name.name-index (λ ns. found_by_names ns v) refl _ c.loop-name.out.items (found_on_nodes c.loop-name.together.items v) c.push_on_nodes.new.out.items c.loop-name-test.false
-        (e ∙ ap (λ rs. c.loop-name.out.items ++ found_on_nodes rs v) c.deref.ensures.value) c.loop-name.invariant)
+    (e ∙ ap (λ rs. c.loop-name.out.items ++ found_on_nodes rs v) c.deref.ensures.value) c.loop-name.invariant)
     c.push_on_nodes.ensures.found

@@ -21,5 +21,5 @@ returns-in_default c =
     let v = seen c.args.view.now in
     on_ok c.run_shipped.result
     (λ e. after-running c.args.out.now.items (found_on_nodes c.args.together.now.items v) c.run_shipped.new.out.items (found_by_name c.args.name v)
-        (e ∙ ap (λ fs. c.args.out.now.items ++ fs) (sym (is-on _ _ _ (ap (λ n. is_on n v.settings) (sym c.as_str.ensures) ∙ sym c.if-not-is_on.ensures) refl))))
+    (e ∙ ap (λ fs. c.args.out.now.items ++ fs) (sym (is-on _ _ _ (ap (λ n. is_on n v.settings) (sym c.as_str.ensures) ∙ sym c.if-not-is_on.ensures) refl))))
     c.run_shipped.ensures
