@@ -45,7 +45,7 @@ pub const EDITION: &str = "2020, the base profile, or 2022: strict scripts of EC
 pub const MODULE: &str = "Modules of ECMAScript 2022";
 
 /// What the help says of `--settings`.
-pub const SETTINGS: &str = "Rules and options, as TOML; without it every rule is on";
+pub const SETTINGS: &str = "Rules and options, as TOML; without it nine rules are on";
 
 /// What the help says of `--spans`.
 pub const SPANS: &str = "Lines START END RULE TEXT: where a report is, in bytes from 0";
