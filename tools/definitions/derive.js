@@ -60,7 +60,6 @@ class Reading {
 }
 
 class TooMuch extends Error {}
-const MORE = { stop: 1 << 28 };
 
 class Derive {
   constructor(model) {

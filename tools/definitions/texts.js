@@ -2,7 +2,6 @@
 // Texts to compare on, and mutations of texts and trees.
 
 const path = require('path');
-const zlib = require('zlib');
 const { randomSource } = require('../model/random.js');
 const { PLAIN_MODEL, FLAGS, FORM, copyTree, nodesOf, noFlags } = require('./model.js');
 const { AROUND, KINDS, LIKE } = require(path.join(PLAIN_MODEL, 'kinds.js'));

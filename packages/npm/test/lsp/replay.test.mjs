@@ -19,7 +19,7 @@ test('the recorded session', async (t) => {
   client.take = () => { client.waits = client.waits.filter((it) => !it()); };
   const fromServer = (list) => list.filter((it) => it.from === 'server');
   let due = 0;
-  for (const { from, message: { jsonrpc, ...message } } of session) {
+  for (const { from, message: { jsonrpc: _jsonrpc, ...message } } of session) {
     if (from === 'server') {
       due++;
       continue;
