@@ -27,9 +27,9 @@ module _ (command : Command) (choice : LanguageChoice) where
   nothing_written false seen UnwrapFailed place hint other refused = (refused.0.2, refused.1)
   nothing_written false seen (NotUtf8 at) place hint other refused = (refused.0.2, refused.1)
   nothing_written false seen TooLong place hint other refused = (refused.0.2, refused.1)
-  nothing_written false seen _ place hint other (kept, (text, is, source, (language, inl (none, read), why), at)) = (none.2, kept)
-  nothing_written false seen _ place hint other (kept, (text, is, source, (language, inr (inl unread, asked), why), at)) = (unread.3, kept)
-  nothing_written false seen _ place hint other (kept, (text, is, source, (language, inr (inr refused, asked), why), at)) = (refused.1.2, kept)
+  nothing_written false seen _ place hint other (kept, (text, is, source, (language, inl (none, read), why, hinted), at)) = (none.2, kept)
+  nothing_written false seen _ place hint other (kept, (text, is, source, (language, inr (inl unread, asked), why, hinted), at)) = (unread.3, kept)
+  nothing_written false seen _ place hint other (kept, (text, is, source, (language, inr (inr refused, asked), why, hinted), at)) = (refused.1.2, kept)
 
   abbrev over : (text second before after : List ℕ) → Bool → Seen
   over text second before after failed = record {
