@@ -27,6 +27,8 @@ pub struct Line<'a> {
     pub edition: Option<&'a str>,
     /// Whether `--module` is given.
     pub is_module: bool,
+    /// Whether `--list` is given: then the file is a list of names. Only `check` has it.
+    pub is_list: bool,
 }
 
 /// A command by its word, with its FILE alone.
@@ -83,7 +85,7 @@ fn noted_command<'a>(
     }
 }
 
-/// `check`, with its settings and its flag.
+/// `check`, with its settings and its flags.
 fn check_command<'a>(alloc: Global) -> Result<clap::Command<'a>, AllocError>
     ensures shape { IfOk result (λ c. app_of c ≡ command_app (Check Places)) }
     ensures local { IfOk result (λ c. (out-Command c).has_globals ≡ false) }
@@ -96,9 +98,14 @@ fn check_command<'a>(alloc: Global) -> Result<clap::Command<'a>, AllocError>
         .long("spans")
         .action(ArgAction::SetTrue)
         .help(help::SPANS);
+    let list = Arg::new(alloc, "list")
+        .long("list")
+        .action(ArgAction::SetTrue)
+        .help(help::LIST);
     file_command(alloc, "check", help::CHECK)?
         .arg(settings)?
-        .arg(spans)
+        .arg(spans)?
+        .arg(list)
 }
 
 /// `verify`, with its TABLE.
@@ -250,12 +257,14 @@ fn line_of<'a>(matches: &ArgMatches<'a>) -> Line<'a>
     };
     let edition = met.get_str("edition");
     let is_module = is_set(met, "module");
+    let is_list = is_set(met, "list");
     Line {
         command,
         file,
         second,
         edition,
         is_module,
+        is_list,
     }
 }
 

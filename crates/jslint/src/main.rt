@@ -4,10 +4,11 @@
 //! - May touch: files and the three standard streams. It opens them and hands on.
 //! - Contract: `Answers` in `specs/Program.antt`: a run on the file that is opened, or on standard input for `-`, with
 //!   the status and the line of its answer.
-//! - Begin at: `main.rt`, `main`; `files.rt`, `open_and_run`; `opened.rt`, `open`; what isn't public is tested in
+//! - Begin at: `main.rt`, `main`; `files.rt`, `open_and_run`; `list_run.rt`, `run_list`; `opened.rt`, `open`; what isn't public is tested in
 //!   `tests.rt`.
 
 mod files;
+mod list_run;
 mod opened;
 
 ghost use Rattle.std.specs.Prelude.{◌≡◌, false, map};
@@ -19,6 +20,7 @@ use command_line::{
 };
 use commands::{Refused, write_refusal};
 use files::{Stop, open_and_run};
+use list_run::run_list;
 use opened::FileSystem;
 use source_text::{Device, Fault, Sink};
 use std::alloc::Global;
@@ -58,7 +60,8 @@ fn explain_no_words<W: Sink>(why: NoWords, errors: &mut W) -> u8
     }
 }
 
-/// Runs a line over its files, in the language that it asks for, and says why where it is refused. Answers the exit status.
+/// Runs a line over its files, or those of its list, in the language that it asks for, and says why where it is refused. Answers the exit
+/// status.
 fn run_line<R: FileSystem + AllocGlobal, O: Sink, W: Sink>(
     rt: &R,
     line: Line,
@@ -73,6 +76,9 @@ fn run_line<R: FileSystem + AllocGlobal, O: Sink, W: Sink>(
         Ok(choice) => choice,
         Err(mistake) => return explain_language(mistake, errors),
     };
+    if line.is_list {
+        return run_list(rt, line, choice, output, errors);
+    }
     match open_and_run(rt, line, choice, output) {
         Ok(status) => status,
         Err(Stop::Unread(name, failure)) => explain_unread(name, failure, errors),
