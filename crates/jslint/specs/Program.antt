@@ -130,6 +130,11 @@ Ends (Ok done) errors status = (status ≡ done) × IsKept errors
 Ends (Err (Refuses refused)) errors status = (status ≡ status_of refused.fault) × GetsLine (refusal_line refused) errors
 Ends (Err (Unread name failure)) errors status = (status ≡ status_of ReadFailed) × GetsLine (unread_line name.now failure) errors
 
+-- a line was run over its files
+abbrev pub RunsFiles : Contents → Line → LanguageChoice → Written → Written → ℕ → Type 0
+RunsFiles gives line choice output errors status =
+    (answer : Result ℕ Stop) × RunsOnFiles gives line choice output.before output.after output.failed answer × Ends answer errors status
+
 -- what is seen of a writer that hadn't failed before
 abbrev pub seen_of : Written → Seen
 seen_of writer = record { before = writer.before; after = writer.after; had_failed = false; failed = writer.failed }
@@ -148,8 +153,7 @@ RunsList gives line choice output errors status =
 
 -- a line was run over its files, or over those of its list
 abbrev pub RunsInLanguage : Bool → Contents → Line → LanguageChoice → Written → Written → ℕ → Type 0
-RunsInLanguage false gives line choice output errors status =
-    (answer : Result ℕ Stop) × RunsOnFiles gives line choice output.before output.after output.failed answer × Ends answer errors status
+RunsInLanguage false gives line choice output errors status = RunsFiles gives line choice output errors status
 RunsInLanguage true gives line choice output errors status = RunsList gives line choice output errors status
 
 -- it was run in the language that it asks for, or it was said that it asks for none
