@@ -93,7 +93,9 @@ def settings(room):
     room.put('s.toml', '[rules]\nno-debugger = false\n')
     room.put('bad.toml', 'x = 1\n')
     same(check(room, 'bug.js', 'bug.js', words=('--settings', 's.toml')), (0, '', ''))
-    same(check(room, 'bug.js', 'bug.js', words=('--settings', 'bad.toml')), (2, '', 'jslint: bad settings at 1:1\n'))
+    same(check(room, 'bug.js', 'bug.js', words=('--settings', 'bad.toml')), (2, '', 'jslint: bad settings\n'))
+    room.put('bad.toml', '\n= 1\n')
+    same(check(room, 'bug.js', 'bug.js', words=('--settings', 'bad.toml')), (2, '', 'jslint: bad settings at 2:1\n'))
     same(check(room, 'bug.js', words=('--settings', 'none.toml')), (2, '', 'jslint: read failed: none.toml: missing\n'))
     same(check(room, 'bug.js', words=('--settings', '-')), (2, '', 'jslint: read failed: -: both files are standard input\n'))
     room.put('list', 'bug.js\0bug.js')
@@ -138,7 +140,9 @@ def failed_writes(room):
     # (a file of at most 1 KiB or so takes a beginning)
     same(room.sh('ulimit -f 8; trap "" XFSZ; jslint check --list list >some'), (2, '', 'jslint: write failed\n'))
     is_well(0 < len(room.text('some')) < len(whole) and whole.startswith(room.text('some')), 'no beginning')
-    same(room.sh('{ jslint check --list list; echo $? >status; } | head -n 1'), (0, f'bug.js:{FOUND}', ''))
+    room.put('list', 'bug.js\0' * 20_000)
+    same(room.sh('{ jslint check --list list; echo $? >status; } | head -n 1'), (0, f'bug.js:{FOUND}', 'jslint: write failed\n'))
+    same(room.text('status'), '2\n')
 
 
 def interrupted(room):

@@ -47,9 +47,13 @@ lone_file_app word = with_rule (new_app word) (required_rule (codes "file"))
 abbrev pub file_app : Text → App
 file_app word = with_rule (with_rule (lone_file_app word) edition_rule) module_rule
 
+-- `check` with its settings and the form of its reports
+abbrev pub reporting_app : App
+reporting_app = with_rule (with_rule (file_app (codes "check")) settings_rule) spans_rule
+
 -- a command with its arguments
 abbrev pub command_app : Command → App
-command_app (Check form) = with_rule (with_rule (with_rule (file_app (word_of (Check form))) settings_rule) spans_rule) list_rule
+command_app (Check form) = with_rule reporting_app list_rule
 command_app Verify = with_rule (file_app (word_of Verify)) (required_rule (codes "table"))
 command_app Same = with_rule (file_app (word_of Same)) (required_rule (codes "other"))
 command_app other = file_app (word_of other)

@@ -1,15 +1,30 @@
 -- Runs over the files of a list.
-use Rattle.std.proofs.Common.{◌≡◌, ◌∙◌, ℕ, List, [], ◌∷◌, Bool, true, false, Option, IfSome, inl, inr, refl, sym, ap, subst}
-use Rattle.std.specs.Prelude.{Result, Ok, Err}
+use Rattle.std.proofs.Common.{◌≡◌, ◌∙◌, ◌<◌, ℕ, List, [], ◌∷◌, Bool, true, false, length, Option, Some, None, IfSome, inl, inr, refl, sym, ap, subst}
+use Rattle.std.specs.Borrow.{Bor}
+use Rattle.std.specs.Option.{option_map, option_map_or}
+use Rattle.std.specs.Prelude.{IfErr, IfOk, Result, Ok, Err, Vec}
+use Rattle.std.specs.declared.alloc.Global.{Global}
+use Rattle.std.specs.Str.{IsUtf8}
+use Rattle.std.specs.declared.alloc.AllocError.{AllocError}
 use Rattle.clap.specs.Words.{Text}
 use Rattle.source_text.specs.Source.{max_bytes}
 use Rattle.source_text.specs.declared.fault.Fault.{Fault}
 use Rattle.source_text.specs.declared.fault.Fault.TheVariants.{OutOfMemory, ReadFailed}
+use Rattle.commands.specs.Refused.{no_memory}
 use Rattle.commands.specs.WholeTexts.{ReadsUpTo}
+use Rattle.commands.specs.declared.command.Command.{Command}
+use Rattle.commands.specs.declared.language_choice.LanguageChoice.{LanguageChoice}
 use Rattle.commands.specs.declared.refused.Refused.{Refused}
+use Rattle.command_line.specs.Shown.{escaped_name, shown_bytes}
+use Rattle.command_line.specs.declared.line.Line.{Line}
+use Rattle.command_line.specs.declared.unread.ReadFailure.{ReadFailure}
+use Rattle.command_line.specs.declared.unread.ReadFailure.TheVariants.{InList, NotUtf8}
 use Rattle.many_files.specs.ManyFiles.{Alone, Seen, TellsEach, TellsOne, Told}
-use Rattle.jslint.specs.ListRun.{StopsReading}
-use Rattle.jslint.specs.Opened.{Contents}
+use Rattle.named_answers.specs.NamedAnswers.{Answers, Tells, told_of, told_unread}
+use Rattle.named_answers.specs.declared.Telling.{Telling}
+use Rattle.jslint.specs.LineFiles.{second_name}
+use Rattle.jslint.specs.ListRun.{CannotRead, HasSettings, Holds, IsTelling, StopsFile, StopsList, StopsReading, answered, input, misnamed, no_memory_for, unread}
+use Rattle.jslint.specs.Opened.{Contents, is_input}
 use Rattle.jslint.specs.Program.{StopsBy, at_no_place}
 use Rattle.jslint.specs.declared.files.Stop.{Stop}
 use Rattle.jslint.specs.declared.files.Stop.TheVariants.{Refuses, Unread}
@@ -42,3 +57,80 @@ tells_names alone names listed o p e f had_o had_e failed_o failed_e status are 
     subst (λ ns. TellsEach alone ns (record { before = o; after = p; had_failed = false; failed = failed_o }) (record { before = e; after = f; had_failed = false; failed = failed_e }) status) are
         (subst (λ b. TellsEach alone names (record { before = o; after = p; had_failed = false; failed = failed_o }) (record { before = e; after = f; had_failed = b; failed = failed_e }) status) good
             (subst (λ b. TellsEach alone names (record { before = o; after = p; had_failed = b; failed = failed_o }) (record { before = e; after = f; had_failed = had_e; failed = failed_e }) status) well tells))
+
+-- ---- what is told of a file, by its name and what that is shown as
+
+-- an answer
+pub telling_answered : (gives : Contents) (command : Command) (choice : LanguageChoice) (settings name shown text : List ℕ) (result : Result Telling AllocError)
+    → Holds gives name text → shown ≡ escaped_name name → IfOk result (λ telling. Answers command choice shown text settings telling)
+    → IfOk result (λ telling. IsTelling gives command choice settings name telling)
+telling_answered gives command choice settings name shown text (Ok telling) holds same (answer, is, tells) =
+    (told_of shown answer, answered text answer holds is (ap (λ (s : List ℕ). told_of s answer) same), tells)
+telling_answered gives command choice settings name shown text (Err e) holds same made = tt
+
+-- a file that can't be read
+pub telling_unread : (gives : Contents) (command : Command) (choice : LanguageChoice) (settings name shown : List ℕ) (failure : ReadFailure) (result : Result Telling AllocError)
+    → CannotRead gives name failure → shown ≡ escaped_name name → IfOk result (λ telling. Tells telling (told_unread shown failure))
+    → IfOk result (λ telling. IsTelling gives command choice settings name telling)
+telling_unread gives command choice settings name shown failure (Ok telling) cannot same tells =
+    (told_unread shown failure, unread failure cannot (ap (λ (s : List ℕ). told_unread s failure) same), tells)
+telling_unread gives command choice settings name shown failure (Err e) cannot same tells = tt
+
+-- one for which memory was refused
+pub telling_refused : (gives : Contents) (command : Command) (choice : LanguageChoice) (settings name shown : List ℕ) (refused : Refused) (result : Result Telling AllocError)
+    → refused ≡ no_memory → shown ≡ escaped_name name → IfOk result (λ telling. Tells telling (told_of shown (Err refused)))
+    → IfOk result (λ telling. IsTelling gives command choice settings name telling)
+telling_refused gives command choice settings name shown refused (Ok telling) is same tells =
+    (told_of shown (Err refused), no_memory_for (ap (λ (s : List ℕ). told_of s (Err refused)) same ∙ ap (λ (r : Refused). told_of (escaped_name name) (Err r)) is), tells)
+telling_refused gives command choice settings name shown refused (Err e) is same tells = tt
+
+-- standard input
+pub telling_input : (gives : Contents) (command : Command) (choice : LanguageChoice) (settings name shown : List ℕ) (result : Result Telling AllocError)
+    → is_input name ≡ true → shown ≡ escaped_name name → IfOk result (λ telling. Tells telling (told_unread shown InList))
+    → IfOk result (λ telling. IsTelling gives command choice settings name telling)
+telling_input gives command choice settings name shown (Ok telling) is same tells =
+    (told_unread shown InList, input is (ap (λ (s : List ℕ). told_unread s InList) same), tells)
+telling_input gives command choice settings name shown (Err e) is same tells = tt
+
+-- a name that isn't UTF-8
+pub telling_misnamed : (gives : Contents) (command : Command) (choice : LanguageChoice) (settings name : List ℕ) (result : Result Telling AllocError)
+    → ¬ (IsUtf8 name) → IfOk result (λ telling. Tells telling (told_unread (shown_bytes name) NotUtf8))
+    → IfOk result (λ telling. IsTelling gives command choice settings name telling)
+telling_misnamed gives command choice settings name (Ok telling) bad tells = (told_unread (shown_bytes name) NotUtf8, misnamed bad refl, tells)
+telling_misnamed gives command choice settings name (Err e) bad tells = tt
+
+-- the name is the same by another word
+pub telling_renamed : (gives : Contents) (command : Command) (choice : LanguageChoice) (settings name other : List ℕ) (result : Result Telling AllocError) → other ≡ name
+    → IfOk result (λ telling. IsTelling gives command choice settings other telling) → IfOk result (λ telling. IsTelling gives command choice settings name telling)
+telling_renamed gives command choice settings name other result same = subst (λ (n : List ℕ). IfOk result (λ telling. IsTelling gives command choice settings n telling)) same
+
+-- ---- the list and the settings
+
+-- a line without settings has none
+pub no_settings : (gives : Contents) (line : Line) (settings : List ℕ) → line.second ≡ None → settings ≡ [] → HasSettings gives line settings
+no_settings gives line settings none empty =
+    subst (λ (second : Option (Bor Text)). option_map_or (λ name. Holds gives name settings) (option_map (λ s. s.now) second) (settings ≡ [])) (sym none) empty
+
+-- those that it names
+pub named_settings : (gives : Contents) (line : Line) (name : Bor Text) (result : Result (Vec ℕ Global) Stop) → line.second ≡ Some name
+    → IfOk result (λ bytes. Holds gives name.now bytes.items) → IfOk result (λ bytes. HasSettings gives line bytes.items)
+named_settings gives line name (Ok bytes) named holds =
+    subst (λ (second : Option (Bor Text)). option_map_or (λ name. Holds gives name bytes.items) (option_map (λ s. s.now) second) (bytes.items ≡ [])) (sym named) holds
+named_settings gives line name (Err stop) named holds = tt
+
+-- what reading the second file of a line stops at
+pub stops_second : (gives : Contents) (line : Line) (name : Bor Text) (result : Result (Vec ℕ Global) Stop) → line.second ≡ Some name
+    → IfErr result (λ stop. StopsReading gives name.now stop) → IfErr result (λ stop. StopsFile gives line stop)
+stops_second gives line name (Ok bytes) named stops = tt
+stops_second gives line name (Err (Unread unread failure)) named (is, cannot) =
+    (inr (ap (option_map (λ s. s.now)) named ∙ ap Some (sym is)), subst (λ (n : Text). CannotRead gives n failure) (sym is) cannot)
+stops_second gives line name (Err (Refuses refused)) named stops = stops
+
+-- and the first
+pub stops_first : (gives : Contents) (line : Line) (choice : LanguageChoice) (stop : Stop) → StopsReading gives line.file.now stop → StopsList gives line choice stop
+stops_first gives line choice (Unread unread failure) (is, cannot) = inl (inl is, subst (λ (n : Text). CannotRead gives n failure) (sym is) cannot)
+stops_first gives line choice (Refuses refused) stops = inr (inr stops)
+
+pub stops_file : (gives : Contents) (line : Line) (choice : LanguageChoice) (stop : Stop) → StopsFile gives line stop → StopsList gives line choice stop
+stops_file gives line choice (Unread unread failure) stops = inl stops
+stops_file gives line choice (Refuses refused) stops = inr (inr stops)
