@@ -9,7 +9,7 @@ use Rattle.std.specs.declared.alloc.AllocError.{AllocError}
 use Rattle.clap.specs.Words.{Text}
 use Rattle.source_text.specs.Source.{max_bytes}
 use Rattle.source_text.specs.declared.fault.Fault.{Fault}
-use Rattle.source_text.specs.declared.fault.Fault.TheVariants.{OutOfMemory, ReadFailed}
+use Rattle.source_text.specs.declared.fault.Fault.TheVariants.{OutOfMemory, ReadFailed, Usage}
 use Rattle.commands.specs.Refused.{no_memory}
 use Rattle.commands.specs.WholeTexts.{ReadsUpTo}
 use Rattle.commands.specs.declared.command.Command.{Command}
@@ -23,9 +23,9 @@ use Rattle.many_files.specs.ManyFiles.{Alone, Seen, TellsEach, TellsOne, Told}
 use Rattle.named_answers.specs.NamedAnswers.{Answers, Tells, told_of, told_unread}
 use Rattle.named_answers.specs.declared.Telling.{Telling}
 use Rattle.jslint.specs.LineFiles.{second_name}
-use Rattle.jslint.specs.ListRun.{CannotRead, HasSettings, Holds, IsTelling, StopsFile, StopsList, StopsReading, answered, input, misnamed, no_memory_for, unread}
+use Rattle.jslint.specs.ListRun.{CannotRead, HasSettings, Holds, IsTelling, StopsFile, StopsList, StopsReading, answered, input, misnamed, no_memory_for, told_stop, unread}
 use Rattle.jslint.specs.Opened.{Contents, is_input}
-use Rattle.jslint.specs.Program.{StopsBy, at_no_place}
+use Rattle.jslint.specs.Program.{IsTold, RunsList, StopsBy, TellsNames, Written, at_no_place}
 use Rattle.jslint.specs.declared.files.Stop.{Stop}
 use Rattle.jslint.specs.declared.files.Stop.TheVariants.{Refuses, Unread}
 
@@ -69,7 +69,7 @@ telling_answered gives command choice settings name shown text (Ok telling) hold
 telling_answered gives command choice settings name shown text (Err e) holds same made = tt
 
 -- a file that can't be read
-pub telling_unread : (gives : Contents) (command : Command) (choice : LanguageChoice) (settings name shown : List ℕ) (failure : ReadFailure) (result : Result Telling AllocError)
+telling_unread : (gives : Contents) (command : Command) (choice : LanguageChoice) (settings name shown : List ℕ) (failure : ReadFailure) (result : Result Telling AllocError)
     → CannotRead gives name failure → shown ≡ escaped_name name → IfOk result (λ telling. Tells telling (told_unread shown failure))
     → IfOk result (λ telling. IsTelling gives command choice settings name telling)
 telling_unread gives command choice settings name shown failure (Ok telling) cannot same tells =
@@ -77,12 +77,19 @@ telling_unread gives command choice settings name shown failure (Ok telling) can
 telling_unread gives command choice settings name shown failure (Err e) cannot same tells = tt
 
 -- one for which memory was refused
-pub telling_refused : (gives : Contents) (command : Command) (choice : LanguageChoice) (settings name shown : List ℕ) (refused : Refused) (result : Result Telling AllocError)
+telling_refused : (gives : Contents) (command : Command) (choice : LanguageChoice) (settings name shown : List ℕ) (refused : Refused) (result : Result Telling AllocError)
     → refused ≡ no_memory → shown ≡ escaped_name name → IfOk result (λ telling. Tells telling (told_of shown (Err refused)))
     → IfOk result (λ telling. IsTelling gives command choice settings name telling)
 telling_refused gives command choice settings name shown refused (Ok telling) is same tells =
     (told_of shown (Err refused), no_memory_for (ap (λ (s : List ℕ). told_of s (Err refused)) same ∙ ap (λ (r : Refused). told_of (escaped_name name) (Err r)) is), tells)
 telling_refused gives command choice settings name shown refused (Err e) is same tells = tt
+
+-- one whose read stopped
+pub telling_stopped : (gives : Contents) (command : Command) (choice : LanguageChoice) (settings name shown : List ℕ) (stop : Stop) (result : Result Telling AllocError)
+    → StopsReading gives name stop → shown ≡ escaped_name name → IfOk result (λ telling. Tells telling (told_stop shown stop))
+    → IfOk result (λ telling. IsTelling gives command choice settings name telling)
+telling_stopped gives command choice settings name shown (Unread _ failure) result stops = telling_unread gives command choice settings name shown failure result stops.1
+telling_stopped gives command choice settings name shown (Refuses refused) result stops = telling_refused gives command choice settings name shown refused result stops
 
 -- standard input
 pub telling_input : (gives : Contents) (command : Command) (choice : LanguageChoice) (settings name shown : List ℕ) (result : Result Telling AllocError)
@@ -134,3 +141,17 @@ stops_first gives line choice (Refuses refused) stops = inr (inr stops)
 pub stops_file : (gives : Contents) (line : Line) (choice : LanguageChoice) (stop : Stop) → StopsFile gives line stop → StopsList gives line choice stop
 stops_file gives line choice (Unread unread failure) stops = inl stops
 stops_file gives line choice (Refuses refused) stops = inr (inr stops)
+
+-- want of memory has words of its own
+pub told_reading : (gives : Contents) (name : Text) (stop : Stop) → StopsReading gives name stop → IsTold stop
+told_reading gives name (Unread unread failure) stops = tt
+told_reading gives name (Refuses refused) is = λ usage. no_usage (sym (ap (λ r. r.fault) is) ∙ usage)
+  where
+    no_usage : OutOfMemory ≡ Usage → ⊥
+    no_usage e = cc
+
+-- the files of a list were told of, or memory was refused for their names
+pub runs_list : (gives : Contents) (line : Line) (choice : LanguageChoice) (list settings : List ℕ) (output errors : Written) (status : ℕ)
+    → Holds gives line.file.now list → HasSettings gives line settings → TellsNames gives line.command choice settings list output errors status → RunsList gives line choice output errors status
+runs_list gives line choice list settings output errors status holds has (inl tells) = inl (list, settings, holds, has, tells)
+runs_list gives line choice list settings output errors status holds has (inr (kept, ends)) = inr (Refuses no_memory, inr (inr refl), kept, ends)

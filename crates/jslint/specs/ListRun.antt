@@ -38,6 +38,11 @@ abbrev pub StopsReading : Contents → Text → Stop → Type 0
 StopsReading gives name (Unread unread failure) = (unread.now ≡ name) × CannotRead gives name failure
 StopsReading gives name (Refuses refused) = refused ≡ no_memory
 
+-- what is told of a file whose read stops
+abbrev pub told_stop : List ℕ → Stop → Told
+told_stop shown (Unread name failure) = told_unread shown failure
+told_stop shown (Refuses refused) = told_of shown (Err refused)
+
 -- What is told of a file alone, by its name: the answer of a run over what it holds; or why there is none. Its lines have the name, each hidden character
 -- escaped; of a name that isn't UTF-8 each byte beyond ASCII.
 pub data TellsFile (gives : Contents) (command : Command) (choice : LanguageChoice) (settings name : List ℕ) (told : Told) : Type 0 where

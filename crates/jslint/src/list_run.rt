@@ -6,9 +6,9 @@ ghost use Rattle.command_line.specs.Shown.{escaped_name, shown_bytes};
 ghost use Rattle.command_line.specs.declared.unread.ReadFailure.TheVariants.{NotUtf8};
 ghost use Rattle.embedding.specs.Answers.{AnswersBytes};
 ghost use Rattle.named_answers.specs.NamedAnswers.{Tells, told_unread};
-ghost use Rattle.jslint.specs.ListRun.{HasSettings, Holds, IsTelling, StopsFile, StopsList, StopsReading};
+ghost use Rattle.jslint.specs.ListRun.{HasSettings, Holds, IsTelling, StopsFile, StopsList, StopsReading, told_stop};
 ghost use Rattle.jslint.specs.Opened.{Gives};
-ghost use Rattle.jslint.specs.Program.{IsTold, RunsList, TellsNames, written};
+ghost use Rattle.jslint.specs.Program.{Ends, IsTold, RunsList, TellsNames, written};
 
 use crate::files::{Stop, is_twice, stop_of, unread_input};
 use crate::opened::{FileSystem, is_input, open};
@@ -37,6 +37,7 @@ struct FileTeller<'a, R> {
 fn bytes_under<'a, R: FileSystem + AllocGlobal>(rt: &R, name: &'a str) -> Result<Vec<u8>, Stop<'a>>
     ensures held { IfOk result (λ bytes. Holds (Gives (R.opens rt.now) (R.reads rt.now) R.File.remaining R.Reader.remaining) name.entry.now bytes.items) }
     ensures stopped { IfErr result (λ stop. StopsReading (Gives (R.opens rt.now) (R.reads rt.now) R.File.remaining R.Reader.remaining) name.entry.now stop) }
+    ensures told { IfErr result (λ stop. IsTold stop) }
 {
     let mut file = match open(rt, name) {
         Ok(file) => file,
@@ -48,7 +49,18 @@ fn bytes_under<'a, R: FileSystem + AllocGlobal>(rt: &R, name: &'a str) -> Result
     }
 }
 
-/// What is told of a file whose name isn't UTF-8: it has no opening of its own.
+/// What is told of a file that can't be read, or for which memory is refused, by what its name is shown as.
+fn telling_of_stop(alloc: Global, shown: &[u8], stop: Stop) -> Result<Telling, AllocError>
+    requires { IsTold stop }
+    ensures { IfOk result (λ telling. Tells telling (told_stop shown.now stop)) }
+{
+    match stop {
+        Stop::Unread(_, failure) => unread(alloc, shown, failure),
+        Stop::Refuses(why) => refused(alloc, shown, &why),
+    }
+}
+
+/// What is told of a file whose name isn't UTF-8: it isn't opened.
 fn misnamed(alloc: Global, name: &[u8]) -> Result<Telling, AllocError>
     ensures { IfOk result (λ telling. Tells telling (told_unread (shown_bytes name.now) NotUtf8)) }
 {
@@ -65,8 +77,7 @@ impl<'a, R: FileSystem + AllocGlobal> FileTeller<'a, R> {
         let alloc = self.rt.alloc();
         match bytes_under(self.rt, name) {
             Ok(text) => answered(alloc, self.command, self.choice, shown, &text, self.settings),
-            Err(Stop::Unread(_, failure)) => unread(alloc, shown, failure),
-            Err(Stop::Refuses(why)) => refused(alloc, shown, &why),
+            Err(stop) => telling_of_stop(alloc, shown, stop),
         }
     }
 
@@ -126,6 +137,7 @@ fn settings_of<'a, R: FileSystem + AllocGlobal>(
     line: Line<'a>,
 ) -> Result<Vec<u8>, Stop<'a>>
     ensures held { IfOk result (λ settings. HasSettings (Gives (R.opens rt.now) (R.reads rt.now) R.File.remaining R.Reader.remaining) line.entry settings.items) }
+    ensures told { IfErr result (λ stop. IsTold stop) }
     ensures stopped { IfErr result (λ stop. StopsFile (Gives (R.opens rt.now) (R.reads rt.now) R.File.remaining R.Reader.remaining) line.entry stop) }
 {
     match line.second {
@@ -140,15 +152,22 @@ fn names_of<'a, R: FileSystem + AllocGlobal>(rt: &R, line: Line<'a>) -> Result<V
     ensures stopped { (choice : _) → IfErr result (λ stop. StopsList (Gives (R.opens rt.now) (R.reads rt.now) R.File.remaining R.Reader.remaining) line.entry choice stop) }
     ensures told { IfErr result (λ stop. IsTold stop) }
 {
-    let names = bytes_under(rt, line.file)?;
+    let names = match bytes_under(rt, line.file) {
+        Ok(names) => names,
+        Err(stop) => return Err(stop),
+    };
     if names.len() > MAX_BYTES {
         return Err(Stop::Refuses(Refused::at_no_place(Fault::TooLong)));
     }
     Ok(names)
 }
 
-/// Whether a run over an empty text is refused, as by settings that are none: then one over each file would be.
-fn refusal_of_settings(
+/// Runs the command over an empty text: where that is refused, as by settings that are none, each file would be.
+///
+/// # Errors
+///
+/// The refusal.
+fn try_settings(
     alloc: Global,
     command: Command,
     choice: LanguageChoice,
@@ -160,6 +179,29 @@ fn refusal_of_settings(
     match run_on_bytes(alloc, command, choice, &[], settings) {
         Ok(_) => Ok(()),
         Err(refused) => Err(refused),
+    }
+}
+
+/// Reads the settings of a line, tries them, and reads its list.
+fn read_listed<'a, R: FileSystem + AllocGlobal>(
+    rt: &R,
+    line: Line<'a>,
+    choice: LanguageChoice,
+) -> Result<Listed, Stop<'a>>
+    ensures held { IfOk result (λ l. Holds (Gives (R.opens rt.now) (R.reads rt.now) R.File.remaining R.Reader.remaining) line.entry.file.now l.names.items × HasSettings (Gives (R.opens rt.now) (R.reads rt.now) R.File.remaining R.Reader.remaining) line.entry l.settings.items) }
+    ensures stopped { IfErr result (λ stop. StopsList (Gives (R.opens rt.now) (R.reads rt.now) R.File.remaining R.Reader.remaining) line.entry choice stop) }
+    ensures told { IfErr result (λ stop. IsTold stop) }
+{
+    let settings = match settings_of(rt, line) {
+        Ok(settings) => settings,
+        Err(stop) => return Err(stop),
+    };
+    if let Err(refused) = try_settings(rt.alloc(), line.command, choice, &settings) {
+        return Err(Stop::Refuses(refused));
+    }
+    match names_of(rt, line) {
+        Ok(names) => Ok(Listed { names, settings }),
+        Err(stop) => Err(stop),
     }
 }
 
@@ -179,12 +221,7 @@ fn listed<'a, R: FileSystem + AllocGlobal>(
     if let Some((name, failure)) = unread_input(rt, line) {
         return Err(Stop::Unread(name, failure));
     }
-    let settings = settings_of(rt, line)?;
-    if let Err(refused) = refusal_of_settings(rt.alloc(), line.command, choice, &settings) {
-        return Err(Stop::Refuses(refused));
-    }
-    let names = names_of(rt, line)?;
-    Ok(Listed { names, settings })
+    read_listed(rt, line, choice)
 }
 
 /// Tells of each file of a list, or that memory was refused for the places of their names.
@@ -201,6 +238,18 @@ fn tell_listed<R: FileSystem + AllocGlobal, O: Sink, W: Sink>(
     match names_in(teller.rt.alloc(), list) {
         Ok(names) => tell_each(teller, &names, output, errors),
         Err(AllocError) => write_refusal(&Refused::at_no_place(Fault::OutOfMemory), errors),
+    }
+}
+
+/// Says why no file of a list was looked at. Answers the exit status.
+fn say_stop<W: Sink>(stop: Stop, errors: &mut W) -> u8
+    requires told { IsTold stop }
+    requires tells { W.failed errors.old ≡ false }
+    ensures { Ends (Err stop) (written W.taken W.failed errors.old errors.new) result }
+{
+    match stop {
+        Stop::Unread(name, failure) => explain_unread(name, failure, errors),
+        Stop::Refuses(refused) => write_refusal(&refused, errors),
     }
 }
 
@@ -226,7 +275,6 @@ pub(crate) fn run_list<R: FileSystem + AllocGlobal, O: Sink, W: Sink>(
             };
             tell_listed(&teller, &listed.names, output, errors)
         }
-        Err(Stop::Unread(name, failure)) => explain_unread(name, failure, errors),
-        Err(Stop::Refuses(refused)) => write_refusal(&refused, errors),
+        Err(stop) => say_stop(stop, errors),
     }
 }
