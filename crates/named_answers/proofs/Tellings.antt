@@ -1,5 +1,5 @@
 -- What is told of a file, made piece by piece.
-use Rattle.std.proofs.Common.{◌≡◌, ◌⊎◌, ◌∙◌, ℕ, List, [], ◌∷◌, ◌++◌, codes, drop, inl, inr, refl, ap, append_assoc}
+use Rattle.std.proofs.Common.{◌≡◌, ◌⊎◌, ◌∙◌, ℕ, List, [], ◌∷◌, ◌++◌, codes, drop, inl, inr, refl, ap, append_assoc, subst}
 use Rattle.std.specs.Prelude.{IfOk, Result, Ok, Err}
 use Rattle.std.specs.declared.alloc.AllocError.{AllocError}
 use Rattle.commands.specs.Refusal.{refusal_line, refusal_words}
@@ -37,3 +37,9 @@ pub told_refused : (command : Command) (choice : LanguageChoice) (shown text set
     → IfOk result (λ telling. Answers command choice shown text settings telling)
 told_refused command choice shown text settings refused (Ok telling) is tells = (Err refused, is, tells)
 told_refused command choice shown text settings refused (Err e) is tells = tt
+
+-- memory was refused, by a refusal that says it
+pub told_no_more : (shown : List ℕ) (output : Output) (why : Refused) (result : Result Telling AllocError) → why ≡ no_memory → IfOk result (λ telling. Tells telling (told_of shown (Err why)))
+    → IfOk result (λ telling. Tells telling (told_of shown (Ok output)) ⊎ Tells telling (told_of shown (Err no_memory)))
+told_no_more shown output why (Ok telling) is tells = inr (subst (λ (r : Refused). Tells telling (told_of shown (Err r))) is tells)
+told_no_more shown output why (Err e) is tells = tt
