@@ -1,7 +1,7 @@
 -- Runs over the files of a list.
 use Rattle.std.proofs.Common.{◌≡◌, ◌∙◌, ◌<◌, ℕ, List, [], ◌∷◌, Bool, true, false, length, Option, Some, None, IfSome, inl, inr, refl, sym, ap, subst}
 use Rattle.std.specs.Borrow.{Bor}
-use Rattle.std.specs.Option.{option_map, option_map_or}
+use Rattle.std.specs.Option.{option_map}
 use Rattle.std.specs.Prelude.{IfErr, IfOk, Result, Ok, Err, Vec}
 use Rattle.std.specs.declared.alloc.Global.{Global}
 use Rattle.std.specs.Str.{IsUtf8}
@@ -23,7 +23,7 @@ use Rattle.many_files.specs.ManyFiles.{Alone, Seen, TellsEach, TellsOne, Told}
 use Rattle.named_answers.specs.NamedAnswers.{Answers, Tells, told_of, told_unread}
 use Rattle.named_answers.specs.declared.Telling.{Telling}
 use Rattle.jslint.specs.LineFiles.{second_name}
-use Rattle.jslint.specs.ListRun.{CannotRead, HasSettings, Holds, IsTelling, StopsFile, StopsList, StopsReading, answered, input, misnamed, no_memory_for, told_stop, unread}
+use Rattle.jslint.specs.ListRun.{CannotRead, HasSettings, Holds, HoldsAny, IsTelling, StopsFile, StopsList, StopsReading, answered, input, misnamed, no_memory_for, told_stop, unread}
 use Rattle.jslint.specs.Opened.{Contents, is_input}
 use Rattle.jslint.specs.Program.{IsTold, RunsList, StopsBy, TellsNames, Written, at_no_place}
 use Rattle.jslint.specs.declared.files.Stop.{Stop}
@@ -116,13 +116,13 @@ telling_renamed gives command choice settings name other result same = subst (λ
 -- a line without settings has none
 pub no_settings : (gives : Contents) (line : Line) (settings : List ℕ) → line.second ≡ None → settings ≡ [] → HasSettings gives line settings
 no_settings gives line settings none empty =
-    subst (λ (second : Option (Bor Text)). option_map_or (λ name. Holds gives name settings) (option_map (λ s. s.now) second) (settings ≡ [])) (sym none) empty
+    subst (λ (second : Option (Bor Text)). HoldsAny gives (option_map (λ s. s.now) second) settings) (sym none) empty
 
 -- those that it names
 pub named_settings : (gives : Contents) (line : Line) (name : Bor Text) (result : Result (Vec ℕ Global) Stop) → line.second ≡ Some name
     → IfOk result (λ bytes. Holds gives name.now bytes.items) → IfOk result (λ bytes. HasSettings gives line bytes.items)
 named_settings gives line name (Ok bytes) named holds =
-    subst (λ (second : Option (Bor Text)). option_map_or (λ name. Holds gives name bytes.items) (option_map (λ s. s.now) second) (bytes.items ≡ [])) (sym named) holds
+    subst (λ (second : Option (Bor Text)). HoldsAny gives (option_map (λ s. s.now) second) bytes.items) (sym named) holds
 named_settings gives line name (Err stop) named holds = tt
 
 -- what reading the second file of a line stops at

@@ -1,6 +1,5 @@
 -- Runs over the files of a list.
-use Rattle.std.specs.Prelude.{◌≡◌, ◌+◌, ◌<◌, ◌⊎◌, ℕ, List, [], Option, IfSome, Result, Ok, Err, length, take, true, false}
-use Rattle.std.specs.Option.{option_map_or}
+use Rattle.std.specs.Prelude.{◌≡◌, ◌+◌, ◌<◌, ◌⊎◌, ℕ, List, [], Option, None, Some, IfSome, Result, Ok, Err, length, take, true, false}
 use Rattle.std.specs.Str.{IsUtf8}
 use Rattle.clap.specs.Words.{Text}
 use Rattle.source_text.specs.Source.{max_bytes}
@@ -63,9 +62,14 @@ abbrev pub StopsFile : Contents → Line → Stop → Type 0
 StopsFile gives line (Unread name failure) = IsNamed line name.now × CannotRead gives name.now failure
 StopsFile gives line (Refuses refused) = refused ≡ no_memory
 
--- the settings of a line: those that are named, or none
+-- what there is to read under a name, where there is a name, or nothing
+abbrev pub HoldsAny : Contents → Option Text → List ℕ → Type 0
+HoldsAny gives None bytes = bytes ≡ []
+HoldsAny gives (Some name) bytes = Holds gives name bytes
+
+-- the settings of a line
 abbrev pub HasSettings : Contents → Line → List ℕ → Type 0
-HasSettings gives line settings = option_map_or (λ name. Holds gives name settings) (second_name line) (settings ≡ [])
+HasSettings gives line settings = HoldsAny gives (second_name line) settings
 
 -- The list of a line and its settings were read, once, and each file that the list names was told of.
 abbrev pub TellsListed : Contents → Line → LanguageChoice → Seen → Seen → ℕ → Type 0

@@ -52,7 +52,7 @@ fn bytes_under<'a, R: FileSystem + AllocGlobal>(rt: &R, name: &'a str) -> Result
 /// What is told of a file that can't be read, or for which memory is refused, by what its name is shown as.
 fn telling_of_stop(alloc: Global, shown: &[u8], stop: Stop) -> Result<Telling, AllocError>
     requires { IsTold stop }
-    ensures { IfOk result (λ telling. Tells telling (told_stop shown.now stop)) }
+    ensures { IfOk result (λ telling. Tells telling (told_stop shown.now stop.entry)) }
 {
     match stop {
         Stop::Unread(_, failure) => unread(alloc, shown, failure),
@@ -126,7 +126,7 @@ impl<'a, R: FileSystem + AllocGlobal, O: Sink, E: Sink> Teller<O, E> for FileTel
 
 /// A list and settings, which were read.
 #[derive(Drop)]
-struct Listed {
+struct ListTexts {
     names: Vec<u8>,
     settings: Vec<u8>,
 }
@@ -187,7 +187,7 @@ fn read_listed<'a, R: FileSystem + AllocGlobal>(
     rt: &R,
     line: Line<'a>,
     choice: LanguageChoice,
-) -> Result<Listed, Stop<'a>>
+) -> Result<ListTexts, Stop<'a>>
     ensures held { IfOk result (λ l. Holds (Gives (R.opens rt.now) (R.reads rt.now) R.File.remaining R.Reader.remaining) line.entry.file.now l.names.items × HasSettings (Gives (R.opens rt.now) (R.reads rt.now) R.File.remaining R.Reader.remaining) line.entry l.settings.items) }
     ensures stopped { IfErr result (λ stop. StopsList (Gives (R.opens rt.now) (R.reads rt.now) R.File.remaining R.Reader.remaining) line.entry choice stop) }
     ensures told { IfErr result (λ stop. IsTold stop) }
@@ -200,7 +200,7 @@ fn read_listed<'a, R: FileSystem + AllocGlobal>(
         return Err(Stop::Refuses(refused));
     }
     match names_of(rt, line) {
-        Ok(names) => Ok(Listed { names, settings }),
+        Ok(names) => Ok(ListTexts { names, settings }),
         Err(stop) => Err(stop),
     }
 }
@@ -210,7 +210,7 @@ fn listed<'a, R: FileSystem + AllocGlobal>(
     rt: &R,
     line: Line<'a>,
     choice: LanguageChoice,
-) -> Result<Listed, Stop<'a>>
+) -> Result<ListTexts, Stop<'a>>
     ensures held { IfOk result (λ l. Holds (Gives (R.opens rt.now) (R.reads rt.now) R.File.remaining R.Reader.remaining) line.entry.file.now l.names.items × HasSettings (Gives (R.opens rt.now) (R.reads rt.now) R.File.remaining R.Reader.remaining) line.entry l.settings.items) }
     ensures stopped { IfErr result (λ stop. StopsList (Gives (R.opens rt.now) (R.reads rt.now) R.File.remaining R.Reader.remaining) line.entry choice stop) }
     ensures told { IfErr result (λ stop. IsTold stop) }
@@ -245,7 +245,7 @@ fn tell_listed<R: FileSystem + AllocGlobal, O: Sink, W: Sink>(
 fn say_stop<W: Sink>(stop: Stop, errors: &mut W) -> u8
     requires told { IsTold stop }
     requires tells { W.failed errors.old ≡ false }
-    ensures { Ends (Err stop) (written W.taken W.failed errors.old errors.new) result }
+    ensures { Ends (Err stop.entry) (written W.taken W.failed errors.old errors.new) result }
 {
     match stop {
         Stop::Unread(name, failure) => explain_unread(name, failure, errors),
