@@ -20,9 +20,9 @@ SCRIPTS = {'a.js', 'two words.js'}
 # Words of a command line, the last one unfinished; what is offered for it; and what mustn't be.
 ASKED = [
     ('jslint ', COMMANDS, set()), ('jslint c', {'check', 'cost'}, {'fix'}), ('jslint -', {'--help', '--version'}, {'check'}),
-    ('jslint help ', COMMANDS - {'help'}, SCRIPTS), ('jslint check ', SCRIPTS, COMMANDS), ('jslint check -', {'--settings', '--spans', '--help', *LANGUAGE}, {'--version'}),
+    ('jslint help ', COMMANDS - {'help'}, SCRIPTS), ('jslint check ', SCRIPTS, COMMANDS), ('jslint check -', {'--settings', '--spans', '--list', '--help', *LANGUAGE}, {'--version'}),
     ('jslint check --settings ', {'s.toml'}, COMMANDS), ('jslint unwrap ', SCRIPTS, COMMANDS), ('jslint verify ', SCRIPTS, COMMANDS), ('jslint same a.js ', SCRIPTS, COMMANDS),
-    ('jslint verify a.js ', {'table'}, COMMANDS), ('jslint fix -', {'--help', *LANGUAGE}, {'--settings', '--write'}),
+    ('jslint verify a.js ', {'table'}, COMMANDS), ('jslint fix -', {'--help', *LANGUAGE}, {'--settings', '--list', '--write'}),
     ('jslint same --edition ', {'2020', '2022'}, SCRIPTS), ('jslint-files --edition ', {'2020', '2022'}, SCRIPTS), ('jslint help -', set(), LANGUAGE),
     ('jslint-files ', {'check', 'fix', 'unwrap'} | SCRIPTS, {'tree'}), ('jslint-files -', CHECKING, {'--write'}),
     ('jslint-files check -', CHECKING, {'--write'}), ('jslint-files fix -', REWRITING | {'--drop-comments'}, {'--settings', '--format', '--drop-casts'}),

@@ -424,12 +424,16 @@ NO_LANGUAGE = {'Edition': 'jslint: --edition is 2020 or 2022\n', 'Module': "jsli
 
 def command_line(texts, want):
     words = texts[0].split(' ')[1:]
-    asked = re.fullmatch(r'\((\w+)(?:\((\w+)\))?, "(.*?)", (?:None|Some\("(.*)"\))\)(?: (wrong )?(\w+))?', want)
+    asked = re.fullmatch(r'\((\w+)(?:\((\w+)\))?, "(.*?)", (?:None|Some\("(.*)"\))\)(?: (wrong )?(?!list)(\w+))?( list)?', want)
     with tempfile.TemporaryDirectory(dir=ROOM.name) as folder:
-        given = b'((a));'
+        given = script = b'((a));'
+        if asked and asked[7]:
+            with open(f'{folder}/listed.js', 'wb') as to:
+                to.write(script)
+            given = script = b'listed.js\0'
         if asked:
             name, file, second = 'spans' if asked[2] == 'Spans' else asked[1].lower(), asked[3], asked[4]
-            for it, content in [(second, SECONDS.get(name)), (file, b'((a));')]:
+            for it, content in [(second, SECONDS.get(name)), (file, script)]:
                 # (what `-` stands for is standard input, not a file of that name)
                 given = content if it == '-' else given
                 if it and not it.startswith('/'):
@@ -450,6 +454,8 @@ def command_line(texts, want):
     if second == '':
         return hold((answer.status, answer.err) == (2, 'jslint: read failed: : missing\n'), answer)
     status, out = (ASKED if second is not None else {**ASKED, **REPORTED})[name]
+    if asked[7]:
+        out = ''.join(f'listed.js:{it}' for it in out.splitlines(True))
     return hold((answer.status, answer.err) == (status, '') and answer.out == (out if out is not None else answer.out), answer)
 
 

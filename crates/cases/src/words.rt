@@ -79,14 +79,23 @@ fn push_mistake(kind: ErrorKind, out: &mut String) -> Result<(), AllocError> {
     }
 }
 
-/// The command and the files of a line, and behind them the language that it asks for, where it says something of it.
-fn push_line(line: Line, out: &mut String) -> Result<(), AllocError> {
-    write!(out, "{:?}", (line.command, line.file, line.second))?;
+/// The language that a line asks for, where it says something of it.
+fn push_language(line: Line, out: &mut String) -> Result<(), AllocError> {
     match line.language() {
         Ok(LanguageChoice::Unsaid) => Ok(()),
         Ok(choice) => write!(out, " {choice:?}"),
         Err(mistake) => write!(out, " wrong {mistake:?}"),
     }
+}
+
+/// The command and the files of a line, and behind them the language that it asks for, and whether its file is a list.
+fn push_line(line: Line, out: &mut String) -> Result<(), AllocError> {
+    write!(out, "{:?}", (line.command, line.file, line.second))?;
+    push_language(line, out)?;
+    if line.is_list {
+        out.push_str(" list")?;
+    }
+    Ok(())
 }
 
 /// What a command line asks for, or the kind of its refusal.
@@ -125,6 +134,8 @@ fn failure(word: &str) -> ReadFailure {
         "NotPermitted" => ReadFailure::NotPermitted,
         "LinkCircle" => ReadFailure::LinkCircle,
         "Twice" => ReadFailure::Twice,
+        "InList" => ReadFailure::InList,
+        "NotUtf8" => ReadFailure::NotUtf8,
         _ => ReadFailure::Other,
     }
 }

@@ -1,10 +1,11 @@
 -- One more character is shown behind others.
-use Rattle.std.proofs.Common.{◌≡◌, ℕ, Bool, List, [], ◌∷◌, ◌++◌, flat_map, sym, ap, ◌∙◌, append_assoc}
+use Rattle.std.proofs.Common.{◌≡◌, ◌<◌, ◌+◌, ℕ, suc, Bool, List, [], ◌∷◌, ◌++◌, flat_map, length, slice_index_or, take, sym, ap, ◌∙◌, append_assoc, arith}
 use Rattle.std.specs.Prelude.{encode_utf8_all}
 use Rattle.std.proofs.lemmas.List.{flat_map_more}
 use Rattle.std.proofs.lemmas.List.Concat.{flat_map-append}
 use Rattle.std.proofs.lemmas.Str.{encodes-append}
-use Rattle.command_line.specs.Shown.{shown, within_line}
+use Rattle.std.proofs.Math.Seq.{take-suc}
+use Rattle.command_line.specs.Shown.{shown, shown_byte, within_line}
 
 one_more : (f : ℕ → List ℕ) (xs : List ℕ) (c : ℕ) → encode_utf8_all (flat_map f xs) ++ encode_utf8_all (f c) ≡ encode_utf8_all (flat_map f (xs ++ c ∷ []))
 one_more f xs c = sym (encodes-append (flat_map f xs) (f c)) ∙ ap encode_utf8_all (flat_map_more f [] xs c)
@@ -26,3 +27,9 @@ shown_rest has_lines start all xs ys e =
     ∙ ap (λ cs. start ++ encode_utf8_all cs) (flat_map-append (shown has_lines) xs ys)
     ∙ ap (λ t. start ++ t) (encodes-append (flat_map (shown has_lines) xs) (flat_map (shown has_lines) ys))
     ∙ sym (append_assoc start (encode_utf8_all (flat_map (shown has_lines) xs)) (encode_utf8_all (flat_map (shown has_lines) ys)))
+
+-- one more byte is shown
+pub byte_more : (name : List ℕ) (i : ℕ) → i < length name → flat_map shown_byte (take i name) ++ shown_byte (slice_index_or name i 0) ≡ flat_map shown_byte (take (i + 1) name)
+byte_more name i low =
+    let next : suc i ≡ i + 1 = omega arith in
+    flat_map_more shown_byte [] (take i name) (slice_index_or name i 0) ∙ ap (flat_map shown_byte) (sym (take-suc name i 0 low)) ∙ ap (λ k. flat_map shown_byte (take k name)) next

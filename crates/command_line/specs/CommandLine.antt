@@ -27,6 +27,10 @@ settings_rule = record (new_rule (codes "settings")) { long = Some (codes "setti
 abbrev pub spans_rule : Rule
 spans_rule = record (new_rule (codes "spans")) { long = Some (codes "spans"); action = Some SetTrue }
 
+-- `--list`
+abbrev pub list_rule : Rule
+list_rule = record (new_rule (codes "list")) { long = Some (codes "list"); action = Some SetTrue }
+
 -- `--edition YEAR`
 abbrev pub edition_rule : Rule
 edition_rule = record (new_rule (codes "edition")) { long = Some (codes "edition"); value_names = 1 }
@@ -43,9 +47,13 @@ lone_file_app word = with_rule (new_app word) (required_rule (codes "file"))
 abbrev pub file_app : Text → App
 file_app word = with_rule (with_rule (lone_file_app word) edition_rule) module_rule
 
+-- `check` with its settings and the form of its reports
+abbrev pub reporting_app : App
+reporting_app = with_rule (with_rule (file_app (codes "check")) settings_rule) spans_rule
+
 -- a command with its arguments
 abbrev pub command_app : Command → App
-command_app (Check form) = with_rule (with_rule (file_app (word_of (Check form))) settings_rule) spans_rule
+command_app (Check form) = with_rule reporting_app list_rule
 command_app Verify = with_rule (file_app (word_of Verify)) (required_rule (codes "table"))
 command_app Same = with_rule (file_app (word_of Same)) (required_rule (codes "other"))
 command_app other = file_app (word_of other)
@@ -90,10 +98,11 @@ abbrev pub HasLanguage : List Row → Option Text → Bool → Type 0
 HasLanguage rows edition is_module = (edition ≡ first_of (codes "edition") rows) × (is_module ≡ is_set (codes "module") rows)
 
 -- the subcommand that was met is the line's command, in the form that was asked for, the line's files are the first values of its arguments, and so is
--- what it says of the language
+-- what it says of the language; FILE is a list of names where `--list` was given, which `check` alone knows
 abbrev pub Chooses : Option (Text × List Row) → Line → Type 0
 Chooses met line = (rows : List Row) × (met ≡ Some (word_of line.command, rows)) × (first_of (codes "file") rows ≡ Some line.file.now)
     × HasSecond line.command rows (option_map (λ s. s.now) line.second) × HasForm line.command rows × HasLanguage rows (option_map (λ s. s.now) line.edition) line.is_module
+    × (line.is_list ≡ is_set (codes "list") rows)
 
 -- the command that a word gives before its flags are looked at
 abbrev pub plain : Command → Command

@@ -37,6 +37,14 @@ escaped text = shown_text true text
 abbrev pub escaped_name : List ℕ → List ℕ
 escaped_name name = shown_text false name
 
+-- a byte of a name that isn't UTF-8: a letter, a digit, a sign or a space of ASCII, or what is shown in its place
+abbrev pub shown_byte : ℕ → List ℕ
+shown_byte b = if is_in_range 32 126 b then b ∷ [] else codes "\\x" ++ encode_utf8_all (two_digits b)
+
+-- a name that isn't UTF-8, on one line
+abbrev pub shown_bytes : List ℕ → List ℕ
+shown_bytes name = flat_map shown_byte name
+
 -- a character of a text that is to stand on one line
 abbrev pub within_line : ℕ → List ℕ
 within_line c = if c == 10 then escape c else c ∷ []

@@ -50,6 +50,10 @@ pub const SETTINGS: &str = "Rules and options, as TOML; without it nine rules ar
 /// What the help says of `--spans`.
 pub const SPANS: &str = "Lines START END RULE TEXT: where a report is, in bytes from 0";
 
+/// What the help says of `--list`.
+pub const LIST: &str =
+    "FILE has names, each ended by a zero byte: lines NAME:LINE:COLUMN RULE TEXT";
+
 /// What the help says of the cost table's file.
 pub const TABLE: &str = "A cost table, as `cost` writes it";
 
@@ -62,6 +66,7 @@ Examples:
   jslint check app.js
   jslint check app.js --settings jslint.toml
   jslint check app.js --spans
+  git ls-files -z '*.js' | jslint check --list -
   jslint tree app.js
   jslint fix app.js > fixed.js
   jslint unwrap app.js > clean.js
@@ -77,8 +82,8 @@ Examples:
 A name that may begin with `-` goes after `--`, or it is read as an option:
 `jslint check -- FILE`, `jslint check --settings=FILE -- FILE`.
 
-Limits: 16,777,216 bytes of a script in UTF-8, and of settings; a tree of height
-600; 1,200 parentheses open at one point that group or hold an arrow's
+Limits: 16,777,216 bytes of a script in UTF-8, of settings, and of a list; a tree
+of height 600; 1,200 parentheses open at one point that group or hold an arrow's
 parameters. `-` is standard input, as FILE or in the place of a second file;
 `./-` is a file of that name.
 

@@ -17,4 +17,5 @@ pub use asked_language::{LanguageMistake, explain_language};
 pub use escaped::write_escaped;
 pub use line::{Line, command_line};
 pub use mistake::{explain, explain_not_utf8};
-pub use unread::{ReadFailure, explain_unread};
+pub use shown::{shown_bytes, shown_name};
+pub use unread::{ReadFailure, explain_unread, failure_words};

@@ -6,7 +6,7 @@ ghost use Rattle.clap.specs.declared.builder.command.Command.TheViews.{out-Comma
 ghost use Rattle.commands.specs.Commands.{word_of};
 ghost use Rattle.commands.specs.declared.command.Command.TheVariants.{Check, Same, Verify};
 ghost use Rattle.commands.specs.declared.command.ReportForm.TheVariants.{Places};
-ghost use Rattle.command_line.specs.CommandLine.{Chooses, MeetsCommand, ReadsAlike, bare_app, command_app, file_app, form_of, is_set, jslint_app, lone_file_app, plain};
+ghost use Rattle.command_line.specs.CommandLine.{Chooses, MeetsCommand, ReadsAlike, bare_app, command_app, file_app, form_of, is_set, jslint_app, lone_file_app, plain, reporting_app};
 
 use crate::help;
 use clap::error::ErrorKind;
@@ -27,6 +27,8 @@ pub struct Line<'a> {
     pub edition: Option<&'a str>,
     /// Whether `--module` is given.
     pub is_module: bool,
+    /// Whether `--list` is given: then the file is a list of names. Only `check` has it.
+    pub is_list: bool,
 }
 
 /// A command by its word, with its FILE alone.
@@ -83,9 +85,9 @@ fn noted_command<'a>(
     }
 }
 
-/// `check`, with its settings and its flag.
-fn check_command<'a>(alloc: Global) -> Result<clap::Command<'a>, AllocError>
-    ensures shape { IfOk result (λ c. app_of c ≡ command_app (Check Places)) }
+/// `check`, with its settings and the form of its reports.
+fn reporting_command<'a>(alloc: Global) -> Result<clap::Command<'a>, AllocError>
+    ensures shape { IfOk result (λ c. app_of c ≡ reporting_app) }
     ensures local { IfOk result (λ c. (out-Command c).has_globals ≡ false) }
 {
     let settings = Arg::new(alloc, "settings")
@@ -99,6 +101,18 @@ fn check_command<'a>(alloc: Global) -> Result<clap::Command<'a>, AllocError>
     file_command(alloc, "check", help::CHECK)?
         .arg(settings)?
         .arg(spans)
+}
+
+/// `check`, with all that it takes.
+fn check_command<'a>(alloc: Global) -> Result<clap::Command<'a>, AllocError>
+    ensures shape { IfOk result (λ c. app_of c ≡ command_app (Check Places)) }
+    ensures local { IfOk result (λ c. (out-Command c).has_globals ≡ false) }
+{
+    let list = Arg::new(alloc, "list")
+        .long("list")
+        .action(ArgAction::SetTrue)
+        .help(help::LIST);
+    reporting_command(alloc)?.arg(list)
 }
 
 /// `verify`, with its TABLE.
@@ -250,12 +264,14 @@ fn line_of<'a>(matches: &ArgMatches<'a>) -> Line<'a>
     };
     let edition = met.get_str("edition");
     let is_module = is_set(met, "module");
+    let is_list = is_set(met, "list");
     Line {
         command,
         file,
         second,
         edition,
         is_module,
+        is_list,
     }
 }
 

@@ -1,8 +1,8 @@
 //! Characters of the user's words as they are shown on a terminal.
 
-ghost use Rattle.std.specs.Prelude.{◌≡◌, ◌<◌, ◌≤◌, ◌+◌, ◌++◌, IfOk, encode_utf8, encode_utf8_all, length, string_bytes, true};
+ghost use Rattle.std.specs.Prelude.{◌≡◌, ◌<◌, ◌≤◌, ◌+◌, ◌++◌, IfOk, encode_utf8, encode_utf8_all, false, length, string_bytes, true};
 ghost use Rattle.std.specs.Char.{digit_char};
-ghost use Rattle.command_line.specs.Shown.{escape, is_hidden, on_one_line, shown, two_digits, within_line};
+ghost use Rattle.command_line.specs.Shown.{escape, escaped_name, is_hidden, on_one_line, shown, shown_byte, shown_bytes, two_digits, within_line};
 
 use source_text::OutputBuffer;
 use std::alloc::{AllocError, Global};
@@ -107,4 +107,53 @@ pub(crate) fn text_on_one_line(alloc: Global, text: &str) -> Result<String, Allo
         push_within_line(&mut out, c)?;
     }
     Ok(out)
+}
+
+/// The name on one line, each hidden character escaped, as a line about its file has it.
+///
+/// # Errors
+///
+/// `AllocError` where memory is refused.
+pub fn shown_name(alloc: Global, name: &str) -> Result<Vec<u8>, AllocError>
+    ensures { IfOk result (λ shown. shown.items ≡ escaped_name name.now) }
+{
+    let mut bytes = Vec::new(alloc);
+    let mut waiting = OutputBuffer::new();
+    for c in name.chars() {
+        waiting.clear();
+        push_shown(&mut waiting, c, false);
+        bytes.extend_from_slice(waiting.as_bytes())?;
+    }
+    Ok(bytes)
+}
+
+/// Puts a byte of a name that isn't UTF-8, or what is shown in its place, behind what waits.
+fn push_byte(waiting: &mut OutputBuffer, byte: u8)
+    requires { length waiting.old ≤ 4064 }
+    ensures { waiting.new ≡ waiting.old ++ shown_byte byte }
+{
+    if (32..=126).contains(&byte) {
+        waiting.push(byte);
+        return;
+    }
+    waiting.push_text("\\x");
+    push_two_digits(waiting, u32::from(byte));
+}
+
+/// A name that isn't UTF-8 on one line: each byte that is no letter, digit or sign of ASCII escaped.
+///
+/// # Errors
+///
+/// `AllocError` where memory is refused.
+pub fn shown_bytes(alloc: Global, name: &[u8]) -> Result<Vec<u8>, AllocError>
+    ensures { IfOk result (λ shown. shown.items ≡ shown_bytes name.now) }
+{
+    let mut bytes = Vec::new(alloc);
+    let mut waiting = OutputBuffer::new();
+    for byte in name {
+        waiting.clear();
+        push_byte(&mut waiting, *byte);
+        bytes.extend_from_slice(waiting.as_bytes())?;
+    }
+    Ok(bytes)
 }

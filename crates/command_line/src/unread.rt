@@ -21,12 +21,16 @@ pub enum ReadFailure {
     LinkCircle,
     /// It is standard input, and so is the other file.
     Twice,
+    /// It is standard input, and a list has it.
+    InList,
+    /// Its name isn't UTF-8.
+    NotUtf8,
     /// Any other reason, or none is told.
     Other,
 }
 
 /// What is said behind the name.
-fn failure_words(failure: ReadFailure) -> &'static str
+pub fn failure_words(failure: ReadFailure) -> &'static str
     ensures words { result.now ≡ failure_words failure }
     ensures short { length result.now ≤ 31 }
 {
@@ -36,6 +40,8 @@ fn failure_words(failure: ReadFailure) -> &'static str
         ReadFailure::NotPermitted => ": not permitted",
         ReadFailure::LinkCircle => ": links in a circle",
         ReadFailure::Twice => ": both files are standard input",
+        ReadFailure::InList => ": standard input in a list",
+        ReadFailure::NotUtf8 => ": the name is not UTF-8",
         ReadFailure::Other => "",
     }
 }

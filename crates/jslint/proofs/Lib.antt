@@ -1,2 +1,3 @@
 pub mod UnreadFiles
 pub mod HelpAnswers
+pub mod ListRuns

@@ -1,2 +1,4 @@
 pub mod Opened
+pub mod LineFiles
+pub mod ListRun
 pub mod Program

@@ -1,9 +1,6 @@
 -- Runs of a command by the program.
 use Rattle.std.specs.Prelude.{◌≡◌, ◌≢◌, ◌⊎◌, ◌&&◌, List, [], ℕ, Bool, false, true, Option, None, Some, IfSome, Result, Ok, Err, option_map}
-use Rattle.std.specs.Option.{option_map_or}
 use Rattle.std.specs.Io.KnownBytes.{Keeps}
-use Rattle.std.specs.declared.io.ErrorKind.{ErrorKind as IoErrorKind}
-use Rattle.std.specs.declared.io.ErrorKind.TheVariants as io_error_kind
 use Rattle.clap.specs.Words.{HasKind, Text, fault_of, kind_of, subcommand_of}
 use Rattle.clap.specs.declared.error.Error.{Error}
 use Rattle.clap.specs.declared.error.kind.ErrorKind.{ErrorKind}
@@ -17,31 +14,25 @@ use Rattle.command_line.specs.Tip.{WritesMistake, tip_of}
 use Rattle.command_line.specs.Unread.{unread_line}
 use Rattle.command_line.specs.declared.line.Line.{Line}
 use Rattle.command_line.specs.declared.unread.ReadFailure.{ReadFailure}
-use Rattle.command_line.specs.declared.unread.ReadFailure.TheVariants.{Missing, Folder, NotPermitted, LinkCircle, Twice, Other}
+use Rattle.command_line.specs.declared.unread.ReadFailure.TheVariants.{Twice}
 use Rattle.shipped_rules.specs.ShippedRules.{RunsByRules}
 use Rattle.commands.specs.Refusal.{WritesLine, refusal_line, status_of}
 use Rattle.commands.specs.Refused.{at_no_place}
 use Rattle.commands.specs.declared.language_choice.LanguageChoice.{LanguageChoice}
 use Rattle.commands.specs.declared.refused.Refused.{Refused}
-use Rattle.jslint.specs.Opened.{Contents, is_input}
+use Rattle.commands.specs.Refused.{no_memory}
+use Rattle.commands.specs.declared.command.Command.{Command}
+use Rattle.many_files.specs.ManyFiles.{Seen, TellsEach}
+use Rattle.many_files.specs.Names.{names_of}
+use Rattle.jslint.specs.ListRun.{StopsList, TellsFile, TellsListed}
+pub use Rattle.jslint.specs.LineFiles.{IsFailure, IsNamed, IsOfOpened, failure_of, is_twice, second_name}
+use Rattle.jslint.specs.Opened.{Contents}
 use Rattle.jslint.specs.declared.files.Stop.{Stop}
 use Rattle.jslint.specs.declared.files.Stop.TheVariants.{Refuses, Unread}
 
 -- a file can't be opened or read
 abbrev pub no_file : Refused
 no_file = at_no_place ReadFailed
-
--- the name of the second file, where there is one
-abbrev pub second_name : Line → Option Text
-second_name line = option_map (λ s. s.now) line.second
-
--- whether both files of a line are standard input
-abbrev pub is_twice : Line → Bool
-is_twice line = option_map_or (λ (name : Text). is_input line.file.now && is_input name) (second_name line) false
-
--- the name of a file of a line
-abbrev pub IsNamed : Line → Text → Type 0
-IsNamed line name = (name ≡ line.file.now) ⊎ (second_name line ≡ Some name)
 
 -- a run of a line's command in a language, by what its two readers have to give and what its writer took, and which of them has failed
 abbrev pub RunsOver : Line → LanguageChoice → (given second before after : Option (List ℕ)) → (reader_failed second_failed writer_failed : Bool) → Result ℕ Refused → Type 0
@@ -67,19 +58,6 @@ pub record RunsOpened (gives : Contents) (line : Line) (choice : LanguageChoice)
   pub unnamed : line.second ≡ None → (second ≡ Some []) × (second_failed ≡ false)
   pub runs : RunsOver line choice given second before after reader_failed second_failed failed result
 
--- why a file can't be opened, by the kind of the system's error
-abbrev pub failure_of : IoErrorKind → ReadFailure
-failure_of io_error_kind.NotFound = Missing
-failure_of io_error_kind.NotADirectory = Missing
-failure_of io_error_kind.IsADirectory = Folder
-failure_of io_error_kind.PermissionDenied = NotPermitted
-failure_of io_error_kind.FilesystemLoop = LinkCircle
-failure_of _ = Other
-
--- the opening of the file of a name, or the read of standard input, gave an error, which is why there is nothing to read
-abbrev pub IsFailure : Contents → Text → ReadFailure → Type 0
-IsFailure gives name failure = (kind : IoErrorKind) × gives name (Err kind) × (failure ≡ failure_of kind)
-
 -- a file that can't be opened is one of the line, its opening failed, and nothing was written
 abbrev pub IsUnopened : Contents → Line → Option (List ℕ) → Option (List ℕ) → Bool → Text → ReadFailure → Type 0
 IsUnopened gives line before after failed name failure =
@@ -89,10 +67,6 @@ IsUnopened gives line before after failed name failure =
 abbrev pub IsOfFailed : Line → Bool → Bool → Text → Type 0
 IsOfFailed line reader_failed second_failed name =
     ((reader_failed ≡ true) × (name ≡ line.file.now)) ⊎ ((second_failed ≡ true) × (second_name line ≡ Some name))
-
--- of what was opened it is only told that it is a folder
-abbrev pub IsOfOpened : ReadFailure → Type 0
-IsOfOpened failure = (failure ≡ Folder) ⊎ (failure ≡ Other)
 
 -- a run over opened files was refused since one failed, and that is the file of this name
 abbrev pub IsUnread : Contents → Line → LanguageChoice → Option (List ℕ) → Option (List ℕ) → Bool → Text → ReadFailure → Type 0
@@ -153,10 +127,35 @@ Ends (Ok done) errors status = (status ≡ done) × IsKept errors
 Ends (Err (Refuses refused)) errors status = (status ≡ status_of refused.fault) × GetsLine (refusal_line refused) errors
 Ends (Err (Unread name failure)) errors status = (status ≡ status_of ReadFailed) × GetsLine (unread_line name.now failure) errors
 
--- a line was run over its files in the language that it asks for, or it was said that it asks for none
-abbrev pub RunsLineIn : Contents → Line → Result LanguageChoice LanguageMistake → Written → Written → ℕ → Type 0
-RunsLineIn gives line (Ok choice) output errors status =
+-- a line was run over its files
+abbrev pub RunsFiles : Contents → Line → LanguageChoice → Written → Written → ℕ → Type 0
+RunsFiles gives line choice output errors status =
     (answer : Result ℕ Stop) × RunsOnFiles gives line choice output.before output.after output.failed answer × Ends answer errors status
+
+-- what is seen of a writer that hadn't failed before
+abbrev pub seen_of : Written → Seen
+seen_of writer = record { before = writer.before; after = writer.after; had_failed = false; failed = writer.failed }
+
+-- each file that a list names was told of, or it was said that memory was refused for their places
+abbrev pub TellsNames : Contents → Command → LanguageChoice → (settings list : List ℕ) → Written → Written → ℕ → Type 0
+TellsNames gives command choice settings list output errors status =
+    TellsEach (TellsFile gives command choice settings) (names_of list) (seen_of output) (seen_of errors) status
+    ⊎ (IsKept output × Ends (Err (Refuses no_memory)) errors status)
+
+-- each file of the line's list was told of; or why none was is said, and nothing was written
+abbrev pub RunsList : Contents → Line → LanguageChoice → Written → Written → ℕ → Type 0
+RunsList gives line choice output errors status =
+    TellsListed gives line choice (seen_of output) (seen_of errors) status
+    ⊎ ((stop : Stop) × StopsList gives line choice stop × IsKept output × Ends (Err stop) errors status)
+
+-- a line was run over its files, or over those of its list
+abbrev pub RunsInLanguage : Bool → Contents → Line → LanguageChoice → Written → Written → ℕ → Type 0
+RunsInLanguage false gives line choice output errors status = RunsFiles gives line choice output errors status
+RunsInLanguage true gives line choice output errors status = RunsList gives line choice output errors status
+
+-- it was run in the language that it asks for, or it was said that it asks for none
+abbrev pub RunsLineIn : Contents → Line → Result LanguageChoice LanguageMistake → Written → Written → ℕ → Type 0
+RunsLineIn gives line (Ok choice) output errors status = RunsInLanguage line.is_list gives line choice output errors status
 RunsLineIn gives line (Err mistake) output errors status = IsKept output × (status ≡ 2) × GetsLine (mistake_line mistake) errors
 
 abbrev pub RunsLine : Contents → Line → Written → Written → ℕ → Type 0

@@ -43,7 +43,7 @@ impl Feed for NoFile {
 }
 
 /// The file that can't be read, or the refusal, which is none of a file then.
-fn stop_of<'a, R: Files>(rt: &R, refused: Refused, unread: &'a str) -> Stop<'a>
+pub(crate) fn stop_of<'a, R: Files>(rt: &R, refused: Refused, unread: &'a str) -> Stop<'a>
     ensures { StopsBy refused unread.entry.now result }
 {
     match refused.fault {
@@ -121,7 +121,7 @@ fn input_name<'a>(line: Line<'a>) -> Option<&'a str>
 }
 
 /// The name and the failure of a standard input that is named and can't be read.
-fn unread_input<'a, R: FileSystem>(rt: &R, line: Line<'a>) -> Option<(&'a str, ReadFailure)>
+pub(crate) fn unread_input<'a, R: FileSystem>(rt: &R, line: Line<'a>) -> Option<(&'a str, ReadFailure)>
     ensures named { IfSome result (λ unread. IsNamed line.entry unread.0.now) }
     ensures error { IfSome result (λ unread. IsFailure (Gives (R.opens rt.now) (R.reads rt.now) R.File.remaining R.Reader.remaining) unread.0.now unread.1) }
 {
@@ -160,7 +160,7 @@ fn run_once<'a, R: FileSystem + AllocGlobal, W: Sink>(
 }
 
 /// Whether both files of a line are standard input.
-fn is_twice(line: Line<'_>) -> bool
+pub(crate) fn is_twice(line: Line<'_>) -> bool
     ensures { result ≡ is_twice line.entry }
 {
     match line.second {

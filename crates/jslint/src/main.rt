@@ -4,21 +4,23 @@
 //! - May touch: files and the three standard streams. It opens them and hands on.
 //! - Contract: `Answers` in `specs/Program.antt`: a run on the file that is opened, or on standard input for `-`, with
 //!   the status and the line of its answer.
-//! - Begin at: `main.rt`, `main`; `files.rt`, `open_and_run`; `opened.rt`, `open`; what isn't public is tested in
+//! - Begin at: `main.rt`, `main`; `files.rt`, `open_and_run`; `list_run.rt`, `run_list`; `opened.rt`, `open`; what isn't public is tested in
 //!   `tests.rt`.
 
 mod files;
+mod list_run;
 mod opened;
 
 ghost use Rattle.std.specs.Prelude.{◌≡◌, false, map};
 ghost use Rattle.jslint.specs.Opened.{Gives};
-ghost use Rattle.jslint.specs.Program.{Answers, NoWordsSaid, Obeys, RunsLine, written};
+ghost use Rattle.jslint.specs.Program.{Answers, NoWordsSaid, Obeys, RunsFiles, RunsInLanguage, RunsLine, written};
 
 use command_line::{
     Line, command_line, explain, explain_language, explain_not_utf8, explain_unread,
 };
-use commands::{Refused, write_refusal};
+use commands::{LanguageChoice, Refused, write_refusal};
 use files::{Stop, open_and_run};
+use list_run::run_list;
 use opened::FileSystem;
 use source_text::{Device, Fault, Sink};
 use std::alloc::Global;
@@ -58,7 +60,44 @@ fn explain_no_words<W: Sink>(why: NoWords, errors: &mut W) -> u8
     }
 }
 
-/// Runs a line over its files, in the language that it asks for, and says why where it is refused. Answers the exit status.
+/// Runs a line over its files in a language, and says why where it is refused. Answers the exit status.
+fn run_files<R: FileSystem + AllocGlobal, O: Sink, W: Sink>(
+    rt: &R,
+    line: Line,
+    choice: LanguageChoice,
+    output: &mut O,
+    errors: &mut W,
+) -> u8
+    requires writes { O.failed output.old ≡ false }
+    requires tells { W.failed errors.old ≡ false }
+    ensures { RunsFiles (Gives (R.opens rt.now) (R.reads rt.now) R.File.remaining R.Reader.remaining) line.entry choice (written O.taken O.failed output.old output.new) (written W.taken W.failed errors.old errors.new) result }
+{
+    match open_and_run(rt, line, choice, output) {
+        Ok(status) => status,
+        Err(Stop::Unread(name, failure)) => explain_unread(name, failure, errors),
+        Err(Stop::Refuses(refused)) => write_refusal(&refused, errors),
+    }
+}
+
+/// Runs a line over its files, or over those of its list, in a language. Answers the exit status.
+fn run_in_language<R: FileSystem + AllocGlobal, O: Sink, W: Sink>(
+    rt: &R,
+    line: Line,
+    choice: LanguageChoice,
+    output: &mut O,
+    errors: &mut W,
+) -> u8
+    requires writes { O.failed output.old ≡ false }
+    requires tells { W.failed errors.old ≡ false }
+    ensures { RunsInLanguage line.entry.is_list (Gives (R.opens rt.now) (R.reads rt.now) R.File.remaining R.Reader.remaining) line.entry choice (written O.taken O.failed output.old output.new) (written W.taken W.failed errors.old errors.new) result }
+{
+    if line.is_list {
+        return run_list(rt, line, choice, output, errors);
+    }
+    run_files(rt, line, choice, output, errors)
+}
+
+/// Runs a line in the language that it asks for, and says why where it asks for none. Answers the exit status.
 fn run_line<R: FileSystem + AllocGlobal, O: Sink, W: Sink>(
     rt: &R,
     line: Line,
@@ -69,14 +108,9 @@ fn run_line<R: FileSystem + AllocGlobal, O: Sink, W: Sink>(
     requires tells { W.failed errors.old ≡ false }
     ensures { RunsLine (Gives (R.opens rt.now) (R.reads rt.now) R.File.remaining R.Reader.remaining) line.entry (written O.taken O.failed output.old output.new) (written W.taken W.failed errors.old errors.new) result }
 {
-    let choice = match line.language() {
-        Ok(choice) => choice,
-        Err(mistake) => return explain_language(mistake, errors),
-    };
-    match open_and_run(rt, line, choice, output) {
-        Ok(status) => status,
-        Err(Stop::Unread(name, failure)) => explain_unread(name, failure, errors),
-        Err(Stop::Refuses(refused)) => write_refusal(&refused, errors),
+    match line.language() {
+        Ok(choice) => run_in_language(rt, line, choice, output, errors),
+        Err(mistake) => explain_language(mistake, errors),
     }
 }
 

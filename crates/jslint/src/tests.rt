@@ -83,6 +83,7 @@ fn files_that_cannot_be_read(rt: HostRuntime) -> Result<(), Fail> {
             second,
             edition: None,
             is_module: false,
+            is_list: false,
         };
         let got = open_and_run(&rt, line, LanguageChoice::Unsaid, &mut output);
         assert_eq!(rt; got, Err(Stop::Unread(unread, failure)), "{line:?}");

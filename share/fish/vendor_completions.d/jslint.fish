@@ -13,6 +13,7 @@ complete -c jslint -n '__fish_seen_subcommand_from help' -f -a "$commands"
 complete -c jslint -n "not __fish_seen_subcommand_from $commands" -l version -d 'Print the version'
 complete -c jslint -n '__fish_seen_subcommand_from check' -l settings -r -F -d 'Rules and options, as TOML'
 complete -c jslint -n '__fish_seen_subcommand_from check' -l spans -d 'Where a report is, in bytes'
+complete -c jslint -n '__fish_seen_subcommand_from check' -l list -d 'FILE has names, each ended by a zero byte'
 complete -c jslint -n "__fish_seen_subcommand_from $commands; and not __fish_seen_subcommand_from help" -l edition -x -a '2020 2022' -d 'The language of scripts'
 complete -c jslint -n "__fish_seen_subcommand_from $commands; and not __fish_seen_subcommand_from help" -l module -d 'Modules of ECMAScript 2022'
 complete -c jslint -s h -l help -d 'Print help'

@@ -126,4 +126,5 @@ returns c =
       serves.1,
       serves.2,
       (some_text found rows (codes "edition") _ c.get_str-edition.ensures rows_are, c.is_set-is_module.ensures ∙ ap (is_set (codes "module")) rows_are),
+      c.is_set-is_list.ensures ∙ ap (is_set (codes "list")) rows_are,
     )

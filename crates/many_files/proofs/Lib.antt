@@ -1,0 +1,2 @@
+pub mod ListedNames
+pub mod ManyTold

@@ -1,0 +1,3 @@
+pub mod ManyFiles
+pub mod Named
+pub mod Names

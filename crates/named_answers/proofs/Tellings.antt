@@ -1,0 +1,45 @@
+-- What is told of a file, made piece by piece.
+use Rattle.std.proofs.Common.{◌≡◌, ◌⊎◌, ◌∙◌, ℕ, List, [], ◌∷◌, ◌++◌, codes, drop, inl, inr, refl, ap, append_assoc, subst}
+use Rattle.std.specs.Prelude.{IfOk, Result, Ok, Err}
+use Rattle.std.specs.declared.alloc.AllocError.{AllocError}
+use Rattle.commands.specs.Refusal.{refusal_line, refusal_words}
+use Rattle.commands.specs.Refused.{no_memory}
+use Rattle.commands.specs.declared.command.Command.{Command}
+use Rattle.commands.specs.declared.language_choice.LanguageChoice.{LanguageChoice}
+use Rattle.commands.specs.declared.refused.Refused.{Refused}
+use Rattle.embedding.specs.Answers.{AnswersBytes}
+use Rattle.embedding.specs.declared.output.Output.{Output}
+use Rattle.named_answers.specs.NamedAnswers.{Answers, Tells, refusal_line_of, told_of}
+use Rattle.named_answers.specs.declared.Telling.{Telling}
+
+-- four pieces, one behind the other
+pub four_pieces : (p q r s : List ℕ) → (((([] ++ p) ++ q) ++ r) ++ s) ≡ p ++ (q ++ (r ++ s))
+four_pieces p q r s = append_assoc (p ++ q) r s ∙ append_assoc p q (r ++ s)
+
+-- the line of a refusal, from the plain one
+pub refusal_named : (shown plain line : List ℕ) (refused : Refused) → plain ≡ refusal_line refused
+    → line ≡ (((([] ++ codes "jslint: ") ++ shown) ++ codes ": ") ++ drop 8 plain) → line ≡ refusal_line_of shown refused
+refusal_named shown plain line refused is made =
+    made ∙ ap (λ (text : List ℕ). (((([] ++ codes "jslint: ") ++ shown) ++ codes ": ") ++ drop 8 text)) is
+    ∙ four_pieces (codes "jslint: ") shown (codes ": ") (refusal_words refused ++ 10 ∷ [])
+
+-- the answer, or that memory was refused for what is told of it
+pub told_either : (command : Command) (choice : LanguageChoice) (shown text settings : List ℕ) (output : Output) (result : Result Telling AllocError)
+    → AnswersBytes command choice text settings (Ok output) → IfOk result (λ telling. Tells telling (told_of shown (Ok output)) ⊎ Tells telling (told_of shown (Err no_memory)))
+    → IfOk result (λ telling. Answers command choice shown text settings telling)
+told_either command choice shown text settings output (Ok telling) is (inl tells) = (Ok output, is, tells)
+told_either command choice shown text settings output (Ok telling) is (inr tells) = (Err no_memory, inr refl, tells)
+told_either command choice shown text settings output (Err e) is tells = tt
+
+-- or the refusal
+pub told_refused : (command : Command) (choice : LanguageChoice) (shown text settings : List ℕ) (refused : Refused) (result : Result Telling AllocError)
+    → AnswersBytes command choice text settings (Err refused) → IfOk result (λ telling. Tells telling (told_of shown (Err refused)))
+    → IfOk result (λ telling. Answers command choice shown text settings telling)
+told_refused command choice shown text settings refused (Ok telling) is tells = (Err refused, is, tells)
+told_refused command choice shown text settings refused (Err e) is tells = tt
+
+-- memory was refused, by a refusal that says it
+pub told_no_more : (shown : List ℕ) (output : Output) (why : Refused) (result : Result Telling AllocError) → why ≡ no_memory → IfOk result (λ telling. Tells telling (told_of shown (Err why)))
+    → IfOk result (λ telling. Tells telling (told_of shown (Ok output)) ⊎ Tells telling (told_of shown (Err no_memory)))
+told_no_more shown output why (Ok telling) is tells = inr (subst (λ (r : Refused). Tells telling (told_of shown (Err r))) is tells)
+told_no_more shown output why (Err e) is tells = tt
