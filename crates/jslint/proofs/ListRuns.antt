@@ -32,7 +32,7 @@ use Rattle.jslint.specs.declared.files.Stop.TheVariants.{Refuses, Unread}
 -- what a read of an opened file stops at
 pub stops_reading : (gives : Contents) (name : Text) (given : Option (List ℕ)) (fault : Fault) (failed : Bool) (refused : Refused) (stop : Stop)
     → gives name (Ok given) → refused ≡ at_no_place fault → ReadsUpTo max_bytes given (Err fault) failed → StopsBy refused name stop → StopsReading gives name stop
-stops_reading gives name given fault failed refused (Unread unread failure) is at reads (of, named, behind) = (named, inr (behind, (given, is)))
+stops_reading gives name given fault failed refused (Unread other failure) is at reads (of, named, behind) = (named, inr (behind, (given, is)))
 stops_reading gives name given OutOfMemory failed refused (Refuses same) is at reads (other, e) = e ∙ at
 stops_reading gives name given ReadFailed failed refused (Refuses same) is at reads (other, e) = absurd (other (ap (λ r. r.fault) at))
 stops_reading gives name given fault failed refused (Refuses same) is at reads by = absurd reads
@@ -61,12 +61,12 @@ tells_names alone names listed o p e f had_o had_e failed_o failed_e status are 
 -- ---- what is told of a file, by its name and what that is shown as
 
 -- an answer
-pub telling_answered : (gives : Contents) (command : Command) (choice : LanguageChoice) (settings name shown text : List ℕ) (result : Result Telling AllocError)
-    → Holds gives name text → shown ≡ escaped_name name → IfOk result (λ telling. Answers command choice shown text settings telling)
+pub telling_answered : (gives : Contents) (command : Command) (choice : LanguageChoice) (settings name shown text held : List ℕ) (result : Result Telling AllocError)
+    → text ≡ held → Holds gives name held → shown ≡ escaped_name name → IfOk result (λ telling. Answers command choice shown text settings telling)
     → IfOk result (λ telling. IsTelling gives command choice settings name telling)
-telling_answered gives command choice settings name shown text (Ok telling) holds same (answer, is, tells) =
-    (told_of shown answer, answered text answer holds is (ap (λ (s : List ℕ). told_of s answer) same), tells)
-telling_answered gives command choice settings name shown text (Err e) holds same made = tt
+telling_answered gives command choice settings name shown text held (Ok telling) read holds same (answer, is, tells) =
+    (told_of shown answer, answered text answer (subst (Holds gives name) (sym read) holds) is (ap (λ (s : List ℕ). told_of s answer) same), tells)
+telling_answered gives command choice settings name shown text held (Err e) read holds same made = tt
 
 -- a file that can't be read
 telling_unread : (gives : Contents) (command : Command) (choice : LanguageChoice) (settings name shown : List ℕ) (failure : ReadFailure) (result : Result Telling AllocError)
@@ -129,29 +129,31 @@ named_settings gives line name (Err stop) named holds = tt
 pub stops_second : (gives : Contents) (line : Line) (name : Bor Text) (result : Result (Vec ℕ Global) Stop) → line.second ≡ Some name
     → IfErr result (λ stop. StopsReading gives name.now stop) → IfErr result (λ stop. StopsFile gives line stop)
 stops_second gives line name (Ok bytes) named stops = tt
-stops_second gives line name (Err (Unread unread failure)) named (is, cannot) =
+stops_second gives line name (Err (Unread other failure)) named (is, cannot) =
     (inr (ap (option_map (λ s. s.now)) named ∙ ap Some (sym is)), subst (λ (n : Text). CannotRead gives n failure) (sym is) cannot)
 stops_second gives line name (Err (Refuses refused)) named stops = stops
 
 -- and the first
 pub stops_first : (gives : Contents) (line : Line) (choice : LanguageChoice) (stop : Stop) → StopsReading gives line.file.now stop → StopsList gives line choice stop
-stops_first gives line choice (Unread unread failure) (is, cannot) = inl (inl is, subst (λ (n : Text). CannotRead gives n failure) (sym is) cannot)
+stops_first gives line choice (Unread other failure) (is, cannot) = inl (inl is, subst (λ (n : Text). CannotRead gives n failure) (sym is) cannot)
 stops_first gives line choice (Refuses refused) stops = inr (inr stops)
 
 pub stops_file : (gives : Contents) (line : Line) (choice : LanguageChoice) (stop : Stop) → StopsFile gives line stop → StopsList gives line choice stop
-stops_file gives line choice (Unread unread failure) stops = inl stops
+stops_file gives line choice (Unread other failure) stops = inl stops
 stops_file gives line choice (Refuses refused) stops = inr (inr stops)
 
 -- want of memory has words of its own
 pub told_reading : (gives : Contents) (name : Text) (stop : Stop) → StopsReading gives name stop → IsTold stop
-told_reading gives name (Unread unread failure) stops = tt
+told_reading gives name (Unread other failure) stops = tt
 told_reading gives name (Refuses refused) is = λ usage. no_usage (sym (ap (λ r. r.fault) is) ∙ usage)
   where
     no_usage : OutOfMemory ≡ Usage → ⊥
     no_usage e = cc
 
 -- the files of a list were told of, or memory was refused for their names
-pub runs_list : (gives : Contents) (line : Line) (choice : LanguageChoice) (list settings : List ℕ) (output errors : Written) (status : ℕ)
-    → Holds gives line.file.now list → HasSettings gives line settings → TellsNames gives line.command choice settings list output errors status → RunsList gives line choice output errors status
-runs_list gives line choice list settings output errors status holds has (inl tells) = inl (list, settings, holds, has, tells)
-runs_list gives line choice list settings output errors status holds has (inr (kept, ends)) = inr (Refuses no_memory, inr (inr refl), kept, ends)
+pub runs_list : (gives : Contents) (line : Line) (choice : LanguageChoice) (list settings held named : List ℕ) (output errors : Written) (status : ℕ)
+    → list ≡ held → settings ≡ named → Holds gives line.file.now held → HasSettings gives line named → TellsNames gives line.command choice settings list output errors status
+    → RunsList gives line choice output errors status
+runs_list gives line choice list settings held named output errors status read also holds has (inl tells) =
+    inl (list, settings, subst (Holds gives line.file.now) (sym read) holds, subst (HasSettings gives line) (sym also) has, tells)
+runs_list gives line choice list settings held named output errors status read also holds has (inr (kept, ends)) = inr (Refuses no_memory, inr (inr refl), kept, ends)

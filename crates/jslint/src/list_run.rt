@@ -1,6 +1,6 @@
 //! Runs over the files of a list: each is opened, told of as if it were alone, and given back before the next.
 
-ghost use Rattle.std.specs.Prelude.{◌≡◌, ◌≢◌, Err, IfErr, IfOk, [], false};
+ghost use Rattle.std.specs.Prelude.{◌≡◌, ◌≢◌, Err, IfErr, IfOk, Ok, [], false};
 ghost use Rattle.source_text.specs.declared.fault.Fault.TheVariants.{Usage};
 ghost use Rattle.command_line.specs.Shown.{escaped_name, shown_bytes};
 ghost use Rattle.command_line.specs.declared.unread.ReadFailure.TheVariants.{NotUtf8};
@@ -11,13 +11,13 @@ ghost use Rattle.jslint.specs.Opened.{Gives};
 ghost use Rattle.jslint.specs.Program.{Ends, IsTold, RunsList, TellsNames, written};
 
 use crate::files::{Stop, is_twice, stop_of, unread_input};
-use crate::opened::{FileSystem, is_input, open};
+use crate::opened::{FileSystem, Opened, is_input, open};
 use command_line::{Line, ReadFailure, explain_unread, shown_bytes, shown_name};
 use commands::{Command, LanguageChoice, Refused, read_up_to, write_refusal};
 use embedding::run_on_bytes;
 use many_files::{Teller, names_in, tell_bytes, tell_each};
 use named_answers::{Telling, answered, refused, unread};
-use source_text::{Fault, MAX_BYTES, Sink};
+use source_text::{Device, Fault, Feed, MAX_BYTES, Sink};
 use std::alloc::{AllocError, Global};
 use std::str::from_utf8;
 
@@ -33,6 +33,24 @@ struct FileTeller<'a, R> {
     settings: &'a [u8],
 }
 
+/// What an opened file has to give, up to one byte past the limit.
+fn bytes_of<'a, R: FileSystem + AllocGlobal>(
+    rt: &R,
+    file: &mut Opened<Device<R::File>, Device<R::Reader>>,
+    name: &'a str,
+) -> Result<Vec<u8>, Stop<'a>>
+    requires given { Gives (R.opens rt.now) (R.reads rt.now) R.File.remaining R.Reader.remaining name.now (Ok (⟦<Opened<Device<R::File>, Device<R::Reader>> as Feed>⟧.left file.old)) }
+    requires reads { ⟦<Opened<Device<R::File>, Device<R::Reader>> as Feed>⟧.failed file.old ≡ false }
+    ensures held { IfOk result (λ bytes. Holds (Gives (R.opens rt.now) (R.reads rt.now) R.File.remaining R.Reader.remaining) name.entry.now bytes.items) }
+    ensures stopped { IfErr result (λ stop. StopsReading (Gives (R.opens rt.now) (R.reads rt.now) R.File.remaining R.Reader.remaining) name.entry.now stop) }
+    ensures told { IfErr result (λ stop. IsTold stop) }
+{
+    match read_up_to(rt.alloc(), file, MAX_BYTES) {
+        Ok(bytes) => Ok(bytes),
+        Err(fault) => Err(stop_of(rt, Refused::at_no_place(fault), name)),
+    }
+}
+
 /// What there is to read under a name, up to one byte past the limit. It is open as long as it is read.
 fn bytes_under<'a, R: FileSystem + AllocGlobal>(rt: &R, name: &'a str) -> Result<Vec<u8>, Stop<'a>>
     ensures held { IfOk result (λ bytes. Holds (Gives (R.opens rt.now) (R.reads rt.now) R.File.remaining R.Reader.remaining) name.entry.now bytes.items) }
@@ -43,10 +61,7 @@ fn bytes_under<'a, R: FileSystem + AllocGlobal>(rt: &R, name: &'a str) -> Result
         Ok(file) => file,
         Err(failure) => return Err(Stop::Unread(name, failure)),
     };
-    match read_up_to(rt.alloc(), &mut file, MAX_BYTES) {
-        Ok(bytes) => Ok(bytes),
-        Err(fault) => Err(stop_of(rt, Refused::at_no_place(fault), name)),
-    }
+    bytes_of(rt, &mut file, name)
 }
 
 /// What is told of a file that can't be read, or for which memory is refused, by what its name is shown as.
