@@ -10,7 +10,7 @@ use Rattle.clap.specs.Words.{Text}
 use Rattle.source_text.specs.Source.{max_bytes}
 use Rattle.source_text.specs.declared.fault.Fault.{Fault}
 use Rattle.source_text.specs.declared.fault.Fault.TheVariants.{OutOfMemory, ReadFailed, Usage}
-use Rattle.commands.specs.Refused.{no_memory}
+use Rattle.commands.specs.Refused.{at_no_place, no_memory}
 use Rattle.commands.specs.WholeTexts.{ReadsUpTo}
 use Rattle.commands.specs.declared.command.Command.{Command}
 use Rattle.commands.specs.declared.language_choice.LanguageChoice.{LanguageChoice}
@@ -25,7 +25,7 @@ use Rattle.named_answers.specs.declared.Telling.{Telling}
 use Rattle.jslint.specs.LineFiles.{second_name}
 use Rattle.jslint.specs.ListRun.{CannotRead, HasSettings, Holds, HoldsAny, IsTelling, StopsFile, StopsList, StopsReading, answered, input, misnamed, no_memory_for, told_stop, unread}
 use Rattle.jslint.specs.Opened.{Contents, is_input}
-use Rattle.jslint.specs.Program.{IsTold, RunsList, StopsBy, TellsNames, Written, at_no_place}
+use Rattle.jslint.specs.Program.{IsTold, RunsList, StopsBy, TellsNames, Written}
 use Rattle.jslint.specs.declared.files.Stop.{Stop}
 use Rattle.jslint.specs.declared.files.Stop.TheVariants.{Refuses, Unread}
 
@@ -55,8 +55,8 @@ pub tells_names : (alone : Alone) (names listed : List (List ℕ)) (o p e f : Op
     → TellsEach alone listed (record { before = o; after = p; had_failed = false; failed = failed_o }) (record { before = e; after = f; had_failed = false; failed = failed_e }) status
 tells_names alone names listed o p e f had_o had_e failed_o failed_e status are well good tells =
     subst (λ ns. TellsEach alone ns (record { before = o; after = p; had_failed = false; failed = failed_o }) (record { before = e; after = f; had_failed = false; failed = failed_e }) status) are
-        (subst (λ b. TellsEach alone names (record { before = o; after = p; had_failed = false; failed = failed_o }) (record { before = e; after = f; had_failed = b; failed = failed_e }) status) good
-            (subst (λ b. TellsEach alone names (record { before = o; after = p; had_failed = b; failed = failed_o }) (record { before = e; after = f; had_failed = had_e; failed = failed_e }) status) well tells))
+    (subst (λ b. TellsEach alone names (record { before = o; after = p; had_failed = false; failed = failed_o }) (record { before = e; after = f; had_failed = b; failed = failed_e }) status) good
+    (subst (λ b. TellsEach alone names (record { before = o; after = p; had_failed = b; failed = failed_o }) (record { before = e; after = f; had_failed = had_e; failed = failed_e }) status) well tells))
 
 -- ---- what is told of a file, by its name and what that is shown as
 

@@ -5,7 +5,7 @@ use Rattle.clap.specs.Words.{Text}
 use Rattle.source_text.specs.Source.{max_bytes}
 use Rattle.source_text.specs.declared.fault.Fault.{Fault}
 use Rattle.source_text.specs.declared.fault.Fault.TheVariants.{TooLong}
-use Rattle.commands.specs.Refused.{no_memory}
+use Rattle.commands.specs.Refused.{at_no_place, no_memory}
 use Rattle.commands.specs.declared.command.Command.{Command}
 use Rattle.commands.specs.declared.language_choice.LanguageChoice.{LanguageChoice}
 use Rattle.commands.specs.declared.refused.Refused.{Refused}
@@ -85,7 +85,7 @@ StopsUnread gives line name failure =
 -- or the list is too long, a run over an empty text is refused, as by settings that aren't any, or memory is refused
 abbrev pub StopsRefused : Contents → Line → LanguageChoice → Refused → Type 0
 StopsRefused gives line choice refused =
-    ((list : List ℕ) × Holds gives line.file.now list × (max_bytes < length list) × (refused ≡ record { fault = TooLong; in_second = false; line = 0; column = 0 }))
+    ((list : List ℕ) × Holds gives line.file.now list × (max_bytes < length list) × (refused ≡ at_no_place TooLong))
     ⊎ ((settings : List ℕ) × HasSettings gives line settings × AnswersBytes line.command choice [] settings (Err refused))
     ⊎ (refused ≡ no_memory)
 
