@@ -587,7 +587,7 @@ def vim_patterns(text):
     """The regular expressions of an `errorformat`, with a `%f` or not, as Vim reads it."""
     line = re.search(r'^set errorformat=(.*)$', text, re.M)[1].replace('\\ ', ' ')
     groups = {'%f': r'(?P<f>.+?)', '%l': r'(?P<l>\d+)', '%c': r'(?P<c>\d+)', '%m': r'(?P<m>.+)'}
-    return [re.sub('%[flcm]', lambda it: groups[it[0]], it) for it in line.split(',')]
+    return [re.sub('%[flcm]', lambda it: groups[it[0]], it.replace('%.%#', '.*')) for it in line.split(',')]
 
 
 def task_of(number, name):
@@ -619,8 +619,9 @@ def editors(room):
     """The patterns of Vim, Emacs and VS Code on what is printed."""
     room.put('src/a.js', WRONG)
     room.put('bad.js', REFUSED)
+    room.put('module.js', 'export {};\n')
     alone, many = (block('Vim', 'vim', it) for it in (0, 1))
-    for name, wanted in [('src/a.js', ('1', '5', FOUND[0].split(' ', 1)[1])), ('bad.js', ('2', '1', 'syntax error')), ('none.js', (None, None, 'read failed: none.js: missing'))]:
+    for name, wanted in [('src/a.js', ('1', '5', FOUND[0].split(' ', 1)[1])), ('bad.js', ('2', '1', 'syntax error')), ('module.js', ('1', '1', 'syntax error')), ('none.js', (None, None, 'read failed: none.js: missing'))]:
         words = re.search(r'^set makeprg=(.*)$', alone, re.M)[1].replace('\\ ', ' ').replace('%:S', name)
         _, out, err = room.sh(words)
         first = next(filter(None, (re.fullmatch(it, (out + err).splitlines()[0]) for it in vim_patterns(alone))))
