@@ -121,7 +121,10 @@ fn input_name<'a>(line: Line<'a>) -> Option<&'a str>
 }
 
 /// The name and the failure of a standard input that is named and can't be read.
-pub(crate) fn unread_input<'a, R: FileSystem>(rt: &R, line: Line<'a>) -> Option<(&'a str, ReadFailure)>
+pub(crate) fn unread_input<'a, R: FileSystem>(
+    rt: &R,
+    line: Line<'a>,
+) -> Option<(&'a str, ReadFailure)>
     ensures named { IfSome result (λ unread. IsNamed line.entry unread.0.now) }
     ensures error { IfSome result (λ unread. IsFailure (Gives (R.opens rt.now) (R.reads rt.now) R.File.remaining R.Reader.remaining) unread.0.now unread.1) }
 {

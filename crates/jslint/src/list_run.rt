@@ -91,7 +91,14 @@ impl<'a, R: FileSystem + AllocGlobal> FileTeller<'a, R> {
     {
         let alloc = self.rt.alloc();
         match bytes_under(self.rt, name) {
-            Ok(text) => answered(alloc, self.command, self.choice, shown, &text, self.settings),
+            Ok(text) => answered(
+                alloc,
+                self.command,
+                self.choice,
+                shown,
+                &text,
+                self.settings,
+            ),
             Err(stop) => telling_of_stop(alloc, shown, stop),
         }
     }
@@ -147,10 +154,7 @@ struct ListTexts {
 }
 
 /// The settings of a line, or none where it names none.
-fn settings_of<'a, R: FileSystem + AllocGlobal>(
-    rt: &R,
-    line: Line<'a>,
-) -> Result<Vec<u8>, Stop<'a>>
+fn settings_of<'a, R: FileSystem + AllocGlobal>(rt: &R, line: Line<'a>) -> Result<Vec<u8>, Stop<'a>>
     ensures held { IfOk result (λ settings. HasSettings (Gives (R.opens rt.now) (R.reads rt.now) R.File.remaining R.Reader.remaining) line.entry settings.items) }
     ensures told { IfErr result (λ stop. IsTold stop) }
     ensures stopped { IfErr result (λ stop. StopsFile (Gives (R.opens rt.now) (R.reads rt.now) R.File.remaining R.Reader.remaining) line.entry stop) }
