@@ -1,5 +1,5 @@
 -- Runs over the files of a list.
-use Rattle.std.proofs.Common.{◌≡◌, ◌∙◌, ◌<◌, ℕ, List, [], ◌∷◌, Bool, true, false, length, Option, Some, None, IfSome, inl, inr, refl, sym, ap, subst}
+use Rattle.std.proofs.Common.{◌≡◌, ◌∙◌, ℕ, List, [], Bool, true, false, Option, Some, None, inl, inr, refl, sym, ap, subst}
 use Rattle.std.specs.Borrow.{Bor}
 use Rattle.std.specs.Option.{option_map}
 use Rattle.std.specs.Prelude.{IfErr, IfOk, Result, Ok, Err, Vec}
@@ -22,7 +22,6 @@ use Rattle.command_line.specs.declared.unread.ReadFailure.TheVariants.{InList, N
 use Rattle.many_files.specs.ManyFiles.{Alone, Seen, TellsEach, TellsOne, Told}
 use Rattle.named_answers.specs.NamedAnswers.{Answers, Tells, told_of, told_unread}
 use Rattle.named_answers.specs.declared.Telling.{Telling}
-use Rattle.jslint.specs.LineFiles.{second_name}
 use Rattle.jslint.specs.ListRun.{CannotRead, HasSettings, Holds, HoldsAny, IsTelling, StopsFile, StopsList, StopsReading, answered, input, misnamed, no_memory_for, told_stop, unread}
 use Rattle.jslint.specs.Opened.{Contents, is_input}
 use Rattle.jslint.specs.Program.{IsTold, RunsList, StopsBy, TellsNames, Written}

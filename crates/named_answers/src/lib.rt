@@ -91,11 +91,7 @@ fn told(alloc: Global, shown: &[u8], answer: &Output) -> Result<Telling, AllocEr
 }
 
 /// The output of a run, as above; or, where memory is refused for that, that it is.
-fn told_or_no_memory(
-    alloc: Global,
-    shown: &[u8],
-    answer: &Output,
-) -> Result<Telling, AllocError>
+fn told_or_no_memory(alloc: Global, shown: &[u8], answer: &Output) -> Result<Telling, AllocError>
     ensures { IfOk result (λ telling. Tells telling (told_of shown.now (Ok answer.now)) ⊎ Tells telling (told_of shown.now (Err no_memory))) }
 {
     match told(alloc, shown, answer) {

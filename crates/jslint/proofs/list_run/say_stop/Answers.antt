@@ -1,4 +1,4 @@
-use Rattle.std.proofs.Common.{◌≡◌, sym, subst, Err}
+use Rattle.std.proofs.Common.{sym, subst, Err}
 use Rattle.jslint.specs.Program.{Ends, written}
 use Rattle.jslint.proofs.list_run.say_stop.Goals as goal
 
