@@ -41,11 +41,10 @@ def names_of_crates(top):
 
 
 def wrong_names(rules, top):
-    """Rules of the crates without a file, and files without a rule; of rules on nodes only where their crate is there."""
+    """Rules of the crates without a file, and files without a rule."""
     known, found = {it.name: it for it in rules}, names_of_crates(top)
     yield from (f'{path}: {name} has no rules/{name}.toml' for name, path in found.items() if name not in known)
-    has_all = os.path.isdir(f'{top}/crates/node_rules/specs')
-    yield from (f'rules/{name}.toml: no definition of the crates is called {name}' for name, it in known.items() if name not in found and (has_all or it.on))
+    yield from (f'rules/{name}.toml: no definition of the crates is called {name}' for name in known if name not in found)
 
 
 def variants_of(top):

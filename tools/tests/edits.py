@@ -9,7 +9,7 @@ import sys
 from recipes import is_well, same
 
 TOP = os.path.dirname(os.path.dirname(os.path.dirname(os.path.realpath(__file__))))
-SOURCE = 'pub fn one() -> u32 {\n    1\n}\n\npub fn two() -> u32 {\n    2\n}\n\npub const THREE: u32 = 3;\n'
+SOURCE = 'pub fn one() -> u32 {\n    1\n}\n\npub fn two() -> u32 {\n    2\n}\n\npub const THREE: u32 = 3;\n\nfn nothing() {}\n'
 EDITS = '''refused: three_for_one
 file: src/lib.rt
 old:     1
@@ -82,6 +82,10 @@ def fitting(room):
         is_well(EDITS.count(old) == 1, old)
         room.put(PLACE, EDITS.replace(old, new))
         same(said(room, '--fit'), (1, f'{why}\nedits/run.py: edits of 1 crates, 1 faults\n', ''))
+    # (a crate of two functions has two of them)
+    room.put('crates/small/src/lib.rt', SOURCE[:SOURCE.index('\nfn nothing')])
+    same(said(room, '--fit'), (0, 'edits/run.py: edits of 1 crates, 0 faults\n', ''))
+    room.put('crates/small/src/lib.rt', SOURCE)
     # (without the option too, where all are named, before anything is tried)
     same(said(room), (1, f'{why}\nedits/run.py: edits of 1 crates, 1 faults\n', ''))
 
