@@ -1,0 +1,76 @@
+-- Productions that are read from one place to another.
+use Rattle.std.proofs.Common.{◌≡◌, ℕ, zero, suc, ◌+◌, ◌-◌, ◌≤◌, Bool, true, false, not, ◌&&◌, ◌||◌, ◌==◌, List, [], ◌∷◌, ◌++◌, length, take, drop, Option, Some, None, if◌then◌else◌, IsTrue, IsFalse, refl, sym, ap, ◌∙◌, subst, arith, length-append}
+use Rattle.std.specs.List.{list_all, take_while}
+use Rattle.std.proofs.lemmas.List.{take_at, drop_at}
+use Rattle.source_text.specs.Source.{IsPlace}
+use Rattle.tokens.specs.Alphabet.{begins_with}
+use Rattle.tokens.specs.Reading.{behind}
+use Rattle.tokens.specs.Scanned.{Passed, AllPass, IsRun}
+use Rattle.tokens.proofs.EscapeParts.{taken_while}
+use Rattle.tokens.proofs.PassedCharacters.{passed_none, passed_on}
+use Rattle.regular_expressions.specs.Terms.{behind_lazy, closed_count}
+use Rattle.regular_expressions.specs.Scanned.{IsRead, IsPassed, IsEnd}
+
+-- ---- one character more in front
+
+pub read_behind : {A : Type 0} (wide near : Option (A × List ℕ)) (value : A) (text : List ℕ) (at stop end c : ℕ) → Passed text at stop (c ∷ []) → wide ≡ near →
+    IsRead near value text stop end → IsRead wide value text at end
+read_behind wide near value text at stop end c p e h = record {
+  word = c ∷ h.word;
+  passed = passed_on text at stop end (c ∷ []) h.word p h.passed;
+  found = e ∙ h.found;
+}
+
+pub passed_behind : (wide near : Option (List ℕ)) (text : List ℕ) (at stop end c : ℕ) → Passed text at stop (c ∷ []) → wide ≡ near →
+    IsPassed near text stop end → IsPassed wide text at end
+passed_behind wide near text at stop end c p e h = record {
+  word = c ∷ h.word;
+  passed = passed_on text at stop end (c ∷ []) h.word p h.passed;
+  found = e ∙ h.found;
+}
+
+-- the same production under another name
+pub read_same : {A : Type 0} (wide near : Option (A × List ℕ)) (value : A) (text : List ℕ) (at end : ℕ) → wide ≡ near → IsRead near value text at end → IsRead wide value text at end
+read_same wide near value text at end e h = record { word = h.word; passed = h.passed; found = e ∙ h.found }
+
+pub passed_same : (wide near : Option (List ℕ)) (text : List ℕ) (at end : ℕ) → wide ≡ near → IsPassed near text at end → IsPassed wide text at end
+passed_same wide near text at end e h = record { word = h.word; passed = h.passed; found = e ∙ h.found }
+
+-- a production of one character
+pub read_one : {A : Type 0} (wide : Option (A × List ℕ)) (value : A) (text : List ℕ) (at stop c : ℕ) → Passed text at stop (c ∷ []) → wide ≡ Some (value, behind text stop) →
+    IsRead wide value text at stop
+read_one wide value text at stop c p e = record { word = c ∷ []; passed = p; found = e }
+
+-- a production of none
+pub read_none : {A : Type 0} (wide : Option (A × List ℕ)) (value : A) (text : List ℕ) (at : ℕ) → IsPlace text at → wide ≡ Some (value, behind text at) →
+    IsRead wide value text at at
+read_none wide value text at p e = record { word = []; passed = passed_none text at p; found = e }
+
+-- ---- runs
+
+pub run_word : (test : ℕ → Bool) (text : List ℕ) (at stop : ℕ) (h : IsRun test text at stop) → take_while test (behind text at) ≡ h.run.word
+run_word test text at stop h = ap (take_while test) h.run.passed.split ∙ taken_while test h.run.word (behind text stop) h.run.all h.ends
+
+pub run_rest : (test : ℕ → Bool) (text : List ℕ) (at stop : ℕ) → IsRun test text at stop → drop (length (take_while test (behind text at))) (behind text at) ≡ behind text stop
+run_rest test text at stop h =
+    ap (λ w. drop (length w) (behind text at)) (run_word test text at stop h)
+    ∙ ap (drop (length h.run.word)) h.run.passed.split
+    ∙ drop_at h.run.word (behind text stop) (length h.run.word) refl
+
+-- ---- how many characters were read
+
+pub left_behind : (word rest : List ℕ) → length (word ++ rest) - length rest ≡ length word
+left_behind word rest = let n = length-append word rest in omega arith
+
+pub read_length : (text : List ℕ) (at stop : ℕ) (word : List ℕ) → Passed text at stop word → length (behind text at) - length (behind text stop) ≡ length word
+read_length text at stop word p = ap (λ cs. length cs - length (behind text stop)) p.split ∙ left_behind word (behind text stop)
+
+-- ---- the end of a count
+
+pub closed_some : (text : List ℕ) (at stop end : ℕ) (is_good : Bool) → Passed text at stop (0x7D ∷ []) → is_good ≡ true → IsEnd behind_lazy text stop end →
+    IsPassed (closed_count is_good (behind text at)) text at end
+closed_some text at stop end is_good p e h = record {
+  word = 0x7D ∷ h.word;
+  passed = passed_on text at stop end (0x7D ∷ []) h.word p h.passed;
+  found = ap (λ b. closed_count b (behind text at)) e ∙ ap (λ cs. closed_count true cs) p.split ∙ ap (λ r. Some r) h.found;
+}
