@@ -8,3 +8,4 @@ pub mod Numbers
 pub mod NameSteps
 pub mod EarlySteps
 pub mod Words
+pub mod SlashSteps

@@ -1,13 +1,16 @@
 -- Productions that are read from one place to another.
 use Rattle.std.proofs.Common.{◌≡◌, ℕ, zero, suc, ◌+◌, ◌-◌, ◌≤◌, Bool, true, false, not, ◌&&◌, ◌||◌, ◌==◌, List, [], ◌∷◌, ◌++◌, length, take, drop, Option, Some, None, if◌then◌else◌, IsTrue, IsFalse, refl, sym, ap, ◌∙◌, subst, arith, length-append}
+use Rattle.std.specs.Prelude.{slice_range}
 use Rattle.std.specs.List.{list_all, take_while}
+use Rattle.std.specs.Str.{chars, IsUtf8}
+use Rattle.std.proofs.lemmas.Str.{chars_from_encodes, IsUtf8-between}
 use Rattle.std.proofs.lemmas.List.{take_at, drop_at}
 use Rattle.source_text.specs.Source.{IsPlace}
 use Rattle.tokens.specs.Alphabet.{begins_with}
 use Rattle.tokens.specs.Reading.{behind}
 use Rattle.tokens.specs.Scanned.{Passed, AllPass, IsRun}
 use Rattle.tokens.proofs.EscapeParts.{taken_while}
-use Rattle.tokens.proofs.PassedCharacters.{passed_none, passed_on}
+use Rattle.tokens.proofs.PassedCharacters.{passed_none, passed_on, passed_ordered, passed_slice}
 use Rattle.regular_expressions.specs.Terms.{behind_lazy, closed_count}
 use Rattle.regular_expressions.specs.Scanned.{IsRead, IsPassed, IsEnd}
 
@@ -56,6 +59,12 @@ run_rest test text at stop h =
     ap (λ w. drop (length w) (behind text at)) (run_word test text at stop h)
     ∙ ap (drop (length h.run.word)) h.run.passed.split
     ∙ drop_at h.run.word (behind text stop) (length h.run.word) refl
+
+-- ---- the characters of a part
+
+pub passed_chars : (text : List ℕ) (at stop : ℕ) (word : List ℕ) → IsUtf8 text → IsPlace text at → Passed text at stop word → chars (slice_range text at stop) ≡ word
+passed_chars text at stop word u p h =
+    sym (chars_from_encodes word (slice_range text at stop) (IsUtf8-between text at stop u (passed_ordered text at stop word h) p h.place) (passed_slice text at stop word u p h))
 
 -- ---- how many characters were read
 

@@ -1,6 +1,6 @@
 //! References and names of groups that are wrong (22.2.1.1).
 
-ghost use Rattle.std.specs.Prelude.{◌≡◌, ◌||◌, ℕ, List, [], false, IfOk, OnOk};
+ghost use Rattle.std.specs.Prelude.{◌≡◌, ◌≤◌, ◌||◌, ℕ, List, [], false, length, IfOk, IfSome, OnOk};
 ghost use Rattle.std.specs.Str.{chars};
 ghost use Rattle.name_tables.specs.Sets.{contains};
 ghost use Rattle.regular_expressions.specs.Patterns.{early_fault, first_wrong, group_count, group_names, has, is_wrong, name_of, pieces_of};
@@ -82,7 +82,8 @@ fn first_wrong<'t>(
     before: &mut NameSet<'t>,
 ) -> Result<Option<usize>, AllocError>
     requires { (w : List ℕ) → contains before.old w ≡ false }
-    ensures { IfOk result (λ f. (all : List (List ℕ)) → ((w : List ℕ) → contains names.now w ≡ has all w) → f ≡ first_wrong groups all [] (pieces_of is_unicode (chars text.now))) }
+    ensures wrong { IfOk result (λ f. (all : List (List ℕ)) → ((w : List ℕ) → contains names.now w ≡ has all w) → f ≡ first_wrong groups all [] (pieces_of is_unicode (chars text.now))) }
+    ensures within { IfOk result (λ f. IfSome f (λ place. place ≤ length text.now)) }
 {
     let mut at = 0;
     while let Some(first) = char_at(text, at) {
@@ -103,7 +104,8 @@ pub(crate) fn early_fault(
     text: &str,
     is_unicode: bool,
 ) -> Result<Option<usize>, AllocError>
-    ensures { IfOk result (λ f. f ≡ early_fault (pieces_of is_unicode (chars text.now))) }
+    ensures fault { IfOk result (λ f. f ≡ early_fault (pieces_of is_unicode (chars text.now))) }
+    ensures within { IfOk result (λ f. IfSome f (λ place. place ≤ length text.now)) }
 {
     let mut builder = KeyBuilder::new();
     builder.add(text);

@@ -4,7 +4,7 @@
 //! - May touch: a literal's text; memory only for lookarounds and for names of groups.
 //! - Contract: `first_fault` answers the place of the first fault of a literal's pattern, exactly if it has one.
 //! - Groups may nest as deep as the text allows: they are counted, in one loop. It takes time linear in the text.
-//! - Begin at: `pattern.rt`, `first_fault`; then `term.rt`, `piece_at`. Definitions: `specs/Patterns.antt`, then `specs/Terms.antt`.
+//! - Begin at: `literal.rt`, `first_fault`; then `term.rt`, `piece_at`. Definitions: `specs/Patterns.antt`, then `specs/Terms.antt`.
 
 mod character;
 mod class;
@@ -13,6 +13,7 @@ mod early;
 mod escape;
 mod group;
 mod hex;
+mod literal;
 mod name;
 mod nested;
 mod pattern;
@@ -20,4 +21,4 @@ mod piece;
 mod property;
 mod term;
 
-pub use pattern::first_fault;
+pub use literal::first_fault;
