@@ -12,24 +12,40 @@ use Rattle.regular_expressions.specs.Patterns.{Placed, pieces_from, pieces_of, g
 use Rattle.regular_expressions.specs.Scanned.{IsRead}
 use Rattle.regular_expressions.proofs.PatternSteps.{piece_stands, no_piece, pieces_end}
 
--- one for a piece that is a group
+-- how many groups a piece is
 abbrev pub group_of : Piece → ℕ
-group_of capturing = 1
-group_of (naming name) = 1
-group_of _ = 0
+group_of p = group_count ((0, Some p) ∷ [])
 
 pub count_one : (at : ℕ) (p : Piece) (ps : List Placed) → group_count ((at, Some p) ∷ ps) ≡ group_of p + group_count ps
-count_one at bar ps = omega arith
-count_one at closing ps = omega arith
-count_one at assertion ps = omega arith
-count_one at looking ps = omega arith
-count_one at grouping ps = omega arith
+count_one at bar ps = refl
+count_one at closing ps = refl
+count_one at assertion ps = refl
+count_one at looking ps = refl
+count_one at grouping ps = refl
 count_one at capturing ps = omega arith
 count_one at (naming name) ps = omega arith
-count_one at repeating ps = omega arith
-count_one at atom ps = omega arith
-count_one at (reference n) ps = omega arith
-count_one at (name_reference name) ps = omega arith
+count_one at repeating ps = refl
+count_one at atom ps = refl
+count_one at (reference n) ps = refl
+count_one at (name_reference name) ps = refl
+
+small : (p : Piece) → group_of p ≤ 1
+small bar = omega arith
+small closing = omega arith
+small assertion = omega arith
+small looking = omega arith
+small grouping = omega arith
+small capturing = omega arith
+small (naming name) = omega arith
+small repeating = omega arith
+small atom = omega arith
+small (reference n) = omega arith
+small (name_reference name) = omega arith
+
+or_swap : (a b c : Bool) → (a || (b || c)) ≡ ((b || a) || c)
+or_swap true true c = refl
+or_swap true false c = refl
+or_swap false b c = refl
 
 pub has_append : (v w : List (List ℕ)) (name : List ℕ) → has (v ++ w) name ≡ (has v name || has w name)
 has_append v w name = list_any-append (bytes_eq name) v w
@@ -45,7 +61,7 @@ pub groups_begin : (u : Bool) (text : List ℕ) (had : List ℕ → Bool) → Is
 groups_begin u text had p = record { place = p; few = omega arith; counted = omega arith; named = λ w. refl }
 
 pub groups_go_on : (u : Bool) (text : List ℕ) (at more stop c count : ℕ) (p : Piece) (had now next : List ℕ → Bool) → InGroups u text at count had now → at + 1 ≤ more → Passed text at more (c ∷ []) →
-    IsRead (piece u c (behind text more)) p text more stop → ((w : List ℕ) → next w ≡ (now w || has (name_of (Some p)) w)) → InGroups u text stop (group_of p + count) had next
+    IsRead (piece u c (behind text more)) p text more stop → ((w : List ℕ) → next w ≡ (has (name_of (Some p)) w || now w)) → InGroups u text stop (count + group_of p) had next
 groups_go_on u text at more stop c count p had now next h fore one r n =
     let rest = pieces_from u 0 stop (behind text stop) in
     let e = piece_stands u text at more stop c p one r in
@@ -59,24 +75,12 @@ groups_go_on u text at more stop c count p had now next h fore one r n =
       few = omega arith;
       counted = omega arith;
       named = λ w. h.named w ∙ ap (λ ps. now w || has (group_names ps) w) e ∙ ap (λ b. now w || b) (has_append (name_of (Some p)) (group_names rest) w)
-          ∙ or_assoc (now w) (has (name_of (Some p)) w) (has (group_names rest) w) ∙ ap (λ b. b || has (group_names rest) w) (sym (n w));
-    } where
-      small : (p : Piece) → group_of p ≤ 1
-      small bar = omega arith
-      small closing = omega arith
-      small assertion = omega arith
-      small looking = omega arith
-      small grouping = omega arith
-      small capturing = omega arith
-      small (naming name) = omega arith
-      small repeating = omega arith
-      small atom = omega arith
-      small (reference n) = omega arith
-      small (name_reference name) = omega arith
+          ∙ or_swap (now w) (has (name_of (Some p)) w) (has (group_names rest) w) ∙ ap (λ b. b || has (group_names rest) w) (sym (n w));
+    }
 
-      or_assoc : (a b c : Bool) → (a || (b || c)) ≡ ((a || b) || c)
-      or_assoc true b c = refl
-      or_assoc false b c = refl
+-- a sum of the two fits as well
+pub groups_few : (u : Bool) (text : List ℕ) (at count : ℕ) (p : Piece) (had now : List ℕ → Bool) → InGroups u text at count had now → at < length text → count + group_of p ≤ length text
+groups_few u text at count p had now h n = let f = h.few in let s = small p in omega arith
 
 or_false : (a : Bool) → (a || false) ≡ a
 or_false true = refl
@@ -98,6 +102,12 @@ groups_counted_none u text at count had now h e = let g = h.counted ∙ ap (λ p
 pub groups_named_none : (u : Bool) (text : List ℕ) (at count : ℕ) (had now : List ℕ → Bool) → InGroups u text at count had now → pieces_from u 0 at (behind text at) ≡ (at, None) ∷ [] →
     (w : List ℕ) → now w ≡ (had w || has (group_names (pieces_of u (chars text))) w)
 groups_named_none u text at count had now h e w = sym (h.named w ∙ ap (λ ps. now w || has (group_names ps) w) e ∙ or_false (now w))
+
+-- ---- one piece's name
+
+-- a name that was put in front of others
+pub named_first : (name : List ℕ) (w : List ℕ) (before : Bool) → (bytes_eq w name || before) ≡ (has (name ∷ []) w || before)
+named_first name w before = ap (λ b. b || before) (sym (or_false (bytes_eq w name)))
 
 -- ---- the first early error
 

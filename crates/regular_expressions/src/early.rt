@@ -1,6 +1,6 @@
 //! References and names of groups that are wrong (22.2.1.1).
 
-ghost use Rattle.std.specs.Prelude.{◌≡◌, ◌≤◌, ◌||◌, ℕ, List, [], false, length, IfOk, IfSome, OnOk};
+ghost use Rattle.std.specs.Prelude.{◌≡◌, ◌≤◌, ◌||◌, ℕ, List, [], ◌∷◌, false, length, Some, IfOk, IfSome, OnOk};
 ghost use Rattle.std.specs.Str.{chars};
 ghost use Rattle.name_tables.specs.Sets.{contains};
 ghost use Rattle.regular_expressions.specs.Patterns.{early_fault, first_wrong, group_count, group_names, has, is_wrong, name_of, pieces_of};
@@ -14,6 +14,26 @@ use name_tables::{KeyBuilder, NameSet};
 use std::alloc::{AllocError, Global};
 use tokens::char_at;
 use tree::TextArena;
+
+/// How many groups a piece is; its name comes among these.
+fn add_group<'t>(
+    alloc: Global,
+    texts: &'t TextArena,
+    piece: Piece<'t>,
+    names: &mut NameSet<'t>,
+) -> Result<usize, AllocError>
+    ensures count { IfOk result (λ n. n ≡ group_count ((0, Some (piece_as piece.entry)) ∷ [])) }
+    ensures names { OnOk result ((w : List ℕ) → contains names.new w ≡ (has (name_of (Some (piece_as piece.entry))) w || contains names.old w)) }
+{
+    match piece {
+        Piece::Capturing => Ok(1),
+        Piece::Naming(word) => {
+            names.insert(spelled(alloc, texts, word)?)?;
+            Ok(1)
+        }
+        _ => Ok(0),
+    }
+}
 
 /// The number of groups of a pattern that is derived; their names come among these.
 fn group_count<'t>(
@@ -32,14 +52,7 @@ fn group_count<'t>(
         let Some(read) = piece_at(text, is_unicode, first) else {
             return Ok(count);
         };
-        match read.piece {
-            Piece::Capturing => count += 1,
-            Piece::Naming(word) => {
-                count += 1;
-                names.insert(spelled(alloc, texts, word)?)?;
-            }
-            _ => {}
-        }
+        count += add_group(alloc, texts, read.piece, names)?;
         at = read.end;
     }
     Ok(count)

@@ -1,9 +1,11 @@
 //! Names of groups (GroupName of 22.2.1).
 
 ghost use Rattle.std.specs.Prelude.{◌≡◌, None, is_some, true, IfOk, IfSome, IfNone, IsTrue};
+ghost use Rattle.std.specs.List.{list_any};
 ghost use Rattle.std.specs.Str.{chars};
 ghost use Rattle.std.specs.String.{string_bytes};
 ghost use Rattle.source_text.specs.Source.{IsPlace};
+ghost use Rattle.tokens.specs.Alphabet.{one_of};
 ghost use Rattle.tokens.specs.Reading.{behind};
 ghost use Rattle.tokens.specs.Scanned.{IsRun};
 ghost use Rattle.regular_expressions.specs.Names.{group_name, is_no_end, name_character, name_from};
@@ -104,6 +106,20 @@ pub(crate) fn group_name<'t>(text: &'t str, at: usize) -> Option<NameAt<'t>>
     })
 }
 
+/// Whether an escape stands in the text.
+fn has_escape(word: &str) -> bool
+    ensures { result ≡ list_any (one_of "\\") (chars word.now) }
+{
+    let mut at = 0;
+    while let Some(step) = char_at(word, at) {
+        if step.c == '\\' {
+            return true;
+        }
+        at = step.end;
+    }
+    false
+}
+
 /// The name that is written so: the text itself where it has no escapes.
 pub(crate) fn spelled<'t>(
     alloc: Global,
@@ -115,7 +131,7 @@ pub(crate) fn spelled<'t>(
     if !is_name(word) {
         return Ok("");
     }
-    if !word.as_bytes().contains(&b'\\') {
+    if !has_escape(word) {
         return Ok(word);
     }
     let name = unescaped(alloc, word)?;

@@ -1,6 +1,6 @@
 //! Whole patterns (22.2.1).
 
-ghost use Rattle.std.specs.Prelude.{◌≡◌, ◌≤◌, [], None, Some, false, length, reverse, IfOk, IfSome};
+ghost use Rattle.std.specs.Prelude.{◌≡◌, ◌≤◌, ◌||◌, [], None, Some, false, length, reverse, IfOk, IfSome};
 ghost use Rattle.std.specs.Str.{chars};
 ghost use Rattle.tokens.specs.Tokens.{size};
 ghost use Rattle.regular_expressions.specs.Patterns.{early_fault, is_closed, misplaced, outermost, pattern_fault, pieces_of};
@@ -32,6 +32,13 @@ fn refers(piece: Piece) -> bool
     }
 }
 
+/// Whether a reference or a name of a group was seen, up to this piece.
+fn has_seen(before: bool, piece: Piece) -> bool
+    ensures { result ≡ (before || refers (piece_as piece.entry)) }
+{
+    before || refers(piece)
+}
+
 /// Reads a pattern.
 fn read(text: &str, is_unicode: bool, around: &mut Vec<usize>) -> Result<ReadThrough, AllocError>
     requires { around.old.items ≡ [] }
@@ -56,13 +63,18 @@ fn read(text: &str, is_unicode: bool, around: &mut Vec<usize>) -> Result<ReadThr
         let Some(behind) = nest(nested, around, read.piece)? else {
             return Ok(fault);
         };
-        has_references = has_references || refers(read.piece);
+        has_references = has_seen(has_references, read.piece);
         nested = behind;
         at = read.end;
     }
-    let fault = if is_closed(nested, around) { None } else { Some(at) };
+    if !is_closed(nested, around) {
+        return Ok(ReadThrough {
+            fault: Some(at),
+            has_references,
+        });
+    }
     Ok(ReadThrough {
-        fault,
+        fault: None,
         has_references,
     })
 }
