@@ -12,7 +12,7 @@ use Rattle.tokens.specs.Scanned.{Passed}
 use Rattle.tokens.proofs.Beginnings.{true_false}
 use Rattle.tokens.proofs.EscapeParts.{HasDigits, AllDigits, taken_fails, taken_while}
 use Rattle.tokens.proofs.PassedCharacters.{passed_on}
-use Rattle.regular_expressions.specs.Characters.{Number, hex_digits, code_point, braced}
+use Rattle.regular_expressions.specs.Characters.{Number, hex_digits, is_lead, is_trail, only_trail, trail, paired, unit, code_point, braced}
 use Rattle.regular_expressions.specs.Scanned.{IsRead}
 
 -- ---- a fixed number of digits
@@ -157,3 +157,24 @@ point_closed text at stop more value h n m p =
       some true b d x rest h k l e f = absurd (true_false _ refl h)
       some false false d x rest h k l e f = absurd (true_false _ k refl)
       some false true false x rest h k l e f = absurd (true_false _ l refl)
+
+-- ---- surrogates
+
+pub trail_some : (text : List ℕ) (at a b stop value : ℕ) → Passed text at a (0x5C ∷ []) → Passed text a b (0x75 ∷ []) → IsRead (hex_digits 4 (behind text b)) value text b stop →
+    is_trail value ≡ true → IsRead (trail (behind text at)) value text at stop
+trail_some text at a b stop value p q h t = record {
+  word = 0x5C ∷ 0x75 ∷ h.word;
+  passed = passed_on text at a stop (0x5C ∷ []) (0x75 ∷ h.word) p (passed_on text a b stop (0x75 ∷ []) h.word q h.passed);
+  found = ap trail p.split ∙ ap (λ cs. trail (0x5C ∷ cs)) q.split ∙ ap only_trail h.found ∙ ap (λ x. if x then Some (value, behind text stop) else None) t;
+}
+
+pub unit_paired : (u : Bool) (text : List ℕ) (at mid stop lead low : ℕ) → IsRead (hex_digits 4 (behind text at)) lead text at mid → u ≡ true → is_lead lead ≡ true →
+    IsRead (trail (behind text mid)) low text mid stop → IsRead (unit u (hex_digits 4 (behind text at))) (0x10000 + 0x400 * (lead - 0xD800) + (low - 0xDC00)) text at stop
+unit_paired u text at mid stop lead low h e f k =
+    let rest = behind text mid in
+    record {
+      word = h.word ++ k.word;
+      passed = passed_on text at mid stop h.word k.word h.passed k.passed;
+      found = ap (unit u) h.found ∙ ap (λ x. Some (if x && is_lead lead then paired lead rest (trail rest) else (lead, rest))) e
+          ∙ ap (λ x. Some (if x then paired lead rest (trail rest) else (lead, rest))) f ∙ ap (λ o. Some (paired lead rest o)) k.found;
+    }

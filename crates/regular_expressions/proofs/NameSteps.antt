@@ -1,8 +1,8 @@
 -- Names of groups, character by character.
-use Rattle.std.proofs.Common.{◌≡◌, ℕ, zero, suc, ◌+◌, ◌-◌, Bool, true, false, not, List, [], ◌∷◌, ◌++◌, length, drop, Option, Some, None, is_some, unwrap_or, if◌then◌else◌, IsTrue, IsFalse, refl, sym, ap, ◌∙◌, subst, arith, append_assoc, append-nil}
+use Rattle.std.proofs.Common.{◌≡◌, ℕ, zero, suc, ◌+◌, ◌-◌, Bool, true, false, not, List, [], ◌∷◌, ◌++◌, length, drop, Option, Some, None, is_some, unwrap_or, if◌then◌else◌, inl, inr, IsTrue, IsFalse, refl, sym, ap, ◌∙◌, subst, arith, append_assoc, append-nil}
 use Rattle.std.specs.Prelude.{option_map, encode_utf8_all, slice_range, ◌&&◌, ◌||◌}
 use Rattle.std.specs.List.{list_any, take_while}
-use Rattle.std.specs.Char.{encode_utf8}
+use Rattle.std.specs.Char.{encode_utf8, OutOfScalarRange}
 use Rattle.std.specs.Str.{chars, IsUtf8}
 use Rattle.std.proofs.lemmas.Bool.Decides.{nat_tests}
 use Rattle.std.proofs.lemmas.List.Folds.{list_any-append}
@@ -167,6 +167,10 @@ spelled_stands text bytes at more stop c value h t p r = by_test (is_character v
   by_test true e = refl
   by_test false e = none e
 
+pub is_in_range : (value : ℕ) → IsTrue (is_character value) → OutOfScalarRange value → ⊥
+is_in_range value t (inl h) = grind (arith, nat_tests)
+is_in_range value t (inr h) = grind (arith, nat_tests)
+
 -- ---- a name without escapes
 
 pub record InPlain (text : List ℕ) (at : ℕ) : Type 0 where
@@ -250,17 +254,18 @@ between_none false o rest e = refl
 between_none true None rest e = refl
 between_none true (Some cs) rest e = cc
 
-pub group_refused : (text : List ℕ) (at stop : ℕ) → IsUtf8 text → IsPlace text at → IsRun is_no_end text at stop → is_some (name_from true 0 (chars (slice_range text at stop))) ≡ false →
-    group_name (behind text at) ≡ None
-group_refused text at stop u p h e =
-    let w = passed_chars text at stop h.run.word u p h.run.passed in
+-- with the part before the `>` as the program has it
+pub group_refused : (text part : List ℕ) (at stop : ℕ) → IsUtf8 text → IsPlace text at → IsRun is_no_end text at stop → part ≡ slice_range text at stop →
+    is_some (name_from true 0 (chars part)) ≡ false → group_name (behind text at) ≡ None
+group_refused text part at stop u p h s e =
+    let w = ap chars s ∙ passed_chars text at stop h.run.word u p h.run.passed in
     group_as text at stop h
     ∙ between_none (begins_with (one_of ">") (behind text stop)) (name_from true 0 h.run.word) (drop 1 (behind text stop)) (ap (λ x. is_some (name_from true 0 x)) (sym w) ∙ e)
 
-pub group_found : (text : List ℕ) (at stop more c : ℕ) → IsUtf8 text → IsPlace text at → IsRun is_no_end text at stop → Passed text stop more (c ∷ []) →
-    is_some (name_from true 0 (chars (slice_range text at stop))) ≡ true → IsRead (group_name (behind text at)) (spelled (slice_range text at stop)) text at more
-group_found text at stop more c u p h q t =
-    let w = passed_chars text at stop h.run.word u p h.run.passed in
+pub group_found : (text part : List ℕ) (at stop more c : ℕ) → IsUtf8 text → IsPlace text at → IsRun is_no_end text at stop → Passed text stop more (c ∷ []) → part ≡ slice_range text at stop →
+    is_some (name_from true 0 (chars part)) ≡ true → IsRead (group_name (behind text at)) (spelled part) text at more
+group_found text part at stop more c u p h q s t =
+    let w = ap chars s ∙ passed_chars text at stop h.run.word u p h.run.passed in
     record {
       word = h.run.word ++ c ∷ [];
       passed = passed_on text at stop more h.run.word (c ∷ []) h.run.passed q;
