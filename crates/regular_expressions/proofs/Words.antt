@@ -13,7 +13,7 @@ use Rattle.tokens.specs.Scanned.{Passed, IsRun}
 use Rattle.tokens.proofs.EscapeParts.{taken_while}
 use Rattle.tokens.proofs.PassedCharacters.{passed_slice}
 use Rattle.tokens.proofs.TriviaSteps.{all_append}
-use Rattle.regular_expressions.specs.PropertyNames.{behind_letter, is_met, lists_behind, is_property_character, property_name}
+use Rattle.regular_expressions.specs.PropertyNames.{behind_letter, is_met, lists_behind, listed, is_property_character, property_name}
 
 -- ---- words of ASCII
 
@@ -44,16 +44,20 @@ abbrev pub left_of : List ℕ → Option ℕ → Option (List ℕ)
 left_of word met = option_map (λ m. drop m word) met
 
 pub record InList (words word : List ℕ) (index : ℕ) (met : Option ℕ) : Type 0 where
-  pub same : lists_behind word (Some word) words ≡ lists_behind word (left_of word met) (drop index words)
+  pub same : listed words word ≡ lists_behind word (left_of word met) (drop index words)
 
 pub list_begins : (words word : List ℕ) → InList words word 0 (Some 0)
+unfolding listed
 list_begins words word = record { same = refl }
 
 pub list_met : (words word : List ℕ) (index : ℕ) (met : Option ℕ) → InList words word index met → index < length words → get_or words index 0 ≡ 0x20 → is_met (left_of word met) ≡ true →
-    lists_behind word (Some word) words ≡ true
+    listed words word ≡ true
 list_met words word index met h n e t =
     h.same ∙ ap (λ cs. lists_behind word (left_of word met) cs) (drop_more words index 0 n ∙ ap (λ c. c ∷ drop (index + 1) words) e)
     ∙ ap (λ b. b || lists_behind word (Some word) (drop (index + 1) words)) t
+
+pub list_ends : (words word : List ℕ) (index : ℕ) (met : Option ℕ) → InList words word index met → length words ≤ index → is_met (left_of word met) ≡ listed words word
+list_ends words word index met h n = sym (h.same ∙ ap (λ cs. lists_behind word (left_of word met) cs) (drop_all index words n))
 
 pub list_word : (words word : List ℕ) (index : ℕ) (met : Option ℕ) → InList words word index met → index < length words → get_or words index 0 ≡ 0x20 → is_met (left_of word met) ≡ false →
     InList words word (index + 1) (Some 0)

@@ -38,8 +38,11 @@ lists_behind word left [] = is_met left
 lists_behind word left (c ∷ cs) =
     if one_of " " c then is_met left || lists_behind word (Some word) cs else lists_behind word (behind_letter c left) cs
 
+unfoldable pub listed : List ℕ → List ℕ → Bool
+listed words word = lists_behind word (Some word) words
+
 abbrev pub lists : String → List ℕ → Bool
-lists words word = lists_behind word (Some word) (codes words)
+lists words word = listed (codes words) word
 
 abbrev pub is_script : List ℕ → Bool
 is_script word = lists scripts word || lists more_scripts word || lists last_scripts word

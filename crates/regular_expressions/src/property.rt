@@ -4,7 +4,7 @@ ghost use Rattle.std.specs.Prelude.{◌≡◌, Some, None, drop, option_map, tak
 ghost use Rattle.source_text.specs.Source.{IsPlace};
 ghost use Rattle.tokens.specs.Reading.{behind};
 ghost use Rattle.tokens.specs.Scanned.{IsRun};
-ghost use Rattle.regular_expressions.specs.PropertyNames.{behind_letter, is_lone_property, is_met, is_property, is_property_character, is_property_value, is_script, lists_behind, property_name};
+ghost use Rattle.regular_expressions.specs.PropertyNames.{behind_letter, is_lone_property, is_met, is_property, is_property_character, is_property_value, is_script, listed, property_name};
 ghost use Rattle.regular_expressions.specs.Characters.{property};
 ghost use Rattle.regular_expressions.specs.Scanned.{IsRead};
 
@@ -70,7 +70,7 @@ static LAST_SCRIPTS: &str = "\
 /// Whether a list of words, with a space between two, has this word.
 #[tactic(auto, using(crate::proofs::Words::list_begins, crate::proofs::Words::list_met, crate::proofs::Words::list_word, crate::proofs::Words::list_letter))]
 fn lists(words: &str, word: &[u8]) -> bool
-    ensures { result ≡ lists_behind word.now (Some word.now) words.now }
+    ensures { result ≡ listed words.now word.now }
 {
     let bytes = words.as_bytes();
     let mut met = Some(0usize);

@@ -7,13 +7,13 @@ use Rattle.regular_expressions.proofs.early.first_wrong.Goals as goal
 pub loop-first-init : goal.loop-first-init
 loop-first-init c = wrong_begins c.args.is_unicode c.args.text.now c.args.groups (contains c.args.names.now) (contains c.args.before.now) (IsCharBoundary-start c.args.text.now c.utf8.text) c.requires
 
-pub returns-in_default-piece_at : goal.returns-in_default-piece_at
-returns-in_default-piece_at c =
+pub returns-in_default-piece_at-clause-wrong : goal.returns-in_default-piece_at-clause-wrong
+returns-in_default-piece_at-clause-wrong c =
     wrong_none c.args.is_unicode c.args.text.now c.loop-first.at c.in-Some.first.end c.in-Some.first.c c.args.groups (contains c.args.names.now) (contains c.loop-first.before) c.loop-first.invariant
     c.in-Some.ensures.some c.in_default-piece_at.ensures.none
 
-pub returns-then-is_wrong : goal.returns-then-is_wrong
-returns-then-is_wrong c =
+pub returns-then-is_wrong-clause-wrong : goal.returns-then-is_wrong-clause-wrong
+returns-then-is_wrong-clause-wrong c =
     wrong_found c.args.is_unicode c.args.text.now c.loop-first.at c.in-Some.first.end c.in-Some-piece_at.read.end c.in-Some.first.c c.args.groups (piece_as c.in-Some-piece_at.read.piece)
     (contains c.args.names.now) (contains c.loop-first.before) c.in_ok-is_wrong.value c.loop-first.invariant c.in-Some.ensures.some c.in-Some-piece_at.ensures.some c.in_ok-is_wrong.ensures.wrong c.if-is_wrong.true
 
@@ -23,5 +23,5 @@ loop-first-preserved c =
     (contains c.args.names.now) (contains c.loop-first.before) (contains c.is_wrong.new.before) c.in_ok-is_wrong.value c.loop-first.invariant c.in-Some.ensures.some c.in-Some-piece_at.ensures.some
     c.in_ok-is_wrong.ensures.wrong c.if-is_wrong.false c.in_ok-is_wrong.ensures.after
 
-pub returns : goal.returns
-returns c = wrong_ends c.args.is_unicode c.args.text.now c.loop-first.at c.args.groups (contains c.args.names.now) (contains c.loop-first.before) c.loop-first.invariant c.in_default.ensures.none
+pub returns-clause-wrong : goal.returns-clause-wrong
+returns-clause-wrong c = wrong_ends c.args.is_unicode c.args.text.now c.loop-first.at c.args.groups (contains c.args.names.now) (contains c.loop-first.before) c.loop-first.invariant c.in_default.ensures.none
