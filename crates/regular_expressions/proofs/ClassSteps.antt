@@ -6,8 +6,8 @@ use Rattle.tokens.specs.Alphabet.{one_of}
 use Rattle.tokens.specs.Reading.{behind}
 use Rattle.tokens.specs.Scanned.{Passed}
 use Rattle.tokens.proofs.PassedCharacters.{passed_none, passed_on}
-use Rattle.regular_expressions.specs.Characters.{Valued}
-use Rattle.regular_expressions.specs.Classes.{Ranges, fresh, next_dash, class_atom, next_atom, read_of, class_behind}
+use Rattle.regular_expressions.specs.Characters.{Valued, escape}
+use Rattle.regular_expressions.specs.Classes.{Ranges, fresh, next_dash, class_escape, class_atom, next_atom, read_of, class_behind}
 use Rattle.regular_expressions.specs.Scanned.{IsRead, IsPassed, IsStep}
 use Rattle.regular_expressions.proofs.Productions.{read_length}
 
@@ -53,8 +53,19 @@ class_ends u text at stop ranges h e = h.same ∙ ap (λ cs. class_behind u (Som
 no_close : (c : ℕ) → ¬ (c ≡ 0x5D) → one_of "]" c ≡ false
 no_close c n = grind (arith, nat_tests)
 
-no_dash : (c : ℕ) → ¬ (c ≡ 0x2D) → one_of "-" c ≡ false
+pub no_dash : (c : ℕ) → ¬ (c ≡ 0x2D) → one_of "-" c ≡ false
 no_dash c n = grind (arith, nat_tests)
+
+pub and_false : (a b : Bool) → b ≡ false → (a && b) ≡ false
+and_false true b e = e
+and_false false b e = refl
+
+pub class_escape_other : (u : Bool) (c : ℕ) (cs : List ℕ) → ¬ (c ≡ 0x62) → (u && one_of "-" c) ≡ false → class_escape u (c ∷ cs) ≡ escape u (c ∷ cs)
+class_escape_other u c cs n e =
+    ap (λ b. if b then Some (Some 0x8, cs) else if u && one_of "-" c then Some (Some 0x2D, cs) else escape u (c ∷ cs)) (no_b c n)
+    ∙ ap (λ b. if b then Some (Some 0x2D, cs) else escape u (c ∷ cs)) e where
+      no_b : (c : ℕ) → ¬ (c ≡ 0x62) → one_of "b" c ≡ false
+      no_b c n = grind (arith, nat_tests)
 
 abbrev by_tests : Bool → Bool → List ℕ → Option (List ℕ) → Option (List ℕ) → Option (List ℕ)
 by_tests a b rest dash atom = if a then Some rest else if b then dash else atom

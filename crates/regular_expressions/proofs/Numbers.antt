@@ -50,7 +50,7 @@ zero_digits (suc k) w h = zero_digits k w h
 
 pub padded_length : (w : List ℕ) (width : ℕ) → length w ≤ width → length (padded w width) ≡ width
 padded_length w width n = let a = length-append (replicate (width - length w) 0x30) w in let b = zeros_long (width - length w) in omega arith where
-  zeros_long : (k : ℕ) → length (replicate k 0x30) ≡ k
+  zeros_long : (k : ℕ) → length {A = ℕ} (replicate k 0x30) ≡ k
   zeros_long zero = refl
   zeros_long (suc k) = ap suc (zeros_long k)
 
@@ -133,6 +133,12 @@ exceeds_now digits i value limit e n lt =
     large (decimal_value 0 digits) limit (omega arith) where
       large : (x y : ℕ) → y < x → true ≡ not (nat_le x y)
       large x y h = grind (arith, nat_tests)
+
+-- the same at the bytes of a text
+pub exceeds_at : (digits bytes : List ℕ) (i value digit limit : ℕ) → bytes ≡ digits → value ≡ decimal_value 0 (take i digits) → i < length bytes → digit ≡ get_or bytes i 0 - 0x30 →
+    limit < 10 * value + digit → true ≡ not (nat_le (decimal_value 0 digits) limit)
+exceeds_at digits bytes i value digit limit s e n d lt =
+    exceeds_now digits i value limit e (subst (λ x. i < length x) s n) (subst (λ k. limit < 10 * value + k) (d ∙ ap (λ x. get_or x i 0 - 0x30) s) lt)
 
 pub exceeds_more : (digits : List ℕ) (i value : ℕ) → value ≡ decimal_value 0 (take i digits) → i < length digits →
     10 * value + (get_or digits i 0 - 0x30) ≡ decimal_value 0 (take (i + 1) digits)

@@ -1,17 +1,17 @@
 -- Productions that are read from one place to another.
-use Rattle.std.proofs.Common.{◌≡◌, ℕ, zero, suc, ◌+◌, ◌-◌, ◌≤◌, Bool, true, false, not, ◌&&◌, ◌||◌, ◌==◌, List, [], ◌∷◌, ◌++◌, length, take, drop, Option, Some, None, if◌then◌else◌, IsTrue, IsFalse, refl, sym, ap, ◌∙◌, subst, arith, length-append}
+use Rattle.std.proofs.Common.{◌≡◌, ℕ, zero, suc, ◌+◌, ◌-◌, ◌≤◌, Bool, true, false, not, ◌&&◌, ◌||◌, ◌==◌, List, [], ◌∷◌, ◌++◌, length, take, drop, Option, Some, None, if◌then◌else◌, nat_le, IfSome, IfNone, IsTrue, IsFalse, refl, sym, ap, ◌∙◌, subst, arith, length-append}
 use Rattle.std.specs.Prelude.{slice_range}
 use Rattle.std.specs.List.{list_all, take_while}
 use Rattle.std.specs.Str.{chars, IsUtf8}
-use Rattle.std.proofs.lemmas.Str.{chars_from_encodes, IsUtf8-between}
+use Rattle.std.proofs.lemmas.Str.{chars_from_encodes, IsUtf8-between, length-le-encodes}
 use Rattle.std.proofs.lemmas.List.{take_at, drop_at}
 use Rattle.source_text.specs.Source.{IsPlace}
-use Rattle.tokens.specs.Alphabet.{begins_with}
+use Rattle.tokens.specs.Alphabet.{begins_with, is_empty, is_decimal_digit}
 use Rattle.tokens.specs.Reading.{behind}
 use Rattle.tokens.specs.Scanned.{Passed, AllPass, IsRun}
 use Rattle.tokens.proofs.EscapeParts.{taken_while}
 use Rattle.tokens.proofs.PassedCharacters.{passed_none, passed_on, passed_ordered, passed_slice}
-use Rattle.regular_expressions.specs.Terms.{behind_lazy, closed_count}
+use Rattle.regular_expressions.specs.Terms.{behind_lazy, behind_digits, decimal_value, closed_count, most, least, counted}
 use Rattle.regular_expressions.specs.Scanned.{IsRead, IsPassed, IsEnd}
 
 -- ---- one character more in front
@@ -31,6 +31,20 @@ passed_behind wide near text at stop end c p e h = record {
   passed = passed_on text at stop end (c ∷ []) h.word p h.passed;
   found = e ∙ h.found;
 }
+
+-- what stands behind a word, as another function read it
+pub passed_through : (wide near : Option (List ℕ)) (text : List ℕ) (at mid : ℕ) (word : List ℕ) (o : Option ℕ) → Passed text at mid word → wide ≡ near →
+    IfSome o (λ end. IsPassed near text mid end) → IfSome o (λ end. IsPassed wide text at end)
+passed_through wide near text at mid word None p e h = tt
+passed_through wide near text at mid word (Some end) p e h = record {
+  word = word ++ h.word;
+  passed = passed_on text at mid end word h.word p h.passed;
+  found = e ∙ h.found;
+}
+
+pub none_through : {A B : Type 0} (wide near : Option A) (o : Option B) → wide ≡ near → IfNone o (near ≡ None) → IfNone o (wide ≡ None)
+none_through wide near None e h = e ∙ h
+none_through wide near (Some x) e h = tt
 
 -- the same production under another name
 pub read_same : {A : Type 0} (wide near : Option (A × List ℕ)) (value : A) (text : List ℕ) (at end : ℕ) → wide ≡ near → IsRead near value text at end → IsRead wide value text at end
@@ -60,6 +74,21 @@ run_rest test text at stop h =
     ∙ ap (drop (length h.run.word)) h.run.passed.split
     ∙ drop_at h.run.word (behind text stop) (length h.run.word) refl
 
+pub run_empty : (test : ℕ → Bool) (text : List ℕ) (at stop : ℕ) (h : IsRun test text at stop) → stop ≡ at → is_empty h.run.word ≡ true
+run_empty test text at stop h e =
+    let r = h.run.passed.reaches in
+    let n = length-le-encodes h.run.word in
+    empty h.run.word (omega arith) where
+      empty : (w : List ℕ) → length w ≤ 0 → is_empty w ≡ true
+      empty [] n = refl
+      empty (c ∷ w) n = absurd (omega arith)
+
+pub run_not_empty : (test : ℕ → Bool) (text : List ℕ) (at stop : ℕ) (h : IsRun test text at stop) → ¬ (stop ≡ at) → is_empty h.run.word ≡ false
+run_not_empty test text at stop h n = of h.run.word h.run.passed where
+  of : (w : List ℕ) → Passed text at stop w → is_empty w ≡ false
+  of [] q = let r = q.reaches in absurd (n (omega arith))
+  of (c ∷ w) q = refl
+
 -- ---- the characters of a part
 
 pub passed_chars : (text : List ℕ) (at stop : ℕ) (word : List ℕ) → IsUtf8 text → IsPlace text at → Passed text at stop word → chars (slice_range text at stop) ≡ word
@@ -73,6 +102,34 @@ left_behind word rest = let n = length-append word rest in omega arith
 
 pub read_length : (text : List ℕ) (at stop : ℕ) (word : List ℕ) → Passed text at stop word → length (behind text at) - length (behind text stop) ≡ length word
 read_length text at stop word p = ap (λ cs. length cs - length (behind text stop)) p.split ∙ left_behind word (behind text stop)
+
+-- ---- numbers of a count
+
+pub most_as : (text low : List ℕ) (at stop : ℕ) (is_good : Bool) (h : IsRun is_decimal_digit text at stop) →
+    is_good ≡ (is_empty h.run.word || nat_le (decimal_value 0 low) (decimal_value 0 h.run.word)) → most low (behind text at) ≡ closed_count is_good (behind text stop)
+most_as text low at stop is_good h e =
+    ap (λ w. closed_count (is_empty w || nat_le (decimal_value 0 low) (decimal_value 0 w)) (behind_digits (behind text at))) (run_word is_decimal_digit text at stop h)
+    ∙ ap (λ b. closed_count b (behind_digits (behind text at))) (sym e)
+    ∙ ap (closed_count is_good) (run_rest is_decimal_digit text at stop h)
+
+pub most_open : (text low : List ℕ) (at stop : ℕ) → IsRun is_decimal_digit text at stop → stop ≡ at → most low (behind text at) ≡ closed_count true (behind text stop)
+most_open text low at stop h e =
+    most_as text low at stop true h (sym (ap (λ b. b || nat_le (decimal_value 0 low) (decimal_value 0 h.run.word)) (run_empty is_decimal_digit text at stop h e)))
+
+pub most_ordered : (text low part : List ℕ) (at stop : ℕ) (is_good : Bool) (h : IsRun is_decimal_digit text at stop) → ¬ (stop ≡ at) → part ≡ h.run.word →
+    is_good ≡ nat_le (decimal_value 0 low) (decimal_value 0 part) → most low (behind text at) ≡ closed_count is_good (behind text stop)
+most_ordered text low part at stop is_good h n s e =
+    most_as text low at stop is_good h
+    (e ∙ ap (λ w. nat_le (decimal_value 0 low) (decimal_value 0 w)) s
+    ∙ sym (ap (λ b. b || nat_le (decimal_value 0 low) (decimal_value 0 h.run.word)) (run_not_empty is_decimal_digit text at stop h n)))
+
+pub counted_as : (text part : List ℕ) (at stop : ℕ) (h : IsRun is_decimal_digit text at stop) → ¬ (stop ≡ at) → part ≡ h.run.word →
+    counted (behind text at) ≡ least part (behind text stop)
+counted_as text part at stop h n s =
+    ap (λ w. if is_empty w then None else least w (behind_digits (behind text at))) (run_word is_decimal_digit text at stop h)
+    ∙ ap (λ b. if b then None else least h.run.word (behind_digits (behind text at))) (run_not_empty is_decimal_digit text at stop h n)
+    ∙ ap (least h.run.word) (run_rest is_decimal_digit text at stop h)
+    ∙ ap (λ w. least w (behind text stop)) (sym s)
 
 -- ---- the end of a count
 

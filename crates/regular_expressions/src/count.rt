@@ -124,7 +124,10 @@ fn most(text: &str, low: &[u8], at: usize) -> Option<usize>
     ensures none { IfNone result (most low.now (behind text.now at) ≡ None) }
 {
     let end = digits_end(text, at);
-    let is_good = end == at || is_ordered(low, &text.as_bytes()[at..end]);
+    if end == at {
+        return closed_count(text, true, end);
+    }
+    let is_good = is_ordered(low, &text.as_bytes()[at..end]);
     closed_count(text, is_good, end)
 }
 
