@@ -9,3 +9,4 @@ pub mod NameSteps
 pub mod EarlySteps
 pub mod Words
 pub mod SlashSteps
+pub mod TermSteps
