@@ -1,5 +1,5 @@
 -- Groups, their names, and what refers to them, piece by piece.
-use Rattle.std.proofs.Common.{◌≡◌, ℕ, zero, suc, ◌+◌, ◌≤◌, Bool, true, false, not, ◌||◌, List, [], ◌∷◌, ◌++◌, length, Option, Some, None, if◌then◌else◌, refl, sym, ap, ◌∙◌, subst, arith}
+use Rattle.std.proofs.Common.{◌≡◌, ℕ, zero, suc, ◌+◌, ◌<◌, ◌≤◌, Bool, true, false, not, ◌||◌, List, [], ◌∷◌, ◌++◌, length, Option, Some, None, if◌then◌else◌, refl, sym, ap, ◌∙◌, subst, arith}
 use Rattle.std.specs.List.{list_any}
 use Rattle.std.specs.Str.{chars, bytes_eq}
 use Rattle.std.proofs.lemmas.List.Folds.{list_any-append}
@@ -17,17 +17,17 @@ abbrev pub group_of : Piece → ℕ
 group_of p = group_count ((0, Some p) ∷ [])
 
 pub count_one : (at : ℕ) (p : Piece) (ps : List Placed) → group_count ((at, Some p) ∷ ps) ≡ group_of p + group_count ps
-count_one at bar ps = refl
-count_one at closing ps = refl
-count_one at assertion ps = refl
-count_one at looking ps = refl
-count_one at grouping ps = refl
+count_one at bar ps = omega arith
+count_one at closing ps = omega arith
+count_one at assertion ps = omega arith
+count_one at looking ps = omega arith
+count_one at grouping ps = omega arith
 count_one at capturing ps = omega arith
 count_one at (naming name) ps = omega arith
-count_one at repeating ps = refl
-count_one at atom ps = refl
-count_one at (reference n) ps = refl
-count_one at (name_reference name) ps = refl
+count_one at repeating ps = omega arith
+count_one at atom ps = omega arith
+count_one at (reference n) ps = omega arith
+count_one at (name_reference name) ps = omega arith
 
 small : (p : Piece) → group_of p ≤ 1
 small bar = omega arith
@@ -45,7 +45,8 @@ small (name_reference name) = omega arith
 or_swap : (a b c : Bool) → (a || (b || c)) ≡ ((b || a) || c)
 or_swap true true c = refl
 or_swap true false c = refl
-or_swap false b c = refl
+or_swap false true c = refl
+or_swap false false c = refl
 
 pub has_append : (v w : List (List ℕ)) (name : List ℕ) → has (v ++ w) name ≡ (has v name || has w name)
 has_append v w name = list_any-append (bytes_eq name) v w

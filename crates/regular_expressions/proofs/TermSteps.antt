@@ -15,11 +15,11 @@ use Rattle.regular_expressions.specs.Scanned.{IsRead}
 use Rattle.regular_expressions.proofs.Productions.{read_behind, run_word, run_rest}
 
 -- behind `\k`
-pub referred : (text : List ℕ) (at open stop : ℕ) (name : List ℕ) → Passed text at open (0x3C ∷ []) → IsRead (group_name (behind text open)) name text open stop →
+pub referred : (text : List ℕ) (at more stop : ℕ) (name : List ℕ) → Passed text at more (0x3C ∷ []) → IsRead (group_name (behind text more)) name text more stop →
     IsRead (if begins_with (one_of "<") (behind text at) then name_referred (group_name (drop 1 (behind text at))) else None) (name_reference name) text at stop
-referred text at open stop name p h =
-    read_behind (if begins_with (one_of "<") (behind text at) then name_referred (group_name (drop 1 (behind text at))) else None) (name_referred (group_name (behind text open)))
-    (name_reference name) text at open stop 0x3C p (ap (λ cs. if begins_with (one_of "<") cs then name_referred (group_name (drop 1 cs)) else None) p.split)
+referred text at more stop name p h =
+    read_behind (if begins_with (one_of "<") (behind text at) then name_referred (group_name (drop 1 (behind text at))) else None) (name_referred (group_name (behind text more)))
+    (name_reference name) text at more stop 0x3C p (ap (λ cs. if begins_with (one_of "<") cs then name_referred (group_name (drop 1 cs)) else None) p.split)
     (record { word = h.word; passed = h.passed; found = ap name_referred h.found })
 
 digit_escape : (u : Bool) (c : ℕ) (cs : List ℕ) → 0x31 ≤ c → c ≤ 0x39 →

@@ -12,16 +12,16 @@ returns-in_default-piece_at-clause-wrong c =
     wrong_none c.args.is_unicode c.args.text.now c.loop-first.at c.in-Some.first.end c.in-Some.first.c c.args.groups (contains c.args.names.now) (contains c.loop-first.before) c.loop-first.invariant
     c.in-Some.ensures.some c.in_default-piece_at.ensures.none
 
-pub returns-then-is_wrong-clause-wrong : goal.returns-then-is_wrong-clause-wrong
-returns-then-is_wrong-clause-wrong c =
+pub returns-then-branch-clause-wrong : goal.returns-then-branch-clause-wrong
+returns-then-branch-clause-wrong c =
     wrong_found c.args.is_unicode c.args.text.now c.loop-first.at c.in-Some.first.end c.in-Some-piece_at.read.end c.in-Some.first.c c.args.groups (piece_as c.in-Some-piece_at.read.piece)
-    (contains c.args.names.now) (contains c.loop-first.before) c.in_ok-is_wrong.value c.loop-first.invariant c.in-Some.ensures.some c.in-Some-piece_at.ensures.some c.in_ok-is_wrong.ensures.wrong c.if-is_wrong.true
+    (contains c.args.names.now) (contains c.loop-first.before) c.in_ok-is_wrong.field-0 c.loop-first.invariant c.in-Some.ensures.some c.in-Some-piece_at.ensures.some c.in_ok-is_wrong.ensures.wrong c.if-branch.true
 
 pub loop-first-preserved : goal.loop-first-preserved
 loop-first-preserved c =
     wrong_goes_on c.args.is_unicode c.args.text.now c.loop-first.at c.in-Some.first.end c.in-Some-piece_at.read.end c.in-Some.first.c c.args.groups (piece_as c.in-Some-piece_at.read.piece)
-    (contains c.args.names.now) (contains c.loop-first.before) (contains c.is_wrong.new.before) c.in_ok-is_wrong.value c.loop-first.invariant c.in-Some.ensures.some c.in-Some-piece_at.ensures.some
-    c.in_ok-is_wrong.ensures.wrong c.if-is_wrong.false c.in_ok-is_wrong.ensures.after
+    (contains c.args.names.now) (contains c.loop-first.before) (contains c.is_wrong.new.before) c.in_ok-is_wrong.field-0 c.loop-first.invariant c.in-Some.ensures.some c.in-Some-piece_at.ensures.some
+    c.in_ok-is_wrong.ensures.wrong c.if-branch.false c.in_ok-is_wrong.ensures.after
 
 pub returns-clause-wrong : goal.returns-clause-wrong
 returns-clause-wrong c = wrong_ends c.args.is_unicode c.args.text.now c.loop-first.at c.args.groups (contains c.args.names.now) (contains c.loop-first.before) c.loop-first.invariant c.in_default.ensures.none
