@@ -23,14 +23,14 @@ pub overflow_add-count : goal.overflow_add-count
 overflow_add-count c =
     let f : c.loop-first.count + c.in_ok-count.field-0 ≤ length c.args.text.now =
     subst (λ k. c.loop-first.count + k ≤ length c.args.text.now) (sym c.in_ok-count.ensures.count)
-    (groups_few c.args.is_unicode c.args.text.now c.loop-first.at c.loop-first.count (piece_as c.in-Some-piece_at.read.piece) (contains c.args.names.now) (contains c.loop-first.names) c.loop-first.invariant (omega arith)) in
+    (groups_few c.args.is_unicode c.args.text.now c.loop-first.at c.loop-first.count (piece_as c.in-Some-piece_at.read.piece) (contains c.args.names.now) (contains c.loop-first.names) c.loop-first.invariant (omega (arith, c.in-Some.ensures.within))) in
     omega arith
 
 pub loop-first-preserved : goal.loop-first-preserved
 loop-first-preserved c =
     subst (λ k. InGroups c.args.is_unicode c.args.text.now c.in-Some-piece_at.read.end (c.loop-first.count + k) (contains c.args.names.now) (contains c.add_group.new.names)) (sym c.in_ok-count.ensures.count)
     (groups_go_on c.args.is_unicode c.args.text.now c.loop-first.at c.in-Some.first.end c.in-Some-piece_at.read.end c.in-Some.first.c c.loop-first.count (piece_as c.in-Some-piece_at.read.piece)
-    (contains c.args.names.now) (contains c.loop-first.names) (contains c.add_group.new.names) c.loop-first.invariant (omega arith) c.in-Some.ensures.some c.in-Some-piece_at.ensures.some c.in_ok-count.ensures.names)
+    (contains c.args.names.now) (contains c.loop-first.names) (contains c.add_group.new.names) c.loop-first.invariant (omega (arith, c.in-Some.ensures.within)) c.in-Some.ensures.some c.in-Some-piece_at.ensures.some c.in_ok-count.ensures.names)
 
 pub returns-clause-count : goal.returns-clause-count
 returns-clause-count c =

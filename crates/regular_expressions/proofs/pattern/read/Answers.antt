@@ -18,10 +18,14 @@ returns-in_default-piece_at-clause-fault c =
     c.loop-first.invariant.read c.in-Some.ensures.some c.in_default-piece_at.ensures.none)
 
 pub nest-requires : goal.nest-requires
-nest-requires c = record { few = omega arith }
+nest-requires c = record { few = omega (arith, c.in-Some.ensures.within) }
 
 pub returns-in_default-2-clause-fault : goal.returns-in_default-2-clause-fault
-returns-in_default-2-clause-fault c = ?
+returns-in_default-2-clause-fault c =
+    let xs = reverse c.nest.new.around.items in
+    sym (pattern_breaks c.args.is_unicode c.args.text.now c.loop-first.at c.in-Some.first.end c.in-Some-piece_at.read.end c.in-Some.first.c (nested_as c.loop-first.nested (reverse c.loop-first.around.items))
+    c.loop-first.has_references (piece_as c.in-Some-piece_at.read.piece) c.loop-first.invariant.read c.in-Some.ensures.some c.in-Some-piece_at.ensures.some
+    (sym c.in_ok-behind.ensures.next ∙ ap (λ q. nested_if q xs) c.in_default-2.is))
 
 pub loop-first-preserved : goal.loop-first-preserved
 loop-first-preserved c =
@@ -34,7 +38,7 @@ loop-first-preserved c =
     let o = passed_ordered text c.in-Some.first.end c.in-Some-piece_at.read.end r.word r.passed in
     let f : c.in-Some-2.behind.groups + sum c.nest.new.around.items ≤ c.loop-first.nested.groups + sum c.loop-first.around.items + 1 = rw c.in-Some-2.is at c.in_ok-behind.ensures.few in
     record {
-      few = omega arith;
+      few = omega (arith, c.in-Some.ensures.within);
       read = subst (λ b. InPattern u text c.in-Some-piece_at.read.end w b) (sym c.has_seen-has_references.ensures)
           (pattern_goes_on u text c.loop-first.at c.in-Some.first.end c.in-Some-piece_at.read.end c.in-Some.first.c z w c.loop-first.has_references p c.loop-first.invariant.read c.in-Some.ensures.some r
           (sym c.in_ok-behind.ensures.next ∙ ap (λ q. nested_if q (reverse c.nest.new.around.items)) c.in-Some-2.is));
