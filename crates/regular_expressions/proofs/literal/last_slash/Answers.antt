@@ -1,4 +1,4 @@
-use Rattle.std.proofs.Common.{[], ◌∷◌, None, subst, sym}
+use Rattle.std.proofs.Common.{[], ◌∷◌, subst, arith}
 use Rattle.tokens.specs.Scanned.{Passed}
 use Rattle.regular_expressions.proofs.SlashSteps.{InLiteral, literal_slash, literal_flag, literal_goes_on, literal_none}
 use Rattle.regular_expressions.proofs.literal.last_slash.Goals as goal
@@ -15,7 +15,7 @@ loop-step-preserved-in-u c =
 
 pub loop-step-preserved : goal.loop-step-preserved
 loop-step-preserved c =
-    let d = c.in_default-c in ?
+    literal_goes_on c.args.text.now c.args.from c.loop-step.end c.in-Some.step.end c.in-Some.step.c c.loop-step.slash c.loop-step.has_u c.loop-step.invariant c.in-Some.ensures.some (omega arith) (omega arith)
 
 pub returns-in-None-clause-none : goal.returns-in-None-clause-none
 returns-in-None-clause-none c =

@@ -6,7 +6,7 @@ use Rattle.regular_expressions.proofs.NameSteps.{InSpelled, spelled_begins, spel
 use Rattle.regular_expressions.proofs.name.unescaped.Goals as goal
 
 pub loop-step-init : goal.loop-step-init
-loop-step-init c = 
+loop-step-init c =
     subst (λ x. InSpelled c.args.word.now 0 x) (sym c.new-name.ensures.bytes) (spelled_begins c.args.word.now (IsCharBoundary-start c.args.word.now c.utf8.word))
 
 pub returns-in_default-name_character : goal.returns-in_default-name_character
