@@ -104,12 +104,6 @@ pub groups_named_none : (u : Bool) (text : List ℕ) (at count : ℕ) (had now :
     (w : List ℕ) → now w ≡ (had w || has (group_names (pieces_of u (chars text))) w)
 groups_named_none u text at count had now h e w = sym (h.named w ∙ ap (λ ps. now w || has (group_names ps) w) e ∙ or_false (now w))
 
--- ---- one piece's name
-
--- a name that was put in front of others
-pub named_first : (name : List ℕ) (w : List ℕ) (before : Bool) → (bytes_eq w name || before) ≡ (has (name ∷ []) w || before)
-named_first name w before = ap (λ b. b || before) (sym (or_false (bytes_eq w name)))
-
 -- ---- the first early error
 
 pub record InWrong (u : Bool) (text : List ℕ) (at groups : ℕ) (names before : List ℕ → Bool) : Type 0 where

@@ -24,14 +24,6 @@ read_behind wide near value text at stop end c p e h = record {
   found = e ∙ h.found;
 }
 
-pub passed_behind : (wide near : Option (List ℕ)) (text : List ℕ) (at stop end c : ℕ) → Passed text at stop (c ∷ []) → wide ≡ near →
-    IsPassed near text stop end → IsPassed wide text at end
-passed_behind wide near text at stop end c p e h = record {
-  word = c ∷ h.word;
-  passed = passed_on text at stop end (c ∷ []) h.word p h.passed;
-  found = e ∙ h.found;
-}
-
 -- what stands behind a word, as another function read it
 pub passed_through : (wide near : Option (List ℕ)) (text : List ℕ) (at mid : ℕ) (word : List ℕ) (o : Option ℕ) → Passed text at mid word → wide ≡ near →
     IfSome o (λ end. IsPassed near text mid end) → IfSome o (λ end. IsPassed wide text at end)
@@ -45,23 +37,6 @@ passed_through wide near text at mid word (Some end) p e h = record {
 pub none_through : {A B : Type 0} (wide near : Option A) (o : Option B) → wide ≡ near → IfNone o (near ≡ None) → IfNone o (wide ≡ None)
 none_through wide near None e h = e ∙ h
 none_through wide near (Some x) e h = tt
-
--- the same production under another name
-pub read_same : {A : Type 0} (wide near : Option (A × List ℕ)) (value : A) (text : List ℕ) (at end : ℕ) → wide ≡ near → IsRead near value text at end → IsRead wide value text at end
-read_same wide near value text at end e h = record { word = h.word; passed = h.passed; found = e ∙ h.found }
-
-pub passed_same : (wide near : Option (List ℕ)) (text : List ℕ) (at end : ℕ) → wide ≡ near → IsPassed near text at end → IsPassed wide text at end
-passed_same wide near text at end e h = record { word = h.word; passed = h.passed; found = e ∙ h.found }
-
--- a production of one character
-pub read_one : {A : Type 0} (wide : Option (A × List ℕ)) (value : A) (text : List ℕ) (at stop c : ℕ) → Passed text at stop (c ∷ []) → wide ≡ Some (value, behind text stop) →
-    IsRead wide value text at stop
-read_one wide value text at stop c p e = record { word = c ∷ []; passed = p; found = e }
-
--- a production of none
-pub read_none : {A : Type 0} (wide : Option (A × List ℕ)) (value : A) (text : List ℕ) (at : ℕ) → IsPlace text at → wide ≡ Some (value, behind text at) →
-    IsRead wide value text at at
-read_none wide value text at p e = record { word = []; passed = passed_none text at p; found = e }
 
 -- ---- runs
 

@@ -92,9 +92,6 @@ pub record InLiteral (text : List ℕ) (from stop : ℕ) (slash : Option ℕ) (h
   pub flags : IfSome slash (λ at. has_u ≡ has_flag word)
   pub none : IfNone slash (has_slash word ≡ false)
 
-pub literal_begins : (text : List ℕ) (from : ℕ) (has_u : Bool) → IsPlace text from → InLiteral text from from None has_u
-literal_begins text from has_u p = record { word = []; passed = passed_none text from p; seen = tt; pattern = tt; flags = tt; none = refl }
-
 pub literal_slash : (text : List ℕ) (from stop more : ℕ) (slash : Option ℕ) (has_u : Bool) → InLiteral text from stop slash has_u → Passed text stop more (0x2F ∷ []) →
     InLiteral text from more (Some stop) false
 literal_slash text from stop more slash has_u h p = record {
@@ -141,12 +138,6 @@ literal_goes_on text from stop more c slash has_u h p n m =
 whole : (text : List ℕ) (from stop : ℕ) (slash : Option ℕ) (has_u : Bool) (h : InLiteral text from stop slash has_u) → behind text stop ≡ [] → h.word ≡ behind text from
 whole text from stop slash has_u h e = sym (h.passed.split ∙ ap (λ x. h.word ++ x) e ∙ append-nil h.word)
 
-pub literal_pattern : (text : List ℕ) (from stop at : ℕ) (has_u : Bool) → InLiteral text from stop (Some at) has_u → behind text stop ≡ [] → Passed text from at (before_slash (behind text from))
-literal_pattern text from stop at has_u h e = subst (λ w. Passed text from at (before_slash w)) (whole text from stop (Some at) has_u h e) h.pattern
-
-pub literal_flags : (text : List ℕ) (from stop at : ℕ) (has_u : Bool) → InLiteral text from stop (Some at) has_u → behind text stop ≡ [] → has_u ≡ list_any (one_of "u") (behind_slash (behind text from))
-literal_flags text from stop at has_u h e = h.flags ∙ ap (λ w. has_flag w) (whole text from stop (Some at) has_u h e)
-
 pub literal_none : (text : List ℕ) (from stop : ℕ) (has_u : Bool) → InLiteral text from stop None has_u → behind text stop ≡ [] → before_slash (behind text from) ≡ []
 literal_none text from stop has_u h e = sym (ap before_slash (whole text from stop None has_u h e)) ∙ no_before h.word h.none
 
@@ -164,9 +155,3 @@ pub literal_fault : (text : List ℕ) (first at c : ℕ) (has_u : Bool) (f : Opt
 literal_fault text first at c has_u f u p q e g =
     in_literal text first c f p
     (g ∙ ap (λ b. pattern_fault b (chars (slice_range text first at))) e ∙ ap (pattern_fault (has_flag (behind text first))) (passed_chars text first at (before_slash (behind text first)) u p.place q))
-
-pub literal_open : (text : List ℕ) (first c : ℕ) → Passed text 0 first (c ∷ []) → before_slash (behind text first) ≡ [] → None ≡ first_fault (chars text)
-literal_open text first c p e = in_literal text first c None p (sym (ap (pattern_fault (has_flag (behind text first))) e))
-
-pub literal_empty : (text : List ℕ) → behind text 0 ≡ [] → None ≡ first_fault (chars text)
-literal_empty text e = sym (ap first_fault e)

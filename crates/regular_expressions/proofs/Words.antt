@@ -69,9 +69,6 @@ list_met words word index met h n e t =
     h.same ∙ ap (λ cs. lists_behind word (left_of word met) cs) (drop_more words index 0 n ∙ ap (λ c. c ∷ drop (index + 1) words) e)
     ∙ ap (λ b. b || lists_behind word (Some word) (drop (index + 1) words)) t
 
-pub list_ends : (words word : List ℕ) (index : ℕ) (met : Option ℕ) → InList words word index met → length words ≤ index → is_met (left_of word met) ≡ listed words word
-list_ends words word index met h n = sym (h.same ∙ ap (λ cs. lists_behind word (left_of word met) cs) (drop_all index words n))
-
 pub list_word : (words word : List ℕ) (index : ℕ) (met : Option ℕ) → InList words word index met → index < length words → get_or words index 0 ≡ 0x20 → is_met (left_of word met) ≡ false →
     InList words word (index + 1) (Some 0)
 list_word words word index met h n e t = record {

@@ -1,13 +1,9 @@
 //! Characters of names and of ASCII.
 
-ghost use Rattle.std.specs.Prelude.{◌≡◌, ◌==◌, ◌<◌};
-ghost use Rattle.source_text.specs.Source.{IsPlace};
-ghost use Rattle.tokens.specs.Alphabet.{begins_with};
-ghost use Rattle.tokens.specs.Reading.{behind};
+ghost use Rattle.std.specs.Prelude.{◌≡◌};
 ghost use Rattle.regular_expressions.specs.Characters.{is_id_continue, is_id_start};
 ghost use Rattle.regular_expressions.specs.Names.{is_part, is_start, stands_in_name};
 
-use tokens::char_at;
 use unicode_ident::{is_xid_continue, is_xid_start};
 
 /// Whether the character is a UnicodeIDStart.
@@ -104,15 +100,4 @@ pub(crate) fn stands_in_name(is_first: bool, value: u32) -> bool
         return false;
     };
     if is_first { is_start(c) } else { is_part(c) }
-}
-
-/// Whether this character of ASCII stands at a place.
-pub(crate) fn stands(text: &str, at: usize, c: char) -> bool
-    requires { IsPlace text.now at }
-    ensures { result ≡ begins_with (λ d. d == c) (behind text.now at) }
-{
-    let Some(step) = char_at(text, at) else {
-        return false;
-    };
-    step.c == c
 }

@@ -6,7 +6,6 @@ ghost use Rattle.tokens.specs.Reading.{behind};
 ghost use Rattle.regular_expressions.specs.Classes.{class, class_atom, class_behind, class_escape, fresh, in_order, next_atom, next_dash, next_member, next_members, units};
 ghost use Rattle.regular_expressions.specs.Scanned.{IsPassed, IsRead, IsStep, ranges_as, ranges_if};
 
-use crate::character::stands;
 use crate::escape::{Valued, escape_by};
 use tokens::{CharAt, char_at};
 
