@@ -1,10 +1,9 @@
 -- Worked examples of patterns: good ones, and the places of first faults.
-use Rattle.std.specs.Prelude.{◌≡◌, ℕ, Bool, true, false, not, ◌==◌, List, [], ◌∷◌, codes, is_some, unwrap_or, refl}
-use Rattle.std.specs.List.{list_all, list_any}
+use Rattle.std.specs.Prelude.{◌≡◌, ℕ, Bool, true, not, ◌==◌, List, [], ◌∷◌, codes, is_some, unwrap_or, refl}
+use Rattle.std.specs.List.{list_all}
 use Rattle.std.specs.Char.{encode_utf8}
 use Prim.Native.String.{String}
 use Rattle.unicode_ident.proofs.Computing.{unicode_ident}
-use Rattle.regular_expressions.specs.PropertyNames.{listed, lists}
 use Rattle.regular_expressions.specs.Patterns.{first_fault}
 
 abbrev is_good : String → Bool
@@ -43,21 +42,13 @@ unfolding unicode_ident encode_utf8
 escapes = refl
 
 no_escapes : list_all fails (("/\\c1/", 1) ∷ ("/\\00/", 1) ∷ ("/\\x4/", 1) ∷ ("/\\u004/", 1) ∷ ("/\\u{41}/", 1) ∷ ("/\\u{110000}/u", 1) ∷ ("/\\u{}/u", 1) ∷ ("/\\-/u", 1) ∷ ("/\\a/", 1) ∷ ("/\\_/", 1) ∷ ("/\\ͺ/", 1) ∷ ("/\\é/", 1) ∷ ("/\\😀/u", 1) ∷ ("/\\k/", 1) ∷ ("/\\p{L}/", 1) ∷ []) ≡ true
-unfolding unicode_ident encode_utf8 listed
+unfolding unicode_ident encode_utf8
 no_escapes = refl
 
+-- Which properties there are the interpreter of the definitions says: the checker computes by name, and would begin each word anew at each letter.
 no_properties : list_all fails (("/\\p/u", 1) ∷ ("/\\p{/u", 1) ∷ ("/\\p{L/u", 1) ∷ ("/\\p{L }/u", 1) ∷ []) ≡ true
 unfolding unicode_ident encode_utf8
 no_properties = refl
-
--- The lists of the standard are too long for the checker to search: these are short.
-words : list_all (λ w. lists "Script sc Script_Extensions scx" (codes w)) ("Script" ∷ "sc" ∷ "Script_Extensions" ∷ "scx" ∷ []) ≡ true
-unfolding listed
-words = refl
-
-no_words : list_any (λ w. lists "Script sc Script_Extensions scx" (codes w)) ("" ∷ "s" ∷ "Scrip" ∷ "Scripts" ∷ "script" ∷ "cx" ∷ "Script sc" ∷ []) ≡ false
-unfolding listed
-no_words = refl
 
 classes : list_all is_good ("/[]/" ∷ "/[^]/" ∷ "/[a-z]/" ∷ "/[a-zA-Z_$]/" ∷ "/[-a]/" ∷ "/[a-]/" ∷ "/[--]/" ∷ "/[a-b-c]/" ∷ "/[a-c-b]/" ∷ "/[\\d-]/" ∷ "/[\\b\\-\\]]/" ∷ "/[^^]/" ∷ "/[\\-]/u" ∷ "/[/(*{]/" ∷ "/[😀-😁]/u" ∷ "/[a-😀-\\uFFFF]/" ∷ "/[\\uD83D\\uDE00-\\uFFFF]/" ∷ "/[\\uD800-\\uDBFF]/u" ∷ "/[a-\\uD83D\\uDE00-b]/u" ∷ []) ≡ true
 unfolding unicode_ident encode_utf8
