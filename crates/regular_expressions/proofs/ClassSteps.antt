@@ -1,12 +1,12 @@
 -- CharacterClass, atom by atom.
-use Rattle.std.proofs.Common.{◌≡◌, ℕ, zero, suc, ◌+◌, ◌-◌, Bool, true, false, ◌&&◌, ◌||◌, ◌==◌, List, [], ◌∷◌, ◌++◌, length, Option, Some, None, if◌then◌else◌, IsTrue, IsFalse, refl, sym, ap, ◌∙◌, subst, arith}
+use Rattle.std.proofs.Common.{◌≡◌, ℕ, ◌-◌, Bool, true, false, ◌&&◌, List, [], ◌∷◌, ◌++◌, length, Option, Some, None, if◌then◌else◌, refl, ap, ◌∙◌, arith}
 use Rattle.std.proofs.lemmas.Bool.Decides.{nat_tests}
 use Rattle.source_text.specs.Source.{IsPlace}
 use Rattle.tokens.specs.Alphabet.{one_of}
 use Rattle.tokens.specs.Reading.{behind}
 use Rattle.tokens.specs.Scanned.{Passed}
 use Rattle.tokens.proofs.PassedCharacters.{passed_none, passed_on}
-use Rattle.regular_expressions.specs.Characters.{Valued, escape}
+use Rattle.regular_expressions.specs.Characters.{escape}
 use Rattle.regular_expressions.specs.Classes.{Ranges, fresh, next_dash, class_escape, class_atom, next_atom, read_of, class_behind}
 use Rattle.regular_expressions.specs.Scanned.{IsRead, IsPassed, IsStep}
 use Rattle.regular_expressions.proofs.Productions.{read_length}

@@ -1,5 +1,5 @@
 -- Worked examples of patterns with long numbers.
-use Rattle.std.specs.Prelude.{◌≡◌, ℕ, true, List, [], ◌∷◌, codes, Some, None, refl}
+use Rattle.std.specs.Prelude.{◌≡◌, codes, Some, None, refl}
 use Rattle.std.specs.Char.{encode_utf8}
 use Rattle.unicode_ident.proofs.Computing.{unicode_ident}
 use Rattle.regular_expressions.specs.Patterns.{first_fault}

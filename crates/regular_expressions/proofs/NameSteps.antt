@@ -1,5 +1,5 @@
 -- Names of groups, character by character.
-use Rattle.std.proofs.Common.{◌≡◌, ℕ, zero, suc, ◌+◌, ◌-◌, Bool, true, false, not, List, [], ◌∷◌, ◌++◌, length, drop, Option, Some, None, is_some, unwrap_or, if◌then◌else◌, inl, inr, IsTrue, IsFalse, refl, sym, ap, ◌∙◌, subst, arith, append_assoc, append-nil}
+use Rattle.std.proofs.Common.{◌≡◌, ℕ, ◌-◌, Bool, true, false, not, List, [], ◌∷◌, ◌++◌, length, drop, Option, Some, None, is_some, unwrap_or, if◌then◌else◌, inl, inr, IsTrue, IsFalse, refl, sym, ap, ◌∙◌, subst, arith, append_assoc, append-nil}
 use Rattle.std.specs.Prelude.{option_map, encode_utf8_all, slice_range, ◌&&◌, ◌||◌}
 use Rattle.std.specs.List.{list_any, take_while}
 use Rattle.std.specs.Char.{encode_utf8, OutOfScalarRange}
@@ -12,7 +12,6 @@ use Rattle.tokens.specs.Alphabet.{one_of, begins_with}
 use Rattle.tokens.specs.Reading.{behind}
 use Rattle.tokens.specs.Scanned.{Passed, IsRun}
 use Rattle.tokens.proofs.PassedCharacters.{passed_none, passed_on}
-use Rattle.regular_expressions.specs.Characters.{Number}
 use Rattle.regular_expressions.specs.Names.{name_escape, name_character, is_start, is_part, is_character, stands_in_name, with_character, read_of, name_end, name_from, is_no_end, name_before, name_between, group_name}
 use Rattle.regular_expressions.specs.Scanned.{IsRead, spelled}
 use Rattle.regular_expressions.proofs.Productions.{read_length, run_word, run_rest, passed_chars}

@@ -1,5 +1,5 @@
 -- Worked examples of patterns: good ones, and the places of first faults.
-use Rattle.std.specs.Prelude.{◌≡◌, ℕ, Bool, true, not, ◌==◌, List, [], ◌∷◌, codes, is_some, unwrap_or, refl}
+use Rattle.std.specs.Prelude.{◌≡◌, ℕ, Bool, true, not, ◌==◌, [], ◌∷◌, codes, is_some, unwrap_or, refl}
 use Rattle.std.specs.List.{list_all}
 use Rattle.std.specs.Char.{encode_utf8}
 use Prim.Native.String.{String}

@@ -1,16 +1,16 @@
 -- Productions that are read from one place to another.
-use Rattle.std.proofs.Common.{◌≡◌, ℕ, zero, suc, ◌+◌, ◌-◌, ◌≤◌, Bool, true, false, not, ◌&&◌, ◌||◌, ◌==◌, List, [], ◌∷◌, ◌++◌, length, take, drop, Option, Some, None, if◌then◌else◌, nat_le, IfSome, IfNone, IsTrue, IsFalse, refl, sym, ap, ◌∙◌, subst, arith, length-append}
+use Rattle.std.proofs.Common.{◌≡◌, ℕ, ◌-◌, ◌≤◌, Bool, true, false, ◌||◌, List, [], ◌∷◌, ◌++◌, length, drop, Option, Some, None, if◌then◌else◌, nat_le, IfSome, IfNone, refl, sym, ap, ◌∙◌, arith, length-append}
 use Rattle.std.specs.Prelude.{slice_range}
-use Rattle.std.specs.List.{list_all, take_while}
+use Rattle.std.specs.List.{take_while}
 use Rattle.std.specs.Str.{chars, IsUtf8}
 use Rattle.std.proofs.lemmas.Str.{chars_from_encodes, IsUtf8-between, length-le-encodes}
-use Rattle.std.proofs.lemmas.List.{take_at, drop_at}
+use Rattle.std.proofs.lemmas.List.{drop_at}
 use Rattle.source_text.specs.Source.{IsPlace}
-use Rattle.tokens.specs.Alphabet.{begins_with, is_empty, is_decimal_digit}
+use Rattle.tokens.specs.Alphabet.{is_empty, is_decimal_digit}
 use Rattle.tokens.specs.Reading.{behind}
-use Rattle.tokens.specs.Scanned.{Passed, AllPass, IsRun}
+use Rattle.tokens.specs.Scanned.{Passed, IsRun}
 use Rattle.tokens.proofs.EscapeParts.{taken_while}
-use Rattle.tokens.proofs.PassedCharacters.{passed_none, passed_on, passed_ordered, passed_slice}
+use Rattle.tokens.proofs.PassedCharacters.{passed_on, passed_ordered, passed_slice}
 use Rattle.regular_expressions.specs.Terms.{behind_lazy, behind_digits, decimal_value, closed_count, most, least, counted}
 use Rattle.regular_expressions.specs.Scanned.{IsRead, IsPassed, IsEnd}
 

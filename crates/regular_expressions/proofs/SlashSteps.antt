@@ -1,17 +1,15 @@
 -- The last `/` of a literal, and the pattern before it.
-use Rattle.std.proofs.Common.{◌≡◌, ℕ, ◌+◌, Bool, true, false, ◌||◌, List, [], ◌∷◌, ◌++◌, length, Option, Some, None, if◌then◌else◌, IfSome, IfNone, IsFalse, refl, sym, ap, ◌∙◌, subst, arith, append-nil}
+use Rattle.std.proofs.Common.{◌≡◌, ℕ, ◌+◌, Bool, true, false, ◌||◌, List, [], ◌∷◌, ◌++◌, Option, Some, None, if◌then◌else◌, IfSome, IfNone, refl, sym, ap, ◌∙◌, subst, arith, append-nil}
 use Rattle.std.specs.Prelude.{slice_range, option_map}
 use Rattle.std.specs.List.{list_any}
 use Rattle.std.specs.Str.{chars, IsUtf8}
 use Rattle.std.proofs.lemmas.Bool.Decides.{nat_tests}
 use Rattle.std.proofs.lemmas.List.Folds.{list_any-append}
-use Rattle.std.proofs.lemmas.Str.{IsCharBoundary-start}
-use Rattle.source_text.specs.Source.{IsPlace}
 use Rattle.tokens.specs.Alphabet.{one_of}
 use Rattle.tokens.specs.Tokens.{size}
 use Rattle.tokens.specs.Reading.{behind}
 use Rattle.tokens.specs.Scanned.{Passed}
-use Rattle.tokens.proofs.PassedCharacters.{passed_none, passed_on}
+use Rattle.tokens.proofs.PassedCharacters.{passed_on}
 use Rattle.regular_expressions.specs.Patterns.{before_slash, behind_slash, pattern_fault, first_fault}
 use Rattle.regular_expressions.proofs.Productions.{passed_chars}
 

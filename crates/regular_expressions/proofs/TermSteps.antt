@@ -1,5 +1,5 @@
 -- Pieces by their first characters.
-use Rattle.std.proofs.Common.{◌≡◌, ℕ, ◌+◌, ◌≤◌, Bool, true, false, ◌||◌, List, [], ◌∷◌, ◌++◌, Option, Some, None, if◌then◌else◌, refl, sym, ap, ◌∙◌, arith}
+use Rattle.std.proofs.Common.{◌≡◌, ℕ, ◌≤◌, Bool, true, false, ◌||◌, List, [], ◌∷◌, Option, Some, None, if◌then◌else◌, refl, sym, ap, ◌∙◌, arith}
 use Rattle.std.specs.Prelude.{drop}
 use Rattle.std.proofs.lemmas.Bool.Decides.{nat_tests}
 use Rattle.source_text.specs.Source.{IsPlace}
@@ -10,7 +10,7 @@ use Rattle.tokens.proofs.PassedCharacters.{passed_none}
 use Rattle.regular_expressions.specs.Characters.{escape}
 use Rattle.regular_expressions.specs.Classes.{class}
 use Rattle.regular_expressions.specs.Names.{group_name}
-use Rattle.regular_expressions.specs.Terms.{Piece, bar, closing, assertion, repeating, atom, reference, name_reference, Read, read_as, digits, behind_digits, decimal_value, behind_lazy, counted, opening, name_referred, valued_atom, atom_escape, piece}
+use Rattle.regular_expressions.specs.Terms.{bar, closing, assertion, repeating, atom, reference, name_reference, Read, read_as, digits, behind_digits, decimal_value, behind_lazy, counted, opening, name_referred, valued_atom, atom_escape, piece}
 use Rattle.regular_expressions.specs.Scanned.{IsRead}
 use Rattle.regular_expressions.proofs.Productions.{read_behind, run_word, run_rest}
 

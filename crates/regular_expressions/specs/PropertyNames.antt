@@ -1,5 +1,5 @@
 -- The names in `\p{..}` (ECMA-262, 13th edition, 22.2.1: UnicodePropertyValueExpression; tables 66 to 69): lists of words, with a space between two.
-use Rattle.std.specs.Prelude.{ℕ, Bool, true, false, not, ◌&&◌, ◌||◌, ◌==◌, List, [], ◌∷◌, length, drop, take_while, nat_le, Option, Some, None, codes, if◌then◌else◌}
+use Rattle.std.specs.Prelude.{ℕ, Bool, false, not, ◌&&◌, ◌||◌, ◌==◌, List, [], ◌∷◌, length, drop, take_while, nat_le, Option, Some, None, codes, if◌then◌else◌}
 use Prim.Native.String.{String}
 use Rattle.tokens.specs.Alphabet.{one_of, is_empty, is_decimal_digit}
 

@@ -1,6 +1,6 @@
 -- The pieces of a pattern (ECMA-262, 13th edition, 22.2.1, without Annex B): what stands in a Disjunction, one after the other. Groups and lookarounds
 -- are two pieces, that before their Disjunction and that behind it.
-use Rattle.std.specs.Prelude.{ℕ, ◌+◌, ◌*◌, ◌-◌, Bool, true, false, not, ◌&&◌, ◌||◌, List, [], ◌∷◌, length, drop, take_while, nat_le, Option, Some, None, if◌then◌else◌}
+use Rattle.std.specs.Prelude.{ℕ, ◌+◌, ◌*◌, ◌-◌, Bool, true, ◌&&◌, ◌||◌, List, [], ◌∷◌, length, drop, take_while, nat_le, Option, Some, None, if◌then◌else◌}
 use Rattle.tokens.specs.Alphabet.{one_of, begins_with, is_empty, is_decimal_digit, is_non_zero_digit}
 use Rattle.regular_expressions.specs.Characters.{Valued, escape}
 use Rattle.regular_expressions.specs.Classes.{class}

@@ -1,4 +1,4 @@
-use Rattle.std.proofs.Common.{◌≡◌, None, true, slice_range}
+use Rattle.std.proofs.Common.{true, slice_range}
 use Rattle.tokens.specs.Alphabet.{is_decimal_digit}
 use Rattle.tokens.specs.Reading.{behind}
 use Rattle.regular_expressions.specs.Terms.{closed_count, most}

@@ -1,4 +1,4 @@
-use Rattle.std.proofs.Common.{rules, ◌≡◌, Some, subst, arith}
+use Rattle.std.proofs.Common.{rules, ◌≡◌, subst, arith}
 use Rattle.regular_expressions.specs.Characters.{hex_digits}
 use Rattle.regular_expressions.specs.Scanned.{IsRead}
 use Rattle.tokens.specs.Reading.{behind}

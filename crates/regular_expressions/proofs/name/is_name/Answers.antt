@@ -1,4 +1,4 @@
-use Rattle.std.proofs.Common.{sym, ap, ◌∙◌, not}
+use Rattle.std.proofs.Common.{sym, ◌∙◌}
 use Rattle.std.proofs.lemmas.Str.{IsCharBoundary-start}
 use Rattle.regular_expressions.proofs.NameSteps.{is_name_begins, is_name_goes_on, is_name_refused, is_name_fails, is_name_ends}
 use Rattle.regular_expressions.proofs.name.is_name.Goals as goal

@@ -1,8 +1,8 @@
-use Rattle.std.proofs.Common.{◌+◌, ◌≤◌, false, reverse, sum, Some, sym, ap, ◌∙◌, subst, arith}
+use Rattle.std.proofs.Common.{◌+◌, ◌≤◌, false, reverse, sum, sym, ap, ◌∙◌, subst, arith}
 use Rattle.std.proofs.lemmas.Str.{IsCharBoundary-start}
 use Rattle.tokens.proofs.PassedCharacters.{passed_ordered}
 use Rattle.regular_expressions.specs.Scanned.{piece_as, nested_as, nested_if}
-use Rattle.regular_expressions.proofs.PatternSteps.{InPattern, pattern_begins, pattern_stops, pattern_breaks, pattern_goes_on, pattern_ends, plain_ends}
+use Rattle.regular_expressions.proofs.PatternSteps.{InPattern, pattern_begins, pattern_stops, pattern_breaks, pattern_goes_on}
 use Rattle.regular_expressions.proofs.pattern.read.Goals as goal
 
 pub loop-first-init : goal.loop-first-init

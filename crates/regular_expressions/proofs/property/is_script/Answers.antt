@@ -1,4 +1,4 @@
-use Rattle.std.proofs.Common.{◌≡◌, Bool, true, false, ◌||◌, refl, sym, ◌∙◌}
+use Rattle.std.proofs.Common.{◌≡◌, Bool, true, false, ◌||◌, sym, ◌∙◌}
 use Rattle.regular_expressions.proofs.property.is_script.Goals as goal
 use Rattle.regular_expressions.proofs.property.is_script.Goals.{then-lists, else-lists}
 
