@@ -106,20 +106,3 @@ pattern_goes_on u text at more stop c z w has_references p h one r e = record {
   right : (a b : Bool) → (a || b) ≡ false → b ≡ false
   right true b e = cc
   right false b e = e
-
--- the pattern ends there
-pub pattern_size : (u : Bool) (text : List ℕ) (at : ℕ) (z : Nested) (has_references : Bool) → InPattern u text at z has_references → behind text at ≡ [] → size (chars text) ≡ at
-pattern_size u text at z has_references h e =
-    let r = h.passed.reaches in
-    let whole : chars text ≡ h.word = h.passed.split ∙ ap (λ x. h.word ++ x) e ∙ append-nil h.word in
-    ap size whole ∙ omega arith
-
-pub pattern_ends : (u : Bool) (text : List ℕ) (at : ℕ) (z : Nested) (has_references : Bool) → InPattern u text at z has_references → behind text at ≡ [] →
-    misplaced (size (chars text)) 0 (Some outermost) (pieces_of u (chars text)) ≡ (if is_closed z then None else Some at)
-pattern_ends u text at z has_references h e =
-    h.same ∙ ap (λ ps. misplaced (size (chars text)) h.last (Some z) ps) (pieces_end u text at e)
-    ∙ ap (λ n. if is_closed z then None else Some n) (pattern_size u text at z has_references h e)
-
-pub plain_ends : (u : Bool) (text : List ℕ) (at : ℕ) (z : Nested) (has_references : Bool) → InPattern u text at z has_references → behind text at ≡ [] → has_references ≡ false →
-    (g : ℕ) (n : List (List ℕ)) → first_wrong g n [] (pieces_of u (chars text)) ≡ None
-plain_ends u text at z has_references h e f g n = h.plain f g n ∙ ap (λ ps. first_wrong g n [] ps) (pieces_end u text at e)
