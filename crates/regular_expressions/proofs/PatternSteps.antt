@@ -1,5 +1,5 @@
 -- A pattern, piece by piece.
-use Rattle.std.proofs.Common.{◌≡◌, ℕ, ◌+◌, Bool, true, false, ◌||◌, List, [], ◌∷◌, ◌++◌, length, Some, None, if◌then◌else◌, refl, ap, ◌∙◌, arith, append-nil}
+use Rattle.std.proofs.Common.{◌≡◌, ℕ, ◌+◌, Bool, true, false, ◌||◌, List, [], ◌∷◌, ◌++◌, length, Some, None, refl, ap, ◌∙◌, arith}
 use Rattle.std.specs.Str.{chars}
 use Rattle.source_text.specs.Source.{IsPlace}
 use Rattle.tokens.specs.Tokens.{size}
@@ -7,7 +7,7 @@ use Rattle.tokens.specs.Reading.{behind}
 use Rattle.tokens.specs.Scanned.{Passed}
 use Rattle.tokens.proofs.PassedCharacters.{passed_none, passed_on, size_append}
 use Rattle.regular_expressions.specs.Terms.{Piece, bar, closing, assertion, looking, grouping, capturing, naming, repeating, atom, reference, name_reference, piece}
-use Rattle.regular_expressions.specs.Patterns.{Placed, with_piece, read_of, pieces_from, pieces_of, Nested, outermost, nest, is_closed, misplaced, first_wrong}
+use Rattle.regular_expressions.specs.Patterns.{Placed, with_piece, read_of, pieces_from, pieces_of, Nested, outermost, nest, misplaced, first_wrong}
 use Rattle.regular_expressions.specs.Scanned.{IsRead, refers}
 use Rattle.regular_expressions.proofs.Productions.{read_length}
 
