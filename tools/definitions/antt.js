@@ -15,7 +15,7 @@ const path = require('path');
 class AnttError extends Error {}
 
 // Of proofs/, only examples and the words that they are written with.
-const EXAMPLES = /\/(?:language\/proofs\/examples|(?:early_errors|scopes)\/proofs)\/(Trees|Sources|Tables|\w*Examples|\w*Rows)\.antt$/;
+const EXAMPLES = /\/(?:language\/proofs\/examples|(?:early_errors|scopes|regular_expressions)\/proofs)\/(Trees|Sources|Tables|\w*Examples|\w*Rows)\.antt$/;
 // Modules that aren't loaded, by crate: they speak of the program's own values (its trees, devices, tables), not of texts and trees.
 const LEFT_OUT = {
   source_text: 'specs: Io Memory Source LineBytes Located Writing',
@@ -29,6 +29,7 @@ const LEFT_OUT = {
   node_rules: 'specs: KindNumbers Due Laws',
   rules: 'specs: Toml NameOrder Run RuleViews Used Nodes NodeRules Refusals Lines',
   estree_json: 'specs: Sent Primitives Table',
+  regular_expressions: 'specs: Scanned',
 };
 const LEFT_OUT_NAMES = new Set(Object.entries(LEFT_OUT).flatMap(([crate, parts]) => parts.split('; ').flatMap((part) => {
   const [folder, names] = part.split(': ');

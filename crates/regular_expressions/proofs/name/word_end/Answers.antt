@@ -1,0 +1,12 @@
+use Rattle.std.proofs.Common.{sym, ◌∙◌}
+use Rattle.regular_expressions.specs.Names.{is_no_end}
+use Rattle.tokens.proofs.TriviaSteps.{all_begins, all_goes_on}
+use Rattle.regular_expressions.proofs.name.word_end.Goals as goal
+
+pub loop-step-init : goal.loop-step-init
+loop-step-init c = all_begins is_no_end c.args.text.now c.args.at c.requires
+
+pub loop-step-preserved : goal.loop-step-preserved
+loop-step-preserved c =
+    all_goes_on is_no_end c.args.text.now c.args.at c.loop-step.end c.in-Some.step.end c.in-Some.step.c c.loop-step.invariant c.in-Some.ensures.some
+    (sym c.is_no_end.ensures ∙ c.if-not-is_no_end.false)
