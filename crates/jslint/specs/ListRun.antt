@@ -84,7 +84,7 @@ StopsUnread gives line name failure =
 -- or the list is too long, a run over an empty text is refused, as by settings that aren't any, or memory is refused
 abbrev pub StopsRefused : Contents → Line → LanguageChoice → Refused → Type 0
 StopsRefused gives line choice refused =
-    ((list : List ℕ) × Holds gives line.file.now list × (max_bytes < length list) × (refused ≡ record { fault = TooLong; in_second = false; line = 0; column = 0 }))
+    ((list : List ℕ) × Holds gives line.file.now list × (max_bytes < length list) × (refused ≡ record no_memory { fault = TooLong }))
     ⊎ ((settings : List ℕ) × HasSettings gives line settings × AnswersBytes line.command choice [] settings (Err refused))
     ⊎ (refused ≡ no_memory)
 
