@@ -28,12 +28,13 @@ const { Rows, rowThatSees } = require('./mutate/rows.js');
 
 const FOLDERS = [...CRATES, ...REPORTING.map((crate) => path.join(__dirname, '../../crates', crate))];
 const specs = (crate, names) => names.split(' ').map((name) => `${crate}/specs/${name}.antt`);
-// The files that a reader has to believe and the rows run. EnvironmentNames is left out: ../definitions/scopes.js asks for each of its names.
+// The files that a reader has to believe and the rows run. Left out are EnvironmentNames and Environments, of which scopes.js asks each name, and
+// RuleNames, which `../rules --check` holds to the files of the rules.
 const GROUPS = {
   early: specs('early_errors', 'Names Around Scopes Functions Strict Labels Classes Keys Literals Cooked Yields Fields PrivateNames Modules Early'),
   names: specs('name_tables', 'BoundNames DeclaredNames'),
   scopes: specs('scopes', 'Found Openings Bindings Roles'),
-  rules: [...specs('rules', 'Rules Settings BuiltIn RuleNames AllRules'), ...specs('node_rules', 'Rows Tests PartTests Searches Words Arounds Found Over'), ...specs('rule_words', 'Reports')],
+  rules: [...specs('rules', 'Rules Settings BuiltIn AllRules'), ...specs('node_rules', 'Rows Tests PartTests Searches Words Arounds Found Over'), ...specs('rule_words', 'Reports')],
 };
 
 // ---------------------------------------------------------------- words

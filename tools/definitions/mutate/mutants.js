@@ -46,7 +46,7 @@ const INNER = {
   apply: (e, at) => [e.f, ...e.args].map((it) => [it, at]),
   tuple: (e, at) => e.parts.map((it) => [it, at]),
   field: (e, at) => [[e.e, at]],
-  record: (e, at) => [...(e.base === null ? [] : [e.base]), ...e.fields.map(([, value]) => value)].map((it) => [it, at]),
+  record: (e, at) => [...(e.base === null ? [] : [[e.base, at]]), ...e.fields.map(([field, value]) => [value, { ...at, field }])],
   lambda: (e, at) => [[e.body, bound(at, e.names)]],
   let: (e, at) => [[e.value, at], [e.body, bound(at, [e.pattern])]],
   elim: (e, at) => [[e.e, at], ...e.cases.map(([p, body]) => [body, bound(at, [p])])],
@@ -54,9 +54,10 @@ const INNER = {
 // the line where an expression begins, as far as its tokens say it
 const lineOf = (e) => e.no ?? [e.f, e.e, e.base, e.body, ...inner(e)].filter((it) => it?.k !== undefined).map(lineOf).filter((it) => it !== undefined).sort((a, b) => a - b)[0];
 
-function inExpression(e, at) {
-  const inside = (INNER[e.k]?.(e, at) ?? []).flatMap(([it, where]) => inExpression(it, where));
-  return [...changesOf(e, at), ...inside];
+// the changes of an expression and in it; those of a field's value say which
+function inExpression(e, { field, ...at }) {
+  const own = changesOf(e, at).map((it) => (field === undefined ? it : { ...it, text: `${field} = ${it.text}` }));
+  return [...own, ...(INNER[e.k]?.(e, at) ?? []).flatMap(([it, where]) => inExpression(it, where))];
 }
 const inPattern = (p, at) => [...changesOfPattern(p, at), ...inner(p).flatMap((it) => inPattern(it, at))];
 

@@ -1,6 +1,6 @@
 'use strict';
-// The rows of crates/cases/data that the definitions can be asked for, with what each wants of them: its least early error, its reports by the settings,
-// or the reports of one rule on nodes. A row {text, language, look, want, ..}; `look` is a name of LOOKS.
+// The rows of crates/cases/data that the definitions can be asked for, with what each wants of them: its least early error, its scopes and references,
+// its reports by the settings, or the reports of one rule on nodes. A row {text, language, look, want, ..}; `look` is a name of LOOKS.
 
 const path = require('node:path');
 const antt = require('../antt.js');
@@ -20,8 +20,20 @@ function leastEarlyError({ model }, row) {
   const [error] = model.least_error(model.tree(plainTree(row.read.tree, row.language))).a;
   return error === undefined ? 'accepted' : `E${error[0]} ${error[1]}`;
 }
+// scopes, what each declares, and references, as the rows of `resolved` have them
+function scopesInWords({ reports }, row) {
+  const found = reports.found(reports.model.tree(plainTree(row.read.tree, row.language)));
+  const some = (it, shown) => (it.a.length === 0 ? 'None' : `Some(${shown(it.a[0])})`);
+  const binding = (it) => `${antt.text(it.name)} ${it.kind.$.name} ${it.start}-${it.stop}${it.settled ? ' settled' : ''}${it.shadows ? ' shadows' : ''}, `;
+  const scope = (it) => `${some(it.parent, String)}: ${antt.toArray(it.bindings).map(binding).join('')}`;
+  const flags = (it) => `${it.reads ? ' read' : ''}${it.writes ? ' written' : ''}${it.typeof_operand ? ' typeof' : ''}`;
+  const meaning = (it) => it.meaning.a.map(([n, i]) => ` (${n}, ${i})`).join('');
+  const reference = (it) => `${antt.text(it.name)} ${it.start}-${it.stop} in ${it.scope}${flags(it)}${meaning(it)}, `;
+  return `${antt.toArray(found.scopes).map(scope).join('')}; ${antt.toArray(found.references).map(reference).join('')}`;
+}
 const LOOKS = {
   early: leastEarlyError,
+  scopes: scopesInWords,
   check: ({ reports }, row) => JSON.stringify(behind.linesOf(reports, row)),
   rule: ({ rules }, row) => rules.said(row),
 };
@@ -35,9 +47,10 @@ const saidOf = (definitions, row) => LOOKS[row.look](definitions, row);
 // the rows whose text the plain model reads; those of refused texts ask nothing of these definitions
 function allRows() {
   const early = ['editions', 'early', 'later_answers'].flatMap((file) => rowsOf(file, ['early'])).map(({ texts: [text], language, want }) => ({ text, language, look: 'early', want }));
+  const scopes = rowsOf('resolved', ['scopes']).map(({ texts: [text], language, want }) => ({ text, language, look: 'scopes', want }));
   const check = behind.rowsOfReports().map((row) => ({ ...row, look: 'check', want: JSON.stringify(row.want) }));
   const rule = rowsOfNodeRules().map((row) => ({ ...row, look: 'rule' }));
-  const rows = [...early, ...check, ...rule].filter(({ text }) => text.length < LONGEST);
+  const rows = [...early, ...scopes, ...check, ...rule].filter(({ text }) => text.length < LONGEST);
   for (const row of rows) row.read = parseOnly(row.text, { ...LIMITS, ...MORE[row.language] });
   return rows.filter((row) => row.read.ok);
 }
