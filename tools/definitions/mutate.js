@@ -93,7 +93,7 @@ function answerOf(mutant, { status, runs, row, why }, reason) {
 }
 
 function run(words) {
-  const spec = new Changeable(FOLDERS), reasons = readList(words.list);
+  const reasons = readList(words.list), spec = new Changeable(FOLDERS);
   const all = mutantsOf(spec, Object.values(GROUPS).flat());
   const faults = faultsOfList(words.list, reasons, all);
   const files = words.groups.flatMap((it) => GROUPS[it]);
