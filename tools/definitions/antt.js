@@ -290,8 +290,8 @@ class Reader {
         }
         return { k: 'name', path: names, no: t.no };
       }
-      case 'number': this.next(); return { k: 'number', v: t.v };
-      case 'string': this.next(); return { k: 'string', v: t.v };
+      case 'number': this.next(); return { k: 'number', v: t.v, no: t.no };
+      case 'string': this.next(); return { k: 'string', v: t.v, no: t.no };
       case '(': {
         this.next(); const parts = [this.expr()];
         while (this.at(',')) { this.next(); parts.push(this.expr()); }

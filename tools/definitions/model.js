@@ -48,8 +48,9 @@ const PROGRAM_TEXT = { base: '', script: '2022', module: 'module' };
 const FLAGS = ['computed', 'optional', 'is_static', 'prefix', 'directive', 'expression'];
 
 class Model {
-  constructor(folders) {
-    this.spec = antt.load(folders);
+  // of these folders' definitions, or of some that are loaded
+  constructor(folders, spec = antt.load(folders)) {
+    this.spec = spec;
     for (const [key, where] of Object.entries(NAMES)) this[key] = this.spec.fn(...where);
     const unwrap = (v) => (typeof v === 'function' ? v() : v);
     this.none = unwrap(this.none); this.script = unwrap(this.script); this.contexts = unwrap(this.contexts); this.beginning = unwrap(this.beginning);

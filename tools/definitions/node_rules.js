@@ -1,33 +1,54 @@
 'use strict';
 // Holds the definitions of rules on nodes (crate node_rules) to the rows of cases/data/node_rules: node node_rules.js
+// mutate.js asks `said` of changed definitions.
 
 const fs = require('node:fs');
 const path = require('node:path');
 const antt = require('./antt.js');
+const { rowsOf } = require('./cases.js');
 const { Model, CRATES, PLAIN_MODEL, plainTree } = require('./model.js');
 const { parseOnly } = require(path.join(PLAIN_MODEL, 'parse.js'));
 
 const crates = path.join(__dirname, '../../crates');
-const model = new Model([...CRATES, path.join(crates, 'rule_words'), path.join(crates, 'node_rules')]);
-const found = model.spec.fn('found_by_rule', 'Found', 'node_rules');
-const called = model.spec.fn('called', 'Rows', 'node_rules');
-const source = fs.readFileSync(path.join(crates, 'node_rules/src/node_rule.rt'), 'utf8');
-const variants = /pub enum NodeRule \{([^}]*)\}/.exec(source)[1].match(/\w+/g);
-const rules = new Map(variants.map((name) => model.spec.variant('NodeRule', name)).map((rule) => [antt.text(called(rule)), rule]));
-const options = { allow_null: false, allow_comments: false };
+const OPTIONS = { allow_null: false, allow_comments: false };
+const MORE = { base: {}, script: { edition: 2022 }, module: { edition: 2022, module: true } };
 
-const LANGUAGES = { '': ['base', {}], script: ['script', { edition: 2022 }], module: ['module', { edition: 2022, module: true }] };
-let rows = 0, otherwise = 0;
-for (const line of fs.readFileSync(path.join(crates, 'cases/data/node_rules'), 'utf8').split('\n')) {
-  if (line === '' || line.startsWith('#')) continue;
-  const [head, text, name, want] = line.split('\t');
-  const [language, more] = LANGUAGES[/^(?:(script|module) )?rule alone$/.exec(head)[1] ?? ''];
-  const read = parseOnly(text, { maxHeight: 1e5, maxParens: 1e5, ...more });
-  const got = read.ok ? antt.toArray(found(options, antt.bytes(text), rules.get(name), model.tree(plainTree(read.tree, language)))).map((it) => `${it.start} ${antt.text(it.text)}; `).join('') : 'no script';
-  rows += 1;
-  if (got === want) continue;
-  otherwise += 1;
-  console.log(`${name}: ${text}\n  definitions ${got}\n  row         ${want}`);
+// the rules by their names, of a model that has the crates rule_words and node_rules
+class NodeRules {
+  constructor(model) {
+    this.model = model;
+    const { spec } = model;
+    const called = spec.fn('called', 'Rows', 'node_rules');
+    const source = fs.readFileSync(path.join(crates, 'node_rules/src/node_rule.rt'), 'utf8');
+    const variants = /pub enum NodeRule \{([^}]*)\}/.exec(source)[1].match(/\w+/g).map((name) => spec.variant('NodeRule', name));
+    this.found = spec.fn('found_by_rule', 'Found', 'node_rules');
+    this.rules = new Map(variants.map((rule) => [antt.text(called(rule)), rule]));
+  }
+  // what the definitions say of a row
+  said(row) {
+    const read = (row.read ??= parseOnly(row.text, { maxHeight: 1e5, maxParens: 1e5, ...MORE[row.language] }));
+    if (!read.ok) return 'no script';
+    const found = this.found(OPTIONS, antt.bytes(row.text), this.rules.get(row.name), this.model.tree(plainTree(read.tree, row.language)));
+    return antt.toArray(found).map((it) => `${it.start} ${antt.text(it.text)}; `).join('');
+  }
 }
-console.log(`${rows} rows, ${otherwise} otherwise`);
-process.exitCode = rows > 0 && otherwise === 0 ? 0 : 1;
+
+// the rows {text, language, name, want}
+const rowsOfNodeRules = () => rowsOf('node_rules', ['rule alone']).map(({ texts: [text, name], language, want }) => ({ text, language, name, want }));
+
+function main() {
+  const rules = new NodeRules(new Model([...CRATES, path.join(crates, 'rule_words'), path.join(crates, 'node_rules')]));
+  const rows = rowsOfNodeRules();
+  let otherwise = 0;
+  for (const row of rows) {
+    const got = rules.said(row);
+    if (got === row.want) continue;
+    otherwise += 1;
+    console.log(`${row.name}: ${row.text}\n  definitions ${got}\n  row         ${row.want}`);
+  }
+  console.log(`${rows.length} rows, ${otherwise} otherwise`);
+  process.exitCode = rows.length > 0 && otherwise === 0 ? 0 : 1;
+}
+
+module.exports = { NodeRules, rowsOfNodeRules };
+if (require.main === module) main();

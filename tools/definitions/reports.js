@@ -29,9 +29,9 @@ const flagsOf = (environments) => Object.fromEntries([...ENVIRONMENTS.keys()].ma
 const ORDER = (a, b) => a.start - b.start || (a.rule < b.rule ? -1 : a.rule > b.rule ? 1 : 0) || a.end - b.end || Buffer.compare(Buffer.from(a.text), Buffer.from(b.text));
 
 class Reports {
-  // The definitions of the folder's crates of REPORTING, above those of trees, the language and early errors.
-  constructor(folder) {
-    this.model = new Model([...CRATES, ...REPORTING.map((crate) => path.join(folder, crate))]);
+  // The definitions of the folder's crates of REPORTING, above those of trees, the language and early errors; or those of a model that has them.
+  constructor(folder, model = new Model([...CRATES, ...REPORTING.map((crate) => path.join(folder, crate))])) {
+    this.model = model;
     const { spec } = this.model;
     this.found = spec.fn('found', 'Found', 'scopes');
     this.isOn = spec.fn('is_on', 'Settings', 'rules');
