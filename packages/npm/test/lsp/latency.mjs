@@ -2,10 +2,13 @@
 // milliseconds of processor time: medians of some runs. What is typed has the server's 120 ms of waiting in it. Linux alone.
 import { readFileSync, readdirSync } from 'node:fs';
 import path from 'node:path';
+import { setTimeout as pause } from 'node:timers/promises';
 import { pathToFileURL } from 'node:url';
-import { Client, at, place } from './client.mjs';
+import { Client, at, place, range } from './client.mjs';
 
 const RUNS = 9, CHANGES = 200;
+// How long the actions of a whole text have been asked for when a key comes, in milliseconds.
+const ASKED = 60;
 const median = (list) => Math.round([...list].sort((a, b) => a - b)[list.length >> 1] * 10) / 10;
 const told = (list) => `${median(list.map((it) => it[0]))} (${median(list.map((it) => it[1]))})`;
 const begun = performance.now(), client = new Client([]);
@@ -55,6 +58,18 @@ class Timing {
     this.shown = await answer;
   }
 
+  /** What is typed while the actions of the whole text are asked for, which drops them. */
+  async typedBeside() {
+    const found = [], whole = range(0, 0, this.text.split('\n').length, 0);
+    for (let run = 0; run < RUNS; run++) {
+      const asked = client.request('textDocument/codeAction', { ...at(this.uri), range: whole, context: { diagnostics: [] } }).catch(() => {});
+      await pause(ASKED);
+      found.push(await timed(() => this.typed(run)));
+      await asked;
+    }
+    return told(found);
+  }
+
   /** Many changes, then any answer: how long a change itself takes. */
   async changes() {
     for (let run = 0; run < CHANGES; run++) this.type(run % 2 !== 0);
@@ -70,6 +85,8 @@ class Timing {
     const found = { file: path.basename(this.file), bytes: Buffer.byteLength(this.text) };
     found.first = told([await timed(() => client.open(this.uri, this.text))]);
     found.typed = await repeated((run) => this.typed(run));
+    await this.typed(1);
+    found['typed beside actions'] = await this.typedBeside();
     found.change = told([(await timed(() => this.changes())).map((it) => it / CHANGES)]);
     await this.answer();
     found.formatting = await repeated(() => client.request('textDocument/formatting', { ...at(this.uri), options: {} }));
