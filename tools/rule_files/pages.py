@@ -59,14 +59,18 @@ def index(rules):
     return table(['Rule', 'Reports', 'Settings', 'Sets'], rows)
 
 
+def set_rows(rules, folder):
+    """Sets of rules, a row each."""
+    return [[f'`"{name}"`', ', '.join(link(it, folder) for it in rules if name in sets(it))] for name in ('nine', 'recommended')]
+
+
 def readme_table(rules):
     """The table of the README."""
-    return table(['Rule', 'Reports', 'Sets'], [[link(it, 'docs/rules/'), it.summary, ', '.join(sets(it))] for it in rules])
+    return table(['Set', 'Rules'], set_rows(rules, 'docs/rules/'))
 
 
 def usage_table(rules):
-    """The table of docs/USAGE.md: the rules by their sets."""
-    links = lambda them: ', '.join(link(it, 'rules/') for it in them)
-    rows = [[f'`"{name}"`', links(it for it in rules if name in sets(it))] for name in ('nine', 'recommended')]
-    others = links(it for it in rules if not sets(it))
-    return table(['`extends`', 'The rules that are on'], [*rows, ['`"all"`', f'all; also {others}' if others else 'all of these'], ['`"none"`', 'none']])
+    """The table of docs/USAGE.md."""
+    others = ', '.join(link(it, 'rules/') for it in rules if not sets(it))
+    more = [['`"all"`', f'all; also {others}' if others else 'all of these'], ['`"none"`', 'none']]
+    return table(['`extends`', 'The rules that are on'], [*set_rows(rules, 'rules/'), *more])
