@@ -81,8 +81,7 @@ const REASONS = {
   'an HTML-like comment': (text, { tree }) => tree && /<!--|-->/.test(text),
   'a name of `catch` declared by `var`': (text, { tree }, ours) => tree && /early error E12 /.test(ours),
   'nested too deep': (text, { tree }, ours) => tree && /nested too deep/.test(ours),
-  'the pattern of a regular expression': (text, { fault }) => fault && /Invalid regular expression: /.test(fault),
-  '`__proto__` twice': (text, { fault }) => fault && /Redefinition of __proto__ property/.test(fault),
+  'a pattern of Annex B': (text, { tree }, ours) => tree && /early error E37 /.test(ours),
 };
 
 function run(words, input) {

@@ -27,7 +27,8 @@ const LEFT_OUT = {
   scopes: 'specs: Shown Walks Gathered; proofs: Tables',
   rule_words: 'specs: Order Appends',
   node_rules: 'specs: KindNumbers Due Laws',
-  rules: 'specs: Toml NameOrder Run RuleViews Used Nodes NodeRules Refusals Lines',
+  reference_rules: 'specs: Laws',
+  rules: 'specs: Toml NameOrder Run RuleViews Used Nodes NodeRules NameRules Refusals Lines',
   estree_json: 'specs: Sent Primitives Table',
   regular_expressions: 'specs: Scanned',
 };
@@ -104,12 +105,17 @@ function equal(x, y) {
 // ---------------------------------------------------------------- the library
 
 const nat = (n) => { if (!Number.isSafeInteger(n) || n < 0) throw new AnttError('not a number: ' + n); return n; };
+// Numbers beyond 2 ** 53 are BigInts, no others.
+const narrow = (n) => (n <= Number.MAX_SAFE_INTEGER ? Number(n) : n);
+const plus = (a, b) => { const n = Number(a) + Number(b); return Number.isSafeInteger(n) ? nat(n) : narrow(BigInt(a) + BigInt(b)); };
+const times = (a, b) => { const n = Number(a) * Number(b); return Number.isSafeInteger(n) ? nat(n) : narrow(BigInt(a) * BigInt(b)); };
+const minus = (a, b) => (a <= b ? 0 : typeof a === 'number' ? a - b : narrow(a - BigInt(b)));
 const UTF8 = (c) => [...Buffer.from(String.fromCodePoint(c), 'utf8')];
 // name -> [arity, function]
 const LIBRARY = {
-  '◌+◌': [2, (a, b) => nat(a + b)], '◌-◌': [2, (a, b) => Math.max(0, a - b)], '◌*◌': [2, (a, b) => nat(a * b)],
+  '◌+◌': [2, plus], '◌-◌': [2, minus], '◌*◌': [2, times],
   '◌/◌': [2, (a, b) => (b === 0 ? 0 : Math.floor(a / b))], '◌%◌': [2, (a, b) => (b === 0 ? a : a % b)],
-  suc: [1, (a) => nat(a + 1)], pred: [1, (a) => Math.max(0, a - 1)], min: [2, Math.min], max: [2, Math.max],
+  suc: [1, (a) => plus(a, 1)], pred: [1, (a) => minus(a, 1)], min: [2, Math.min], max: [2, Math.max],
   nat_eq: [2, (a, b) => a === b], int_eq: [2, (a, b) => a === b], pos: [1, (a) => a], nat_lt: [2, (a, b) => a < b], nat_le: [2, (a, b) => a <= b], '◌==◌': [2, (a, b) => a === b],
   not: [1, (a) => !a], cond: [3, (b, x, y) => (b ? x : y)], 'if◌then◌else◌': [3, (b, x, y) => (b ? x : y)],
   '◌&&◌': [2, (a, b) => a && b], '◌||◌': [2, (a, b) => a || b], xor: [2, (a, b) => a !== b], beq: [2, (a, b) => a === b],

@@ -5,7 +5,7 @@ const path = require('path');
 const antt = require('./antt.js');
 const PLAIN_MODEL = path.join(__dirname, '../model');
 const { KINDS_OF_2022 } = require(path.join(PLAIN_MODEL, 'kinds.js'));
-const CRATES = ['source_text', 'tokens', 'tree', 'language', 'name_tables', 'early_errors'].map((c) => path.join(__dirname, '../../crates', c));
+const CRATES = ['source_text', 'tokens', 'tree', 'language', 'name_tables', 'regular_expressions', 'early_errors'].map((c) => path.join(__dirname, '../../crates', c));
 
 // Names of the definitions: ours -> [name, the last part of its module, its crate].
 // Change these when the definitions move or are renamed.

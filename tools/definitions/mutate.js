@@ -4,7 +4,7 @@
 //
 //   node mutate.js [--turns N] [--turn K] [--brief] [--only TEXT] [--list FILE] [GROUP ..]
 //
-// GROUPs: early names scopes rules (GROUPS below); all where none is named. --turns N takes each N-th mutant, by turns: --turn K (from 0) says which turn it is,
+// GROUPs: early patterns names scopes rules (GROUPS below); all where none is named. --turns N takes each N-th mutant, by turns: --turn K (from 0) says which turn it is,
 // otherwise a sum of the definitions does. --only takes those with TEXT in their file, clause or change. --brief prints no mutant that is in the list.
 //
 // A mutant is one small change of one clause: `&&` for `||` and a side of them left out, `not` left out, `cond` turned round and always one of its two, an
@@ -28,13 +28,14 @@ const { Rows, rowThatSees } = require('./mutate/rows.js');
 
 const FOLDERS = [...CRATES, ...REPORTING.map((crate) => path.join(__dirname, '../../crates', crate))];
 const specs = (crate, names) => names.split(' ').map((name) => `${crate}/specs/${name}.antt`);
-// The files that a reader has to believe and the rows run. Left out are EnvironmentNames and Environments, of which scopes.js asks each name, and
+// The files that a reader has to believe and the rows run. Left out are PropertyNames, of lists of words, EnvironmentNames and Environments, of which scopes.js asks each name, and
 // RuleNames, which `../rules --check` holds to the files of the rules.
 const GROUPS = {
-  early: specs('early_errors', 'Names Around Scopes Functions Strict Labels Classes Keys Literals Cooked Yields Fields PrivateNames Modules Early'),
+  early: specs('early_errors', 'Names Around Scopes Functions Strict Labels Classes Keys Objects Literals Cooked Yields Fields PrivateNames Modules Early'),
+  patterns: specs('regular_expressions', 'Characters Classes Names Terms Patterns'),
   names: specs('name_tables', 'BoundNames DeclaredNames'),
   scopes: specs('scopes', 'Found Openings Bindings Roles'),
-  rules: [...specs('rules', 'Rules Settings BuiltIn AllRules'), ...specs('node_rules', 'Rows Tests PartTests Searches Words Arounds Found Over'), ...specs('rule_words', 'Reports')],
+  rules: [...specs('rules', 'Rules Settings AllRules'), ...specs('reference_rules', 'BuiltIn Rows Found'), ...specs('node_rules', 'Rows Tests PartTests Searches Words Arounds Found Over'), ...specs('rule_words', 'Reports')],
 };
 
 // ---------------------------------------------------------------- words

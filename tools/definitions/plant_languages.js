@@ -22,13 +22,15 @@ const TOKENS = 'tokens,private names';
 const FUNCTIONS = 'async functions,generators,other edges', METHODS = 'methods of objects,classes: fields', ARROWS = 'async arrows', AWAIT = 'await', EACH = 'for await', YIELD = 'generators';
 const FIELDS = 'classes: fields', PRIVATE = 'private names', BLOCKS = 'classes: static blocks', META = 'new.target, import.meta, import()';
 const IMPORTS = 'imports', EXPORTS = 'exports', DEFAULT = 'export default', NAMES = 'values of keys and names', MODULES = 'modules', BASE = 'early';
+const PROTO = 'objects: `__proto__`', PATTERNS = 'patterns of regular expressions';
 
 const LANGUAGES = 'language/specs/Languages.antt', LATER = 'language/specs/Later.antt', EXPRESSIONS = 'language/specs/Expressions.antt', STATEMENTS = 'language/specs/Statements.antt';
 const GRAMMAR = 'language/specs/Grammar.antt', EDGES = 'language/specs/Edges.antt', CONTINUATIONS = 'language/specs/Continuations.antt', VOCABULARY = 'language/specs/Vocabulary.antt';
 const FIRST_PART = 'language/specs/FirstPart.antt', LEXICAL = 'tokens/specs/Lexical.antt', COMMENTS = 'tokens/specs/Comments.antt', NUMBERS = 'tokens/specs/Numbers.antt';
 const KINDS = 'tree/specs/Kinds.antt', USES = 'tree/specs/Uses.antt', DECLARED = 'name_tables/specs/DeclaredNames.antt';
 const early = (name) => `early_errors/specs/${name}.antt`;
-const AROUND = early('Around'), YIELDS = early('Yields'), IN_FIELDS = early('Fields'), CLASSES = early('Classes'), PRIVATES = early('PrivateNames'), OF_MODULES = early('Modules'), SCOPES = early('Scopes'), LITERALS = early('Literals');
+const AROUND = early('Around'), YIELDS = early('Yields'), IN_FIELDS = early('Fields'), CLASSES = early('Classes'), PRIVATES = early('PrivateNames'), OF_MODULES = early('Modules'), SCOPES = early('Scopes'), LITERALS = early('Literals'), OBJECTS = early('Objects');
+const pattern = (name) => `regular_expressions/specs/${name}.antt`;
 const FUNCTIONS_OF = early('Functions'), LABELS = early('Labels'), STRICT = early('Strict');
 
 // What languages.js looks at: the derivations, the fixed texts too, the tokens too, the early errors alone
@@ -173,7 +175,7 @@ const FAULTS = [
   ['E18 not of generators', CLASSES, '(is_accessor flags.form || not (is_init (value_form parts)))', 'is_accessor flags.form', FIELDS, ERRORS],
   ['E19 not of fields', CLASSES, 'static_prototype (node PropertyDefinition', 'static_prototype (node StaticBlock', FIELDS, ERRORS, 'Kind.TheVariants.{PropertyDefinition,', 'Kind.TheVariants.{StaticBlock,'],
   ['E21 of the flag d', LITERALS, 'known_flags true = codes "dgimsuy"', 'known_flags true = codes "gimsuy"', 'tokens', ERRORS],
-  // early errors 22 to 35
+  // early errors 22 to 37
   ['E22 left out', YIELDS, 'when (not z.yields)', 'when false', YIELD, ERRORS],
   ['E22 in parameters', AROUND, 'cond (z.is_body && not (is_parameter kind)) (record z', 'cond z.is_body (record z', YIELD, ERRORS],
   ['E22 in the parameters of an arrow', AROUND, 'of_async = is_async flags.form; yields = false; awaits = false }', 'of_async = is_async flags.form; yields = z.yields; awaits = false }', 'async arrows,generators', ERRORS],
@@ -226,6 +228,49 @@ const FAULTS = [
   ['E35 of for await', YIELDS, 'when (z.of_2022 && not (is_async flags.form) && is_identifier', 'when (z.of_2022 && is_identifier', EACH, ERRORS],
   ['E35 at the loop', YIELDS, 'is (text_of n) "async") (start_of n ∷ [])', 'is (text_of n) "async") (from ∷ [])', EACH, ERRORS],
   ['E35 of any name', YIELDS, ' && is (text_of n) "async") (start_of n', ') (start_of n', 'for await,generators', ERRORS],
+  ['E36 left out', OBJECTS, 'when z.of_2022 (after_first', 'when false (after_first', PROTO, ERRORS],
+  ['E36 in the base profile', OBJECTS, 'when z.of_2022 (after_first', 'when true (after_first', PROTO, ERRORS],
+  ['E36 of the first', OBJECTS, '(after_first (each_part proto_places parts))', '(each_part proto_places parts)', PROTO, ERRORS],
+  ['E36 of keys in brackets', OBJECTS, '(not (flags_of tree).computed && has_key', '(has_key', PROTO, ERRORS],
+  ['E36 of spreads', OBJECTS, 'is_property (kind_of tree) && is_init', 'is_init', PROTO, ERRORS],
+  ['E36 of methods', OBJECTS, 'is_property (kind_of tree) && is_init (flags_of tree).form', 'is_property (kind_of tree)', PROTO, ERRORS],
+  ['E36 of patterns', OBJECTS, 'duplicate_proto z (node ObjectExpression text', 'duplicate_proto z (node ObjectPattern text', PROTO, ERRORS, 'TheVariants.{ObjectExpression, Property}', 'TheVariants.{ObjectPattern, Property}'],
+  ['E37 left out', LITERALS, 'when (z.of_2022 && (is_reg_exp', 'when (false && (is_reg_exp', PATTERNS, ERRORS],
+  ['E37 in the base profile', LITERALS, 'when (z.of_2022 && (is_reg_exp (literal_class text) && has_pattern_fault text))', 'when (is_reg_exp (literal_class text) && has_pattern_fault text)', PATTERNS, ERRORS],
+  ['E37 of any literal', LITERALS, '(is_reg_exp (literal_class text) && has_pattern_fault text)', 'has_pattern_fault text', PATTERNS, ERRORS],
+  ['E37 at the end', LITERALS, 'has_pattern_fault text)) (from ∷ [])', 'has_pattern_fault text)) (to ∷ [])', PATTERNS, ERRORS],
+  ['E37: a lead surrogate ends before 0xDBFF', pattern('Characters'), 'is_lead v = nat_le 0xD800 v && nat_le v 0xDBFF', 'is_lead v = nat_le 0xD800 v && nat_le v 0xDBFE', PATTERNS, ERRORS],
+  ['E37: surrogates don\'t pair', pattern('Characters'), 'paired lead rest (Some (trail, behind)) = (0x10000 + 0x400 * (lead - 0xD800) + (trail - 0xDC00), behind)', 'paired lead rest (Some (trail, behind)) = (lead, rest)', PATTERNS, ERRORS],
+  ['E37: a code point beyond 0x10FFFF', pattern('Characters'), 'nat_le (hex_value 0 digits) 0x10FFFF', 'nat_le (hex_value 0 digits) 0x110000', PATTERNS, ERRORS],
+  ['E37: braces without u', pattern('Characters'), 'if u && one_of "{" c then braced cs', 'if one_of "{" c then braced cs', PATTERNS, ERRORS],
+  ['E37: braces around nothing', pattern('Characters'), 'code_point digits behind =\n    if not (is_empty digits) &&', 'code_point digits behind =\n    if', PATTERNS, ERRORS],
+  ['E37: \\0 before a digit', pattern('Characters'), '(if begins_with is_decimal_digit cs then None else Some (Some 0, cs))', 'Some (Some 0, cs)', PATTERNS, ERRORS],
+  ['E37: an identity escape by XID', pattern('Characters'), 'is_identity_escape false c = not (is_id_continue c)', 'is_identity_escape false c = not (is_xid_continue c)', PATTERNS, ERRORS],
+  ['E37: \\- outside of classes with u', pattern('Characters'), 'is_identity_escape true c = one_of "^$\\\\.*+?()[]{}|/" c', 'is_identity_escape true c = one_of "^$\\\\.*+?()[]{}|/-" c', PATTERNS, ERRORS],
+  ['E37: \\p without u', pattern('Characters'), 'else if u && one_of "pP" c then property cs', 'else if one_of "pP" c then property cs', PATTERNS, ERRORS],
+  ['E37: a range turned round', pattern('Classes'), 'next_member (dashed a) v = if in_order a v then Some fresh else None', 'next_member (dashed a) v = if in_order v a then Some fresh else None', PATTERNS, ERRORS],
+  ['E37: a range begins another', pattern('Classes'), 'next_member (dashed a) v = if in_order a v then Some fresh else None', 'next_member (dashed a) v = if in_order a v then Some (member v) else None', PATTERNS, ERRORS],
+  ['E37: a character is no two units', pattern('Classes'), 'units false c = encode_utf16 c', 'units false c = c ∷ []', PATTERNS, ERRORS],
+  ['E37: \\- at the end of a class', pattern('Classes'), 'else if u && one_of "-" c then Some (Some 0x2D, cs)', 'else if one_of "-" c && (length cs == 0) then Some (Some 0x2D, cs)', PATTERNS, ERRORS],
+  ['E37: a class has no ^', pattern('Classes'), 'if begins_with (one_of "^") text then drop 1 text else text', 'text', PATTERNS, ERRORS],
+  ['E37: a name begins as it goes on', pattern('Names'), 'is_start c = one_of "$_" c || is_id_start c', 'is_start c = is_part c', PATTERNS, ERRORS],
+  ['E37: \\u{} in names with u alone', pattern('Names'), 'then unicode_escape true cs else None', 'then unicode_escape false cs else None', PATTERNS, ERRORS],
+  ['E37: a name ends with >', pattern('Names'), 'Some (encode_utf8_all name, behind)', 'Some (encode_utf8_all name, 0x3E ∷ behind)', PATTERNS, ERRORS],
+  ['E37: {n,m} turned round', pattern('Terms'), 'nat_le (decimal_value 0 least) (decimal_value 0 (digits text))', 'nat_le (decimal_value 0 (digits text)) (decimal_value 0 least)', PATTERNS, ERRORS],
+  ['E37: {n,m} by lengths', pattern('Terms'), 'nat_le (decimal_value 0 least) (decimal_value 0 (digits text))', 'nat_le (length least) (length (digits text))', PATTERNS, ERRORS],
+  ['E37: no lazy {n}?', pattern('Terms'), 'Some (behind_lazy (drop 1 text))', 'Some (drop 1 text)', PATTERNS, ERRORS],
+  ['E37: } is an atom', pattern('Terms'), 'else if one_of "]}" c then None', 'else if one_of "]" c then None', PATTERNS, ERRORS],
+  ['E37: a lookbehind is a group', pattern('Terms'), 'if begins_with (one_of "=!") text then Some (looking, drop 1 text)', 'if begins_with (one_of "=!") text then Some (grouping, drop 1 text)', PATTERNS, ERRORS],
+  ['E37: \\0 is a reference', pattern('Terms'), 'else if is_non_zero_digit c then', 'else if is_decimal_digit c then', PATTERNS, ERRORS],
+  ['E37: a lookaround is an atom', pattern('Patterns'), 'closed zero (groups ∷ around) = Some (record { repeatable = false;', 'closed zero (groups ∷ around) = Some (record { repeatable = true;', PATTERNS, ERRORS],
+  ['E37: an assertion is repeatable', pattern('Patterns'), 'nest z assertion = Some (record z { repeatable = false })', 'nest z assertion = Some z', PATTERNS, ERRORS],
+  ['E37: a reference beyond the groups', pattern('Patterns'), '(Some (reference n)) = not (nat_le n groups)', '(Some (reference n)) = not (nat_le n (groups + 1))', PATTERNS, ERRORS],
+  ['E37: a name twice', pattern('Patterns'), '(Some (naming name)) = has before name', '(Some (naming name)) = false', PATTERNS, ERRORS],
+  ['E37: a name referred to before it stands', pattern('Patterns'), '(Some (name_reference name)) = not (has names name)', '(Some (name_reference name)) = not (has before name)', PATTERNS, ERRORS],
+  ['E37: an open lookaround at the end', pattern('Patterns'), 'is_closed z = nat_eq z.groups 0 && is_empty z.around', 'is_closed z = nat_eq z.groups 0', PATTERNS, ERRORS],
+  ['E37: gc=ASCII', pattern('PropertyNames'), 'if lists "General_Category gc" name then lists categories value', 'if lists "General_Category gc" name then is_lone_property value', PATTERNS, ERRORS],
+  ['E37: properties by their beginnings', pattern('PropertyNames'), 'behind_letter c (Some []) = None', 'behind_letter c (Some []) = Some []', PATTERNS, ERRORS],
+  ['E37: the last script', pattern('PropertyNames'), 'lists_behind word left [] = is_met left', 'lists_behind word left [] = false', PATTERNS, ERRORS],
   // what rows showed only since they were written for it: what a node forgets, words, labels, names, halves of characters, left and right edges
   ['a function stays in its loop', AROUND, 'around_others z FunctionDeclaration flags parts = record (fresh z) { new_target', 'around_others z FunctionDeclaration flags parts = record (fresh z) { in_loop = z.in_loop; new_target', BASE, ERRORS],
   ['a function stays in its switch', AROUND, 'around_others z FunctionDeclaration flags parts = record (fresh z) { new_target', 'around_others z FunctionDeclaration flags parts = record (fresh z) { in_switch = z.in_switch; new_target', BASE, ERRORS],

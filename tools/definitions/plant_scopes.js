@@ -16,7 +16,7 @@ const argv = process.argv.slice(2);
 const value = (name, d) => { const i = argv.indexOf(name); return i < 0 ? d : argv[i + 1]; };
 const n = Number(value('--n', '600'));
 
-const ROLES = 'scopes/specs/Roles.antt', OPENINGS = 'scopes/specs/Openings.antt', BINDINGS = 'scopes/specs/Bindings.antt', BUILT_IN = 'rules/specs/BuiltIn.antt';
+const ROLES = 'scopes/specs/Roles.antt', OPENINGS = 'scopes/specs/Openings.antt', BINDINGS = 'scopes/specs/Bindings.antt', BUILT_IN = 'reference_rules/specs/BuiltIn.antt';
 const NODE_ROWS = 'node_rules/specs/Rows.antt', TESTS = 'node_rules/specs/Tests.antt';
 
 // what, file, old, new
@@ -34,8 +34,8 @@ const FAULTS = [
   ['a shorthand reads in a pattern', ROLES, 'part_roles u Property text flags b = First (key_role flags) u', 'part_roles u Property text flags b = First (key_role flags) Read'],
   ['a body is a scope', OPENINGS, 'cond (is_body u) NoScope Block', 'Block'],
   ['a switch head is in a scope', OPENINGS, 'opens_all u _ = NoScope', 'opens_all u SwitchStatement = Switch\nopens_all u _ = NoScope'],
-  ['an expression has no name inside', OPENINGS, 'opens_all u FunctionExpression = FirstPart OwnName', 'opens_all u FunctionExpression = NoScope'],
-  ['a class has no name inside', OPENINGS, 'opens_others ClassDeclaration = FirstPart OwnName', 'opens_others ClassDeclaration = NoScope'],
+  ['an expression has no name inside', OPENINGS, 'opens_all u FunctionExpression = FirstPart FunctionName', 'opens_all u FunctionExpression = NoScope'],
+  ['a class has no name inside', OPENINGS, 'opens_others ClassDeclaration = FirstPart ClassName', 'opens_others ClassDeclaration = NoScope'],
   ['a catch clause is no scope', OPENINGS, 'opens_all u CatchClause = FirstPart Catch', 'opens_all u CatchClause = NoScope'],
   ['a for head with var is a scope', OPENINGS, 'not (is text "var")', 'true'],
   ['var stays in its block', BINDINGS, 'holds_statements BlockStatement = true', 'holds_statements BlockStatement = false'],

@@ -8,7 +8,7 @@ const { bare, quoted, term } = require('./tree_of.js');
 const { parseOnly } = require('../model/parse.js');
 const { resolve } = require('../model/scopes.js');
 
-const KINDS = { var: 'Var', let: 'Let', const: 'Const', function: 'Function', class: 'Class', param: 'Param', catch: 'Catch', self: 'OwnName' };
+const KINDS = { var: 'Var', let: 'Let', const: 'Const', function: 'Function', class: 'Class', param: 'Param', catch: 'Catch', functionName: 'FunctionName', className: 'ClassName' };
 const list = (items) => items.map((x) => x + ' ∷ ').join('') + '[]';
 const wordOf = (r) => (r.underTypeof ? 'Typeof' : r.reads && r.writes ? 'ReadWrite' : r.writes ? 'Write' : 'Read');
 

@@ -73,6 +73,9 @@ class Program:
             out, err = process.communicate(text)
         return process.returncode, out, err
 
+    def program(self):
+        return self
+
     def version(self):
         import subprocess
         ran = subprocess.run([self.path, '--version'], stdin=subprocess.DEVNULL, stdout=subprocess.PIPE)
@@ -90,7 +93,9 @@ class Result(ctypes.Structure):
 class Library:
     """The library, which each thread calls with room of its own. What is too long for memory the program writes."""
 
-    def __init__(self, path, here):
+    def __init__(self, path, here, is_named=False):
+        """`is_named`: by the environment, so that it may be of another version than the program that is there."""
+        self.is_named = is_named
         stretch = [ctypes.c_char_p, ctypes.c_size_t]
         self.call, self.here, self.kept = ctypes.CDLL(path).jslint_answer_in, here, threading.local()
         self.call.restype, self.call.argtypes = None, [ctypes.c_uint32, ctypes.c_uint32, *stretch, *stretch, ctypes.c_void_p, ctypes.c_size_t, ctypes.c_void_p]
@@ -131,6 +136,11 @@ class Library:
             return 2, b'', b'jslint: write failed\n'
         return status, b'', b''
 
+    def program(self):
+        """The program that was installed with it."""
+        beside = f'{self.here}/jslint'
+        return Program(beside) if not self.is_named and os.access(beside, os.X_OK) else None
+
     def version(self):
         """That of the program, if there is one: none is built to be asked."""
         named = os.environ.get('JSLINT') or f'{self.here}/jslint'
@@ -142,7 +152,7 @@ def library_of(here):
     named = os.environ.get('JSLINT_LIBRARY')
     if named:
         try:
-            return Library(os.path.abspath(named), here)
+            return Library(os.path.abspath(named), here, True)
         except (OSError, AttributeError):
             raise Wrong(f"JSLINT_LIBRARY in the environment can't be loaded: {shown(named)}") from None
     path = f'{os.path.dirname(here)}/lib/jslint/libjslint.so'

@@ -1,13 +1,10 @@
 """The forms in which reports are written line by line, and what they share. A form takes a file's name and what came of it, and gives a text."""
 import os
-import re
 
 from .checking import lines_of
 from .outcomes import LINE_END
 from .streams import Wrong, escaped, shown
 
-# The place with which a line of an answer begins.
-PLACE = re.compile(r'^(\d+:\d+)', re.M)
 # How much of a long line is shown.
 MOST_SHOWN = 100
 
@@ -16,7 +13,7 @@ def unix(name, outcome):
     head = shown(name)
     if outcome.is_plain() and outcome.answer.replace('\n', '').isprintable():
         # (each line as it is, behind the name: what isn't shown isn't printable either)
-        return PLACE.sub(f'{head}:'.replace('\\', '\\\\') + r'\1:', outcome.answer)
+        return ''.join(f'{head}:{place}: {words}\n' for place, _, words in (it.partition(' ') for it in outcome.answer.split('\n')[:-1]))
     return ''.join(f'{head}:{it.line}:{it.column}: {escaped(it.words())}\n' for it in outcome.seen())
 
 

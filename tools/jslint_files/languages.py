@@ -52,7 +52,7 @@ class Languages:
 
     def __init__(self, engine, options, project, settings_for=None):
         self.engine, self.project, self.settings_for, self.asked = engine, project, settings_for, asked(options)
-        self.is_project, self.packages, self.left = options['project'], {}, {}
+        self.is_project, self.packages, self.left, self.folders = options['project'], {}, {}, {}
 
     def of(self, name):
         """The languages for a script, in the order in which they are tried."""
@@ -70,12 +70,21 @@ class Languages:
         """Whether a name says that it is a module's or a script's, `commonjs`, or else package.json says it, for a project."""
         if name.endswith(('.mjs', '.cjs')):
             return 'module' if name.endswith('.mjs') else 'commonjs'
-        return self.kind_in(os.path.dirname(os.path.realpath(name))) if self.is_project and name.endswith('.js') else None
+        return self.kind_in(self.folder_of(name)) if self.is_project and name.endswith('.js') else None
+
+    def folder_of(self, name):
+        """The folder in which a file lies, whatever links lead there."""
+        if os.path.islink(name):
+            return os.path.dirname(os.path.realpath(name))
+        named = os.path.dirname(name)
+        if named not in self.folders:
+            self.folders[named] = os.path.realpath(named)
+        return self.folders[named]
 
     def settings_of(self, name):
         if self.settings_for:
             return self.settings_for(name)
-        found = self.project.settings_of(os.path.dirname(os.path.realpath(name))) if self.is_project else None
+        found = self.project.settings_of(self.folder_of(name)) if self.is_project else None
         return found[1] if found else b''
 
     def kind_in(self, folder):
@@ -93,7 +102,6 @@ class Languages:
         if settings not in self.left:
             self.left[settings] = [it for it in LEFT[self.asked] if not settings or self.is_taken(settings, it)] or [self.asked]
         return self.left[settings]
-
 
     def first_of(self, settings):
         """The language that settings say where nothing else does."""

@@ -3,7 +3,7 @@
        jslint-files fix --write|--diff [--edition 2020|2022] [--module] [--drop-comments] [--hints] [--unsupported error|note] [--project] [--no-ignore] [--allow-none]
                     [--stdin NAME] [--summary] [--jobs N] [--files-from FILE] [--] [FILE ..]
        jslint-files unwrap --write|--diff [--drop-casts] [the same, but for --drop-comments] [--] [FILE ..]
-       jslint-files --explain RULE|E1..E35
+       jslint-files --explain RULE|E1..E37
        jslint-files --help|--version
 
 `fix` drops comments. So `fix --write` refuses a script that has any, and says how many, unless --drop-comments is there. `unwrap` keeps them.
@@ -67,6 +67,7 @@ from concurrent.futures import ThreadPoolExecutor
 
 from . import forms, names as meant
 from .advice import Advice
+from .batches import Batches
 from .checking import Checker
 from .engine import STACK, Library, engine_of, path_of_program, Program
 from .hints import Guesses
@@ -102,6 +103,7 @@ class Run:
             settings_for = self.settings()
             languages = Languages(self.engine, options, self.project, settings_for)
             self.worker = Checker(self.engine, settings_for, languages, guesses, options['suppressions'], has_ends)
+            self.batches = Batches(self.engine, self.worker, has_ends or options['format'] in TEXT_FORMS)
         else:
             if asked(options) in (None, '2022'):
                 # (they may say the language)
@@ -149,11 +151,11 @@ class Run:
         self.unread, self.bad = len(self.names) - len(kept), {beside(path): (bad[path], texts[path]) for path in sorted(bad)}
         self.names = [*self.bad, *kept]
 
-    def outcome(self, name):
-        """What comes of a file."""
+    def outcome(self, name, answer=None):
+        """What comes of a file, whose lines may be there already."""
         done = 'checked' if self.is_check else 'compared' if self.options['diff'] else 'rewritten'
         try:
-            came = self.outcome_of_bad(name) if name in self.bad else self.outcome_of_script(name)
+            came = self.outcome_of_bad(name) if name in self.bad else self.outcome_of_script(name, answer)
         except Refused as why:
             came = Outcome([why.found])
         except (OSError, MemoryError) as error:
@@ -169,16 +171,19 @@ class Run:
         came.is_script = False
         return came
 
-    def outcome_of_script(self, name):
+    def outcome_of_script(self, name, answer):
         if name in self.project.faults:
             raise self.project.faults[name]
-        came = self.worker.outcome(name, read(0) if self.options['stdin'] is not None else None)
+        came = Outcome(answer=answer) if answer is not None else self.worker.outcome(name, read(0) if self.options['stdin'] is not None else None)
         if self.is_check and not self.worker.settings_for(name):
             self.advice.add(came.answer)
         return came
 
     def outcomes(self, names):
-        return [self.outcome(it) for it in names]
+        """What comes of some files; of those that one call can answer, by one."""
+        is_single = not self.is_check or self.options['stdin'] is not None
+        answers = {} if is_single else self.batches.answers([it for it in names if it not in self.bad and it not in self.project.faults])
+        return [self.outcome(it, answers.get(it)) for it in names]
 
     def parts(self, jobs):
         """Some files and what came of them, in the order of the files."""

@@ -30,5 +30,5 @@ def explained(word):
     number = re.fullmatch('[Ee]([0-9]+)', word)
     row = number and re.search(rf'^\| {int(number[1])} \| (.*?) \| (.*?) \|$', page('USAGE.md').partition('The early errors')[2], re.M)
     if not row:
-        raise Wrong(f'{shown(word)} is no rule and no early error: --explain takes one of {", ".join(RULES)}, or E1 to E35')
+        raise Wrong(f'{shown(word)} is no rule and no early error: --explain takes one of {", ".join(RULES)}, or E1 to E37')
     return without_links(f'early error E{int(number[1])}: {row[1]}. Its place: {row[2]}.\n'.replace('`', ''))

@@ -9,6 +9,7 @@ const isLoop = (node) => ['WhileStatement', 'DoWhileStatement', 'ForStatement', 
   .includes(node.type);
 
 const { RESERVED } = require('./scan.js');
+const { patternFault } = require('./patterns.js');
 
 // The declaring identifiers of a name or pattern, in source order.
 function boundNames(pattern) {
@@ -393,6 +394,11 @@ function earlyErrors(tree, text, { edition = 2021 } = {}) {
         if (node.method || node.kind !== 'init') walkFunction(node.value, 'method');
         else walk(node.value, context);
         return;
+      case 'ObjectExpression': {
+        const setsPrototype = (p) => p.type === 'Property' && p.kind === 'init' && !p.method && !p.shorthand && keyValue(p) === '__proto__';
+        if (edition >= 2022) node.properties.filter(setsPrototype).slice(1).forEach((p) => report(36, p.key));
+        return walkAll(node.properties);
+      }
       case 'TaggedTemplateExpression':
         walk(node.tag, context);
         walkAll(node.quasi.expressions);
@@ -405,6 +411,7 @@ function earlyErrors(tree, text, { edition = 2021 } = {}) {
         if (node.regex !== undefined) {
           const flags = [...node.regex.flags];
           if (flags.some((f) => !flagLetters.includes(f)) || new Set(flags).size !== flags.length) report(21, node);
+          if (edition >= 2022 && patternFault(node.raw) !== null) report(37, node);
         }
         return;
       default:

@@ -185,7 +185,7 @@ const worked = () => [
 
 // ---------------------------------------------------------------- scopes
 
-const KINDS = { var: 'Var', let: 'Let', const: 'Const', function: 'Function', class: 'Class', param: 'Param', catch: 'Catch', self: 'OwnName' };
+const KINDS = { var: 'Var', let: 'Let', const: 'Const', function: 'Function', class: 'Class', param: 'Param', catch: 'Catch', functionName: 'FunctionName', className: 'ClassName' };
 
 function isSettled({ kind, initialised, inLoopHead, inForHead }) {
   if (kind === 'var') return Boolean(initialised);

@@ -65,7 +65,7 @@ def wrong_sets(rules, top):
 
 def wrong_model(rules, top):
     """Names of rules that the model in tools/model lacks, or has too many."""
-    lists = re.findall(r'^const (?:OTHER_)?RULE_NAMES = \[(.*?)\];', read('tools/model/rules.js', top), re.M | re.S)
+    lists = re.findall(r'^const (?:RULE_NAMES|OTHER_RULE_NAMES|NAMES_\w+) = \[(.*?)\];', read('tools/model/rules.js', top), re.M | re.S)
     found, on = re.findall(r"'([\w-]+)'", ' '.join(lists)), {it.name for it in rules if it.on}
     wanted = {it.name for it in rules} if len(lists) > 1 else on
     yield from (f'tools/model/rules.js: {it} is missing in the lists of names, or too much' for it in sorted({*found} ^ wanted))

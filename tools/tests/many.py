@@ -152,7 +152,7 @@ def words(room):
         ('--max-warnings x a.js', '--max-warnings takes a number'), ('--max-warnings -1 a.js', '--max-warnings takes a number'), ('--ends a.js', '--ends is for --format json'), ('--project=x a.js', '--project=x is no option; a file of that name stands behind --'),
         ('--stdin b.js a.js', '--stdin stands for the only script'), ('--stdin b.js --files-from a.js', '--stdin stands for the only script'), ('fix --stdin b.js --write', '--stdin writes to standard output: --write is for files'),
         ('fix --format json a.js', '--format is for check'), ('unwrap --suppressions --write a.js', '--suppressions is for check'), ('fix --explain no-var', '--explain is for check'), ('--summary', 'no file is named (--help)'),
-        ('--explain no-such', f'no-such is no rule and no early error: --explain takes one of {", ".join(RULES)}, or E1 to E35'), ('--explain E36', f'E36 is no rule and no early error: --explain takes one of {", ".join(RULES)}, or E1 to E35'),
+        ('--explain no-such', f'no-such is no rule and no early error: --explain takes one of {", ".join(RULES)}, or E1 to E37'), ('--explain E38', f'E38 is no rule and no early error: --explain takes one of {", ".join(RULES)}, or E1 to E37'),
         ('--stdin', '--stdin needs a value'), ('--max-warnings', '--max-warnings needs a value'), ('fix --write --diff a.js', 'fix wants --write or --diff, and not both'),
     ]
     for text, said in rows:
@@ -365,7 +365,7 @@ def form_sarif(room):
 # Changes of the record, by the path to a value and what becomes of it; None takes it out.
 CHANGES = [
     (['version'], '2.0.0'), (['version'], None), (['runs'], None), (['runs'], {}), (['$schema'], 'a b'), (['more'], 1), (['runs', 0, 'tool'], None), (['runs', 0, 'tool', 'driver'], None), (['runs', 0, 'tool', 'driver', 'name'], None),
-    (['runs', 0, 'tool', 'driver', 'semanticVersion'], '1.2'), (['runs', 0, 'tool', 'driver', 'rules', 1, 'id'], None), (['runs', 0, 'tool', 'driver', 'rules', 1, 'id'], 'eqeqeq'), (['runs', 0, 'tool', 'driver', 'rules', 0, 'defaultConfiguration', 'level'], 'fatal'),
+    (['runs', 0, 'tool', 'driver', 'semanticVersion'], '1.2'), (['runs', 0, 'tool', 'driver', 'rules', 1, 'id'], None), (['runs', 0, 'tool', 'driver', 'rules', 1, 'id'], 'curly'), (['runs', 0, 'tool', 'driver', 'rules', 0, 'defaultConfiguration', 'level'], 'fatal'),
     (['runs', 0, 'tool', 'driver', 'rules', 0, 'shortDescription'], 'text'), (['runs', 0, 'columnKind'], 'bytes'), (['runs', 0, 'newlineSequences'], []), (['runs', 0, 'newlineSequences'], ['\n', '\n']), (['runs', 0, 'invocations', 0, 'executionSuccessful'], None),
     (['runs', 0, 'results', 0, 'message'], None), (['runs', 0, 'results', 0, 'message'], 'text'), (['runs', 0, 'results', 0, 'ruleIndex'], 1), (['runs', 0, 'results', 0, 'ruleIndex'], 99), (['runs', 0, 'results', 0, 'level'], 'fatal'), (['runs', 0, 'results', 0, 'line'], 1),
     (['runs', 0, 'results', 0, 'locations'], {}), (['runs', 0, 'results', 0, 'locations', 0, 'physicalLocation', 'artifactLocation', 'uri'], 'a b.js'), (['runs', 0, 'results', 0, 'locations', 0, 'physicalLocation', 'artifactLocation', 'uri'], '%x.js'),

@@ -31,6 +31,7 @@ mod plans;
 mod print;
 mod printing;
 mod ranks;
+mod reference_rule_rows;
 mod refusals;
 mod reports;
 mod runs;

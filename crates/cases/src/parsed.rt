@@ -8,6 +8,7 @@ use crate::node_rule_rows::push_node_rule;
 use crate::nodes::{push_copy, push_equal_copy};
 use crate::plans::{push_extra, push_extra_pairs, push_gauged_table, push_plan};
 use crate::printing::{is_fixed, push_gauged_layout, push_layout, push_pieces, push_written};
+use crate::reference_rule_rows::push_name_rule;
 use crate::refusals::push_refusal;
 use crate::reports::{push_rules, push_scopes};
 use crate::runs::is_written;
@@ -175,6 +176,7 @@ fn push_shown(
         "extra" => push_extra(alloc, program, parsed.grouping_pairs(), out),
         "rules" | "refused rule" | "rule on nodes" => push_rules(alloc, row, parsed, out),
         "rule alone" => push_node_rule(alloc, row, parsed, out),
+        "name rule" => push_name_rule(alloc, row, program, out),
         "alike" => push_alike(alloc, program, row, out),
         "kept" => push_kept(alloc, parsed, row, out),
         "reading" => push_reading(alloc, parsed, row.text(1), out),

@@ -59,6 +59,7 @@ fn plain_fault(name: &str) -> Fault {
         "WriteFailed" => Fault::WriteFailed,
         "ReadFailed" => Fault::ReadFailed,
         "UnwrapFailed" => Fault::UnwrapFailed,
+        "FormatFailed" => Fault::FormatFailed,
         _ => Fault::Usage,
     }
 }

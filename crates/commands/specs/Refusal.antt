@@ -3,7 +3,7 @@ use Rattle.std.specs.Prelude.{ℕ, zero, suc, List, [], ◌∷◌, ◌++◌, Boo
 use Rattle.std.specs.Fmt.{decimal}
 use Rattle.std.specs.Io.KnownBytes.{Appends}
 use Rattle.source_text.specs.declared.fault.Fault.{Fault}
-use Rattle.source_text.specs.declared.fault.Fault.TheVariants.{NotUtf8, TooLong, Syntax, TooDeep, Early, OutOfMemory, BadSettings, BadTable, WriteFailed, ReadFailed, UnwrapFailed, Usage}
+use Rattle.source_text.specs.declared.fault.Fault.TheVariants.{NotUtf8, TooLong, Syntax, TooDeep, Early, OutOfMemory, BadSettings, BadTable, WriteFailed, ReadFailed, UnwrapFailed, FormatFailed, Usage}
 use Rattle.source_text.specs.declared.fault.Reason.{Reason}
 use Rattle.source_text.specs.declared.fault.Reason.TheVariants as reason
 use Rattle.source_text.specs.Writing.{AppendsBeginning}
@@ -45,6 +45,7 @@ fault_words (BadTable row why) line column = codes "bad table row " ++ decimal r
 fault_words WriteFailed line column = codes "write failed"
 fault_words ReadFailed line column = codes "read failed"
 fault_words UnwrapFailed line column = codes "can't be unwrapped"
+fault_words FormatFailed line column = codes "can't be formatted"
 fault_words Usage line column = []
 
 -- that a refusal speaks of the second script

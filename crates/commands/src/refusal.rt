@@ -113,6 +113,7 @@ fn push_words(line: &mut OutputBuffer, refused: &Refused)
         Fault::WriteFailed => line.push_text("write failed"),
         Fault::ReadFailed => line.push_text("read failed"),
         Fault::UnwrapFailed => line.push_text("can't be unwrapped"),
+        Fault::FormatFailed => line.push_text("can't be formatted"),
         Fault::Usage => unreachable!(),
     }
 }

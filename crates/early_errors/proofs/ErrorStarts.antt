@@ -2,11 +2,11 @@
 use Rattle.std.proofs.Common.{ℕ, Bool, true, false, List, [], ◌∷◌, ◌++◌}
 use Rattle.std.specs.Prelude.{◌&&◌, ◌||◌, not, cond, filter, map}
 use Rattle.tree.specs.declared.kind.Kind.{Kind}
-use Rattle.tree.specs.declared.kind.Kind.TheVariants.{Program, StaticBlock, Identifier, PrivateIdentifier, YieldExpression, AwaitExpression, PropertyDefinition, ImportDeclaration, ImportSpecifier, ExportNamedDeclaration, ExportSpecifier, ExportDefaultDeclaration, ExportAllDeclaration, Literal, FunctionExpression, ArrowFunctionExpression, ClassExpression, ClassBody, MethodDefinition, TemplateLiteral, MemberExpression, CallExpression, MetaProperty, UpdateExpression, UnaryExpression, AssignmentExpression, BlockStatement, BreakStatement, ContinueStatement, LabeledStatement, SwitchStatement, CatchClause, ForStatement, ForInStatement, ForOfStatement, VariableDeclaration, FunctionDeclaration, ClassDeclaration}
+use Rattle.tree.specs.declared.kind.Kind.TheVariants.{Program, StaticBlock, Identifier, PrivateIdentifier, YieldExpression, AwaitExpression, PropertyDefinition, ImportDeclaration, ImportSpecifier, ExportNamedDeclaration, ExportSpecifier, ExportDefaultDeclaration, ExportAllDeclaration, Literal, ObjectExpression, FunctionExpression, ArrowFunctionExpression, ClassExpression, ClassBody, MethodDefinition, TemplateLiteral, MemberExpression, CallExpression, MetaProperty, UpdateExpression, UnaryExpression, AssignmentExpression, BlockStatement, BreakStatement, ContinueStatement, LabeledStatement, SwitchStatement, CatchClause, ForStatement, ForInStatement, ForOfStatement, VariableDeclaration, FunctionDeclaration, ClassDeclaration}
 use Rattle.tree.specs.Uses.{is_async, is_init}
 use Rattle.tree.specs.Tree.{Tree, node, Parts, none, part, gap, kind_of, text_of, flags_of, start_of, parts_of}
 use Rattle.language.specs.FirstPart.{lead, others}
-use Rattle.language.specs.Vocabulary.{is, is_identifier, is_private, is_super}
+use Rattle.language.specs.Vocabulary.{is, is_identifier, is_private, is_super, literal_class}
 use Rattle.language.specs.Expressions.{value_form}
 use Rattle.language.specs.Derivation.{Among, first, later}
 use Rattle.early_errors.specs.declared.EarlyError.{EarlyError}
@@ -18,7 +18,8 @@ use Rattle.early_errors.specs.Functions.{is_simple, use_strict, duplicate_parame
 use Rattle.early_errors.specs.Strict.{names_given, is_restricted, eval_or_arguments, delete_of_identifier}
 use Rattle.early_errors.specs.Labels.{is_bare, labels_statement, labels_a_loop, misplaced_jump, undefined_label, duplicate_label}
 use Rattle.early_errors.specs.Classes.{super_places, key_places, has_key, named, constructor_places, after_first, super_property_outside_method, super_call_outside_constructor, new_target_outside_function, duplicate_constructor, special_constructor, static_prototype}
-use Rattle.early_errors.specs.Literals.{some_uncooked, good_flags_in, uncooked_template, reg_exp_flags}
+use Rattle.early_errors.specs.Objects.{is_proto, proto_places, duplicate_proto}
+use Rattle.early_errors.specs.Literals.{some_uncooked, good_flags_in, is_reg_exp, has_pattern_fault, uncooked_template, reg_exp_flags, reg_exp_pattern}
 use Rattle.early_errors.specs.Yields.{yield_outside_generator, await_outside_async, for_async_of}
 use Rattle.early_errors.specs.Fields.{field_named_constructor, arguments_in_init}
 use Rattle.early_errors.specs.PrivateNames.{Declared, declared, is_get, is_set, is_any, is_pair, of_name, second_on, named_constructor, holds_name, private_operand, private_constructor, duplicate_private_name, undeclared_private_name, delete_of_private}
@@ -207,6 +208,16 @@ module _ (Q : ℕ → Type 0) where
       each_when Q (g.is_static && (not g.computed && has_key ps (λ n. named n "prototype"))) (key_places ps) (at_key ps h.1)
   at_prototype (node _ w g s e ps) h = tt
 
+  -- objects
+  at_proto : (n : Tree) → Starting Q n → Each Q (proto_places n)
+  at_proto n h = each_when Q (is_proto n) (key_places (parts_of n)) (at_key (parts_of n) (starting_parts Q n h))
+
+  at_protos : (z : Around) (n : Tree) → Starting Q n → Each Q (duplicate_proto z n)
+  unfolding duplicate_proto
+  at_protos z (node ObjectExpression w g s e ps) h =
+      each_when Q z.of_2022 (after_first (each_part proto_places ps)) (at_behind_first (each_part proto_places ps) (each_each_part Q proto_places at_proto ps h.1))
+  at_protos z (node _ w g s e ps) h = tt
+
   -- literals
   at_template : (z : Around) (n : Tree) → Starting Q n → Each Q (uncooked_template z n)
   unfolding uncooked_template
@@ -217,6 +228,11 @@ module _ (Q : ℕ → Type 0) where
   unfolding reg_exp_flags
   at_flags z (node Literal w g s e ps) h = one_when (not (good_flags_in z.of_2022 w)) s h.0
   at_flags z (node _ w g s e ps) h = tt
+
+  at_pattern : (z : Around) (n : Tree) → Starting Q n → Each Q (reg_exp_pattern z n)
+  unfolding reg_exp_pattern
+  at_pattern z (node Literal w g s e ps) h = one_when (z.of_2022 && (is_reg_exp (literal_class w) && has_pattern_fault w)) s h.0
+  at_pattern z (node _ w g s e ps) h = tt
 
   -- `yield`, `await` and `async`
   at_yield : (z : Around) (n : Tree) → Starting Q n → Each Q (yield_outside_generator z n)
@@ -431,7 +447,7 @@ module _ (Q : ℕ → Type 0) where
   unfolding own_errors
   at_own z n h =
       errors_each_of (own_places z n)
-      (at_eval n h, (at_delete n h, (at_duplicate_lexical z n h, (at_lexical_var z n h, (at_const z n h, (at_parameter n h, (at_parameter_lexical n h, (at_strict n h, (at_jump z n h, (at_undefined z n h, (at_duplicate_label z n h, (at_catch n h, (at_for n h, (at_super_property z n h, (at_super_call z n h, (at_new_target z n h, (at_constructors n h, (at_special n h, (at_prototype n h, (at_template z n h, (at_flags z n h, (at_yield z n h, (at_await z n h, (at_field n h, (at_private_constructor n h, (at_private_again n h, (at_undeclared z n h, (at_arguments z n h, (at_delete_private n h, (at_meta z n h, (at_duplicate_export n h, (at_no_name n h, (at_undeclared_export n h, (at_lone n h, (at_async z n h, tt)))))))))))))))))))))))))))))))))))
+      (at_eval n h, (at_delete n h, (at_duplicate_lexical z n h, (at_lexical_var z n h, (at_const z n h, (at_parameter n h, (at_parameter_lexical n h, (at_strict n h, (at_jump z n h, (at_undefined z n h, (at_duplicate_label z n h, (at_catch n h, (at_for n h, (at_super_property z n h, (at_super_call z n h, (at_new_target z n h, (at_constructors n h, (at_special n h, (at_prototype n h, (at_template z n h, (at_flags z n h, (at_yield z n h, (at_await z n h, (at_field n h, (at_private_constructor n h, (at_private_again n h, (at_undeclared z n h, (at_arguments z n h, (at_delete_private n h, (at_meta z n h, (at_duplicate_export n h, (at_no_name n h, (at_undeclared_export n h, (at_lone n h, (at_async z n h, (at_protos z n h, (at_pattern z n h, tt)))))))))))))))))))))))))))))))))))))
 
   mutual
     unfolding errors_within parts_errors

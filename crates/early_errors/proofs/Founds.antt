@@ -37,7 +37,7 @@ continues z t f ns b s o p q k h n e d x y =
     ∙ sym (ap (after o) (small_given own.Continue z t k) ∙ after-append o (each MisplacedJump (when (is_bare (parts_of t) && not z.in_loop) (start_of t ∷ []))) (each UndefinedLabel (places (filter (λ v. not (labels_a_loop z.labels v.0)) (first_names (parts_of t))))))
 
 -- a key's value, neither computed nor private
-key_is : (g : Flags) (t : Tree) (k : Option Tree) (w : String) (d : Bool) → k ≡ part_at (parts_of t) 0 → g ≡ flags_of t → d ≡ (not g.computed && key_says k (codes w)) →
+pub key_is : (g : Flags) (t : Tree) (k : Option Tree) (w : String) (d : Bool) → k ≡ part_at (parts_of t) 0 → g ≡ flags_of t → d ≡ (not g.computed && key_says k (codes w)) →
     d ≡ (not (flags_of t).computed && has_key (parts_of t) (λ m. named m w))
 key_is g t k w d x f s = s ∙ ap (λ c. not g.computed && c) (key-says (parts_of t) (λ m. named m w) k (codes w) x (λ m. refl)) ∙ ap (λ c. not c.computed && has_key (parts_of t) (λ m. named m w)) f
 

@@ -10,6 +10,7 @@ pub mod FunctionRows
 pub mod LabelRows
 pub mod SuperRows
 pub mod ClassRows
+pub mod ObjectRows
 pub mod LiteralRows
 pub mod Least
 pub mod NameLoops
@@ -19,7 +20,7 @@ pub mod Bindings
 pub mod Jumps
 pub mod OwnErrorsByKind
 pub mod Founds
-pub mod Constructors
+pub mod AllButFirst
 pub mod Points
 pub mod Literally
 pub mod MemberKeys

@@ -144,3 +144,27 @@ distant_repeat = refl
 pub later_flag : errors (n Program 0 4 (one (n ExpressionStatement 0 4 (one (t Literal "/a/d" 0 4 none))))) ≡ (21, 0) ∷ []
 unfolding computing
 later_flag = refl
+
+-- `/(/`, in the language of 2022 and in the base profile
+pub open_group : errors (t Program "2022" 0 3 (one (n ExpressionStatement 0 3 (one (t Literal "/(/" 0 3 none))))) ≡ (37, 0) ∷ []
+unfolding computing
+open_group = refl
+
+pub open_group_in_the_base : errors (n Program 0 3 (one (n ExpressionStatement 0 3 (one (t Literal "/(/" 0 3 none))))) ≡ []
+unfolding computing
+open_group_in_the_base = refl
+
+-- `/()/`
+pub closed_group : errors (t Program "2022" 0 4 (one (n ExpressionStatement 0 4 (one (t Literal "/()/" 0 4 none))))) ≡ []
+unfolding computing
+closed_group = refl
+
+-- `/(/gg`
+pub flags_and_pattern : errors (t Program "2022" 0 5 (one (n ExpressionStatement 0 5 (one (t Literal "/(/gg" 0 5 none))))) ≡ (21, 0) ∷ (37, 0) ∷ []
+unfolding computing
+flags_and_pattern = refl
+
+-- `"/(/"`
+pub pattern_in_string : errors (t Program "2022" 0 5 (one (n ExpressionStatement 0 5 (one (t Literal "\"/(/\"" 0 5 none))))) ≡ []
+unfolding computing
+pattern_in_string = refl

@@ -3,11 +3,11 @@ use Rattle.std.proofs.Common.{◌≡◌, Bool, true, false, not, List, [], ◌�
 use Rattle.std.specs.Prelude.{◌||◌, ◌&&◌}
 use Rattle.std.proofs.lemmas.Bool.{false≢true}
 use Rattle.tree.specs.declared.kind.Kind.{Kind}
-use Rattle.tree.specs.declared.kind.Kind.TheVariants.{Program, Identifier, PrivateIdentifier, YieldExpression, AwaitExpression, PropertyDefinition, ImportDeclaration, ImportSpecifier, ExportSpecifier, ExportAllDeclaration, ExportNamedDeclaration, CatchClause, ForInStatement, ForOfStatement, ClassDeclaration, ClassExpression, AssignmentExpression, UpdateExpression, VariableDeclaration, FunctionDeclaration, FunctionExpression, ArrowFunctionExpression, BreakStatement, ContinueStatement, LabeledStatement, UnaryExpression, MemberExpression, CallExpression, MetaProperty, ClassBody, MethodDefinition, TemplateLiteral, Literal}
+use Rattle.tree.specs.declared.kind.Kind.TheVariants.{Program, Identifier, PrivateIdentifier, YieldExpression, AwaitExpression, PropertyDefinition, ImportDeclaration, ImportSpecifier, ExportSpecifier, ExportAllDeclaration, ExportNamedDeclaration, CatchClause, ForInStatement, ForOfStatement, ClassDeclaration, ClassExpression, AssignmentExpression, UpdateExpression, VariableDeclaration, FunctionDeclaration, FunctionExpression, ArrowFunctionExpression, BreakStatement, ContinueStatement, LabeledStatement, UnaryExpression, MemberExpression, CallExpression, MetaProperty, ClassBody, MethodDefinition, TemplateLiteral, Literal, ObjectExpression}
 use Rattle.tree.specs.Tree.{Tree, node, Parts, kind_of, text_of, flags_of, start_of, parts_of}
 use Rattle.language.specs.FirstPart.{lead}
-use Rattle.language.specs.Vocabulary.{is, is_identifier}
-use Rattle.early_errors.specs.declared.EarlyError.TheVariants.{EvalOrArguments, DuplicateLexicalName, ConstWithoutInitializer, DuplicateParameter, ParameterIsLexicalName, UseStrictBehindPattern, MisplacedJump, UndefinedLabel, DuplicateLabel, DeleteOfIdentifier, SuperPropertyOutsideMethod, SuperCallOutsideConstructor, NewTargetOutsideFunction, DuplicateConstructor, SpecialConstructor, StaticPrototype, UncookedTemplate, RegExpFlags, YieldOutsideGenerator, AwaitOutsideAsync, FieldNamedConstructor, PrivateConstructor, DuplicatePrivateName, UndeclaredPrivateName, ArgumentsInInit, DeleteOfPrivate, ImportMetaOutsideModule, DuplicateExport, ExportOfNoName, UndeclaredExport, LoneSurrogate}
+use Rattle.language.specs.Vocabulary.{is, is_identifier, literal_class}
+use Rattle.early_errors.specs.declared.EarlyError.TheVariants.{EvalOrArguments, DuplicateLexicalName, ConstWithoutInitializer, DuplicateParameter, ParameterIsLexicalName, UseStrictBehindPattern, MisplacedJump, UndefinedLabel, DuplicateLabel, DeleteOfIdentifier, SuperPropertyOutsideMethod, SuperCallOutsideConstructor, NewTargetOutsideFunction, DuplicateConstructor, SpecialConstructor, StaticPrototype, UncookedTemplate, RegExpFlags, YieldOutsideGenerator, AwaitOutsideAsync, FieldNamedConstructor, PrivateConstructor, DuplicatePrivateName, UndeclaredPrivateName, ArgumentsInInit, DeleteOfPrivate, ImportMetaOutsideModule, DuplicateExport, ExportOfNoName, UndeclaredExport, LoneSurrogate, DuplicateProto, RegExpPattern}
 use Rattle.early_errors.specs.declared.own.OwnErrors.{OwnErrors}
 use Rattle.early_errors.specs.declared.own.OwnErrors.TheVariants as own
 use Rattle.tree.specs.Uses.{is_init}
@@ -19,8 +19,9 @@ use Rattle.early_errors.specs.Scopes.{declaration_names, without_initializer, du
 use Rattle.early_errors.specs.Functions.{is_simple, use_strict, duplicate_parameter, parameter_is_lexical_name, use_strict_after_pattern}
 use Rattle.early_errors.specs.Strict.{is_restricted, names_given, eval_or_arguments, delete_of_identifier}
 use Rattle.early_errors.specs.Labels.{is_bare, labels_statement, labels_a_loop, misplaced_jump, undefined_label, duplicate_label}
-use Rattle.early_errors.specs.Classes.{key_places, has_key, named, super_places, super_property_outside_method, super_call_outside_constructor, new_target_outside_function, duplicate_constructor, special_constructor, static_prototype}
-use Rattle.early_errors.specs.Literals.{some_uncooked, good_flags_in, uncooked_template, reg_exp_flags}
+use Rattle.early_errors.specs.Classes.{after_first, key_places, has_key, named, super_places, super_property_outside_method, super_call_outside_constructor, new_target_outside_function, duplicate_constructor, special_constructor, static_prototype}
+use Rattle.early_errors.specs.Objects.{proto_places, duplicate_proto}
+use Rattle.early_errors.specs.Literals.{some_uncooked, good_flags_in, is_reg_exp, has_pattern_fault, uncooked_template, reg_exp_flags, reg_exp_pattern}
 use Rattle.early_errors.specs.Yields.{yield_outside_generator, await_outside_async, for_async_of}
 use Rattle.early_errors.specs.Fields.{field_named_constructor, arguments_in_init}
 use Rattle.early_errors.specs.PrivateNames.{holds_name, private_operand, private_constructor, duplicate_private_name, undeclared_private_name, delete_of_private}
@@ -57,7 +58,10 @@ small own.Target z n =
     ++ each ImportMetaOutsideModule (when (has_key (parts_of n) (λ m. is (text_of m) "import") && not z.in_module) (start_of n ∷ []))
 small own.ClassElements z n = each DuplicateConstructor (duplicate_constructor n) ++ (each PrivateConstructor (private_constructor n) ++ each DuplicatePrivateName (duplicate_private_name n))
 small own.Template z n = each UncookedTemplate (when (not z.tagged && some_uncooked (parts_of n)) (start_of n ∷ []))
-small own.Literal z n = each RegExpFlags (when (not (good_flags_in z.of_2022 (text_of n))) (start_of n ∷ []))
+small own.Literal z n =
+    each RegExpFlags (when (not (good_flags_in z.of_2022 (text_of n))) (start_of n ∷ []))
+    ++ each RegExpPattern (when (z.of_2022 && (is_reg_exp (literal_class (text_of n)) && has_pattern_fault (text_of n))) (start_of n ∷ []))
+small own.Object z n = each DuplicateProto (when z.of_2022 (after_first (each_part proto_places (parts_of n))))
 small own.Member z n =
     each SpecialConstructor (when (((is_accessor (flags_of n).form || not (is_init (value_form (parts_of n)))) && not (flags_of n).is_static) && (not (flags_of n).computed && has_key (parts_of n) (λ m. named m "constructor"))) (key_places (parts_of n)))
     ++ each StaticPrototype (when ((flags_of n).is_static && (not (flags_of n).computed && has_key (parts_of n) (λ m. named m "prototype"))) (key_places (parts_of n)))
@@ -82,7 +86,7 @@ function_list : (k : Kind) (ps : Parts) → names_of k ps ++ (doubles_of k ps ++
 function_list k ps = ap (λ x. names_of k ps ++ (doubles_of k ps ++ (lexicals_of k ps ++ x))) (append-nil (directives_of k ps))
 
 pub small_by_kind : (z : Around) (t : Tree) → own_errors z t ≡ small (own_of (kind_of t)) z t
-unfolding own_errors duplicate_lexical_name lexical_name_is_var const_without_initializer catch_parameter_conflict for_name_is_var duplicate_parameter parameter_is_lexical_name use_strict_after_pattern eval_or_arguments delete_of_identifier misplaced_jump undefined_label duplicate_label super_property_outside_method super_call_outside_constructor new_target_outside_function duplicate_constructor special_constructor static_prototype uncooked_template reg_exp_flags yield_outside_generator await_outside_async field_named_constructor private_constructor duplicate_private_name undeclared_private_name arguments_in_init delete_of_private import_meta_outside_module duplicate_export export_of_no_name undeclared_export lone_surrogate for_async_of
+unfolding own_errors duplicate_lexical_name lexical_name_is_var const_without_initializer catch_parameter_conflict for_name_is_var duplicate_parameter parameter_is_lexical_name use_strict_after_pattern eval_or_arguments delete_of_identifier misplaced_jump undefined_label duplicate_label super_property_outside_method super_call_outside_constructor new_target_outside_function duplicate_constructor special_constructor static_prototype uncooked_template reg_exp_flags yield_outside_generator await_outside_async field_named_constructor private_constructor duplicate_private_name undeclared_private_name arguments_in_init delete_of_private import_meta_outside_module duplicate_export export_of_no_name undeclared_export lone_surrogate for_async_of duplicate_proto reg_exp_pattern
 small_by_kind z (node BreakStatement w g s e ps) = ap (λ x. each MisplacedJump (when (is_bare ps && not (z.in_loop || z.in_switch)) (s ∷ [])) ++ x) (append-nil _)
 small_by_kind z (node ContinueStatement w g s e ps) = ap (λ x. each MisplacedJump (when (is_bare ps && not z.in_loop) (s ∷ [])) ++ x) (append-nil _)
 small_by_kind z (node LabeledStatement w g s e ps) = append-nil _
@@ -111,7 +115,8 @@ small_by_kind z (node FunctionDeclaration w g s e ps) = function_list FunctionDe
 small_by_kind z (node FunctionExpression w g s e ps) = function_list FunctionExpression ps
 small_by_kind z (node ArrowFunctionExpression w g s e ps) = function_list ArrowFunctionExpression ps
 small_by_kind z (node TemplateLiteral w g s e ps) = append-nil _
-small_by_kind z (node Literal w g s e ps) = append-nil _
+small_by_kind z (node Literal w g s e ps) = ap (λ x. each RegExpFlags (when (not (good_flags_in z.of_2022 w)) (s ∷ [])) ++ x) (append-nil _)
+small_by_kind z (node ObjectExpression w g s e ps) = append-nil _
 small_by_kind z (node _ w g s e ps) = refl
 
 pub small_given : (o : OwnErrors) (z : Around) (t : Tree) → own_of (kind_of t) ≡ o → own_errors z t ≡ small o z t
@@ -149,7 +154,7 @@ has_first_names own.ForOf = true
 has_first_names _ = false
 
 pub named_plain : (z : Around) (t : Tree) → sort_of (own_of (kind_of t)) ≡ sort.Named → (named_errors (own_of (kind_of t)) z t ≡ plain_errors z t) × (vars_of t ≡ [])
-unfolding own_errors duplicate_lexical_name lexical_name_is_var const_without_initializer catch_parameter_conflict for_name_is_var duplicate_parameter parameter_is_lexical_name use_strict_after_pattern eval_or_arguments delete_of_identifier misplaced_jump undefined_label duplicate_label super_property_outside_method super_call_outside_constructor new_target_outside_function duplicate_constructor special_constructor static_prototype uncooked_template reg_exp_flags yield_outside_generator await_outside_async field_named_constructor private_constructor duplicate_private_name undeclared_private_name arguments_in_init delete_of_private import_meta_outside_module duplicate_export export_of_no_name undeclared_export lone_surrogate for_async_of
+unfolding own_errors duplicate_lexical_name lexical_name_is_var const_without_initializer catch_parameter_conflict for_name_is_var duplicate_parameter parameter_is_lexical_name use_strict_after_pattern eval_or_arguments delete_of_identifier misplaced_jump undefined_label duplicate_label super_property_outside_method super_call_outside_constructor new_target_outside_function duplicate_constructor special_constructor static_prototype uncooked_template reg_exp_flags yield_outside_generator await_outside_async field_named_constructor private_constructor duplicate_private_name undeclared_private_name arguments_in_init delete_of_private import_meta_outside_module duplicate_export export_of_no_name undeclared_export lone_surrogate for_async_of duplicate_proto reg_exp_pattern
 named_plain z (node CatchClause w g s e ps) h = (sym (append-nil _), refl)
 named_plain z (node ForInStatement w g s e ps) h = (sym (append-nil _), refl)
 named_plain z (node ForOfStatement w g s e ps) h = (refl, refl)
@@ -163,7 +168,7 @@ named_plain z (node LabeledStatement w g s e ps) h = (refl, refl)
 named_plain z (node _ w g s e ps) h = absurd (false≢true (ap is_named h))
 
 pub nameless_plain : (z : Around) (t : Tree) → sort_of (own_of (kind_of t)) ≡ sort.Nameless → (nameless (own_of (kind_of t)) z t ≡ plain_errors z t) × (vars_of t ≡ [])
-unfolding own_errors duplicate_lexical_name lexical_name_is_var const_without_initializer catch_parameter_conflict for_name_is_var duplicate_parameter parameter_is_lexical_name use_strict_after_pattern eval_or_arguments delete_of_identifier misplaced_jump undefined_label duplicate_label super_property_outside_method super_call_outside_constructor new_target_outside_function duplicate_constructor special_constructor static_prototype uncooked_template reg_exp_flags yield_outside_generator await_outside_async field_named_constructor private_constructor duplicate_private_name undeclared_private_name arguments_in_init delete_of_private import_meta_outside_module duplicate_export export_of_no_name undeclared_export lone_surrogate for_async_of
+unfolding own_errors duplicate_lexical_name lexical_name_is_var const_without_initializer catch_parameter_conflict for_name_is_var duplicate_parameter parameter_is_lexical_name use_strict_after_pattern eval_or_arguments delete_of_identifier misplaced_jump undefined_label duplicate_label super_property_outside_method super_call_outside_constructor new_target_outside_function duplicate_constructor special_constructor static_prototype uncooked_template reg_exp_flags yield_outside_generator await_outside_async field_named_constructor private_constructor duplicate_private_name undeclared_private_name arguments_in_init delete_of_private import_meta_outside_module duplicate_export export_of_no_name undeclared_export lone_surrogate for_async_of duplicate_proto reg_exp_pattern
 nameless_plain z (node Program w g s e ps) h = (ap (λ x. each DuplicateExport (duplicate_export (node Program w g s e ps)) ++ x) (sym (append-nil (each UndeclaredExport (undeclared_export (node Program w g s e ps))))), refl)
 nameless_plain z (node CatchClause w g s e ps) h = absurd (false≢true (ap is_nameless h))
 nameless_plain z (node ForInStatement w g s e ps) h = absurd (false≢true (ap is_nameless h))

@@ -22,8 +22,9 @@ use Rattle.early_errors.specs.Scopes.{duplicate_lexical_name, lexical_name_is_va
 use Rattle.early_errors.specs.Functions.{duplicate_parameter, parameter_is_lexical_name, use_strict_after_pattern}
 use Rattle.early_errors.specs.Strict.{is_restricted, eval_or_arguments, delete_of_identifier}
 use Rattle.early_errors.specs.Labels.{misplaced_jump, undefined_label, duplicate_label}
-use Rattle.early_errors.specs.Classes.{super_places, super_property_outside_method, super_call_outside_constructor, new_target_outside_function, duplicate_constructor, special_constructor, static_prototype}
-use Rattle.early_errors.specs.Literals.{uncooked_template, reg_exp_flags}
+use Rattle.early_errors.specs.Classes.{after_first, super_places, super_property_outside_method, super_call_outside_constructor, new_target_outside_function, duplicate_constructor, special_constructor, static_prototype}
+use Rattle.early_errors.specs.Objects.{proto_places, duplicate_proto}
+use Rattle.early_errors.specs.Literals.{uncooked_template, reg_exp_flags, reg_exp_pattern}
 use Rattle.early_errors.specs.Yields.{yield_outside_generator, await_outside_async, for_async_of}
 use Rattle.early_errors.specs.Fields.{field_named_constructor, arguments_in_init}
 use Rattle.early_errors.specs.PrivateNames.{private_operand, private_constructor, duplicate_private_name, undeclared_private_name, delete_of_private}
@@ -44,6 +45,7 @@ in_parts telling.Callee = true
 in_parts telling.Target = true
 in_parts telling.Operator = true
 in_parts telling.Items = true
+in_parts telling.Object = true
 in_parts _ = false
 
 -- ---- what stands round the parts
@@ -103,7 +105,7 @@ is_kind telling.Kind = true
 is_kind _ = false
 
 none_here : (k : Kind) (w : List ℕ) (g : Flags) (s e : ℕ) (ps : Parts) (z : Around) → cond (is_kind (telling_of k)) (own_errors z (node k w g s e ps)) [] ≡ []
-unfolding own_errors duplicate_lexical_name lexical_name_is_var const_without_initializer catch_parameter_conflict for_name_is_var duplicate_parameter parameter_is_lexical_name use_strict_after_pattern eval_or_arguments delete_of_identifier misplaced_jump undefined_label duplicate_label super_property_outside_method super_call_outside_constructor new_target_outside_function duplicate_constructor special_constructor static_prototype uncooked_template reg_exp_flags yield_outside_generator await_outside_async field_named_constructor private_constructor duplicate_private_name undeclared_private_name arguments_in_init delete_of_private import_meta_outside_module duplicate_export export_of_no_name undeclared_export lone_surrogate for_async_of
+unfolding own_errors duplicate_lexical_name lexical_name_is_var const_without_initializer catch_parameter_conflict for_name_is_var duplicate_parameter parameter_is_lexical_name use_strict_after_pattern eval_or_arguments delete_of_identifier misplaced_jump undefined_label duplicate_label super_property_outside_method super_call_outside_constructor new_target_outside_function duplicate_constructor special_constructor static_prototype uncooked_template reg_exp_flags yield_outside_generator await_outside_async field_named_constructor private_constructor duplicate_private_name undeclared_private_name arguments_in_init delete_of_private import_meta_outside_module duplicate_export export_of_no_name undeclared_export lone_surrogate for_async_of duplicate_proto reg_exp_pattern
 none_here kind.Program w g s e ps z = refl
 none_here _ w g s e ps z = refl
 
@@ -138,6 +140,10 @@ abbrev is_items : SkipTest → Bool
 is_items telling.Items = true
 is_items _ = false
 
+abbrev is_object : SkipTest → Bool
+is_object telling.Object = true
+is_object _ = false
+
 no_super : (ps : Parts) → is_super_at (part_at ps 0) ≡ false → super_places ps ≡ []
 no_super none h = refl
 no_super (gap ps) h = refl
@@ -159,6 +165,15 @@ own_target (node _ w g s e ps) h = absurd (false≢true h)
 own_unary : (t : Tree) → is_operator (telling_of (kind_of t)) ≡ true → own_of (kind_of t) ≡ own.Delete
 own_unary (node kind.UnaryExpression w g s e ps) h = refl
 own_unary (node _ w g s e ps) h = absurd (false≢true h)
+
+own_object : (t : Tree) → is_object (telling_of (kind_of t)) ≡ true → own_of (kind_of t) ≡ own.Object
+own_object (node kind.ObjectExpression w g s e ps) h = refl
+own_object (node _ w g s e ps) h = absurd (false≢true h)
+
+-- without a `__proto__: v`
+pub open_object : (b : Bool) (t : Tree) → telling_of (kind_of t) ≡ telling.Object → each_part proto_places (parts_of t) ≡ [] → IsOpen b t
+open_object b t h n =
+    opens b t telling.Object h refl (λ z. small_given own.Object z t (own_object t (ap is_object h)) ∙ never error.DuplicateProto z.of_2022 (after_first (each_part proto_places (parts_of t))) (ap after_first n))
 
 -- with a head that isn't `super`, where `arguments` may stand
 pub open_member : (t : Tree) → telling_of (kind_of t) ≡ telling.Member → is_super_at (part_at (parts_of t) 0) ≡ false → IsOpen false t
@@ -192,7 +207,7 @@ open_target b t h n =
 
 -- with no names but of `var`s
 block_own : (t : Tree) (z : Around) → is_items (telling_of (kind_of t)) ≡ true → ((b : Bool) → each_part (lexical_names b) (parts_of t) ≡ []) → own_errors z t ≡ []
-unfolding own_errors duplicate_lexical_name lexical_name_is_var const_without_initializer catch_parameter_conflict for_name_is_var duplicate_parameter parameter_is_lexical_name use_strict_after_pattern eval_or_arguments delete_of_identifier misplaced_jump undefined_label duplicate_label super_property_outside_method super_call_outside_constructor new_target_outside_function duplicate_constructor special_constructor static_prototype uncooked_template reg_exp_flags yield_outside_generator await_outside_async field_named_constructor private_constructor duplicate_private_name undeclared_private_name arguments_in_init delete_of_private import_meta_outside_module duplicate_export export_of_no_name undeclared_export lone_surrogate for_async_of
+unfolding own_errors duplicate_lexical_name lexical_name_is_var const_without_initializer catch_parameter_conflict for_name_is_var duplicate_parameter parameter_is_lexical_name use_strict_after_pattern eval_or_arguments delete_of_identifier misplaced_jump undefined_label duplicate_label super_property_outside_method super_call_outside_constructor new_target_outside_function duplicate_constructor special_constructor static_prototype uncooked_template reg_exp_flags yield_outside_generator await_outside_async field_named_constructor private_constructor duplicate_private_name undeclared_private_name arguments_in_init delete_of_private import_meta_outside_module duplicate_export export_of_no_name undeclared_export lone_surrogate for_async_of duplicate_proto reg_exp_pattern
 block_own (node kind.BlockStatement w g s e ps) z h n =
     λ i. each error.DuplicateLexicalName (places (twice (n (not z.is_body) i) ++ [])) ++ (each error.LexicalNameIsVar (places (shared (n (not z.is_body) i) (cond z.is_body (each_part function_names ps) [] ++ parts_vars ps))) ++ [])
 block_own (node _ w g s e ps) z h n = absurd (false≢true h)
@@ -202,7 +217,7 @@ open_block b t h n = opens b t telling.Items h refl (λ z. block_own t z (ap is_
 
 -- that is no method, where `arguments` may stand
 pub open_property : (t : Tree) → telling_of (kind_of t) ≡ telling.Form → is_method (flags_of t).form ≡ false → IsOpen false t
-unfolding var_names own_errors duplicate_lexical_name lexical_name_is_var const_without_initializer catch_parameter_conflict for_name_is_var duplicate_parameter parameter_is_lexical_name use_strict_after_pattern eval_or_arguments delete_of_identifier misplaced_jump undefined_label duplicate_label super_property_outside_method super_call_outside_constructor new_target_outside_function duplicate_constructor special_constructor static_prototype uncooked_template reg_exp_flags yield_outside_generator await_outside_async field_named_constructor private_constructor duplicate_private_name undeclared_private_name arguments_in_init delete_of_private import_meta_outside_module duplicate_export export_of_no_name undeclared_export lone_surrogate for_async_of
+unfolding var_names own_errors duplicate_lexical_name lexical_name_is_var const_without_initializer catch_parameter_conflict for_name_is_var duplicate_parameter parameter_is_lexical_name use_strict_after_pattern eval_or_arguments delete_of_identifier misplaced_jump undefined_label duplicate_label super_property_outside_method super_call_outside_constructor new_target_outside_function duplicate_constructor special_constructor static_prototype uncooked_template reg_exp_flags yield_outside_generator await_outside_async field_named_constructor private_constructor duplicate_private_name undeclared_private_name arguments_in_init delete_of_private import_meta_outside_module duplicate_export export_of_no_name undeclared_export lone_surrogate for_async_of duplicate_proto reg_exp_pattern
 open_property (node kind.Property w g s e ps) h n =
     opened false (node kind.Property w g s e ps) (λ z a. refl)
     ((λ z a. ap (λ b. parts_errors (cond g.computed (within z) (as_word z)) (cond b (in_method z false) (within z)) ps) n ∙ first_word z g.computed ps a), refl)

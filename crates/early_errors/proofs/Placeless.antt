@@ -2,16 +2,16 @@
 use Rattle.std.proofs.Common.{◌≡◌, ℕ, zero, suc, Bool, true, false, cond, List, [], ◌∷◌, ◌++◌, refl, sym, ap, ◌∙◌, length}
 use Rattle.std.specs.Prelude.{◌&&◌, ◌||◌, not, map, filter, codes}
 use Rattle.tree.specs.declared.kind.Kind.{Kind}
-use Rattle.tree.specs.declared.kind.Kind.TheVariants.{Program, StaticBlock, Identifier, YieldExpression, AwaitExpression, PropertyDefinition, ImportDeclaration, Literal, Property, FunctionExpression, ArrowFunctionExpression, ClassExpression, ClassBody, MethodDefinition, TemplateLiteral, TaggedTemplateExpression, MemberExpression, CallExpression, MetaProperty, UpdateExpression, UnaryExpression, AssignmentExpression, BlockStatement, BreakStatement, ContinueStatement, LabeledStatement, SwitchStatement, CatchClause, ForStatement, ForInStatement, ForOfStatement, VariableDeclaration, FunctionDeclaration, ClassDeclaration}
+use Rattle.tree.specs.declared.kind.Kind.TheVariants.{Program, StaticBlock, Identifier, YieldExpression, AwaitExpression, PropertyDefinition, ImportDeclaration, Literal, ObjectExpression, Property, FunctionExpression, ArrowFunctionExpression, ClassExpression, ClassBody, MethodDefinition, TemplateLiteral, TaggedTemplateExpression, MemberExpression, CallExpression, MetaProperty, UpdateExpression, UnaryExpression, AssignmentExpression, BlockStatement, BreakStatement, ContinueStatement, LabeledStatement, SwitchStatement, CatchClause, ForStatement, ForInStatement, ForOfStatement, VariableDeclaration, FunctionDeclaration, ClassDeclaration}
 use Rattle.tree.specs.declared.kind.Flags.{Flags}
 use Prim.Native.String.{String}
 use Rattle.tree.specs.Uses.{is_async, is_init}
 use Rattle.tree.specs.Tree.{Tree, node, Parts, none, part, gap, bare, bare_parts, SameTree, parts_of}
 use Rattle.language.specs.FirstPart.{lead, others}
-use Rattle.language.specs.Vocabulary.{is, among, is_identifier, is_super}
+use Rattle.language.specs.Vocabulary.{is, among, is_identifier, is_super, literal_class}
 use Rattle.language.specs.Expressions.{value_form}
 use Rattle.early_errors.specs.declared.EarlyError.{EarlyError}
-use Rattle.early_errors.specs.declared.EarlyError.TheVariants.{EvalOrArguments, DeleteOfIdentifier, DuplicateLexicalName, LexicalNameIsVar, ConstWithoutInitializer, DuplicateParameter, ParameterIsLexicalName, UseStrictBehindPattern, MisplacedJump, UndefinedLabel, DuplicateLabel, CatchParameterConflict, ForNameIsVar, SuperPropertyOutsideMethod, SuperCallOutsideConstructor, NewTargetOutsideFunction, DuplicateConstructor, SpecialConstructor, StaticPrototype, UncookedTemplate, RegExpFlags, YieldOutsideGenerator, AwaitOutsideAsync, FieldNamedConstructor, PrivateConstructor, DuplicatePrivateName, UndeclaredPrivateName, ArgumentsInInit, DeleteOfPrivate, ImportMetaOutsideModule, DuplicateExport, ExportOfNoName, UndeclaredExport, LoneSurrogate, ForAsyncOf}
+use Rattle.early_errors.specs.declared.EarlyError.TheVariants.{EvalOrArguments, DeleteOfIdentifier, DuplicateLexicalName, LexicalNameIsVar, ConstWithoutInitializer, DuplicateParameter, ParameterIsLexicalName, UseStrictBehindPattern, MisplacedJump, UndefinedLabel, DuplicateLabel, CatchParameterConflict, ForNameIsVar, SuperPropertyOutsideMethod, SuperCallOutsideConstructor, NewTargetOutsideFunction, DuplicateConstructor, SpecialConstructor, StaticPrototype, UncookedTemplate, RegExpFlags, YieldOutsideGenerator, AwaitOutsideAsync, FieldNamedConstructor, PrivateConstructor, DuplicatePrivateName, UndeclaredPrivateName, ArgumentsInInit, DeleteOfPrivate, ImportMetaOutsideModule, DuplicateExport, ExportOfNoName, UndeclaredExport, LoneSurrogate, ForAsyncOf, DuplicateProto, RegExpPattern}
 use Rattle.name_tables.specs.BoundNames.{each_part}
 use Rattle.early_errors.specs.Names.{import_name, places, when, twice, shared, first_names, declared_names, parts_vars, lexical_names, function_names, parameter_names, parameters_on, body_items}
 use Rattle.early_errors.specs.Around.{Around, Label, outside_of, settled, private_key, private_keys, within, is_loop, is_label, labels_loop, last_loop, own_label, has_heritage, around_first, around_others, is_constructor, is_accessor}
@@ -20,7 +20,8 @@ use Rattle.early_errors.specs.Functions.{is_simple, use_strict, duplicate_parame
 use Rattle.early_errors.specs.Strict.{names_given, eval_or_arguments, delete_of_identifier}
 use Rattle.early_errors.specs.Labels.{is_bare, labels_statement, labels_a_loop, misplaced_jump, undefined_label, duplicate_label}
 use Rattle.early_errors.specs.Classes.{super_places, key_places, has_key, named, constructor_places, after_first, super_property_outside_method, super_call_outside_constructor, new_target_outside_function, duplicate_constructor, special_constructor, static_prototype}
-use Rattle.early_errors.specs.Literals.{is_uncooked, some_uncooked, good_flags_in, uncooked_template, reg_exp_flags}
+use Rattle.early_errors.specs.Objects.{is_property, is_proto, proto_places, duplicate_proto}
+use Rattle.early_errors.specs.Literals.{is_uncooked, some_uncooked, good_flags_in, is_reg_exp, has_pattern_fault, uncooked_template, reg_exp_flags, reg_exp_pattern}
 use Rattle.early_errors.specs.Yields.{yield_outside_generator, await_outside_async, for_async_of}
 use Rattle.early_errors.specs.Fields.{field_named_constructor, arguments_in_init}
 use Rattle.early_errors.specs.Early.{Error, number, each, each_of, own_places, own_errors, errors_within, parts_errors, errors}
@@ -319,6 +320,23 @@ prototype-bare (node MethodDefinition w g s e ps) = keyed-bare "prototype" g.is_
 prototype-bare (node PropertyDefinition w g s e ps) = keyed-bare "prototype" g.is_static (not g.computed) ps
 prototype-bare (node _ w g s e ps) = refl
 
+-- objects
+is_proto-bare : (n : Tree) → is_proto (bare n) ≡ is_proto n
+is_proto-bare (node k w g s e ps) =
+    let p : Tree → Bool = λ n. named n "__proto__" in
+    ap (λ x. (not g.computed && x) && (is_property k && is_init g.form)) (has_key-bare p (named-bare "__proto__") ps)
+
+proto-bare : (n : Tree) → Even (proto_places (bare n)) (proto_places n)
+proto-bare (node k w g s e ps) =
+    even-both (is_proto (bare (node k w g s e ps))) (is_proto (node k w g s e ps)) (key_places (bare_parts ps)) (key_places ps) (is_proto-bare (node k w g s e ps)) (key-bare ps)
+
+protos-bare : (z : Around) (n : Tree) → Even (duplicate_proto z (bare n)) (duplicate_proto z n)
+unfolding duplicate_proto
+protos-bare z (node ObjectExpression w g s e ps) =
+    even-when z.of_2022 (after_first (each_part proto_places (bare_parts ps))) (after_first (each_part proto_places ps))
+    (behind_first-length (each_part proto_places (bare_parts ps)) ∙ ap less (even-each proto_places proto-bare ps) ∙ sym (behind_first-length (each_part proto_places ps)))
+protos-bare z (node _ w g s e ps) = refl
+
 -- literals
 uncooked-bare : (ps : Parts) → some_uncooked (bare_parts ps) ≡ some_uncooked ps
 uncooked-bare none = refl
@@ -335,6 +353,11 @@ flags-bare : (z : Around) (n : Tree) → Even (reg_exp_flags z (bare n)) (reg_ex
 unfolding reg_exp_flags
 flags-bare z (node Literal w g s e ps) = one (not (good_flags_in z.of_2022 w)) 0 s
 flags-bare z (node _ w g s e ps) = refl
+
+pattern-bare : (z : Around) (n : Tree) → Even (reg_exp_pattern z (bare n)) (reg_exp_pattern z n)
+unfolding reg_exp_pattern
+pattern-bare z (node Literal w g s e ps) = one (z.of_2022 && (is_reg_exp (literal_class w) && has_pattern_fault w)) 0 s
+pattern-bare z (node _ w g s e ps) = refl
 
 -- `yield`, `await` and `async`
 yield-bare : (z : Around) (n : Tree) → Even (yield_outside_generator z (bare n)) (yield_outside_generator z n)
@@ -487,6 +510,8 @@ counted z n = λ i.
     (UndeclaredExport, undeclared_export-bare n i) ∷
     (LoneSurrogate, lone-bare n i) ∷
     (ForAsyncOf, async-bare z n i) ∷
+    (DuplicateProto, protos-bare z n i) ∷
+    (RegExpPattern, pattern-bare z n i) ∷
     []
 
 own-bare : (z : Around) (n : Tree) → numbers (own_errors z (bare n)) ≡ numbers (own_errors z n)

@@ -14,7 +14,8 @@ use Rattle.early_errors.specs.Functions.{duplicate_parameter, parameter_is_lexic
 use Rattle.early_errors.specs.Strict.{eval_or_arguments, delete_of_identifier}
 use Rattle.early_errors.specs.Labels.{misplaced_jump, undefined_label, duplicate_label}
 use Rattle.early_errors.specs.Classes.{super_property_outside_method, super_call_outside_constructor, new_target_outside_function, duplicate_constructor, special_constructor, static_prototype}
-use Rattle.early_errors.specs.Literals.{uncooked_template, reg_exp_flags}
+use Rattle.early_errors.specs.Objects.{duplicate_proto}
+use Rattle.early_errors.specs.Literals.{uncooked_template, reg_exp_flags, reg_exp_pattern}
 use Rattle.early_errors.specs.Yields.{yield_outside_generator, await_outside_async, for_async_of}
 use Rattle.early_errors.specs.Fields.{field_named_constructor, arguments_in_init}
 use Rattle.early_errors.specs.PrivateNames.{private_constructor, duplicate_private_name, undeclared_private_name, delete_of_private}
@@ -23,7 +24,7 @@ use Rattle.early_errors.specs.Early.{each, own_errors, errors_within, parts_erro
 use Rattle.early_errors.proofs.OwnErrorsByKind.{small_by_kind}
 
 own_alike : (z : Around) (t : Tree) → z.no_arguments ≡ false → own_errors (as_word z) t ≡ own_errors (within z) t
-unfolding own_errors duplicate_lexical_name lexical_name_is_var const_without_initializer catch_parameter_conflict for_name_is_var duplicate_parameter parameter_is_lexical_name use_strict_after_pattern eval_or_arguments delete_of_identifier misplaced_jump undefined_label duplicate_label super_property_outside_method super_call_outside_constructor new_target_outside_function duplicate_constructor special_constructor static_prototype uncooked_template reg_exp_flags yield_outside_generator await_outside_async field_named_constructor private_constructor duplicate_private_name undeclared_private_name arguments_in_init delete_of_private import_meta_outside_module duplicate_export export_of_no_name undeclared_export lone_surrogate for_async_of
+unfolding own_errors duplicate_lexical_name lexical_name_is_var const_without_initializer catch_parameter_conflict for_name_is_var duplicate_parameter parameter_is_lexical_name use_strict_after_pattern eval_or_arguments delete_of_identifier misplaced_jump undefined_label duplicate_label super_property_outside_method super_call_outside_constructor new_target_outside_function duplicate_constructor special_constructor static_prototype uncooked_template reg_exp_flags yield_outside_generator await_outside_async field_named_constructor private_constructor duplicate_private_name undeclared_private_name arguments_in_init delete_of_private import_meta_outside_module duplicate_export export_of_no_name undeclared_export lone_surrogate for_async_of duplicate_proto reg_exp_pattern
 own_alike z (node Identifier w g s e ps) h =
     small_by_kind (as_word z) (node Identifier w g s e ps) ∙ ap (λ b. each ArgumentsInInit (when (b && false && is w "arguments") (s ∷ []))) h
     ∙ sym (ap (λ b. each ArgumentsInInit (when (b && true && is w "arguments") (s ∷ []))) h) ∙ sym (small_by_kind (within z) (node Identifier w g s e ps))

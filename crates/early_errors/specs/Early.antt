@@ -2,7 +2,7 @@
 use Rattle.std.specs.Prelude.{ℕ, Bool, cond, ◌&&◌, ◌||◌, List, [], ◌∷◌, ◌++◌, map, nat_eq, nat_lt, nat_le, Option, Some, None}
 use Rattle.tree.specs.Tree.{Tree, node, Parts, none, part, gap}
 use Rattle.early_errors.specs.declared.EarlyError.{EarlyError}
-use Rattle.early_errors.specs.declared.EarlyError.TheVariants.{EvalOrArguments, DeleteOfIdentifier, DuplicateLexicalName, LexicalNameIsVar, ConstWithoutInitializer, DuplicateParameter, ParameterIsLexicalName, UseStrictBehindPattern, MisplacedJump, UndefinedLabel, DuplicateLabel, CatchParameterConflict, ForNameIsVar, SuperPropertyOutsideMethod, SuperCallOutsideConstructor, NewTargetOutsideFunction, DuplicateConstructor, SpecialConstructor, StaticPrototype, UncookedTemplate, RegExpFlags, YieldOutsideGenerator, AwaitOutsideAsync, FieldNamedConstructor, PrivateConstructor, DuplicatePrivateName, UndeclaredPrivateName, ArgumentsInInit, DeleteOfPrivate, ImportMetaOutsideModule, DuplicateExport, ExportOfNoName, UndeclaredExport, LoneSurrogate, ForAsyncOf}
+use Rattle.early_errors.specs.declared.EarlyError.TheVariants.{EvalOrArguments, DeleteOfIdentifier, DuplicateLexicalName, LexicalNameIsVar, ConstWithoutInitializer, DuplicateParameter, ParameterIsLexicalName, UseStrictBehindPattern, MisplacedJump, UndefinedLabel, DuplicateLabel, CatchParameterConflict, ForNameIsVar, SuperPropertyOutsideMethod, SuperCallOutsideConstructor, NewTargetOutsideFunction, DuplicateConstructor, SpecialConstructor, StaticPrototype, UncookedTemplate, RegExpFlags, YieldOutsideGenerator, AwaitOutsideAsync, FieldNamedConstructor, PrivateConstructor, DuplicatePrivateName, UndeclaredPrivateName, ArgumentsInInit, DeleteOfPrivate, ImportMetaOutsideModule, DuplicateExport, ExportOfNoName, UndeclaredExport, LoneSurrogate, ForAsyncOf, DuplicateProto, RegExpPattern}
 use Rattle.early_errors.specs.Around.{Around, outside_of, settled, around_first, around_others}
 use Rattle.early_errors.specs.Scopes.{duplicate_lexical_name, lexical_name_is_var, const_without_initializer, catch_parameter_conflict, for_name_is_var}
 use Rattle.early_errors.specs.Functions.{duplicate_parameter, parameter_is_lexical_name, use_strict_after_pattern}
@@ -13,7 +13,8 @@ use Rattle.early_errors.specs.Yields.{yield_outside_generator, await_outside_asy
 use Rattle.early_errors.specs.Fields.{field_named_constructor, arguments_in_init}
 use Rattle.early_errors.specs.PrivateNames.{private_constructor, duplicate_private_name, undeclared_private_name, delete_of_private}
 use Rattle.early_errors.specs.Modules.{import_meta_outside_module, duplicate_export, export_of_no_name, undeclared_export, lone_surrogate}
-use Rattle.early_errors.specs.Literals.{uncooked_template, reg_exp_flags}
+use Rattle.early_errors.specs.Objects.{duplicate_proto}
+use Rattle.early_errors.specs.Literals.{uncooked_template, reg_exp_flags, reg_exp_pattern}
 
 -- the number that a report names the early error by
 abbrev pub number : EarlyError → ℕ
@@ -52,6 +53,8 @@ number ExportOfNoName = 32
 number UndeclaredExport = 33
 number LoneSurrogate = 34
 number ForAsyncOf = 35
+number DuplicateProto = 36
+number RegExpPattern = 37
 
 -- a number and a place
 abbrev pub Error : Type 0
@@ -98,6 +101,8 @@ own_places z tree =
     (UndeclaredExport, undeclared_export tree) ∷
     (LoneSurrogate, lone_surrogate tree) ∷
     (ForAsyncOf, for_async_of z tree) ∷
+    (DuplicateProto, duplicate_proto z tree) ∷
+    (RegExpPattern, reg_exp_pattern z tree) ∷
     []
 
 abbrev pub each_of : List (EarlyError × List ℕ) → List Error

@@ -7,6 +7,7 @@ pub mod Strict
 pub mod Labels
 pub mod Classes
 pub mod Cooked
+pub mod Objects
 pub mod Literals
 pub mod Early
 pub mod Starts

@@ -1,11 +1,13 @@
--- Templates and regular expressions. Inside a regular expression nothing is looked at but its flags.
-use Rattle.std.specs.Prelude.{ℕ, Bool, true, false, not, cond, ◌&&◌, ◌||◌, List, [], ◌∷◌, nat_eq, codes}
+-- Templates and regular expressions.
+use Rattle.std.specs.Prelude.{ℕ, Bool, true, false, not, cond, ◌&&◌, ◌||◌, List, [], ◌∷◌, nat_eq, is_some, codes}
 use Rattle.tree.specs.declared.kind.Kind.{Kind}
 use Rattle.tree.specs.declared.kind.Kind.TheVariants.{Literal, TemplateLiteral, TemplateElement}
 use Rattle.tokens.specs.declared.token.TokenClass.{TokenClass}
 use Rattle.tokens.specs.declared.token.TokenClass.TheVariants.{RegularExpressionLiteral}
 use Rattle.tree.specs.Tree.{Tree, node, Parts, none, part, gap, kind_of, text_of}
 use Rattle.language.specs.Vocabulary.{literal_class}
+use Rattle.language.specs.Strings.{points}
+use Rattle.regular_expressions.specs.Patterns.{first_fault}
 use Rattle.early_errors.specs.Cooked.{cooks}
 use Rattle.early_errors.specs.Names.{when}
 use Rattle.early_errors.specs.Around.{Around}
@@ -58,3 +60,12 @@ good_flags text = good_flags_in false text
 unfoldable pub reg_exp_flags : Around → Tree → List ℕ
 reg_exp_flags z (node Literal text flags from to parts) = when (not (good_flags_in z.of_2022 text)) (from ∷ [])
 reg_exp_flags z (node _ text flags from to parts) = []
+
+-- a regular expression's pattern can't be derived, or has an early error (22.2.1 and 22.2.1.1 of the 13th edition)
+unfoldable pub has_pattern_fault : List ℕ → Bool
+has_pattern_fault text = is_some (first_fault (points text))
+
+-- A pattern that isn't one, in the language of 2022 (13.2.7.1): the literal.
+unfoldable pub reg_exp_pattern : Around → Tree → List ℕ
+reg_exp_pattern z (node Literal text flags from to parts) = when (z.of_2022 && (is_reg_exp (literal_class text) && has_pattern_fault text)) (from ∷ [])
+reg_exp_pattern z (node _ text flags from to parts) = []

@@ -20,7 +20,7 @@ use Rattle.early_errors.specs.declared.profile.Language.{Language}
 use Rattle.early_errors.specs.declared.own.OwnErrorInput.{OwnErrorInput}
 use Rattle.early_errors.specs.declared.own.OwnErrorInput.TheVariants as sort
 use Rattle.early_errors.specs.declared.own.OwnErrors.{OwnErrors}
-use Rattle.early_errors.specs.declared.own.OwnErrors.TheVariants.{Variables, Function, FirstNames, Break, Continue, Label, ForOf, Delete, SuperProperty, SuperCall, Target, ClassElements, Member, Template, Literal, Name, PrivateName, Yield, Await, Field, Import, ModuleNames, ExportAll, Export, Exports, Nothing}
+use Rattle.early_errors.specs.declared.own.OwnErrors.TheVariants.{Variables, Function, FirstNames, Break, Continue, Label, ForOf, Delete, SuperProperty, SuperCall, Target, ClassElements, Member, Template, Literal, Name, PrivateName, Yield, Await, Field, Import, ModuleNames, ExportAll, Export, Exports, Object, Nothing}
 use Rattle.early_errors.specs.Around as around
 use Rattle.early_errors.specs.Around.{Around}
 use Rattle.language.specs.FirstPart.{others}
@@ -98,6 +98,7 @@ own_of_2022 kind.ExportSpecifier = ModuleNames
 own_of_2022 kind.ExportAllDeclaration = ExportAll
 own_of_2022 kind.ExportNamedDeclaration = Export
 own_of_2022 kind.Program = Exports
+own_of_2022 kind.ObjectExpression = Object
 own_of_2022 _ = Nothing
 
 abbrev pub own_of : Kind → OwnErrors

@@ -45,6 +45,7 @@ telling_of_2022 kind.ImportSpecifier = telling.Nothing
 telling_of_2022 kind.ExportSpecifier = telling.Nothing
 telling_of_2022 kind.ExportNamedDeclaration = telling.Nothing
 telling_of_2022 kind.ExportAllDeclaration = telling.Nothing
+telling_of_2022 kind.ObjectExpression = telling.Object
 telling_of_2022 _ = telling.Kind
 
 -- What tells it, by the kind. `Nothing` does for a node that has errors of its own or a scope, or has other things stand round its parts

@@ -1,6 +1,6 @@
 //! `super`, `new.target` and the members of classes.
 
-ghost use Rattle.std.specs.Prelude.{◌≡◌, ◌&&◌, not, option_map, IfOk};
+ghost use Rattle.std.specs.Prelude.{◌≡◌, ◌<◌, ◌&&◌, length, not, option_map, IfOk};
 ghost use Rattle.std.specs.Str.{bytes_eq};
 ghost use Rattle.tree.specs.Node.{node_tree};
 ghost use Rattle.tree.specs.Tree.{kind_of, parts_of, text_of};
@@ -21,7 +21,7 @@ use crate::literals::{begins_with_quote, both, either};
 use crate::private_names::private_errors;
 use crate::profile::Language;
 use std::alloc::{AllocError, Global};
-use tokens::quoted_units;
+use tokens::string_is;
 use tree::{Form, Kind, Node};
 
 /// A `super` at the head of a node, where it may not stand (ECMA-262 14.1.2, 14.6.1, 15.1.1).
@@ -124,25 +124,18 @@ fn constructor_place(member: Option<Node>) -> Option<usize>
 
 /// A getter, a setter, or an async or generator method `constructor` that isn't static, a static member `prototype` (ECMA-262 14.6.1;
 /// 13th edition, 15.7.1).
-pub(crate) fn member_errors(
-    alloc: Global,
-    member: Node,
-    found: FirstError,
-) -> Result<FirstError, AllocError>
+pub(crate) fn member_errors(member: Node, found: FirstError) -> FirstError
     requires { own_of (kind_of (node_tree member)) ≡ OwnErrors.Member }
-    ensures { IfOk result (λ r. (z : _) → r ≡ after found (own_errors z (node_tree member.entry))) }
+    ensures { (z : _) → result ≡ after found (own_errors z (node_tree member.entry)) }
 {
     let flags = member.flags();
     let key = member.part(0);
     let differs = either(is_accessor(flags.form), has_form(member.part(1)));
     let is_special = both(differs, !flags.is_static);
-    let special = both(is_special, says(alloc, key, flags.computed, "constructor")?);
+    let special = both(is_special, says(key, flags.computed, "constructor"));
     let found = key_error(key, special, EarlyError::SpecialConstructor, found);
-    let prototype = both(
-        flags.is_static,
-        says(alloc, key, flags.computed, "prototype")?,
-    );
-    Ok(key_error(key, prototype, EarlyError::StaticPrototype, found))
+    let prototype = both(flags.is_static, says(key, flags.computed, "prototype"));
+    key_error(key, prototype, EarlyError::StaticPrototype, found)
 }
 
 /// Whether a method's function is async or a generator.
@@ -170,36 +163,32 @@ pub(crate) fn key_error(
     }
 }
 
-/// Whether a key that is neither computed nor private has a word as its value.
-pub(crate) fn says(
-    alloc: Global,
-    key: Option<Node>,
-    is_computed: bool,
-    word: &str,
-) -> Result<bool, AllocError>
-    ensures { IfOk result (λ b. b ≡ (not is_computed && key_says (option_map node_tree key.entry) word.now)) }
+/// Whether a key that is neither computed nor private has a word, which isn't empty, as its value.
+pub(crate) fn says(key: Option<Node>, is_computed: bool, word: &str) -> bool
+    requires { 0 < length word.now }
+    ensures { result ≡ (not is_computed && key_says (option_map node_tree key.entry) word.now) }
 {
     if is_computed {
-        return Ok(false);
+        return false;
     }
     let Some(key) = key else {
-        return Ok(false);
+        return false;
     };
     if key.kind().is_private() {
-        return Ok(false);
+        return false;
     }
-    key_is(alloc, key, word)
+    key_is(key, word)
 }
 
-/// Whether a key's value (ECMA-262 12.2.6.5) is a word.
-fn key_is(alloc: Global, key: Node, word: &str) -> Result<bool, AllocError>
-    ensures { IfOk result (λ b. b ≡ bytes_eq (key_value (node_tree key.entry)) word.now) }
+/// Whether a key's value (ECMA-262 12.2.6.5) is a word, which isn't empty.
+fn key_is(key: Node, word: &str) -> bool
+    requires { 0 < length word.now }
+    ensures { result ≡ bytes_eq (key_value (node_tree key.entry)) word.now }
 {
     if !is_quoted(key) {
-        return Ok(key.text() == word);
+        return key.text() == word;
     }
-    let units = quoted_units(alloc, key.text())?;
-    Ok(same_units(units.as_slice(), word.as_bytes()))
+    string_is(key.text(), word)
 }
 
 /// Whether a node is a string.
@@ -210,19 +199,4 @@ pub(crate) fn is_quoted(node: Node) -> bool
         Kind::Literal => begins_with_quote(node.text()),
         _ => false,
     }
-}
-
-/// Whether units are those of a word.
-fn same_units(units: &[u16], word: &[u8]) -> bool
-    ensures { result ≡ bytes_eq units.now word.now }
-{
-    if units.len() != word.len() {
-        return false;
-    }
-    for index in 0..units.len() {
-        if units[index] != word[index] as u16 {
-            return false;
-        }
-    }
-    true
 }

@@ -1,6 +1,6 @@
 //! Fields and static blocks (ECMA-262, 13th edition, 15.7.1).
 
-ghost use Rattle.std.specs.Prelude.{◌≡◌, IfOk};
+ghost use Rattle.std.specs.Prelude.{◌≡◌};
 ghost use Rattle.tree.specs.Node.{node_tree};
 ghost use Rattle.tree.specs.Tree.{kind_of};
 ghost use Rattle.early_errors.specs.Early.{own_errors};
@@ -13,27 +13,19 @@ use crate::around::Context;
 use crate::classes::{key_error, says};
 use crate::found::{FirstError, with_error_if};
 use crate::literals::both;
-use std::alloc::{AllocError, Global};
 use tree::Node;
 
 /// A field `constructor`, a static field `prototype`.
-pub(crate) fn field_errors(
-    alloc: Global,
-    field: Node,
-    found: FirstError,
-) -> Result<FirstError, AllocError>
+pub(crate) fn field_errors(field: Node, found: FirstError) -> FirstError
     requires { own_of (kind_of (node_tree field)) ≡ OwnErrors.Field }
-    ensures { IfOk result (λ e. (z : _) → e ≡ after found (own_errors z (node_tree field.entry))) }
+    ensures { (z : _) → result ≡ after found (own_errors z (node_tree field.entry)) }
 {
     let flags = field.flags();
     let key = field.part(0);
-    let named = says(alloc, key, flags.computed, "constructor")?;
+    let named = says(key, flags.computed, "constructor");
     let found = key_error(key, named, EarlyError::FieldNamedConstructor, found);
-    let prototype = both(
-        flags.is_static,
-        says(alloc, key, flags.computed, "prototype")?,
-    );
-    Ok(key_error(key, prototype, EarlyError::StaticPrototype, found))
+    let prototype = both(flags.is_static, says(key, flags.computed, "prototype"));
+    key_error(key, prototype, EarlyError::StaticPrototype, found)
 }
 
 /// `arguments` in the value of a field or in a static block.

@@ -1,5 +1,5 @@
 //! The early errors that a strict script can have by the 11th edition of ECMA-262, and a strict script or a module by the 13th.
-//! - May touch: a finished tree, and memory for names and labels. It never looks at the text.
+//! - May touch: a finished tree, and memory for names, labels, and groups of patterns. It never looks at the text.
 //! - Contract: `first_early_error` answers the tree's least error, by place and then by number; none exactly if it has
 //!   none.
 //! - Begin at: `walk.rt`; `own.rt` says which errors a node itself can have. Definitions: `specs/Early.antt`.
@@ -17,6 +17,7 @@ pub mod laws;
 mod literals;
 mod modules;
 mod names;
+mod objects;
 mod own;
 mod private_names;
 mod profile;
@@ -33,7 +34,7 @@ use std::alloc::{AllocError, Global};
 use tree::{Node, Program};
 use walk::{Walk, walk_node};
 
-/// An early error, in the order of the numbers 1 to 35 that reports name it by; from 22 on, of the language of 2022.
+/// An early error, in the order of the numbers 1 to 37 that reports name it by; from 22 on, of the language of 2022.
 #[derive(Copy, Clone)]
 pub enum EarlyError {
     /// 1: `eval` or `arguments` is bound or assigned.
@@ -106,6 +107,10 @@ pub enum EarlyError {
     LoneSurrogate,
     /// 35: `async` on the left of a for-of loop.
     ForAsyncOf,
+    /// 36: a second `__proto__: v` of one object.
+    DuplicateProto,
+    /// 37: a pattern of a regular expression that the grammar of patterns or its early errors forbid.
+    RegExpPattern,
 }
 
 ghost use Rattle.std.specs.Prelude.{◌≡◌, IfOk, None};
@@ -115,7 +120,7 @@ ghost use Rattle.name_tables.specs.Tables.{Agree};
 ghost use Rattle.early_errors.specs.Around.{outside_of};
 ghost use Rattle.early_errors.specs.Walk.{look};
 
-/// The number that a report names the early error by: 1 to 35.
+/// The number that a report names the early error by: 1 to 37.
 pub fn number_of(error: EarlyError) -> u8
     ensures { result ≡ number error }
 {
@@ -155,6 +160,8 @@ pub fn number_of(error: EarlyError) -> u8
         EarlyError::UndeclaredExport => 33,
         EarlyError::LoneSurrogate => 34,
         EarlyError::ForAsyncOf => 35,
+        EarlyError::DuplicateProto => 36,
+        EarlyError::RegExpPattern => 37,
     }
 }
 

@@ -5,7 +5,7 @@ ghost use Rattle.tree.specs.Node.{node_tree};
 ghost use Rattle.tree.specs.Tree.{kind_of, parts_of};
 ghost use Rattle.language.specs.Vocabulary.{is_string, literal_class};
 ghost use Rattle.early_errors.specs.Early.{own_errors};
-ghost use Rattle.early_errors.specs.Literals.{are_among, flags_part, good_flags_in, holds, is_reg_exp, known_flags, some_uncooked};
+ghost use Rattle.early_errors.specs.Literals.{are_among, flags_part, good_flags_in, has_pattern_fault, holds, is_reg_exp, known_flags, some_uncooked};
 ghost use Rattle.early_errors.specs.Owns.{Beside, is_element, own_of, round, uncooked_at};
 ghost use Rattle.early_errors.specs.Walk.{after};
 ghost use Rattle.early_errors.specs.declared.own.OwnErrors.{OwnErrors};
@@ -14,6 +14,7 @@ use crate::EarlyError;
 use crate::around::Context;
 use crate::found::{FirstError, with_error_if};
 use grammar::literal_class;
+use regular_expressions::first_fault;
 use std::alloc::{AllocError, Global};
 use tokens::{TokenClass, template_value};
 use tree::{Kind, Node};
@@ -87,17 +88,40 @@ fn is_element(kind: Kind) -> bool
     }
 }
 
-/// Flags of a regular expression that aren't known, or stand twice (ECMA-262 12.2.8.1).
-pub(crate) fn literal_errors(node: Node, is_2022: bool, found: FirstError) -> FirstError
+/// Flags of a regular expression that aren't known, or stand twice (ECMA-262 12.2.8.1); a pattern that isn't one (13th edition, 13.2.7.1).
+pub(crate) fn literal_errors(
+    alloc: Global,
+    node: Node,
+    is_2022: bool,
+    found: FirstError,
+) -> Result<FirstError, AllocError>
     requires { own_of (kind_of (node_tree node)) ≡ OwnErrors.Literal }
-    ensures { (z : _) → z.of_2022 ≡ is_2022 → result ≡ after found (own_errors z (node_tree node.entry)) }
+    ensures { IfOk result (λ e. (z : _) → z.of_2022 ≡ is_2022 → e ≡ after found (own_errors z (node_tree node.entry))) }
 {
-    with_error_if(
-        !has_good_flags(node.text(), is_2022),
+    let text = node.text();
+    let start = node.span().start;
+    let found = with_error_if(
+        !has_good_flags(text, is_2022),
         found,
         EarlyError::RegExpFlags,
-        node.span().start,
-    )
+        start,
+    );
+    let is_wrong = has_wrong_pattern(alloc, text, is_2022)?;
+    Ok(with_error_if(is_wrong, found, EarlyError::RegExpPattern, start))
+}
+
+/// Whether a literal is a regular expression whose pattern has a fault, in the language of 2022.
+fn has_wrong_pattern(alloc: Global, text: &str, is_2022: bool) -> Result<bool, AllocError>
+    ensures { IfOk result (λ b. b ≡ (is_2022 && (is_reg_exp (literal_class text.now) && has_pattern_fault text.now))) }
+{
+    if !is_2022 {
+        return Ok(false);
+    }
+    if !begins_with_slash(text) {
+        return Ok(false);
+    }
+    let fault = first_fault(alloc, text)?;
+    Ok(fault.is_some())
 }
 
 /// Whether a literal is no regular expression, or one whose flags are each one of `g i m s u y`, in 2022 also `d`, and stand once.

@@ -26,6 +26,7 @@ use crate::labels::{Labels, break_errors, continue_errors};
 use crate::literals::{both, literal_errors, template_errors};
 use crate::modules::{export_errors, exports_errors, import_errors, lone_surrogates};
 use crate::names::{NamePlace, push_declared, push_part_names};
+use crate::objects::object_errors;
 use crate::private_names::{PrivateNames, is_private_member, undeclared_private_name};
 use crate::profile::Language;
 use crate::scopes::without_initializer;
@@ -61,6 +62,7 @@ pub(crate) enum OwnErrors {
     ExportAll,
     Export,
     Exports,
+    Object,
     Nothing,
 }
 
@@ -110,6 +112,7 @@ fn own_of_2022(kind: Kind) -> OwnErrors
         Kind::ExportAllDeclaration => OwnErrors::ExportAll,
         Kind::ExportNamedDeclaration => OwnErrors::Export,
         Kind::Program => OwnErrors::Exports,
+        Kind::ObjectExpression => OwnErrors::Object,
         _ => OwnErrors::Nothing,
     }
 }
@@ -182,7 +185,7 @@ fn nameless_errors(
 {
     let around = surroundings.around;
     match own {
-        OwnErrors::Member => member_errors(alloc, node, found),
+        OwnErrors::Member => Ok(member_errors(node, found)),
         OwnErrors::Template => template_errors(alloc, node, around, found),
         OwnErrors::Delete => Ok(delete_errors(node, found)),
         OwnErrors::SuperProperty => Ok(super_errors(
@@ -199,7 +202,7 @@ fn nameless_errors(
         )),
         OwnErrors::Target => Ok(target_errors(node, around, surroundings.language, found)),
         OwnErrors::ClassElements => class_errors(alloc, node, found),
-        OwnErrors::Literal => Ok(literal_errors(node, surroundings.language.is_2022, found)),
+        OwnErrors::Literal => literal_errors(alloc, node, surroundings.language.is_2022, found),
         own => errors_of_2022(alloc, node, own, surroundings, found),
     }
 }
@@ -221,12 +224,13 @@ fn errors_of_2022(
         OwnErrors::PrivateName => Ok(undeclared_private_name(node, surroundings.privates, found)),
         OwnErrors::Yield => Ok(yield_errors(node, around, found)),
         OwnErrors::Await => Ok(await_errors(node, around, found)),
-        OwnErrors::Field => field_errors(alloc, node, found),
+        OwnErrors::Field => Ok(field_errors(node, found)),
         OwnErrors::Import => import_errors(alloc, node, found),
         OwnErrors::ModuleNames => lone_surrogates(alloc, node, node.part_count(), found),
         OwnErrors::ExportAll => lone_surrogates(alloc, node, 1, found),
         OwnErrors::Export => Ok(export_errors(node, found)),
         OwnErrors::Exports => exports_errors(alloc, node, found),
+        OwnErrors::Object => Ok(object_errors(node, surroundings.language.is_2022, found)),
         _ => Ok(found),
     }
 }

@@ -16,6 +16,7 @@ use crate::around::is_method;
 use crate::conflicts::is_restricted;
 use crate::literals::{begins_with_slash, either};
 use crate::names::lexical_as;
+use crate::objects::has_proto;
 use crate::own::may_not_delete;
 use name_tables::{Lexical, PatternNames, declaration_of, lexical_of, pattern_names_of};
 use tree::{Kind, Node};
@@ -38,6 +39,7 @@ pub(crate) enum SkipTest {
     Target,
     Operator,
     Form,
+    Object,
     Items,
     Declaration,
     Nothing,
@@ -97,6 +99,7 @@ fn skip_test_of_2022(kind: Kind) -> SkipTest
         | Kind::ExportSpecifier
         | Kind::ExportNamedDeclaration
         | Kind::ExportAllDeclaration => SkipTest::Nothing,
+        Kind::ObjectExpression => SkipTest::Object,
         _ => SkipTest::Kind,
     }
 }
@@ -126,6 +129,7 @@ fn where_by(telling: SkipTest, node: Node, no_arguments: bool) -> ErrorPlaces
         SkipTest::Target => in_parts_unless(binds_restricted(node.part(0))),
         SkipTest::Operator => in_parts_unless(may_not_delete(node)),
         SkipTest::Form => in_parts_unless(either(no_arguments, is_method(node.flags().form))),
+        SkipTest::Object => in_parts_unless(has_proto(node)),
         SkipTest::Items => in_parts_unless(declares_names(node)),
         SkipTest::Declaration => in_parts_unless(declares_more(node)),
         _ => ErrorPlaces::Anywhere,

@@ -2,7 +2,7 @@
 use Rattle.std.proofs.Common.{◌≡◌, ◌≤◌, ◌&&◌, nat_le, nat_eq, ap, ℕ, List, [], ◌∷◌, length, Bool, true, false, refl, sym, subst, ◌∙◌, Option, Some, None, Result, Ok, Err, inl, inr}
 use Rattle.std.proofs.lemmas.Bool.{and_parts, and_from}
 use Rattle.source_text.specs.declared.fault.Fault.{Fault}
-use Rattle.source_text.specs.declared.fault.Fault.TheVariants.{NotUtf8, TooLong, Syntax, TooDeep, Early, OutOfMemory, BadSettings, BadTable, WriteFailed, ReadFailed, UnwrapFailed, Usage}
+use Rattle.source_text.specs.declared.fault.Fault.TheVariants.{NotUtf8, TooLong, Syntax, TooDeep, Early, OutOfMemory, BadSettings, BadTable, WriteFailed, ReadFailed, UnwrapFailed, FormatFailed, Usage}
 use Rattle.source_text.specs.declared.fault.Reason.{Reason}
 use Rattle.source_text.specs.declared.fault.Reason.TheVariants as reason
 use Rattle.commands.specs.declared.command.Command.TheVariants.{Cost, Verify}
@@ -83,8 +83,10 @@ from_other WriteFailed (bad_line r) other is = is
 from_other ReadFailed (is_table f t) other is = is
 from_other ReadFailed (bad_line r) other is = is
 from_other UnwrapFailed (is_table f t) other is = is
+from_other FormatFailed (is_table f t) other is = is
 from_other Usage (is_table f t) other is = is
 from_other UnwrapFailed (bad_line r) other is = is
+from_other FormatFailed (bad_line r) other is = is
 from_other Usage (bad_line r) other is = is
 from_other OutOfMemory x other is = other
 from_other (BadTable row why) x other is = other
@@ -102,6 +104,7 @@ table_refused given second BadSettings read is = absurd (from_other BadSettings 
 table_refused given second WriteFailed read is = absurd (from_other WriteFailed (read_text second) tt is)
 table_refused given second ReadFailed read is = absurd (from_other ReadFailed (read_text second) tt is)
 table_refused given second UnwrapFailed read is = absurd (from_other UnwrapFailed (read_text second) tt is)
+table_refused given second FormatFailed read is = absurd (from_other FormatFailed (read_text second) tt is)
 table_refused given second Usage read is = absurd (from_other Usage (read_text second) tt is)
 
 -- what is answered of a text that was read
@@ -160,6 +163,7 @@ no_table finds language text n P given (Early number at) failed read = absurd re
 no_table finds language text n P given BadSettings failed read = absurd read
 no_table finds language text n P given WriteFailed failed read = absurd read
 no_table finds language text n P given UnwrapFailed failed read = absurd read
+no_table finds language text n P given FormatFailed failed read = absurd read
 no_table finds language text n P given Usage failed read = absurd read
 
 -- where the table is sound
@@ -216,4 +220,5 @@ begins text BadSettings before after failed is = absurd is
 begins text (BadTable row why) before after failed is = absurd is
 begins text ReadFailed before after failed is = absurd is
 begins text UnwrapFailed before after failed is = absurd is
+begins text FormatFailed before after failed is = absurd is
 begins text Usage before after failed is = absurd is

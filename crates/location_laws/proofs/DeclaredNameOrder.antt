@@ -8,7 +8,7 @@ use Rattle.tree.specs.declared.kind.Flags.{Flags}
 use Rattle.tree.specs.Tree.{Tree, node, Parts, none, part, gap, start_of, stop_of, parts_of, parts_drop}
 use Rattle.language.specs.Vocabulary.{is}
 use Rattle.scopes.specs.declared.kind.BindingKind.{BindingKind}
-use Rattle.scopes.specs.declared.kind.BindingKind.TheVariants.{Function, Class, Import, Param, Catch, OwnName}
+use Rattle.scopes.specs.declared.kind.BindingKind.TheVariants.{Function, Class, Import, Param, Catch, FunctionName, ClassName}
 use Rattle.scopes.specs.declared.identifier_use.IdentifierUse.{IdentifierUse}
 use Rattle.scopes.specs.declared.identifier_use.IdentifierUse.TheVariants.{Body}
 use Rattle.scopes.specs.declared.names.DeclaredIn.{DeclaredIn}
@@ -259,7 +259,7 @@ module _ (Q : List ℕ → ℕ → ℕ → Type 0) (wide : (w : List ℕ) (s e :
   round_all_apart u Program w g s e ps h = each_apart item_names item_apart s e ps (h.3 refl)
   round_all_apart u StaticBlock w g s e ps h = each_apart item_names item_apart s e ps (h.3 refl)
   round_all_apart u ArrowFunctionExpression w g s e ps h = function_apart s e ps (h.3 refl)
-  round_all_apart u FunctionExpression w g s e ps h = first_names_apart OwnName s e ps (h.3 refl)
+  round_all_apart u FunctionExpression w g s e ps h = first_names_apart FunctionName s e ps (h.3 refl)
   round_all_apart Body BlockStatement w g s e ps h = tt
   round_all_apart u BlockStatement w g s e ps h = block_apart s e ps (h.3 refl)
   round_all_apart u CatchClause w g s e ps h = first_names_apart Catch s e ps (h.3 refl)
@@ -271,7 +271,7 @@ module _ (Q : List ℕ → ℕ → ℕ → Type 0) (wide : (w : List ℕ) (s e :
   pub round_others_apart : (k : Kind) (w : List ℕ) (g : Flags) (s e : ℕ) (ps : Parts) → Ordered Q (node k w g s e ps) → IfNames s e (scope_round_others k ps)
   round_others_apart FunctionDeclaration w g s e ps h = function_apart s e (parts_drop 1 ps) (dropped 1 s e ps (h.3 refl))
   round_others_apart FunctionExpression w g s e ps h = function_apart s e (parts_drop 1 ps) (dropped 1 s e ps (h.3 refl))
-  round_others_apart ClassDeclaration w g s e ps h = first_names_apart OwnName s e ps (h.3 refl)
-  round_others_apart ClassExpression w g s e ps h = first_names_apart OwnName s e ps (h.3 refl)
+  round_others_apart ClassDeclaration w g s e ps h = first_names_apart ClassName s e ps (h.3 refl)
+  round_others_apart ClassExpression w g s e ps h = first_names_apart ClassName s e ps (h.3 refl)
   round_others_apart SwitchStatement w g s e ps h = each_apart case_names case_apart s e (parts_drop 1 ps) (dropped 1 s e ps (h.3 refl))
   round_others_apart _ w g s e ps h = tt

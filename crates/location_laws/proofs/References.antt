@@ -9,7 +9,7 @@ use Rattle.tree.specs.Tree.{Tree, node, Parts, none, part, gap, start_of, stop_o
 use Rattle.language.specs.Vocabulary.{is}
 use Rattle.scopes.specs.declared.identifier_use.IdentifierUse.{IdentifierUse}
 use Rattle.scopes.specs.declared.identifier_use.IdentifierUse.TheVariants.{NoReference, Read}
-use Rattle.scopes.specs.Roles.{part_role, is_reference, does_read, does_write, is_typeof_operand}
+use Rattle.scopes.specs.Roles.{part_role, is_reference, does_read, does_write, is_called, is_constructed, is_typeof_operand}
 use Rattle.scopes.specs.Bindings.{Binding}
 use Rattle.scopes.specs.Openings.{scope_round_all, scope_round_others}
 use Rattle.scopes.specs.Found.{Around, Reference, Found, Inside, nearest, scope_of, nothing, own_reference, enter, in_scope, at_place, round_others, found_in, all_parts, parts_from, outside, found}
@@ -57,7 +57,7 @@ module _ (Q : List ℕ → ℕ → ℕ → Type 0) (wide : (w : List ℕ) (s e :
     where
       of : (b : Bool) →
           RefsApart s e
-          (cond b (record { name = w; scope = unwrap_or (scope_of z.frames) 0; reads = does_read z.role; writes = does_write z.role; start = s; stop = e; typeof_operand = is_typeof_operand z.role; meaning = nearest w z.frames } ∷ []) [])
+          (cond b (record { name = w; scope = unwrap_or (scope_of z.frames) 0; reads = does_read z.role; writes = does_write z.role; start = s; stop = e; typeof_operand = is_typeof_operand z.role; called = is_called z.role; constructed = is_constructed z.role; meaning = nearest w z.frames } ∷ []) [])
       of true = let l = wide w s e q in (omega arith, l, q, omega arith)
       of false = let l = wide w s e q in omega (arith, l)
 

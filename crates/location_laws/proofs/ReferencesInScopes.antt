@@ -9,7 +9,7 @@ use Rattle.tree.specs.declared.kind.Flags.{Flags}
 use Rattle.tree.specs.Tree.{Tree, node, Parts, none, part, gap, kind_of, start_of, stop_of, part_at, part_count}
 use Rattle.language.specs.Vocabulary.{is}
 use Rattle.language.specs.Derivation.{Among, first, later}
-use Rattle.scopes.specs.Roles.{is_reference, does_read, does_write, is_typeof_operand}
+use Rattle.scopes.specs.Roles.{is_reference, does_read, does_write, is_called, is_constructed, is_typeof_operand}
 use Rattle.scopes.specs.Bindings.{Binding}
 use Rattle.scopes.specs.Openings.{scope_round_all, scope_round_others}
 use Rattle.scopes.specs.Found.{Frame, Around, Reference, Scope, Found, Inside, nearest, scope_of, nothing, joined, own_reference, enter, in_scope, one_part, at_place, round_others, found_in, all_parts, parts_from, outside, found}
@@ -114,7 +114,7 @@ module _ (L : List SourceRange) where
     where
       of : (b : Bool) →
           InScopes
-          (cond b (record { name = w; scope = unwrap_or (scope_of z.frames) 0; reads = does_read z.role; writes = does_write z.role; start = s; stop = e; typeof_operand = is_typeof_operand z.role; meaning = nearest w z.frames } ∷ []) [])
+          (cond b (record { name = w; scope = unwrap_or (scope_of z.frames) 0; reads = does_read z.role; writes = does_write z.role; start = s; stop = e; typeof_operand = is_typeof_operand z.role; called = is_called z.role; constructed = is_constructed z.role; meaning = nearest w z.frames } ∷ []) [])
       of true = (r, tt)
       of false = tt
 

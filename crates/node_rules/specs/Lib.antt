@@ -1,7 +1,10 @@
 pub mod PartTests
 pub mod Words
 pub mod Searches
+pub mod KindSets
+pub mod Values
 pub mod Tests
+pub mod ExpressionTests
 pub mod Arounds
 pub mod Over
 pub mod Rows

@@ -1,105 +1,166 @@
 -- Rules that look at single nodes, row by row: the name, the kinds of nodes that a rule looks at, which of these it reports, where, and what it says.
-use Rattle.std.specs.Prelude.{ℕ, Bool, true, false, not, cond, ◌&&◌, ◌||◌, nat_lt, List, [], ◌∷◌, ◌++◌, Option, Some, None, is_some, codes}
+use Rattle.std.specs.Prelude.{ℕ, Bool, true, false, not, cond, ◌&&◌, ◌||◌, nat_eq, List, [], ◌∷◌, ◌++◌, Option, Some, None, is_none, is_some, codes}
 use Rattle.tree.specs.declared.kind.Kind.{Kind}
-use Rattle.tree.specs.declared.kind.Kind.TheVariants.{ArrayExpression, ArrayPattern, BinaryExpression, BlockStatement, CallExpression, ClassDeclaration, ConditionalExpression, DebuggerStatement, DoWhileStatement, EmptyStatement, ForStatement, FunctionDeclaration, FunctionExpression, IfStatement, LabeledStatement, NewExpression, ObjectPattern, ReturnStatement, StaticBlock, SwitchCase, SwitchStatement, TryStatement, UnaryExpression, VariableDeclaration, WhileStatement}
+use Rattle.tree.specs.declared.kind.Kind.TheVariants.{BinaryExpression, SwitchStatement}
 use Rattle.tree.specs.declared.kind.Span.{Span}
-use Rattle.tree.specs.Tree.{Tree, kind_of, text_of, parts_of}
+use Rattle.tree.specs.declared.kind.Flags.{Flags}
+use Rattle.tree.specs.Tree.{Tree, flags_of, kind_of, text_of, parts_of}
 use Rattle.language.specs.Vocabulary.{is}
 use Rattle.rule_words.specs.Reports.{Report}
 use Rattle.node_rules.specs.declared.around.Around.{Around}
 use Rattle.node_rules.specs.declared.node_rule.NodeOptions.{NodeOptions}
 use Rattle.node_rules.specs.declared.node_rule.NodeRule.{NodeRule}
-use Rattle.node_rules.specs.declared.node_rule.NodeRule.TheVariants.{EqEqEq, ForDirection, NoAsyncPromiseExecutor, NoCaseDeclarations, NoCompareNegZero, NoDebugger, NoEmpty, NoEmptyPattern, NoEmptyStaticBlock, NoExtraBooleanCast, NoExtraSemi, NoInnerDeclarations, NoPrototypeBuiltins, NoSetterReturn, NoSparseArrays, NoUnusedLabels, NoUselessCatch, NoVar, RequireYield, UseIsNan, ValidTypeof}
+use Rattle.node_rules.specs.declared.node_rule.NodeRule.TheVariants.{Curly, EqEqEq, ForDirection, NoArrayConstructor, NoAsyncPromiseExecutor, NoCaller, NoCaseDeclarations, NoCompareNegZero, NoDebugger, NoEmpty, NoEmptyPattern, NoEmptyStaticBlock, NoEval, NoExtraBooleanCast, NoExtraSemi, NoImplicitCoercion, NoInnerDeclarations, NoLabels, NoLonelyIf, NoMultiAssign, NoMultiStr, NoNestedTernary, NoNew, NoNewFunc, NoNewObject, NoNewWrappers, NoProto, NoPrototypeBuiltins, NoSetterReturn, NoSparseArrays, NoUnneededTernary, NoUnsafeNegation, NoUnusedExpressions, NoUnusedLabels, NoUselessCatch, NoUselessComputedKey, NoUselessRename, NoVar, NoVoid, ObjectShorthand, Radix, RequireYield, UseIsNan, ValidTypeof, Yoda}
 use Rattle.node_rules.specs.declared.search.Sought.TheVariants.{Jump}
 use Rattle.node_rules.specs.PartTests.{any_part, is_gap, is_null}
+use Rattle.node_rules.specs.KindSets.{compares, declares, destructures, gets_value, has_body, has_statement_list, is_array, is_assignment, is_binary, is_call, is_case, is_conditional, is_debugger, is_empty_statement, is_expression_statement, is_for, is_function_declaration, is_if, is_labelled, is_literal_kind, is_member_expression, is_new, is_object, is_operation, is_own_function, is_plain_call, is_property, is_return, is_short_body, is_static_block, is_try, is_unary_kind, is_variable_declaration, makes_boolean, may_have_label, renames}
 use Rattle.node_rules.specs.Searches.{has_sought}
-use Rattle.node_rules.specs.Words.{is_async_function, is_comparison, is_empty, is_equality, is_name, nth, span_at, span_of, text_at, unchained}
-use Rattle.node_rules.specs.Tests.{compares_nan, has_body, is_builtin_test, is_case, is_cast, is_empty_node, is_lexical, is_minus_zero, is_never_typeof, is_outermost, never_yields, only_throws, runs_away, tested}
+use Rattle.node_rules.specs.Words.{is_async_function, is_comparison, is_empty, is_equality, is_key_part, is_name, is_string, kind_at, nth, span_at, span_of, text_at, unchained}
+use Rattle.node_rules.specs.Tests.{compares_nan, first_of, is_builtin_test, is_cast, is_empty_node, is_lexical, is_minus_zero, is_never_typeof, is_outermost, never_yields, only_throws, runs_away, tested}
+use Rattle.node_rules.specs.Values.{is_boolean, is_constant_key, is_fixed, is_split_string}
+use Rattle.node_rules.specs.ExpressionTests.{coercion_words, is_bare_body, is_caller, is_coercion, is_lonely_if, is_long_property, is_negated_side, is_parse_int, is_used, is_wrapper, keeps_name, lacks_radix, may_rename}
 
 abbrev pub called : NodeRule → List ℕ
+called Curly = codes "curly"
 called EqEqEq = codes "eqeqeq"
 called ForDirection = codes "for-direction"
+called NoArrayConstructor = codes "no-array-constructor"
 called NoAsyncPromiseExecutor = codes "no-async-promise-executor"
+called NoCaller = codes "no-caller"
 called NoCaseDeclarations = codes "no-case-declarations"
 called NoCompareNegZero = codes "no-compare-neg-zero"
 called NoDebugger = codes "no-debugger"
 called NoEmpty = codes "no-empty"
 called NoEmptyPattern = codes "no-empty-pattern"
 called NoEmptyStaticBlock = codes "no-empty-static-block"
+called NoEval = codes "no-eval"
 called NoExtraBooleanCast = codes "no-extra-boolean-cast"
 called NoExtraSemi = codes "no-extra-semi"
+called NoImplicitCoercion = codes "no-implicit-coercion"
 called NoInnerDeclarations = codes "no-inner-declarations"
+called NoLabels = codes "no-labels"
+called NoLonelyIf = codes "no-lonely-if"
+called NoMultiAssign = codes "no-multi-assign"
+called NoMultiStr = codes "no-multi-str"
+called NoNestedTernary = codes "no-nested-ternary"
+called NoNew = codes "no-new"
+called NoNewFunc = codes "no-new-func"
+called NoNewObject = codes "no-new-object"
+called NoNewWrappers = codes "no-new-wrappers"
+called NoProto = codes "no-proto"
 called NoPrototypeBuiltins = codes "no-prototype-builtins"
 called NoSetterReturn = codes "no-setter-return"
 called NoSparseArrays = codes "no-sparse-arrays"
+called NoUnneededTernary = codes "no-unneeded-ternary"
+called NoUnsafeNegation = codes "no-unsafe-negation"
+called NoUnusedExpressions = codes "no-unused-expressions"
 called NoUnusedLabels = codes "no-unused-labels"
 called NoUselessCatch = codes "no-useless-catch"
+called NoUselessComputedKey = codes "no-useless-computed-key"
+called NoUselessRename = codes "no-useless-rename"
 called NoVar = codes "no-var"
+called NoVoid = codes "no-void"
+called ObjectShorthand = codes "object-shorthand"
+called Radix = codes "radix"
 called RequireYield = codes "require-yield"
 called UseIsNan = codes "use-isnan"
 called ValidTypeof = codes "valid-typeof"
+called Yoda = codes "yoda"
 
 abbrev pub looks : NodeRule → Kind → Bool
-looks EqEqEq BinaryExpression = true
-looks ForDirection ForStatement = true
-looks NoAsyncPromiseExecutor NewExpression = true
-looks NoCaseDeclarations VariableDeclaration = true
-looks NoCaseDeclarations FunctionDeclaration = true
-looks NoCaseDeclarations ClassDeclaration = true
-looks NoCompareNegZero BinaryExpression = true
-looks NoDebugger DebuggerStatement = true
-looks NoEmpty BlockStatement = true
-looks NoEmpty SwitchStatement = true
-looks NoEmptyPattern ArrayPattern = true
-looks NoEmptyPattern ObjectPattern = true
-looks NoEmptyStaticBlock StaticBlock = true
-looks NoExtraBooleanCast IfStatement = true
-looks NoExtraBooleanCast WhileStatement = true
-looks NoExtraBooleanCast ConditionalExpression = true
-looks NoExtraBooleanCast DoWhileStatement = true
-looks NoExtraBooleanCast ForStatement = true
-looks NoExtraBooleanCast UnaryExpression = true
-looks NoExtraBooleanCast CallExpression = true
-looks NoExtraBooleanCast NewExpression = true
-looks NoExtraSemi EmptyStatement = true
-looks NoInnerDeclarations FunctionDeclaration = true
-looks NoPrototypeBuiltins CallExpression = true
-looks NoSetterReturn ReturnStatement = true
-looks NoSparseArrays ArrayExpression = true
-looks NoUnusedLabels LabeledStatement = true
-looks NoUselessCatch TryStatement = true
-looks NoVar VariableDeclaration = true
-looks RequireYield FunctionExpression = true
-looks RequireYield FunctionDeclaration = true
-looks UseIsNan BinaryExpression = true
-looks UseIsNan SwitchStatement = true
-looks UseIsNan SwitchCase = true
-looks ValidTypeof BinaryExpression = true
-looks _ _ = false
+looks Curly kind = is_short_body kind
+looks EqEqEq kind = is_binary kind
+looks ForDirection kind = is_for kind
+looks NoArrayConstructor kind = is_call kind
+looks NoAsyncPromiseExecutor kind = is_new kind
+looks NoCaller kind = is_member_expression kind
+looks NoCaseDeclarations kind = declares kind
+looks NoCompareNegZero kind = is_binary kind
+looks NoDebugger kind = is_debugger kind
+looks NoEmpty kind = has_statement_list kind
+looks NoEmptyPattern kind = destructures kind
+looks NoEmptyStaticBlock kind = is_static_block kind
+looks NoEval kind = is_plain_call kind
+looks NoExtraBooleanCast kind = makes_boolean kind
+looks NoExtraSemi kind = is_empty_statement kind
+looks NoImplicitCoercion kind = is_operation kind
+looks NoInnerDeclarations kind = is_function_declaration kind
+looks NoLabels kind = may_have_label kind
+looks NoLonelyIf kind = is_if kind
+looks NoMultiAssign kind = is_assignment kind
+looks NoMultiStr kind = is_literal_kind kind
+looks NoNestedTernary kind = is_conditional kind
+looks NoNew kind = is_expression_statement kind
+looks NoNewFunc kind = is_call kind
+looks NoNewObject kind = is_new kind
+looks NoNewWrappers kind = is_new kind
+looks NoProto kind = is_member_expression kind
+looks NoPrototypeBuiltins kind = is_plain_call kind
+looks NoSetterReturn kind = is_return kind
+looks NoSparseArrays kind = is_array kind
+looks NoUnneededTernary kind = is_conditional kind
+looks NoUnsafeNegation kind = is_binary kind
+looks NoUnusedExpressions kind = is_expression_statement kind
+looks NoUnusedLabels kind = is_labelled kind
+looks NoUselessCatch kind = is_try kind
+looks NoUselessComputedKey kind = is_property kind
+looks NoUselessRename kind = renames kind
+looks NoVar kind = is_variable_declaration kind
+looks NoVoid kind = is_unary_kind kind
+looks ObjectShorthand kind = is_property kind
+looks Radix kind = is_plain_call kind
+looks RequireYield kind = is_own_function kind
+looks UseIsNan kind = compares kind
+looks ValidTypeof kind = is_binary kind
+looks Yoda kind = is_binary kind
 
 -- the source is the text of the script
 abbrev pub holds : NodeOptions → (source : List ℕ) → NodeRule → Around → Tree → Bool
+holds options source Curly around tree = is_bare_body around tree
 holds options source EqEqEq around tree = (is (text_of tree) "==" || is (text_of tree) "!=") && not (options.allow_null && any_part is_null (parts_of tree))
 holds options source ForDirection around tree = runs_away (nth 1 tree) (nth 2 tree)
+holds options source NoArrayConstructor around tree = is_name (codes "Array") (nth 0 tree) && (is_none (nth 1 tree) || is_some (nth 2 tree))
 holds options source NoAsyncPromiseExecutor around tree = is_name (codes "Promise") (nth 0 tree) && is_async_function (nth 1 tree)
+holds options source NoCaller around tree = is_caller tree
 holds options source NoCaseDeclarations around tree = is_case around.parent && is_lexical tree
 holds options source NoCompareNegZero around tree = is_comparison (text_of tree) && (is_minus_zero (nth 0 tree) || is_minus_zero (nth 1 tree))
 holds options source NoDebugger around tree = true
 holds options source NoEmpty around tree = is_empty_node options source around tree
 holds options source NoEmptyPattern around tree = is_empty (parts_of tree)
 holds options source NoEmptyStaticBlock around tree = is_empty (parts_of tree)
+holds options source NoEval around tree = is_name (codes "eval") (nth 0 tree)
 holds options source NoExtraBooleanCast around tree = is_cast tree
 holds options source NoExtraSemi around tree = not (has_body around.parent)
+holds options source NoImplicitCoercion around tree = is_coercion tree
 holds options source NoInnerDeclarations around tree = not (is_outermost around.parent around.grandparent)
+holds options source NoLabels around tree = is_some (nth 0 tree)
+holds options source NoLonelyIf around tree = is_lonely_if tree
+holds options source NoMultiAssign around tree = gets_value around.parent && nat_eq around.place 1
+holds options source NoMultiStr around tree = is_split_string (text_of tree)
+holds options source NoNestedTernary around tree = is_conditional (kind_at (nth 1 tree)) || is_conditional (kind_at (nth 2 tree))
+holds options source NoNew around tree = is_new (kind_at (nth 0 tree))
+holds options source NoNewFunc around tree = is_name (codes "Function") (nth 0 tree)
+holds options source NoNewObject around tree = is_name (codes "Object") (nth 0 tree)
+holds options source NoNewWrappers around tree = is_wrapper (nth 0 tree)
+holds options source NoProto around tree = is_key_part (codes "__proto__") (flags_of tree).computed (nth 1 tree)
 holds options source NoPrototypeBuiltins around tree = is_builtin_test (unchained (nth 0 tree))
 holds options source NoSetterReturn around tree = around.in_setter && is_some (nth 0 tree)
 holds options source NoSparseArrays around tree = any_part is_gap (parts_of tree)
+holds options source NoUnneededTernary around tree = is_boolean (nth 1 tree) && is_boolean (nth 2 tree)
+holds options source NoUnsafeNegation around tree = is_negated_side tree
+holds options source NoUnusedExpressions around tree = not (flags_of tree).directive && not (is_used (unchained (nth 0 tree)))
 holds options source NoUnusedLabels around tree = not (has_sought Jump (text_at (nth 0 tree)) (nth 1 tree))
 holds options source NoUselessCatch around tree = only_throws (nth 1 tree)
+holds options source NoUselessComputedKey around tree = (flags_of tree).computed && (is_constant_key (nth 0 tree) && not (is_string (codes "__proto__") (nth 0 tree)))
+holds options source NoUselessRename around tree = may_rename around.parent (kind_of tree) && keeps_name tree
 holds options source NoVar around tree = is (text_of tree) "var"
+holds options source NoVoid around tree = is (text_of tree) "void"
+holds options source ObjectShorthand around tree = is_object around.parent && is_long_property tree
+holds options source Radix around tree = is_parse_int (unchained (nth 0 tree)) && lacks_radix tree
 holds options source RequireYield around tree = never_yields tree
 holds options source UseIsNan around tree = compares_nan tree
 holds options source ValidTypeof around tree = is_equality (text_of tree) && (is_never_typeof (nth 0 tree) (nth 1 tree) || is_never_typeof (nth 1 tree) (nth 0 tree))
+holds options source Yoda around tree = is_comparison (text_of tree) && (is_fixed (nth 0 tree) && not (is_fixed (nth 1 tree)))
 
 -- the `catch`, or the whole statement where nothing follows it
 abbrev pub useless_catch : Tree → Span
@@ -113,7 +174,9 @@ key_place tree (Some member) = span_at tree (nth 1 member)
 -- a report stands at the node, unless said otherwise
 abbrev pub place : NodeRule → Tree → Span
 place NoAsyncPromiseExecutor tree = span_at tree (nth 1 tree)
+place NoEval tree = span_at tree (nth 0 tree)
 place NoExtraBooleanCast tree = span_at tree (tested tree)
+place NoLonelyIf tree = span_at tree (first_of (nth 2 tree))
 place NoPrototypeBuiltins tree = key_place tree (unchained (nth 0 tree))
 place NoUnusedLabels tree = span_at tree (nth 0 tree)
 place NoUselessCatch tree = useless_catch tree
@@ -129,27 +192,51 @@ nan_words BinaryExpression = codes "use Number.isNaN"
 nan_words _ = codes "no case equals NaN"
 
 abbrev pub says : NodeRule → Tree → List ℕ
+says Curly tree = codes "expected a block"
 says EqEqEq tree = cond (is (text_of tree) "==") (codes "use '===' instead of '=='") (codes "use '!==' instead of '!='")
 says ForDirection tree = codes "the counter goes away from its bound"
+says NoArrayConstructor tree = codes "use an array literal"
 says NoAsyncPromiseExecutor tree = codes "async executor"
+says NoCaller tree = codes "throws in strict code"
 says NoCaseDeclarations tree = codes "declaration in a case"
 says NoCompareNegZero tree = codes "no comparison tells -0 from 0"
 says NoDebugger tree = codes "debugger statement"
 says NoEmpty tree = empty_words (kind_of tree)
 says NoEmptyPattern tree = codes "empty pattern"
 says NoEmptyStaticBlock tree = codes "empty static block"
+says NoEval tree = codes "code from text"
 says NoExtraBooleanCast tree = codes "a condition is made a boolean anyway"
 says NoExtraSemi tree = codes "empty statement"
+says NoImplicitCoercion tree = coercion_words tree
 says NoInnerDeclarations tree = codes "function declaration in a block"
+says NoLabels tree = codes "label"
+says NoLonelyIf tree = codes "'if' alone in 'else'"
+says NoMultiAssign tree = codes "chained assignment"
+says NoMultiStr tree = codes "string over several lines"
+says NoNestedTernary tree = codes "conditional in a conditional"
+says NoNew tree = codes "new object without use"
+says NoNewFunc tree = codes "code from text"
+says NoNewObject tree = codes "use an object literal"
+says NoNewWrappers tree = codes "wrapper object"
+says NoProto tree = codes "use Object.getPrototypeOf"
 says NoPrototypeBuiltins tree = codes "call it by Object.prototype"
 says NoSetterReturn tree = codes "setter returns a value"
 says NoSparseArrays tree = codes "array with a hole"
+says NoUnneededTernary tree = codes "the test says it"
+says NoUnsafeNegation tree = codes "'!' belongs to the left side alone"
+says NoUnusedExpressions tree = codes "expression without use"
 says NoUnusedLabels tree = codes "label is never used"
 says NoUselessCatch tree = codes "catch that only throws again"
+says NoUselessComputedKey tree = codes "brackets round a constant key"
+says NoUselessRename tree = codes "renamed to its own name"
 says NoVar tree = codes "use let or const instead of var"
+says NoVoid tree = codes "void"
+says ObjectShorthand tree = codes "use a shorthand"
+says Radix tree = codes "no radix from 2 to 36"
 says RequireYield tree = codes "generator without yield"
 says UseIsNan tree = nan_words (kind_of tree)
 says ValidTypeof tree = codes "typeof is never this"
+says Yoda tree = codes "the constant stands first"
 
 abbrev pub report_of : NodeRule → Tree → Report
 report_of rule tree = record { start = (place rule tree).start; stop = (place rule tree).end; rule = called rule; text = says rule tree }

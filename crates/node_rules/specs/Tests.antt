@@ -13,17 +13,15 @@ use Rattle.language.specs.Vocabulary.{is}
 use Rattle.node_rules.specs.declared.around.Around.{Around}
 use Rattle.node_rules.specs.declared.node_rule.NodeOptions.{NodeOptions}
 use Rattle.node_rules.specs.declared.search.Sought.TheVariants.{Yield}
+use Rattle.node_rules.specs.KindSets.{is_binary, is_switch}
 use Rattle.node_rules.specs.Searches.{has_sought}
+use Rattle.node_rules.specs.Values.{is_plain_template, is_template_of}
 use Rattle.node_rules.specs.Words.{is_comparison, is_empty, is_equality, is_identifier, is_member, is_name, is_positive, is_string, is_unary, is_zero, nth, object_of, operand, text_at, unchained}
 
 -- A comment stands in an empty block, from its `{` to behind its `}`: there is only white space and comments between the two, and of all these only a
 -- comment has a `/`.
 abbrev pub has_comment : List ℕ → ℕ → ℕ → Bool
 has_comment source from to = list_any (λ b. nat_eq b 47) (slice_range source from to)
-
-abbrev pub is_switch : Kind → Bool
-is_switch SwitchStatement = true
-is_switch _ = false
 
 -- a switch without cases; a block without statements that is no function's body, and that the settings don't let be for a comment in it
 abbrev pub is_empty_node : NodeOptions → (source : List ℕ) → Around → Tree → Bool
@@ -38,28 +36,28 @@ is_minus_zero it = is_zero (operand (codes "-") it)
 abbrev pub is_nan_value : Option Tree → Bool
 is_nan_value it = is_name (codes "NaN") it || (is_name (codes "Number") (object_of it) && is_member (codes "NaN") it)
 
-abbrev pub is_binary : Kind → Bool
-is_binary BinaryExpression = true
-is_binary _ = false
-
 -- a comparison with it; a switch over it, a case of it
 abbrev pub compares_nan : Tree → Bool
 compares_nan tree = cond (is_binary (kind_of tree)) (is_comparison (text_of tree) && (is_nan_value (nth 0 tree) || is_nan_value (nth 1 tree))) (is_nan_value (nth 0 tree))
 
+-- a string of this value, or a template without substitutions of this raw text
+abbrev pub says_text : List ℕ → Option Tree → Bool
+says_text value it = is_string value it || is_template_of value it
+
 -- one of the strings that `typeof` gives (Table 37, 12.5.5)
 abbrev pub is_typeof_value : Option Tree → Bool
 is_typeof_value it =
-    is_string (codes "undefined") it || (is_string (codes "object") it || (is_string (codes "boolean") it || (is_string (codes "number") it
-    || (is_string (codes "bigint") it || (is_string (codes "string") it || (is_string (codes "symbol") it || is_string (codes "function") it))))))
+    says_text (codes "undefined") it || (says_text (codes "object") it || (says_text (codes "boolean") it || (says_text (codes "number") it
+    || (says_text (codes "bigint") it || (says_text (codes "string") it || (says_text (codes "symbol") it || says_text (codes "function") it))))))
 
 abbrev pub is_literal : Option Tree → Bool
 is_literal None = false
 is_literal (Some (node Literal text flags from to parts)) = true
 is_literal (Some (node _ text flags from to parts)) = false
 
--- a `typeof`, and on the other side what it never is
+-- a `typeof`, and on the other side a literal, or a template without substitutions and escapes, that it never is
 abbrev pub is_never_typeof : Option Tree → Option Tree → Bool
-is_never_typeof one other = is_unary (codes "typeof") one && (is_literal other && not (is_typeof_value other))
+is_never_typeof one other = is_unary (codes "typeof") one && ((is_literal other || is_plain_template other) && not (is_typeof_value other))
 
 -- the members of Object.prototype (19.1.3) that tell what an object has
 abbrev pub is_builtin_test : Option Tree → Bool
@@ -86,21 +84,6 @@ only_throws (Some (node _ text flags from to parts)) = false
 abbrev pub is_lexical : Tree → Bool
 is_lexical (node VariableDeclaration text flags from to parts) = not (is text "var")
 is_lexical (node _ text flags from to parts) = true
-
-abbrev pub is_case : Kind → Bool
-is_case SwitchCase = true
-is_case _ = false
-
--- statements that have one as their body
-abbrev pub has_body : Kind → Bool
-has_body ForStatement = true
-has_body ForInStatement = true
-has_body ForOfStatement = true
-has_body WhileStatement = true
-has_body DoWhileStatement = true
-has_body IfStatement = true
-has_body LabeledStatement = true
-has_body _ = false
 
 -- a function declaration stands here as an item of a script, of a function's body or of a static block, or is exported
 abbrev pub is_outermost : (parent grandparent : Kind) → Bool
@@ -139,14 +122,8 @@ calls_boolean None = false
 calls_boolean (Some (node CallExpression text flags from to parts)) = is_name (codes "Boolean") (part_at parts 0)
 calls_boolean (Some (node _ text flags from to parts)) = false
 
--- the argument of `Boolean` may be a call of it
-abbrev pub is_call : Kind → Bool
-is_call CallExpression = true
-is_call NewExpression = true
-is_call _ = false
-
 abbrev pub is_cast : Tree → Bool
-is_cast tree = is_double_not (tested tree) || (not (is_call (kind_of tree)) && calls_boolean (tested tree))
+is_cast tree = is_double_not (tested tree) || calls_boolean (tested tree)
 
 -- an assignment takes a number away, or adds one: by `-=` of a positive number or `+=` of a negative one
 abbrev pub adds_away : Bool → List ℕ → Option Tree → Bool

@@ -3,7 +3,7 @@ use Rattle.std.specs.Prelude.{ℕ, Bool, true, false, ◌&&◌, ◌||◌, nat_eq
 use Rattle.std.specs.Str.{bytes_eq, chars}
 use Rattle.tokens.specs.Strings.{string_units}
 use Rattle.tree.specs.declared.kind.Kind.{Kind}
-use Rattle.tree.specs.declared.kind.Kind.TheVariants.{ArrowFunctionExpression, CallExpression, ChainExpression, FunctionDeclaration, FunctionExpression, Identifier, Literal, MemberExpression, UnaryExpression}
+use Rattle.tree.specs.declared.kind.Kind.TheVariants.{ChainExpression, Identifier, Literal, MemberExpression, Program, UnaryExpression}
 use Rattle.tree.specs.declared.kind.Span.{Span}
 use Rattle.tree.specs.declared.kind.Flags.{Flags}
 use Rattle.tree.specs.Kinds.{is_function}
@@ -31,6 +31,11 @@ span_at tree (Some inner) = span_of inner
 abbrev pub text_at : Option Tree → List ℕ
 text_at None = []
 text_at (Some tree) = text_of tree
+
+-- the kind of a part; that of a Program, which is a part of nothing, where it is missing
+abbrev pub kind_at : Option Tree → Kind
+kind_at None = Program
+kind_at (Some tree) = kind_of tree
 
 -- a name, any or this one
 abbrev pub is_identifier : Option Tree → Bool

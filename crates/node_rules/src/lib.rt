@@ -7,12 +7,15 @@
 
 mod around;
 mod due_rules;
+mod expression_tests;
 mod kind_number;
+mod kind_sets;
 pub mod laws;
 mod node_rule;
 mod part_test;
 mod search;
 mod tests;
+mod values;
 mod walk;
 mod words;
 

@@ -11,66 +11,128 @@ ghost use Rattle.node_rules.specs.declared.node_rule.NodeRule.TheVariants.{Valid
 ghost use Rattle.node_rules.specs.declared.search.Sought.TheVariants.{Jump};
 
 use crate::around::Around;
+use crate::expression_tests::{
+    coercion_words, is_bare_body, is_caller, is_coercion, is_lonely_if, is_long_property,
+    is_negated_side, is_parse_int, is_used, is_wrapper, keeps_name, lacks_radix, may_rename,
+};
+use crate::kind_sets::{
+    compares, declares, destructures, gets_value, has_body, has_statement_list, is_array,
+    is_assignment, is_binary, is_call, is_case, is_conditional, is_debugger, is_empty_statement,
+    is_expression_statement, is_for, is_function_declaration, is_if, is_labelled, is_literal_kind,
+    is_member_expression, is_new, is_object, is_operation, is_own_function, is_plain_call,
+    is_property, is_return, is_short_body, is_static_block, is_try, is_unary_kind,
+    is_variable_declaration, makes_boolean, may_have_label, renames,
+};
 use crate::part_test::{PartTest, any_part};
 use crate::search::{Search, Sought, has_sought};
 use crate::tests::{
-    compares_nan, has_body, is_builtin_test, is_case, is_cast, is_empty, is_empty_node, is_lexical,
+    compares_nan, first_of, is_builtin_test, is_cast, is_empty, is_empty_node, is_lexical,
     is_minus_zero, is_never_typeof, is_outermost, never_yields, only_throws, runs_away, tested,
 };
+use crate::values::{is_boolean, is_constant_key, is_fixed, is_split_string};
 use crate::words::{
-    is_async_function, is_comparison, is_equality, is_name, span_at, span_of, text_at, unchained,
+    is_async_function, is_comparison, is_equality, is_key_part, is_name, is_string, kind_at,
+    span_at, span_of, text_at, unchained,
 };
 use tree::{Kind, Node, Span};
 
 /// A rule that looks at single nodes.
 #[derive(Clone, Copy, Debug, PartialEq, Eq)]
 pub enum NodeRule {
+    Curly,
     EqEqEq,
     ForDirection,
+    NoArrayConstructor,
     NoAsyncPromiseExecutor,
+    NoCaller,
     NoCaseDeclarations,
     NoCompareNegZero,
     NoDebugger,
     NoEmpty,
     NoEmptyPattern,
     NoEmptyStaticBlock,
+    NoEval,
     NoExtraBooleanCast,
     NoExtraSemi,
+    NoImplicitCoercion,
     NoInnerDeclarations,
+    NoLabels,
+    NoLonelyIf,
+    NoMultiAssign,
+    NoMultiStr,
+    NoNestedTernary,
+    NoNew,
+    NoNewFunc,
+    NoNewObject,
+    NoNewWrappers,
+    NoProto,
     NoPrototypeBuiltins,
     NoSetterReturn,
     NoSparseArrays,
+    NoUnneededTernary,
+    NoUnsafeNegation,
+    NoUnusedExpressions,
     NoUnusedLabels,
     NoUselessCatch,
+    NoUselessComputedKey,
+    NoUselessRename,
     NoVar,
+    NoVoid,
+    ObjectShorthand,
+    Radix,
     RequireYield,
     UseIsNan,
     ValidTypeof,
+    Yoda,
 }
 
 /// The rules, in the order of their names.
-pub const NODE_RULES: [NodeRule; 21] = [
+pub const NODE_RULES: [NodeRule; 45] = [
+    NodeRule::Curly,
     NodeRule::EqEqEq,
     NodeRule::ForDirection,
+    NodeRule::NoArrayConstructor,
     NodeRule::NoAsyncPromiseExecutor,
+    NodeRule::NoCaller,
     NodeRule::NoCaseDeclarations,
     NodeRule::NoCompareNegZero,
     NodeRule::NoDebugger,
     NodeRule::NoEmpty,
     NodeRule::NoEmptyPattern,
     NodeRule::NoEmptyStaticBlock,
+    NodeRule::NoEval,
     NodeRule::NoExtraBooleanCast,
     NodeRule::NoExtraSemi,
+    NodeRule::NoImplicitCoercion,
     NodeRule::NoInnerDeclarations,
+    NodeRule::NoLabels,
+    NodeRule::NoLonelyIf,
+    NodeRule::NoMultiAssign,
+    NodeRule::NoMultiStr,
+    NodeRule::NoNestedTernary,
+    NodeRule::NoNew,
+    NodeRule::NoNewFunc,
+    NodeRule::NoNewObject,
+    NodeRule::NoNewWrappers,
+    NodeRule::NoProto,
     NodeRule::NoPrototypeBuiltins,
     NodeRule::NoSetterReturn,
     NodeRule::NoSparseArrays,
+    NodeRule::NoUnneededTernary,
+    NodeRule::NoUnsafeNegation,
+    NodeRule::NoUnusedExpressions,
     NodeRule::NoUnusedLabels,
     NodeRule::NoUselessCatch,
+    NodeRule::NoUselessComputedKey,
+    NodeRule::NoUselessRename,
     NodeRule::NoVar,
+    NodeRule::NoVoid,
+    NodeRule::ObjectShorthand,
+    NodeRule::Radix,
     NodeRule::RequireYield,
     NodeRule::UseIsNan,
     NodeRule::ValidTypeof,
+    NodeRule::Yoda,
 ];
 
 /// What rules on nodes ask of the settings.
@@ -91,27 +153,51 @@ impl NodeRule {
         ensures { result.now ≡ called self }
     {
         match self {
+            NodeRule::Curly => "curly",
             NodeRule::EqEqEq => "eqeqeq",
             NodeRule::ForDirection => "for-direction",
+            NodeRule::NoArrayConstructor => "no-array-constructor",
             NodeRule::NoAsyncPromiseExecutor => "no-async-promise-executor",
+            NodeRule::NoCaller => "no-caller",
             NodeRule::NoCaseDeclarations => "no-case-declarations",
             NodeRule::NoCompareNegZero => "no-compare-neg-zero",
             NodeRule::NoDebugger => "no-debugger",
             NodeRule::NoEmpty => "no-empty",
             NodeRule::NoEmptyPattern => "no-empty-pattern",
             NodeRule::NoEmptyStaticBlock => "no-empty-static-block",
+            NodeRule::NoEval => "no-eval",
             NodeRule::NoExtraBooleanCast => "no-extra-boolean-cast",
             NodeRule::NoExtraSemi => "no-extra-semi",
+            NodeRule::NoImplicitCoercion => "no-implicit-coercion",
             NodeRule::NoInnerDeclarations => "no-inner-declarations",
+            NodeRule::NoLabels => "no-labels",
+            NodeRule::NoLonelyIf => "no-lonely-if",
+            NodeRule::NoMultiAssign => "no-multi-assign",
+            NodeRule::NoMultiStr => "no-multi-str",
+            NodeRule::NoNestedTernary => "no-nested-ternary",
+            NodeRule::NoNew => "no-new",
+            NodeRule::NoNewFunc => "no-new-func",
+            NodeRule::NoNewObject => "no-new-object",
+            NodeRule::NoNewWrappers => "no-new-wrappers",
+            NodeRule::NoProto => "no-proto",
             NodeRule::NoPrototypeBuiltins => "no-prototype-builtins",
             NodeRule::NoSetterReturn => "no-setter-return",
             NodeRule::NoSparseArrays => "no-sparse-arrays",
+            NodeRule::NoUnneededTernary => "no-unneeded-ternary",
+            NodeRule::NoUnsafeNegation => "no-unsafe-negation",
+            NodeRule::NoUnusedExpressions => "no-unused-expressions",
             NodeRule::NoUnusedLabels => "no-unused-labels",
             NodeRule::NoUselessCatch => "no-useless-catch",
+            NodeRule::NoUselessComputedKey => "no-useless-computed-key",
+            NodeRule::NoUselessRename => "no-useless-rename",
             NodeRule::NoVar => "no-var",
+            NodeRule::NoVoid => "no-void",
+            NodeRule::ObjectShorthand => "object-shorthand",
+            NodeRule::Radix => "radix",
             NodeRule::RequireYield => "require-yield",
             NodeRule::UseIsNan => "use-isnan",
             NodeRule::ValidTypeof => "valid-typeof",
+            NodeRule::Yoda => "yoda",
         }
     }
 }
@@ -121,47 +207,51 @@ pub(crate) fn looks(rule: NodeRule, kind: Kind) -> bool
     ensures { result ≡ looks rule kind }
 {
     match rule {
-        NodeRule::EqEqEq | NodeRule::NoCompareNegZero | NodeRule::ValidTypeof => matches!(
-            kind,
-            Kind::BinaryExpression
-        ),
-        NodeRule::ForDirection => matches!(kind, Kind::ForStatement),
-        NodeRule::NoAsyncPromiseExecutor => matches!(kind, Kind::NewExpression),
-        NodeRule::NoCaseDeclarations => matches!(
-            kind,
-            Kind::VariableDeclaration | Kind::FunctionDeclaration | Kind::ClassDeclaration
-        ),
-        NodeRule::NoDebugger => matches!(kind, Kind::DebuggerStatement),
-        NodeRule::NoEmpty => matches!(kind, Kind::BlockStatement | Kind::SwitchStatement),
-        NodeRule::NoEmptyPattern => matches!(kind, Kind::ArrayPattern | Kind::ObjectPattern),
-        NodeRule::NoEmptyStaticBlock => matches!(kind, Kind::StaticBlock),
-        NodeRule::NoExtraBooleanCast => matches!(
-            kind,
-            Kind::IfStatement
-                | Kind::WhileStatement
-                | Kind::ConditionalExpression
-                | Kind::DoWhileStatement
-                | Kind::ForStatement
-                | Kind::UnaryExpression
-                | Kind::CallExpression
-                | Kind::NewExpression
-        ),
-        NodeRule::NoExtraSemi => matches!(kind, Kind::EmptyStatement),
-        NodeRule::NoInnerDeclarations => matches!(kind, Kind::FunctionDeclaration),
-        NodeRule::NoPrototypeBuiltins => matches!(kind, Kind::CallExpression),
-        NodeRule::NoSetterReturn => matches!(kind, Kind::ReturnStatement),
-        NodeRule::NoSparseArrays => matches!(kind, Kind::ArrayExpression),
-        NodeRule::NoUnusedLabels => matches!(kind, Kind::LabeledStatement),
-        NodeRule::NoUselessCatch => matches!(kind, Kind::TryStatement),
-        NodeRule::NoVar => matches!(kind, Kind::VariableDeclaration),
-        NodeRule::RequireYield => matches!(
-            kind,
-            Kind::FunctionExpression | Kind::FunctionDeclaration
-        ),
-        NodeRule::UseIsNan => matches!(
-            kind,
-            Kind::BinaryExpression | Kind::SwitchStatement | Kind::SwitchCase
-        ),
+        NodeRule::Curly => is_short_body(kind),
+        NodeRule::EqEqEq => is_binary(kind),
+        NodeRule::ForDirection => is_for(kind),
+        NodeRule::NoArrayConstructor => is_call(kind),
+        NodeRule::NoAsyncPromiseExecutor => is_new(kind),
+        NodeRule::NoCaller => is_member_expression(kind),
+        NodeRule::NoCaseDeclarations => declares(kind),
+        NodeRule::NoCompareNegZero => is_binary(kind),
+        NodeRule::NoDebugger => is_debugger(kind),
+        NodeRule::NoEmpty => has_statement_list(kind),
+        NodeRule::NoEmptyPattern => destructures(kind),
+        NodeRule::NoEmptyStaticBlock => is_static_block(kind),
+        NodeRule::NoEval => is_plain_call(kind),
+        NodeRule::NoExtraBooleanCast => makes_boolean(kind),
+        NodeRule::NoExtraSemi => is_empty_statement(kind),
+        NodeRule::NoImplicitCoercion => is_operation(kind),
+        NodeRule::NoInnerDeclarations => is_function_declaration(kind),
+        NodeRule::NoLabels => may_have_label(kind),
+        NodeRule::NoLonelyIf => is_if(kind),
+        NodeRule::NoMultiAssign => is_assignment(kind),
+        NodeRule::NoMultiStr => is_literal_kind(kind),
+        NodeRule::NoNestedTernary => is_conditional(kind),
+        NodeRule::NoNew => is_expression_statement(kind),
+        NodeRule::NoNewFunc => is_call(kind),
+        NodeRule::NoNewObject => is_new(kind),
+        NodeRule::NoNewWrappers => is_new(kind),
+        NodeRule::NoProto => is_member_expression(kind),
+        NodeRule::NoPrototypeBuiltins => is_plain_call(kind),
+        NodeRule::NoSetterReturn => is_return(kind),
+        NodeRule::NoSparseArrays => is_array(kind),
+        NodeRule::NoUnneededTernary => is_conditional(kind),
+        NodeRule::NoUnsafeNegation => is_binary(kind),
+        NodeRule::NoUnusedExpressions => is_expression_statement(kind),
+        NodeRule::NoUnusedLabels => is_labelled(kind),
+        NodeRule::NoUselessCatch => is_try(kind),
+        NodeRule::NoUselessComputedKey => is_property(kind),
+        NodeRule::NoUselessRename => renames(kind),
+        NodeRule::NoVar => is_variable_declaration(kind),
+        NodeRule::NoVoid => is_unary_kind(kind),
+        NodeRule::ObjectShorthand => is_property(kind),
+        NodeRule::Radix => is_plain_call(kind),
+        NodeRule::RequireYield => is_own_function(kind),
+        NodeRule::UseIsNan => compares(kind),
+        NodeRule::ValidTypeof => is_binary(kind),
+        NodeRule::Yoda => is_binary(kind),
     }
 }
 
@@ -176,31 +266,63 @@ pub(crate) fn holds(
     ensures { result ≡ holds options source.now rule around (node_tree node.entry) }
 {
     match rule {
+        NodeRule::Curly => is_bare_body(around, node),
         NodeRule::EqEqEq => (node.text() == "==" || node.text() == "!=")
             && !(options.allow_null && any_part(PartTest::IsNull, node)),
         NodeRule::ForDirection => runs_away(node.part(1), node.part(2)),
+        NodeRule::NoArrayConstructor => is_name(node.part(0), "Array")
+            && (node.part(1).is_none() || node.part(2).is_some()),
         NodeRule::NoAsyncPromiseExecutor => is_name(node.part(0), "Promise")
             && is_async_function(node.part(1)),
+        NodeRule::NoCaller => is_caller(node),
         NodeRule::NoCaseDeclarations => is_case(around.parent) && is_lexical(node),
         NodeRule::NoCompareNegZero => is_comparison(node.text())
             && (is_minus_zero(node.part(0)) || is_minus_zero(node.part(1))),
         NodeRule::NoDebugger => true,
         NodeRule::NoEmpty => is_empty_node(options, source, around, node),
-        NodeRule::NoEmptyPattern | NodeRule::NoEmptyStaticBlock => is_empty(node),
+        NodeRule::NoEmptyPattern => is_empty(node),
+        NodeRule::NoEmptyStaticBlock => is_empty(node),
+        NodeRule::NoEval => is_name(node.part(0), "eval"),
         NodeRule::NoExtraBooleanCast => is_cast(node),
         NodeRule::NoExtraSemi => !has_body(around.parent),
+        NodeRule::NoImplicitCoercion => is_coercion(node),
         NodeRule::NoInnerDeclarations => !is_outermost(around.parent, around.grandparent),
+        NodeRule::NoLabels => node.part(0).is_some(),
+        NodeRule::NoLonelyIf => is_lonely_if(node),
+        NodeRule::NoMultiAssign => gets_value(around.parent) && around.place == 1,
+        NodeRule::NoMultiStr => is_split_string(node.text()),
+        NodeRule::NoNestedTernary => is_conditional(kind_at(node.part(1)))
+            || is_conditional(kind_at(node.part(2))),
+        NodeRule::NoNew => is_new(kind_at(node.part(0))),
+        NodeRule::NoNewFunc => is_name(node.part(0), "Function"),
+        NodeRule::NoNewObject => is_name(node.part(0), "Object"),
+        NodeRule::NoNewWrappers => is_wrapper(node.part(0)),
+        NodeRule::NoProto => is_key_part(node.part(1), node.flags().computed, "__proto__"),
         NodeRule::NoPrototypeBuiltins => is_builtin_test(unchained(node.part(0))),
         NodeRule::NoSetterReturn => around.in_setter && node.part(0).is_some(),
         NodeRule::NoSparseArrays => any_part(PartTest::IsGap, node),
+        NodeRule::NoUnneededTernary => is_boolean(node.part(1)) && is_boolean(node.part(2)),
+        NodeRule::NoUnsafeNegation => is_negated_side(node),
+        NodeRule::NoUnusedExpressions => !node.flags().directive
+            && !is_used(unchained(node.part(0))),
         NodeRule::NoUnusedLabels => is_unused_label(node),
         NodeRule::NoUselessCatch => only_throws(node.part(1)),
+        NodeRule::NoUselessComputedKey => node.flags().computed
+            && is_constant_key(node.part(0))
+            && !is_string(node.part(0), "__proto__"),
+        NodeRule::NoUselessRename => may_rename(around.parent, node.kind()) && keeps_name(node),
         NodeRule::NoVar => node.text() == "var",
+        NodeRule::NoVoid => node.text() == "void",
+        NodeRule::ObjectShorthand => is_object(around.parent) && is_long_property(node),
+        NodeRule::Radix => is_parse_int(unchained(node.part(0))) && lacks_radix(node),
         NodeRule::RequireYield => never_yields(node),
         NodeRule::UseIsNan => compares_nan(node),
         NodeRule::ValidTypeof => is_equality(node.text())
             && (is_never_typeof(node.part(0), node.part(1))
                 || is_never_typeof(node.part(1), node.part(0))),
+        NodeRule::Yoda => is_comparison(node.text())
+            && is_fixed(node.part(0))
+            && !is_fixed(node.part(1)),
     }
 }
 
@@ -221,7 +343,9 @@ pub(crate) fn place(rule: NodeRule, node: Node) -> Span
 {
     match rule {
         NodeRule::NoAsyncPromiseExecutor => span_at(node, node.part(1)),
+        NodeRule::NoEval => span_at(node, node.part(0)),
         NodeRule::NoExtraBooleanCast => span_at(node, tested(node)),
+        NodeRule::NoLonelyIf => span_at(node, first_of(node.part(2))),
         NodeRule::NoPrototypeBuiltins => key_place(node, unchained(node.part(0))),
         NodeRule::NoUnusedLabels => span_at(node, node.part(0)),
         NodeRule::NoUselessCatch => useless_catch(node),
@@ -267,27 +391,51 @@ pub(crate) fn words(rule: NodeRule, node: Node) -> &'static str
     ensures { result.now ≡ says rule (node_tree node.entry) }
 {
     match rule {
+        NodeRule::Curly => "expected a block",
         NodeRule::EqEqEq => equality_words(node.text()),
         NodeRule::ForDirection => "the counter goes away from its bound",
+        NodeRule::NoArrayConstructor => "use an array literal",
         NodeRule::NoAsyncPromiseExecutor => "async executor",
+        NodeRule::NoCaller => "throws in strict code",
         NodeRule::NoCaseDeclarations => "declaration in a case",
         NodeRule::NoCompareNegZero => "no comparison tells -0 from 0",
         NodeRule::NoDebugger => "debugger statement",
         NodeRule::NoEmpty => empty_words(node.kind()),
         NodeRule::NoEmptyPattern => "empty pattern",
         NodeRule::NoEmptyStaticBlock => "empty static block",
+        NodeRule::NoEval => "code from text",
         NodeRule::NoExtraBooleanCast => "a condition is made a boolean anyway",
         NodeRule::NoExtraSemi => "empty statement",
+        NodeRule::NoImplicitCoercion => coercion_words(node),
         NodeRule::NoInnerDeclarations => "function declaration in a block",
+        NodeRule::NoLabels => "label",
+        NodeRule::NoLonelyIf => "'if' alone in 'else'",
+        NodeRule::NoMultiAssign => "chained assignment",
+        NodeRule::NoMultiStr => "string over several lines",
+        NodeRule::NoNestedTernary => "conditional in a conditional",
+        NodeRule::NoNew => "new object without use",
+        NodeRule::NoNewFunc => "code from text",
+        NodeRule::NoNewObject => "use an object literal",
+        NodeRule::NoNewWrappers => "wrapper object",
+        NodeRule::NoProto => "use Object.getPrototypeOf",
         NodeRule::NoPrototypeBuiltins => "call it by Object.prototype",
         NodeRule::NoSetterReturn => "setter returns a value",
         NodeRule::NoSparseArrays => "array with a hole",
+        NodeRule::NoUnneededTernary => "the test says it",
+        NodeRule::NoUnsafeNegation => "'!' belongs to the left side alone",
+        NodeRule::NoUnusedExpressions => "expression without use",
         NodeRule::NoUnusedLabels => "label is never used",
         NodeRule::NoUselessCatch => "catch that only throws again",
+        NodeRule::NoUselessComputedKey => "brackets round a constant key",
+        NodeRule::NoUselessRename => "renamed to its own name",
         NodeRule::NoVar => "use let or const instead of var",
+        NodeRule::NoVoid => "void",
+        NodeRule::ObjectShorthand => "use a shorthand",
+        NodeRule::Radix => "no radix from 2 to 36",
         NodeRule::RequireYield => "generator without yield",
         NodeRule::UseIsNan => nan_words(node.kind()),
         NodeRule::ValidTypeof => "typeof is never this",
+        NodeRule::Yoda => "the constant stands first",
     }
 }
 

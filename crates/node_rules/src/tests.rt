@@ -1,15 +1,17 @@
 //! The tests of rules on nodes that take more than a line.
 
-ghost use Rattle.std.specs.Prelude.{◌≡◌, cond, option_map, None};
+ghost use Rattle.std.specs.Prelude.{◌≡◌, ◌<◌, length, cond, option_map, None};
 ghost use Rattle.tree.specs.Node.{node_tree};
 ghost use Rattle.tree.specs.Tree.{part_at, parts_of};
 ghost use Rattle.language.specs.FirstPart.{others};
 ghost use Rattle.node_rules.specs.Words.{is_empty};
-ghost use Rattle.node_rules.specs.Tests.{adds_away, has_comment, calls_boolean, compares_nan, first_of, has_body, has_statements, is_binary, is_builtin_test, is_call, is_case, is_cast, is_double_not, is_empty_node, is_lexical, is_literal, is_minus_zero, is_nan_value, is_never_typeof, is_outermost, is_switch, is_typeof_value, leaves_bound, moves, never_yields, only_throws, runs_away, steps_away, tested, throws_name};
+ghost use Rattle.node_rules.specs.Tests.{adds_away, has_comment, calls_boolean, compares_nan, first_of, has_statements, is_builtin_test, is_cast, is_double_not, is_empty_node, is_lexical, is_literal, is_minus_zero, is_nan_value, is_never_typeof, is_outermost, is_typeof_value, leaves_bound, moves, never_yields, only_throws, runs_away, says_text, steps_away, tested, throws_name};
 
 use crate::around::Around;
+use crate::kind_sets::{is_binary, is_switch};
 use crate::node_rule::NodeOptions;
 use crate::search::{Search, Sought, has_sought};
+use crate::values::{is_plain_template, is_template_of};
 use crate::words::{
     is_comparison, is_identifier, is_member, is_name, is_positive, is_string, is_unary, is_zero,
     object_of, operand, span_of, text_at,
@@ -42,13 +44,6 @@ fn has_no_others(node: Node) -> bool
     node.part_count() < 2
 }
 
-/// Whether it is the kind of a switch.
-fn is_switch(kind: Kind) -> bool
-    ensures { result ≡ is_switch kind }
-{
-    matches!(kind, Kind::SwitchStatement)
-}
-
 /// Whether a node is a switch without cases, or a block without statements that is no function's body, and that the settings don't let be
 /// for a comment in it.
 pub(crate) fn is_empty_node(options: NodeOptions, source: &str, around: Around, node: Node) -> bool
@@ -77,13 +72,6 @@ fn is_nan(part: Option<Node>) -> bool
     is_name(part, "NaN") || (is_name(object_of(part), "Number") && is_member(part, "NaN"))
 }
 
-/// Whether it is the kind of binary operators.
-fn is_binary(kind: Kind) -> bool
-    ensures { result ≡ is_binary kind }
-{
-    matches!(kind, Kind::BinaryExpression)
-}
-
 /// Whether a node compares with it, switches over it, or is a case of it.
 pub(crate) fn compares_nan(node: Node) -> bool
     ensures { result ≡ compares_nan (node_tree node.entry) }
@@ -95,18 +83,26 @@ pub(crate) fn compares_nan(node: Node) -> bool
     }
 }
 
+/// Whether a part is a string of this value, which isn't empty, or a template without substitutions of this raw text.
+fn says_text(part: Option<Node>, value: &str) -> bool
+    requires { 0 < length value.now }
+    ensures { result ≡ says_text value.now (option_map node_tree part.entry) }
+{
+    is_string(part, value) || is_template_of(part, value)
+}
+
 /// Whether a part is one of the strings that `typeof` gives.
 fn is_typeof_value(part: Option<Node>) -> bool
     ensures { result ≡ is_typeof_value (option_map node_tree part.entry) }
 {
-    is_string(part, "undefined")
-        || is_string(part, "object")
-        || is_string(part, "boolean")
-        || is_string(part, "number")
-        || is_string(part, "bigint")
-        || is_string(part, "string")
-        || is_string(part, "symbol")
-        || is_string(part, "function")
+    says_text(part, "undefined")
+        || says_text(part, "object")
+        || says_text(part, "boolean")
+        || says_text(part, "number")
+        || says_text(part, "bigint")
+        || says_text(part, "string")
+        || says_text(part, "symbol")
+        || says_text(part, "function")
 }
 
 /// Whether a part is a literal.
@@ -119,11 +115,13 @@ fn is_literal(part: Option<Node>) -> bool
     matches!(node.kind(), Kind::Literal)
 }
 
-/// Whether one part is a `typeof`, and the other a literal that it never is.
+/// Whether one part is a `typeof`, and the other a literal, or a template without substitutions and escapes, that it never is.
 pub(crate) fn is_never_typeof(one: Option<Node>, other: Option<Node>) -> bool
     ensures { result ≡ is_never_typeof (option_map node_tree one.entry) (option_map node_tree other.entry) }
 {
-    is_unary(one, "typeof") && is_literal(other) && !is_typeof_value(other)
+    is_unary(one, "typeof")
+        && (is_literal(other) || is_plain_template(other))
+        && !is_typeof_value(other)
 }
 
 /// Whether a part is one of the members of Object.prototype that tell what an object has.
@@ -149,7 +147,7 @@ fn throws_name(part: Option<Node>, name: &str) -> bool
 }
 
 /// The first statement of a block.
-fn first_of<'t, 's>(block: Option<Node<'t, 's>>) -> Option<Node<'t, 's>>
+pub(crate) fn first_of<'t, 's>(block: Option<Node<'t, 's>>) -> Option<Node<'t, 's>>
     ensures { option_map node_tree result ≡ first_of (option_map node_tree block.entry) }
 {
     let Some(node) = block else {
@@ -180,29 +178,6 @@ pub(crate) fn is_lexical(node: Node) -> bool
         Kind::VariableDeclaration => node.text() != "var",
         _ => true,
     }
-}
-
-/// Whether it is the kind of a case.
-pub(crate) fn is_case(kind: Kind) -> bool
-    ensures { result ≡ is_case kind }
-{
-    matches!(kind, Kind::SwitchCase)
-}
-
-/// Whether statements of the kind have one as their body.
-pub(crate) fn has_body(kind: Kind) -> bool
-    ensures { result ≡ has_body kind }
-{
-    matches!(
-        kind,
-        Kind::ForStatement
-            | Kind::ForInStatement
-            | Kind::ForOfStatement
-            | Kind::WhileStatement
-            | Kind::DoWhileStatement
-            | Kind::IfStatement
-            | Kind::LabeledStatement
-    )
 }
 
 /// Whether a function declaration stands as an item of a script, of a function's body or of a static block, or is exported.
@@ -285,19 +260,12 @@ fn calls_boolean(part: Option<Node>) -> bool
     }
 }
 
-/// Whether it is the kind of calls.
-fn is_call(kind: Kind) -> bool
-    ensures { result ≡ is_call kind }
-{
-    matches!(kind, Kind::CallExpression | Kind::NewExpression)
-}
-
 /// Whether a node makes a boolean of what is made one for it.
 pub(crate) fn is_cast(node: Node) -> bool
     ensures { result ≡ is_cast (node_tree node.entry) }
 {
     let part = tested(node);
-    is_double_not(part) || (!is_call(node.kind()) && calls_boolean(part))
+    is_double_not(part) || calls_boolean(part)
 }
 
 /// Whether an update takes a name down, or up.

@@ -3,7 +3,7 @@
 ghost use Rattle.std.specs.Prelude.{◌≡◌, ◌<◌, ◌&&◌, ◌||◌, length, option_map};
 ghost use Rattle.tree.specs.Node.{node_tree};
 ghost use Rattle.language.specs.Vocabulary.{is};
-ghost use Rattle.node_rules.specs.Words.{is_async_function, is_chain, is_comparison, is_equality, is_from_one, is_identifier, is_key_part, is_member, is_name, is_positive, is_quoted, is_string, is_unary, is_zero, object_of, operand, span_at, span_of, text_at, unchained};
+ghost use Rattle.node_rules.specs.Words.{is_async_function, is_chain, is_comparison, is_equality, is_from_one, is_identifier, is_key_part, is_member, is_name, is_positive, is_quoted, is_string, is_unary, is_zero, kind_at, object_of, operand, span_at, span_of, text_at, unchained};
 
 use tokens::string_is;
 use tree::{Kind, Node, Span};
@@ -35,6 +35,16 @@ pub(crate) fn text_at<'t, 's>(part: Option<Node<'t, 's>>) -> &'t str
     }
 }
 
+/// The kind of a part; that of a Program, which is a part of nothing, where it is missing.
+pub(crate) fn kind_at(part: Option<Node>) -> Kind
+    ensures { result ≡ kind_at (option_map node_tree part.entry) }
+{
+    match part {
+        Some(node) => node.kind(),
+        None => Kind::Program,
+    }
+}
+
 /// Whether a part is a name.
 pub(crate) fn is_identifier(part: Option<Node>) -> bool
     ensures { result ≡ is_identifier (option_map node_tree part.entry) }
@@ -59,7 +69,7 @@ pub(crate) fn is_name(part: Option<Node>, name: &str) -> bool
 }
 
 /// Whether a text begins with a quotation mark.
-fn is_quoted(text: &str) -> bool
+pub(crate) fn is_quoted(text: &str) -> bool
     ensures { result ≡ is_quoted text.now }
 {
     match text.as_bytes().first() {
@@ -107,7 +117,7 @@ pub(crate) fn is_member(part: Option<Node>, key: &str) -> bool
 }
 
 /// Whether it is this key, which may stand in brackets as a string.
-fn is_key_part(property: Option<Node>, computed: bool, key: &str) -> bool
+pub(crate) fn is_key_part(property: Option<Node>, computed: bool, key: &str) -> bool
     requires { 0 < length key.now }
     ensures { result ≡ is_key_part key.now computed (option_map node_tree property.entry) }
 {

@@ -239,6 +239,7 @@ static FOR_AWAIT: Frame = asking_frame!(
 );
 
 /// What stands round the parts of a node at a site.
+#[inline]
 pub(crate) fn frame_of(node: Node, site: Site) -> &'static Frame
     ensures { shape_of result.now ≡ fused_shape (shape_on site (kind_of (node_tree node.entry)) (text_of (node_tree node.entry)) (flags_of (node_tree node.entry)) (parts_of (node_tree node.entry))) }
 {

@@ -142,7 +142,7 @@ any-push p [] x = or-false (p x)
 any-push p (y ∷ ys) x = or-assoc (p y) (list_any p ys) (p x) ∙ ap (λ b. p y || b) (any-push p ys x)
 
 abbrev meaning : Reference → Option (ℕ × ℕ) → Reference
-meaning r o = record { name = r.name; scope = r.scope; reads = r.reads; writes = r.writes; start = r.start; stop = r.stop; typeof_operand = r.typeof_operand; meaning = o }
+meaning r o = record { name = r.name; scope = r.scope; reads = r.reads; writes = r.writes; start = r.start; stop = r.stop; typeof_operand = r.typeof_operand; called = r.called; constructed = r.constructed; meaning = o }
 
 -- a reference that uses what it means
 pub means-it : (writes : Bool) (r : Reference) (n i : ℕ) → uses writes r ≡ true → r.meaning ≡ Some (n, i) → (m : ℕ × ℕ) → (nat_eq n m.0 && nat_eq i m.1) ≡ (uses writes r && means r m)

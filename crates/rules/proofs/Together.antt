@@ -11,8 +11,11 @@ use Rattle.node_rules.specs.Arounds.{round_root}
 use Rattle.node_rules.specs.Over.{over_nodes}
 use Rattle.node_rules.specs.Rows.{of_node, of_rules}
 use Rattle.node_rules.proofs.Together.{both-nodes, no-rules, same-permutation}
+use Rattle.reference_rules.specs.declared.reference_rule.ReferenceRule.{ReferenceRule}
+use Rattle.reference_rules.proofs.Together.{both, no-rules as no-name-rules}
+use Rattle.rules.specs.NameRules.{found_on_names, found_together}
 use Rattle.rules.specs.NodeRules.{found_on_nodes}
-use Rattle.rules.specs.Rules.{View, node_options, on_nodes}
+use Rattle.rules.specs.Rules.{View, node_options, on_names, on_nodes, profile_of}
 
 -- no rules find nothing
 pub none-on-nodes : (v : View) → found_on_nodes [] v ≡ []
@@ -29,6 +32,23 @@ joins rs r v =
     let o : NodeOptions = node_options v.settings in
     subst (IsPermutation (found_on_nodes rs v ++ on_nodes r v)) (λ i. over_nodes (λ a t. sym (joined o v.text rs r a t) i) round_root v.tree)
     (both-nodes (of_rules o v.text rs) (of_node o v.text r) round_root v.tree)
+
+-- no rules on names, and one more of them
+pub none-together : (v : View) → found_together [] [] v ≡ []
+none-together v = ap (λ l. l ++ found_on_names [] v) (none-on-nodes v) ∙ no-name-rules (profile_of v.tree) [] v.found refl
+
+pub names-join : (rs : List ReferenceRule) (r : ReferenceRule) (v : View) → IsPermutation (found_on_names rs v ++ on_names r v) (found_on_names (rs ++ r ∷ []) v)
+names-join rs r v = both (profile_of v.tree) rs (r ∷ []) v.found
+
+-- in front of what others find, and behind it
+pub joins-in-front : (found others alone new : List Report) → IsPermutation (found ++ alone) new → IsPermutation ((found ++ others) ++ alone) (new ++ others)
+joins-in-front found others alone new h =
+    IsPermutation-trans _ _ _ (same-permutation _ _ (append_assoc found others alone))
+    (IsPermutation-trans _ _ _ (IsPermutation-append_right found _ _ (IsPermutation-append_comm others alone))
+    (IsPermutation-trans _ _ _ (same-permutation _ _ (sym (append_assoc found alone others))) (IsPermutation-append_left others _ _ h)))
+
+pub joins-behind : (others found alone new : List Report) → IsPermutation (found ++ alone) new → IsPermutation ((others ++ found) ++ alone) (others ++ new)
+joins-behind others found alone new h = IsPermutation-trans _ _ _ (same-permutation _ _ (append_assoc others found alone)) (IsPermutation-append_right others _ _ h)
 
 -- one rule alone
 pub alone : (r : NodeRule) (v : View) → found_on_nodes (r ∷ []) v ≡ on_nodes r v

@@ -6,7 +6,6 @@ pub mod Environments
 pub mod Languages
 pub mod RuleNames
 pub mod Settings
-pub mod BuiltIn
 pub mod Rules
 pub mod AllRules
 pub mod Toml
@@ -14,6 +13,7 @@ pub mod Refusals
 pub use Rattle.rule_words.specs.Appends
 pub mod Nodes
 pub mod NodeRules
+pub mod NameRules
 pub mod Used
 pub mod RuleViews
 pub mod Run

@@ -4,15 +4,18 @@ use Rattle.std.specs.List.{list_any}
 use Rattle.std.specs.Str.{bytes_eq}
 use Rattle.language.specs.Vocabulary.{is}
 use Rattle.node_rules.specs.Rows.{called as row_called}
-use Rattle.node_rules.specs.declared.node_rule.NodeRule.TheVariants.{EqEqEq, ForDirection, NoAsyncPromiseExecutor, NoCaseDeclarations, NoCompareNegZero, NoDebugger, NoEmpty, NoEmptyPattern, NoEmptyStaticBlock, NoExtraBooleanCast, NoExtraSemi, NoInnerDeclarations, NoPrototypeBuiltins, NoSetterReturn, NoSparseArrays, NoUnusedLabels, NoUselessCatch, NoVar, RequireYield, UseIsNan, ValidTypeof}
+use Rattle.node_rules.specs.declared.node_rule.NodeRule.TheVariants.{Curly, EqEqEq, ForDirection, NoArrayConstructor, NoAsyncPromiseExecutor, NoCaller, NoCaseDeclarations, NoCompareNegZero, NoDebugger, NoEmpty, NoEmptyPattern, NoEmptyStaticBlock, NoEval, NoExtraBooleanCast, NoExtraSemi, NoImplicitCoercion, NoInnerDeclarations, NoLabels, NoLonelyIf, NoMultiAssign, NoMultiStr, NoNestedTernary, NoNew, NoNewFunc, NoNewObject, NoNewWrappers, NoProto, NoPrototypeBuiltins, NoSetterReturn, NoSparseArrays, NoUnneededTernary, NoUnsafeNegation, NoUnusedExpressions, NoUnusedLabels, NoUselessCatch, NoUselessComputedKey, NoUselessRename, NoVar, NoVoid, ObjectShorthand, Radix, RequireYield, UseIsNan, ValidTypeof, Yoda}
+use Rattle.reference_rules.specs.Rows.{called as name_called}
+use Rattle.reference_rules.specs.declared.reference_rule.ReferenceRule.TheVariants.{NoClassAssign, NoConstAssign, NoExAssign, NoFuncAssign, NoGlobalAssign, NoImportAssign, NoNewNativeNonconstructor, NoNewSymbol, NoObjCalls, NoParamReassign, NoRedeclare, NoShadowRestrictedNames, NoUndefined, NoUseBeforeDefine}
 use Rattle.rules.specs.declared.rule_list.RuleName.{RuleName}
-use Rattle.rules.specs.declared.rule_list.RuleName.TheVariants.{OnNodes, NoExtraParens, NoShadow, NoUndef, NoUnusedVars, PreferConst}
+use Rattle.rules.specs.declared.rule_list.RuleName.TheVariants.{OnNodes, OnNames, NoExtraParens, NoShadow, NoUndef, NoUnusedVars, PreferConst}
 use Rattle.rules.specs.declared.rule_set.RuleSet.{RuleSet}
 use Rattle.rules.specs.declared.rule_set.RuleSet.TheVariants.{Nine, Recommended, Every, Nothing}
 
 -- what settings and reports call a rule
 abbrev pub called : RuleName → List ℕ
 called (OnNodes rule) = row_called rule
+called (OnNames rule) = name_called rule
 called NoExtraParens = codes "no-extra-parens"
 called NoShadow = codes "no-shadow"
 called NoUndef = codes "no-undef"
@@ -22,32 +25,70 @@ called PreferConst = codes "prefer-const"
 -- the rules, in the order of their names
 abbrev pub all_rules : List RuleName
 all_rules =
-    OnNodes EqEqEq
+    OnNodes Curly
+    ∷ OnNodes EqEqEq
     ∷ OnNodes ForDirection
+    ∷ OnNodes NoArrayConstructor
     ∷ OnNodes NoAsyncPromiseExecutor
+    ∷ OnNodes NoCaller
     ∷ OnNodes NoCaseDeclarations
+    ∷ OnNames NoClassAssign
     ∷ OnNodes NoCompareNegZero
+    ∷ OnNames NoConstAssign
     ∷ OnNodes NoDebugger
     ∷ OnNodes NoEmpty
     ∷ OnNodes NoEmptyPattern
     ∷ OnNodes NoEmptyStaticBlock
+    ∷ OnNodes NoEval
+    ∷ OnNames NoExAssign
     ∷ OnNodes NoExtraBooleanCast
     ∷ NoExtraParens
     ∷ OnNodes NoExtraSemi
+    ∷ OnNames NoFuncAssign
+    ∷ OnNames NoGlobalAssign
+    ∷ OnNodes NoImplicitCoercion
+    ∷ OnNames NoImportAssign
     ∷ OnNodes NoInnerDeclarations
+    ∷ OnNodes NoLabels
+    ∷ OnNodes NoLonelyIf
+    ∷ OnNodes NoMultiAssign
+    ∷ OnNodes NoMultiStr
+    ∷ OnNodes NoNestedTernary
+    ∷ OnNodes NoNew
+    ∷ OnNodes NoNewFunc
+    ∷ OnNames NoNewNativeNonconstructor
+    ∷ OnNodes NoNewObject
+    ∷ OnNames NoNewSymbol
+    ∷ OnNodes NoNewWrappers
+    ∷ OnNames NoObjCalls
+    ∷ OnNames NoParamReassign
+    ∷ OnNodes NoProto
     ∷ OnNodes NoPrototypeBuiltins
+    ∷ OnNames NoRedeclare
     ∷ OnNodes NoSetterReturn
     ∷ NoShadow
+    ∷ OnNames NoShadowRestrictedNames
     ∷ OnNodes NoSparseArrays
     ∷ NoUndef
+    ∷ OnNames NoUndefined
+    ∷ OnNodes NoUnneededTernary
+    ∷ OnNodes NoUnsafeNegation
+    ∷ OnNodes NoUnusedExpressions
     ∷ OnNodes NoUnusedLabels
     ∷ NoUnusedVars
+    ∷ OnNames NoUseBeforeDefine
     ∷ OnNodes NoUselessCatch
+    ∷ OnNodes NoUselessComputedKey
+    ∷ OnNodes NoUselessRename
     ∷ OnNodes NoVar
+    ∷ OnNodes NoVoid
+    ∷ OnNodes ObjectShorthand
     ∷ PreferConst
+    ∷ OnNodes Radix
     ∷ OnNodes RequireYield
     ∷ OnNodes UseIsNan
     ∷ OnNodes ValidTypeof
+    ∷ OnNodes Yoda
     ∷ []
 
 -- those that are on where settings say nothing
@@ -70,18 +111,30 @@ recommended_rules =
     OnNodes ForDirection
     ∷ OnNodes NoAsyncPromiseExecutor
     ∷ OnNodes NoCaseDeclarations
+    ∷ OnNames NoClassAssign
     ∷ OnNodes NoCompareNegZero
+    ∷ OnNames NoConstAssign
     ∷ OnNodes NoDebugger
     ∷ OnNodes NoEmpty
     ∷ OnNodes NoEmptyPattern
     ∷ OnNodes NoEmptyStaticBlock
+    ∷ OnNames NoExAssign
     ∷ OnNodes NoExtraBooleanCast
     ∷ OnNodes NoExtraSemi
+    ∷ OnNames NoFuncAssign
+    ∷ OnNames NoGlobalAssign
+    ∷ OnNames NoImportAssign
     ∷ OnNodes NoInnerDeclarations
+    ∷ OnNames NoNewNativeNonconstructor
+    ∷ OnNames NoNewSymbol
+    ∷ OnNames NoObjCalls
     ∷ OnNodes NoPrototypeBuiltins
+    ∷ OnNames NoRedeclare
     ∷ OnNodes NoSetterReturn
+    ∷ OnNames NoShadowRestrictedNames
     ∷ OnNodes NoSparseArrays
     ∷ NoUndef
+    ∷ OnNodes NoUnsafeNegation
     ∷ OnNodes NoUnusedLabels
     ∷ NoUnusedVars
     ∷ OnNodes NoUselessCatch

@@ -5,10 +5,13 @@ use Rattle.tree.specs.declared.kind.Span.{Span}
 use Rattle.tree.specs.Tree.{Tree, text_of}
 use Rattle.language.specs.Vocabulary.{is}
 use Rattle.scopes.specs.declared.kind.BindingKind.{BindingKind}
-use Rattle.scopes.specs.declared.kind.BindingKind.TheVariants.{Let, Param, Catch, OwnName}
+use Rattle.scopes.specs.declared.kind.BindingKind.TheVariants.{Let, Param, Catch, FunctionName, ClassName}
 use Rattle.scopes.specs.Bindings.{Binding}
 use Rattle.scopes.specs.Found.{Found, Reference, Scope}
-use Rattle.rules.specs.BuiltIn.{is_built_in_for}
+use Rattle.reference_rules.specs.BuiltIn.{is_built_in_for}
+use Rattle.reference_rules.specs.Found.{found_by_rule as found_by_name_rule}
+use Rattle.reference_rules.specs.declared.reference_rule.Profile.{Profile}
+use Rattle.reference_rules.specs.declared.reference_rule.ReferenceRule.{ReferenceRule}
 use Rattle.rule_words.specs.Reports.{Report, report, quoted}
 use Rattle.node_rules.specs.Found.{found_by_rule}
 use Rattle.node_rules.specs.declared.node_rule.NodeOptions.{NodeOptions}
@@ -44,6 +47,16 @@ no_extra_parens v = map of_extra v.extra
 -- a tree of the language of 2022, as its text says
 abbrev pub is_of_2022 : Tree → Bool
 is_of_2022 tree = is (text_of tree) "2022" || is (text_of tree) "module"
+
+-- Rules that ask what names mean: `specs/Rows.antt` of `reference_rules` says what each reports.
+
+-- what they ask of the language
+abbrev pub profile_of : Tree → Profile
+profile_of tree = record { is_2022 = is_of_2022 tree; is_module = is (text_of tree) "module" }
+
+-- what one of them finds
+abbrev pub on_names : ReferenceRule → View → List Report
+on_names rule v = found_by_name_rule (profile_of v.tree) rule v.found
 
 abbrev pub is_known : Bool → Settings → List ℕ → Bool
 is_known of_2022 s text = is_built_in_for of_2022 text || is_global text s
@@ -86,7 +99,8 @@ abbrev pub is_used : Bool → List Reference → ℕ × ℕ → Bool
 is_used writes rs m = list_any (λ r. uses writes r && means r m) rs
 
 abbrev pub is_itself : BindingKind → Bool
-is_itself OwnName = true
+is_itself FunctionName = true
+is_itself ClassName = true
 is_itself _ = false
 
 -- the script's scope has none round it, so nothing in it shadows
@@ -96,7 +110,8 @@ of_shadow b = cond (b.shadows && not (is_itself b.kind)) (report "no-shadow" b.s
 abbrev pub is_for_reading : BindingKind → Bool
 is_for_reading Param = false
 is_for_reading Catch = false
-is_for_reading OwnName = false
+is_for_reading FunctionName = false
+is_for_reading ClassName = false
 is_for_reading _ = true
 
 abbrev pub begins_with_underscore : List ℕ → Bool

@@ -82,7 +82,7 @@ fn is_itself(kind: BindingKind) -> bool
     ensures { result ≡ is_itself kind }
 {
     match kind {
-        BindingKind::OwnName => true,
+        BindingKind::FunctionName | BindingKind::ClassName => true,
         _ => false,
     }
 }

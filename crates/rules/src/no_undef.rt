@@ -7,10 +7,10 @@ ghost use Rattle.tree.specs.Node.{node_tree};
 ghost use Rattle.rules.specs.Rules.{each_undefined, is_of_2022, of_undefined};
 ghost use Rattle.rules.specs.Nodes.{undefined_at};
 
-use crate::built_in::is_built_in_for;
 use crate::rule::Rule;
 use crate::settings::Settings;
 use crate::view::View;
+use reference_rules::is_built_in_for;
 use rule_words::{Report, push_report, quoted};
 use scopes::Reference;
 use std::alloc::{AllocError, Global};
@@ -74,7 +74,7 @@ struct KnownNames<'v> {
 }
 
 /// Whether a Program is one of the language of 2022.
-fn is_of_2022(program: Node) -> bool
+pub(crate) fn is_of_2022(program: Node) -> bool
     ensures { result ≡ is_of_2022 (node_tree program.entry) }
 {
     let text = program.text();

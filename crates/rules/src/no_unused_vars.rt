@@ -90,7 +90,10 @@ fn is_for_reading(kind: BindingKind) -> bool
     ensures { result ≡ is_for_reading kind }
 {
     match kind {
-        BindingKind::Param | BindingKind::Catch | BindingKind::OwnName => false,
+        BindingKind::Param
+        | BindingKind::Catch
+        | BindingKind::FunctionName
+        | BindingKind::ClassName => false,
         _ => true,
     }
 }

@@ -3,6 +3,7 @@
 ghost use Rattle.std.specs.Prelude.{◌≡◌, ◌++◌, IfOk, IfSome, OnOk, true};
 ghost use Rattle.std.specs.List.Sorted.{IsPermutation, IsSorted};
 ghost use Rattle.rules.specs.AllRules.{finds as finds_by_name};
+ghost use Rattle.rules.specs.NameRules.{found_together};
 ghost use Rattle.rules.specs.NodeRules.{IsOnNodes, found_on_nodes};
 ghost use Rattle.rule_words.specs.Order.{report_cmp};
 ghost use Rattle.rules.specs.Run.{all_found, found_by, found_by_name, found_by_names, found_with};
@@ -11,9 +12,10 @@ ghost use Rattle.rules.specs.Settings.{is_on};
 
 use crate::rule::Rule;
 use crate::rule_list::RuleName;
-use crate::shipped_rule::{ShippedRule, push_on_nodes};
+use crate::shipped_rule::{ShippedRule, push_on_names, push_on_nodes};
 use crate::view::View;
 use node_rules::NodeRule;
+use reference_rules::ReferenceRule;
 use rule_words::Report;
 use std::alloc::{AllocError, Global};
 
@@ -82,22 +84,28 @@ fn run_shipped(
     ShippedRule::new(alloc, name).check(view, out)
 }
 
-/// Appends what a rule of a name finds, if it is on. A rule on nodes joins those that run in one walk.
+/// Appends what a rule of a name finds, if it is on. A rule on nodes joins those that run in one walk, and one on names those that run
+/// in one pass.
 fn run_named(
     alloc: Global,
     name: RuleName,
     view: &View,
-    together: &mut Vec<NodeRule>,
+    nodes: &mut Vec<NodeRule>,
+    names: &mut Vec<ReferenceRule>,
     out: &mut Vec<Report>,
 ) -> Result<(), AllocError>
-    ensures { OnOk result (IsPermutation ((out.old.items ++ found_on_nodes together.old.items (seen view.now)) ++ found_by_name name (seen view.now)) (out.new.items ++ found_on_nodes together.new.items (seen view.now))) }
+    ensures { OnOk result (IsPermutation ((out.old.items ++ found_together nodes.old.items names.old.items (seen view.now)) ++ found_by_name name (seen view.now)) (out.new.items ++ found_together nodes.new.items names.new.items (seen view.now))) }
 {
     if !view.settings.is_on(name.as_str()) {
         return Ok(());
     }
     match name {
         RuleName::OnNodes(rule) => {
-            together.push(rule)?;
+            nodes.push(rule)?;
+            Ok(())
+        },
+        RuleName::OnNames(rule) => {
+            names.push(rule)?;
             Ok(())
         },
         _ => run_shipped(alloc, name, view, out),
@@ -113,11 +121,13 @@ fn gather_named(
 ) -> Result<(), AllocError>
     ensures { OnOk result (IsPermutation (found_by_names names.now (seen view.now) ++ out.old.items) out.new.items) }
 {
-    let mut together = Vec::new(alloc);
+    let mut on_nodes = Vec::new(alloc);
+    let mut on_names = Vec::new(alloc);
     for name in names {
-        run_named(alloc, *name, view, &mut together, out)?;
+        run_named(alloc, *name, view, &mut on_nodes, &mut on_names, out)?;
     }
-    push_on_nodes(alloc, &together, view, out)
+    push_on_nodes(alloc, &on_nodes, view, out)?;
+    push_on_names(alloc, &on_names, view, out)
 }
 
 /// All reports of the rules that are on, of those that ship with the program by their names and of others in boxes, sorted by start, rule

@@ -1,15 +1,16 @@
 -- The nearest binding of a name, as names are declared in a scope one by one.
-use Rattle.std.proofs.Common.{◌≡◌, ℕ, zero, suc, ◌+◌, ◌<◌, Bool, true, false, cond, List, [], ◌∷◌, ◌++◌, length, Option, Some, None, is_some, option_map, refl, sym, ap, ◌∙◌, arith, ◌≤◌, drop, get_or, set, add-one}
+use Rattle.std.proofs.Common.{◌≡◌, ℕ, zero, suc, ◌+◌, ◌<◌, Bool, true, false, cond, List, [], ◌∷◌, ◌++◌, length, Option, Some, None, is_some, option_map, refl, sym, ap, ◌∙◌, arith, ◌≤◌, drop, get_or, set, add-one, append_assoc, append-nil}
 use Rattle.std.specs.Prelude.{◌||◌, nat_eq, IfSome}
 use Rattle.std.specs.Str.{bytes_eq}
 use Rattle.std.specs.Cmp.Lexicographic.{nat_list_eq_equiv}
 use Rattle.std.proofs.Math.Seq.{drop-cons}
+use Rattle.std.proofs.lemmas.List.{drop_all}
 use Rattle.std.proofs.lemmas.Bool.{or_parts, true≢false}
 use Rattle.std.proofs.lemmas.Bool.Decides.{nat_tests}
 use Rattle.std.proofs.lemmas.Slice.Eq.{bytes_eq-Decides}
 use Rattle.scopes.specs.declared.binding.Binding.{Binding as CodeBinding}
 use Rattle.scopes.specs.Bindings.{Binding, has_name}
-use Rattle.scopes.specs.Found.{Frame, index_of, here_or_outer, nearest, added, collected, exported_first}
+use Rattle.scopes.specs.Found.{Frame, index_of, here_or_outer, nearest, added, again, collected, exported_first, redeclarations}
 use Rattle.name_tables.specs.declared.bound.BoundName.{BoundName}
 use Rattle.scopes.specs.declared.names.DeclaredAs.{DeclaredAs}
 use Rattle.scopes.specs.Shown.{Below, Meant, all_declared, declared_shown, exported_at, exported_place, all_shown, frame, is_of, shown}
@@ -157,3 +158,22 @@ pub collected-turn : (fs : List Frame) (names : List (BoundName DeclaredAs)) (i 
     collected fs bs (all_declared (drop i names)) ≡ total → collected fs more (all_declared (drop (i + 1) names)) ≡ total
 collected-turn fs names i d bs more total l e so =
     rw (add-one i) (ap (λ x. collected fs x (all_declared (drop (suc i) names))) e ∙ sym (ap (λ xs. collected fs bs (all_declared xs)) (drop-cons names i d l)) ∙ so)
+
+-- ---- a name that stands already
+
+pub again-here : (bs : List Binding) (b : Binding) → has_name b.name bs ≡ true → again bs b ≡ b ∷ []
+again-here bs b h = ap (λ c. cond c (b ∷ []) []) h
+
+pub again-new : (bs : List Binding) (b : Binding) → has_name b.name bs ≡ false → again bs b ≡ []
+again-new bs b h = ap (λ c. cond c (b ∷ []) []) h
+
+pub redeclared-turn : (fs : List Frame) (names : List (BoundName DeclaredAs)) (i : ℕ) (d : BoundName DeclaredAs) (bs more old new total : List Binding) → i < length names → more ≡ added fs bs (declared_shown (get_or names i d)) →
+    new ≡ old ++ again bs (declared_shown (get_or names i d)) → old ++ redeclarations fs bs (all_declared (drop i names)) ≡ total → new ++ redeclarations fs more (all_declared (drop (i + 1) names)) ≡ total
+redeclared-turn fs names i d bs more old new total l e n so =
+    let x : Binding = declared_shown (get_or names i d) in
+    let step : redeclarations fs bs (all_declared (drop i names)) ≡ again bs x ++ redeclarations fs (added fs bs x) (all_declared (drop (suc i) names)) = ap (λ xs. redeclarations fs bs (all_declared xs)) (drop-cons names i d l) in
+    rw (add-one i) (ap (λ y. new ++ redeclarations fs y (all_declared (drop (suc i) names))) e ∙ ap (λ y. y ++ redeclarations fs (added fs bs x) (all_declared (drop (suc i) names))) n
+    ∙ append_assoc old (again bs x) (redeclarations fs (added fs bs x) (all_declared (drop (suc i) names))) ∙ ap (λ y. old ++ y) (sym step) ∙ so)
+
+pub redeclared-end : (fs : List Frame) (names : List (BoundName DeclaredAs)) (i : ℕ) (bs old total : List Binding) → length names ≤ i → old ++ redeclarations fs bs (all_declared (drop i names)) ≡ total → old ≡ total
+redeclared-end fs names i bs old total l so = sym (append-nil old) ∙ ap (λ xs. old ++ redeclarations fs bs (all_declared xs)) (sym (drop_all i names l)) ∙ so

@@ -3,7 +3,7 @@ use Rattle.std.specs.Prelude.{◌≡◌, refl, [], ◌∷◌, Some, None, codes}
 use Rattle.tree.specs.declared.kind.Kind.TheVariants.{ArrayExpression, ArrayPattern, ArrowFunctionExpression, AssignmentExpression, AssignmentPattern, BinaryExpression, BlockStatement, BreakStatement, CatchClause, ClassBody, ClassDeclaration, ClassExpression, ForInStatement, ForOfStatement, ForStatement, FunctionDeclaration, FunctionExpression, LabeledStatement, MemberExpression, MetaProperty, MethodDefinition, ObjectExpression, ObjectPattern, Property, SwitchCase, SwitchStatement, TryStatement, UnaryExpression, UpdateExpression, VariableDeclaration, VariableDeclarator}
 use Rattle.tree.specs.declared.kind.Form.TheVariants.{Method, Shorthand}
 use Rattle.tree.specs.Tree.{Tree, gap, none, part}
-use Rattle.scopes.specs.declared.kind.BindingKind.TheVariants.{Catch, Class, Const, Function, OwnName, Let, Param, Var}
+use Rattle.scopes.specs.declared.kind.BindingKind.TheVariants.{Catch, Class, ClassName, Const, Function, FunctionName, Let, Param, Var}
 use Rattle.scopes.specs.declared.identifier_use.IdentifierUse.TheVariants.{Typeof, ReadWrite, Read, Write}
 use Rattle.language.proofs.examples.Trees.{computed, formed, id, lit, n, one, program, short, st, t, three, two}
 use Rattle.scopes.proofs.Trees.{computing, scopes_shown, references_shown}
@@ -36,7 +36,7 @@ inner_let_references = refl
 abbrev named_function_tree : Tree
 named_function_tree = program 22 (one (st 0 22 (n FunctionExpression 1 20 (two (id "f" 10) (n BlockStatement 14 20 (one (st 16 18 (id "f" 16))))))))
 
-pub named_function_scopes : scopes_shown named_function_tree ≡ (None, []) ∷ (Some 0, (codes "f", OwnName, 10) ∷ []) ∷ (Some 1, []) ∷ []
+pub named_function_scopes : scopes_shown named_function_tree ≡ (None, []) ∷ (Some 0, (codes "f", FunctionName, 10) ∷ []) ∷ (Some 1, []) ∷ []
 unfolding computing
 named_function_scopes = refl
 
@@ -96,7 +96,7 @@ switch_head_references = refl
 abbrev class_name_tree : Tree
 class_name_tree = program 31 (one (n ClassDeclaration 0 31 (three (id "A" 6) (id "A" 16) (n ClassBody 18 31 (one (formed Method (n MethodDefinition 20 29 (two (id "m" 20) (n FunctionExpression 21 29 (gap (one (n BlockStatement 24 29 (one (st 26 27 (id "A" 26)))))))))))))))
 
-pub class_name_scopes : scopes_shown class_name_tree ≡ (None, (codes "A", Class, 6) ∷ []) ∷ (Some 0, (codes "A", OwnName, 6) ∷ []) ∷ (Some 1, []) ∷ []
+pub class_name_scopes : scopes_shown class_name_tree ≡ (None, (codes "A", Class, 6) ∷ []) ∷ (Some 0, (codes "A", ClassName, 6) ∷ []) ∷ (Some 1, []) ∷ []
 unfolding computing
 class_name_scopes = refl
 
@@ -108,7 +108,7 @@ class_name_references = refl
 abbrev class_expression_tree : Tree
 class_expression_tree = program 22 (one (st 0 22 (n ClassExpression 1 21 (three (id "A" 7) (id "A" 17) (n ClassBody 19 21 none)))))
 
-pub class_expression_scopes : scopes_shown class_expression_tree ≡ (None, []) ∷ (Some 0, (codes "A", OwnName, 7) ∷ []) ∷ []
+pub class_expression_scopes : scopes_shown class_expression_tree ≡ (None, []) ∷ (Some 0, (codes "A", ClassName, 7) ∷ []) ∷ []
 unfolding computing
 class_expression_scopes = refl
 
@@ -276,7 +276,7 @@ in_block_references = refl
 abbrev self_and_param_tree : Tree
 self_and_param_tree = program 21 (one (st 0 21 (n FunctionExpression 1 20 (three (id "f" 10) (id "f" 12) (n BlockStatement 15 20 (one (st 17 18 (id "f" 17))))))))
 
-pub self_and_param_scopes : scopes_shown self_and_param_tree ≡ (None, []) ∷ (Some 0, (codes "f", OwnName, 10) ∷ []) ∷ (Some 1, (codes "f", Param, 12) ∷ []) ∷ []
+pub self_and_param_scopes : scopes_shown self_and_param_tree ≡ (None, []) ∷ (Some 0, (codes "f", FunctionName, 10) ∷ []) ∷ (Some 1, (codes "f", Param, 12) ∷ []) ∷ []
 unfolding computing
 self_and_param_scopes = refl
 

@@ -9,7 +9,7 @@ use Rattle.tree.specs.Tree.{Tree, node, Parts, none, part, gap, part_at, part_co
 use Rattle.language.specs.Vocabulary.{is}
 use Rattle.scopes.specs.declared.identifier_use.IdentifierUse.{IdentifierUse}
 use Rattle.scopes.specs.declared.identifier_use.IdentifierUse.TheVariants.{Read}
-use Rattle.scopes.specs.Roles.{part_role, is_reference, does_read, does_write, is_typeof_operand}
+use Rattle.scopes.specs.Roles.{part_role, is_reference, does_read, does_write, is_called, is_constructed, is_typeof_operand}
 use Rattle.scopes.specs.Bindings.{Binding, has_name}
 use Rattle.scopes.specs.Openings.{scope_round_all, scope_round_others, has_arguments}
 
@@ -54,6 +54,15 @@ abbrev pub collected : List Frame → List Binding → List Binding → List Bin
 collected fs bs [] = bs
 collected fs bs (x ∷ xs) = collected fs (added fs bs x) xs
 
+-- the declaration of a name that stands already
+abbrev pub again : List Binding → Binding → List Binding
+again bs x = cond (has_name x.name bs) (x ∷ []) []
+
+-- those of a scope, in the order of the tree
+abbrev pub redeclarations : List Frame → List Binding → List Binding → List Binding
+redeclarations fs bs [] = []
+redeclarations fs bs (x ∷ xs) = again bs x ++ redeclarations fs (added fs bs x) xs
+
 -- `meaning`: the number of the scope that declares the name, and the place among its bindings; none where no scope does
 pub record Reference : Type 0 where
   pub name : List ℕ
@@ -63,12 +72,15 @@ pub record Reference : Type 0 where
   pub start : ℕ
   pub stop : ℕ
   pub typeof_operand : Bool
+  pub called : Bool
+  pub constructed : Bool
   pub meaning : Option (ℕ × ℕ)
 
--- a scope: the number of the one round it, and what it declares
+-- a scope: the number of the one round it, what it declares, and the further declarations of these names
 pub record Scope : Type 0 where
   pub parent : Option ℕ
   pub bindings : List Binding
+  pub redeclared : List Binding
 
 pub record Found : Type 0 where
   pub scopes : List Scope
@@ -89,12 +101,12 @@ scope_of (f ∷ fs) = Some f.number
 abbrev pub own_reference : Around → Tree → List Reference
 own_reference z (node Identifier word node_flags from to parts) =
     cond (is_reference z.role && not (z.in_function && is word "arguments"))
-    (record { name = word; scope = unwrap_or (scope_of z.frames) 0; reads = does_read z.role; writes = does_write z.role; start = from; stop = to; typeof_operand = is_typeof_operand z.role; meaning = nearest word z.frames } ∷ []) []
+    (record { name = word; scope = unwrap_or (scope_of z.frames) 0; reads = does_read z.role; writes = does_write z.role; start = from; stop = to; typeof_operand = is_typeof_operand z.role; called = is_called z.role; constructed = is_constructed z.role; meaning = nearest word z.frames } ∷ []) []
 own_reference z (node _ word node_flags from to parts) = []
 
 -- the scope that declares these names
 abbrev pub opened : Around → List Binding → Found
-opened z xs = record { scopes = record { parent = scope_of z.frames; bindings = collected z.frames [] xs } ∷ []; references = [] }
+opened z xs = record { scopes = record { parent = scope_of z.frames; bindings = collected z.frames [] xs; redeclared = redeclarations z.frames [] xs } ∷ []; references = [] }
 
 -- what stands round the nodes in it
 abbrev pub enter : Around → ℕ → List Binding → Around

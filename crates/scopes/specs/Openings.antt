@@ -7,7 +7,7 @@ use Rattle.tree.specs.declared.kind.Kind.TheVariants.{Program, StaticBlock, Bloc
 use Rattle.tree.specs.Tree.{Tree, node, Parts, none, part, gap, parts_of, parts_drop}
 use Rattle.language.specs.Vocabulary.{is}
 use Rattle.scopes.specs.declared.kind.BindingKind.{BindingKind}
-use Rattle.scopes.specs.declared.kind.BindingKind.TheVariants.{Param, Catch, OwnName}
+use Rattle.scopes.specs.declared.kind.BindingKind.TheVariants.{Param, Catch, FunctionName, ClassName}
 use Rattle.scopes.specs.declared.identifier_use.IdentifierUse.{IdentifierUse}
 use Rattle.scopes.specs.declared.names.DeclaredIn.{DeclaredIn}
 use Rattle.scopes.specs.declared.names.DeclaredIn.TheVariants.{Statement, ForHead, ForInOfHead}
@@ -72,7 +72,7 @@ abbrev pub opens_all : IdentifierUse → Kind → ScopeKind
 opens_all u Program = Items
 opens_all u StaticBlock = Items
 opens_all u ArrowFunctionExpression = Function 0
-opens_all u FunctionExpression = FirstPart OwnName
+opens_all u FunctionExpression = FirstPart FunctionName
 opens_all u BlockStatement = cond (is_body u) NoScope Block
 opens_all u CatchClause = FirstPart Catch
 opens_all u ForStatement = For ForHead
@@ -85,8 +85,8 @@ opens_all u _ = NoScope
 abbrev pub opens_others : Kind → ScopeKind
 opens_others FunctionDeclaration = Function 1
 opens_others FunctionExpression = Function 1
-opens_others ClassDeclaration = FirstPart OwnName
-opens_others ClassExpression = FirstPart OwnName
+opens_others ClassDeclaration = FirstPart ClassName
+opens_others ClassExpression = FirstPart ClassName
 opens_others SwitchStatement = Switch
 opens_others _ = NoScope
 

@@ -1,13 +1,13 @@
 -- What a node is to its parent: how an identifier that stands there is used.
 use Rattle.std.specs.Prelude.{ℕ, Bool, true, false, cond, nat_eq, List}
 use Rattle.tree.specs.declared.kind.Kind.{Kind}
-use Rattle.tree.specs.declared.kind.Kind.TheVariants.{ArrayPattern, ObjectPattern, RestElement, AssignmentPattern, Property, MethodDefinition, PropertyDefinition, ImportSpecifier, ImportDefaultSpecifier, ImportNamespaceSpecifier, ExportNamedDeclaration, ExportSpecifier, ExportAllDeclaration, FunctionExpression, ArrowFunctionExpression, FunctionDeclaration, ClassExpression, ClassDeclaration, MetaProperty, MemberExpression, UpdateExpression, UnaryExpression, AssignmentExpression, BreakStatement, ContinueStatement, LabeledStatement, CatchClause, ForInStatement, ForOfStatement, VariableDeclarator}
+use Rattle.tree.specs.declared.kind.Kind.TheVariants.{ArrayPattern, ObjectPattern, RestElement, AssignmentPattern, Property, MethodDefinition, PropertyDefinition, ImportSpecifier, ImportDefaultSpecifier, ImportNamespaceSpecifier, ExportNamedDeclaration, ExportSpecifier, ExportAllDeclaration, FunctionExpression, ArrowFunctionExpression, FunctionDeclaration, ClassExpression, ClassDeclaration, MetaProperty, MemberExpression, CallExpression, NewExpression, UpdateExpression, UnaryExpression, AssignmentExpression, BreakStatement, ContinueStatement, LabeledStatement, CatchClause, ForInStatement, ForOfStatement, VariableDeclarator}
 use Rattle.tree.specs.declared.kind.Flags.{Flags}
 use Rattle.language.specs.Vocabulary.{is}
 use Rattle.scopes.specs.declared.identifier_use.IdentifierUse.{IdentifierUse}
 use Rattle.scopes.specs.declared.identifier_use.PartRoles.{PartRoles}
 use Rattle.scopes.specs.declared.identifier_use.PartRoles.TheVariants.{Same, All, First, Function}
-use Rattle.scopes.specs.declared.identifier_use.IdentifierUse.TheVariants.{Read, Write, ReadWrite, Typeof, NoReference, Body}
+use Rattle.scopes.specs.declared.identifier_use.IdentifierUse.TheVariants.{Read, Write, ReadWrite, Typeof, Called, Constructed, NoReference, Body}
 
 -- one role for the first part, another for the others
 abbrev pub first_else : ℕ → IdentifierUse → IdentifierUse → IdentifierUse
@@ -46,6 +46,8 @@ part_roles u ClassExpression text flags b = First NoReference Read
 part_roles u ClassDeclaration text flags b = First NoReference Read
 part_roles u MetaProperty text flags b = All NoReference
 part_roles u MemberExpression text flags b = First Read (key_role flags)
+part_roles u CallExpression text flags b = First Called Read
+part_roles u NewExpression text flags b = First Constructed Read
 part_roles u UpdateExpression text flags b = All ReadWrite
 part_roles u UnaryExpression text flags b = All (operand_role text)
 part_roles u AssignmentExpression text flags b = First (target_role text) Read
@@ -91,6 +93,15 @@ does_write _ = false
 abbrev pub is_typeof_operand : IdentifierUse → Bool
 is_typeof_operand Typeof = true
 is_typeof_operand _ = false
+
+-- the callee of a call (12.3.6), or of `new` (12.3.5)
+abbrev pub is_called : IdentifierUse → Bool
+is_called Called = true
+is_called _ = false
+
+abbrev pub is_constructed : IdentifierUse → Bool
+is_constructed Constructed = true
+is_constructed _ = false
 
 abbrev pub is_body : IdentifierUse → Bool
 is_body Body = true

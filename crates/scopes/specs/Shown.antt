@@ -26,10 +26,10 @@ abbrev pub all_declared : List (BoundName DeclaredAs) → List Binding
 all_declared xs = map declared_shown xs
 
 abbrev pub reference_shown : CodeReference → Reference
-reference_shown r = record { name = r.name.now; scope = r.scope; reads = r.reads; writes = r.writes; start = r.start; stop = r.end; typeof_operand = r.typeof_operand; meaning = r.meaning }
+reference_shown r = record { name = r.name.now; scope = r.scope; reads = r.reads; writes = r.writes; start = r.start; stop = r.end; typeof_operand = r.typeof_operand; called = r.called; constructed = r.constructed; meaning = r.meaning }
 
 abbrev pub scope_shown : CodeScope → Scope
-scope_shown s = record { parent = s.parent; bindings = all_shown s.bindings.items }
+scope_shown s = record { parent = s.parent; bindings = all_shown s.bindings.items; redeclared = all_shown s.redeclared.items }
 
 abbrev pub found_of : List CodeScope → List CodeReference → Found
 found_of ss rs = record { scopes = map scope_shown ss; references = map reference_shown rs }

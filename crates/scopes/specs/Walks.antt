@@ -7,7 +7,7 @@ use Rattle.std.specs.Prelude.{is_some, unwrap_or}
 use Rattle.scopes.specs.declared.identifier_use.IdentifierUse.{IdentifierUse}
 use Rattle.scopes.specs.declared.walk.Context.{Context as CodeAround}
 use Rattle.scopes.specs.declared.walk.Walk.{Walk}
-use Rattle.scopes.specs.Roles.{does_read, does_write, is_typeof_operand}
+use Rattle.scopes.specs.Roles.{does_read, does_write, is_called, is_constructed, is_typeof_operand}
 use Rattle.scopes.specs.Found.{Frame, Around, Inside, Found, Reference, nearest, scope_of, all_parts, in_scope, parts_from}
 use Rattle.scopes.specs.Openings.{scope_round_all, scope_round_others}
 use Rattle.scopes.specs.Shown.{found_of}
@@ -40,7 +40,7 @@ may_make_scope _ = false
 
 -- the reference that an identifier makes
 abbrev pub reference_at : Around → Tree → Reference
-reference_at z tree = record { name = text_of tree; scope = unwrap_or (scope_of z.frames) 0; reads = does_read z.role; writes = does_write z.role; start = start_of tree; stop = stop_of tree; typeof_operand = is_typeof_operand z.role; meaning = nearest (text_of tree) z.frames }
+reference_at z tree = record { name = text_of tree; scope = unwrap_or (scope_of z.frames) 0; reads = does_read z.role; writes = does_write z.role; start = start_of tree; stop = stop_of tree; typeof_operand = is_typeof_operand z.role; called = is_called z.role; constructed = is_constructed z.role; meaning = nearest (text_of tree) z.frames }
 
 -- ---- what is found in a node's parts: in those behind the first, in all, in either
 

@@ -31,6 +31,9 @@ pub struct Reference<'t> {
     pub end: usize,
     /// It is itself the operand of `typeof`, so it may be a name that nothing declares (12.5.5).
     pub typeof_operand: bool,
+    /// It is itself the callee of a call (12.3.6), or of `new` (12.3.5).
+    pub called: bool,
+    pub constructed: bool,
     /// The binding of its name in the nearest scope that declares it, as the scope's number and the place among its bindings;
     /// none where no scope round it does.
     pub meaning: Option<(usize, usize)>,
@@ -41,4 +44,6 @@ pub struct Reference<'t> {
 pub(crate) struct Scope<'t> {
     pub(crate) parent: Option<usize>,
     pub(crate) bindings: Vec<Binding<'t>>,
+    /// The declarations of names that the scope declares already, as they stand.
+    pub(crate) redeclared: Vec<Binding<'t>>,
 }

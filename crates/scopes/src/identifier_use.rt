@@ -4,7 +4,7 @@ ghost use Rattle.std.specs.Prelude.{◌≡◌, ◌-◌, is_some};
 ghost use Rattle.tree.specs.Node.{node_tree};
 ghost use Rattle.tree.specs.Tree.{flags_of, kind_of, part_at, part_count, parts_of, text_of};
 ghost use Rattle.scopes.specs.Openings.{has_arguments};
-ghost use Rattle.scopes.specs.Roles.{is_typeof_operand, does_read, does_write, exported_role, first_else, is_body, is_reference, key_role, operand_role, part_role, part_roles, role_by, target_role};
+ghost use Rattle.scopes.specs.Roles.{is_called, is_constructed, is_typeof_operand, does_read, does_write, exported_role, first_else, is_body, is_reference, key_role, operand_role, part_role, part_roles, role_by, target_role};
 
 use name_tables::last_part;
 use tree::{Flags, Kind, Node};
@@ -20,6 +20,10 @@ pub enum IdentifierUse {
     ReadWrite,
     /// The operand of `typeof`.
     Typeof,
+    /// The callee of a call.
+    Called,
+    /// The callee of `new`.
+    Constructed,
     /// No reference: a name that is bound, a key, a label; a pattern that binds.
     NoReference,
     /// The body of a function: a block, or an expression that is read.
@@ -122,6 +126,8 @@ pub(crate) fn part_roles(role: IdentifierUse, node: Node) -> PartRoles
         Kind::ExportNamedDeclaration => PartRoles::All(exported_role(node)),
         Kind::ExportSpecifier => PartRoles::First(role, IdentifierUse::NoReference),
         Kind::MemberExpression => PartRoles::First(IdentifierUse::Read, key_role(node.flags())),
+        Kind::CallExpression => PartRoles::First(IdentifierUse::Called, IdentifierUse::Read),
+        Kind::NewExpression => PartRoles::First(IdentifierUse::Constructed, IdentifierUse::Read),
         Kind::UpdateExpression => PartRoles::All(IdentifierUse::ReadWrite),
         Kind::UnaryExpression => PartRoles::All(operand_role(node.text())),
         Kind::AssignmentExpression => PartRoles::First(
@@ -203,6 +209,26 @@ pub(crate) fn is_typeof_operand(role: IdentifierUse) -> bool
 {
     match role {
         IdentifierUse::Typeof => true,
+        _ => false,
+    }
+}
+
+/// Whether the role is that of a call's callee.
+pub(crate) fn is_called(role: IdentifierUse) -> bool
+    ensures { result ≡ is_called role }
+{
+    match role {
+        IdentifierUse::Called => true,
+        _ => false,
+    }
+}
+
+/// Whether the role is that of the callee of `new`.
+pub(crate) fn is_constructed(role: IdentifierUse) -> bool
+    ensures { result ≡ is_constructed role }
+{
+    match role {
+        IdentifierUse::Constructed => true,
         _ => false,
     }
 }

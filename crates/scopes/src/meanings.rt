@@ -1,7 +1,7 @@
 //! The table of meanings, as scopes are opened and closed.
 
-ghost use Rattle.std.specs.Prelude.{◌≡◌, [], ◌∷◌, List, OnOk};
-ghost use Rattle.scopes.specs.Found.{Frame, added, collected};
+ghost use Rattle.std.specs.Prelude.{◌≡◌, [], ◌∷◌, ◌++◌, List, OnOk};
+ghost use Rattle.scopes.specs.Found.{Frame, added, again, collected, redeclarations};
 ghost use Rattle.scopes.specs.Shown.{Below, Meant, all_declared, all_shown, declared_shown, exported_at, frame, is_of};
 ghost use Rattle.name_tables.specs.Tables.{Agree, value_at, undone};
 
@@ -32,8 +32,10 @@ fn declare<'t>(
     number: usize,
     meanings: &mut Meanings<'t>,
     bindings: &mut Vec<Binding<'t>>,
+    redeclared: &mut Vec<Binding<'t>>,
     saved: &mut Vec<Before<'t>>,
 ) -> Result<(), AllocError>
+    ensures redeclared { OnOk result ((fs : List Frame) → Meant (value_at meanings.old) (frame number (all_shown bindings.old.items) ∷ fs) → Below number fs → all_shown redeclared.new.items ≡ all_shown redeclared.old.items ++ again (all_shown bindings.old.items) (declared_shown declared.entry)) }
     ensures bindings { OnOk result ((fs : List Frame) → Meant (value_at meanings.old) (frame number (all_shown bindings.old.items) ∷ fs) → Below number fs → all_shown bindings.new.items ≡ added fs (all_shown bindings.old.items) (declared_shown declared.entry)) }
     ensures meanings { OnOk result ((fs : List Frame) → Meant (value_at meanings.old) (frame number (all_shown bindings.old.items) ∷ fs) → Below number fs → Meant (value_at meanings.new) (frame number (all_shown bindings.new.items) ∷ fs)) }
     ensures kept { OnOk result (Agree (undone (value_at meanings.new) saved.new.items) (undone (value_at meanings.old) saved.old.items)) }
@@ -41,6 +43,7 @@ fn declare<'t>(
     let before = meanings.save(declared.name)?;
     let meaning = before.value;
     if is_of(meaning, number) {
+        push_redeclared(declared, redeclared)?;
         if declared.how.exported {
             export_binding(meaning, bindings);
         }
@@ -55,6 +58,25 @@ fn declare<'t>(
         end: declared.end,
         settled: declared.how.settled,
         shadows: meaning.is_some(),
+        exported: declared.how.exported,
+    })?;
+    Ok(())
+}
+
+/// Appends a declaration of a name that the scope declares already.
+fn push_redeclared<'t>(
+    declared: Declared<'t>,
+    redeclared: &mut Vec<Binding<'t>>,
+) -> Result<(), AllocError>
+    ensures { OnOk result (all_shown redeclared.new.items ≡ all_shown redeclared.old.items ++ declared_shown declared.entry ∷ []) }
+{
+    redeclared.push(Binding {
+        name: declared.name,
+        kind: declared.how.kind,
+        start: declared.start,
+        end: declared.end,
+        settled: declared.how.settled,
+        shadows: false,
         exported: declared.how.exported,
     })?;
     Ok(())
@@ -78,15 +100,18 @@ pub(crate) fn open_scope<'t>(
     number: usize,
     meanings: &mut Meanings<'t>,
     bindings: &mut Vec<Binding<'t>>,
+    redeclared: &mut Vec<Binding<'t>>,
     saved: &mut Vec<Before<'t>>,
 ) -> Result<(), AllocError>
-    requires { bindings.now.items ≡ [] }
+    requires bindings { bindings.now.items ≡ [] }
+    requires redeclared { redeclared.now.items ≡ [] }
+    ensures redeclared { OnOk result ((fs : List Frame) → Meant (value_at meanings.old) fs → Below number fs → all_shown redeclared.new.items ≡ redeclarations fs [] (all_declared names.now)) }
     ensures bindings { OnOk result ((fs : List Frame) → Meant (value_at meanings.old) fs → Below number fs → all_shown bindings.new.items ≡ collected fs [] (all_declared names.now)) }
     ensures meanings { OnOk result ((fs : List Frame) → Meant (value_at meanings.old) fs → Below number fs → Meant (value_at meanings.new) (frame number (collected fs [] (all_declared names.now)) ∷ fs)) }
     ensures kept { OnOk result (Agree (undone (value_at meanings.new) saved.new.items) (undone (value_at meanings.old) saved.old.items)) }
 {
     for name in names {
-        declare(*name, number, meanings, bindings, saved)?;
+        declare(*name, number, meanings, bindings, redeclared, saved)?;
     }
     Ok(())
 }

@@ -44,7 +44,7 @@ fn opens_all(role: IdentifierUse, kind: Kind) -> ScopeKind
     match kind {
         Kind::Program | Kind::StaticBlock => ScopeKind::Items,
         Kind::ArrowFunctionExpression => ScopeKind::Function(0),
-        Kind::FunctionExpression => ScopeKind::FirstPart(BindingKind::OwnName),
+        Kind::FunctionExpression => ScopeKind::FirstPart(BindingKind::FunctionName),
         Kind::BlockStatement => {
             if is_body(role) {
                 ScopeKind::NoScope
@@ -66,7 +66,7 @@ fn opens_others(kind: Kind) -> ScopeKind
     match kind {
         Kind::FunctionDeclaration | Kind::FunctionExpression => ScopeKind::Function(1),
         Kind::ClassDeclaration | Kind::ClassExpression => ScopeKind::FirstPart(
-            BindingKind::OwnName,
+            BindingKind::ClassName,
         ),
         Kind::SwitchStatement => ScopeKind::Switch,
         _ => ScopeKind::NoScope,

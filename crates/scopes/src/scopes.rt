@@ -79,6 +79,15 @@ impl<'t> Scopes<'t> {
         self.scopes[scope].bindings.as_slice()
     }
 
+    /// The declarations of names that a scope declares already, in the order of the tree, each as it stands: a name that is declared
+    /// three times stands here twice.
+    pub fn redeclared(&self, scope: usize) -> &[Binding<'t>]
+        requires { scope < length self.now.scopes }
+        ensures { Some (all_shown result.now) ≡ option_map (λ s. s.redeclared) (slice_get self.now.scopes scope) }
+    {
+        self.scopes[scope].redeclared.as_slice()
+    }
+
     /// All references, in the order of the tree.
     pub fn references(&self) -> &[Reference<'t>]
         ensures { map reference_shown result.now ≡ self.now.references }

@@ -11,8 +11,8 @@ ghost use Rattle.name_tables.specs.Tables.{Agree, value_at, undone};
 
 use crate::binding::{Reference, Scope};
 use crate::identifier_use::{
-    IdentifierUse, does_read, does_write, has_arguments, is_reference, is_typeof_operand,
-    part_role, part_roles, role_by,
+    IdentifierUse, does_read, does_write, has_arguments, is_called, is_constructed, is_reference,
+    is_typeof_operand, part_role, part_roles, role_by,
 };
 use crate::meanings::{Before, Meanings, close_scope, open_scope};
 use crate::names::Declared;
@@ -113,6 +113,8 @@ fn push_reference<'t>(
         start: span.start,
         end: span.end,
         typeof_operand: is_typeof_operand(around.role),
+        called: is_called(around.role),
+        constructed: is_constructed(around.role),
         meaning: meanings.value(name),
     })?;
     Ok(())
@@ -155,16 +157,19 @@ fn open<'t>(
 {
     let number = walk.scopes.len();
     let mut bindings = Vec::new(walk.alloc);
+    let mut redeclared = Vec::new(walk.alloc);
     open_scope(
         walk.names.as_slice(),
         number,
         &mut walk.meanings,
         &mut bindings,
+        &mut redeclared,
         saved,
     )?;
     walk.scopes.push(Scope {
         parent: around.scope,
         bindings,
+        redeclared,
     })?;
     Ok(Context {
         scope: Some(number),

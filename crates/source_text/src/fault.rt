@@ -43,6 +43,9 @@ pub enum Fault {
     /// What was made of a script in unwrapping it isn't the same script with the fewest pairs. No such script is known.
     #[error("can't be unwrapped")]
     UnwrapFailed,
+    /// What was made of a script in formatting it isn't the same script in its layout. No such script is known.
+    #[error("can't be formatted")]
+    FormatFailed,
     #[error("usage")]
     Usage,
 }

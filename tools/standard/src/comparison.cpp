@@ -70,6 +70,11 @@ void Comparison::compare(const string &text) {
         tally.too_deep++;
         return;
     }
+    // patterns of regular expressions aren't read here
+    if (program.verdict == Verdict::EarlyError && program.error_number == 37) {
+        tally.patterns++;
+        return;
+    }
     StandardAnswer standard = standard_answer(reader, text);
     if (standard.reading.refined > 1) tally.disagree("two derivations are left", text);
     if (standard.reading.is_cover_ambiguous) tally.disagree("a cover is refined in two ways", text);
@@ -111,8 +116,8 @@ void Comparison::cover(const ParseNode *node) {
 
 void Comparison::report() const {
     printf("  texts %ld: accepted by both, with one tree and number of pairs %ld, early error by both, with number and place %ld, refused by both "
-           "%ld; disagreements %ld; nested too deep %ld\n",
-           tally.texts, tally.accepted, tally.early, tally.refused, tally.disagreement_count(), tally.too_deep);
+           "%ld; disagreements %ld; nested too deep %ld; refused for a pattern %ld\n",
+           tally.texts, tally.accepted, tally.early, tally.refused, tally.disagreement_count(), tally.too_deep, tally.patterns);
     for (const auto &it : tally.disagreements) {
         printf("  ! %ld x %s\n", it.second, it.first.c_str());
         for (const string &text : tally.examples.at(it.first))

@@ -6,7 +6,7 @@
 namespace standard {
 // What came of the texts that were compared.
 struct Tally {
-    long texts = 0, accepted = 0, early = 0, refused = 0, too_deep = 0;
+    long texts = 0, accepted = 0, early = 0, refused = 0, too_deep = 0, patterns = 0;
     std::map<string, long> disagreements;
     std::map<string, vector<string>> examples;
 

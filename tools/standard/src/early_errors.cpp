@@ -95,6 +95,7 @@ void EarlyErrors::walk(Node node, Surroundings around) {
         {"SuperCall", &EarlyErrors::super_call},
         {"NewTarget", &EarlyErrors::new_target},
         {"TemplateLiteral", &EarlyErrors::template_literal},
+        {"ObjectLiteral", &EarlyErrors::object_literal},
     };
     if (!node) return;
     if (node->is_leaf()) return walk_regexp(node);
@@ -468,6 +469,21 @@ void EarlyErrors::super_call(Node node, const Surroundings &around) {
 
 void EarlyErrors::new_target(Node node, const Surroundings &around) {
     if (!around.has_new_target) report(16, source_.start(node));
+}
+
+// 13.2.5.1 of the 13th edition.
+void EarlyErrors::object_literal(Node node, const Surroundings &around) {
+    int prototypes = 0;
+    if (source_.has("indices-flag")) report_prototypes(node, prototypes);
+    walk_children(node, around);
+}
+
+void EarlyErrors::report_prototypes(Node node, int &prototypes) {
+    for (Node it : node->children) {
+        if (is(it, "PropertyDefinitionList")) report_prototypes(it, prototypes);
+        if (!is(it, "PropertyDefinition") || !is(it->children[0], "PropertyName")) continue;
+        if (semantics_.prop_name(it->children[0]) == "__proto__" && prototypes++) report(36, source_.start(it));
+    }
 }
 
 // 12.2.9.1.

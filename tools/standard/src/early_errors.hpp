@@ -84,6 +84,8 @@ class EarlyErrors {
     void super_call(Node node, const Surroundings &around);
     void new_target(Node node, const Surroundings &around);
     void template_literal(Node node, const Surroundings &around);
+    void object_literal(Node node, const Surroundings &around);
+    void report_prototypes(Node node, int &prototypes);
 
     void walk_method(Node node, const Surroundings &around, bool may_call_super);
     void walk_function(Node parameters, Node body, const Surroundings &inside);

@@ -1,4 +1,4 @@
--- The same tree has the same wrapped nodes and the same layout, wherever its nodes stand.
+-- Two trees that are the same but for places have the same wrapped nodes and the same layout.
 use Rattle.std.proofs.Common.{◌≡◌, ℕ, suc, ◌+◌, Bool, true, false, not, cond, ◌&&◌, List, [], ◌∷◌, ◌++◌, refl, sym, ap, ◌∙◌}
 use Rattle.std.specs.Prelude.{nat_eq, codes, None, Some}
 use Rattle.tree.specs.Tree.{Tree, node, Parts, none, part, gap, bare, bare_parts, SameTree}

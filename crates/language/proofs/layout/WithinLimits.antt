@@ -1,4 +1,4 @@
--- The same tree is as high, and a layout has as many parentheses open as twice the height at most.
+-- Two trees that are the same but for places are equally high, and a layout has as many parentheses open as twice the height at most.
 use Rattle.std.proofs.Common.{◌≡◌, suc, ◌≤◌, max, refl, sym, ap, ap₂, ◌∙◌, subst, arith}
 use Rattle.tree.specs.Tree.{Tree, node, Parts, none, part, gap, bare, bare_parts, height, parts_height, SameTree}
 use Rattle.language.specs.Pieces.{script}

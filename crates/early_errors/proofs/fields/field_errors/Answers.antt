@@ -4,5 +4,5 @@ use Rattle.early_errors.proofs.fields.field_errors.Goals as goal
 
 pub returns : goal.returns
 returns c = λ z.
-    fields z (node_tree c.args.field) c.flags-flags.result _ c.in_ok-named.named c.in_ok-says.field-0 c.both-prototype.result c.args.found c.key_error-found.result c.key_error.result
-    c.requires c.flags-flags.ensures c.part-key.ensures c.in_ok-named.ensures c.key_error-found.ensures c.in_ok-says.ensures c.both-prototype.ensures c.key_error.ensures
+    fields z (node_tree c.args.field) c.flags-flags.result _ c.says-named.result c.says.result c.both-prototype.result c.args.found c.key_error-found.result c.key_error.result
+    c.requires c.flags-flags.ensures c.part-key.ensures c.says-named.ensures c.key_error-found.ensures c.says.ensures c.both-prototype.ensures c.key_error.ensures

@@ -26,7 +26,7 @@ pub returns-in-Await : goal.returns-in-Await
 returns-in-Await c = λ r h. c.await_errors.ensures r ∙ ap (λ o. after c.args.found (nameless o (round c.args.surroundings.around r) (node_tree c.args.node))) (sym c.in-Await.is)
 
 pub returns-in-Field : goal.returns-in-Field
-returns-in-Field c = if_ok c.field_errors.result _ _ (λ e x r h. x (round c.args.surroundings.around r) ∙ ap (λ o. after c.args.found (nameless o (round c.args.surroundings.around r) (node_tree c.args.node))) (sym c.in-Field.is)) c.field_errors.ensures
+returns-in-Field c = λ r h. c.field_errors.ensures (round c.args.surroundings.around r) ∙ ap (λ o. after c.args.found (nameless o (round c.args.surroundings.around r) (node_tree c.args.node))) (sym c.in-Field.is)
 
 pub returns-in-Import : goal.returns-in-Import
 returns-in-Import c = if_ok c.import_errors.result _ _ (λ e x r h. x (round c.args.surroundings.around r) ∙ ap (λ o. after c.args.found (nameless o (round c.args.surroundings.around r) (node_tree c.args.node))) (sym c.in-Import.is)) c.import_errors.ensures
@@ -58,3 +58,6 @@ returns-in-Exports c =
     if_ok c.exports_errors.result _ _
     (λ e x r h. x ∙ sym (after-append c.args.found (each DuplicateExport (duplicate_export t)) (each UndeclaredExport (undeclared_export t))) ∙ ap (λ o. after c.args.found (nameless o (round c.args.surroundings.around r) (node_tree c.args.node))) (sym c.in-Exports.is))
     c.exports_errors.ensures
+
+pub returns-in-Object : goal.returns-in-Object
+returns-in-Object c = λ r h. c.object_errors.ensures (round c.args.surroundings.around r) (sym h.of_2022) ∙ ap (λ o. after c.args.found (nameless o (round c.args.surroundings.around r) (node_tree c.args.node))) (sym c.in-Object.is)

@@ -10,7 +10,7 @@ use Rattle.early_errors.proofs.OwnErrorsByKind.{later_own, small_given}
 use Rattle.early_errors.proofs.own.nameless_errors.Goals as goal
 
 pub returns-in-Member : goal.returns-in-Member
-returns-in-Member c = if_ok c.member_errors.result _ _ (λ e x r h. x (round c.args.surroundings.around r) ∙ ap (λ o. after c.args.found (nameless o (round c.args.surroundings.around r) (node_tree c.args.node))) (sym c.in-Member.is)) c.member_errors.ensures
+returns-in-Member c = λ r h. c.member_errors.ensures (round c.args.surroundings.around r) ∙ ap (λ o. after c.args.found (nameless o (round c.args.surroundings.around r) (node_tree c.args.node))) (sym c.in-Member.is)
 
 pub returns-in-Template : goal.returns-in-Template
 returns-in-Template c = if_ok c.template_errors.result _ _ (λ e x r h. x r ∙ ap (λ o. after c.args.found (nameless o (round c.args.surroundings.around r) (node_tree c.args.node))) (sym c.in-Template.is)) c.template_errors.ensures
@@ -35,7 +35,7 @@ pub returns-in-ClassElements : goal.returns-in-ClassElements
 returns-in-ClassElements c = if_ok c.class_errors.result _ _ (λ e x r h. x (round c.args.surroundings.around r) ∙ ap (λ o. after c.args.found (nameless o (round c.args.surroundings.around r) (node_tree c.args.node))) (sym c.in-ClassElements.is)) c.class_errors.ensures
 
 pub returns-in-Literal : goal.returns-in-Literal
-returns-in-Literal c = λ r h. c.literal_errors.ensures (round c.args.surroundings.around r) (sym h.of_2022) ∙ ap (λ o. after c.args.found (nameless o (round c.args.surroundings.around r) (node_tree c.args.node))) (sym c.in-Literal.is)
+returns-in-Literal c = if_ok c.literal_errors.result _ _ (λ e x r h. x (round c.args.surroundings.around r) (sym h.of_2022) ∙ ap (λ o. after c.args.found (nameless o (round c.args.surroundings.around r) (node_tree c.args.node))) (sym c.in-Literal.is)) c.literal_errors.ensures
 
 pub errors_of_2022-requires : goal.errors_of_2022-requires
 errors_of_2022-requires c =

@@ -5,7 +5,7 @@ use Rattle.early_errors.specs.Around.{is_method}
 use Rattle.early_errors.specs.Passed.{IsOpen, is_super_at}
 use Rattle.early_errors.specs.Strict.{is_restricted}
 use Rattle.early_errors.specs.Walk.{names_at}
-use Rattle.early_errors.proofs.PartsByKind.{open_call, open_target, open_unary, open_property, open_block, on_false, none_where, false_gives, neither}
+use Rattle.early_errors.proofs.PartsByKind.{open_call, open_target, open_unary, open_property, open_object, open_block, on_false, none_where, false_gives, neither}
 use Rattle.early_errors.proofs.skipping.where_by.Goals as goal
 
 pub returns-in-Member : goal.returns-in-Member
@@ -36,6 +36,11 @@ returns-in-Form c =
     (λ e.
     let n = neither c.args.no_arguments c.is_method.result (sym c.either.ensures ∙ e) in
     subst (λ b. IsOpen b t) (sym n.0) (open_property t (sym c.requires ∙ c.in-Form.is) (ap (λ g. is_method g.form) (sym c.flags.ensures) ∙ sym c.is_method.ensures ∙ n.1))))
+
+pub returns-in-Object : goal.returns-in-Object
+returns-in-Object c =
+    let t = node_tree c.args.node in
+    c.in_parts_unless-in-Object.ensures c.args.no_arguments t (none_where c.has_proto.result (λ e. open_object c.args.no_arguments t (sym c.requires ∙ c.in-Object.is) e) c.has_proto.ensures)
 
 pub returns-in-Items : goal.returns-in-Items
 returns-in-Items c =

@@ -1,25 +1,39 @@
 use Rattle.std.proofs.Common.{◌++◌, refl, sym, ap, ◌∙◌, subst, IsPermutation}
 use Rattle.rules.specs.AllRules.{finds as finds_by_name}
+use Rattle.rules.specs.NameRules.{found_on_names, found_together}
 use Rattle.rules.specs.NodeRules.{found_on_nodes}
-use Rattle.rules.specs.Rules.{on_nodes}
+use Rattle.rules.specs.Rules.{on_names, on_nodes}
 use Rattle.rules.specs.Run.{found_by_name}
 use Rattle.rules.specs.RuleViews.{seen}
 use Rattle.rules.specs.Settings.{is_on}
 use Rattle.rule_words.proofs.Results.{on_ok}
-use Rattle.rules.proofs.Together.{is-on, joins, after-joining, after-running}
+use Rattle.rules.proofs.Together.{is-on, joins, joins-behind, joins-in-front, names-join, after-joining, after-running}
 use Rattle.rules.proofs.run.run_named.Goals as goal
 
 pub returns-in_ok-push-in-OnNodes : goal.returns-in_ok-push-in-OnNodes
 returns-in_ok-push-in-OnNodes c =
     let v = seen c.args.view.now in
-    after-joining c.args.out.now.items (found_on_nodes c.args.together.now.items v) (found_on_nodes c.push.new.self.items v) (found_by_name c.args.name v) (on_nodes c.in-OnNodes.rule v)
+    let nodes = c.args.nodes.now.items in
+    let names = c.args.names.now.items in
+    after-joining c.args.out.now.items (found_together nodes names v) (found_together c.push.new.self.items names v) (found_by_name c.args.name v) (on_nodes c.in-OnNodes.rule v)
     (is-on _ _ _ (ap (λ n. is_on n v.settings) (sym c.as_str.ensures) ∙ sym c.if-not-is_on.ensures) (ap (λ n. finds_by_name n v) c.in-OnNodes.is))
-    (subst (λ rs. IsPermutation (found_on_nodes c.args.together.now.items v ++ on_nodes c.in-OnNodes.rule v) (found_on_nodes rs v)) (sym c.in_ok-push-in-OnNodes.ensures.items) (joins c.args.together.now.items c.in-OnNodes.rule v))
+    (joins-in-front (found_on_nodes nodes v) (found_on_names names v) (on_nodes c.in-OnNodes.rule v) (found_on_nodes c.push.new.self.items v)
+    (subst (λ rs. IsPermutation (found_on_nodes nodes v ++ on_nodes c.in-OnNodes.rule v) (found_on_nodes rs v)) (sym c.in_ok-push-in-OnNodes.ensures.items) (joins nodes c.in-OnNodes.rule v)))
+
+pub returns-in_ok-push-in-OnNames : goal.returns-in_ok-push-in-OnNames
+returns-in_ok-push-in-OnNames c =
+    let v = seen c.args.view.now in
+    let nodes = c.args.nodes.now.items in
+    let names = c.args.names.now.items in
+    after-joining c.args.out.now.items (found_together nodes names v) (found_together nodes c.push-in-OnNames.new.self.items v) (found_by_name c.args.name v) (on_names c.in-OnNames.rule v)
+    (is-on _ _ _ (ap (λ n. is_on n v.settings) (sym c.as_str.ensures) ∙ sym c.if-not-is_on.ensures) (ap (λ n. finds_by_name n v) c.in-OnNames.is))
+    (joins-behind (found_on_nodes nodes v) (found_on_names names v) (on_names c.in-OnNames.rule v) (found_on_names c.push-in-OnNames.new.self.items v)
+    (subst (λ rs. IsPermutation (found_on_names names v ++ on_names c.in-OnNames.rule v) (found_on_names rs v)) (sym c.in_ok-push-in-OnNames.ensures.items) (names-join names c.in-OnNames.rule v)))
 
 pub returns-in_default : goal.returns-in_default
 returns-in_default c =
     let v = seen c.args.view.now in
     on_ok c.run_shipped.result
-    (λ e. after-running c.args.out.now.items (found_on_nodes c.args.together.now.items v) c.run_shipped.new.out.items (found_by_name c.args.name v)
+    (λ e. after-running c.args.out.now.items (found_together c.args.nodes.now.items c.args.names.now.items v) c.run_shipped.new.out.items (found_by_name c.args.name v)
     (e ∙ ap (λ fs. c.args.out.now.items ++ fs) (sym (is-on _ _ _ (ap (λ n. is_on n v.settings) (sym c.as_str.ensures) ∙ sym c.if-not-is_on.ensures) refl))))
     c.run_shipped.ensures

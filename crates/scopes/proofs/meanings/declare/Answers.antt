@@ -1,4 +1,4 @@
-use Rattle.std.proofs.Common.{◌≡◌, [], ◌∷◌, ◌++◌, Some, sym, ap, ◌∙◌, cond, true, false}
+use Rattle.std.proofs.Common.{◌≡◌, [], ◌∷◌, ◌++◌, Some, sym, ap, ◌∙◌, cond, true, false, append-nil}
 use Rattle.std.specs.Prelude.{is_some}
 use Rattle.std.specs.Str.{bytes_eq}
 use Rattle.std.proofs.lemmas.List.{map-append, length-map}
@@ -7,10 +7,32 @@ use Rattle.name_tables.proofs.Undone.{kept-turn, undone-agrees}
 use Rattle.scopes.specs.Bindings.{has_name}
 use Rattle.scopes.specs.Found.{here_or_outer, index_of, nearest}
 use Rattle.scopes.specs.Shown.{all_shown, declared_shown, exported_at, is_of, shown}
-use Rattle.scopes.proofs.Nearest.{is_of-here, meant-further_out, one-more, meant-exported, exported-there, added-exported, added-same, added-new}
+use Rattle.scopes.proofs.Nearest.{is_of-here, meant-further_out, one-more, meant-exported, exported-there, added-exported, added-same, added-new, again-here, again-new}
 use Rattle.scopes.proofs.meanings.declare.Goals as goal
 
--- a name that is declared here already, and exported now
+-- a name that is declared here already
+pub returns-then-declared-clause-redeclared : goal.returns-then-declared-clause-redeclared
+returns-then-declared-clause-redeclared c = λ fs m b.
+    let bs = all_shown c.args.bindings.now.items in
+    let w = c.args.declared.name.now in
+    let here : has_name w bs ≡ true = sym (is_of-here c.args.number w bs fs b) ∙ ap (λ o. is_of o c.args.number) (sym (c.in_ok-before.ensures.value ∙ m w)) ∙ sym c.is_of.ensures ∙ c.if-is_of.true in
+    c.in_ok-push_redeclared.ensures ∙ ap (λ l. all_shown c.args.redeclared.now.items ++ l) (sym (again-here bs (declared_shown c.args.declared) here))
+
+pub returns-else-declared-clause-redeclared : goal.returns-else-declared-clause-redeclared
+returns-else-declared-clause-redeclared c = λ fs m b.
+    let bs = all_shown c.args.bindings.now.items in
+    let w = c.args.declared.name.now in
+    let here : has_name w bs ≡ true = sym (is_of-here c.args.number w bs fs b) ∙ ap (λ o. is_of o c.args.number) (sym (c.in_ok-before.ensures.value ∙ m w)) ∙ sym c.is_of.ensures ∙ c.if-is_of.true in
+    c.in_ok-push_redeclared.ensures ∙ ap (λ l. all_shown c.args.redeclared.now.items ++ l) (sym (again-here bs (declared_shown c.args.declared) here))
+
+pub returns-clause-redeclared : goal.returns-clause-redeclared
+returns-clause-redeclared c = λ fs m b.
+    let bs = all_shown c.args.bindings.now.items in
+    let w = c.args.declared.name.now in
+    let new : has_name w bs ≡ false = sym (is_of-here c.args.number w bs fs b) ∙ ap (λ o. is_of o c.args.number) (sym (c.in_ok-before.ensures.value ∙ m w)) ∙ sym c.is_of.ensures ∙ c.if-is_of.false in
+    sym (append-nil (all_shown c.args.redeclared.now.items)) ∙ ap (λ l. all_shown c.args.redeclared.now.items ++ l) (sym (again-new bs (declared_shown c.args.declared) new))
+
+-- one that is exported now
 pub returns-then-declared-clause-bindings : goal.returns-then-declared-clause-bindings
 returns-then-declared-clause-bindings c = λ fs m b.
     let bs = all_shown c.args.bindings.now.items in

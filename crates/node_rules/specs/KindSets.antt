@@ -1,0 +1,269 @@
+-- Kinds of nodes at which rules look, and which they ask of what stands round a node.
+use Rattle.std.specs.Prelude.{Bool, true, false}
+use Rattle.tree.specs.declared.kind.Kind.{Kind}
+use Rattle.tree.specs.declared.kind.Kind.TheVariants.{ArrayExpression, ArrayPattern, AssignmentExpression, AwaitExpression, BinaryExpression, BlockStatement, BreakStatement, CallExpression, ClassDeclaration, ConditionalExpression, ContinueStatement, DebuggerStatement, DoWhileStatement, EmptyStatement, ExportSpecifier, ExpressionStatement, ForInStatement, ForOfStatement, ForStatement, FunctionDeclaration, FunctionExpression, IfStatement, ImportExpression, ImportSpecifier, LabeledStatement, Literal, MemberExpression, NewExpression, ObjectExpression, ObjectPattern, Property, PropertyDefinition, ReturnStatement, SpreadElement, StaticBlock, SwitchCase, SwitchStatement, TemplateLiteral, ThrowStatement, TryStatement, UnaryExpression, UpdateExpression, VariableDeclaration, VariableDeclarator, WhileStatement, YieldExpression}
+
+-- an array
+abbrev pub is_array : Kind → Bool
+is_array ArrayExpression = true
+is_array _ = false
+
+-- an assignment
+abbrev pub is_assignment : Kind → Bool
+is_assignment AssignmentExpression = true
+is_assignment _ = false
+
+-- a binary operator
+abbrev pub is_binary : Kind → Bool
+is_binary BinaryExpression = true
+is_binary _ = false
+
+-- a block
+abbrev pub is_block : Kind → Bool
+is_block BlockStatement = true
+is_block _ = false
+
+-- a call, or `new`
+abbrev pub is_call : Kind → Bool
+is_call CallExpression = true
+is_call NewExpression = true
+is_call _ = false
+
+-- a case
+abbrev pub is_case : Kind → Bool
+is_case SwitchCase = true
+is_case _ = false
+
+-- `?:`
+abbrev pub is_conditional : Kind → Bool
+is_conditional ConditionalExpression = true
+is_conditional _ = false
+
+-- `debugger`
+abbrev pub is_debugger : Kind → Bool
+is_debugger DebuggerStatement = true
+is_debugger _ = false
+
+-- an empty statement
+abbrev pub is_empty_statement : Kind → Bool
+is_empty_statement EmptyStatement = true
+is_empty_statement _ = false
+
+-- an expression as a statement
+abbrev pub is_expression_statement : Kind → Bool
+is_expression_statement ExpressionStatement = true
+is_expression_statement _ = false
+
+-- `for` with two semicolons
+abbrev pub is_for : Kind → Bool
+is_for ForStatement = true
+is_for _ = false
+
+-- a function expression
+abbrev pub is_function_expression : Kind → Bool
+is_function_expression FunctionExpression = true
+is_function_expression _ = false
+
+-- a function declaration
+abbrev pub is_function_declaration : Kind → Bool
+is_function_declaration FunctionDeclaration = true
+is_function_declaration _ = false
+
+-- `if`
+abbrev pub is_if : Kind → Bool
+is_if IfStatement = true
+is_if _ = false
+
+-- a statement with a label
+abbrev pub is_labelled : Kind → Bool
+is_labelled LabeledStatement = true
+is_labelled _ = false
+
+-- a literal
+abbrev pub is_literal_kind : Kind → Bool
+is_literal_kind Literal = true
+is_literal_kind _ = false
+
+-- a member
+abbrev pub is_member_expression : Kind → Bool
+is_member_expression MemberExpression = true
+is_member_expression _ = false
+
+-- `new`
+abbrev pub is_new : Kind → Bool
+is_new NewExpression = true
+is_new _ = false
+
+-- an object
+abbrev pub is_object : Kind → Bool
+is_object ObjectExpression = true
+is_object _ = false
+
+-- a pattern of an object
+abbrev pub is_object_pattern : Kind → Bool
+is_object_pattern ObjectPattern = true
+is_object_pattern _ = false
+
+-- a call without `new`
+abbrev pub is_plain_call : Kind → Bool
+is_plain_call CallExpression = true
+is_plain_call _ = false
+
+-- a property
+abbrev pub is_property : Kind → Bool
+is_property Property = true
+is_property _ = false
+
+-- `return`
+abbrev pub is_return : Kind → Bool
+is_return ReturnStatement = true
+is_return _ = false
+
+-- a spread argument
+abbrev pub is_spread : Kind → Bool
+is_spread SpreadElement = true
+is_spread _ = false
+
+-- a static block
+abbrev pub is_static_block : Kind → Bool
+is_static_block StaticBlock = true
+is_static_block _ = false
+
+-- a switch
+abbrev pub is_switch : Kind → Bool
+is_switch SwitchStatement = true
+is_switch _ = false
+
+-- a template
+abbrev pub is_template : Kind → Bool
+is_template TemplateLiteral = true
+is_template _ = false
+
+-- `try`
+abbrev pub is_try : Kind → Bool
+is_try TryStatement = true
+is_try _ = false
+
+-- a unary operator
+abbrev pub is_unary_kind : Kind → Bool
+is_unary_kind UnaryExpression = true
+is_unary_kind _ = false
+
+-- a declaration of variables
+abbrev pub is_variable_declaration : Kind → Bool
+is_variable_declaration VariableDeclaration = true
+is_variable_declaration _ = false
+
+-- what compares two values: a binary operator, a switch, a case
+abbrev pub compares : Kind → Bool
+compares BinaryExpression = true
+compares SwitchStatement = true
+compares SwitchCase = true
+compares _ = false
+
+-- a declaration
+abbrev pub declares : Kind → Bool
+declares VariableDeclaration = true
+declares FunctionDeclaration = true
+declares ClassDeclaration = true
+declares _ = false
+
+-- a pattern with parts
+abbrev pub destructures : Kind → Bool
+destructures ArrayPattern = true
+destructures ObjectPattern = true
+destructures _ = false
+
+-- what gives its second part to its first: an assignment, a declarator, a field
+abbrev pub gets_value : Kind → Bool
+gets_value AssignmentExpression = true
+gets_value VariableDeclarator = true
+gets_value PropertyDefinition = true
+gets_value _ = false
+
+-- statements that have one as their body
+abbrev pub has_body : Kind → Bool
+has_body ForStatement = true
+has_body ForInStatement = true
+has_body ForOfStatement = true
+has_body WhileStatement = true
+has_body DoWhileStatement = true
+has_body IfStatement = true
+has_body LabeledStatement = true
+has_body _ = false
+
+-- a block, or a switch
+abbrev pub has_statement_list : Kind → Bool
+has_statement_list BlockStatement = true
+has_statement_list SwitchStatement = true
+has_statement_list _ = false
+
+-- an operator that may turn a value into another type
+abbrev pub is_operation : Kind → Bool
+is_operation UnaryExpression = true
+is_operation BinaryExpression = true
+is_operation AssignmentExpression = true
+is_operation _ = false
+
+-- a function with its own `this`
+abbrev pub is_own_function : Kind → Bool
+is_own_function FunctionExpression = true
+is_own_function FunctionDeclaration = true
+is_own_function _ = false
+
+-- a statement, but a block, that may be the body of another
+abbrev pub is_short_body : Kind → Bool
+is_short_body ExpressionStatement = true
+is_short_body EmptyStatement = true
+is_short_body DebuggerStatement = true
+is_short_body ReturnStatement = true
+is_short_body ThrowStatement = true
+is_short_body BreakStatement = true
+is_short_body ContinueStatement = true
+is_short_body LabeledStatement = true
+is_short_body IfStatement = true
+is_short_body SwitchStatement = true
+is_short_body TryStatement = true
+is_short_body WhileStatement = true
+is_short_body DoWhileStatement = true
+is_short_body ForStatement = true
+is_short_body ForInStatement = true
+is_short_body ForOfStatement = true
+is_short_body _ = false
+
+-- what may make a boolean of a part
+abbrev pub makes_boolean : Kind → Bool
+makes_boolean IfStatement = true
+makes_boolean WhileStatement = true
+makes_boolean ConditionalExpression = true
+makes_boolean DoWhileStatement = true
+makes_boolean ForStatement = true
+makes_boolean UnaryExpression = true
+makes_boolean CallExpression = true
+makes_boolean NewExpression = true
+makes_boolean _ = false
+
+-- a statement with a label of its own or of another
+abbrev pub may_have_label : Kind → Bool
+may_have_label LabeledStatement = true
+may_have_label BreakStatement = true
+may_have_label ContinueStatement = true
+may_have_label _ = false
+
+-- what may have two names
+abbrev pub renames : Kind → Bool
+renames Property = true
+renames ImportSpecifier = true
+renames ExportSpecifier = true
+renames _ = false
+
+-- expressions that a statement may be for their effect
+abbrev pub takes_effect : Kind → Bool
+takes_effect AssignmentExpression = true
+takes_effect CallExpression = true
+takes_effect NewExpression = true
+takes_effect UpdateExpression = true
+takes_effect YieldExpression = true
+takes_effect AwaitExpression = true
+takes_effect ImportExpression = true
+takes_effect _ = false

@@ -1,0 +1,5 @@
+pub mod BuiltIn
+pub mod Tests
+pub mod Rows
+pub mod Found
+pub mod Laws

@@ -1,0 +1,4 @@
+pub mod RetainSteps
+pub mod CommentLines
+pub mod LineEnds
+pub mod WordLists

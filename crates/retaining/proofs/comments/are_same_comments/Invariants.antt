@@ -1,0 +1,7 @@
+use Rattle.std.proofs.Common.{◌≡◌, take}
+use Rattle.unwrapping.specs.Readings.{comments_in}
+use Rattle.retaining.specs.Retains.{all_lines}
+use Rattle.retaining.proofs.comments.are_same_comments.Given as goal
+
+abbrev pub invariant-loop-index : goal.invariant-loop-index
+invariant-loop-index l = all_lines (comments_in l.text (take l.index l.comments)) ≡ all_lines (comments_in l.other (take l.index l.others))

@@ -1,0 +1,2 @@
+pub mod Retains
+pub mod Comparing

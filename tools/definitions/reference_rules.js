@@ -1,0 +1,54 @@
+'use strict';
+// Holds the definitions of rules on names (crate reference_rules) to the rows of cases/data/reference_rules: node reference_rules.js
+
+const fs = require('node:fs');
+const path = require('node:path');
+const antt = require('./antt.js');
+const { rowsOf } = require('./cases.js');
+const { Model, CRATES, PLAIN_MODEL, plainTree } = require('./model.js');
+const { parseOnly } = require(path.join(PLAIN_MODEL, 'parse.js'));
+
+const crates = path.join(__dirname, '../../crates');
+const MORE = { base: {}, script: { edition: 2022 }, module: { edition: 2022, module: true } };
+
+// the rules by their names, of a model that has the crates scopes, rule_words and reference_rules
+class ReferenceRules {
+  constructor(model) {
+    this.model = model;
+    const { spec } = model;
+    const called = spec.fn('called', 'Rows', 'reference_rules');
+    const source = fs.readFileSync(path.join(crates, 'reference_rules/src/reference_rule.rt'), 'utf8');
+    const variants = /pub enum ReferenceRule \{([^}]*)\}/.exec(source)[1].match(/\w+/g).map((name) => spec.variant('ReferenceRule', name));
+    this.found = spec.fn('found_by_rule', 'Found', 'reference_rules');
+    this.scopes = spec.fn('found', 'Found', 'scopes');
+    this.rules = new Map(variants.map((rule) => [antt.text(called(rule)), rule]));
+  }
+  // what the definitions say of a row
+  said(row) {
+    const read = (row.read ??= parseOnly(row.text, { maxHeight: 1e5, maxParens: 1e5, ...MORE[row.language] }));
+    if (!read.ok) return 'no script';
+    const profile = { is_2022: row.language !== 'base', is_module: row.language === 'module' };
+    const found = this.found(profile, this.rules.get(row.name), this.scopes(this.model.tree(plainTree(read.tree, row.language))));
+    return antt.toArray(found).map((it) => `${it.start} ${antt.text(it.text)}; `).join('');
+  }
+}
+
+// the rows {text, language, name, want}
+const rowsOfReferenceRules = () => rowsOf('reference_rules', ['name rule']).map(({ texts: [text, name], language, want }) => ({ text, language, name, want }));
+
+function main() {
+  const rules = new ReferenceRules(new Model([...CRATES, ...['scopes', 'rule_words', 'reference_rules'].map((crate) => path.join(crates, crate))]));
+  const rows = rowsOfReferenceRules();
+  let otherwise = 0;
+  for (const row of rows) {
+    const got = rules.said(row);
+    if (got === row.want) continue;
+    otherwise += 1;
+    console.log(`${row.name}: ${row.text}\n  definitions ${got}\n  row         ${row.want}`);
+  }
+  console.log(`${rows.length} rows, ${otherwise} otherwise`);
+  process.exitCode = rows.length > 0 && otherwise === 0 ? 0 : 1;
+}
+
+module.exports = { ReferenceRules, rowsOfReferenceRules };
+if (require.main === module) main();
