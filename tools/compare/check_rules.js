@@ -26,6 +26,9 @@ const { OWN, scopeScript } = require('../rows/scope_texts.js');
 const NAMES = ['document', 'process', 'exports', 'importScripts', 'WeakRef', 'describe', 'expect', 'fetch'];
 const renamed = (source, text) => (source.below(2) ? text.replace(/\bb\b/g, source.pick(NAMES)) : text);
 
+// What may stand at a rule.
+const SEVERITIES = ['true', 'false', '"off"', '"warn"', '"error"', '0', '1', '2', '{}', '{ severity = "warn" }', '{ severity = 0 }'];
+
 // A settings file: mostly a right one.
 function settingsText(source) {
   const lines = [];
@@ -35,11 +38,12 @@ function settingsText(source) {
   if (source.below(2)) lines.push(`allow-null = ${source.below(2) === 1}`);
   if (source.below(2)) lines.push(`allow-comments = ${source.below(2) === 1}`);
   if (source.below(2)) lines.push(`ignore-underscore = ${source.below(2) === 1}`);
+  if (source.below(6) === 0) lines.push(`only = [${RULE_NAMES.filter(() => source.below(3) === 0).map((it) => JSON.stringify(it)).join(', ')}]`);
   if (wrong === 0) lines.push(source.pick(['rule = 1', 'allow-null = "yes"', 'globals = [1]', 'globals = ["a"', 'env = ["x"]', 'env = "node"', 'ignore-underscore = 1', 'x', 'allow-null = true\nallow-null = true']));
   if (source.below(2)) {
     lines.push('[rules]');
-    for (const name of RULE_NAMES) if (source.below(3) === 0) lines.push(`${name} = ${source.below(2) === 1}`);
-    if (wrong === 1) lines.push(source.pick(['no-such = true', 'no-var = 1', 'eqeqeq = "off"']));
+    for (const name of RULE_NAMES) if (source.below(3) === 0) lines.push(`${name} = ${source.pick(SEVERITIES)}`);
+    if (wrong === 1) lines.push(source.pick(['no-such = true', 'no-with = 3', 'for-direction = "of"', 'for-direction = { level = 1 }']));
   }
   return lines.join('\n') + (lines.length > 0 && source.below(4) ? '\n' : '');
 }
@@ -53,7 +57,8 @@ function model(text, settings) {
   if (read === null) return { status: 2, out: '', err: 'jslint: bad settings\n' };
   const reports = runRules({ tree: parsed.tree, text: bytes, scopes: resolve(parsed.tree), extra: extraPairs(parsed.pairs, plan(parsed.tree).wrapped), settings: read });
   const places = linesColumns(bytes, reports.map((it) => it.start));
-  return { status: reports.length > 0 ? 1 : 0, out: reports.map((it, i) => `${places[i]} ${it.rule} ${it.text}\n`).join(''), err: '' };
+  const warns = ({ rule }) => read.rules[rule] === 'warn';
+  return { status: reports.every(warns) ? 0 : 1, out: reports.map((it, i) => `${places[i]} ${it.rule} ${it.text}${warns(it) ? ' (warning)' : ''}\n`).join(''), err: '' };
 }
 
 // A refusal's line; which place an error of syntax names isn't fixed, in settings neither.

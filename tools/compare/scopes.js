@@ -19,7 +19,7 @@ const texts = [...OWN, ...withAdditions(source, Array.from({ length: Number(opti
 function answer(text) {
   const result = parseOnly(text);
   if (!result.ok) return 'refused';
-  const settings = { rules: Object.fromEntries(RULE_NAMES.map((r) => [r, r !== 'no-var'])), globals: ['a', 'zz'], environments: [], allowNull: true, allowComments: true, ignoreUnderscore: false };
+  const settings = { rules: Object.fromEntries(RULE_NAMES.map((r) => [r, r === 'no-var' ? 'off' : 'error'])), globals: ['a', 'zz'], environments: [], allowNull: true, allowComments: true, ignoreUnderscore: false };
   const extra = result.pairs.map((p) => ({ start: p.left, end: p.right + 1 }));
   return runRules({ tree: result.tree, text, scopes: resolve(result.tree), extra, settings }).map((r) => `${r.start}-${r.end} ${r.rule} ${r.text}\n`).join('');
 }

@@ -554,7 +554,7 @@ class Spec {
       throw new AnttError(`${where}: ${moduleName} has no ${name}`);
     }
     const declared = /^Rattle\.(\w+)\.specs\.declared\.(?:.*\.)?(\w+)\.TheVariants$/.exec(moduleName);
-    if (declared && !/option|result/.test(moduleName)) {
+    if (declared && !/\.(?:option|result)\./.test(moduleName)) {
       const variants = this.enums.get(declared[1] + '.' + declared[2]) ?? [...this.enums].find(([k]) => k.endsWith('.' + declared[2]))?.[1];
       const con = variants?.get(name);
       if (con === undefined) throw new AnttError(`${where}: no variant ${declared[2]}::${name} in src/`);

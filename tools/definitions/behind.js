@@ -14,7 +14,7 @@ const { fromToml } = require(path.join(PLAIN_MODEL, 'rules.js'));
 const LONG = 2000;
 
 const isPair = (line) => line.includes(' no-extra-parens ');
-const withoutPairs = (settings) => ({ ...settings, rules: { ...settings.rules, 'no-extra-parens': false } });
+const withoutPairs = (settings) => ({ ...settings, rules: { ...settings.rules, 'no-extra-parens': 'off' } });
 
 // the rows {text, language, settings, want}, of which `want` has a line "LINE:COLUMN RULE TEXT" for each report
 function rowsOfReports() {
@@ -35,7 +35,7 @@ function linesOf(definitions, row) {
   const bytes = Buffer.from(text);
   return definitions.reports(root, text, definitions.found(root), [], settings).map((r) => {
     const before = bytes.subarray(0, r.start).toString().split(/\r\n|[\n\r\u2028\u2029]/);
-    return `${before.length}:${[...before[before.length - 1]].length + 1} ${r.rule} ${r.text}`;
+    return `${before.length}:${[...before[before.length - 1]].length + 1} ${r.rule} ${r.text}${r.warns ? ' (warning)' : ''}`;
   });
 }
 

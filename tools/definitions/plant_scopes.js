@@ -55,7 +55,7 @@ const FAULTS = [
   ['underscore is always ignored', 'rules/specs/Rules.antt', 'not (ignore && begins_with_underscore b.name)', 'not (begins_with_underscore b.name)'],
   ['self shadows', 'rules/specs/Rules.antt', 'b.shadows && not (is_itself b.kind)', 'b.shadows'],
   ['const without value', 'rules/specs/Rules.antt', 'b.settled && not (written m)', 'not (written m)'],
-  ['env is ignored', 'rules/specs/Settings.antt', ' || has_name s.environments name', ''],
+  ['env is ignored', 'rules/specs/Settings.antt', ' || is_of_environment s.environments name', ''],
   ['a worker has the names of a window', 'rules/specs/Environments.antt', 'is_shared_name text || is_worker_member text', 'is_browser_name text || is_worker_member text'],
   ['Jest is Mocha', 'rules/specs/Environments.antt', 'e.jest && is_jest_name text', 'e.mocha && is_jest_name text'],
   ['a name is left out', 'rules/specs/EnvironmentNames.antt', '"importScripts" ∷ ', ''],

@@ -35,26 +35,28 @@ class Reports {
     const { spec } = this.model;
     this.found = spec.fn('found', 'Found', 'scopes');
     this.isOn = spec.fn('is_on', 'Settings', 'rules');
+    this.isWarning = spec.fn('is_warning', 'Settings', 'rules');
     const called = spec.fn('called', 'RuleNames', 'rules'), finds = spec.fn('finds', 'AllRules', 'rules');
     this.rules = antt.toArray(spec.fn('all_rules', 'RuleNames', 'rules')).map((rule) => [antt.text(called(rule)), (view) => finds(rule, view), rule]);
     this.hasGlobal = spec.fn('is_global', 'Settings', 'rules');
   }
   // settings in the form of ../model/rules.js
   settings({ rules, globals, environments, allowNull, allowComments, ignoreUnderscore }) {
+    const at = (severity) => antt.fromArray(this.rules.filter(([name]) => rules[name] === severity).map(([, , rule]) => rule));
     return {
-      on: antt.fromArray(this.rules.filter(([name]) => rules[name]).map(([, , rule]) => rule)), globals: antt.fromArray([...globals].map(antt.bytes)),
-      environments: flagsOf([...environments]), allow_null: allowNull, allow_comments: allowComments, ignore_underscore: ignoreUnderscore,
+      errors: at('error'), warnings: at('warn'), globals: antt.fromArray([...globals].map(antt.bytes)), environments: flagsOf([...environments]),
+      options: { allow_null: allowNull, allow_comments: allowComments, ignore_underscore: ignoreUnderscore },
     };
   }
   // whether a name is global, with one environment on
   isGlobal(name, environment) {
-    return this.hasGlobal(antt.bytes(name), { on: null, globals: null, environments: flagsOf([environment]), allow_null: false, allow_comments: false, ignore_underscore: false });
+    return this.hasGlobal(antt.bytes(name), { errors: null, warnings: null, globals: null, environments: flagsOf([environment]), options: {} });
   }
-  // the reports of the rules that are on, in order; `text` is what the tree was read of, `found` what this.found(tree) answers, `extra` the spans of extra pairs
+  // the reports of the rules that are on, in order, and of each whether it is a warning; `text` is what the tree was read of, `found` what this.found(tree) answers, `extra` the spans of extra pairs
   reports(tree, text, found, extra, settings) {
     const view = { tree, text: antt.bytes(text), found, extra: antt.fromArray(extra), settings: this.settings(settings) };
     return this.rules.filter(([name]) => this.isOn(antt.bytes(name), view.settings)).flatMap(([, rule]) => antt.toArray(rule(view)))
-      .map((r) => ({ start: r.start, end: r.stop, rule: antt.text(r.rule), text: antt.text(r.text) })).sort(ORDER);
+      .map((r) => ({ start: r.start, end: r.stop, rule: antt.text(r.rule), text: antt.text(r.text), warns: this.isWarning(r.rule, view.settings) })).sort(ORDER);
   }
 }
 

@@ -41,7 +41,7 @@ function ofModel({ scopes, references }) {
 // ---------------------------------------------------------------- settings and pairs at random
 
 function settingsOf(random) {
-  const rules = Object.fromEntries(RULE_NAMES.map((name) => [name, random.below(6) !== 0]));
+  const rules = Object.fromEntries(RULE_NAMES.map((name) => [name, ['off', 'warn', 'error'][Math.min(random.below(6), 2)]]));
   return { rules, globals: ['a', 'b', 'c', 'x'].filter(() => random.below(4) === 0), environments: [...ENVIRONMENTS.keys()].filter(() => random.below(4) === 0), allowNull: random.below(2) === 0, allowComments: random.below(2) === 0, ignoreUnderscore: random.below(2) === 0 };
 }
 

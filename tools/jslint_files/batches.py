@@ -5,7 +5,7 @@ from collections import defaultdict
 from .casts import RULE, WORD
 from .checking import TURNS_OFF
 from .engine import LANGUAGE_WORDS
-from .outcomes import ANSWER, Refused
+from .outcomes import ANSWER, Refused, has_errors
 from .reading import read
 from .streams import escaped
 from .traces import TRACES
@@ -70,7 +70,7 @@ class Batches:
         if reports is None or refused is None:
             return {}
         found = {name: ''.join(f'{it[len(name) + 1:]}\n' for it in lines) for name, lines in reports.items() if not refused[name]}
-        wanted = 2 if len(found) < len(names) else 1 if any(found.values()) else 0
+        wanted = 2 if len(found) < len(names) else 1 if any(map(has_errors, found.values())) else 0
         return found if status == wanted and all(map(ANSWER.fullmatch, found.values())) else {}
 
     def run(self, names, settings, language):

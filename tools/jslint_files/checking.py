@@ -34,7 +34,7 @@ def checked(engine, text, settings=b'', language=None):
 def spans_of(engine, text, settings=b'', language=None):
     """Where each report begins and ends, in bytes, with its rule and text, as the program or a library says that."""
     status, out, err = engine.run('spans', text, settings, language=language)
-    found = SPAN.findall(out.decode(errors='replace')) if status == 1 and not err else []
+    found = SPAN.findall(out.decode(errors='replace')) if status in (0, 1) and not err else []
     return [(int(start), int(end), rule, words) for start, end, rule, words in found]
 
 

@@ -19,7 +19,7 @@ def text_of(outcome):
 
 def as_message(it, columns, ends):
     fatal = {} if it.rule or it.is_noted else {'fatal': True}
-    message = {'ruleId': it.rule, **fatal, 'severity': 1 if it.is_noted else 2, 'message': it.text}
+    message = {'ruleId': it.rule, **fatal, 'severity': 1 if it.is_noted or it.is_warning else 2, 'message': it.text}
     message.update(line=it.line, column=columns.units_at(it.line, it.column))
     if it.end:
         message.update(endLine=it.end[0], endColumn=ends[it.end])
@@ -33,11 +33,11 @@ def as_eslint(name, outcome):
     ends = {it: of_ends.units_at(*it) for it in sorted({each.end for each in outcome.found if each.end})}
     messages = [(it, as_message(it, columns, ends)) for it in outcome.found]
     directive = lambda it: {'suppressions': [{'kind': 'directive', 'justification': reason} for reason in it.reasons]}
-    noted = sum(it.is_noted for it in seen)
+    warnings = sum(it.is_noted or it.is_warning for it in seen)
     return {
         'filePath': absolute(name), 'messages': [made for it, made in messages if not it.is_suppressed],
         'suppressedMessages': [{**made, **directive(it)} for it, made in messages if it.is_suppressed],
-        'errorCount': len(seen) - noted, 'fatalErrorCount': sum(it.rule is None and not it.is_noted for it in seen), 'warningCount': noted,
+        'errorCount': len(seen) - warnings, 'fatalErrorCount': sum(it.rule is None and not it.is_noted for it in seen), 'warningCount': warnings,
         'fixableErrorCount': 0, 'fixableWarningCount': 0, **({} if source is None else {'source': source}), 'usedDeprecatedRules': [],
     }
 
@@ -67,7 +67,7 @@ def region_of(it, has_mark):
 def as_result(name, it, has_mark, ids):
     rule = it.rule or 'refused'
     result = {
-        'ruleId': rule, 'ruleIndex': ids.index(rule), 'level': 'warning' if it.rule else 'note' if it.is_noted else 'error',
+        'ruleId': rule, 'ruleIndex': ids.index(rule), 'level': 'note' if it.is_noted else 'warning' if it.is_warning else 'error',
         'message': {'text': it.text + (f' (perhaps: {it.hint})' if it.hint else '')},
         'locations': [{'physicalLocation': {'artifactLocation': artifact(name), 'region': region_of(it, has_mark)}}],
     }
@@ -77,7 +77,7 @@ def as_result(name, it, has_mark, ids):
 
 def described(rule, text):
     is_off = {'enabled': False} if rule in RULES and rule not in ON else {}
-    return {'id': rule, 'shortDescription': {'text': text}, 'defaultConfiguration': {**is_off, 'level': 'error' if rule == 'refused' else 'warning'}}
+    return {'id': rule, 'shortDescription': {'text': text}, 'defaultConfiguration': {**is_off, 'level': 'error'}}
 
 
 def sarif(version):
@@ -105,15 +105,23 @@ def clean(text):
     return re.sub('[^\t\n\r\x20-\ud7ff\ue000-\ufffd\U00010000-\U0010ffff]', '\ufffd', text)
 
 
+def kind_of(seen):
+    """What a case is by what was found."""
+    first = next((it for it in seen if not it.is_warning), None)
+    return None if first is None else 'failure' if first.rule else 'skipped' if first.is_noted else 'error'
+
+
 def as_case(name, outcome):
-    """A script's case, and whether it failed, is an error, or is left out."""
+    """A script's case, and whether it failed, is an error, or is left out; None where it passed."""
     from xml.sax.saxutils import escape, quoteattr
     seen, kind, body = outcome.seen(), None, ''
     if seen:
-        kind = 'failure' if seen[0].rule else 'skipped' if seen[0].is_noted else 'error'
+        kind = kind_of(seen)
         lines = ''.join(f'{it.line}:{it.column} {it.words()}\n' for it in seen)
         message = seen[0].words() if len(seen) == 1 else f'{len(seen)} reports'
-        body = f'<{kind} message={quoteattr(clean(message))}>{escape(clean(lines))}</{kind}>'
+        # (a script with warnings alone passes)
+        head = f'{kind} message={quoteattr(clean(message))}' if kind else 'system-out'
+        body = f'<{head}>{escape(clean(lines))}</{kind or head}>'
     return f'<testcase classname="jslint" name={quoteattr(clean(name))}>{body}</testcase>\n', kind
 
 

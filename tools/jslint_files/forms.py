@@ -2,7 +2,7 @@
 import os
 
 from .checking import lines_of
-from .outcomes import LINE_END
+from .outcomes import LINE_END, MARK
 from .streams import Wrong, escaped, shown
 
 # How much of a long line is shown.
@@ -26,7 +26,7 @@ def github(name, outcome):
     lines = []
     for it in outcome.seen():
         text = it.text + (f' (perhaps: {it.hint})' if it.hint else '')
-        kind, place = 'notice' if it.is_noted else 'error', f'file={value(name, ":,")},line={it.line},col={it.column}'
+        kind, place = 'notice' if it.is_noted else 'warning' if it.is_warning else 'error', f'file={value(name, ":,")},line={it.line},col={it.column}'
         lines.append(f'::{kind} {place},title={value(it.rule or "jslint", ":,")}::{value(text)}\n')
     return ''.join(lines)
 
@@ -91,7 +91,8 @@ def pretty(is_coloured):
         lines = lines_of(outcome.text.decode(errors='replace')) if seen and outcome.text is not None else []
         for it in seen:
             kind = paint('33;1', it.rule) if it.rule else paint('36;1', 'note') if it.is_noted else paint('31;1', 'refused')
-            pieces.append(f'{paint(1, shown(name))}:{it.line}:{it.column}: {kind} {escaped(it.text)}\n')
+            mark = paint(2, MARK) if it.is_warning else ''
+            pieces.append(f'{paint(1, shown(name))}:{it.line}:{it.column}: {kind} {escaped(it.text)}{mark}\n')
             line = lines[it.line - 1] if it.line <= len(lines) else ''
             pieces.append(excerpt(it, line, paint))
             if it.hint:

@@ -50,7 +50,8 @@ def first_reading(languages, read):
 class Languages:
     """In which languages each script is tried. None stands for what its settings say, or the base profile."""
 
-    def __init__(self, engine, options, project, settings_for=None):
+    def __init__(self, engine, options, project, settings_for=None, layers=None):
+        self.layers = layers
         self.engine, self.project, self.settings_for, self.asked = engine, project, settings_for, asked(options)
         self.is_project, self.packages, self.left, self.folders = options['project'], {}, {}, {}
 
@@ -85,7 +86,7 @@ class Languages:
         if self.settings_for:
             return self.settings_for(name)
         found = self.project.settings_of(self.folder_of(name)) if self.is_project else None
-        return found[1] if found else b''
+        return self.layers.of(*found, name) if found and self.layers else found[1] if found else b''
 
     def kind_in(self, folder):
         """What the nearest package.json says that the scripts of a folder are: `module`, `commonjs`, or nothing."""

@@ -1,9 +1,10 @@
 """usage: jslint-files [check] [--edition 2020|2022] [--module] [--settings FILE] [--format FORM] [--color WHEN] [--hints] [--ends] [--unsupported error|note] [--suppressions]
-                    [--max-warnings N] [--project] [--no-ignore] [--allow-none] [--stdin NAME] [--summary] [--jobs N] [--files-from FILE] [--] [FILE ..]
+                    [--max-warnings N] [--rule NAME=SEVERITY] [--only NAME] [--project] [--no-ignore] [--allow-none] [--stdin NAME] [--summary] [--jobs N] [--files-from FILE] [--] [FILE ..]
        jslint-files fix --write|--diff [--edition 2020|2022] [--module] [--drop-comments] [--hints] [--unsupported error|note] [--project] [--no-ignore] [--allow-none]
                     [--stdin NAME] [--summary] [--jobs N] [--files-from FILE] [--] [FILE ..]
        jslint-files unwrap --write|--diff [--drop-casts] [the same, but for --drop-comments] [--] [FILE ..]
        jslint-files --explain RULE|E1..E37
+       jslint-files --print-config FILE | --init
        jslint-files --help|--version
 
 `fix` drops comments. So `fix --write` refuses a script that has any, and says how many, unless --drop-comments is there. `unwrap` keeps them.
@@ -25,6 +26,8 @@ What `jslint check` finds in several scripts, each report with its file's name, 
                       "type": "commonjs" not as modules. Settings and words may leave fewer
   --stdin NAME        the script on standard input, as if it were the file NAME. Rewritten, it goes to standard output, or --diff shows how it differs
   --settings FILE     for each script (jslint check --settings)
+  --rule NAME=WHAT    the rule is off, warn or error (0, 1, 2), whatever the settings say; may stand several times
+  --only NAME         the rule is on, and no other one is but those that further words --only name
   --format unix       FILE:LINE:COLUMN: RULE TEXT, as GNU's compilers do (this is what is printed without --format)
   --format pretty     the same with the line and a mark below it, in colours on a terminal (--color always|never|auto; NO_COLOR)
   --format json       an array in one line, as ESLint's formatter of that name: absolute names, columns in UTF-16 units. --ends adds endLine and endColumn,
@@ -36,8 +39,10 @@ What `jslint check` finds in several scripts, each report with its file's name, 
   --unsupported note  a script that is refused for such a thing, as far as the guess says so, is shown as a note and fails nothing (error: as ever). One with
                       a fault in a language that jslint reads fails
   --suppressions      `// jslint-disable-line RULE, RULE -- WHY` and `// jslint-disable-next-line` turn reports off, but for no-extra-parens
-  --max-warnings N    the status is 0 also with up to N reports
+  --max-warnings N    the status is 0 with up to N reports, errors and warnings, and 1 with more
   --summary           counts, in a line on standard error
+  --print-config FILE what applies to the script, with --project or not, and from where: a key a line
+  --init              writes a first jslint.toml, from package.json and the names that the scripts use
   --explain WHAT      what the documents say of a rule, or of an early error
   --write             replaces each script by its rewritten text, if that differs: a new file beside it is renamed. The mode stays. Where a name is a
                       symbolic link, the file that it leads to is replaced. A script that changed since it was read is refused
@@ -52,7 +57,7 @@ jslint.toml that is refused; its scripts aren't looked at. Control characters in
 a terminal, a line on standard error says how far it is after the first second. A script named check, fix or unwrap stands behind --. Where the first line
 of a script ends in CR LF, so do all lines of its fixed text; a byte order mark and a line of `#!` stay.
 
-The status is 0 where nothing was found; 1 where there is a report or a difference; 2 where a script was refused, there was none to look at, the words or
+The status is 0 where nothing was found, or warnings alone; 1 where there is another report or a difference; 2 where a script was refused, there was none to look at, the words or
 the settings make no sense, or not all could be written (as ESLint's with --exit-on-fatal-error). After an interruption there is no new file, and each
 script is whole.
 JSLINT in the environment is the path of the program; else it is the one beside this file. JSLINT_LIBRARY is that of libjslint.so, which answers in this
@@ -72,13 +77,14 @@ from .checking import Checker
 from .engine import STACK, Library, engine_of, path_of_program, Program
 from .hints import Guesses
 from .languages import Languages, asked
+from .layers import Layers, printed, rules_left, rules_said
 from .outcomes import Outcome, Refused
 from .progress import Progress, Tally, plural
 from .project import Project
 from .reading import pass_on, read
 from .rewriting import Rewriter
 from .rules import explained
-from .settings import Unfit, judge_settings
+from .settings import Unfit
 from .streams import Wrong, say, shown, warn
 from .words import has_hints, judge, number_of_jobs, options_of
 
@@ -94,6 +100,7 @@ class Run:
     def __init__(self, options, names, here):
         self.options, self.project, self.engine = options, Project(not options['no-ignore']), engine_of(here)
         self.is_check, self.advice = options['command'] == 'check', Advice()
+        self.layers = Layers(rules_said(options['rule']), rules_left(options['only']))
         # (the names that are ignored; settings that are refused, by their names; how many scripts these are for)
         self.ignored, self.bad, self.unread = [], {}, 0
         self.names = self.named(names)
@@ -108,7 +115,7 @@ class Run:
             if asked(options) in (None, '2022'):
                 # (they may say the language)
                 self.settings()
-            self.worker = Rewriter(self.engine, options, Languages(self.engine, options, self.project), guesses)
+            self.worker = Rewriter(self.engine, options, Languages(self.engine, options, self.project, layers=self.layers), guesses)
         self.progress, self.tally = Progress(len(self.names)), Tally(options['summary'])
 
     def named(self, names):
@@ -128,23 +135,23 @@ class Run:
         if name is not None:
             try:
                 text = read(name)
-                judge_settings(self.engine, text, asked(self.options))
+                self.layers.judge(self.engine, name, text, asked(self.options))
             except Refused as why:
                 raise Wrong(f'{shown(name)}: {why.words if isinstance(why, Unfit) else why}') from None
-            return lambda _: text
+            return lambda it: self.layers.of(name, text, it)
         if not self.options['project']:
-            return lambda _: b''
+            return lambda it: self.layers.of(None, b'', it)
         found = {it: self.project.settings_of(os.path.realpath(it)) for it in {os.path.dirname(it) for it in self.names}}
         texts = dict(filter(None, found.values()))
         self.leave_bad(found, texts)
-        return lambda it: texts[found[os.path.dirname(it)][0]] if found[os.path.dirname(it)] else b''
+        return lambda it: self.layers.of(*(found[os.path.dirname(it)] or (None, b'')), it)
 
     def leave_bad(self, found, texts):
         """Takes the scripts out whose settings are refused: these are told of instead, and all others are looked at."""
         bad = self.project.bad
         for path in sorted({*texts} - {*bad}):
             try:
-                judge_settings(self.engine, texts[path], asked(self.options))
+                self.layers.judge(self.engine, path, texts[path], asked(self.options))
             except Refused as why:
                 bad[path] = why
         kept = [it for it in self.names if not found[os.path.dirname(it)] or found[os.path.dirname(it)][0] not in bad]
@@ -265,7 +272,9 @@ class Run:
         most = self.options['max-warnings']
         if not self.names and not self.options['allow-none']:
             return 2
-        return 0 if self.tally.worst == 1 and most is not None and self.tally.reports <= int(most) else self.tally.worst
+        if most is None or self.tally.worst == 2:
+            return self.tally.worst
+        return 0 if self.tally.reports <= int(most) else 1
 
 
 def beside(path):
@@ -282,6 +291,31 @@ def is_coloured(wish):
     return wish == 'always' or wish != 'never' and not os.environ.get('NO_COLOR') and os.environ.get('TERM') != 'dumb' and os.isatty(1)
 
 
+def say_init(options, names, here):
+    """A first document of settings, by the scripts that are named, or all below this folder."""
+    from .beginning import SETTINGS, begin
+    if os.path.lexists(SETTINGS):
+        raise Wrong(f'{SETTINGS} is there already')
+    say(begin(Run({**options, 'project': True, 'only': ['no-undef']}, names, here)))
+    return 0
+
+
+def config_of(options, name):
+    """What applies to a script, and from where."""
+    layers = Layers(rules_said(options['rule']), rules_left(options['only']))
+    if options['settings'] is not None:
+        try:
+            return printed(layers, (options['settings'], read(options['settings'])), name)
+        except Refused as why:
+            raise Wrong(f'{shown(options["settings"])}: {why}') from None
+    project = Project()
+    found = project.settings_of(os.path.dirname(os.path.realpath(name)))
+    bad = next(iter(project.bad.items()), None)
+    if bad:
+        raise Wrong(f'{shown(bad[0])}: {bad[1]}')
+    return printed(layers, found, name)
+
+
 def main(words, here):
     options, names = options_of(words)
     if options['help'] or options['version']:
@@ -291,8 +325,13 @@ def main(words, here):
     if options['explain'] is not None:
         say(explained(options['explain']))
         return 0
-    if not names and options['files-from'] is None and options['stdin'] is None and not options['project']:
+    if options['print-config'] is not None:
+        say(config_of(options, options['print-config']))
+        return 0
+    if not names and options['files-from'] is None and options['stdin'] is None and not options['project'] and not options['init']:
         raise Wrong('no file is named (--help)')
+    if options['init']:
+        return say_init(options, names, here)
     jobs = number_of_jobs(options['jobs'])
     run = Run(options, names, here)
     run.tell(jobs)

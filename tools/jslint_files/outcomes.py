@@ -1,34 +1,40 @@
 """What is found in a script, why it is refused, and what came of it."""
 import re
 
-# A line of what `check` answers, and all of them.
-REPORT = re.compile(r'^(\d+):(\d+) (\S+) (.*)$', re.M)
+# What stands behind the text of a warning in a line of what `check` answers; such a line, and all of them.
+MARK = ' (warning)'
+REPORT = re.compile(r'^(\d+):(\d+) (\S+) (.*?)( \(warning\))?$', re.M)
 ANSWER = re.compile(r'(?:\d+:\d+ \S+ [^\n]*\n)*')
 # (whatever the program says behind the place is a guess of its own)
 PLACED = re.compile(r'(.*?) at (\d+):(\d+)(?:[ ,:;(].*)?', re.S)
 LINE_END = re.compile('\r\n|[\n\r\u2028\u2029]')
 
 
+def has_errors(answer):
+    """Whether a line of what `check` answers is no warning."""
+    return answer.count(f'{MARK}\n') != answer.count('\n')
+
+
 class Found:
-    """What was found at a place of a script; a refusal has no rule. Its `end`, if that was asked for, is a line and a column. A `hint` guesses what a refused
+    """What was found at a place of a script; a refusal has no rule. A warning fails nothing. Its `end`, if that was asked for, is a line and a column. A `hint` guesses what a refused
     script has that the profile lacks. `reasons` are those of the comments that turn it off, each of which may be empty."""
 
     hint, is_unsupported, is_noted, reasons, end = None, False, False, (), None
 
-    def __init__(self, line, column, rule, text):
-        self.line, self.column, self.rule, self.text = int(line), int(column), rule, text
+    def __init__(self, line, column, rule, text, mark=''):
+        self.line, self.column, self.rule, self.text, self.is_warning = int(line), int(column), rule, text, bool(mark)
 
     @property
     def is_suppressed(self):
         return bool(self.reasons)
 
     def status(self):
-        return 0 if self.is_suppressed or self.is_noted else 1 if self.rule else 2
+        return 0 if self.is_suppressed or self.is_noted or self.is_warning else 1 if self.rule else 2
 
     def words(self):
         """Its rule and its text, and behind it the guess, if there is one."""
         kind = f'{self.rule} ' if self.rule else 'note: ' if self.is_noted else ''
-        return kind + self.text + (f' (perhaps: {self.hint})' if self.hint else '')
+        return kind + self.text + (MARK if self.is_warning else '') + (f' (perhaps: {self.hint})' if self.hint else '')
 
 
 class Refused(Exception):
@@ -62,7 +68,7 @@ class Outcome:
 
     def status(self):
         if self.is_plain():
-            return 1 if self.answer or self.difference else 0
+            return 1 if self.difference or has_errors(self.answer) else 0
         return max([1 if self.difference else 0, *(it.status() for it in self.list)])
 
     def seen(self):

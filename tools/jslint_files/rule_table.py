@@ -1,4 +1,4 @@
-"""The rules in a sentence each, and which are on without settings. tools/rules writes this file."""
+"""The rules in a sentence each, which are on without settings, and names that do nothing. tools/rules writes this file."""
 RULES = {
     'curly': 'No body of if, else or a loop without braces',
     'eqeqeq': 'Use === and !== instead of == and !=',
@@ -76,3 +76,11 @@ ON = frozenset((
     'no-var',
     'prefer-const',
 ))
+MOOT = {
+    'no-delete-var': 'No delete of a variable',
+    'no-dupe-args': 'No two parameters of one name',
+    'no-nonoctal-decimal-escape': 'No \\8 and \\9 in strings',
+    'no-octal-escape': 'No octal escapes in strings',
+    'no-octal': 'No numbers that begin with a needless 0',
+    'no-with': 'No with statements',
+}

@@ -2,7 +2,7 @@
 import os
 import re
 
-from .rule_table import RULES
+from .rule_table import MOOT, RULES
 from .streams import Wrong, shown
 
 HERE = os.path.dirname(os.path.realpath(__file__))
@@ -25,7 +25,7 @@ def without_links(text):
 
 def explained(word):
     """What the documents say of a rule, or of an early error such as E7."""
-    if word in RULES:
+    if word in RULES or word in MOOT:
         return without_links(page(f'rules/{word}.md')).strip() + '\n'
     number = re.fullmatch('[Ee]([0-9]+)', word)
     row = number and re.search(rf'^\| {int(number[1])} \| (.*?) \| (.*?) \|$', page('USAGE.md').partition('The early errors')[2], re.M)

@@ -1,4 +1,5 @@
 """Why settings are refused: the place or the line, the key and its value. The program says no more than `bad settings` of TOML that doesn't fit."""
+import functools
 import json
 import os
 
@@ -62,6 +63,7 @@ def shown_line(text, line):
 
 # ---- the key and the value, by the schema
 
+@functools.lru_cache(1)
 def schema():
     path = next(filter(os.path.exists, PLACES), None)
     if path is None:
@@ -97,28 +99,48 @@ def listed(values):
 
 def faults(table, value, key=''):
     """What the schema's tables say against a value, in the order of the file."""
+    table = meant(table)
     if table.get('type') == 'object' and isinstance(value, dict):
         known = table['properties']
+        kind = 'rule' if key.endswith('rules') else 'option' if 'rules.' in key else 'key'
         for name, each in value.items():
             below = f'{key}.{name}' if key else name
-            yield from faults(known[name], each, below) if name in known else [f'{cut(below)} = {in_toml(each)}: there is no such {"rule" if key else "key"}']
+            yield from faults(known[name], each, below) if name in known else [f'{cut(below)} = {in_toml(each)}: there is no such {kind}']
+        yield from (f'{key}: there is no {it}' for it in table.get('required', ()) if it not in value)
         if not key and value.get('edition') == 2020 and value.get('source-type') == 'module':
             yield 'source-type = "module": there are none in edition = 2020'
     elif table.get('type') == 'array' and isinstance(value, list):
-        wanted = table['items']
-        yield from (f'{key} has {in_toml(it)}: it takes {listed(wanted["enum"]) if "enum" in wanted else "strings"}' for it in value if not fits(wanted, it))
+        wanted = meant(table['items'])
+        if wanted.get('type') == 'object':
+            yield from (it for at, each in enumerate(value) for it in faults(wanted, each, f'{key}.{at}'))
+            return
+        wish = "there is no such rule" if key == "only" else f"it takes {listed(wanted['enum']) if 'enum' in wanted else 'strings'}"
+        yield from (f"{key} has {in_toml(it)}: {wish}" for it in value if not fits(wanted, it))
+        twice = [it for at, it in enumerate(value) if it in value[:at]] if table.get('uniqueItems') else []
+        yield from (f'{key} has {in_toml(it)} twice' for it in twice)
+    elif 'anyOf' in table and isinstance(value, dict):
+        yield from faults(table['anyOf'][1], value, key)
     elif not fits(table, value):
         yield f'{key} = {in_toml(value)}: it takes {wish_of(table)}'
 
 
+def meant(table):
+    """A table, or the one that it names."""
+    return schema()['properties'][table['$ref'].rpartition('/')[2]] if '$ref' in table else table
+
+
 def fits(table, value):
     """Whether a value is one of those that the schema lists, or of the type that it names."""
+    if 'anyOf' in table:
+        return any(fits(it, value) for it in table['anyOf'])
     if 'enum' in table:
         return any(type(it) is type(value) and it == value for it in table['enum'])
     return isinstance(value, {'boolean': bool, 'string': str}.get(table['type'], ()))
 
 
 def wish_of(table):
+    if 'anyOf' in table:
+        return f'{", ".join(map(in_toml, table["anyOf"][0]["enum"]))} or a table with a severity or options'
     return listed(table['enum']) if 'enum' in table else {'boolean': 'true or false', 'array': 'an array', 'object': 'a table'}.get(table['type'], f'a {table["type"]}')
 
 

@@ -8,11 +8,13 @@ from .streams import Wrong, shown
 COMMANDS = ('check', 'fix', 'unwrap')
 FORMS = ('unix', 'pretty', 'json', 'sarif', 'junit', 'github')
 FLAGS = (
-    'help', 'version', 'module', 'write', 'diff', 'drop-comments', 'drop-casts', 'project', 'no-ignore', 'allow-none', 'hints', 'ends', 'suppressions', 'summary',
+    'help', 'version', 'module', 'write', 'diff', 'drop-comments', 'drop-casts', 'project', 'no-ignore', 'allow-none', 'hints', 'ends', 'suppressions', 'summary', 'init',
 )
-VALUES = ('format', 'settings', 'jobs', 'files-from', 'stdin', 'color', 'unsupported', 'max-warnings', 'explain', 'edition')
+VALUES = ('format', 'settings', 'jobs', 'files-from', 'stdin', 'color', 'unsupported', 'max-warnings', 'explain', 'edition', 'print-config')
+# Those that may stand several times.
+LISTS = ('rule', 'only')
 # Those that `check` alone takes.
-CHECKING = ('format', 'settings', 'color', 'ends', 'suppressions', 'max-warnings', 'explain')
+CHECKING = ('format', 'settings', 'color', 'ends', 'suppressions', 'max-warnings', 'explain', 'print-config', 'rule', 'only', 'init')
 CHOICES = {'edition': ('2020', '2022'), 'format': FORMS, 'unsupported': ('error', 'note'), 'color': ('auto', 'always', 'never')}
 # The forms that show a guess at what a refused script has without being asked for it.
 HINTING = ('pretty', 'sarif', 'junit')
@@ -21,7 +23,7 @@ HINTING = ('pretty', 'sarif', 'junit')
 def options_of(words):
     """The command and the options by name, and the names that stand behind them."""
     values, names = list(words), []
-    options = {'command': values.pop(0) if words and words[0] in COMMANDS else 'check', **dict.fromkeys(FLAGS, False), **dict.fromkeys(VALUES)}
+    options = {'command': values.pop(0) if words and words[0] in COMMANDS else 'check', **dict.fromkeys(FLAGS, False), **dict.fromkeys(VALUES), **{it: [] for it in LISTS}}
     while values:
         word = values.pop(0)
         name, has_value, value = word[2:].partition('=')
@@ -30,10 +32,11 @@ def options_of(words):
             break
         if word == '-h' or word.startswith('--') and name in FLAGS and not has_value:
             options['help' if word == '-h' else name] = True
-        elif word.startswith('--') and name in VALUES:
+        elif word.startswith('--') and name in (*VALUES, *LISTS):
             if not has_value and not values:
                 raise Wrong(f'{word} needs a value')
-            options[name] = value if has_value else values.pop(0)
+            value = value if has_value else values.pop(0)
+            options[name] = [*options[name], value] if name in LISTS else value
         elif word.startswith('-') and word != '-':
             raise Wrong(f'{shown(word)} is no option; a file of that name stands behind --')
         else:
@@ -54,7 +57,7 @@ def judge(options, names):
     if options['module'] and options['edition'] == '2020':
         raise Wrong("--module doesn't go with --edition 2020")
     for name in ('write', 'diff') if is_check else CHECKING:
-        if options[name] not in (None, False):
+        if options[name] not in (None, False, []):
             raise Wrong(f'--{name} is for {"fix and unwrap" if is_check else "check"}')
     if options['drop-comments'] and command != 'fix':
         raise Wrong('--drop-comments is for fix' + (': unwrap keeps them' if command == 'unwrap' else ''))

@@ -221,6 +221,14 @@ const SETTINGS = [
   '', '\n', 'globals = ["a"]', 'globals = ["b", "a"]\nallow-null = true\n', 'ignore-underscore = true', 'allow-null = false\nignore-underscore = false', 'allow-comments = true', 'allow-comments = false', '[rules]\n', '[rules]\nno-var = false\n',
   '[rules]\nno-var = true\neqeqeq = false', 'globals = ["b"]\n[rules]\nno-var = false\n', 'env = ["node"]', 'env = ["mocha", "browser"]\nglobals = ["a"]\nallow-null = true', 'ignore-underscore = true\nglobals = []\n[rules]\nno-empty = false',
   '[rules]\nno-such = true', 'rule = 1', 'globals = [1]', 'allow-null = "yes"', 'allow-comments = 1', 'globals = [', 'a', '[rules', '[rules]\nno-var = 1', 'globals = "a"', 'env = ["x"]', 'env = "node"', 'allow-null = true\nallow-null = true',
+  ...['"off"', '"warn"', '"error"', '0', '1', '2', '3', '-1', '1.0', '"Warn"', '"warning"', '""', '[]', '["warn"]', '{}', '{ severity = "warn" }', '{ severity = false }', '{ severity = 3 }', '{ severity = {} }',
+    '{ Severity = 1 }', '{ allow-null = true }'].map((it) => `rules.no-var = ${it}`),
+  ...['{ allow-null = true }', '{ allow-null = true, severity = 1 }', '{ allow-null = true, severity = 3 }', '{ allow-null = 1 }', '{ allow-comments = true }'].map((it) => `rules.eqeqeq = ${it}`),
+  'allow-null = true\nrules.eqeqeq = { allow-null = false }', 'allow-null = true\nrules.eqeqeq = "warn"', 'allow-null = 1\nrules.eqeqeq = { allow-null = true }', 'rules.no-empty = { allow-comments = true }',
+  'rules.no-unused-vars = { ignore-underscore = true, severity = "off" }', 'extends = "none"\nrules.no-var = {}', 'extends = "none"\nrules.no-var = { severity = 1 }', 'extends = "none"\nrules.no-var = true',
+  'only = []', 'only = ["no-var"]', 'only = ["no-var", "eqeqeq"]\nextends = "none"', 'only = ["no-var"]\nrules.no-var = "warn"', 'only = ["eqeqeq"]\nrules.eqeqeq = "off"\nrules.no-var = "warn"', 'only = ["no-with"]', 'only = ["no-such"]',
+  'only = ["no-var", "no-var"]', 'only = ["no-with", "no-var", "no-with"]', 'only = "no-var"', 'only = [1]', 'only = true', 'only = ["No-var"]', 'Only = []',
+  ...['"error"', 'false', '2', '{ severity = "warn" }', '{}', '"errors"', '{ allow-null = true }'].map((it) => `rules.no-with = ${it}`), 'rules.no-withs = 1', 'rules.no-delete-var = 1\nrules.no-dupe-args = 1\nrules.no-nonoctal-decimal-escape = 1\nrules.no-octal = 1\nrules.no-octal-escape = 1\nrules.no-with = 1',
 ];
 
 // Those that are no TOML, each with the byte at which the crate `toml` says so.
@@ -230,7 +238,9 @@ function settingsRow(text) {
   const found = fromToml(Buffer.from(text));
   if (found === null) return row('settings', text, NOT_TOML.has(text) ? `not TOML at byte ${NOT_TOML.get(text)}` : 'bad settings');
   const { rules, globals, allowNull, allowComments, ignoreUnderscore } = found;
-  return row('settings', text, `((${rules['no-var']}, ${rules.eqeqeq}), ${[...globals].includes('a')}, ${allowNull}, ${allowComments}, ${ignoreUnderscore})`);
+  const both = (test) => `(${test(rules['no-var'])}, ${test(rules.eqeqeq)})`;
+  const warned = [rules['no-var'], rules.eqeqeq].includes('warn') ? ` warned ${both((it) => it === 'warn')}` : '';
+  return row('settings', text, `(${both((it) => it !== 'off')}, ${[...globals].includes('a')}, ${allowNull}, ${allowComments}, ${ignoreUnderscore})${warned}`);
 }
 
 // The tables of a text in both formats, and each of them cut behind each of its lines and inside of each.

@@ -4,6 +4,7 @@ import json
 import os
 import re
 
+from .moot import read_moot
 from .places import plain, read, stray_pages, wished
 from .reading import TOP
 
@@ -71,6 +72,14 @@ def wrong_model(rules, top):
     yield from (f'tools/model/rules.js: {it} is missing in the lists of names, or too much' for it in sorted({*found} ^ wanted))
 
 
+def wrong_moot(_, top):
+    """Names that do nothing which the definitions lack, or have too many."""
+    path = 'crates/rules/specs/RuleNames.antt'
+    listed = re.search(r'^is_moot text =\n(.*?)\n\n', read(path, top) or '', re.M | re.S)
+    found, wanted = {*re.findall(r'codes "([\w-]+)"', listed[1] if listed else '')}, {it.name for it in read_moot(top)}
+    yield from (f'rules/moot/{it}.toml: is_moot of {path} says otherwise' for it in sorted(found ^ wanted))
+
+
 def wrong_versions(rules, top):
     headings = re.findall(r'^## (\d+\.\d+\.\d+)\b', read('CHANGELOG.md', top) or '', re.M)
     yield from (f'rules/{it.name}.toml: CHANGELOG.md has no version {it.since}' for it in rules if it.since not in headings)
@@ -95,7 +104,7 @@ def wrong_numbers(_, top):
         yield from (f'{path}:{text.count(chr(10), 0, it.start()) + 1}: {" ".join(it[0].split())!r}: a number of rules, which no document says by hand' for it in COUNTED.finditer(text))
 
 
-CHECKS = (wrong_texts, wrong_pages, wrong_names, wrong_sets, wrong_model, wrong_versions, wrong_options, wrong_numbers)
+CHECKS = (wrong_texts, wrong_pages, wrong_names, wrong_sets, wrong_moot, wrong_model, wrong_versions, wrong_options, wrong_numbers)
 
 
 def faults(rules, top=TOP):

@@ -41,6 +41,19 @@ def page(rule):
     return '\n\n'.join(it for it in parts if it) + '\n'
 
 
+def page_of_moot(it):
+    """docs/rules/NAME.md of a rule that finds nothing here."""
+    eslint = f' In `eslint:recommended` of ESLint {listed(map(str, it.eslint))}.' if it.eslint else ''
+    standing = f"[The settings](README.md#a-settings-file) take this name of ESLint's, and it does nothing: no text that is read has what the rule looks for.{eslint}"
+    parts = [f'# {it.name}', f'{it.description}.', standing, '## Why it finds nothing', it.why, 'Refused, a script a line:', code(it.refused)]
+    return '\n\n'.join(parts) + '\n'
+
+
+def moot_names(moot):
+    """The names of such rules, each a link to its page."""
+    return f"Settings also take these names of ESLint's, which do nothing, since what they look for is an error in strict code: {', '.join(link(it, '') for it in moot)}.\n"
+
+
 def link(rule, folder):
     return f'[{rule.name}]({folder}{rule.name}.md)'
 

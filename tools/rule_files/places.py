@@ -1,10 +1,12 @@
 """The files that have what is made of the files of the rules, and the place of it in each."""
+import json
 import os
 import re
 from dataclasses import dataclass
 from typing import Callable
 
-from .pages import index, page, readme_table, sets, usage_table
+from .moot import read_moot
+from .pages import index, moot_names, page, page_of_moot, readme_table, sets, usage_table
 from .reading import TOP, Refused
 
 # Between these two lines a document has what is made.
@@ -16,8 +18,8 @@ def plain(text):
     return text.replace('`', '')
 
 
-def names(rules):
-    return ' '.join(it.name for it in rules)
+def all_names(rules, moot):
+    return ' '.join(sorted(it.name for it in (*rules, *moot)))
 
 
 def in_roff(rules):
@@ -36,17 +38,34 @@ def manual(rules):
     return ''.join(f'{head}\n{in_roff(them)}' for head, them in told.items() if them)
 
 
-def schema(rules):
-    line = lambda it: f'        "{it.name}": {{ "type": "boolean", "default": {str(it.on).lower()}, "description": "{plain(it.description)}" }}'
-    return ',\n'.join(map(line, rules)) + '\n'
+MOOT = "Finds nothing in strict code"
+# A severity in the schema: by its name, by its number, or true for "error" and false for "off".
+SEVERITY = '{ "enum": [true, false, "off", "warn", "error", 0, 1, 2] }'
 
 
-def module(rules):
+def schema_of(name, options, is_on, description):
+    """What the schema says of a rule's value: a severity, or a table that may have one, and the rule's options."""
+    keys = ', '.join([f'"severity": {SEVERITY}', *(f'"{it}": {{ "type": "boolean" }}' for it in options)])
+    either = f'{SEVERITY}, {{ "type": "object", "additionalProperties": false, "properties": {{ {keys} }} }}'
+    return f'        "{name}": {{ "anyOf": [{either}], "default": {str(is_on).lower()}, "description": {json.dumps(plain(description), ensure_ascii=False)} }}'
+
+
+def schema(rules, moot):
+    flags = lambda it: [each.key for each in it.options if each.value == 'true']
+    lines = [schema_of(it.name, flags(it), it.on, it.description) for it in rules] + [schema_of(it.name, [], False, f'{MOOT}: {it.description}') for it in moot]
+    return ',\n'.join(sorted(lines)) + '\n'
+
+
+def schema_of_only(rules, moot):
+    return ', '.join(f'"{it}"' for it in all_names(rules, moot).split())
+
+
+def module(rules, moot):
     """tools/jslint_files/rule_table.py"""
-    told = '"""The rules in a sentence each, and which are on without settings. tools/rules writes this file."""\n'
-    lines = ''.join(f'    {it.name!r}: {plain(it.description)!r},\n' for it in rules)
+    told = '"""The rules in a sentence each, which are on without settings, and names that do nothing. tools/rules writes this file."""\n'
+    lines = lambda them: ''.join(f'    {it.name!r}: {plain(it.description)!r},\n' for it in them)
     on = ''.join(f'    {it.name!r},\n' for it in rules if it.on)
-    return f'{told}RULES = {{\n{lines}}}\nON = frozenset((\n{on}))\n'
+    return f'{told}RULES = {{\n{lines(rules)}}}\nON = frozenset((\n{on}))\nMOOT = {{\n{lines(moot)}}}\n'
 
 
 @dataclass(frozen=True)
@@ -56,24 +75,25 @@ class Place:
     pattern: re.Pattern
     made: Callable
 
-    def text(self, old, rules):
+    def text(self, old, rules, moot):
         """The file's text as it should be."""
         found = list(self.pattern.finditer(old))
         if len(found) != 1:
             raise Refused(f'{self.path}: there are {len(found)} places for the rules, and not one')
         start, end = found[0].span(1)
-        return old[:start] + self.made(rules) + old[end:]
+        return old[:start] + self.made(rules, moot) + old[end:]
 
 
 PLACES = (
-    Place('README.md', IN_MARKDOWN, lambda rules: f'\n{readme_table(rules)}\n'),
-    Place('docs/USAGE.md', IN_MARKDOWN, lambda rules: f'\n{usage_table(rules)}\n'),
-    Place('docs/rules/README.md', IN_MARKDOWN, lambda rules: f'\n{index(rules)}\n'),
-    Place('share/man/man1/jslint.1', IN_ROFF, manual),
+    Place('README.md', IN_MARKDOWN, lambda rules, _: f'\n{readme_table(rules)}\n'),
+    Place('docs/USAGE.md', IN_MARKDOWN, lambda rules, _: f'\n{usage_table(rules)}\n'),
+    Place('docs/rules/README.md', IN_MARKDOWN, lambda rules, moot: f'\n{index(rules)}\n{moot_names(moot)}\n'),
+    Place('share/man/man1/jslint.1', IN_ROFF, lambda rules, _: manual(rules)),
     Place('share/jslint/jslint.schema.json', re.compile(r'^    "rules": \{\n(?:      .*\n)*?      "properties": \{\n((?:        .*\n)*)      \}$', re.M), schema),
-    Place('share/bash-completion/completions/jslint', re.compile(r"^    local rules='([^']*)'$", re.M), names),
-    Place('share/zsh/site-functions/_jslint', re.compile(r"'--explain\[[^]]*\]:rule:\(([^)]*)\)'"), names),
-    Place('share/fish/vendor_completions.d/jslint.fish', re.compile(r" -l explain -x -a '([^']*)'"), names),
+    Place('share/jslint/jslint.schema.json', re.compile(r'^    "only": .*?"items": \{ "enum": \[(.*?)\] \}', re.M), schema_of_only),
+    Place('share/bash-completion/completions/jslint', re.compile(r"^    local rules='([^']*)'$", re.M), all_names),
+    Place('share/zsh/site-functions/_jslint', re.compile(r"'--explain\[[^]]*\]:rule:\(([^)]*)\)'"), all_names),
+    Place('share/fish/vendor_completions.d/jslint.fish', re.compile(r" -l explain -x -a '([^']*)'"), all_names),
 )
 # Files that are made as a whole.
 MODULE, PAGES = 'tools/jslint_files/rule_table.py', 'docs/rules'
@@ -89,17 +109,18 @@ def read(path, top=TOP):
 
 def wished(rules, top=TOP):
     """Each file that has something of the rules: its text, and what it should be."""
-    found = {f'{PAGES}/{it.name}.md': page(it) for it in rules} | {MODULE: module(rules)}
+    moot = read_moot(top)
+    found = {f'{PAGES}/{it.name}.md': page(it) for it in rules} | {f'{PAGES}/{it.name}.md': page_of_moot(it) for it in moot} | {MODULE: module(rules, moot)}
     texts = {path: (read(path, top), text) for path, text in found.items()}
     for it in PLACES:
-        old = read(it.path, top)
+        old, new = texts.get(it.path) or (read(it.path, top),) * 2
         if old is None:
             raise Refused(f'{it.path}: there is no such file')
-        texts[it.path] = (old, it.text(old, rules))
+        texts[it.path] = (old, it.text(new, rules, moot))
     return texts
 
 
 def stray_pages(rules, top=TOP):
     """Pages of rules that there are no files of."""
-    known = {'README.md', *(f'{it.name}.md' for it in rules)}
+    known = {'README.md', *(f'{it.name}.md' for it in (*rules, *read_moot(top)))}
     return sorted(it for it in os.listdir(f'{top}/{PAGES}') if it.endswith('.md') and it not in known)

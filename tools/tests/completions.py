@@ -15,7 +15,7 @@ COMMANDS = {'check', 'cost', 'fix', 'help', 'same', 'tree', 'unwrap', 'verify'}
 LANGUAGE = {'--edition', '--module'}
 SHARED = {*LANGUAGE, '--jobs', '--files-from', '--help', '--version', '--project', '--no-ignore', '--allow-none', '--stdin', '--hints', '--unsupported', '--summary'}
 REWRITING = {'--write', '--diff'} | SHARED
-CHECKING = {'--settings', '--format', '--color', '--ends', '--suppressions', '--max-warnings', '--explain'} | SHARED
+CHECKING = {'--settings', '--format', '--color', '--ends', '--suppressions', '--max-warnings', '--explain', '--rule', '--only', '--print-config', '--init'} | SHARED
 SCRIPTS = {'a.js', 'two words.js'}
 # Words of a command line, the last one unfinished; what is offered for it; and what mustn't be.
 ASKED = [

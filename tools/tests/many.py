@@ -23,7 +23,7 @@ from recipes import RIGHT, TOP, WRONG, is_well, same
 
 sys.path.insert(0, f'{TOP}/tools')
 from jslint_files import checking, hints  # noqa: E402
-from jslint_files.rule_table import RULES  # noqa: E402
+from jslint_files.rule_table import MOOT, RULES  # noqa: E402
 
 BUG, CLEAN, MODULE = 'debugger;\n', 'globalThis.a = 1;\n', 'export {};\n'
 FOUND_BUG = '1:1: no-debugger debugger statement\n'
@@ -515,7 +515,7 @@ def counts(room):
 def explained(room):
     """Each rule and each early error, from the documents; a rule's sentence is there for each rule that the documents have."""
     pages = sorted(it[:-3] for it in os.listdir(f'{TOP}/docs/rules') if it != 'README.md')
-    same(sorted(RULES), pages)
+    same(sorted([*RULES, *MOOT]), pages)
     for it in pages:
         status, out, err = files(room, '--explain', it)
         is_well((status, err) == (0, '') and out.startswith(f'# {it}\n') and '](' not in out.replace('](http', ''), it)

@@ -89,7 +89,7 @@ def settings_refused_in_forms(room):
 
 # Settings that are refused, and what is said of them.
 UNFIT = [
-    ('nope = 1', 'nope = 1: there is no such key'), ('rules.no-such = true', 'rules.no-such = true: there is no such rule'), ('rules = 1', 'rules = 1: it takes a table'), ('[rules]\nno-var = "on"', 'rules.no-var = "on": it takes true or false'),
+    ('nope = 1', 'nope = 1: there is no such key'), ('rules.no-such = true', 'rules.no-such = true: there is no such rule'), ('rules = 1', 'rules = 1: it takes a table'), ('[rules]\nno-var = "on"', 'rules.no-var = "on": it takes true, false, "off", "warn", "error", 0, 1, 2 or a table with a severity or options'),
     ('globals = "a"', 'globals = "a": it takes an array'), ('globals = ["a", 1]', 'globals has 1: it takes strings'), ('allow-null = 1', 'allow-null = 1: it takes true or false'), ('edition = 2021', 'edition = 2021: it takes 2020 or 2022'),
     ('edition = "2022"', 'edition = "2022": it takes 2020 or 2022'), ('edition = 2020.0', 'edition = 2020.0: it takes 2020 or 2022'), ('source-type = "commonjs"', 'source-type = "commonjs": it takes "script" or "module"'),
     ('edition = 2020\nsource-type = "module"', 'source-type = "module": there are none in edition = 2020'), ('"a\u202e\\n" = 1', 'a\\u{202e}\\x0a = 1: there is no such key'), ('when = 1979-05-27', 'when = "1979-05-27": there is no such key'),

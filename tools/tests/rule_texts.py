@@ -15,7 +15,7 @@ from recipes import TOP, is_well, same
 
 sys.path.insert(0, f'{TOP}/tools')
 from jslint_files.rule_table import ON  # noqa: E402
-from rule_files import reading  # noqa: E402
+from rule_files import moot, reading  # noqa: E402
 
 WORDS = {'base': [], '2022': ['--edition', '2022'], 'module': ['--module']}
 
@@ -55,6 +55,16 @@ def texts(room):
     asked = [(rule, text, wish) for rule in known for wish, them in ((True, rule.wrong), (False, rule.right)) for text in them]
     answers = [(rule, text, wish, checked(room, rule, text)) for rule, text, wish in asked]
     same([(rule.name, text, answer) for rule, text, wish, answer in answers if is_reported(rule, answer) is not wish], [])
+
+
+def refused(room):
+    """Of each rule that finds nothing, its texts are refused, as scripts of both years and as modules."""
+    for it in moot.read_moot():
+        for text in it.refused:
+            room.put('a.js', text)
+            for words in WORDS.values():
+                status, out, err = room.run(['jslint', 'check', *words, 'a.js'])
+                is_well((status, out) == (2, '') and err.startswith(('jslint: syntax error', 'jslint: early error')), f'{it.name} {text} {err}')
 
 
 def options(room):
@@ -259,4 +269,4 @@ def numbers_by_hand(room):
     same(faults_of(top), (0, []))
 
 
-TESTS = [texts, options, all_known, on_by_default, rewritten, refused_files, refused_places, unlike_crates, numbers_by_hand]
+TESTS = [texts, refused, options, all_known, on_by_default, rewritten, refused_files, refused_places, unlike_crates, numbers_by_hand]

@@ -13,12 +13,15 @@ import rule_texts
 from libraries import Skipped
 from recipes import TOP, is_well, same
 
+recipes.sys.path.insert(0, f'{TOP}/tools')
+from jslint_files.rule_table import MOOT, RULES  # noqa: E402
+
 PLACE = 'share/jslint/jslint.schema.json'
 # What a schema says to people alone.
 WORDS = {'$schema', 'title', 'description', 'default'}
 TYPES = {'object': dict, 'array': list, 'string': str, 'boolean': bool}
 # Values of each kind that TOML has, but for dates.
-VALUES = [True, False, 0, 1, 2020, 2021, -1.5, '', 'a', 'true', 'off', [], [''], ['a'], ['a', 'a'], ['a b', 'é"\\\n'], [1], [True], ['a', 1], [[]], {}, {'a': True}]
+VALUES = ['warn', 'error', 'Off', 'warning', 1, 2, 3, -1, {'severity': 1}, {'severity': 'warning'}, {'severity': {}}, {'allow-null': 1}, {'allow-comments': True}, ['no-var'], ['no-var', 'no-var'], ['no-such'], True, False, 0, 1, 2020, 2021, -1.5, '', 'a', 'true', 'off', [], [''], ['a'], ['a', 'a'], ['a b', 'é"\\\n'], [1], [True], ['a', 1], [[]], {}, {'a': True}]
 # Keys that others' settings have.
 FOREIGN = ['', 'extends', 'env', '$schema', 'plugins', 'ignore', 'include', 'overrides', 'parserOptions', 'severity', 'global', 'semi']
 
@@ -30,14 +33,20 @@ def schema():
 
 def is_valid(it, value):
     """Whether a schema of these few words takes a value. With another word in it, it is to be said here what that means."""
-    unknown = set(it) - WORDS - {'type', 'enum', 'items', 'properties', 'additionalProperties', 'not'}
+    unknown = set(it) - WORDS - {'type', 'enum', 'items', 'properties', 'additionalProperties', 'not', 'anyOf', 'uniqueItems', '$ref', 'required'}
     is_well(not unknown and it.get('additionalProperties', False) is False, unknown)
-    if 'type' in it and type(value) is not TYPES[it['type']] or 'enum' in it and value not in it['enum']:
+    if '$ref' in it:
+        return is_valid(schema()['properties'][it['$ref'].rpartition('/')[2]], value)
+    if 'anyOf' in it:
+        return any(is_valid(each, value) for each in it['anyOf'])
+    if 'type' in it and type(value) is not TYPES[it['type']] or 'enum' in it and (type(value), value) not in [(type(each), each) for each in it['enum']]:
+        return False
+    if isinstance(value, list) and it.get('uniqueItems') and any(each in value[:at] for at, each in enumerate(value)):
         return False
     if isinstance(value, list):
         return all(is_valid(it.get('items', {}), each) for each in value)
     if isinstance(value, dict):
-        return not has_all(it.get('not'), value) and all(key in it['properties'] and is_valid(it['properties'][key], each) for key, each in value.items())
+        return not has_all(it.get('not'), value) and all(key in value for key in it.get('required', ())) and all(key in it['properties'] and is_valid(it['properties'][key], each) for key, each in value.items())
     return True
 
 
@@ -48,14 +57,17 @@ def has_all(it, value):
 
 def samples(it):
     """Values that a schema takes, of each form that it names."""
+    it = schema()['properties'][it['$ref'].rpartition('/')[2]] if '$ref' in it else it
+    if 'anyOf' in it:
+        return [one for each in it['anyOf'] for one in samples(each)]
     if 'enum' in it:
         return it['enum']
     if it['type'] == 'array':
         each = samples(it['items'])
-        return [[], *([one] for one in each), each, each[:1] * 2]
+        return [[], *([one] for one in each), each, *([] if it.get('uniqueItems') else [each[:1] * 2])]
     if it['type'] == 'object':
-        keys = it['properties']
-        return [{}, *({key: one} for key in keys for one in samples(keys[key])), {key: samples(keys[key])[-1] for key in keys}]
+        keys, needed = it['properties'], {key: samples(it['properties'][key])[-1] for key in it.get('required', ())}
+        return [needed, *({**needed, key: one} for key in keys for one in samples(keys[key])), {key: samples(keys[key])[-1] for key in keys}]
     return [True, False] if it['type'] == 'boolean' else ['', 'a', 'two words', 'é"\\\n\U0001f600']
 
 
@@ -96,9 +108,10 @@ def by_program(room, settings):
 
 
 def without_later(it, version):
-    """A schema without the rules of later versions than the program's."""
+    """A schema without the rules of later versions than the program's, and without what jslint-files alone takes."""
     later = [each.name for each in rule_texts.rules() if rule_texts.version_of(each.since) > rule_texts.version_of(version)]
     found = copy.deepcopy(it)
+    del found['properties']['overrides']
     found['properties']['rules']['properties'] = {name: each for name, each in it['properties']['rules']['properties'].items() if name not in later}
     return found
 
@@ -107,6 +120,8 @@ def as_program(room):
     """It takes just what the program takes, rules of later versions aside; each key and rule of the documents is in it; `make install` puts it where
     docs/EDITORS.md says."""
     room.put('a.js', '')
+    if not by_program(room, {'only': []}):
+        raise Skipped('this program is of an earlier version: it has no severities')
     it = without_later(schema(), room.run(['jslint', '--version'])[1].split()[1])
     verdicts = [(is_valid(it, each), each) for each in all_settings(it)]
     same([each for is_taken, each in verdicts if by_program(room, each) != is_taken], [])
@@ -115,8 +130,8 @@ def as_program(room):
     it = schema()
     with open(f'{TOP}/docs/rules/README.md', encoding='utf-8') as file:
         page = file.read()
-    same(sorted(it['properties']['rules']['properties']), sorted(re.findall(r'^\| \[([\w-]+)\]', page, re.M)))
-    same(sorted(it['properties']), sorted(re.findall(r'^\| `([\w-]+)` \| ', page.partition('\n## A settings file\n')[2].partition('\n## ')[0], re.M)))
+    same(sorted(it['properties']['rules']['properties']), sorted({*re.findall(r'^\| \[([\w-]+)\]', page, re.M), *MOOT}))
+    same(sorted({*it['properties']} - {'overrides'}), sorted(re.findall(r'^\| `([\w-]+)` \| ', page.partition('\n## A settings file\n')[2].partition('\n## ')[0], re.M)))
     with open(f'{os.path.dirname(recipes.BIN)}/{PLACE}', encoding='utf-8') as file:
         same(json.load(file), it)
 
@@ -140,10 +155,8 @@ def words(_):
     rules = it['properties'].pop('rules')['properties']
     keys = [*it['properties'].items(), *rules.items()]
     same([key for key, each in keys if not each.get('description') or 'default' in each and not is_valid(each, each['default'])], [])
-    same([key for key, each in keys if 'default' not in each], ['edition', 'source-type'])
-    recipes.sys.path.insert(0, f'{TOP}/tools')
-    from jslint_files.rule_table import RULES
-    same({key: each['description'] for key, each in rules.items()}, RULES)
+    same([key for key, each in keys if 'default' not in each], ['edition', 'source-type', 'only', 'overrides'])
+    same({key: each['description'] for key, each in rules.items()}, RULES | {key: f'Finds nothing in strict code: {it}' for key, it in MOOT.items()})
 
 
 TESTS = [as_program, by_validator, words]

@@ -5,7 +5,8 @@ use crate::plans::spans_of;
 use crate::print::word;
 use parser::Parsed;
 use rules::{
-    NodeRule, RULES, Report, Rule, RuleName, Settings, SettingsError, ShippedRule, View, run_rules,
+    NodeRule, RULES, Report, Rule, RuleName, RuleOption, Settings, SettingsError, ShippedRule,
+    View, run_rules,
 };
 use scopes::{Binding, Reference, Scopes, resolve};
 use spellings::pair_rows;
@@ -103,16 +104,23 @@ impl Rule for LikeNoVar {
     }
 }
 
-/// What settings say: which of two rules are on, whether `a` is a global name, and the three options.
+/// What settings say: which of two rules are on, whether `a` is a global name, the three options, and, if one is, which of the two rules
+/// are warnings.
 fn push_said(settings: &Settings, out: &mut String) -> Result<(), AllocError> {
     let on = (settings.is_on("no-var"), settings.is_on("eqeqeq"));
-    let (null, underscore) = (settings.allows_null(), settings.ignores_underscore());
-    let options = (null, settings.allows_comments(), underscore);
+    let null = settings.has_option(RuleOption::AllowNull);
+    let comments = settings.has_option(RuleOption::AllowComments);
+    let underscore = settings.has_option(RuleOption::IgnoreUnderscore);
     write!(
         out,
         "{:?}",
-        (on, settings.is_global("a"), options.0, options.1, options.2)
-    )
+        (on, settings.is_global("a"), null, comments, underscore)
+    )?;
+    let warned = (settings.is_warning("no-var"), settings.is_warning("eqeqeq"));
+    match warned {
+        (false, false) => Ok(()),
+        _ => write!(out, " warned {warned:?}"),
+    }
 }
 
 /// Why settings are refused. A row whose call was refused memory has no answer.

@@ -59,7 +59,7 @@ view_is language text n P settings view m f spans is tree scopes extra = record 
 
 -- what `check` answers for settings that were read
 checked : (finds : View → List Report) (form : ReportForm) (language : Language) (text : List ℕ) (n : Tree) (P : List Pair) (second output : List ℕ) (settings : Settings) (answer : Answer) → IsUtf8 second
-    → settings_of_text second ≡ Some settings → (lines : ReportsLines finds form language text n P settings answer) → output ≡ report_lines text lines.reports → Checks finds language text n P second output (status_of answer)
+    → settings_of_text second ≡ Some settings → (lines : ReportsLines finds form language text n P settings answer) → output ≡ report_lines settings text lines.reports → Checks finds language text n P second output (status_of answer)
 checked finds form language text n P second output settings answer utf8 are lines is = record {
   settings = settings;
   utf8 = utf8;
@@ -75,8 +75,8 @@ outputs : (finds : View → List Report) (form : ReportForm) (language : Languag
 unfolding checked
 outputs finds Places language text n P second settings answer utf8 are lines = checked finds Places language text n P second (output_of answer) settings answer utf8 are lines lines.are_lines
 outputs finds Spans language text n P second settings answer utf8 are lines = record {
-  with_places = report_lines text lines.reports;
-  checks = checked finds Spans language text n P second (report_lines text lines.reports) settings answer utf8 are lines refl;
+  with_places = report_lines settings text lines.reports;
+  checks = checked finds Spans language text n P second (report_lines settings text lines.reports) settings answer utf8 are lines refl;
   are_spans = lines.are_lines;
 }
 

@@ -70,15 +70,15 @@ pub record Reports (finds : View → List Report) (language : Language) (text : 
   pub all : IsPermutation (finds view) reports
   pub sorted : IsSorted report_cmp reports
 
--- A line for each report under the settings of the second file; the status says whether there is one.
+-- A line for each report under the settings of the second file; the status says whether there is one that is no warning.
 pub record Checks (finds : View → List Report) (language : Language) (text : List ℕ) (n : SyntaxTree) (P : List Pair) (second output : List ℕ) (status : ℕ) : Type 0 where
   pub settings : Settings
   pub utf8 : IsUtf8 second
   pub are_settings : settings_of_text second ≡ Some settings
   pub reports : List Report
   pub are_reports : Reports finds language text n P settings reports
-  pub are_lines : output ≡ report_lines text reports
-  pub is_status : status ≡ report_status reports
+  pub are_lines : output ≡ report_lines settings text reports
+  pub is_status : status ≡ report_status settings reports
 
 -- Of the reports whose lines `check` writes with places, and with its status, the lines with their spans.
 pub record ChecksSpans (finds : View → List Report) (language : Language) (text : List ℕ) (n : SyntaxTree) (P : List Pair) (second output : List ℕ) (status : ℕ) : Type 0 where

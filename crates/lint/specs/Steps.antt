@@ -64,17 +64,17 @@ IsSettingsRefusal bytes refused =
 abbrev pub RefusesSettingsBy : List ℕ → Refused → Type 0
 RefusesSettingsBy bytes refused = (refused ≡ no_memory) ⊎ IsSettingsRefusal bytes refused
 
--- the lines of reports in a form
-abbrev pub lines_in : ReportForm → List ℕ → List Report → List ℕ
-lines_in Places text reports = report_lines text reports
-lines_in Spans text reports = span_lines reports
+-- the lines of reports under settings, in a form
+abbrev pub lines_in : ReportForm → Settings → List ℕ → List Report → List ℕ
+lines_in Places settings text reports = report_lines settings text reports
+lines_in Spans settings text reports = span_lines reports
 
 -- The lines of a script's reports under settings, in a form, and the status.
 pub record ReportsLines (finds : View → List Report) (form : ReportForm) (language : Language) (text : List ℕ) (n : SyntaxTree) (P : List Pair) (settings : Settings) (answer : Answer) : Type 0 where
   pub reports : List Report
   pub are_reports : Reports finds language text n P settings reports
-  pub are_lines : output_of answer ≡ lines_in form text reports
-  pub is_status : status_of answer ≡ report_status reports
+  pub are_lines : output_of answer ≡ lines_in form settings text reports
+  pub is_status : status_of answer ≡ report_status settings reports
 
 -- why no settings are read, by what the second reader has to give
 abbrev pub LacksSettings : Option (List ℕ) → Refused → Bool → Type 0

@@ -148,22 +148,23 @@ fn reports(
     Ok(reports)
 }
 
-/// The lines of reports in a form.
+/// The lines of reports under settings, in a form.
 fn lines_of(
     alloc: Global,
     form: ReportForm,
+    settings: &Settings,
     source: &Source<'_>,
     reports: &[Report],
 ) -> Result<String, AllocError>
-    ensures { IfOk result (λ lines. string_bytes lines ≡ lines_in form source.now reports.now) }
+    ensures { IfOk result (λ lines. string_bytes lines ≡ lines_in form settings.now source.now reports.now) }
 {
     match form {
-        ReportForm::Places => report_lines(alloc, source, reports),
+        ReportForm::Places => report_lines(alloc, settings, source, reports),
         ReportForm::Spans => span_lines(alloc, reports),
     }
 }
 
-/// The lines of a script's reports in a form, and the status: 1 where there is a report, else 0.
+/// The lines of a script's reports in a form, and the status: 1 where there is a report that is no warning, else 0.
 fn report<'s>(
     alloc: Global,
     form: ReportForm,
@@ -179,12 +180,12 @@ fn report<'s>(
     ensures writable { IfOk result IsWritable }
 {
     let reports = reports(alloc, names, rules, source, parsed, settings)?;
-    let lines = lines_of(alloc, form, source, &reports)?;
-    Ok(Answer::Text(lines, report_status(&reports)))
+    let lines = lines_of(alloc, form, settings, source, &reports)?;
+    Ok(Answer::Text(lines, report_status(settings, &reports)))
 }
 
 /// What `check` answers: the lines of the reports in a form, under the settings of the second file, which is read to its end, or to one
-/// byte past the longest text; status 1 where there is a report. The script is read in the language that is asked for and that the settings
+/// byte past the longest text; status 1 where there is a report that is no warning. The script is read in the language that is asked for and that the settings
 /// leave.
 ///
 /// # Errors

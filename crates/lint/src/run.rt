@@ -92,7 +92,7 @@ fn answer_bytes<'s, S: Feed>(
 /// command has a second file. All that takes memory is done before anything is written: the
 /// texts of `fix` and `cost` are made by a plan as they are written. The rules of `check` are those that are handed in: names of rules
 /// that ship with the program, and other rules in boxes. Answers the exit status: 1 where `check` has a
-/// report or `same` has two trees, else 0.
+/// report that is no warning or `same` has two trees, else 0.
 ///
 /// # Errors
 ///

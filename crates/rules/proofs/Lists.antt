@@ -1,5 +1,5 @@
 -- Lists of names: what a test of their elements says, and one more name.
-use Rattle.std.proofs.Common.{◌≡◌, ℕ, suc, ◌+◌, ◌<◌, Bool, List, [], ◌∷◌, Option, Some, None, String, Global, map, option_map, option_and_then, length, drop, get_or, refl, sym, ap, ◌∙◌, add-one, string_bytes}
+use Rattle.std.proofs.Common.{◌≡◌, ℕ, suc, ◌+◌, ◌<◌, List, [], ◌∷◌, Option, Some, None, String, Global, map, option_map, option_and_then, length, drop, get_or, refl, sym, ap, ◌∙◌, add-one, string_bytes}
 use Rattle.std.specs.Prelude.{◌||◌}
 use Rattle.std.specs.List.{list_any}
 use Rattle.std.specs.Str.{bytes_eq}
@@ -16,10 +16,6 @@ use Rattle.toml.specs.Data.{as_str}
 use Rattle.toml.specs.View.{items_view, view}
 use Rattle.toml.specs.declared.value.Value.{Value}
 use Rattle.rules.specs.Toml.{strings_of, with_names}
-
-pub any_map : {X Y : Type 0} (p : Y → Bool) (f : X → Y) (xs : List X) → list_any p (map f xs) ≡ list_any (λ x. p (f x)) xs
-any_map p f [] = refl
-any_map p f (x ∷ xs) = ap (λ b. p (f x) || b) (any_map p f xs)
 
 -- a look-up by order tests for the same bytes
 pub any_at : (w : List ℕ) (ks : List (String Global)) → list_any (is_at (λ k. slice_cmp nat_cmp w (string_bytes k))) ks ≡ list_any (λ x. bytes_eq w x) (map string_bytes ks)

@@ -5,6 +5,8 @@ pub mod EnvironmentNames
 pub mod Environments
 pub mod Languages
 pub mod RuleNames
+pub mod Severities
+pub mod RuleOptions
 pub mod Settings
 pub mod Rules
 pub mod AllRules

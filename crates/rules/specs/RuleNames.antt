@@ -1,5 +1,5 @@
 -- The names of the rules, and sets of rules.
-use Rattle.std.specs.Prelude.{ℕ, Bool, cond, List, [], ◌∷◌, Option, Some, None, codes}
+use Rattle.std.specs.Prelude.{ℕ, Bool, cond, ◌||◌, List, [], ◌∷◌, Option, Some, None, codes}
 use Rattle.std.specs.List.{list_any}
 use Rattle.std.specs.Str.{bytes_eq}
 use Rattle.language.specs.Vocabulary.{is}
@@ -149,6 +149,16 @@ has_name rules text = list_any (λ rule. bytes_eq text (called rule)) rules
 
 unfoldable pub is_rule : List ℕ → Bool
 is_rule text = has_name all_rules text
+
+-- names of ESLint's rules that find nothing in strict code: what they look for is a syntax error or an early error there
+unfoldable pub is_moot : List ℕ → Bool
+is_moot text =
+    bytes_eq text (codes "no-delete-var")
+    || (bytes_eq text (codes "no-dupe-args") || (bytes_eq text (codes "no-nonoctal-decimal-escape") || (bytes_eq text (codes "no-octal") || (bytes_eq text (codes "no-octal-escape") || bytes_eq text (codes "no-with")))))
+
+-- a name that settings may give a rule
+abbrev pub is_known : List ℕ → Bool
+is_known text = is_rule text || is_moot text
 
 -- the rules of a set
 abbrev pub rules_in : RuleSet → List RuleName

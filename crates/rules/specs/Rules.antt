@@ -30,7 +30,7 @@ pub record View : Type 0 where
 
 -- what they ask of the settings
 abbrev pub node_options : Settings → NodeOptions
-node_options s = record { allow_null = s.allow_null; allow_comments = s.allow_comments }
+node_options s = record { allow_null = s.options.allow_null; allow_comments = s.options.allow_comments }
 
 -- what one of them finds
 abbrev pub on_nodes : NodeRule → View → List Report
@@ -136,7 +136,7 @@ abbrev pub no_shadow : View → List Report
 no_shadow v = over_bindings (λ m b. of_shadow b) v
 
 abbrev pub no_unused_vars : View → List Report
-no_unused_vars v = over_bindings (of_unused v.settings.ignore_underscore (is_used false v.found.references)) v
+no_unused_vars v = over_bindings (of_unused v.settings.options.ignore_underscore (is_used false v.found.references)) v
 
 abbrev pub prefer_const : View → List Report
 prefer_const v = over_bindings (of_const (is_used true v.found.references)) v

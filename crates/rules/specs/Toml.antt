@@ -1,15 +1,25 @@
 -- The settings that a TOML text gives; what is TOML is the reading of the crate `toml`.
-use Rattle.std.specs.Prelude.{ℕ, Bool, true, false, cond, ◌&&◌, ◌||◌, nat_le, List, [], ◌∷◌, length, Option, Some, None, option_map, option_and_then, codes}
+use Rattle.std.specs.Prelude.{ℕ, zero, suc, Bool, true, false, cond, ◌&&◌, ◌||◌, nat_eq, nat_le, List, [], ◌∷◌, length, Option, Some, None, is_some, option_map, option_and_then, unwrap_or, codes}
 use Rattle.toml.specs.Data.{Data, Items, no_items, item, Members, no_members, member, get_member, as_bool, as_integer, as_str, as_array, as_table}
 use Rattle.toml.specs.Parse.{parse_document}
 use Rattle.std.specs.BTreeSet.{insert_key}
 use Rattle.std.specs.Cmp.Lexicographic.{slice_cmp}
+use Rattle.std.specs.List.{list_all, list_any}
+use Rattle.std.specs.Option.{option_map_or}
 use Rattle.std.specs.Ordering.{nat_cmp}
 use Rattle.std.specs.Str.{bytes_eq}
-use Rattle.rules.specs.RuleNames.{all_rules, called, has_name, is_rule, rules_in, set_named}
+use Rattle.language.specs.Vocabulary.{is}
+use Rattle.rules.specs.RuleNames.{all_rules, called, has_name, is_known, rules_in, set_named}
+use Rattle.rules.specs.RuleOptions.{is_option, key_of, rule_of}
+use Rattle.rules.specs.Severities.{is_severity, narrowed, severity_named, severity_numbered, severity_of_flag}
 use Rattle.rules.specs.declared.rule_list.RuleName.{RuleName}
+use Rattle.rules.specs.declared.rule_option.RuleOption.{RuleOption}
+use Rattle.rules.specs.declared.rule_option.RuleOption.TheVariants.{AllowNull, AllowComments, IgnoreUnderscore}
+use Rattle.rules.specs.declared.rule_option.RuleOptions.{RuleOptions}
 use Rattle.rules.specs.declared.rule_set.RuleSet.{RuleSet}
 use Rattle.rules.specs.declared.rule_set.RuleSet.TheVariants.{Nine}
+use Rattle.rules.specs.declared.severity.Severity.{Severity}
+use Rattle.rules.specs.declared.severity.Severity.TheVariants.{Warn, Error}
 use Rattle.rules.specs.declared.environment.Environments.{Environments}
 use Rattle.rules.specs.Environments.{environment_of, no_environments, with_environment}
 use Rattle.rules.specs.Languages.{all_languages, both_of, edition_languages, has_none, source_type_languages}
@@ -17,7 +27,7 @@ use Rattle.rules.specs.declared.languages.Languages.{Languages}
 use Rattle.rules.specs.Settings.{Settings}
 
 unfoldable pub is_key : List ℕ → Bool
-is_key text = bytes_eq text (codes "rules") || (bytes_eq text (codes "extends") || (bytes_eq text (codes "globals") || (bytes_eq text (codes "env") || (bytes_eq text (codes "edition") || (bytes_eq text (codes "source-type") || (bytes_eq text (codes "allow-null") || (bytes_eq text (codes "allow-comments") || bytes_eq text (codes "ignore-underscore"))))))))
+is_key text = bytes_eq text (codes "rules") || (bytes_eq text (codes "extends") || (bytes_eq text (codes "only") || (bytes_eq text (codes "globals") || (bytes_eq text (codes "env") || (bytes_eq text (codes "edition") || (bytes_eq text (codes "source-type") || (bytes_eq text (codes "allow-null") || (bytes_eq text (codes "allow-comments") || bytes_eq text (codes "ignore-underscore")))))))))
 
 abbrev pub knows_keys : Members → Bool
 knows_keys no_members = true
@@ -69,41 +79,117 @@ abbrev pub languages_of : Members → Option Languages
 languages_of ms = option_and_then (λ e. option_and_then (λ t. cond (has_none (both_of e t)) None (Some (both_of e t)))
     (source_type_of (get_member (codes "source-type") ms))) (edition_of (get_member (codes "edition") ms))
 
+-- ---- what stands in `rules`
+
+-- a severity, by true or false, by its number or by its name
+abbrev pub severity_said : Data → Option Severity
+severity_said d = option_map_or (λ is_on. Some (severity_of_flag is_on)) (as_bool d) (option_map_or severity_numbered (as_integer d) (option_and_then severity_named (as_str d)))
+
+-- the severity that the value of a rule says: it is one, or a table that may have one
+abbrev pub severity_at : Data → Option Severity
+severity_at d = option_map_or (λ ms. option_and_then severity_said (get_member (codes "severity") ms)) (as_table d) (severity_said d)
+
+-- the table of a rule may have a severity and the options of the rule, each true or false
+abbrev pub fits_key : List ℕ → List ℕ → Data → Bool
+fits_key rule key d = cond (is key "severity") (is_some (severity_said d)) (is_option rule key && is_some (as_bool d))
+
+abbrev pub fits_table : List ℕ → Members → Bool
+fits_table rule no_members = true
+fits_table rule (member k d ms) = fits_key rule k d && fits_table rule ms
+
+-- a rule takes a value
+abbrev pub fits_rule : List ℕ → Data → Bool
+fits_rule rule d = option_map_or (fits_table rule) (as_table d) (is_some (severity_said d))
+
+-- this may stand in `rules`: a name of a rule, and a value that it takes
+unfoldable pub is_setting : List ℕ → Data → Bool
+is_setting rule d = is_known rule && fits_rule rule d
+
 abbrev pub knows_rules : Members → Bool
 knows_rules no_members = true
-knows_rules (member k d ms) = is_rule k && knows_rules ms
+knows_rules (member k d ms) = is_setting k d && knows_rules ms
+
+-- `rules` is left out, or a table of rules, each with a value that it takes
+abbrev pub rules_fit : Option Data → Bool
+rules_fit None = true
+rules_fit (Some d) = option_map_or knows_rules (as_table d) false
+
+-- what stands at a rule there
+abbrev pub value_of_rule : List ℕ → Members → Option Data
+value_of_rule rule ms = option_and_then (λ d. option_and_then (get_member rule) (as_table d)) (get_member (codes "rules") ms)
+
+-- ---- the severity of each rule
 
 -- the set of rules that is extended: the nine where none is named
 abbrev pub set_of_rules : Option Data → Option RuleSet
 set_of_rules None = Some Nine
 set_of_rules (Some d) = option_and_then set_named (as_str d)
 
--- a rule that is left out is on if the set has it
-abbrev pub on_of : Bool → Option Data → Option Bool
-on_of in_set None = Some in_set
-on_of in_set (Some d) = as_bool d
+abbrev pub item_count : Items → ℕ
+item_count no_items = zero
+item_count (item d xs) = suc (item_count xs)
 
--- those of these rules that are on, where each is true, false or left out
-abbrev pub on_among : (set : List RuleName) → List RuleName → Members → Option (List RuleName)
-on_among set [] ms = Some []
-on_among set (r ∷ rs) ms = option_and_then (λ b. option_map (λ on. cond b (r ∷ on) on) (on_among set rs ms)) (on_of (has_name set (called r)) (get_member (called r) ms))
+-- the names in an array are those of rules, and none occurs twice
+abbrev pub are_names : List (List ℕ) → Items → Bool
+are_names names xs = list_all is_known names && nat_eq (length names) (item_count xs)
 
-abbrev pub on_of_members : List RuleName → Members → Option (List RuleName)
-on_of_members set ms = cond (knows_rules ms) (on_among set all_rules ms) None
+-- names of rules, each once
+abbrev pub names_of : Items → Option (List (List ℕ))
+names_of xs = option_and_then (λ names. cond (are_names names xs) (Some names) None) (set_of xs)
 
--- the rules that are on, by the set and by the table `rules`
-abbrev pub rules_on : List RuleName → Option Data → Option (List RuleName)
-rules_on set None = Some set
-rules_on set (Some d) = option_and_then (on_of_members set) (as_table d)
+-- the names of the rules that alone are asked for, if `only` is there
+abbrev pub only_of : Option Data → Option (Option (List (List ℕ)))
+only_of None = Some None
+only_of (Some d) = option_map Some (option_and_then names_of (as_array d))
 
-abbrev pub rules_of : Members → Option (List RuleName)
-rules_of ms = option_and_then (λ set. rules_on (rules_in set) (get_member (codes "rules") ms)) (set_of_rules (get_member (codes "extends") ms))
+-- a severity, where only rules of these names are asked for
+abbrev pub narrowed_to : Option (List (List ℕ)) → List ℕ → Severity → Severity
+narrowed_to None rule severity = severity
+narrowed_to (Some names) rule severity = narrowed (list_any (λ x. bytes_eq rule x) names) severity
+
+-- the severity that `rules` says, and where it says none, an error for a rule of the set, and off for another
+abbrev pub said_of : Bool → Option Data → Severity
+said_of in_set value = unwrap_or (option_and_then severity_at value) (severity_of_flag in_set)
+
+-- the severity of a rule in a document, by the set that it extends, by `only`, and by what stands at the rule
+abbrev pub severity_of : List RuleName → Option (List (List ℕ)) → Members → RuleName → Severity
+severity_of set only ms rule = narrowed_to only (called rule) (said_of (has_name set (called rule)) (value_of_rule (called rule) ms))
+
+-- the rules of a severity
+unfoldable pub rules_at : Severity → (RuleName → Severity) → List RuleName → List RuleName
+rules_at severity of [] = []
+rules_at severity of (r ∷ rs) = cond (is_severity (of r) severity) (r ∷ rules_at severity of rs) (rules_at severity of rs)
+
+-- those of a document
+unfoldable pub all_at : Severity → List RuleName → Option (List (List ℕ)) → Members → List RuleName
+all_at severity set only ms = rules_at severity (severity_of set only ms) all_rules
+
+-- ---- options
+
+-- an option in the table of its rule
+abbrev pub option_in_rule : RuleOption → Members → Option Bool
+option_in_rule o ms = option_and_then as_bool (option_and_then (λ d. option_and_then (get_member (key_of o)) (as_table d)) (value_of_rule (called (rule_of o)) ms))
+
+-- an option: what the table of its rule says, else what its own key says, else it is off
+abbrev pub option_of : RuleOption → Members → Option Bool
+option_of o ms = option_map (unwrap_or (option_in_rule o ms)) (flag_of (get_member (key_of o) ms))
+
+abbrev pub options_of : Members → Option RuleOptions
+options_of ms = option_and_then (λ a. option_and_then (λ c. option_map (λ u. record { allow_null = a; allow_comments = c; ignore_underscore = u })
+    (option_of IgnoreUnderscore ms)) (option_of AllowComments ms)) (option_of AllowNull ms)
+
+-- ---- settings
+
+-- the settings of a document whose keys and rules fit
+abbrev pub settings_with : List RuleName → Option (List (List ℕ)) → Members → Option Settings
+settings_with set only ms =
+    option_and_then (λ g. option_and_then (λ e. option_and_then (λ l. option_map (λ o. record { errors = all_at Error set only ms; warnings = all_at Warn set only ms; globals = g; environments = e; languages = l; options = o })
+    (options_of ms)) (languages_of ms)) (environments_of (get_member (codes "env") ms)))
+    (globals_of (get_member (codes "globals") ms))
 
 abbrev pub settings_of : Members → Option Settings
-settings_of ms = cond (knows_keys ms)
-    (option_and_then (λ o. option_and_then (λ g. option_and_then (λ e. option_and_then (λ l. option_and_then (λ a. option_and_then (λ c. option_map (λ u. record { on = o; globals = g; environments = e; languages = l; allow_null = a; allow_comments = c; ignore_underscore = u })
-    (flag_of (get_member (codes "ignore-underscore") ms))) (flag_of (get_member (codes "allow-comments") ms))) (flag_of (get_member (codes "allow-null") ms))) (languages_of ms)) (environments_of (get_member (codes "env") ms))) (globals_of (get_member (codes "globals") ms)))
-    (rules_of ms))
+settings_of ms = cond (knows_keys ms && rules_fit (get_member (codes "rules") ms))
+    (option_and_then (λ set. option_and_then (λ only. settings_with (rules_in set) only ms) (only_of (get_member (codes "only") ms))) (set_of_rules (get_member (codes "extends") ms)))
     None
 
 -- the settings that a text gives: none where it is refused

@@ -7,6 +7,7 @@ ghost use Rattle.rules.specs.Rules.{begins_with_underscore, is_for_reading, of_u
 
 use crate::bindings::{BindingRule, push_by_use, push_named};
 use crate::rule::Rule;
+use crate::rule_option::RuleOption;
 use crate::view::View;
 use rule_words::Report;
 use scopes::{Binding, BindingKind};
@@ -54,7 +55,7 @@ impl Rule for NoUnusedVars {
     fn check(&self, view: &View, out: &mut Vec<Report>) -> Result<(), AllocError> {
         push_by_use(
             BindingRule::Unused {
-                ignore_underscore: view.settings.ignores_underscore(),
+                ignore_underscore: view.settings.has_option(RuleOption::IgnoreUnderscore),
             },
             self.alloc,
             false,

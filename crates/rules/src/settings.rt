@@ -1,27 +1,37 @@
 //! Settings.
 
+ghost use Rattle.std.specs.Prelude.{◌≡◌, map, string_bytes};
+ghost use Rattle.std.specs.List.{list_any};
+ghost use Rattle.std.specs.Str.{bytes_eq};
+
 use crate::environment::Environments;
 use crate::known_keys::{is_one_of, is_rule};
 use crate::languages::Languages;
-use crate::rule_list::{NINE, RuleName};
-use std::alloc::{AllocError, Global};
+use crate::rule_list::RuleName;
+use crate::rule_option::{RuleOption, RuleOptions};
 use std::collections::BTreeSet;
 use std::marker::Model;
 
-/// Which rules are on, which names a script may use without declaring them, in which environments it runs, in which languages it may be,
-/// and three options of rules.
+/// Whether a name is one of these.
+pub(crate) fn is_among_names(name: &str, names: &BTreeSet<String>) -> bool
+    ensures { result ≡ list_any (λ x. bytes_eq name.now x) (map string_bytes names.now.keys) }
+{
+    names.contains(name)
+}
+
+/// Which rules are on, and whether their reports are errors or warnings, which names a script may use without declaring them, in which
+/// environments it runs, in which languages it may be, and the options of rules.
 ///
 /// The global names stand in a tree by order, not by hash: settings may be a stranger's, who could choose names that hash
 /// alike.
 #[derive(Drop)]
 pub struct Settings {
-    on: Vec<RuleName>,
+    errors: Vec<RuleName>,
+    warnings: Vec<RuleName>,
     globals: BTreeSet<String>,
     environments: Environments,
     languages: Languages,
-    allow_null: bool,
-    allow_comments: bool,
-    ignore_underscore: bool,
+    options: RuleOptions,
 }
 
 impl Model for Settings {
@@ -30,71 +40,57 @@ impl Model for Settings {
 
     ghost Value = { Settings };
 
-    ghost view = { λ s. record { on = s.on.items; globals = map string_bytes s.globals.keys; environments = s.environments; languages = s.languages; allow_null = s.allow_null; allow_comments = s.allow_comments; ignore_underscore = s.ignore_underscore } };
+    ghost view = { λ s. record { errors = s.errors.items; warnings = s.warnings.items; globals = map string_bytes s.globals.keys; environments = s.environments; languages = s.languages; options = s.options } };
 }
 
 impl Settings {
-    ghost use Rattle.std.specs.Prelude.{◌≡◌, IfOk, map, string_bytes};
+    ghost use Rattle.std.specs.Prelude.{◌≡◌, map, string_bytes};
     ghost use Rattle.std.specs.List.{list_any};
     ghost use Rattle.std.specs.Str.{bytes_eq};
-    ghost use Rattle.rules.specs.Settings.{default_settings, is_global, is_on};
+    ghost use Rattle.rules.specs.RuleOptions.{has_option};
+    ghost use Rattle.rules.specs.Settings.{is_global, is_on, is_warning};
 
-    /// Settings with these rules on, these globals, these environments, these languages and these three options.
+    /// Settings with these rules on, whose reports are errors or warnings, these globals, these environments, these languages and these
+    /// options.
     pub(crate) fn new(
-        on: Vec<RuleName>,
+        errors: Vec<RuleName>,
+        warnings: Vec<RuleName>,
         globals: BTreeSet<String>,
         environments: Environments,
         languages: Languages,
-        allow_null: bool,
-        allow_comments: bool,
-        ignore_underscore: bool,
+        options: RuleOptions,
     ) -> Settings
-        ensures { result ≡ record { on = on.items; globals = map string_bytes globals.keys; environments = environments; languages = languages; allow_null = allow_null; allow_comments = allow_comments; ignore_underscore = ignore_underscore } }
+        ensures { result ≡ record { errors = errors.items; warnings = warnings.items; globals = map string_bytes globals.keys; environments = environments; languages = languages; options = options } }
     {
         Settings {
-            on,
+            errors,
+            warnings,
             globals,
             environments,
             languages,
-            allow_null,
-            allow_comments,
-            ignore_underscore,
+            options,
         }
-    }
-
-    /// The settings where nothing is said: nine rules are on, there are no global names and no environments, a script may be in any
-    /// language, the three options are off.
-    ///
-    /// # Errors
-    ///
-    /// `AllocError` where memory is refused, and nothing else.
-    pub fn default_settings(alloc: Global) -> Result<Settings, AllocError>
-        ensures { IfOk result (λ s. s ≡ default_settings) }
-    {
-        let on = Vec::from_slice(alloc, NINE.as_slice())?;
-        Ok(Settings {
-            on,
-            globals: BTreeSet::new(alloc),
-            environments: Environments::none(),
-            languages: Languages::all(),
-            allow_null: false,
-            allow_comments: false,
-            ignore_underscore: false,
-        })
     }
 
     /// Whether a rule of this name is on. A name that no rule here has is on: settings can't turn it off.
     pub fn is_on(&self, name: &str) -> bool
         ensures { result ≡ is_on name.now self.now }
     {
-        is_one_of(name, self.on.as_slice()) || !is_rule(name)
+        is_one_of(name, self.errors.as_slice()) || self.is_warning(name) || !is_rule(name)
+    }
+
+    /// Whether the reports of a rule of this name are warnings: those of a name that no rule here has are errors.
+    pub fn is_warning(&self, name: &str) -> bool
+        ensures { result ≡ is_warning name.now self.now }
+    {
+        is_one_of(name, self.warnings.as_slice())
     }
 
     /// Whether `globals` has the name.
     fn has_global(&self, name: &str) -> bool
         ensures { result ≡ list_any (λ x. bytes_eq name.now x) self.now.globals }
     {
-        self.globals.contains(name)
+        is_among_names(name, &self.globals)
     }
 
     /// Whether `globals` has the name, or one of the environments.
@@ -111,24 +107,10 @@ impl Settings {
         self.languages
     }
 
-    /// Whether `eqeqeq` leaves comparisons with `null` alone.
-    pub fn allows_null(&self) -> bool
-        ensures { result ≡ self.now.allow_null }
+    /// Whether an option of a rule is on.
+    pub fn has_option(&self, option: RuleOption) -> bool
+        ensures { result ≡ has_option self.now.options option }
     {
-        self.allow_null
-    }
-
-    /// Whether `no-empty` leaves blocks alone that have a comment.
-    pub fn allows_comments(&self) -> bool
-        ensures { result ≡ self.now.allow_comments }
-    {
-        self.allow_comments
-    }
-
-    /// Whether `no-unused-vars` leaves names alone that begin with `_`.
-    pub fn ignores_underscore(&self) -> bool
-        ensures { result ≡ self.now.ignore_underscore }
-    {
-        self.ignore_underscore
+        self.options.has(option)
     }
 }

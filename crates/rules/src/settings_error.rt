@@ -9,7 +9,8 @@ pub enum SettingsError {
     Memory,
     /// The text is no TOML document; the place of the error, a byte offset from 0.
     NotToml(usize),
-    /// The text is too long, or has another key, another rule, another set, another environment or a value of another kind.
+    /// The text is too long, or has another key, another rule, another set, another environment or a value of another kind, or
+    /// names a rule twice.
     Unfit,
 }
 

@@ -1,20 +1,23 @@
 //! Settings read from a TOML text.
 
-ghost use Rattle.std.specs.Prelude.{◌≡◌, Some, None, Err, codes, map, option_map, string_bytes, IfOk, IfErr};
+ghost use Rattle.std.specs.Prelude.{◌≡◌, ◌&&◌, nat_eq, length, Some, None, Err, codes, map, option_map, string_bytes, IfOk, IfErr};
 ghost use Rattle.toml.specs.Data.{get_member};
 ghost use Rattle.toml.specs.View.{array_view, items_view, table_view, view};
-ghost use Rattle.rules.specs.Toml.{edition_of, environments_of, flag_of, globals_of, languages_of, on_among, on_of, on_of_members, rules_of, rules_on, set_of, set_of_rules, settings_of, source_type_of, with_environments};
+ghost use Rattle.rules.specs.Toml.{are_names, edition_of, environments_of, globals_of, languages_of, names_of, only_of, set_of, set_of_rules, settings_of, settings_with, source_type_of, with_environments};
 ghost use Rattle.rules.specs.Environments.{no_environments};
-ghost use Rattle.rules.specs.RuleNames.{has_name};
+ghost use Rattle.rules.specs.RuleNames.{is_known, rules_in};
+ghost use Rattle.std.specs.List.{list_all};
 ghost use Rattle.rules.specs.Refusals.{IsRefusal, IsTomlRefusal};
 
 use crate::environment::{Environment, Environments};
-use crate::known_keys::{is_one_of, knows_keys, knows_rules};
+use crate::known_keys::{is_known, knows_keys};
 use crate::languages::Languages;
-use crate::rule_list::{RULES, RuleName};
+use crate::look_up::look;
 use crate::rule_set::RuleSet;
+use crate::rule_settings::{all_at, options_of, rules_fit};
 use crate::settings::Settings;
 use crate::settings_error::SettingsError;
+use crate::severity::Severity;
 use source_text::MAX_BYTES;
 use std::alloc::Global;
 use std::collections::BTreeSet;
@@ -28,23 +31,6 @@ fn toml_refusal(text: &str, error: &toml::de::Error) -> SettingsError
     match error.span() {
         Some(span) => SettingsError::NotToml(text.floor_char_boundary(span.start)),
         None => SettingsError::Memory,
-    }
-}
-
-/// What stands at a key.
-fn look<'t>(table: &'t Table, key: &str) -> Option<&'t Value>
-    ensures { option_map (λ v. view v.now) result ≡ get_member key.now (table_view table.now) }
-{
-    table.get(key)
-}
-
-/// The flag at a key: false if it is left out, none if it is no boolean.
-fn flag(table: &Table, key: &str) -> Option<bool>
-    ensures { result ≡ flag_of (get_member key.now (table_view table.now)) }
-{
-    match look(table, key) {
-        None => Some(false),
-        Some(value) => value.as_bool(),
     }
 }
 
@@ -166,80 +152,80 @@ fn rule_set(table: &Table) -> Option<RuleSet>
     }
 }
 
-/// Whether a rule is on, where that is true, false or left out.
-fn rule_on(set: &[RuleName], name: &str, table: &Table) -> Option<bool>
-    ensures { result ≡ on_of (has_name set.now name.now) (get_member name.now (table_view table.now)) }
+/// Whether all these are names of rules.
+fn are_known(names: &BTreeSet<String>) -> bool
+    ensures { result ≡ list_all (λ k. is_known (string_bytes k)) names.now.keys }
 {
-    match look(table, name) {
-        None => Some(is_one_of(name, set)),
-        Some(value) => value.as_bool(),
-    }
+    names.iter().all(|name| is_known(name.as_str()))
 }
 
-/// Those of these rules that are on.
-fn on_among(
-    alloc: Global,
-    set: &[RuleName],
-    rules: &[RuleName],
-    table: &Table,
-) -> Result<Vec<RuleName>, SettingsError>
-    ensures ok { IfOk result (λ v. on_among set.now rules.now (table_view table.now) ≡ Some v.items) }
-    ensures bad { result ≡ Err SettingsError.Unfit → on_among set.now rules.now (table_view table.now) ≡ None }
-    ensures only { IfErr result IsRefusal }
+/// Whether all these are names of rules, and as many as there are values.
+fn are_known_once(names: &BTreeSet<String>, values: &[Value]) -> bool
+    ensures { result ≡ (list_all (λ k. is_known (string_bytes k)) names.now.keys && nat_eq (length names.now.keys) (length values.now)) }
 {
-    let mut on = Vec::new(alloc);
-    for rule in rules {
-        let Some(is_on) = rule_on(set, rule.as_str(), table) else {
-            return Err(SettingsError::Unfit);
-        };
-        if is_on {
-            on.push(*rule)?;
-        }
-    }
-    Ok(on)
+    are_known(names) && names.len() == values.len()
 }
 
-/// The rules that are on by a set and a table; refused if it has another key or value.
-fn on_of_table(
-    alloc: Global,
-    set: &[RuleName],
-    table: &Table,
-) -> Result<Vec<RuleName>, SettingsError>
-    ensures ok { IfOk result (λ v. on_of_members set.now (table_view table.now) ≡ Some v.items) }
-    ensures bad { result ≡ Err SettingsError.Unfit → on_of_members set.now (table_view table.now) ≡ None }
+/// Whether these, the strings in an array, are names of rules, and none occurs twice in it.
+fn are_names(names: &BTreeSet<String>, values: &[Value]) -> bool
+    ensures { result ≡ are_names (map string_bytes names.now.keys) (items_view values.now) }
+{
+    are_known_once(names, values)
+}
+
+/// The strings of an array of names of rules; refused if another string or value is among them, or one twice.
+fn rule_names(alloc: Global, values: &[Value]) -> Result<BTreeSet<String>, SettingsError>
+    ensures ok { IfOk result (λ s. names_of (items_view values.now) ≡ Some (map string_bytes s.keys)) }
+    ensures bad { result ≡ Err SettingsError.Unfit → names_of (items_view values.now) ≡ None }
     ensures only { IfErr result IsRefusal }
 {
-    if !knows_rules(table) {
+    let names = set(alloc, values)?;
+    if !are_names(&names, values) {
         return Err(SettingsError::Unfit);
     }
-    on_among(alloc, set, RULES.as_slice(), table)
+    Ok(names)
 }
 
-/// The rules that are on by a set and by `rules`: those of the set if it is left out; refused if it is no table of rules.
-fn rules_on(alloc: Global, set: &[RuleName], table: &Table) -> Result<Vec<RuleName>, SettingsError>
-    ensures ok { IfOk result (λ v. rules_on set.now (get_member (codes "rules") (table_view table.now)) ≡ Some v.items) }
-    ensures bad { result ≡ Err SettingsError.Unfit → rules_on set.now (get_member (codes "rules") (table_view table.now)) ≡ None }
+/// The names at `only`, if it is there; refused if it is no array of names of rules, each once.
+fn only(alloc: Global, table: &Table) -> Result<Option<BTreeSet<String>>, SettingsError>
+    ensures ok { IfOk result (λ o. only_of (get_member (codes "only") (table_view table.now)) ≡ Some (option_map (λ names. map string_bytes names.keys) o)) }
+    ensures bad { result ≡ Err SettingsError.Unfit → only_of (get_member (codes "only") (table_view table.now)) ≡ None }
     ensures only { IfErr result IsRefusal }
 {
-    match look(table, "rules") {
-        None => Ok(Vec::from_slice(alloc, set)?),
-        Some(value) => match value.as_table() {
-            Some(rules) => on_of_table(alloc, set, rules),
+    match look(table, "only") {
+        None => Ok(None),
+        Some(value) => match value.as_array() {
+            Some(array) => Ok(Some(rule_names(alloc, array.as_slice())?)),
             None => Err(SettingsError::Unfit),
         },
     }
 }
 
-/// The rules that are on by `extends` and `rules`; refused if one of them has another value.
-fn rules_of(alloc: Global, table: &Table) -> Result<Vec<RuleName>, SettingsError>
-    ensures ok { IfOk result (λ v. rules_of (table_view table.now) ≡ Some v.items) }
-    ensures bad { result ≡ Err SettingsError.Unfit → rules_of (table_view table.now) ≡ None }
+/// The settings of a table whose keys and rules fit, under a set of rules and `only`; refused if another key has a value of another kind.
+fn settings_with(
+    alloc: Global,
+    set: RuleSet,
+    only: &Option<BTreeSet<String>>,
+    table: &Table,
+) -> Result<Settings, SettingsError>
+    ensures ok { IfOk result (λ s. settings_with (rules_in set) (option_map (λ names. map string_bytes names.keys) only.now) (table_view table.now) ≡ Some s) }
+    ensures bad { result ≡ Err SettingsError.Unfit → settings_with (rules_in set) (option_map (λ names. map string_bytes names.keys) only.now) (table_view table.now) ≡ None }
     ensures only { IfErr result IsRefusal }
 {
-    let Some(set) = rule_set(table) else {
+    let globals = globals(alloc, table)?;
+    let Some(environments) = environments(table) else {
         return Err(SettingsError::Unfit);
     };
-    rules_on(alloc, set.rules(), table)
+    let Some(languages) = languages(table) else {
+        return Err(SettingsError::Unfit);
+    };
+    let Some(options) = options_of(table) else {
+        return Err(SettingsError::Unfit);
+    };
+    let rules = set.rules();
+    let errors = all_at(alloc, Severity::Error, rules, only, table)?;
+    let warnings = all_at(alloc, Severity::Warn, rules, only, table)?;
+    Ok(Settings::new(errors, warnings, globals, environments, languages, options))
 }
 
 /// The settings that a table gives; refused if it has another key or value.
@@ -248,47 +234,28 @@ fn settings_of(alloc: Global, table: &Table) -> Result<Settings, SettingsError>
     ensures bad { result ≡ Err SettingsError.Unfit → settings_of (table_view table.now) ≡ None }
     ensures only { IfErr result IsRefusal }
 {
-    if !knows_keys(table) {
+    if !knows_keys(table) || !rules_fit(table) {
         return Err(SettingsError::Unfit);
     }
-    let on = rules_of(alloc, table)?;
-    let globals = globals(alloc, table)?;
-    let Some(environments) = environments(table) else {
+    let Some(set) = rule_set(table) else {
         return Err(SettingsError::Unfit);
     };
-    let Some(languages) = languages(table) else {
-        return Err(SettingsError::Unfit);
-    };
-    let Some(allow_null) = flag(table, "allow-null") else {
-        return Err(SettingsError::Unfit);
-    };
-    let Some(allow_comments) = flag(table, "allow-comments") else {
-        return Err(SettingsError::Unfit);
-    };
-    let Some(ignore_underscore) = flag(table, "ignore-underscore") else {
-        return Err(SettingsError::Unfit);
-    };
-    Ok(Settings::new(
-        on,
-        globals,
-        environments,
-        languages,
-        allow_null,
-        allow_comments,
-        ignore_underscore,
-    ))
+    let only = only(alloc, table)?;
+    settings_with(alloc, set, &only, table)
 }
 
 impl Settings {
     ghost use Rattle.std.specs.Prelude.{◌≡◌, Some, IfErr, IfOk};
     ghost use Rattle.rules.specs.Toml.{settings_of_text};
-    ghost use Rattle.rules.specs.RuleNames.{has_name};
     ghost use Rattle.rules.specs.Refusals.{RefusesToml};
 
     /// The settings of a TOML text: `extends`, the name of a set of rules, which are on: "nine", "recommended", "all" or "none"; `rules`, a
-    /// table of names of rules, each true or false, on or off whatever the set says; `globals`, an array of strings; `env`, an array of names of environments; `edition`, 2020 or 2022, and `source-type`, "script" or "module", where there are
-    /// no modules of 2020; `allow-null`, `allow-comments` and `ignore-underscore`, each true or false;
-    /// each key at most once, and left out as in `default_settings`.
+    /// table of names of rules, each with a severity, by its name, its number, true or false, or with a table that may have a `severity` and the
+    /// options of the rule; `only`, an array of names of rules: they are on, and no others; `globals`, an array of strings; `env`, an array of
+    /// names of environments; `edition`, 2020 or 2022, and `source-type`, "script" or "module", where there are no modules of 2020;
+    /// `allow-null`, `allow-comments` and `ignore-underscore`, each true or false, unless the table of the rule has it; each key at most once.
+    /// Where nothing is said, the nine are on, their reports are errors, and there are no globals and no environments; a script may be in any
+    /// language.
     ///
     /// # Errors
     ///

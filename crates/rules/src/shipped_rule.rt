@@ -15,6 +15,7 @@ use crate::no_unused_vars::NoUnusedVars;
 use crate::prefer_const::PreferConst;
 use crate::rule::Rule;
 use crate::rule_list::RuleName;
+use crate::rule_option::RuleOption;
 use crate::settings::Settings;
 use crate::view::View;
 use node_rules::{NodeOptions, NodeRule, push_found};
@@ -82,8 +83,8 @@ fn node_options(settings: &Settings) -> NodeOptions
     ensures { result ≡ node_options settings.now }
 {
     NodeOptions {
-        allow_null: settings.allows_null(),
-        allow_comments: settings.allows_comments(),
+        allow_null: settings.has_option(RuleOption::AllowNull),
+        allow_comments: settings.has_option(RuleOption::AllowComments),
     }
 }
 

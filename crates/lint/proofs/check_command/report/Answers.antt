@@ -7,6 +7,6 @@ pub returns-clause-lines : goal.returns-clause-lines
 returns-clause-lines g c = λ language. record {
   reports = c.in_ok-reports.reports.items;
   are_reports = c.in_ok-reports.ensures language;
-  are_lines = c.in_ok-lines.ensures ∙ ap (lines_in c.args.form c.args.source.now) c.deref.ensures.value;
-  is_status = c.report_status.ensures ∙ ap report_status c.deref-2.ensures.value;
+  are_lines = c.in_ok-lines.ensures ∙ ap (lines_in c.args.form c.args.settings.now c.args.source.now) c.deref.ensures.value;
+  is_status = c.report_status.ensures ∙ ap (report_status c.args.settings.now) c.deref-2.ensures.value;
 }

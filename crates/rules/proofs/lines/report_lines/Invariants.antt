@@ -6,5 +6,5 @@ use Rattle.rules.proofs.lines.report_lines.Given as goal
 abbrev pub invariant-loop-report : goal.invariant-loop-report
 invariant-loop-report l = record {
   located : IsLocated l.source l.here;
-  written : string_bytes l.lines ++ report_lines l.source (drop l.report-index l.reports) ≡ report_lines l.source l.reports;
+  written : string_bytes l.lines ++ report_lines l.settings l.source (drop l.report-index l.reports) ≡ report_lines l.settings l.source l.reports;
 }

@@ -1,0 +1,248 @@
+//! What settings say of rules.
+
+ghost use Rattle.std.specs.Prelude.{◌≡◌, IfOk, codes, option_map, string_bytes, map};
+ghost use Rattle.std.specs.List.{list_all};
+ghost use Rattle.toml.specs.View.{table_view, view};
+ghost use Rattle.rules.specs.Toml.{all_at, fits_key, fits_rule, fits_table, flag_of, is_setting, knows_rules, narrowed_to, option_in_rule, option_of, options_of, rules_at, rules_fit, said_of, severity_at, severity_of, severity_said};
+ghost use Rattle.toml.specs.Data.{get_member};
+
+use crate::known_keys::{is_known, is_one_of};
+use crate::look_up::{look, look_in, value_of_rule};
+use crate::rule_list::{RULES, RuleName};
+use crate::rule_option::{RuleOption, RuleOptions, is_option};
+use crate::settings::is_among_names;
+use crate::severity::Severity;
+use std::alloc::{AllocError, Global};
+use std::collections::BTreeSet;
+use toml::{Table, Value};
+
+/// The severity that a value says, by true or false, by its number or by its name.
+fn severity_said(value: &Value) -> Option<Severity>
+    ensures { result ≡ severity_said (view value.now) }
+{
+    if let Some(is_on) = value.as_bool() {
+        return Some(Severity::of_flag(is_on));
+    }
+    if let Some(number) = value.as_integer() {
+        return Severity::numbered(number);
+    }
+    match value.as_str() {
+        Some(name) => Severity::named(name),
+        None => None,
+    }
+}
+
+/// The severity that the value of a rule says: it is one, or a table that may have one.
+fn severity_at(value: &Value) -> Option<Severity>
+    ensures { result ≡ severity_at (view value.now) }
+{
+    match value.as_table() {
+        Some(table) => match look(table, "severity") {
+            Some(value) => severity_said(value),
+            None => None,
+        },
+        None => severity_said(value),
+    }
+}
+
+/// Whether the table of a rule may have this value at this key.
+fn fits_key(rule: &str, key: &str, value: &Value) -> bool
+    ensures { result ≡ fits_key rule.now key.now (view value.now) }
+{
+    if key == "severity" {
+        return severity_said(value).is_some();
+    }
+    is_option(rule, key) && value.as_bool().is_some()
+}
+
+/// Whether the table of a rule may have all these entries.
+fn all_fit(rule: &str, table: &Table) -> bool
+    ensures { result ≡ list_all (λ e. fits_key rule.now (string_bytes e.0) (view e.1)) table.now.entries }
+{
+    table
+        .iter()
+        .all(|(key, value)| fits_key(rule, key.as_str(), value))
+}
+
+/// Whether this may be the table of a rule.
+fn fits_table(rule: &str, table: &Table) -> bool
+    ensures { result ≡ fits_table rule.now (table_view table.now) }
+{
+    all_fit(rule, table)
+}
+
+/// Whether a rule takes a value.
+fn fits_rule(rule: &str, value: &Value) -> bool
+    ensures { result ≡ fits_rule rule.now (view value.now) }
+{
+    match value.as_table() {
+        Some(table) => fits_table(rule, table),
+        None => severity_said(value).is_some(),
+    }
+}
+
+/// Whether a name is that of a rule, which takes a value.
+#[tactic(auto, unfolding(crate::specs::Toml::is_setting))]
+fn is_setting(rule: &str, value: &Value) -> bool
+    ensures { result ≡ is_setting rule.now (view value.now) }
+{
+    is_known(rule) && fits_rule(rule, value)
+}
+
+/// Whether all keys are names of rules that take their values.
+fn all_are_rules(table: &Table) -> bool
+    ensures { result ≡ list_all (λ e. is_setting (string_bytes e.0) (view e.1)) table.now.entries }
+{
+    table
+        .iter()
+        .all(|(rule, value)| is_setting(rule.as_str(), value))
+}
+
+/// Whether this may stand at `rules`.
+fn knows_rules(table: &Table) -> bool
+    ensures { result ≡ knows_rules (table_view table.now) }
+{
+    all_are_rules(table)
+}
+
+/// Whether `rules` is left out, or a table of rules, each with a value that it takes.
+pub(crate) fn rules_fit(table: &Table) -> bool
+    ensures { result ≡ rules_fit (get_member (codes "rules") (table_view table.now)) }
+{
+    match look(table, "rules") {
+        None => true,
+        Some(value) => match value.as_table() {
+            Some(rules) => knows_rules(rules),
+            None => false,
+        },
+    }
+}
+
+/// The severity that is said of a rule; where none is, it is an error if the set has it, and else off.
+fn said_of(is_in_set: bool, value: Option<&Value>) -> Severity
+    ensures { result ≡ said_of is_in_set (option_map (λ v. view v.now) value.entry) }
+{
+    let said = match value {
+        Some(value) => severity_at(value),
+        None => None,
+    };
+    match said {
+        Some(severity) => severity,
+        None => Severity::of_flag(is_in_set),
+    }
+}
+
+/// A severity, where only rules of some names are asked for.
+fn narrowed_to(only: &Option<BTreeSet<String>>, rule: &str, severity: Severity) -> Severity
+    ensures { result ≡ narrowed_to (option_map (λ names. map string_bytes names.keys) only.now) rule.now severity }
+{
+    match only {
+        Some(names) => severity.narrowed(is_among_names(rule, names)),
+        None => severity,
+    }
+}
+
+/// The severity of a rule, by the set that is extended, by which rules alone are asked for, and by what stands at it.
+fn severity_of(
+    set: &[RuleName],
+    only: &Option<BTreeSet<String>>,
+    table: &Table,
+    rule: RuleName,
+) -> Severity
+    ensures { result ≡ severity_of set.now (option_map (λ names. map string_bytes names.keys) only.now) (table_view table.now) rule }
+{
+    let name = rule.as_str();
+    let said = said_of(is_one_of(name, set), value_of_rule(table, name));
+    narrowed_to(only, name, said)
+}
+
+/// Those of these rules that have a severity.
+#[tactic(auto, unfolding(crate::specs::Toml::rules_at))]
+fn rules_at(
+    alloc: Global,
+    severity: Severity,
+    set: &[RuleName],
+    only: &Option<BTreeSet<String>>,
+    table: &Table,
+    rules: &[RuleName],
+) -> Result<Vec<RuleName>, AllocError>
+    ensures { IfOk result (λ v. v.items ≡ rules_at severity (severity_of set.now (option_map (λ names. map string_bytes names.keys) only.now) (table_view table.now)) rules.now) }
+{
+    let mut found = Vec::new(alloc);
+    for rule in rules {
+        if severity_of(set, only, table, *rule).is(severity) {
+            found.push(*rule)?;
+        }
+    }
+    Ok(found)
+}
+
+/// The rules that have a severity.
+#[tactic(auto, unfolding(crate::specs::Toml::all_at))]
+pub(crate) fn all_at(
+    alloc: Global,
+    severity: Severity,
+    set: &[RuleName],
+    only: &Option<BTreeSet<String>>,
+    table: &Table,
+) -> Result<Vec<RuleName>, AllocError>
+    ensures { IfOk result (λ v. v.items ≡ all_at severity set.now (option_map (λ names. map string_bytes names.keys) only.now) (table_view table.now)) }
+{
+    rules_at(alloc, severity, set, only, table, RULES.as_slice())
+}
+
+/// The flag at a key: false if it is left out, none if it is no boolean.
+fn flag(table: &Table, key: &str) -> Option<bool>
+    ensures { result ≡ flag_of (get_member key.now (table_view table.now)) }
+{
+    match look(table, key) {
+        None => Some(false),
+        Some(value) => value.as_bool(),
+    }
+}
+
+/// An option in the table of its rule.
+fn option_in_rule(table: &Table, option: RuleOption) -> Option<bool>
+    ensures { result ≡ option_in_rule option (table_view table.now) }
+{
+    let Some(rule) = value_of_rule(table, option.rule().as_str()) else {
+        return None;
+    };
+    match look_in(rule, option.key()) {
+        Some(value) => value.as_bool(),
+        None => None,
+    }
+}
+
+/// An option: what the table of its rule says, else what its own key says, else it is off; none if its key has no boolean.
+fn option_of(table: &Table, option: RuleOption) -> Option<bool>
+    ensures { result ≡ option_of option (table_view table.now) }
+{
+    let Some(flag) = flag(table, option.key()) else {
+        return None;
+    };
+    match option_in_rule(table, option) {
+        Some(flag) => Some(flag),
+        None => Some(flag),
+    }
+}
+
+/// The options; none if a key of one has no boolean.
+pub(crate) fn options_of(table: &Table) -> Option<RuleOptions>
+    ensures { result ≡ options_of (table_view table.now) }
+{
+    let Some(allow_null) = option_of(table, RuleOption::AllowNull) else {
+        return None;
+    };
+    let Some(allow_comments) = option_of(table, RuleOption::AllowComments) else {
+        return None;
+    };
+    let Some(ignore_underscore) = option_of(table, RuleOption::IgnoreUnderscore) else {
+        return None;
+    };
+    Some(RuleOptions {
+        allow_null,
+        allow_comments,
+        ignore_underscore,
+    })
+}

@@ -1,0 +1,212 @@
+"""The settings of each file: those of a `jslint.toml`, what its `[[overrides]]` say of the file, and what the words --rule and --only say.
+
+The program knows the settings of one file. Where there is no more than a document, it gets that as it is; else one is made for each file.
+"""
+import json
+import os
+
+from .ignoring import in_bytes, patterns_of, verdict
+from .outcomes import Refused
+from .rule_table import MOOT, RULES
+from .settings import Unfit, faults, judge_settings, read_toml, schema
+from .streams import Wrong, shown
+
+OVERRIDES, FILES = 'overrides', 'files'
+SEVERITIES = {'off': 'off', '0': 'off', 'false': 'off', 'warn': 'warn', '1': 'warn', 'error': 'error', '2': 'error', 'true': 'error'}
+# Keys whose values are added to those that stand before.
+ADDED = ('env', 'globals')
+
+
+def known_rule(name, word):
+    if name not in RULES and name not in MOOT:
+        raise Wrong(f'{word}: {shown(name)} is no rule: --explain names them all')
+    return name
+
+
+def rules_said(values):
+    """The severities that --rule gives, by their rules."""
+    found = {}
+    for value in values:
+        name, has_value, severity = value.partition('=')
+        known_rule(name, '--rule')
+        if not has_value or severity not in SEVERITIES:
+            raise Wrong(f'--rule {shown(value)}: a rule is NAME=off, NAME=warn or NAME=error')
+        if name in found:
+            raise Wrong(f'--rule has {name} twice')
+        found[name] = SEVERITIES[severity]
+    return found
+
+
+def rules_left(names):
+    """The rules that --only names, or None."""
+    twice = next((it for at, it in enumerate(names) if it in names[:at]), None)
+    if twice is not None:
+        raise Wrong(f'--only has {shown(twice)} twice')
+    return [known_rule(it, '--only') for it in names] or None
+
+
+# ---- TOML
+
+def in_toml(value):
+    """A value of settings as TOML has it."""
+    if isinstance(value, dict):
+        return '{ ' + ', '.join(f'{key_in_toml(key)} = {in_toml(each)}' for key, each in value.items()) + ' }' if value else '{}'
+    if isinstance(value, list):
+        return '[' + ', '.join(map(in_toml, value)) + ']'
+    if isinstance(value, str):
+        return json.dumps(value, ensure_ascii=False).replace('\x7f', '\\u007f')
+    return json.dumps(value, default=str)
+
+
+def key_in_toml(key):
+    return key if key and all(it.isascii() and (it.isalnum() or it in '-_') for it in key) else in_toml(key)
+
+
+def lines_of(settings):
+    """Settings as keys of the document, dotted for rules, each with the text of its value."""
+    for key, value in settings.items():
+        if key == 'rules' and isinstance(value, dict):
+            yield from ((f'rules.{key_in_toml(name)}', in_toml(each)) for name, each in value.items())
+        else:
+            yield key_in_toml(key), in_toml(value)
+
+
+def document(settings):
+    return ''.join(f'{key} = {value}\n' for key, value in lines_of(settings)).encode()
+
+
+# ---- one over another
+
+def over(settings, more):
+    """Settings with others over them: rules one by one, names added, all else in place of what stood there."""
+    found = dict(settings)
+    for key, value in more.items():
+        before = found.get(key)
+        if key == 'rules' and isinstance(before, dict):
+            found[key] = {**before, **{name: rule_over(before.get(name), each) for name, each in value.items()}}
+        elif key in ADDED and before:
+            found[key] = [*before, *(it for it in value if it not in before)]
+        else:
+            found[key] = value
+    return found
+
+
+def rule_over(before, value):
+    """A rule's value over another one: a severity leaves the options that stood there, and a table what it doesn't name."""
+    if not isinstance(before, dict):
+        before = {} if before is None else {'severity': before}
+    if isinstance(value, dict):
+        return {**before, **value}
+    return {**before, 'severity': value} if before.keys() - {'severity'} else value
+
+
+class Override:
+    """What holds for some files: patterns, as in ignore files, from the folder of the document on, and settings."""
+
+    def __init__(self, table):
+        self.patterns = patterns_of('\n'.join(table[FILES]).encode())
+        self.settings = {key: value for key, value in table.items() if key != FILES}
+
+    def has(self, parts):
+        """Whether it holds for a path, by its parts: for that itself, or for a folder on the way."""
+        return any(verdict(parts[:count], count < len(parts), [self.patterns] + [[]] * len(parts)) for count in range(1, len(parts) + 1))
+
+
+class Layers:
+    """Makes the settings of files. `rules` and `only` are what words say."""
+
+    def __init__(self, rules=None, only=None):
+        self.words = {**({'rules': rules} if rules else {}), **({'only': only} if only is not None else {})}
+        self.documents, self.made = {}, {}
+
+    def read(self, path, text):
+        """A document as its settings and its overrides; None where it goes to the program as it is."""
+        if path not in self.documents:
+            self.documents[path] = self.read_anew(path, text)
+        return self.documents[path]
+
+    def read_anew(self, path, text):
+        if not self.words and OVERRIDES.encode() not in text:
+            return None
+        found = read_toml(text) if text else {}
+        if found is None and self.words:
+            if not has_toml():
+                raise Wrong('--rule and --only beside settings need Python 3.11, which reads TOML')
+            return None
+        if found is None or not self.words and OVERRIDES not in found:
+            return None
+        return {key: value for key, value in found.items() if key != OVERRIDES}, found.get(OVERRIDES, [])
+
+    def judge(self, engine, path, text, asked):
+        """Refuses a document that gives no settings: itself, or with one of its overrides."""
+        found = self.read(path, text)
+        if found is None:
+            return judge_settings(engine, text, asked)
+        settings, overrides = found
+        # (the words are judged where they are read)
+        judge_settings(engine, text if OVERRIDES not in (read_toml(text) or {}) else document(settings), asked)
+        table = schema()
+        why = next(faults(table['properties'][OVERRIDES], overrides, OVERRIDES), None) if table else None
+        if why is not None:
+            raise Unfit(f'bad settings: {why}', 1, 1, f'bad settings: {why}')
+        for number, it in enumerate(overrides):
+            try:
+                judge_settings(engine, document(over(settings, Override(it).settings)), asked)
+            except Refused as error:
+                words = f'with {OVERRIDES}.{number}: {error.words if isinstance(error, Unfit) else error}'
+                raise Unfit(words, 1, 1, words) from None
+        return None
+
+    def parts_of(self, path, name):
+        """A script's path from a document's folder, by its parts; None for one that isn't below it."""
+        folder = os.path.dirname(os.path.realpath(path))
+        place = os.path.join(os.path.realpath(os.path.dirname(name)), os.path.basename(name))
+        parts = os.path.relpath(place, folder).split(os.sep)
+        return None if parts[0] == os.pardir else [in_bytes(it) for it in parts]
+
+    def holding(self, path, text, name):
+        """Which overrides of a document hold for a script, by their numbers."""
+        found = self.read(path, text)
+        parts = self.parts_of(path, name) if found and found[1] else None
+        return [number for number, it in enumerate(found[1]) if Override(it).has(parts)] if parts else []
+
+    def settings_of(self, path, text, name):
+        """The settings of a script as a dictionary, and from where each of their keys is."""
+        settings, overrides = self.read(path, text)
+        layers = [(path, settings), *((f'{path}, {OVERRIDES}.{it}', Override(overrides[it]).settings) for it in self.holding(path, text, name))]
+        layers += [('the words', self.words)] if self.words else []
+        made, origins = {}, {}
+        for where, layer in layers:
+            made = over(made, layer)
+            origins.update(dict.fromkeys((key for key, _ in lines_of(layer)), where))
+        return made, origins
+
+    def of(self, path, text, name):
+        """The settings of a script, as the program takes them. `path` is that of their document, or None where there is none."""
+        if self.read(path, text) is None:
+            return text
+        key = (path, *(self.holding(path, text, name) if path is not None else ()))
+        if key not in self.made:
+            self.made[key] = document(self.settings_of(path, text, name)[0])
+        return self.made[key]
+
+
+def has_toml():
+    try:
+        import tomllib  # noqa: F401
+    except ImportError:
+        return False
+    return True
+
+
+def printed(layers, found, name):
+    """What applies to a script, a key a line, and from where it is."""
+    path, text = found or (None, b'')
+    if not has_toml():
+        raise Wrong('--print-config needs Python 3.11, which reads TOML')
+    head = f'# {shown(name)}: ' + (f'{shown(path)}\n' if path else 'no settings: the set nine\n')
+    if layers.read(path, text) is None:
+        settings = read_toml(text) or {}
+        return head + ''.join(f'{key} = {value} # {shown(path)}\n' for key, value in lines_of(settings))
+    settings, origins = layers.settings_of(path, text, name)
+    return head + ''.join(f'{key} = {value} # {shown(str(origins.get(key, path)))}\n' for key, value in lines_of(settings))
