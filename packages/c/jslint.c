@@ -1,7 +1,7 @@
 /* An example: the commands of the program by the library, with the program's words, answers and statuses.
 
        cc -o jslint jslint.c libjslint.a
-       ./jslint fix|unwrap|tree|cost|check FILE
+       ./jslint fix|unwrap|format|tree|cost|check FILE
        ./jslint check --spans --settings SETTINGS FILE
        ./jslint verify FILE TABLE
        ./jslint same FILE OTHER
@@ -89,11 +89,11 @@ static int run(uint32_t language, uint32_t command, const char *name, const char
 }
 
 /* How many commands there are. */
-enum { COMMANDS = JSLINT_SAME + 1 };
+enum { COMMANDS = JSLINT_FORMAT + 1 };
 
 /* The number of a command's name, or COMMANDS. (`check --spans` has no name of its own.) */
 static uint32_t command_of(const char *name) {
-    static const char *const names[COMMANDS] = {"check", "tree", "fix", "cost", "verify", "unwrap", "", "same"};
+    static const char *const names[COMMANDS] = {"check", "tree", "fix", "cost", "verify", "unwrap", "", "same", "format"};
     uint32_t command = 0;
     while (command < COMMANDS && strcmp(name, names[command])) {
         command++;
@@ -139,7 +139,7 @@ static int take(struct line *line, const char *word, const char *next) {
     return 1;
 }
 
-static const char usage[] = "usage: jslint check [--spans] [--settings SETTINGS] FILE, jslint fix|unwrap|tree|cost FILE, jslint verify FILE TABLE, or jslint same FILE OTHER,"
+static const char usage[] = "usage: jslint check [--spans] [--settings SETTINGS] FILE, jslint fix|unwrap|format|tree|cost FILE, jslint verify FILE TABLE, or jslint same FILE OTHER,"
                             " each with --edition 2020|2022 or --module";
 
 int main(int count, char **words) {

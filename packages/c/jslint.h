@@ -1,4 +1,4 @@
-/* jslint for C: the seven commands over bytes in memory, `check` in two forms. docs/EMBEDDING.md says what is proved of them. */
+/* jslint for C: the eight commands over bytes in memory, `check` in two forms, `format` without further words. docs/EMBEDDING.md says what is proved of them. */
 #ifndef JSLINT_H
 #define JSLINT_H
 #include <stddef.h>
@@ -8,7 +8,7 @@ extern "C" {
 #endif
 
 /* JSLINT_SPANS is `check --spans`. */
-enum jslint_command { JSLINT_CHECK, JSLINT_TREE, JSLINT_FIX, JSLINT_COST, JSLINT_VERIFY, JSLINT_UNWRAP, JSLINT_SPANS, JSLINT_SAME };
+enum jslint_command { JSLINT_CHECK, JSLINT_TREE, JSLINT_FIX, JSLINT_COST, JSLINT_VERIFY, JSLINT_UNWRAP, JSLINT_SPANS, JSLINT_SAME, JSLINT_FORMAT };
 
 /* What is said of the language of scripts: nothing (the base profile, or what the settings of `check` say), the base profile, strict scripts of
    ECMAScript 2022 (or what the settings say), modules of it. */

@@ -3,6 +3,7 @@
     import jslint
     jslint.fix('((a))')                                     'a;\\n'
     jslint.unwrap('x = (a); // c')                          'x = a; // c'
+    jslint.format('f( (a),b )')                             'f((a), b);\\n'
     jslint.check('debugger;')                               [Report(line=1, column=1, rule='no-debugger', message='debugger statement')]
     jslint.spans('debugger;')                               [Span(start=0, end=9, rule='no-debugger', message='debugger statement')]
     jslint.tree('a')['body'][0]['type']                     'ExpressionStatement'
@@ -22,7 +23,7 @@ import re
 import threading
 
 LANGUAGES = {None: 0, '2020': 1, '2022': 2, 'module': 3}
-COMMANDS = {'check': 0, 'tree': 1, 'fix': 2, 'cost': 3, 'verify': 4, 'unwrap': 5, 'spans': 6, 'same': 7}
+COMMANDS = {'check': 0, 'tree': 1, 'fix': 2, 'cost': 3, 'verify': 4, 'unwrap': 5, 'spans': 6, 'same': 7, 'format': 8}
 Report = collections.namedtuple('Report', 'line column rule message')
 Span = collections.namedtuple('Span', 'start end rule message')
 Answer = collections.namedtuple('Answer', 'bytes status is_refusal')
@@ -37,7 +38,7 @@ _REFUSALS = [
     (r'syntax error at (\d+):(\d+)', 'syntax', ('line', 'column')), (r'early error E(\d+) at (\d+):(\d+)', 'early', ('number', 'line', 'column')),
     (r'nested too deep', 'deep', ()), (r'not UTF-8 at byte (\d+)', 'utf8', ('byte',)), (r'longer than (\d+) bytes', 'long', ('most',)),
     (r'bad settings at (\d+):(\d+)', 'settings', ('line', 'column')), (r'bad settings', 'settings', ()), (r'bad table row (\d+) (\w+)', 'table', ('row', 'reason')),
-    (r"can't be unwrapped", 'unwrap', ()), (r'out of memory', 'memory', ()), (r'out of stack', 'stack', ()),
+    (r"can't be unwrapped", 'unwrap', ()), (r"can't be formatted", 'format', ()), (r'out of memory', 'memory', ()), (r'out of stack', 'stack', ()),
 ]
 _SECOND = 'second file: '
 # What stands behind them where a later language takes the text.
@@ -46,7 +47,7 @@ _HINT = re.compile(r' \(perhaps: --(?:edition )?(2022|module)\)$')
 
 class Refused(Exception):
     """A text that was refused: the words of the program, as `syntax error at 1:9`, its status, and of the words a code (`syntax`, `early`, `deep`, `utf8`, `long`,
-    `settings`, `table`, `unwrap`, `memory`, `stack`) and what they name: `line`, `column`, `number`, `byte`, `most`, `row`, `reason`, each None where they
+    `settings`, `table`, `unwrap`, `format`, `memory`, `stack`) and what they name: `line`, `column`, `number`, `byte`, `most`, `row`, `reason`, each None where they
     don't. `in_second`: it is the other text of `same`, whose words begin with `second file: `. `hint`: the first later language that takes the text, '2022' or
     'module', else None; the words are without it."""
 
@@ -139,6 +140,11 @@ def fix(text, language=None):
 def unwrap(text, language=None):
     """The script as it stands, comments kept, without its unnecessary parentheses."""
     return _output('unwrap', text, language=language)
+
+
+def format(text, language=None):
+    """The script in lines of 80 columns, comments and parentheses kept."""
+    return _output('format', text, language=language)
 
 
 def check(text, settings='', language=None):

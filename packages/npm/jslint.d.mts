@@ -1,7 +1,7 @@
 /** A script or a second text: a string, or its UTF-8. */
 export type Text = string | Uint8Array;
 /** `spans` is `check --spans`. */
-export type Command = 'check' | 'tree' | 'fix' | 'cost' | 'verify' | 'unwrap' | 'spans' | 'same';
+export type Command = 'check' | 'tree' | 'fix' | 'cost' | 'verify' | 'unwrap' | 'spans' | 'same' | 'format';
 
 /** The base profile, strict scripts of ECMAScript 2022, or its modules. Without one: the base profile, or for `check` and `spans` what the settings say. */
 export type Language = '2020' | '2022' | 'module';
@@ -23,7 +23,7 @@ export interface Span {
   message: string;
 }
 
-export type Code = 'syntax' | 'early' | 'deep' | 'utf8' | 'long' | 'settings' | 'table' | 'unwrap' | 'memory' | 'stack';
+export type Code = 'syntax' | 'early' | 'deep' | 'utf8' | 'long' | 'settings' | 'table' | 'unwrap' | 'format' | 'memory' | 'stack';
 
 /** A text that was refused, in the program's words; `memory` and `stack` are the engine's limits. */
 export class Refused extends Error {
@@ -61,6 +61,8 @@ export function spans(text: Text, options?: { settings?: Text; places?: 'indices
 export function fix(text: Text, options?: { language?: Language }): string;
 /** The script as it stands, comments kept, without its unnecessary parentheses. */
 export function unwrap(text: Text, options?: { language?: Language }): string;
+/** The script in lines of 80 columns, comments and parentheses kept: `jslint format` without further words. */
+export function format(text: Text, options?: { language?: Language }): string;
 /** The tree. Places are indices into the string, as other parsers give them, or bytes. */
 export function tree(text: Text, options?: { places?: 'indices' | 'bytes'; language?: Language }): Node;
 /** The tree as the program writes it: one line of JSON, places in bytes. */

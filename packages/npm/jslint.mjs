@@ -59,5 +59,5 @@ async function hasWorker() {
   return threads !== null && WORKER.protocol === 'file:' && (await import('node:fs')).existsSync(WORKER);
 }
 
-export const { run, check, spans, fix, unwrap, tree, treeText, cost, verify, same } = commandsOf(module, await hasWorker() ? runDeeper : undefined);
+export const { run, check, spans, fix, unwrap, format, tree, treeText, cost, verify, same } = commandsOf(module, await hasWorker() ? runDeeper : undefined);
 export { Refused, indexOf } from './core.mjs';

@@ -11,7 +11,7 @@ import recipes
 from libraries import tool
 from recipes import is_well, same
 
-COMMANDS = {'check', 'cost', 'fix', 'help', 'same', 'tree', 'unwrap', 'verify'}
+COMMANDS = {'check', 'cost', 'fix', 'format', 'help', 'same', 'tree', 'unwrap', 'verify'}
 LANGUAGE = {'--edition', '--module'}
 SHARED = {*LANGUAGE, '--jobs', '--files-from', '--help', '--version', '--project', '--no-ignore', '--allow-none', '--stdin', '--hints', '--unsupported', '--summary'}
 REWRITING = {'--write', '--diff'} | SHARED
@@ -23,6 +23,8 @@ ASKED = [
     ('jslint help ', COMMANDS - {'help'}, SCRIPTS), ('jslint check ', SCRIPTS, COMMANDS), ('jslint check -', {'--settings', '--spans', '--list', '--help', *LANGUAGE}, {'--version'}),
     ('jslint check --settings ', {'s.toml'}, COMMANDS), ('jslint unwrap ', SCRIPTS, COMMANDS), ('jslint verify ', SCRIPTS, COMMANDS), ('jslint same a.js ', SCRIPTS, COMMANDS),
     ('jslint verify a.js ', {'table'}, COMMANDS), ('jslint fix -', {'--help', *LANGUAGE}, {'--settings', '--list', '--write'}),
+    ('jslint format -', {'--width', '--indent', '--tabs', '--commas', '--bare-arrows', '--fewest', '--check', '--help', *LANGUAGE}, {'--settings', '--write'}),
+    ('jslint format --commas ', {'none', 'lists', 'all'}, SCRIPTS), ('jslint format ', SCRIPTS, COMMANDS), ('jslint format --ch', {'--check'}, {'--commas'}),
     ('jslint same --edition ', {'2020', '2022'}, SCRIPTS), ('jslint-files --edition ', {'2020', '2022'}, SCRIPTS), ('jslint help -', set(), LANGUAGE),
     ('jslint-files ', {'check', 'fix', 'unwrap'} | SCRIPTS, {'tree'}), ('jslint-files -', CHECKING, {'--write'}),
     ('jslint-files check -', CHECKING, {'--write'}), ('jslint-files fix -', REWRITING | {'--drop-comments'}, {'--settings', '--format', '--drop-casts'}),

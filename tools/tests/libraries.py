@@ -410,7 +410,7 @@ def by_node(folder):
 
 def by_emulator(words):
     """Answers by answers.c in a process of its own."""
-    process, numbers = subprocess.Popen(words, stdin=subprocess.PIPE, stdout=subprocess.PIPE), ['check', 'tree', 'fix', 'cost', 'verify', 'unwrap', 'spans', 'same']
+    process, numbers = subprocess.Popen(words, stdin=subprocess.PIPE, stdout=subprocess.PIPE), ['check', 'tree', 'fix', 'cost', 'verify', 'unwrap', 'spans', 'same', 'format']
 
     def answers(name, text, second):
         second = second or b''

@@ -321,6 +321,17 @@ def ordered(name):
     return run
 
 
+def formatted(words):
+    """What `format` answers with these words; a text that it writes is formatted to itself."""
+    def run(texts, want):
+        def answer_of(text):
+            return call(['format', *words, *language_words(), '--', file_of('script', text)]) if words else command('format', text)
+        answer = answer_of(texts[0].encode())
+        again = answer if answer.status or '--check' in words else answer_of(answer.out.encode())
+        return hold(outcome(answer) == want and again.out == answer.out, answer, again)
+    return run
+
+
 def check_bytes(texts, want):
     answer = command('check', texts[0].encode(), bytes.fromhex(texts[1]))
     return hold(outcome(answer) == want, answer)
@@ -408,7 +419,7 @@ def json_row(texts, want):
 
 
 # What the commands answer for `((a));`, with settings that turn its reports off, and with its table.
-ASKED = {'check': (0, ''), 'spans': (0, ''), 'fix': (0, 'a;\n'), 'unwrap': (0, 'a;'), 'cost': (0, 'jslint-cost 2\n1 Identifier\ntotal 0\n'), 'verify': (0, 'pairs 2 least 0\n'), 'tree': (0, None), 'same': (0, '')}
+ASKED = {'check': (0, ''), 'spans': (0, ''), 'fix': (0, 'a;\n'), 'unwrap': (0, 'a;'), 'cost': (0, 'jslint-cost 2\n1 Identifier\ntotal 0\n'), 'verify': (0, 'pairs 2 least 0\n'), 'tree': (0, None), 'same': (0, ''), 'format': (0, '((a));\n')}
 OFF = b'[rules]\nno-undef = false\nno-extra-parens = false\n'
 SECONDS = {'check': OFF, 'spans': OFF, 'verify': ASKED['cost'][1].encode(), 'same': b'a'}
 # And without settings.
@@ -418,13 +429,20 @@ REPORTED = {
 }
 
 
-# What is said of words that ask for no language.
-NO_LANGUAGE = {'Edition': 'jslint: --edition is 2020 or 2022\n', 'Module': "jslint: --module doesn't go with --edition 2020\n"}
+def asked_of(name, want, has_second):
+    """The status and the output for a command with its choices."""
+    if name != 'format':
+        return (ASKED if has_second else {**ASKED, **REPORTED})[name]
+    return (1, '') if 'check: true' in want else (0, 'a;\n') if 'fewest: true' in want else ASKED[name]
+
+
+# What is said of options that can't be taken.
+NO_LANGUAGE = {'Commas': 'jslint: --commas is none, lists or all\n', 'Edition': 'jslint: --edition is 2020 or 2022\n', 'Module': "jslint: --module doesn't go with --edition 2020\n"}
 
 
 def command_line(texts, want):
     words = texts[0].split(' ')[1:]
-    asked = re.fullmatch(r'\((\w+)(?:\((\w+)\))?, "(.*?)", (?:None|Some\("(.*)"\))\)(?: (wrong )?(?!list)(\w+))?( list)?', want)
+    asked = re.fullmatch(r'\((\w+)(?:\((\w+)(?: \{.*?\})?\))?, "(.*?)", (?:None|Some\("(.*)"\))\)(?: (wrong )?(?!list)(\w+))?( list)?', want)
     with tempfile.TemporaryDirectory(dir=ROOM.name) as folder:
         given = script = b'((a));'
         if asked and asked[7]:
@@ -453,7 +471,7 @@ def command_line(texts, want):
         return hold((answer.out, answer.err) == ('', 'jslint: bad table row 0 Form\n' if name == 'verify' else 'jslint: bad settings at 1:1\n'), answer)
     if second == '':
         return hold((answer.status, answer.err) == (2, 'jslint: read failed: : missing\n'), answer)
-    status, out = (ASKED if second is not None else {**ASKED, **REPORTED})[name]
+    status, out = asked_of(name, want, second is not None)
     if asked[7]:
         out = ''.join(f'listed.js:{it}' for it in out.splitlines(True))
     return hold((answer.status, answer.err) == (status, '') and answer.out == (out if out is not None else answer.out), answer)
@@ -476,9 +494,19 @@ def call_of(line):
     return (language, call) if language in LANGUAGES else (None, name)
 
 
+def is_format(name):
+    return name.split(' ')[0] == 'format'
+
+
+def holder_of(name):
+    """What holds the rows of a call, if they can be said. (Behind `format` stand its words.)"""
+    return formatted(name.split(' ')[1:]) if is_format(name) else CALLS.get(name)
+
+
 def asks_command(row):
     """Whether a row asks what a command answers, and not how the program treats its files."""
-    return call_of(row[1])[1] not in OF_PROGRAM
+    name = call_of(row[1])[1]
+    return name not in OF_PROGRAM and not (is_format(name) and ' ' in name)
 
 
 def each_fifth(found):
@@ -498,7 +526,7 @@ def rows_in(folder):
         with open(f'{folder}/{name}', encoding='utf-8', newline='\n') as file:
             for number, line in enumerate(file, 1):
                 line = line[:-1] if line.endswith('\n') else line
-                if line and not line.startswith('#') and call_of(line)[1] in CALLS:
+                if line and not line.startswith('#') and holder_of(call_of(line)[1]):
                     yield f'{name}:{number}', line
 
 
@@ -509,7 +537,7 @@ def try_row(row):
     _, *texts, want = line.split('\t')
     LANGUAGE, name = call_of(line)
     try:
-        found = CALLS[name]([meant(it) for it in texts], meant(want))
+        found = holder_of(name)([meant(it) for it in texts], meant(want))
     except Exception as error:
         found = f'{type(error).__name__}: {error}'
     return found and f'crates/cases/data/{at}: {line[:300]}\n    is {found[:900]}'

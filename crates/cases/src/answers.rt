@@ -4,8 +4,8 @@ use crate::case::Case;
 use crate::finished::push_difference_of_source;
 use crate::refusals::push_refusal;
 use crate::{
-    cursors, devices, embedded, heights, lexemes, nodes, parsed, plans, refusals, reports, runs,
-    words,
+    cursors, devices, embedded, formatted, heights, lexemes, nodes, parsed, plans, refusals,
+    reports, runs, words,
 };
 use source_text::Source;
 use std::alloc::{AllocError, Global};
@@ -112,6 +112,7 @@ fn of_source(
         "fix" => parsed::push_fixed(alloc, row, texts, source, out),
         "fixes" => parsed::push_fixes(alloc, row, source, out),
         "unwrap" => parsed::push_unwrapped(alloc, row, source, out),
+        call if call.starts_with("format") => formatted::push_formatted(alloc, row, source, out),
         _ => parsed::push_parsed(alloc, row, texts, source, out),
     }
 }

@@ -18,6 +18,7 @@ mod cursors;
 mod devices;
 mod embedded;
 mod finished;
+mod formatted;
 mod gauge;
 mod heights;
 mod kept;

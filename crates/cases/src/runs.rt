@@ -7,7 +7,7 @@ use crate::case::Case;
 use crate::devices::{bytes_of, plan, push_answer, push_bytes};
 use crate::gauge::Gauge;
 use crate::reports::AnyScript;
-use commands::{Command, LanguageChoice, Refused, ReportForm, write_refusal};
+use commands::{Command, FormatChoice, LanguageChoice, Refused, ReportForm, write_refusal};
 use language::Language;
 use lint::run::run;
 use rules::{RULES, Rule};
@@ -28,6 +28,7 @@ pub(crate) fn command(word: &str) -> Command {
         "spans" => Command::Check(ReportForm::Spans),
         "tree" => Command::Tree,
         "unwrap" => Command::Unwrap,
+        "format" => Command::Format(FormatChoice::DEFAULT),
         "cost" => Command::Cost,
         "verify" => Command::Verify,
         "same" => Command::Same,
@@ -209,6 +210,17 @@ fn push_by_bytes(alloc: Global, run: Run, out: &mut String) -> Result<(), AllocE
 fn push_both(alloc: Global, run: Run, out: &mut String) -> Result<(), AllocError> {
     push_outcome(alloc, run, "", out)?;
     push_by_bytes(alloc, run, out)
+}
+
+/// What a command answers for a text.
+pub(crate) fn push_alone(
+    alloc: Global,
+    command: Command,
+    row: &Case,
+    out: &mut String,
+) -> Result<(), AllocError> {
+    let file = row.text(1).as_bytes();
+    push_both(alloc, Run::new(command, row.language(), file, b"", ""), out)
 }
 
 /// What a command, by its word, answers for a text and the text of its second file.

@@ -1,18 +1,23 @@
 -- The command line, by clap's own definitions.
 use Rattle.std.specs.Prelude.{◌≡◌, ℕ, Bool, bytes_eq, codes, cond, false, true, List, Option, Some, None, is_some, option_map}
 use Rattle.std.specs.Option.{option_map_or}
+use Rattle.std.specs.Str.Parse.{digits_value, without_leading_plus}
 use Rattle.clap.specs.Words.{App, Row, Rule, Text, first_of, new_app, new_rule, with_rule, with_subcommand}
 use Rattle.clap.specs.Simple.{on_top, subcommand_of}
 use Rattle.clap.specs.Faults.{fault_of, is_simple_and_free}
 use Rattle.clap.specs.Takes.{takes}
+use Rattle.clap.specs.ValueTests.{is_unsigned_in}
 use Rattle.clap.specs.declared.builder.action.ArgAction.TheVariants.{SetTrue}
+use Rattle.clap.specs.declared.builder.value_parser.ValueParser.TheVariants.{Unsigned}
 use Rattle.clap.specs.declared.error.kind.ErrorKind.{ErrorKind}
 use Rattle.clap.specs.declared.error.kind.ErrorKind.TheVariants.{DisplayHelp, DisplayVersion}
-use Rattle.commands.specs.Commands.{word_of}
+use Rattle.commands.specs.Commands.{default_format, word_of}
 use Rattle.commands.specs.declared.command.Command.{Command}
-use Rattle.commands.specs.declared.command.Command.TheVariants.{Check, Tree, Fix, Unwrap, Cost, Verify, Same}
+use Rattle.commands.specs.declared.command.Command.TheVariants.{Check, Tree, Fix, Unwrap, Format, Cost, Verify, Same}
+use Rattle.commands.specs.declared.command.FormatChoice.{FormatChoice}
 use Rattle.commands.specs.declared.command.ReportForm.{ReportForm}
 use Rattle.commands.specs.declared.command.ReportForm.TheVariants.{Places, Spans}
+use Rattle.command_line.specs.AskedLanguage.{commas_or_all}
 use Rattle.command_line.specs.declared.line.Line.{Line}
 
 -- an argument that must stand there, by its id: FILE, TABLE and OTHER
@@ -39,6 +44,18 @@ edition_rule = record (new_rule (codes "edition")) { long = Some (codes "edition
 abbrev pub module_rule : Rule
 module_rule = record (new_rule (codes "module")) { long = Some (codes "module"); action = Some SetTrue }
 
+-- an option, by its id, with a number in a range
+abbrev pub number_rule : Text → ℕ → ℕ → Rule
+number_rule id least most = record (new_rule id) { long = Some id; value_names = 1; parser = Some (Unsigned least most) }
+
+-- `--commas WHERE`
+abbrev pub commas_rule : Rule
+commas_rule = record (new_rule (codes "commas")) { long = Some (codes "commas"); value_names = 1 }
+
+-- a flag, by its id
+abbrev pub flag_rule : Text → Rule
+flag_rule id = record (new_rule id) { long = Some id; action = Some SetTrue }
+
 -- a command, by its word, with its FILE alone
 abbrev pub lone_file_app : Text → App
 lone_file_app word = with_rule (new_app word) (required_rule (codes "file"))
@@ -51,9 +68,18 @@ file_app word = with_rule (with_rule (lone_file_app word) edition_rule) module_r
 abbrev pub reporting_app : App
 reporting_app = with_rule (with_rule (file_app (codes "check")) settings_rule) spans_rule
 
+-- `format` with the measures of its lines
+abbrev pub measured_app : App
+measured_app = with_rule (with_rule (file_app (codes "format")) (number_rule (codes "width") 40 200)) (number_rule (codes "indent") 1 8)
+
+-- and with what they are made of
+abbrev pub punctuated_app : App
+punctuated_app = with_rule (with_rule (with_rule measured_app (flag_rule (codes "tabs"))) commas_rule) (flag_rule (codes "bare-arrows"))
+
 -- a command with its arguments
 abbrev pub command_app : Command → App
 command_app (Check form) = with_rule reporting_app list_rule
+command_app (Format choice) = with_rule (with_rule punctuated_app (flag_rule (codes "fewest"))) (flag_rule (codes "check"))
 command_app Verify = with_rule (file_app (word_of Verify)) (required_rule (codes "table"))
 command_app Same = with_rule (file_app (word_of Same)) (required_rule (codes "other"))
 command_app other = file_app (word_of other)
@@ -67,7 +93,9 @@ bare_app = on_top (λ s. record s { has_version = true; subcommand_required = tr
 
 -- with its commands
 abbrev pub jslint_app : App
-jslint_app = with_command (with_command (with_command (with_command (with_command (with_command (with_command bare_app (Check Places)) Tree) Fix) Unwrap) Cost) Verify) Same
+jslint_app =
+    with_command (with_command (with_command (with_command (with_command (with_command (with_command (with_command bare_app (Check Places)) Tree) Fix) Unwrap)
+    (Format default_format)) Cost) Verify) Same
 
 -- a command line that reads these words as the whole one does
 abbrev pub ReadsAlike : App → List Text → Type 0
@@ -89,8 +117,26 @@ is_set id rows = option_map_or (λ (value : Text). bytes_eq value (codes "true")
 abbrev pub form_of : List Row → ReportForm
 form_of rows = cond (is_set (codes "spans") rows) Spans Places
 
+-- the number that a value of an option writes, in decimal; another one where there is none
+abbrev pub number_of : ℕ → Option Text → ℕ
+number_of default None = default
+number_of default (Some text) = cond (is_unsigned_in 0 255 text) (digits_value 10 (without_leading_plus text)) default
+
+-- how `format` is to write, by what its words matched
+abbrev pub format_of : List Row → FormatChoice
+format_of rows = record {
+  width = number_of 80 (first_of (codes "width") rows);
+  indent = number_of 2 (first_of (codes "indent") rows);
+  tabs = is_set (codes "tabs") rows;
+  commas = commas_or_all (first_of (codes "commas") rows);
+  bare_arrows = is_set (codes "bare-arrows") rows;
+  fewest = is_set (codes "fewest") rows;
+  check = is_set (codes "check") rows;
+}
+
 abbrev pub HasForm : Command → List Row → Type 0
 HasForm (Check form) rows = form ≡ form_of rows
+HasForm (Format choice) rows = choice ≡ format_of rows
 HasForm other rows = Unit {0}
 
 -- what the words say of the language of scripts: an edition, and whether they are modules
@@ -98,15 +144,16 @@ abbrev pub HasLanguage : List Row → Option Text → Bool → Type 0
 HasLanguage rows edition is_module = (edition ≡ first_of (codes "edition") rows) × (is_module ≡ is_set (codes "module") rows)
 
 -- the subcommand that was met is the line's command, in the form that was asked for, the line's files are the first values of its arguments, and so is
--- what it says of the language; FILE is a list of names where `--list` was given, which `check` alone knows
+-- what it says of the language, and of commas, which `format` alone knows; FILE is a list of names where `--list` was given, which `check` alone knows
 abbrev pub Chooses : Option (Text × List Row) → Line → Type 0
 Chooses met line = (rows : List Row) × (met ≡ Some (word_of line.command, rows)) × (first_of (codes "file") rows ≡ Some line.file.now)
     × HasSecond line.command rows (option_map (λ s. s.now) line.second) × HasForm line.command rows × HasLanguage rows (option_map (λ s. s.now) line.edition) line.is_module
-    × (line.is_list ≡ is_set (codes "list") rows)
+    × (line.is_list ≡ is_set (codes "list") rows) × (option_map (λ s. s.now) line.commas ≡ first_of (codes "commas") rows)
 
 -- the command that a word gives before its flags are looked at
 abbrev pub plain : Command → Command
 plain (Check form) = Check Places
+plain (Format choice) = Format default_format
 plain other = other
 
 -- the files that a command must have are among what its words matched

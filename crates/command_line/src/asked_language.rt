@@ -1,20 +1,54 @@
-//! The language that a line asks for, and what is said where it asks for none.
+//! The language and the commas that a line asks for, and what is said where it asks for none.
 
 ghost use Rattle.std.specs.Prelude.{◌≡◌, false, option_map};
 ghost use Rattle.commands.specs.Refusal.{WritesLine};
-ghost use Rattle.command_line.specs.AskedLanguage.{edition_named, edition_of, language_of, mistake_line, module_of};
+ghost use Rattle.command_line.specs.AskedLanguage.{commas_named, commas_of, commas_or_all, edition_named, edition_of, language_of, mistake_line, module_of};
 
 use crate::line::Line;
-use commands::LanguageChoice;
+use commands::{CommaChoice, LanguageChoice};
 use source_text::{Sink, write_text};
 
-/// Why a line asks for no language.
+/// Why the options of a line can't be taken.
 #[derive(Clone, Copy, Debug, PartialEq, Eq)]
-pub enum LanguageMistake {
+pub enum OptionMistake {
     /// Behind `--edition` stands neither 2020 nor 2022.
     Edition,
     /// `--module` stands beside `--edition 2020`, in which there are no modules.
     Module,
+    /// Behind `--commas` stands neither none, lists nor all.
+    Commas,
+}
+
+/// Where lists have last commas, by its name, if it is one.
+fn commas_named(name: &str) -> Option<CommaChoice>
+    ensures { result ≡ commas_named name.now }
+{
+    match name {
+        "none" => Some(CommaChoice::Nowhere),
+        "lists" => Some(CommaChoice::Lists),
+        "all" => Some(CommaChoice::Everywhere),
+        _ => None,
+    }
+}
+
+/// What `--commas` says, where it is given.
+fn commas_of(commas: Option<&str>) -> Option<CommaChoice>
+    ensures { result ≡ commas_of (option_map (λ name. name.now) commas.entry) }
+{
+    match commas {
+        Some(name) => commas_named(name),
+        None => Some(CommaChoice::Everywhere),
+    }
+}
+
+/// The commas that a line asks for; all of them where it says nothing.
+pub(crate) fn commas_or_all(commas: Option<&str>) -> CommaChoice
+    ensures { result ≡ commas_or_all (option_map (λ name. name.now) commas.entry) }
+{
+    match commas_of(commas) {
+        Some(commas) => commas,
+        None => CommaChoice::Everywhere,
+    }
 }
 
 /// The edition of this name, if there is one.
@@ -39,49 +73,63 @@ fn edition_of(edition: Option<&str>) -> Option<LanguageChoice>
 }
 
 /// Modules, of an edition that has them.
-fn module_of(edition: LanguageChoice) -> Result<LanguageChoice, LanguageMistake>
+fn module_of(edition: LanguageChoice) -> Result<LanguageChoice, OptionMistake>
     ensures { result ≡ module_of edition }
 {
     match edition {
-        LanguageChoice::Edition2020 => Err(LanguageMistake::Module),
+        LanguageChoice::Edition2020 => Err(OptionMistake::Module),
         _ => Ok(LanguageChoice::Module),
     }
 }
 
+/// The language that a line asks for.
+fn language_of(
+    edition: Option<&str>,
+    is_module: bool,
+) -> Result<LanguageChoice, OptionMistake>
+    ensures { result ≡ language_of (option_map (λ name. name.now) edition.entry) is_module }
+{
+    let Some(edition) = edition_of(edition) else {
+        return Err(OptionMistake::Edition);
+    };
+    if is_module {
+        return module_of(edition);
+    }
+    Ok(edition)
+}
+
 impl<'a> Line<'a> {
     ghost use Rattle.std.specs.Prelude.{◌≡◌, option_map};
-    ghost use Rattle.command_line.specs.AskedLanguage.{language_of};
+    ghost use Rattle.command_line.specs.AskedLanguage.{asked_of};
 
     /// The language that the line asks for.
     ///
     /// # Errors
     ///
-    /// A `LanguageMistake` where the words behind `--edition` and `--module` name none.
-    pub fn language(self) -> Result<LanguageChoice, LanguageMistake>
-        ensures { result ≡ language_of (option_map (λ name. name.now) self.entry.edition) self.entry.is_module }
+    /// An `OptionMistake` where the word behind `--commas` is none of its three, or those behind `--edition` and `--module` name no language.
+    pub fn language(self) -> Result<LanguageChoice, OptionMistake>
+        ensures { result ≡ asked_of (option_map (λ name. name.now) self.entry.commas) (option_map (λ name. name.now) self.entry.edition) self.entry.is_module }
     {
-        let Some(edition) = edition_of(self.edition) else {
-            return Err(LanguageMistake::Edition);
-        };
-        if self.is_module {
-            return module_of(edition);
+        match commas_of(self.commas) {
+            Some(_) => language_of(self.edition, self.is_module),
+            None => Err(OptionMistake::Commas),
         }
-        Ok(edition)
     }
 }
 
 /// The line for a mistake.
-fn mistake_line(mistake: LanguageMistake) -> &'static str
+fn mistake_line(mistake: OptionMistake) -> &'static str
     ensures { result.now ≡ mistake_line mistake }
 {
     match mistake {
-        LanguageMistake::Edition => "jslint: --edition is 2020 or 2022\n",
-        LanguageMistake::Module => "jslint: --module doesn't go with --edition 2020\n",
+        OptionMistake::Edition => "jslint: --edition is 2020 or 2022\n",
+        OptionMistake::Module => "jslint: --module doesn't go with --edition 2020\n",
+        OptionMistake::Commas => "jslint: --commas is none, lists or all\n",
     }
 }
 
-/// Says why a line asks for no language. Answers the exit status.
-pub fn explain_language<W: Sink>(mistake: LanguageMistake, errors: &mut W) -> u8
+/// Says why the options of a line can't be taken. Answers the exit status.
+pub fn explain_option<W: Sink>(mistake: OptionMistake, errors: &mut W) -> u8
     requires { W.failed errors.old ≡ false }
     ensures status { result ≡ 2 }
     ensures line { WritesLine (mistake_line mistake) (W.taken errors.old) (W.taken errors.new) (W.failed errors.new) }

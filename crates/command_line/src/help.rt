@@ -26,6 +26,14 @@ pub const UNWRAP: &str = "Write the script as it stands, but without its unneces
 pub const UNWRAP_NOTE: &str =
     "Comments stay, and so do blanks and lines where no parenthesis goes.";
 
+/// What the help says of `format`.
+pub const FORMAT: &str = "Write the script in lines of a width, with its comments";
+
+/// What stands below the help of `format`.
+pub const FORMAT_NOTE: &str = "\
+The tree stays, and without --fewest each pair of parentheses. With --check nothing
+is written: status 0 if the script is formatted as it stands, 1 if not.";
+
 /// What the help says of `cost`.
 pub const COST: &str = "Write the cost table: how many parentheses each part needs";
 
@@ -54,6 +62,28 @@ pub const SPANS: &str = "Lines START END RULE TEXT: where a report is, in bytes 
 pub const LIST: &str =
     "FILE has names, each ended by a zero byte: lines NAME:LINE:COLUMN RULE TEXT";
 
+/// What the help says of `--width`.
+pub const WIDTH: &str = "Columns of a line, 40 to 200; 80 without it";
+
+/// What the help says of `--indent`.
+pub const INDENT: &str = "Columns of a level of indentation, 1 to 8; 2 without it";
+
+/// What the help says of `--tabs`.
+pub const TABS: &str = "A tab for each level, which counts as the columns of one";
+
+/// What the help says of `--commas`.
+pub const COMMAS: &str =
+    "Where a list over several lines ends with a comma: none, lists, or all, as without it";
+
+/// What the help says of `--bare-arrows`.
+pub const BARE_ARROWS: &str = "No parentheses round the one plain parameter of an arrow";
+
+/// What the help says of `--fewest`.
+pub const FEWEST: &str = "With the fewest parentheses, as `unwrap`";
+
+/// What the help says of `--check`.
+pub const CHECKED: &str = "Write nothing: status 1 if the script isn't its own formatted text";
+
 /// What the help says of the cost table's file.
 pub const TABLE: &str = "A cost table, as `cost` writes it";
 
@@ -70,6 +100,8 @@ Examples:
   jslint tree app.js
   jslint fix app.js > fixed.js
   jslint unwrap app.js > clean.js
+  jslint format app.js > pretty.js
+  jslint format app.js --check --width 100
   jslint cost app.js > app.cost
   jslint verify app.js app.cost
   jslint same app.js clean.js
@@ -77,7 +109,7 @@ Examples:
   jslint check -- -h.js
   git show HEAD:app.js | jslint check -
 
-`fix` drops comments, `unwrap` keeps them.
+`fix` drops comments, `unwrap` and `format` keep them.
 
 A name that may begin with `-` goes after `--`, or it is read as an option:
 `jslint check -- FILE`, `jslint check --settings=FILE -- FILE`.
@@ -89,5 +121,6 @@ parameters. `-` is standard input, as FILE or in the place of a second file;
 
 Exit status:
   0  done; `check` had no report, and `same` found one tree
-  1  `check` had a report, `verify` found the table wrong, or `same` two trees
+  1  `check` had a report, `verify` found the table wrong, `same` two trees, or
+     `format --check` a script that isn't formatted
   2  refused: standard error says why";

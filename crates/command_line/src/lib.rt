@@ -13,7 +13,7 @@ mod mistake;
 mod shown;
 mod unread;
 
-pub use asked_language::{LanguageMistake, explain_language};
+pub use asked_language::{OptionMistake, explain_option};
 pub use escaped::write_escaped;
 pub use line::{Line, command_line};
 pub use mistake::{explain, explain_not_utf8};

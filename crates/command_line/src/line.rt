@@ -1,17 +1,20 @@
 //! The words of the command line.
 
 ghost use Rattle.std.specs.Prelude.{◌≡◌, IfErr, IfOk, IfSome, IsOkAnd, Some, [], false, map, true};
-ghost use Rattle.clap.specs.Words.{FailsBy, app_of, fault_of, kind_of, rows_of, found_of, subcommand_of, subcommand_rows_of, takes, with_subcommand};
+ghost use Rattle.clap.specs.Words.{FailsBy, app_of, fault_of, first_of, kind_of, rows_of, found_of, subcommand_of, subcommand_rows_of, takes, with_subcommand};
 ghost use Rattle.clap.specs.declared.builder.command.Command.TheViews.{out-Command};
-ghost use Rattle.commands.specs.Commands.{word_of};
-ghost use Rattle.commands.specs.declared.command.Command.TheVariants.{Check, Same, Verify};
+ghost use Rattle.commands.specs.Commands.{default_format, word_of};
+ghost use Rattle.commands.specs.declared.command.Command.TheVariants.{Check, Format, Same, Verify};
 ghost use Rattle.commands.specs.declared.command.ReportForm.TheVariants.{Places};
-ghost use Rattle.command_line.specs.CommandLine.{Chooses, MeetsCommand, ReadsAlike, bare_app, command_app, file_app, form_of, is_set, jslint_app, lone_file_app, plain, reporting_app};
+ghost use Rattle.command_line.specs.CommandLine.{Chooses, MeetsCommand, ReadsAlike, bare_app, command_app, file_app, form_of, format_of, is_set, jslint_app, lone_file_app, measured_app, number_of, plain, punctuated_app, reporting_app};
+ghost use Rattle.command_line.specs.AskedLanguage.{commas_or_all};
 
+use crate::asked_language::commas_or_all;
 use crate::help;
+use clap::builder::ValueParser;
 use clap::error::ErrorKind;
 use clap::{Arg, ArgAction, ArgMatches, Error};
-use commands::{Command, ReportForm};
+use commands::{Command, FormatChoice, ReportForm};
 use std::alloc::{AllocError, Global};
 
 /// What a command line asks for.
@@ -29,6 +32,8 @@ pub struct Line<'a> {
     pub is_module: bool,
     /// Whether `--list` is given: then the file is a list of names. Only `check` has it.
     pub is_list: bool,
+    /// What stands behind `--commas`, where it is given. Only `format` has it.
+    pub commas: Option<&'a str>,
 }
 
 /// A command by its word, with its FILE alone.
@@ -115,6 +120,65 @@ fn check_command<'a>(alloc: Global) -> Result<clap::Command<'a>, AllocError>
     reporting_command(alloc)?.arg(list)
 }
 
+/// `format`, with the measures of its lines.
+fn measured_command<'a>(alloc: Global) -> Result<clap::Command<'a>, AllocError>
+    ensures shape { IfOk result (λ c. app_of c ≡ measured_app) }
+    ensures local { IfOk result (λ c. (out-Command c).has_globals ≡ false) }
+{
+    let width = Arg::new(alloc, "width")
+        .long("width")
+        .value_name("N")
+        .value_parser(ValueParser::unsigned(40, 200))
+        .help(help::WIDTH);
+    let indent = Arg::new(alloc, "indent")
+        .long("indent")
+        .value_name("N")
+        .value_parser(ValueParser::unsigned(1, 8))
+        .help(help::INDENT);
+    noted_command(alloc, "format", help::FORMAT, help::FORMAT_NOTE)?
+        .arg(width)?
+        .arg(indent)
+}
+
+/// `format`, with what its lines are made of.
+fn punctuated_command<'a>(alloc: Global) -> Result<clap::Command<'a>, AllocError>
+    ensures shape { IfOk result (λ c. app_of c ≡ punctuated_app) }
+    ensures local { IfOk result (λ c. (out-Command c).has_globals ≡ false) }
+{
+    let tabs = Arg::new(alloc, "tabs")
+        .long("tabs")
+        .action(ArgAction::SetTrue)
+        .help(help::TABS);
+    let commas = Arg::new(alloc, "commas")
+        .long("commas")
+        .value_name("WHERE")
+        .help(help::COMMAS);
+    let bare_arrows = Arg::new(alloc, "bare-arrows")
+        .long("bare-arrows")
+        .action(ArgAction::SetTrue)
+        .help(help::BARE_ARROWS);
+    measured_command(alloc)?
+        .arg(tabs)?
+        .arg(commas)?
+        .arg(bare_arrows)
+}
+
+/// `format`, with all that it takes.
+fn format_command<'a>(alloc: Global) -> Result<clap::Command<'a>, AllocError>
+    ensures shape { IfOk result (λ c. app_of c ≡ command_app (Format default_format)) }
+    ensures local { IfOk result (λ c. (out-Command c).has_globals ≡ false) }
+{
+    let fewest = Arg::new(alloc, "fewest")
+        .long("fewest")
+        .action(ArgAction::SetTrue)
+        .help(help::FEWEST);
+    let check = Arg::new(alloc, "check")
+        .long("check")
+        .action(ArgAction::SetTrue)
+        .help(help::CHECKED);
+    punctuated_command(alloc)?.arg(fewest)?.arg(check)
+}
+
 /// `verify`, with its TABLE.
 fn verify_command<'a>(alloc: Global) -> Result<clap::Command<'a>, AllocError>
     ensures shape { IfOk result (λ c. app_of c ≡ command_app Verify) }
@@ -179,6 +243,7 @@ fn command_of_jslint<'a>(alloc: Global, command: Command) -> Result<clap::Comman
         Command::Tree => file_command(alloc, "tree", help::TREE),
         Command::Fix => noted_command(alloc, "fix", help::FIX, help::FIX_NOTE),
         Command::Unwrap => noted_command(alloc, "unwrap", help::UNWRAP, help::UNWRAP_NOTE),
+        Command::Format(_) => format_command(alloc),
         Command::Cost => file_command(alloc, "cost", help::COST),
         Command::Verify => verify_command(alloc),
         Command::Same => same_command(alloc),
@@ -196,6 +261,10 @@ pub(crate) fn jslint_command<'a>(alloc: Global) -> Result<clap::Command<'a>, All
     let jslint = with_command(jslint, command_of_jslint(alloc, Command::Tree))?;
     let jslint = with_command(jslint, command_of_jslint(alloc, Command::Fix))?;
     let jslint = with_command(jslint, command_of_jslint(alloc, Command::Unwrap))?;
+    let jslint = with_command(
+        jslint,
+        command_of_jslint(alloc, Command::Format(FormatChoice::DEFAULT)),
+    )?;
     let jslint = with_command(jslint, command_of_jslint(alloc, Command::Cost))?;
     let jslint = with_command(jslint, command_of_jslint(alloc, Command::Verify))?;
     with_command(jslint, command_of_jslint(alloc, Command::Same))
@@ -215,7 +284,7 @@ fn asked_command<'a>(alloc: Global, words: &[&str]) -> Result<clap::Command<'a>,
     with_command(bare_command(alloc), command_of_jslint(alloc, command))
 }
 
-/// The command of this word, if there is one: `check` with places.
+/// The command of this word, if there is one: `check` with places, `format` as where no more is said.
 fn command_of(word: &str) -> Option<Command>
     ensures named { IfSome result (λ command. word_of command ≡ word.now) }
     ensures found { (command : _) → word_of command ≡ word.now → result ≡ Some (plain command) }
@@ -248,6 +317,34 @@ fn form_met(met: &ArgMatches<'_>) -> ReportForm
     ReportForm::Places
 }
 
+/// The number behind an option, or the one that stands for none.
+fn number_met(met: &ArgMatches<'_>, id: &str, default: u8) -> u8
+    ensures { result ≡ number_of default (first_of id.now (rows_of (found_of met.now))) }
+{
+    let Some(text) = met.get_str(id) else {
+        return default;
+    };
+    match text.parse::<u8>() {
+        Ok(number) => number,
+        Err(_) => default,
+    }
+}
+
+/// How `format` is to write.
+fn format_met(met: &ArgMatches<'_>) -> FormatChoice
+    ensures { result ≡ format_of (rows_of (found_of met.now)) }
+{
+    FormatChoice {
+        width: u16::from(number_met(met, "width", 80)),
+        indent: number_met(met, "indent", 2),
+        tabs: is_set(met, "tabs"),
+        commas: commas_or_all(met.get_str("commas")),
+        bare_arrows: is_set(met, "bare-arrows"),
+        fewest: is_set(met, "fewest"),
+        check: is_set(met, "check"),
+    }
+}
+
 /// The command that was met, in the form that was asked for, with its files.
 fn line_of<'a>(matches: &ArgMatches<'a>) -> Line<'a>
     requires { MeetsCommand (subcommand_rows_of matches.now) }
@@ -260,11 +357,13 @@ fn line_of<'a>(matches: &ArgMatches<'a>) -> Line<'a>
         Command::Check(_) => (Command::Check(form_met(met)), met.get_str("settings")),
         Command::Verify => (plain, met.get_str("table")),
         Command::Same => (plain, met.get_str("other")),
+        Command::Format(_) => (Command::Format(format_met(met)), None),
         Command::Tree | Command::Fix | Command::Unwrap | Command::Cost => (plain, None),
     };
     let edition = met.get_str("edition");
     let is_module = is_set(met, "module");
     let is_list = is_set(met, "list");
+    let commas = met.get_str("commas");
     Line {
         command,
         file,
@@ -272,6 +371,7 @@ fn line_of<'a>(matches: &ArgMatches<'a>) -> Line<'a>
         edition,
         is_module,
         is_list,
+        commas,
     }
 }
 

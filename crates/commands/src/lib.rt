@@ -4,7 +4,7 @@
 //! - May touch: a reader up to a limit, and a writer for one line.
 //! - Contract: `write_refusal` writes the line of a refusal, or a prefix of it if the writer fails, and answers its
 //!   status.
-//! - Begin at: `command.rt`, `Command`; `language_choice.rt`, `LanguageChoice`; `hint.rt`, `Hint`; `refusal.rt`, `write_refusal`; `bounded_read.rt`, `read_up_to`.
+//! - Begin at: `command.rt`, `Command`, `FormatChoice`; `language_choice.rt`, `LanguageChoice`; `hint.rt`, `Hint`; `refusal.rt`, `write_refusal`; `bounded_read.rt`, `read_up_to`.
 
 mod bounded_read;
 mod command;
@@ -14,7 +14,7 @@ mod refusal;
 mod refused;
 
 pub use bounded_read::{ROOM, read_up_to};
-pub use command::{Command, ReportForm};
+pub use command::{CommaChoice, Command, FormatChoice, ReportForm};
 pub use hint::Hint;
 pub use language_choice::LanguageChoice;
 pub use refusal::{status, write_refusal};

@@ -1,9 +1,10 @@
 -- What a call from C or from a page tells.
 use Rattle.std.specs.Prelude.{◌≡◌, ◌≤◌, ◌⊎◌, ℕ, List, ◌++◌, Bool, true, false, length, take, drop, Option, Some, None, Result, Ok, Err}
+use Rattle.commands.specs.Commands.{default_format}
 use Rattle.commands.specs.Refusal.{refusal_line, status_of}
 use Rattle.commands.specs.Refused.{no_memory}
 use Rattle.commands.specs.declared.command.Command.{Command}
-use Rattle.commands.specs.declared.command.Command.TheVariants.{Check, Tree, Fix, Unwrap, Cost, Verify, Same}
+use Rattle.commands.specs.declared.command.Command.TheVariants.{Check, Tree, Fix, Unwrap, Format, Cost, Verify, Same}
 use Rattle.commands.specs.declared.command.ReportForm.TheVariants.{Places, Spans}
 use Rattle.commands.specs.declared.language_choice.LanguageChoice.{LanguageChoice}
 use Rattle.commands.specs.declared.language_choice.LanguageChoice.TheVariants.{Unsaid, Edition2020, Edition2022, Module}
@@ -21,11 +22,13 @@ number_of Verify = 4
 number_of Unwrap = 5
 number_of (Check Spans) = 6
 number_of Same = 7
+number_of (Format choice) = 8
 
--- the command that a number names
+-- the command that a number names: `format` as where a call says nothing of it
 abbrev pub Names : ℕ → Option Command → Type 0
+Names number (Some (Format choice)) = (number ≡ 8) × (choice ≡ default_format)
 Names number (Some command) = number ≡ number_of command
-Names number None = 8 ≤ number
+Names number None = 9 ≤ number
 
 abbrev pub choice_number : LanguageChoice → ℕ
 choice_number Unsaid = 0

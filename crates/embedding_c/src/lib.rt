@@ -10,7 +10,7 @@ ghost use Rattle.std.specs.Prelude.{◌≡◌, ◌≢◌, length};
 ghost use Rattle.source_text.specs.declared.fault.Fault.TheVariants.{Usage};
 ghost use Rattle.embedding_c.specs.Calls.{Names, NamesChoice, Tells, TellsBy, TellsRefusal, flag, overwritten};
 
-use commands::{Command, LanguageChoice, Refused, ReportForm, status};
+use commands::{Command, FormatChoice, LanguageChoice, Refused, ReportForm, status};
 use embedding::{refusal_text, run_on_bytes};
 use std::alloc::{AllocError, Global};
 
@@ -26,7 +26,8 @@ pub struct Outcome {
     pub is_refusal: u32,
 }
 
-/// The command of a number: 0 `check`, 1 `tree`, 2 `fix`, 3 `cost`, 4 `verify`, 5 `unwrap`, 6 `check --spans`, 7 `same`.
+/// The command of a number: 0 `check`, 1 `tree`, 2 `fix`, 3 `cost`, 4 `verify`, 5 `unwrap`, 6 `check --spans`, 7 `same`, 8 `format`, as where
+/// no more is said.
 fn command_of(number: u32) -> Option<Command>
     ensures { Names number result }
 {
@@ -39,6 +40,7 @@ fn command_of(number: u32) -> Option<Command>
         5 => Some(Command::Unwrap),
         6 => Some(Command::Check(ReportForm::Spans)),
         7 => Some(Command::Same),
+        8 => Some(Command::Format(FormatChoice::DEFAULT)),
         _ => None,
     }
 }

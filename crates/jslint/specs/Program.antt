@@ -8,8 +8,8 @@ use Rattle.clap.specs.declared.error.kind.ErrorKind.TheVariants as error_kind
 use Rattle.source_text.specs.declared.fault.Fault.{Fault}
 use Rattle.source_text.specs.declared.fault.Fault.TheVariants.{OutOfMemory, ReadFailed, Usage, WriteFailed}
 use Rattle.command_line.specs.CommandLine.{Chooses, is_asked_for, jslint_app, not_utf8_line}
-use Rattle.command_line.specs.AskedLanguage.{language_of, mistake_line}
-use Rattle.command_line.specs.declared.asked_language.LanguageMistake.{LanguageMistake}
+use Rattle.command_line.specs.AskedLanguage.{asked_of, mistake_line}
+use Rattle.command_line.specs.declared.asked_language.OptionMistake.{OptionMistake}
 use Rattle.command_line.specs.Tip.{WritesMistake, tip_of}
 use Rattle.command_line.specs.Unread.{unread_line}
 use Rattle.command_line.specs.declared.line.Line.{Line}
@@ -153,13 +153,13 @@ abbrev pub RunsInLanguage : Bool → Contents → Line → LanguageChoice → Wr
 RunsInLanguage false gives line choice output errors status = RunsFiles gives line choice output errors status
 RunsInLanguage true gives line choice output errors status = RunsList gives line choice output errors status
 
--- it was run in the language that it asks for, or it was said that it asks for none
-abbrev pub RunsLineIn : Contents → Line → Result LanguageChoice LanguageMistake → Written → Written → ℕ → Type 0
+-- it was run in the language that it asks for, or it was said that its options ask for none
+abbrev pub RunsLineIn : Contents → Line → Result LanguageChoice OptionMistake → Written → Written → ℕ → Type 0
 RunsLineIn gives line (Ok choice) output errors status = RunsInLanguage line.is_list gives line choice output errors status
 RunsLineIn gives line (Err mistake) output errors status = IsKept output × (status ≡ 2) × GetsLine (mistake_line mistake) errors
 
 abbrev pub RunsLine : Contents → Line → Written → Written → ℕ → Type 0
-RunsLine gives line output errors status = RunsLineIn gives line (language_of (option_map (λ s. s.now) line.edition) line.is_module) output errors status
+RunsLine gives line output errors status = RunsLineIn gives line (asked_of (option_map (λ s. s.now) line.commas) (option_map (λ s. s.now) line.edition) line.is_module) output errors status
 
 -- the words are a line, which was run
 abbrev pub RunsWords : Contents → List Text → Written → Written → ℕ → Type 0

@@ -15,9 +15,7 @@ ghost use Rattle.std.specs.Prelude.{◌≡◌, false, map};
 ghost use Rattle.jslint.specs.Opened.{Gives};
 ghost use Rattle.jslint.specs.Program.{Answers, NoWordsSaid, Obeys, RunsFiles, RunsInLanguage, RunsLine, written};
 
-use command_line::{
-    Line, command_line, explain, explain_language, explain_not_utf8, explain_unread,
-};
+use command_line::{Line, command_line, explain, explain_not_utf8, explain_option, explain_unread};
 use commands::{LanguageChoice, Refused, write_refusal};
 use files::{Stop, open_and_run};
 use list_run::run_list;
@@ -110,7 +108,7 @@ fn run_line<R: FileSystem + AllocGlobal, O: Sink, W: Sink>(
 {
     match line.language() {
         Ok(choice) => run_in_language(rt, line, choice, output, errors),
-        Err(mistake) => explain_language(mistake, errors),
+        Err(mistake) => explain_option(mistake, errors),
     }
 }
 

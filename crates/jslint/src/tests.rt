@@ -84,6 +84,7 @@ fn files_that_cannot_be_read(rt: HostRuntime) -> Result<(), Fail> {
             edition: None,
             is_module: false,
             is_list: false,
+            commas: None,
         };
         let got = open_and_run(&rt, line, LanguageChoice::Unsaid, &mut output);
         assert_eq!(rt; got, Err(Stop::Unread(unread, failure)), "{line:?}");

@@ -1,5 +1,6 @@
 pub mod FixAnswers
 pub mod Unwrapping
+pub mod Formatting
 pub mod RunAnswers
 pub mod OneScript
 pub mod VerifyAnswers

@@ -4,7 +4,7 @@ use Rattle.std.proofs.lemmas.List.{length-take, take_all}
 use Rattle.std.specs.declared.option.Option.{Option}
 use Rattle.source_text.specs.Source.{max_bytes, IsRefusal}
 use Rattle.source_text.specs.declared.fault.Fault.{Fault}
-use Rattle.source_text.specs.declared.fault.Fault.TheVariants.{NotUtf8, TooLong, Syntax, TooDeep, Early, OutOfMemory, BadSettings, BadTable, ReadFailed, UnwrapFailed, Usage}
+use Rattle.source_text.specs.declared.fault.Fault.TheVariants.{NotUtf8, TooLong, Syntax, TooDeep, Early, OutOfMemory, BadSettings, BadTable, ReadFailed, UnwrapFailed, FormatFailed, Usage}
 use Rattle.commands.specs.declared.command.Command.{Command}
 use Rattle.commands.specs.declared.command.Command.TheVariants.{Check, Same}
 use Rattle.commands.specs.declared.command.ReportForm.{ReportForm}
@@ -123,6 +123,8 @@ module _ (finds : View → List Report) (command : Command) (choice : LanguageCh
   command_refused n P (BadTable row why) failed seen source reading answers before =
       ((before.reader, before.of_failed ∙ answers.0, before.writer), before.kept, (both_read own seen n P failed answers.1.0 source reading before answers.1.1, answers.1.2), (refl, refl))
   command_refused n P UnwrapFailed failed seen source reading answers before =
+      ((before.reader, before.of_failed ∙ answers.0, before.writer), before.kept, (both_read own seen n P failed answers.1.0 source reading before answers.1.1, answers.1.2), (refl, refl))
+  command_refused n P FormatFailed failed seen source reading answers before =
       ((before.reader, before.of_failed ∙ answers.0, before.writer), before.kept, (both_read own seen n P failed answers.1.0 source reading before answers.1.1, answers.1.2), (refl, refl))
   command_refused n P TooLong failed seen source reading answers before = (
     (before.reader, before.of_failed ∙ answers.0, before.writer),

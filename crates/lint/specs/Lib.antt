@@ -1,6 +1,7 @@
 pub mod Languages
 pub mod ReadScripts
 pub mod Fixes
+pub mod Formats
 pub mod Unwraps
 pub mod Hints
 pub mod Outputs

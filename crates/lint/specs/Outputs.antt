@@ -6,11 +6,11 @@ use Rattle.std.specs.List.Sorted.{IsPermutation, IsSorted}
 use Rattle.source_text.specs.Lines.{line_column}
 use Rattle.source_text.specs.Source.{IsRefusal, max_bytes}
 use Rattle.source_text.specs.declared.fault.Fault.{Fault}
-use Rattle.source_text.specs.declared.fault.Fault.TheVariants.{NotUtf8, TooLong, BadTable, UnwrapFailed}
+use Rattle.source_text.specs.declared.fault.Fault.TheVariants.{NotUtf8, TooLong, BadTable, UnwrapFailed, FormatFailed}
 use Rattle.source_text.specs.declared.fault.Reason.{Reason}
 use Rattle.source_text.specs.declared.fault.Reason.TheVariants as reason
 use Rattle.commands.specs.declared.command.Command.{Command}
-use Rattle.commands.specs.declared.command.Command.TheVariants.{Check, Tree, Fix, Unwrap, Cost, Verify, Same}
+use Rattle.commands.specs.declared.command.Command.TheVariants.{Check, Tree, Fix, Unwrap, Format, Cost, Verify, Same}
 use Rattle.commands.specs.declared.command.ReportForm.TheVariants.{Places, Spans}
 use Rattle.tree.specs.declared.kind.Pair.{Pair}
 use Rattle.tree.specs.declared.kind.Span.{Span}
@@ -46,6 +46,7 @@ use Rattle.lint.specs.Languages.{asked_language, language_of}
 use Rattle.lint.specs.ReadScripts.{IsReading}
 use Rattle.lint.specs.Fixes.{Fixes}
 use Rattle.lint.specs.Unwraps.{Unwraps, IsUnwrapped, RefusesScript}
+use Rattle.lint.specs.Formats.{FormatsBy, RefusesFormat, WritesFormatted}
 
 -- ---- check
 
@@ -178,13 +179,22 @@ IsOutput finds language (Check Spans) text n P second output status = ChecksSpan
 IsOutput finds language Tree text n P second output status = (output ≡ tree_line n) × (status ≡ 0)
 IsOutput finds language Fix text n P second output status = Fixes language text output × (status ≡ 0)
 IsOutput finds language Unwrap text n P second output status = Unwraps language text output × IsUnwrapped language output × (status ≡ 0)
+IsOutput finds language (Format choice) text n P second output status =
+    (formatted : List ℕ) × FormatsBy choice language text formatted × WritesFormatted choice.check text formatted output status
 IsOutput finds language Cost text n P second output status = Costs language n output × (status ≡ 0)
 IsOutput finds language Verify text n P second output status = Verifies n P second output × (status ≡ 0)
 IsOutput finds language Same text n P second output status = Compares language n second status × (output ≡ [])
 
--- why a command refuses a script that was read: its table is refused, or it isn't unwrapped
+-- why what `unwrap` and `format` would write of a script is refused
+abbrev pub RefusesRewriting : Command → List ℕ → SyntaxTree → List Pair → Fault → Type 0
+RefusesRewriting Unwrap text n P fault = RefusesScript text n P fault
+RefusesRewriting (Format choice) text n P fault = RefusesFormat choice.fewest text n P fault
+RefusesRewriting command text n P fault = ⊥
+
+-- why a command refuses a script that was read: its table is refused, or it isn't unwrapped or formatted
 abbrev pub CommandRefuses : Command → List ℕ → SyntaxTree → List Pair → List ℕ → Fault → Type 0
 CommandRefuses command text n P second (BadTable row why) = (command ≡ Verify) × RefusesTable n second row why
-CommandRefuses command text n P second TooLong = (command ≡ Unwrap) × RefusesScript text n P TooLong
-CommandRefuses command text n P second UnwrapFailed = (command ≡ Unwrap) × RefusesScript text n P UnwrapFailed
+CommandRefuses command text n P second TooLong = RefusesRewriting command text n P TooLong
+CommandRefuses command text n P second UnwrapFailed = RefusesRewriting command text n P UnwrapFailed
+CommandRefuses command text n P second FormatFailed = RefusesRewriting command text n P FormatFailed
 CommandRefuses command text n P second fault = ⊥

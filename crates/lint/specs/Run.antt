@@ -5,7 +5,7 @@ use Rattle.std.specs.Io.KnownBytes.{Appends, Keeps}
 use Rattle.source_text.specs.Source.{IsRefusal, max_bytes}
 use Rattle.source_text.specs.Writing.{AppendsBeginning}
 use Rattle.source_text.specs.declared.fault.Fault.{Fault}
-use Rattle.source_text.specs.declared.fault.Fault.TheVariants.{NotUtf8, TooLong, OutOfMemory, ReadFailed, WriteFailed, BadSettings, BadTable, UnwrapFailed}
+use Rattle.source_text.specs.declared.fault.Fault.TheVariants.{NotUtf8, TooLong, OutOfMemory, ReadFailed, WriteFailed, BadSettings, BadTable, UnwrapFailed, FormatFailed}
 use Rattle.commands.specs.declared.command.Command.{Command}
 use Rattle.commands.specs.declared.command.Command.TheVariants.{Check, Same}
 use Rattle.commands.specs.declared.command.ReportForm.{ReportForm}
@@ -149,6 +149,7 @@ Refuses finds command choice seen OutOfMemory place hint = (NoneFailed seen ⊎ 
 Refuses finds command choice seen BadSettings place hint = NoneFailed seen × NothingWritten seen × RefusesSettingsAfter command choice seen place × (hint ≡ Nothing)
 Refuses finds command choice seen (BadTable row why) place hint = NoneFailed seen × NothingWritten seen × RefusesAfter command choice seen (BadTable row why) × IsBare place hint
 Refuses finds command choice seen UnwrapFailed place hint = NoneFailed seen × NothingWritten seen × RefusesAfter command choice seen UnwrapFailed × IsBare place hint
+Refuses finds command choice seen FormatFailed place hint = NoneFailed seen × NothingWritten seen × RefusesAfter command choice seen FormatFailed × IsBare place hint
 Refuses finds command choice seen (NotUtf8 at) place hint = NoneFailed seen × NothingWritten seen × RefusesSource seen (NotUtf8 at) × IsBare place hint
 Refuses finds command choice seen TooLong place hint = NoneFailed seen × NothingWritten seen × (RefusesSource seen TooLong ⊎ RefusesAfter command choice seen TooLong) × IsBare place hint
 Refuses finds command choice seen fault place hint = NothingWritten seen × RefusesFirst command choice seen fault place hint

@@ -8,6 +8,7 @@ ghost use Rattle.lint.specs.Steps.{Answers, AnswersAlone, IsWritable};
 
 use crate::answer::Answer;
 use crate::cost_commands::{cost, verify};
+use crate::format_command::format;
 use crate::unwrap::unwrap_unless_fewest;
 use commands::Command;
 use estree_json::tree_text;
@@ -77,7 +78,7 @@ fn unwrapped<'s>(
 /// # Errors
 ///
 /// `BadTable` where the second file is refused; `ReadFailed` where its reader fails; `TooLong` and `UnwrapFailed` of `unwrap`, as
-/// `unwrap_text`; `OutOfMemory`.
+/// `unwrap_text`; those and `FormatFailed` of `format`, as `format_text`; `OutOfMemory`.
 pub(crate) fn answer<'s, S: Feed>(
     alloc: Global,
     command: Command,
@@ -99,6 +100,7 @@ pub(crate) fn answer<'s, S: Feed>(
         Command::Tree => tree(alloc, &parsed),
         Command::Fix => fixed(alloc, source, parsed),
         Command::Unwrap => unwrapped(alloc, source, &parsed, language),
+        Command::Format(choice) => format(alloc, source, &parsed, language, choice),
         Command::Cost => cost(alloc, parsed),
         Command::Verify => verify(alloc, &parsed, second),
         Command::Check(_) | Command::Same => unreachable!(),

@@ -1,6 +1,6 @@
 #![tactic(auto)]
 
-//! Whole calls over a script: `read_script`, `fix`, `fix_text`, `unwrap_text`, and `run`, a run of a command.
+//! Whole calls over a script: `read_script`, `fix`, `fix_text`, `unwrap_text`, `format_text`, and `run`, a run of a command.
 //! - May touch: two readers and a writer. All is read and judged before the first byte is written; no memory is taken
 //!   after it.
 //! - Contract: `run`: if the devices report their bytes, the whole of the command's output for what was read was
@@ -13,6 +13,8 @@ mod check_command;
 mod command_answers;
 mod cost_commands;
 mod fix_command;
+mod format;
+mod format_command;
 mod hints;
 mod languages;
 mod refusals;
@@ -22,5 +24,6 @@ mod script_reader;
 mod unwrap;
 
 pub use fix_command::{fix, fix_text};
+pub use format::format_text;
 pub use script_reader::read_script;
 pub use unwrap::unwrap_text;

@@ -99,8 +99,8 @@ fn answer_bytes<'s, S: Feed>(
 /// `ReadFailed` and `WriteFailed` where a device fails; `TooLong` and `NotUtf8` where the first file holds no source text; `Syntax` and
 /// `Early`, with line and column, and `TooDeep` where it is no script; `BadSettings`, with line and column where the settings aren't UTF-8 or no TOML, and
 /// `BadTable` where the second file is refused, and, of the second script, what a first one is refused for;
-/// `TooLong` also where the text that `unwrap` would write is longer than a source text may be, and `UnwrapFailed` where it isn't the same
-/// script with the fewest pairs, of which none is known; `OutOfMemory`. The first of these is answered, but at once that memory was
+/// `TooLong` also where the text that `unwrap` or `format` would write is longer than a source text may be, and `UnwrapFailed` and
+/// `FormatFailed` where it isn't the same script with the fewest pairs, or with its own, of which none is known; `OutOfMemory`. The first of these is answered, but at once that memory was
 /// refused while `check` reads its settings. Nothing is written but where the writer fails: then a beginning of the output.
 pub fn run<R: Feed, S: Feed, W: Sink>(
     alloc: Global,

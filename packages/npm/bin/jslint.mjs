@@ -4,11 +4,11 @@ import { run } from '../jslint.mjs';
 import { read, warn, write } from './streams.mjs';
 
 const USAGE = `usage: jslint-with-proofs check [--edition 2020|2022] [--module] [--spans] [--settings SETTINGS] FILE
-       jslint-with-proofs fix|unwrap|tree|cost [--edition 2020|2022] [--module] FILE
+       jslint-with-proofs fix|unwrap|format|tree|cost [--edition 2020|2022] [--module] FILE
        jslint-with-proofs verify [--edition 2020|2022] [--module] FILE TABLE
        jslint-with-proofs same [--edition 2020|2022] [--module] FILE OTHER
 `;
-const COMMANDS = ['check', 'fix', 'unwrap', 'tree', 'cost', 'verify', 'same'];
+const COMMANDS = ['check', 'fix', 'unwrap', 'format', 'tree', 'cost', 'verify', 'same'];
 
 /** Takes a flag, or an option with its value, out of words before `--`: whether it is there, its value, or null where that is missing. */
 function taken(words, name, hasValue) {

@@ -3,7 +3,7 @@ import assert from 'node:assert/strict';
 import { readFileSync } from 'node:fs';
 import { test } from 'node:test';
 import { Worker } from 'node:worker_threads';
-import { Refused, check, cost, fix, indexOf, run, same, spans, tree, treeText, unwrap, verify } from '../jslint.mjs';
+import { Refused, check, cost, fix, format, indexOf, run, same, spans, tree, treeText, unwrap, verify } from '../jslint.mjs';
 
 /** The refusal of a call. */
 function refusal(call) {
@@ -53,6 +53,14 @@ test('fix', () => {
   assert.equal(fix('\ufeff(a)'), 'a;\n');
   assert.equal(fix("'\ufeff'"), "'\ufeff';\n");
   assert.equal(fix(''), '');
+});
+
+test('format', () => {
+  assert.equal(format('f( (a),b ) // c'), 'f((a), b); // c\n');
+  assert.equal(format('é=(a)\r\n'), 'é = (a);\n');
+  assert.equal(format(''), '');
+  assert.equal(format('export default(a)', { language: 'module' }), 'export default (a);\n');
+  assert.deepEqual(told(refusal(() => format('é; b c')), 'code', 'line', 'column', 'status', 'command'), ['syntax', 1, 6, 2, 'format']);
 });
 
 test('unwrap', () => {

@@ -1,10 +1,11 @@
 # fish completion for jslint and jslint-files
 
-set -l commands check tree fix unwrap cost verify same help
+set -l commands check tree fix unwrap format cost verify same help
 complete -c jslint -n "not __fish_seen_subcommand_from $commands" -f -a check -d 'Report what the rules find'
 complete -c jslint -n "not __fish_seen_subcommand_from $commands" -f -a tree -d 'Write the tree as JSON, in the form of ESTree'
 complete -c jslint -n "not __fish_seen_subcommand_from $commands" -f -a fix -d 'Write the script in one layout: the fewest parentheses, no comments'
 complete -c jslint -n "not __fish_seen_subcommand_from $commands" -f -a unwrap -d 'Write the script without its unnecessary parentheses, comments kept'
+complete -c jslint -n "not __fish_seen_subcommand_from $commands" -f -a format -d 'Write the script in lines of a width, comments kept'
 complete -c jslint -n "not __fish_seen_subcommand_from $commands" -f -a cost -d 'Write the cost table'
 complete -c jslint -n "not __fish_seen_subcommand_from $commands" -f -a verify -d 'Check a cost table'
 complete -c jslint -n "not __fish_seen_subcommand_from $commands" -f -a same -d 'Compare two scripts'
@@ -14,6 +15,13 @@ complete -c jslint -n "not __fish_seen_subcommand_from $commands" -l version -d 
 complete -c jslint -n '__fish_seen_subcommand_from check' -l settings -r -F -d 'Rules and options, as TOML'
 complete -c jslint -n '__fish_seen_subcommand_from check' -l spans -d 'Where a report is, in bytes'
 complete -c jslint -n '__fish_seen_subcommand_from check' -l list -d 'FILE has names, each ended by a zero byte'
+complete -c jslint -n '__fish_seen_subcommand_from format' -l width -x -d 'Columns of a line, 40 to 200'
+complete -c jslint -n '__fish_seen_subcommand_from format' -l indent -x -a '1 2 3 4 5 6 7 8' -d 'Columns of a level of indentation'
+complete -c jslint -n '__fish_seen_subcommand_from format' -l tabs -d 'A tab for each level'
+complete -c jslint -n '__fish_seen_subcommand_from format' -l commas -x -a 'none lists all' -d 'Where a list over several lines ends with a comma'
+complete -c jslint -n '__fish_seen_subcommand_from format' -l bare-arrows -d 'No parentheses round one plain parameter'
+complete -c jslint -n '__fish_seen_subcommand_from format' -l fewest -d 'With the fewest parentheses'
+complete -c jslint -n '__fish_seen_subcommand_from format' -l check -d 'Write nothing: status 1 if the script is not formatted'
 complete -c jslint -n "__fish_seen_subcommand_from $commands; and not __fish_seen_subcommand_from help" -l edition -x -a '2020 2022' -d 'The language of scripts'
 complete -c jslint -n "__fish_seen_subcommand_from $commands; and not __fish_seen_subcommand_from help" -l module -d 'Modules of ECMAScript 2022'
 complete -c jslint -s h -l help -d 'Print help'

@@ -1,0 +1,3 @@
+pub mod SmallerFields
+pub mod SmallerViews
+pub mod SmallerPieces

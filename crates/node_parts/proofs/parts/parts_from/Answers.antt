@@ -1,0 +1,12 @@
+use Rattle.std.proofs.Common.{◌<◌, ◌≤◌, ◌∙◌, ap, arith}
+use Rattle.tree.specs.Node.{node_tree, list_parts}
+use Rattle.tree.specs.Tree.{node_total, parts_total, parts_of, parts_drop}
+use Rattle.tree.proofs.PartWalk.{part_smaller, parts_total-at}
+use Rattle.node_parts.proofs.SmallerFields.{parts_smaller, drop_smaller}
+use Rattle.node_parts.proofs.SmallerViews.{if_seen}
+use Rattle.node_parts.proofs.parts.parts_from.Goals as goal
+
+pub returns : goal.returns
+returns c =
+    let t = node_tree c.args.node in
+    omega (arith, drop_smaller (parts_of t) c.args.first, parts_smaller t, ap parts_total (c.skip.ensures ∙ ap (parts_drop c.args.first) c.parts.ensures))
