@@ -3,6 +3,7 @@
 use crate::case::Case;
 use crate::refusals::push_refusal;
 use parser::{Parsed, parse};
+use retaining::retains;
 use source_text::{Fault, Source};
 use std::alloc::{AllocError, Global};
 use tree::TextArena;
@@ -115,6 +116,44 @@ fn is_kept(alloc: Global, parsed: &Parsed, row: &Case, other: &str) -> Result<bo
         again.grouping_pairs(),
     ) {
         Ok(kept) => Ok(kept),
+        Err(AllocError) => Err(Fault::OutOfMemory),
+    }
+}
+
+/// Whether another text, as a formatted one, retains a script's tokens and comments.
+pub(crate) fn push_retained(
+    alloc: Global,
+    parsed: &Parsed,
+    row: &Case,
+    out: &mut String,
+) -> Result<(), AllocError> {
+    let other = row.text(2);
+    match is_retained(alloc, parsed, row, other) {
+        Ok(true) => out.push_str("retained"),
+        Ok(false) => out.push_str("changed"),
+        Err(fault) => push_refusal(other, fault, out),
+    }
+}
+
+/// Whether the other text retains the tokens and comments of the first one.
+fn is_retained(alloc: Global, parsed: &Parsed, row: &Case, other: &str) -> Result<bool, Fault> {
+    let text = row.text(1);
+    let Some(reading) = reading_of(alloc, parsed, text)? else {
+        return Ok(false);
+    };
+    let source = Source::new(text.as_bytes())?;
+    let formatted = Source::new(other.as_bytes())?;
+    let texts = TextArena::new(alloc);
+    let again = parse(alloc, &texts, &formatted, row.language())?;
+    match retains(
+        alloc,
+        &source,
+        &reading,
+        &formatted,
+        again.program(),
+        again.grouping_pairs(),
+    ) {
+        Ok(retained) => Ok(retained),
         Err(AllocError) => Err(Fault::OutOfMemory),
     }
 }

@@ -4,3 +4,5 @@ pub mod PartCounts
 pub mod WalkLemmas
 pub mod Together
 pub mod DueLemmas
+pub mod ValueSearchLemmas
+pub mod PathLemmas

@@ -105,12 +105,22 @@ callee_of (Some tree) = cond (is_plain_call (kind_of tree)) (nth 0 tree) None
 abbrev pub finds_place : Option Tree → Bool
 finds_place it = is_member (codes "indexOf") (callee_of it) || is_member (codes "lastIndexOf") (callee_of it)
 
+-- `!!a`, `+a`, `~a.indexOf(b)`
+abbrev pub is_unary_coercion : Tree → Bool
+is_unary_coercion tree = (is (text_of tree) "!" && is_unary (codes "!") (nth 0 tree)) || ((is (text_of tree) "+" && not (is_numeric (nth 0 tree))) || (is (text_of tree) "~" && finds_place (nth 0 tree)))
+
+-- a product with 1, or a sum with nothing, on either side
+abbrev pub has_one : Tree → Bool
+has_one tree = is (text_of tree) "*" && (is_times_one (nth 0 tree) (nth 1 tree) || is_times_one (nth 1 tree) (nth 0 tree))
+
+abbrev pub has_nothing : Tree → Bool
+has_nothing tree = is (text_of tree) "+" && (is_plus_nothing (nth 0 tree) (nth 1 tree) || is_plus_nothing (nth 1 tree) (nth 0 tree))
+
 -- an operator makes a boolean, a number or a string of what it is used on, and does nothing else
 abbrev pub is_coercion : Tree → Bool
 is_coercion tree =
-    cond (is_unary_kind (kind_of tree)) ((is (text_of tree) "!" && is_unary (codes "!") (nth 0 tree)) || ((is (text_of tree) "+" && not (is_numeric (nth 0 tree))) || (is (text_of tree) "~" && finds_place (nth 0 tree))))
-    (cond (is_assignment (kind_of tree)) (is (text_of tree) "+=" && is_empty_text (nth 1 tree))
-    ((is (text_of tree) "*" && (is_times_one (nth 0 tree) (nth 1 tree) || is_times_one (nth 1 tree) (nth 0 tree))) || (is (text_of tree) "+" && (is_plus_nothing (nth 0 tree) (nth 1 tree) || is_plus_nothing (nth 1 tree) (nth 0 tree)))))
+    cond (is_unary_kind (kind_of tree)) (is_unary_coercion tree)
+    (cond (is_assignment (kind_of tree)) (is (text_of tree) "+=" && is_empty_text (nth 1 tree)) (has_one tree || has_nothing tree))
 
 -- what to use in its place
 abbrev pub coercion_words : Tree → List ℕ

@@ -1,7 +1,7 @@
 -- Kinds of nodes at which rules look, and which they ask of what stands round a node.
 use Rattle.std.specs.Prelude.{Bool, true, false}
 use Rattle.tree.specs.declared.kind.Kind.{Kind}
-use Rattle.tree.specs.declared.kind.Kind.TheVariants.{ArrayExpression, ArrayPattern, AssignmentExpression, AwaitExpression, BinaryExpression, BlockStatement, BreakStatement, CallExpression, ClassDeclaration, ConditionalExpression, ContinueStatement, DebuggerStatement, DoWhileStatement, EmptyStatement, ExportSpecifier, ExpressionStatement, ForInStatement, ForOfStatement, ForStatement, FunctionDeclaration, FunctionExpression, IfStatement, ImportExpression, ImportSpecifier, LabeledStatement, Literal, MemberExpression, NewExpression, ObjectExpression, ObjectPattern, Property, PropertyDefinition, ReturnStatement, SpreadElement, StaticBlock, SwitchCase, SwitchStatement, TemplateLiteral, ThrowStatement, TryStatement, UnaryExpression, UpdateExpression, VariableDeclaration, VariableDeclarator, WhileStatement, YieldExpression}
+use Rattle.tree.specs.declared.kind.Kind.TheVariants.{ArrayExpression, ArrayPattern, ArrowFunctionExpression, AssignmentExpression, AssignmentPattern, AwaitExpression, BinaryExpression, BlockStatement, BreakStatement, CallExpression, ChainExpression, ClassDeclaration, ClassExpression, ConditionalExpression, ContinueStatement, DebuggerStatement, DoWhileStatement, EmptyStatement, ExportSpecifier, ExpressionStatement, ForInStatement, ForOfStatement, ForStatement, FunctionDeclaration, FunctionExpression, Identifier, IfStatement, ImportExpression, ImportSpecifier, LabeledStatement, Literal, LogicalExpression, MemberExpression, MetaProperty, NewExpression, ObjectExpression, ObjectPattern, Property, PropertyDefinition, ReturnStatement, SequenceExpression, SpreadElement, StaticBlock, Super, SwitchCase, SwitchStatement, TaggedTemplateExpression, TemplateLiteral, ThisExpression, ThrowStatement, TryStatement, UnaryExpression, UpdateExpression, VariableDeclaration, VariableDeclarator, WhileStatement, YieldExpression}
 
 -- an array
 abbrev pub is_array : Kind → Bool
@@ -13,10 +13,21 @@ abbrev pub is_assignment : Kind → Bool
 is_assignment AssignmentExpression = true
 is_assignment _ = false
 
+-- `await`
+abbrev pub is_await : Kind → Bool
+is_await AwaitExpression = true
+is_await _ = false
+
 -- a binary operator
 abbrev pub is_binary : Kind → Bool
 is_binary BinaryExpression = true
 is_binary _ = false
+
+-- an operator with two sides
+abbrev pub is_binary_operation : Kind → Bool
+is_binary_operation BinaryExpression = true
+is_binary_operation LogicalExpression = true
+is_binary_operation _ = false
 
 -- a block
 abbrev pub is_block : Kind → Bool
@@ -33,6 +44,11 @@ is_call _ = false
 abbrev pub is_case : Kind → Bool
 is_case SwitchCase = true
 is_case _ = false
+
+-- a chain, `?.`
+abbrev pub is_chain : Kind → Bool
+is_chain ChainExpression = true
+is_chain _ = false
 
 -- `?:`
 abbrev pub is_conditional : Kind → Bool
@@ -69,6 +85,11 @@ abbrev pub is_function_declaration : Kind → Bool
 is_function_declaration FunctionDeclaration = true
 is_function_declaration _ = false
 
+-- `for` with `of`
+abbrev pub is_for_of : Kind → Bool
+is_for_of ForOfStatement = true
+is_for_of _ = false
+
 -- `if`
 abbrev pub is_if : Kind → Bool
 is_if IfStatement = true
@@ -79,6 +100,11 @@ abbrev pub is_labelled : Kind → Bool
 is_labelled LabeledStatement = true
 is_labelled _ = false
 
+-- an operator that may leave its right side out
+abbrev pub is_logical : Kind → Bool
+is_logical LogicalExpression = true
+is_logical _ = false
+
 -- a literal
 abbrev pub is_literal_kind : Kind → Bool
 is_literal_kind Literal = true
@@ -88,6 +114,11 @@ is_literal_kind _ = false
 abbrev pub is_member_expression : Kind → Bool
 is_member_expression MemberExpression = true
 is_member_expression _ = false
+
+-- a name
+abbrev pub is_name_kind : Kind → Bool
+is_name_kind Identifier = true
+is_name_kind _ = false
 
 -- `new`
 abbrev pub is_new : Kind → Bool
@@ -119,6 +150,11 @@ abbrev pub is_return : Kind → Bool
 is_return ReturnStatement = true
 is_return _ = false
 
+-- expressions with commas
+abbrev pub is_sequence : Kind → Bool
+is_sequence SequenceExpression = true
+is_sequence _ = false
+
 -- a spread argument
 abbrev pub is_spread : Kind → Bool
 is_spread SpreadElement = true
@@ -129,6 +165,11 @@ abbrev pub is_static_block : Kind → Bool
 is_static_block StaticBlock = true
 is_static_block _ = false
 
+-- `super`
+abbrev pub is_super : Kind → Bool
+is_super Super = true
+is_super _ = false
+
 -- a switch
 abbrev pub is_switch : Kind → Bool
 is_switch SwitchStatement = true
@@ -138,6 +179,16 @@ is_switch _ = false
 abbrev pub is_template : Kind → Bool
 is_template TemplateLiteral = true
 is_template _ = false
+
+-- `this`
+abbrev pub is_this : Kind → Bool
+is_this ThisExpression = true
+is_this _ = false
+
+-- `throw`
+abbrev pub is_throw : Kind → Bool
+is_throw ThrowStatement = true
+is_throw _ = false
 
 -- `try`
 abbrev pub is_try : Kind → Bool
@@ -173,6 +224,16 @@ abbrev pub destructures : Kind → Bool
 destructures ArrayPattern = true
 destructures ObjectPattern = true
 destructures _ = false
+
+-- what no jump leaves: a function, a class, a static block
+abbrev pub ends_jumps : Kind → Bool
+ends_jumps FunctionExpression = true
+ends_jumps FunctionDeclaration = true
+ends_jumps ArrowFunctionExpression = true
+ends_jumps ClassExpression = true
+ends_jumps ClassDeclaration = true
+ends_jumps StaticBlock = true
+ends_jumps _ = false
 
 -- what gives its second part to its first: an assignment, a declarator, a field
 abbrev pub gets_value : Kind → Bool
@@ -211,6 +272,15 @@ is_own_function FunctionExpression = true
 is_own_function FunctionDeclaration = true
 is_own_function _ = false
 
+-- a test of `if`, `?:` or a loop
+abbrev pub is_test_of_statement : Kind → Bool
+is_test_of_statement IfStatement = true
+is_test_of_statement WhileStatement = true
+is_test_of_statement DoWhileStatement = true
+is_test_of_statement ForStatement = true
+is_test_of_statement ConditionalExpression = true
+is_test_of_statement _ = false
+
 -- a statement, but a block, that may be the body of another
 abbrev pub is_short_body : Kind → Bool
 is_short_body ExpressionStatement = true
@@ -231,6 +301,23 @@ is_short_body ForInStatement = true
 is_short_body ForOfStatement = true
 is_short_body _ = false
 
+-- a jump, or `throw`
+abbrev pub jumps : Kind → Bool
+jumps ReturnStatement = true
+jumps ThrowStatement = true
+jumps BreakStatement = true
+jumps ContinueStatement = true
+jumps _ = false
+
+-- what makes a new object, an array, a function or a class
+abbrev pub makes_object : Kind → Bool
+makes_object ArrayExpression = true
+makes_object ObjectExpression = true
+makes_object FunctionExpression = true
+makes_object ArrowFunctionExpression = true
+makes_object ClassExpression = true
+makes_object _ = false
+
 -- what may make a boolean of a part
 abbrev pub makes_boolean : Kind → Bool
 makes_boolean IfStatement = true
@@ -243,12 +330,43 @@ makes_boolean CallExpression = true
 makes_boolean NewExpression = true
 makes_boolean _ = false
 
+-- expressions whose value may be an Error
+abbrev pub may_be_error : Kind → Bool
+may_be_error Identifier = true
+may_be_error CallExpression = true
+may_be_error NewExpression = true
+may_be_error MemberExpression = true
+may_be_error TaggedTemplateExpression = true
+may_be_error YieldExpression = true
+may_be_error AwaitExpression = true
+may_be_error ChainExpression = true
+may_be_error ImportExpression = true
+may_be_error ThisExpression = true
+may_be_error MetaProperty = true
+may_be_error _ = false
+
 -- a statement with a label of its own or of another
 abbrev pub may_have_label : Kind → Bool
 may_have_label LabeledStatement = true
 may_have_label BreakStatement = true
 may_have_label ContinueStatement = true
 may_have_label _ = false
+
+-- what throws where a part is undefined
+abbrev pub needs_object : Kind → Bool
+needs_object CallExpression = true
+needs_object NewExpression = true
+needs_object MemberExpression = true
+needs_object TaggedTemplateExpression = true
+needs_object SpreadElement = true
+needs_object ClassDeclaration = true
+needs_object ClassExpression = true
+needs_object ForOfStatement = true
+needs_object BinaryExpression = true
+needs_object AssignmentExpression = true
+needs_object VariableDeclarator = true
+needs_object AssignmentPattern = true
+needs_object _ = false
 
 -- what may have two names
 abbrev pub renames : Kind → Bool

@@ -1,10 +1,13 @@
-pub mod PartTests
-pub mod Words
-pub mod Searches
 pub mod KindSets
+pub mod Words
+pub mod PartTests
+pub mod Searches
 pub mod Values
+pub mod ValueSearches
+pub mod Paths
 pub mod Tests
 pub mod ExpressionTests
+pub mod ValueTests
 pub mod Arounds
 pub mod Over
 pub mod Rows

@@ -5,23 +5,27 @@ use Rattle.tree.specs.declared.kind.Kind.TheVariants.{BinaryExpression, SwitchSt
 use Rattle.tree.specs.declared.kind.Span.{Span}
 use Rattle.tree.specs.declared.kind.Flags.{Flags}
 use Rattle.tree.specs.Tree.{Tree, flags_of, kind_of, text_of, parts_of}
+use Rattle.tree.specs.Fields.{last_part}
 use Rattle.language.specs.Vocabulary.{is}
 use Rattle.rule_words.specs.Reports.{Report}
 use Rattle.node_rules.specs.declared.around.Around.{Around}
 use Rattle.node_rules.specs.declared.node_rule.NodeOptions.{NodeOptions}
 use Rattle.node_rules.specs.declared.node_rule.NodeRule.{NodeRule}
-use Rattle.node_rules.specs.declared.node_rule.NodeRule.TheVariants.{Curly, EqEqEq, ForDirection, NoArrayConstructor, NoAsyncPromiseExecutor, NoCaller, NoCaseDeclarations, NoCompareNegZero, NoDebugger, NoEmpty, NoEmptyPattern, NoEmptyStaticBlock, NoEval, NoExtraBooleanCast, NoExtraSemi, NoImplicitCoercion, NoInnerDeclarations, NoLabels, NoLonelyIf, NoMultiAssign, NoMultiStr, NoNestedTernary, NoNew, NoNewFunc, NoNewObject, NoNewWrappers, NoProto, NoPrototypeBuiltins, NoSetterReturn, NoSparseArrays, NoUnneededTernary, NoUnsafeNegation, NoUnusedExpressions, NoUnusedLabels, NoUselessCatch, NoUselessComputedKey, NoUselessRename, NoVar, NoVoid, ObjectShorthand, Radix, RequireYield, UseIsNan, ValidTypeof, Yoda}
+use Rattle.node_rules.specs.declared.node_rule.NodeRule.TheVariants.{Curly, DefaultCaseLast, EqEqEq, ForDirection, NoArrayConstructor, NoAsyncPromiseExecutor, NoCaller, NoCaseDeclarations, NoCompareNegZero, NoConstantBinaryExpression, NoConstantCondition, NoDebugger, NoEmpty, NoEmptyPattern, NoEmptyStaticBlock, NoEval, NoExtraBooleanCast, NoExtraSemi, NoImplicitCoercion, NoInnerDeclarations, NoLabels, NoLonelyIf, NoMultiAssign, NoMultiStr, NoNestedTernary, NoNew, NoNewFunc, NoNewObject, NoNewWrappers, NoProto, NoPrototypeBuiltins, NoSelfAssign, NoSelfCompare, NoSetterReturn, NoSparseArrays, NoThrowLiteral, NoUnneededTernary, NoUnsafeFinally, NoUnsafeNegation, NoUnsafeOptionalChaining, NoUnusedExpressions, NoUnusedLabels, NoUselessCatch, NoUselessComputedKey, NoUselessRename, NoVar, NoVoid, ObjectShorthand, OperatorAssignment, PreferTemplate, Radix, RequireYield, UseIsNan, ValidTypeof, Yoda}
 use Rattle.node_rules.specs.declared.search.Sought.TheVariants.{Jump}
-use Rattle.node_rules.specs.PartTests.{any_part, is_gap, is_null}
-use Rattle.node_rules.specs.KindSets.{compares, declares, destructures, gets_value, has_body, has_statement_list, is_array, is_assignment, is_binary, is_call, is_case, is_conditional, is_debugger, is_empty_statement, is_expression_statement, is_for, is_function_declaration, is_if, is_labelled, is_literal_kind, is_member_expression, is_new, is_object, is_operation, is_own_function, is_plain_call, is_property, is_return, is_short_body, is_static_block, is_try, is_unary_kind, is_variable_declaration, makes_boolean, may_have_label, renames}
+use Rattle.node_rules.specs.Paths.{are_same}
+use Rattle.node_rules.specs.PartTests.{any_part, is_default, is_gap, is_null}
+use Rattle.node_rules.specs.KindSets.{compares, declares, destructures, gets_value, has_body, has_statement_list, is_array, is_assignment, is_binary, is_binary_operation, is_call, is_case, is_conditional, is_debugger, is_empty_statement, is_expression_statement, is_for, is_function_declaration, is_if, is_labelled, is_literal_kind, is_member_expression, is_new, is_object, is_operation, is_own_function, is_plain_call, is_property, is_return, is_short_body, is_static_block, is_switch, is_test_of_statement, is_throw, is_try, is_unary_kind, is_variable_declaration, jumps, makes_boolean, may_have_label, needs_object, renames}
 use Rattle.node_rules.specs.Searches.{has_sought}
 use Rattle.node_rules.specs.Words.{is_async_function, is_comparison, is_empty, is_equality, is_key_part, is_name, is_string, kind_at, nth, span_at, span_of, text_at, unchained}
 use Rattle.node_rules.specs.Tests.{compares_nan, first_of, is_builtin_test, is_cast, is_empty_node, is_lexical, is_minus_zero, is_never_typeof, is_outermost, never_yields, only_throws, runs_away, tested}
 use Rattle.node_rules.specs.Values.{is_boolean, is_constant_key, is_fixed, is_split_string}
+use Rattle.node_rules.specs.ValueTests.{is_constant_operation, is_constant_test, is_long_assignment, is_mixed_sum, is_self_assignment, is_unsafe_chain, leaves_finalizer, risked, throws_no_error}
 use Rattle.node_rules.specs.ExpressionTests.{coercion_words, is_bare_body, is_caller, is_coercion, is_lonely_if, is_long_property, is_negated_side, is_parse_int, is_used, is_wrapper, keeps_name, lacks_radix, may_rename}
 
 abbrev pub called : NodeRule → List ℕ
 called Curly = codes "curly"
+called DefaultCaseLast = codes "default-case-last"
 called EqEqEq = codes "eqeqeq"
 called ForDirection = codes "for-direction"
 called NoArrayConstructor = codes "no-array-constructor"
@@ -29,6 +33,8 @@ called NoAsyncPromiseExecutor = codes "no-async-promise-executor"
 called NoCaller = codes "no-caller"
 called NoCaseDeclarations = codes "no-case-declarations"
 called NoCompareNegZero = codes "no-compare-neg-zero"
+called NoConstantBinaryExpression = codes "no-constant-binary-expression"
+called NoConstantCondition = codes "no-constant-condition"
 called NoDebugger = codes "no-debugger"
 called NoEmpty = codes "no-empty"
 called NoEmptyPattern = codes "no-empty-pattern"
@@ -49,10 +55,15 @@ called NoNewObject = codes "no-new-object"
 called NoNewWrappers = codes "no-new-wrappers"
 called NoProto = codes "no-proto"
 called NoPrototypeBuiltins = codes "no-prototype-builtins"
+called NoSelfAssign = codes "no-self-assign"
+called NoSelfCompare = codes "no-self-compare"
 called NoSetterReturn = codes "no-setter-return"
 called NoSparseArrays = codes "no-sparse-arrays"
+called NoThrowLiteral = codes "no-throw-literal"
 called NoUnneededTernary = codes "no-unneeded-ternary"
+called NoUnsafeFinally = codes "no-unsafe-finally"
 called NoUnsafeNegation = codes "no-unsafe-negation"
+called NoUnsafeOptionalChaining = codes "no-unsafe-optional-chaining"
 called NoUnusedExpressions = codes "no-unused-expressions"
 called NoUnusedLabels = codes "no-unused-labels"
 called NoUselessCatch = codes "no-useless-catch"
@@ -61,6 +72,8 @@ called NoUselessRename = codes "no-useless-rename"
 called NoVar = codes "no-var"
 called NoVoid = codes "no-void"
 called ObjectShorthand = codes "object-shorthand"
+called OperatorAssignment = codes "operator-assignment"
+called PreferTemplate = codes "prefer-template"
 called Radix = codes "radix"
 called RequireYield = codes "require-yield"
 called UseIsNan = codes "use-isnan"
@@ -69,6 +82,7 @@ called Yoda = codes "yoda"
 
 abbrev pub looks : NodeRule → Kind → Bool
 looks Curly kind = is_short_body kind
+looks DefaultCaseLast kind = is_switch kind
 looks EqEqEq kind = is_binary kind
 looks ForDirection kind = is_for kind
 looks NoArrayConstructor kind = is_call kind
@@ -76,6 +90,8 @@ looks NoAsyncPromiseExecutor kind = is_new kind
 looks NoCaller kind = is_member_expression kind
 looks NoCaseDeclarations kind = declares kind
 looks NoCompareNegZero kind = is_binary kind
+looks NoConstantBinaryExpression kind = is_binary_operation kind
+looks NoConstantCondition kind = is_test_of_statement kind
 looks NoDebugger kind = is_debugger kind
 looks NoEmpty kind = has_statement_list kind
 looks NoEmptyPattern kind = destructures kind
@@ -96,10 +112,15 @@ looks NoNewObject kind = is_new kind
 looks NoNewWrappers kind = is_new kind
 looks NoProto kind = is_member_expression kind
 looks NoPrototypeBuiltins kind = is_plain_call kind
+looks NoSelfAssign kind = is_assignment kind
+looks NoSelfCompare kind = is_binary kind
 looks NoSetterReturn kind = is_return kind
 looks NoSparseArrays kind = is_array kind
+looks NoThrowLiteral kind = is_throw kind
 looks NoUnneededTernary kind = is_conditional kind
+looks NoUnsafeFinally kind = jumps kind
 looks NoUnsafeNegation kind = is_binary kind
+looks NoUnsafeOptionalChaining kind = needs_object kind
 looks NoUnusedExpressions kind = is_expression_statement kind
 looks NoUnusedLabels kind = is_labelled kind
 looks NoUselessCatch kind = is_try kind
@@ -108,6 +129,8 @@ looks NoUselessRename kind = renames kind
 looks NoVar kind = is_variable_declaration kind
 looks NoVoid kind = is_unary_kind kind
 looks ObjectShorthand kind = is_property kind
+looks OperatorAssignment kind = is_assignment kind
+looks PreferTemplate kind = is_binary kind
 looks Radix kind = is_plain_call kind
 looks RequireYield kind = is_own_function kind
 looks UseIsNan kind = compares kind
@@ -117,6 +140,7 @@ looks Yoda kind = is_binary kind
 -- the source is the text of the script
 abbrev pub holds : NodeOptions → (source : List ℕ) → NodeRule → Around → Tree → Bool
 holds options source Curly around tree = is_bare_body around tree
+holds options source DefaultCaseLast around tree = any_part is_default (parts_of tree) && not (is_default (last_part (parts_of tree)))
 holds options source EqEqEq around tree = (is (text_of tree) "==" || is (text_of tree) "!=") && not (options.allow_null && any_part is_null (parts_of tree))
 holds options source ForDirection around tree = runs_away (nth 1 tree) (nth 2 tree)
 holds options source NoArrayConstructor around tree = is_name (codes "Array") (nth 0 tree) && (is_none (nth 1 tree) || is_some (nth 2 tree))
@@ -124,6 +148,8 @@ holds options source NoAsyncPromiseExecutor around tree = is_name (codes "Promis
 holds options source NoCaller around tree = is_caller tree
 holds options source NoCaseDeclarations around tree = is_case around.parent && is_lexical tree
 holds options source NoCompareNegZero around tree = is_comparison (text_of tree) && (is_minus_zero (nth 0 tree) || is_minus_zero (nth 1 tree))
+holds options source NoConstantBinaryExpression around tree = is_constant_operation tree
+holds options source NoConstantCondition around tree = is_constant_test tree
 holds options source NoDebugger around tree = true
 holds options source NoEmpty around tree = is_empty_node options source around tree
 holds options source NoEmptyPattern around tree = is_empty (parts_of tree)
@@ -144,10 +170,15 @@ holds options source NoNewObject around tree = is_name (codes "Object") (nth 0 t
 holds options source NoNewWrappers around tree = is_wrapper (nth 0 tree)
 holds options source NoProto around tree = is_key_part (codes "__proto__") (flags_of tree).computed (nth 1 tree)
 holds options source NoPrototypeBuiltins around tree = is_builtin_test (unchained (nth 0 tree))
+holds options source NoSelfAssign around tree = is_self_assignment tree
+holds options source NoSelfCompare around tree = is_comparison (text_of tree) && are_same (nth 0 tree) (nth 1 tree)
 holds options source NoSetterReturn around tree = around.in_setter && is_some (nth 0 tree)
 holds options source NoSparseArrays around tree = any_part is_gap (parts_of tree)
+holds options source NoThrowLiteral around tree = throws_no_error tree
 holds options source NoUnneededTernary around tree = is_boolean (nth 1 tree) && is_boolean (nth 2 tree)
+holds options source NoUnsafeFinally around tree = leaves_finalizer around tree
 holds options source NoUnsafeNegation around tree = is_negated_side tree
+holds options source NoUnsafeOptionalChaining around tree = is_unsafe_chain around tree
 holds options source NoUnusedExpressions around tree = not (flags_of tree).directive && not (is_used (unchained (nth 0 tree)))
 holds options source NoUnusedLabels around tree = not (has_sought Jump (text_at (nth 0 tree)) (nth 1 tree))
 holds options source NoUselessCatch around tree = only_throws (nth 1 tree)
@@ -156,6 +187,8 @@ holds options source NoUselessRename around tree = may_rename around.parent (kin
 holds options source NoVar around tree = is (text_of tree) "var"
 holds options source NoVoid around tree = is (text_of tree) "void"
 holds options source ObjectShorthand around tree = is_object around.parent && is_long_property tree
+holds options source OperatorAssignment around tree = is_long_assignment tree
+holds options source PreferTemplate around tree = is_mixed_sum around tree
 holds options source Radix around tree = is_parse_int (unchained (nth 0 tree)) && lacks_radix tree
 holds options source RequireYield around tree = never_yields tree
 holds options source UseIsNan around tree = compares_nan tree
@@ -174,10 +207,13 @@ key_place tree (Some member) = span_at tree (nth 1 member)
 -- a report stands at the node, unless said otherwise
 abbrev pub place : NodeRule → Tree → Span
 place NoAsyncPromiseExecutor tree = span_at tree (nth 1 tree)
+place NoConstantCondition tree = span_at tree (tested tree)
 place NoEval tree = span_at tree (nth 0 tree)
 place NoExtraBooleanCast tree = span_at tree (tested tree)
 place NoLonelyIf tree = span_at tree (first_of (nth 2 tree))
 place NoPrototypeBuiltins tree = key_place tree (unchained (nth 0 tree))
+place NoSelfAssign tree = span_at tree (nth 1 tree)
+place NoUnsafeOptionalChaining tree = span_at tree (risked tree)
 place NoUnusedLabels tree = span_at tree (nth 0 tree)
 place NoUselessCatch tree = useless_catch tree
 place ValidTypeof tree = span_at tree (cond (is_never_typeof (nth 0 tree) (nth 1 tree)) (nth 1 tree) (nth 0 tree))
@@ -193,6 +229,7 @@ nan_words _ = codes "no case equals NaN"
 
 abbrev pub says : NodeRule → Tree → List ℕ
 says Curly tree = codes "expected a block"
+says DefaultCaseLast tree = codes "default before another case"
 says EqEqEq tree = cond (is (text_of tree) "==") (codes "use '===' instead of '=='") (codes "use '!==' instead of '!='")
 says ForDirection tree = codes "the counter goes away from its bound"
 says NoArrayConstructor tree = codes "use an array literal"
@@ -200,6 +237,8 @@ says NoAsyncPromiseExecutor tree = codes "async executor"
 says NoCaller tree = codes "throws in strict code"
 says NoCaseDeclarations tree = codes "declaration in a case"
 says NoCompareNegZero tree = codes "no comparison tells -0 from 0"
+says NoConstantBinaryExpression tree = codes "constant operation"
+says NoConstantCondition tree = codes "constant condition"
 says NoDebugger tree = codes "debugger statement"
 says NoEmpty tree = empty_words (kind_of tree)
 says NoEmptyPattern tree = codes "empty pattern"
@@ -220,10 +259,15 @@ says NoNewObject tree = codes "use an object literal"
 says NoNewWrappers tree = codes "wrapper object"
 says NoProto tree = codes "use Object.getPrototypeOf"
 says NoPrototypeBuiltins tree = codes "call it by Object.prototype"
+says NoSelfAssign tree = codes "assigned to itself"
+says NoSelfCompare tree = codes "both sides are the same"
 says NoSetterReturn tree = codes "setter returns a value"
 says NoSparseArrays tree = codes "array with a hole"
+says NoThrowLiteral tree = codes "throw an Error"
 says NoUnneededTernary tree = codes "the test says it"
+says NoUnsafeFinally tree = codes "leaves finally"
 says NoUnsafeNegation tree = codes "'!' belongs to the left side alone"
+says NoUnsafeOptionalChaining tree = codes "throws where the chain is cut short"
 says NoUnusedExpressions tree = codes "expression without use"
 says NoUnusedLabels tree = codes "label is never used"
 says NoUselessCatch tree = codes "catch that only throws again"
@@ -232,6 +276,8 @@ says NoUselessRename tree = codes "renamed to its own name"
 says NoVar tree = codes "use let or const instead of var"
 says NoVoid tree = codes "void"
 says ObjectShorthand tree = codes "use a shorthand"
+says OperatorAssignment tree = codes "use the operator's assignment"
+says PreferTemplate tree = codes "use a template"
 says Radix tree = codes "no radix from 2 to 36"
 says RequireYield tree = codes "generator without yield"
 says UseIsNan tree = nan_words (kind_of tree)

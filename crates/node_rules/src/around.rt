@@ -2,9 +2,53 @@
 
 ghost use Rattle.std.specs.Prelude.{◌≡◌, ◌&&◌};
 ghost use Rattle.tree.specs.Node.{node_tree};
-ghost use Rattle.node_rules.specs.Arounds.{at_place, inside, is_member, is_set, is_setter, round_root, setter_inside};
+ghost use Rattle.node_rules.specs.Arounds.{at_place, inside, is_finalizer, is_member, is_set, is_setter, leaving_inside, round_root, setter_inside};
 
+use crate::kind_sets::{ends_jumps, is_labelled, is_switch, is_try};
+use crate::value_search::is_sum;
 use tree::{Form, Kind, Node};
+
+/// Which jumps leave a finalizer, the block behind `finally`.
+#[derive(Clone, Copy)]
+pub(crate) struct Jumps {
+    /// `return` and `throw`.
+    pub(crate) returns: bool,
+    /// `break` without a label.
+    pub(crate) breaks: bool,
+    /// `continue` without a label.
+    pub(crate) continues: bool,
+    /// `break` and `continue` with a label.
+    pub(crate) labels: bool,
+}
+
+impl Jumps {
+    ghost use Rattle.std.specs.Prelude.{◌≡◌};
+    ghost use Rattle.node_rules.specs.Arounds.{all_jumps, no_jumps};
+
+    /// None does.
+    fn none() -> Jumps
+        ensures { result ≡ no_jumps }
+    {
+        Jumps {
+            returns: false,
+            breaks: false,
+            continues: false,
+            labels: false,
+        }
+    }
+
+    /// Each does.
+    fn all() -> Jumps
+        ensures { result ≡ all_jumps }
+    {
+        Jumps {
+            returns: true,
+            breaks: true,
+            continues: true,
+            labels: true,
+        }
+    }
+}
 
 /// What stands round a node, as far as rules ask.
 #[derive(Clone, Copy)]
@@ -19,6 +63,10 @@ pub(crate) struct Around {
     pub(crate) place: usize,
     /// Whether the nearest function round it is a setter's.
     pub(crate) in_setter: bool,
+    /// Whether the parent is a sum.
+    pub(crate) in_sum: bool,
+    /// Which jumps here leave a finalizer.
+    pub(crate) leaving: Jumps,
 }
 
 impl Around {
@@ -32,6 +80,8 @@ impl Around {
             grandparent: Kind::Program,
             place: 0,
             in_setter: false,
+            in_sum: false,
+            leaving: Jumps::none(),
         }
     }
 
@@ -45,6 +95,8 @@ impl Around {
             grandparent: self.parent,
             place: 0,
             in_setter: self.setter_inside(node.kind()),
+            in_sum: is_sum(node),
+            leaving: self.leaving_inside(node.kind()),
         }
     }
 
@@ -59,6 +111,8 @@ impl Around {
             grandparent: self.grandparent,
             place,
             in_setter: self.in_setter,
+            in_sum: self.in_sum,
+            leaving: self.leaving,
         }
     }
 
@@ -70,6 +124,31 @@ impl Around {
             Kind::FunctionExpression => self.is_setter(),
             Kind::FunctionDeclaration | Kind::ArrowFunctionExpression => false,
             _ => self.in_setter,
+        }
+    }
+
+    /// Whether the finalizer of a `try` stands here.
+    fn is_finalizer(self) -> bool
+        ensures { result ≡ is_finalizer self }
+    {
+        is_try(self.parent) && self.place == 2
+    }
+
+    /// Which jumps leave a finalizer from the parts of a node of this kind.
+    fn leaving_inside(self, kind: Kind) -> Jumps
+        ensures { result ≡ leaving_inside self kind }
+    {
+        if self.is_finalizer() {
+            Jumps::all()
+        } else if !self.leaving.returns || ends_jumps(kind) {
+            Jumps::none()
+        } else {
+            Jumps {
+                returns: self.leaving.returns,
+                breaks: self.leaving.breaks && !(kind.is_loop() || is_switch(kind)),
+                continues: self.leaving.continues && !kind.is_loop(),
+                labels: self.leaving.labels && !is_labelled(kind),
+            }
         }
     }
 

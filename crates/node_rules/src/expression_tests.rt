@@ -2,7 +2,7 @@
 
 ghost use Rattle.std.specs.Prelude.{◌≡◌, option_map};
 ghost use Rattle.tree.specs.Node.{node_tree};
-ghost use Rattle.node_rules.specs.ExpressionTests.{callee_of, coercion_words, finds_place, is_bare_body, is_caller, is_coercion, is_init, is_key_named, is_lonely_if, is_long_property, is_negated_side, is_parse_int, is_plus_nothing, is_times_one, is_unnamed_function, is_used, is_wrapper, keeps_key, keeps_name, lacks_radix, may_rename, second_of, without_default};
+ghost use Rattle.node_rules.specs.ExpressionTests.{callee_of, coercion_words, finds_place, has_nothing, has_one, is_bare_body, is_caller, is_coercion, is_init, is_key_named, is_lonely_if, is_long_property, is_negated_side, is_parse_int, is_plus_nothing, is_times_one, is_unary_coercion, is_unnamed_function, is_used, is_wrapper, keeps_key, keeps_name, lacks_radix, may_rename, second_of, without_default};
 
 use crate::around::Around;
 use crate::kind_sets::{
@@ -198,23 +198,42 @@ fn finds_place(part: Option<Node>) -> bool
     is_member(callee_of(part), "indexOf") || is_member(callee_of(part), "lastIndexOf")
 }
 
+/// Whether a unary operator makes a boolean or a number, or is the complement of a place.
+fn is_unary_coercion(node: Node) -> bool
+    ensures { result ≡ is_unary_coercion (node_tree node.entry) }
+{
+    (node.text() == "!" && is_unary(node.part(0), "!"))
+        || (node.text() == "+" && !is_numeric(node.part(0)))
+        || (node.text() == "~" && finds_place(node.part(0)))
+}
+
+/// Whether a product has 1 on one side.
+fn has_one(node: Node) -> bool
+    ensures { result ≡ has_one (node_tree node.entry) }
+{
+    node.text() == "*"
+        && (is_times_one(node.part(0), node.part(1)) || is_times_one(node.part(1), node.part(0)))
+}
+
+/// Whether a sum has a text with nothing in it on one side.
+fn has_nothing(node: Node) -> bool
+    ensures { result ≡ has_nothing (node_tree node.entry) }
+{
+    node.text() == "+"
+        && (is_plus_nothing(node.part(0), node.part(1))
+            || is_plus_nothing(node.part(1), node.part(0)))
+}
+
 /// Whether an operator makes a boolean, a number or a string of what it is used on, and does nothing else.
 pub(crate) fn is_coercion(node: Node) -> bool
     ensures { result ≡ is_coercion (node_tree node.entry) }
 {
     if is_unary_kind(node.kind()) {
-        (node.text() == "!" && is_unary(node.part(0), "!"))
-            || (node.text() == "+" && !is_numeric(node.part(0)))
-            || (node.text() == "~" && finds_place(node.part(0)))
+        is_unary_coercion(node)
     } else if is_assignment(node.kind()) {
         node.text() == "+=" && is_empty_text(node.part(1))
     } else {
-        (node.text() == "*"
-            && (is_times_one(node.part(0), node.part(1))
-                || is_times_one(node.part(1), node.part(0))))
-            || (node.text() == "+"
-                && (is_plus_nothing(node.part(0), node.part(1))
-                    || is_plus_nothing(node.part(1), node.part(0))))
+        has_one(node) || has_nothing(node)
     }
 }
 

@@ -1,7 +1,7 @@
 //! Sets of kinds: at which kinds rules look, and which they ask of what stands round a node.
 
 ghost use Rattle.std.specs.Prelude.{◌≡◌};
-ghost use Rattle.node_rules.specs.KindSets.{compares, declares, destructures, gets_value, has_body, has_statement_list, is_array, is_assignment, is_binary, is_block, is_call, is_case, is_conditional, is_debugger, is_empty_statement, is_expression_statement, is_for, is_function_declaration, is_function_expression, is_if, is_labelled, is_literal_kind, is_member_expression, is_new, is_object, is_object_pattern, is_operation, is_own_function, is_plain_call, is_property, is_return, is_short_body, is_spread, is_static_block, is_switch, is_template, is_try, is_unary_kind, is_variable_declaration, makes_boolean, may_have_label, renames, takes_effect};
+ghost use Rattle.node_rules.specs.KindSets.{compares, declares, destructures, ends_jumps, gets_value, has_body, has_statement_list, is_array, is_assignment, is_await, is_binary, is_binary_operation, is_block, is_call, is_case, is_chain, is_conditional, is_debugger, is_empty_statement, is_expression_statement, is_for, is_for_of, is_function_declaration, is_function_expression, is_if, is_labelled, is_literal_kind, is_logical, is_member_expression, is_name_kind, is_new, is_object, is_object_pattern, is_operation, is_own_function, is_plain_call, is_property, is_return, is_sequence, is_short_body, is_spread, is_static_block, is_super, is_switch, is_template, is_test_of_statement, is_this, is_throw, is_try, is_unary_kind, is_variable_declaration, jumps, makes_boolean, makes_object, may_be_error, may_have_label, needs_object, renames, takes_effect};
 
 use tree::Kind;
 
@@ -19,11 +19,25 @@ pub(crate) fn is_assignment(kind: Kind) -> bool
     matches!(kind, Kind::AssignmentExpression)
 }
 
+/// Whether it is the kind of `await`.
+pub(crate) fn is_await(kind: Kind) -> bool
+    ensures { result ≡ is_await kind }
+{
+    matches!(kind, Kind::AwaitExpression)
+}
+
 /// Whether it is the kind of a binary operator.
 pub(crate) fn is_binary(kind: Kind) -> bool
     ensures { result ≡ is_binary kind }
 {
     matches!(kind, Kind::BinaryExpression)
+}
+
+/// Whether it is the kind of an operator with two sides.
+pub(crate) fn is_binary_operation(kind: Kind) -> bool
+    ensures { result ≡ is_binary_operation kind }
+{
+    matches!(kind, Kind::BinaryExpression | Kind::LogicalExpression)
 }
 
 /// Whether it is the kind of a block.
@@ -45,6 +59,13 @@ pub(crate) fn is_case(kind: Kind) -> bool
     ensures { result ≡ is_case kind }
 {
     matches!(kind, Kind::SwitchCase)
+}
+
+/// Whether it is the kind of a chain, `?.`.
+pub(crate) fn is_chain(kind: Kind) -> bool
+    ensures { result ≡ is_chain kind }
+{
+    matches!(kind, Kind::ChainExpression)
 }
 
 /// Whether it is the kind of `?:`.
@@ -96,6 +117,13 @@ pub(crate) fn is_function_declaration(kind: Kind) -> bool
     matches!(kind, Kind::FunctionDeclaration)
 }
 
+/// Whether it is the kind of `for` with `of`.
+pub(crate) fn is_for_of(kind: Kind) -> bool
+    ensures { result ≡ is_for_of kind }
+{
+    matches!(kind, Kind::ForOfStatement)
+}
+
 /// Whether it is the kind of `if`.
 pub(crate) fn is_if(kind: Kind) -> bool
     ensures { result ≡ is_if kind }
@@ -110,6 +138,13 @@ pub(crate) fn is_labelled(kind: Kind) -> bool
     matches!(kind, Kind::LabeledStatement)
 }
 
+/// Whether it is the kind of an operator that may leave its right side out.
+pub(crate) fn is_logical(kind: Kind) -> bool
+    ensures { result ≡ is_logical kind }
+{
+    matches!(kind, Kind::LogicalExpression)
+}
+
 /// Whether it is the kind of a literal.
 pub(crate) fn is_literal_kind(kind: Kind) -> bool
     ensures { result ≡ is_literal_kind kind }
@@ -122,6 +157,13 @@ pub(crate) fn is_member_expression(kind: Kind) -> bool
     ensures { result ≡ is_member_expression kind }
 {
     matches!(kind, Kind::MemberExpression)
+}
+
+/// Whether it is the kind of a name.
+pub(crate) fn is_name_kind(kind: Kind) -> bool
+    ensures { result ≡ is_name_kind kind }
+{
+    matches!(kind, Kind::Identifier)
 }
 
 /// Whether it is the kind of `new`.
@@ -166,6 +208,13 @@ pub(crate) fn is_return(kind: Kind) -> bool
     matches!(kind, Kind::ReturnStatement)
 }
 
+/// Whether it is the kind of expressions with commas.
+pub(crate) fn is_sequence(kind: Kind) -> bool
+    ensures { result ≡ is_sequence kind }
+{
+    matches!(kind, Kind::SequenceExpression)
+}
+
 /// Whether it is the kind of a spread argument.
 pub(crate) fn is_spread(kind: Kind) -> bool
     ensures { result ≡ is_spread kind }
@@ -180,6 +229,13 @@ pub(crate) fn is_static_block(kind: Kind) -> bool
     matches!(kind, Kind::StaticBlock)
 }
 
+/// Whether it is the kind of `super`.
+pub(crate) fn is_super(kind: Kind) -> bool
+    ensures { result ≡ is_super kind }
+{
+    matches!(kind, Kind::Super)
+}
+
 /// Whether it is the kind of a switch.
 pub(crate) fn is_switch(kind: Kind) -> bool
     ensures { result ≡ is_switch kind }
@@ -192,6 +248,20 @@ pub(crate) fn is_template(kind: Kind) -> bool
     ensures { result ≡ is_template kind }
 {
     matches!(kind, Kind::TemplateLiteral)
+}
+
+/// Whether it is the kind of `this`.
+pub(crate) fn is_this(kind: Kind) -> bool
+    ensures { result ≡ is_this kind }
+{
+    matches!(kind, Kind::ThisExpression)
+}
+
+/// Whether it is the kind of `throw`.
+pub(crate) fn is_throw(kind: Kind) -> bool
+    ensures { result ≡ is_throw kind }
+{
+    matches!(kind, Kind::ThrowStatement)
 }
 
 /// Whether it is the kind of `try`.
@@ -240,6 +310,21 @@ pub(crate) fn destructures(kind: Kind) -> bool
     ensures { result ≡ destructures kind }
 {
     matches!(kind, Kind::ArrayPattern | Kind::ObjectPattern)
+}
+
+/// Whether it is the kind of what no jump leaves: a function, a class, a static block.
+pub(crate) fn ends_jumps(kind: Kind) -> bool
+    ensures { result ≡ ends_jumps kind }
+{
+    matches!(
+        kind,
+        Kind::FunctionExpression
+            | Kind::FunctionDeclaration
+            | Kind::ArrowFunctionExpression
+            | Kind::ClassExpression
+            | Kind::ClassDeclaration
+            | Kind::StaticBlock
+    )
 }
 
 /// Whether it is the kind of what gives its second part to its first: an assignment, a declarator, a field.
@@ -292,6 +377,20 @@ pub(crate) fn is_own_function(kind: Kind) -> bool
     matches!(kind, Kind::FunctionExpression | Kind::FunctionDeclaration)
 }
 
+/// Whether it is the kind of a test of `if`, `?:` or a loop.
+pub(crate) fn is_test_of_statement(kind: Kind) -> bool
+    ensures { result ≡ is_test_of_statement kind }
+{
+    matches!(
+        kind,
+        Kind::IfStatement
+            | Kind::WhileStatement
+            | Kind::DoWhileStatement
+            | Kind::ForStatement
+            | Kind::ConditionalExpression
+    )
+}
+
 /// Whether it is the kind of a statement, but a block, that may be the body of another.
 pub(crate) fn is_short_body(kind: Kind) -> bool
     ensures { result ≡ is_short_body kind }
@@ -317,6 +416,33 @@ pub(crate) fn is_short_body(kind: Kind) -> bool
     )
 }
 
+/// Whether it is the kind of a jump, or `throw`.
+pub(crate) fn jumps(kind: Kind) -> bool
+    ensures { result ≡ jumps kind }
+{
+    matches!(
+        kind,
+        Kind::ReturnStatement
+            | Kind::ThrowStatement
+            | Kind::BreakStatement
+            | Kind::ContinueStatement
+    )
+}
+
+/// Whether it is the kind of what makes a new object, an array, a function or a class.
+pub(crate) fn makes_object(kind: Kind) -> bool
+    ensures { result ≡ makes_object kind }
+{
+    matches!(
+        kind,
+        Kind::ArrayExpression
+            | Kind::ObjectExpression
+            | Kind::FunctionExpression
+            | Kind::ArrowFunctionExpression
+            | Kind::ClassExpression
+    )
+}
+
 /// Whether it is the kind of what may make a boolean of a part.
 pub(crate) fn makes_boolean(kind: Kind) -> bool
     ensures { result ≡ makes_boolean kind }
@@ -334,6 +460,26 @@ pub(crate) fn makes_boolean(kind: Kind) -> bool
     )
 }
 
+/// Whether it is the kind of expressions whose value may be an Error.
+pub(crate) fn may_be_error(kind: Kind) -> bool
+    ensures { result ≡ may_be_error kind }
+{
+    matches!(
+        kind,
+        Kind::Identifier
+            | Kind::CallExpression
+            | Kind::NewExpression
+            | Kind::MemberExpression
+            | Kind::TaggedTemplateExpression
+            | Kind::YieldExpression
+            | Kind::AwaitExpression
+            | Kind::ChainExpression
+            | Kind::ImportExpression
+            | Kind::ThisExpression
+            | Kind::MetaProperty
+    )
+}
+
 /// Whether it is the kind of a statement with a label of its own or of another.
 pub(crate) fn may_have_label(kind: Kind) -> bool
     ensures { result ≡ may_have_label kind }
@@ -341,6 +487,27 @@ pub(crate) fn may_have_label(kind: Kind) -> bool
     matches!(
         kind,
         Kind::LabeledStatement | Kind::BreakStatement | Kind::ContinueStatement
+    )
+}
+
+/// Whether it is the kind of what throws where a part is undefined.
+pub(crate) fn needs_object(kind: Kind) -> bool
+    ensures { result ≡ needs_object kind }
+{
+    matches!(
+        kind,
+        Kind::CallExpression
+            | Kind::NewExpression
+            | Kind::MemberExpression
+            | Kind::TaggedTemplateExpression
+            | Kind::SpreadElement
+            | Kind::ClassDeclaration
+            | Kind::ClassExpression
+            | Kind::ForOfStatement
+            | Kind::BinaryExpression
+            | Kind::AssignmentExpression
+            | Kind::VariableDeclarator
+            | Kind::AssignmentPattern
     )
 }
 

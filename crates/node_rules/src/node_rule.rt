@@ -11,35 +11,115 @@ ghost use Rattle.node_rules.specs.declared.node_rule.NodeRule.TheVariants.{Valid
 ghost use Rattle.node_rules.specs.declared.search.Sought.TheVariants.{Jump};
 
 use crate::around::Around;
-use crate::expression_tests::{
-    coercion_words, is_bare_body, is_caller, is_coercion, is_lonely_if, is_long_property,
-    is_negated_side, is_parse_int, is_used, is_wrapper, keeps_name, lacks_radix, may_rename,
-};
-use crate::kind_sets::{
-    compares, declares, destructures, gets_value, has_body, has_statement_list, is_array,
-    is_assignment, is_binary, is_call, is_case, is_conditional, is_debugger, is_empty_statement,
-    is_expression_statement, is_for, is_function_declaration, is_if, is_labelled, is_literal_kind,
-    is_member_expression, is_new, is_object, is_operation, is_own_function, is_plain_call,
-    is_property, is_return, is_short_body, is_static_block, is_try, is_unary_kind,
-    is_variable_declaration, makes_boolean, may_have_label, renames,
-};
-use crate::part_test::{PartTest, any_part};
-use crate::search::{Search, Sought, has_sought};
-use crate::tests::{
-    compares_nan, first_of, is_builtin_test, is_cast, is_empty, is_empty_node, is_lexical,
-    is_minus_zero, is_never_typeof, is_outermost, never_yields, only_throws, runs_away, tested,
-};
-use crate::values::{is_boolean, is_constant_key, is_fixed, is_split_string};
-use crate::words::{
-    is_async_function, is_comparison, is_equality, is_key_part, is_name, is_string, kind_at,
-    span_at, span_of, text_at, unchained,
-};
-use tree::{Kind, Node, Span};
+use crate::expression_tests::coercion_words;
+use crate::expression_tests::is_bare_body;
+use crate::expression_tests::is_caller;
+use crate::expression_tests::is_coercion;
+use crate::expression_tests::is_lonely_if;
+use crate::expression_tests::is_long_property;
+use crate::expression_tests::is_negated_side;
+use crate::expression_tests::is_parse_int;
+use crate::expression_tests::is_used;
+use crate::expression_tests::is_wrapper;
+use crate::expression_tests::keeps_name;
+use crate::expression_tests::lacks_radix;
+use crate::expression_tests::may_rename;
+use crate::kind_sets::compares;
+use crate::kind_sets::declares;
+use crate::kind_sets::destructures;
+use crate::kind_sets::gets_value;
+use crate::kind_sets::has_body;
+use crate::kind_sets::has_statement_list;
+use crate::kind_sets::is_array;
+use crate::kind_sets::is_assignment;
+use crate::kind_sets::is_binary;
+use crate::kind_sets::is_binary_operation;
+use crate::kind_sets::is_call;
+use crate::kind_sets::is_case;
+use crate::kind_sets::is_conditional;
+use crate::kind_sets::is_debugger;
+use crate::kind_sets::is_empty_statement;
+use crate::kind_sets::is_expression_statement;
+use crate::kind_sets::is_for;
+use crate::kind_sets::is_function_declaration;
+use crate::kind_sets::is_if;
+use crate::kind_sets::is_labelled;
+use crate::kind_sets::is_literal_kind;
+use crate::kind_sets::is_member_expression;
+use crate::kind_sets::is_new;
+use crate::kind_sets::is_object;
+use crate::kind_sets::is_operation;
+use crate::kind_sets::is_own_function;
+use crate::kind_sets::is_plain_call;
+use crate::kind_sets::is_property;
+use crate::kind_sets::is_return;
+use crate::kind_sets::is_short_body;
+use crate::kind_sets::is_static_block;
+use crate::kind_sets::is_switch;
+use crate::kind_sets::is_test_of_statement;
+use crate::kind_sets::is_throw;
+use crate::kind_sets::is_try;
+use crate::kind_sets::is_unary_kind;
+use crate::kind_sets::is_variable_declaration;
+use crate::kind_sets::jumps;
+use crate::kind_sets::makes_boolean;
+use crate::kind_sets::may_have_label;
+use crate::kind_sets::needs_object;
+use crate::kind_sets::renames;
+use crate::part_test::PartTest;
+use crate::part_test::any_part;
+use crate::part_test::is_default;
+use crate::paths::are_same;
+use crate::search::Search;
+use crate::search::Sought;
+use crate::search::has_sought;
+use crate::tests::compares_nan;
+use crate::tests::first_of;
+use crate::tests::is_builtin_test;
+use crate::tests::is_cast;
+use crate::tests::is_empty;
+use crate::tests::is_empty_node;
+use crate::tests::is_lexical;
+use crate::tests::is_minus_zero;
+use crate::tests::is_never_typeof;
+use crate::tests::is_outermost;
+use crate::tests::never_yields;
+use crate::tests::only_throws;
+use crate::tests::runs_away;
+use crate::tests::tested;
+use crate::value_tests::is_constant_operation;
+use crate::value_tests::is_constant_test;
+use crate::value_tests::is_long_assignment;
+use crate::value_tests::is_mixed_sum;
+use crate::value_tests::is_self_assignment;
+use crate::value_tests::is_unsafe_chain;
+use crate::value_tests::leaves_finalizer;
+use crate::value_tests::risked;
+use crate::value_tests::throws_no_error;
+use crate::values::is_boolean;
+use crate::values::is_constant_key;
+use crate::values::is_fixed;
+use crate::values::is_split_string;
+use crate::words::is_async_function;
+use crate::words::is_comparison;
+use crate::words::is_equality;
+use crate::words::is_key_part;
+use crate::words::is_name;
+use crate::words::is_string;
+use crate::words::kind_at;
+use crate::words::span_at;
+use crate::words::span_of;
+use crate::words::text_at;
+use crate::words::unchained;
+use tree::Kind;
+use tree::Node;
+use tree::Span;
 
 /// A rule that looks at single nodes.
 #[derive(Clone, Copy, Debug, PartialEq, Eq)]
 pub enum NodeRule {
     Curly,
+    DefaultCaseLast,
     EqEqEq,
     ForDirection,
     NoArrayConstructor,
@@ -47,6 +127,8 @@ pub enum NodeRule {
     NoCaller,
     NoCaseDeclarations,
     NoCompareNegZero,
+    NoConstantBinaryExpression,
+    NoConstantCondition,
     NoDebugger,
     NoEmpty,
     NoEmptyPattern,
@@ -67,10 +149,15 @@ pub enum NodeRule {
     NoNewWrappers,
     NoProto,
     NoPrototypeBuiltins,
+    NoSelfAssign,
+    NoSelfCompare,
     NoSetterReturn,
     NoSparseArrays,
+    NoThrowLiteral,
     NoUnneededTernary,
+    NoUnsafeFinally,
     NoUnsafeNegation,
+    NoUnsafeOptionalChaining,
     NoUnusedExpressions,
     NoUnusedLabels,
     NoUselessCatch,
@@ -79,6 +166,8 @@ pub enum NodeRule {
     NoVar,
     NoVoid,
     ObjectShorthand,
+    OperatorAssignment,
+    PreferTemplate,
     Radix,
     RequireYield,
     UseIsNan,
@@ -87,8 +176,9 @@ pub enum NodeRule {
 }
 
 /// The rules, in the order of their names.
-pub const NODE_RULES: [NodeRule; 45] = [
+pub const NODE_RULES: [NodeRule; 55] = [
     NodeRule::Curly,
+    NodeRule::DefaultCaseLast,
     NodeRule::EqEqEq,
     NodeRule::ForDirection,
     NodeRule::NoArrayConstructor,
@@ -96,6 +186,8 @@ pub const NODE_RULES: [NodeRule; 45] = [
     NodeRule::NoCaller,
     NodeRule::NoCaseDeclarations,
     NodeRule::NoCompareNegZero,
+    NodeRule::NoConstantBinaryExpression,
+    NodeRule::NoConstantCondition,
     NodeRule::NoDebugger,
     NodeRule::NoEmpty,
     NodeRule::NoEmptyPattern,
@@ -116,10 +208,15 @@ pub const NODE_RULES: [NodeRule; 45] = [
     NodeRule::NoNewWrappers,
     NodeRule::NoProto,
     NodeRule::NoPrototypeBuiltins,
+    NodeRule::NoSelfAssign,
+    NodeRule::NoSelfCompare,
     NodeRule::NoSetterReturn,
     NodeRule::NoSparseArrays,
+    NodeRule::NoThrowLiteral,
     NodeRule::NoUnneededTernary,
+    NodeRule::NoUnsafeFinally,
     NodeRule::NoUnsafeNegation,
+    NodeRule::NoUnsafeOptionalChaining,
     NodeRule::NoUnusedExpressions,
     NodeRule::NoUnusedLabels,
     NodeRule::NoUselessCatch,
@@ -128,6 +225,8 @@ pub const NODE_RULES: [NodeRule; 45] = [
     NodeRule::NoVar,
     NodeRule::NoVoid,
     NodeRule::ObjectShorthand,
+    NodeRule::OperatorAssignment,
+    NodeRule::PreferTemplate,
     NodeRule::Radix,
     NodeRule::RequireYield,
     NodeRule::UseIsNan,
@@ -154,6 +253,7 @@ impl NodeRule {
     {
         match self {
             NodeRule::Curly => "curly",
+            NodeRule::DefaultCaseLast => "default-case-last",
             NodeRule::EqEqEq => "eqeqeq",
             NodeRule::ForDirection => "for-direction",
             NodeRule::NoArrayConstructor => "no-array-constructor",
@@ -161,6 +261,8 @@ impl NodeRule {
             NodeRule::NoCaller => "no-caller",
             NodeRule::NoCaseDeclarations => "no-case-declarations",
             NodeRule::NoCompareNegZero => "no-compare-neg-zero",
+            NodeRule::NoConstantBinaryExpression => "no-constant-binary-expression",
+            NodeRule::NoConstantCondition => "no-constant-condition",
             NodeRule::NoDebugger => "no-debugger",
             NodeRule::NoEmpty => "no-empty",
             NodeRule::NoEmptyPattern => "no-empty-pattern",
@@ -181,10 +283,15 @@ impl NodeRule {
             NodeRule::NoNewWrappers => "no-new-wrappers",
             NodeRule::NoProto => "no-proto",
             NodeRule::NoPrototypeBuiltins => "no-prototype-builtins",
+            NodeRule::NoSelfAssign => "no-self-assign",
+            NodeRule::NoSelfCompare => "no-self-compare",
             NodeRule::NoSetterReturn => "no-setter-return",
             NodeRule::NoSparseArrays => "no-sparse-arrays",
+            NodeRule::NoThrowLiteral => "no-throw-literal",
             NodeRule::NoUnneededTernary => "no-unneeded-ternary",
+            NodeRule::NoUnsafeFinally => "no-unsafe-finally",
             NodeRule::NoUnsafeNegation => "no-unsafe-negation",
+            NodeRule::NoUnsafeOptionalChaining => "no-unsafe-optional-chaining",
             NodeRule::NoUnusedExpressions => "no-unused-expressions",
             NodeRule::NoUnusedLabels => "no-unused-labels",
             NodeRule::NoUselessCatch => "no-useless-catch",
@@ -193,6 +300,8 @@ impl NodeRule {
             NodeRule::NoVar => "no-var",
             NodeRule::NoVoid => "no-void",
             NodeRule::ObjectShorthand => "object-shorthand",
+            NodeRule::OperatorAssignment => "operator-assignment",
+            NodeRule::PreferTemplate => "prefer-template",
             NodeRule::Radix => "radix",
             NodeRule::RequireYield => "require-yield",
             NodeRule::UseIsNan => "use-isnan",
@@ -208,6 +317,7 @@ pub(crate) fn looks(rule: NodeRule, kind: Kind) -> bool
 {
     match rule {
         NodeRule::Curly => is_short_body(kind),
+        NodeRule::DefaultCaseLast => is_switch(kind),
         NodeRule::EqEqEq => is_binary(kind),
         NodeRule::ForDirection => is_for(kind),
         NodeRule::NoArrayConstructor => is_call(kind),
@@ -215,6 +325,8 @@ pub(crate) fn looks(rule: NodeRule, kind: Kind) -> bool
         NodeRule::NoCaller => is_member_expression(kind),
         NodeRule::NoCaseDeclarations => declares(kind),
         NodeRule::NoCompareNegZero => is_binary(kind),
+        NodeRule::NoConstantBinaryExpression => is_binary_operation(kind),
+        NodeRule::NoConstantCondition => is_test_of_statement(kind),
         NodeRule::NoDebugger => is_debugger(kind),
         NodeRule::NoEmpty => has_statement_list(kind),
         NodeRule::NoEmptyPattern => destructures(kind),
@@ -235,10 +347,15 @@ pub(crate) fn looks(rule: NodeRule, kind: Kind) -> bool
         NodeRule::NoNewWrappers => is_new(kind),
         NodeRule::NoProto => is_member_expression(kind),
         NodeRule::NoPrototypeBuiltins => is_plain_call(kind),
+        NodeRule::NoSelfAssign => is_assignment(kind),
+        NodeRule::NoSelfCompare => is_binary(kind),
         NodeRule::NoSetterReturn => is_return(kind),
         NodeRule::NoSparseArrays => is_array(kind),
+        NodeRule::NoThrowLiteral => is_throw(kind),
         NodeRule::NoUnneededTernary => is_conditional(kind),
+        NodeRule::NoUnsafeFinally => jumps(kind),
         NodeRule::NoUnsafeNegation => is_binary(kind),
+        NodeRule::NoUnsafeOptionalChaining => needs_object(kind),
         NodeRule::NoUnusedExpressions => is_expression_statement(kind),
         NodeRule::NoUnusedLabels => is_labelled(kind),
         NodeRule::NoUselessCatch => is_try(kind),
@@ -247,6 +364,8 @@ pub(crate) fn looks(rule: NodeRule, kind: Kind) -> bool
         NodeRule::NoVar => is_variable_declaration(kind),
         NodeRule::NoVoid => is_unary_kind(kind),
         NodeRule::ObjectShorthand => is_property(kind),
+        NodeRule::OperatorAssignment => is_assignment(kind),
+        NodeRule::PreferTemplate => is_binary(kind),
         NodeRule::Radix => is_plain_call(kind),
         NodeRule::RequireYield => is_own_function(kind),
         NodeRule::UseIsNan => compares(kind),
@@ -267,6 +386,8 @@ pub(crate) fn holds(
 {
     match rule {
         NodeRule::Curly => is_bare_body(around, node),
+        NodeRule::DefaultCaseLast => any_part(PartTest::IsDefault, node)
+            && !is_default(node.parts().last()),
         NodeRule::EqEqEq => (node.text() == "==" || node.text() == "!=")
             && !(options.allow_null && any_part(PartTest::IsNull, node)),
         NodeRule::ForDirection => runs_away(node.part(1), node.part(2)),
@@ -278,6 +399,8 @@ pub(crate) fn holds(
         NodeRule::NoCaseDeclarations => is_case(around.parent) && is_lexical(node),
         NodeRule::NoCompareNegZero => is_comparison(node.text())
             && (is_minus_zero(node.part(0)) || is_minus_zero(node.part(1))),
+        NodeRule::NoConstantBinaryExpression => is_constant_operation(node),
+        NodeRule::NoConstantCondition => is_constant_test(node),
         NodeRule::NoDebugger => true,
         NodeRule::NoEmpty => is_empty_node(options, source, around, node),
         NodeRule::NoEmptyPattern => is_empty(node),
@@ -299,10 +422,16 @@ pub(crate) fn holds(
         NodeRule::NoNewWrappers => is_wrapper(node.part(0)),
         NodeRule::NoProto => is_key_part(node.part(1), node.flags().computed, "__proto__"),
         NodeRule::NoPrototypeBuiltins => is_builtin_test(unchained(node.part(0))),
+        NodeRule::NoSelfAssign => is_self_assignment(node),
+        NodeRule::NoSelfCompare => is_comparison(node.text())
+            && are_same(node.part(0), node.part(1)),
         NodeRule::NoSetterReturn => around.in_setter && node.part(0).is_some(),
         NodeRule::NoSparseArrays => any_part(PartTest::IsGap, node),
+        NodeRule::NoThrowLiteral => throws_no_error(node),
         NodeRule::NoUnneededTernary => is_boolean(node.part(1)) && is_boolean(node.part(2)),
+        NodeRule::NoUnsafeFinally => leaves_finalizer(around, node),
         NodeRule::NoUnsafeNegation => is_negated_side(node),
+        NodeRule::NoUnsafeOptionalChaining => is_unsafe_chain(around, node),
         NodeRule::NoUnusedExpressions => !node.flags().directive
             && !is_used(unchained(node.part(0))),
         NodeRule::NoUnusedLabels => is_unused_label(node),
@@ -314,6 +443,8 @@ pub(crate) fn holds(
         NodeRule::NoVar => node.text() == "var",
         NodeRule::NoVoid => node.text() == "void",
         NodeRule::ObjectShorthand => is_object(around.parent) && is_long_property(node),
+        NodeRule::OperatorAssignment => is_long_assignment(node),
+        NodeRule::PreferTemplate => is_mixed_sum(around, node),
         NodeRule::Radix => is_parse_int(unchained(node.part(0))) && lacks_radix(node),
         NodeRule::RequireYield => never_yields(node),
         NodeRule::UseIsNan => compares_nan(node),
@@ -343,10 +474,13 @@ pub(crate) fn place(rule: NodeRule, node: Node) -> Span
 {
     match rule {
         NodeRule::NoAsyncPromiseExecutor => span_at(node, node.part(1)),
+        NodeRule::NoConstantCondition => span_at(node, tested(node)),
         NodeRule::NoEval => span_at(node, node.part(0)),
         NodeRule::NoExtraBooleanCast => span_at(node, tested(node)),
         NodeRule::NoLonelyIf => span_at(node, first_of(node.part(2))),
         NodeRule::NoPrototypeBuiltins => key_place(node, unchained(node.part(0))),
+        NodeRule::NoSelfAssign => span_at(node, node.part(1)),
+        NodeRule::NoUnsafeOptionalChaining => span_at(node, risked(node)),
         NodeRule::NoUnusedLabels => span_at(node, node.part(0)),
         NodeRule::NoUselessCatch => useless_catch(node),
         NodeRule::ValidTypeof => typeof_value_place(node),
@@ -392,6 +526,7 @@ pub(crate) fn words(rule: NodeRule, node: Node) -> &'static str
 {
     match rule {
         NodeRule::Curly => "expected a block",
+        NodeRule::DefaultCaseLast => "default before another case",
         NodeRule::EqEqEq => equality_words(node.text()),
         NodeRule::ForDirection => "the counter goes away from its bound",
         NodeRule::NoArrayConstructor => "use an array literal",
@@ -399,6 +534,8 @@ pub(crate) fn words(rule: NodeRule, node: Node) -> &'static str
         NodeRule::NoCaller => "throws in strict code",
         NodeRule::NoCaseDeclarations => "declaration in a case",
         NodeRule::NoCompareNegZero => "no comparison tells -0 from 0",
+        NodeRule::NoConstantBinaryExpression => "constant operation",
+        NodeRule::NoConstantCondition => "constant condition",
         NodeRule::NoDebugger => "debugger statement",
         NodeRule::NoEmpty => empty_words(node.kind()),
         NodeRule::NoEmptyPattern => "empty pattern",
@@ -419,10 +556,15 @@ pub(crate) fn words(rule: NodeRule, node: Node) -> &'static str
         NodeRule::NoNewWrappers => "wrapper object",
         NodeRule::NoProto => "use Object.getPrototypeOf",
         NodeRule::NoPrototypeBuiltins => "call it by Object.prototype",
+        NodeRule::NoSelfAssign => "assigned to itself",
+        NodeRule::NoSelfCompare => "both sides are the same",
         NodeRule::NoSetterReturn => "setter returns a value",
         NodeRule::NoSparseArrays => "array with a hole",
+        NodeRule::NoThrowLiteral => "throw an Error",
         NodeRule::NoUnneededTernary => "the test says it",
+        NodeRule::NoUnsafeFinally => "leaves finally",
         NodeRule::NoUnsafeNegation => "'!' belongs to the left side alone",
+        NodeRule::NoUnsafeOptionalChaining => "throws where the chain is cut short",
         NodeRule::NoUnusedExpressions => "expression without use",
         NodeRule::NoUnusedLabels => "label is never used",
         NodeRule::NoUselessCatch => "catch that only throws again",
@@ -431,6 +573,8 @@ pub(crate) fn words(rule: NodeRule, node: Node) -> &'static str
         NodeRule::NoVar => "use let or const instead of var",
         NodeRule::NoVoid => "void",
         NodeRule::ObjectShorthand => "use a shorthand",
+        NodeRule::OperatorAssignment => "use the operator's assignment",
+        NodeRule::PreferTemplate => "use a template",
         NodeRule::Radix => "no radix from 2 to 36",
         NodeRule::RequireYield => "generator without yield",
         NodeRule::UseIsNan => nan_words(node.kind()),

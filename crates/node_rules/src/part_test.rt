@@ -3,13 +3,17 @@
 ghost use Rattle.std.specs.Prelude.{◌≡◌, option_map};
 ghost use Rattle.tree.specs.Node.{node_tree};
 ghost use Rattle.tree.specs.Tree.{parts_of};
-ghost use Rattle.node_rules.specs.PartTests.{any_part, is_gap, is_null, passes};
+ghost use Rattle.node_rules.specs.PartTests.{any_part, has_test, is_default, is_gap, is_null, passes};
 
+use crate::kind_sets::is_case;
+use crate::words::kind_at;
 use tree::{Kind, Node};
 
 /// What is asked of each part of a node.
 #[derive(Clone, Copy)]
 pub(crate) enum PartTest {
+    /// It is `default`.
+    IsDefault,
     /// It is missing.
     IsGap,
     /// It is the literal `null`.
@@ -34,6 +38,7 @@ fn passes(test: PartTest, part: Option<Node>) -> bool
     ensures { result ≡ passes test (option_map node_tree part.entry) }
 {
     match test {
+        PartTest::IsDefault => is_default(part),
         PartTest::IsGap => is_gap(part),
         PartTest::IsNull => is_null(part),
     }
@@ -57,4 +62,21 @@ fn is_null(part: Option<Node>) -> bool
         Kind::Literal => node.text() == "null",
         _ => false,
     }
+}
+
+/// Whether a part is a case with a test.
+fn has_test(part: Option<Node>) -> bool
+    ensures { result ≡ has_test (option_map node_tree part.entry) }
+{
+    match part {
+        Some(node) => node.part(0).is_some(),
+        None => false,
+    }
+}
+
+/// Whether a part is `default`.
+pub(crate) fn is_default(part: Option<Node>) -> bool
+    ensures { result ≡ is_default (option_map node_tree part.entry) }
+{
+    is_case(kind_at(part)) && !has_test(part)
 }

@@ -4,7 +4,7 @@ use Rattle.std.specs.List.{list_any}
 use Rattle.std.specs.Str.{bytes_eq}
 use Rattle.language.specs.Vocabulary.{is}
 use Rattle.node_rules.specs.Rows.{called as row_called}
-use Rattle.node_rules.specs.declared.node_rule.NodeRule.TheVariants.{Curly, EqEqEq, ForDirection, NoArrayConstructor, NoAsyncPromiseExecutor, NoCaller, NoCaseDeclarations, NoCompareNegZero, NoDebugger, NoEmpty, NoEmptyPattern, NoEmptyStaticBlock, NoEval, NoExtraBooleanCast, NoExtraSemi, NoImplicitCoercion, NoInnerDeclarations, NoLabels, NoLonelyIf, NoMultiAssign, NoMultiStr, NoNestedTernary, NoNew, NoNewFunc, NoNewObject, NoNewWrappers, NoProto, NoPrototypeBuiltins, NoSetterReturn, NoSparseArrays, NoUnneededTernary, NoUnsafeNegation, NoUnusedExpressions, NoUnusedLabels, NoUselessCatch, NoUselessComputedKey, NoUselessRename, NoVar, NoVoid, ObjectShorthand, Radix, RequireYield, UseIsNan, ValidTypeof, Yoda}
+use Rattle.node_rules.specs.declared.node_rule.NodeRule.TheVariants.{Curly, DefaultCaseLast, EqEqEq, ForDirection, NoArrayConstructor, NoAsyncPromiseExecutor, NoCaller, NoCaseDeclarations, NoCompareNegZero, NoConstantBinaryExpression, NoConstantCondition, NoDebugger, NoEmpty, NoEmptyPattern, NoEmptyStaticBlock, NoEval, NoExtraBooleanCast, NoExtraSemi, NoImplicitCoercion, NoInnerDeclarations, NoLabels, NoLonelyIf, NoMultiAssign, NoMultiStr, NoNestedTernary, NoNew, NoNewFunc, NoNewObject, NoNewWrappers, NoProto, NoPrototypeBuiltins, NoSelfAssign, NoSelfCompare, NoSetterReturn, NoSparseArrays, NoThrowLiteral, NoUnneededTernary, NoUnsafeFinally, NoUnsafeNegation, NoUnsafeOptionalChaining, NoUnusedExpressions, NoUnusedLabels, NoUselessCatch, NoUselessComputedKey, NoUselessRename, NoVar, NoVoid, ObjectShorthand, OperatorAssignment, PreferTemplate, Radix, RequireYield, UseIsNan, ValidTypeof, Yoda}
 use Rattle.reference_rules.specs.Rows.{called as name_called}
 use Rattle.reference_rules.specs.declared.reference_rule.ReferenceRule.TheVariants.{NoClassAssign, NoConstAssign, NoExAssign, NoFuncAssign, NoGlobalAssign, NoImportAssign, NoNewNativeNonconstructor, NoNewSymbol, NoObjCalls, NoParamReassign, NoRedeclare, NoShadowRestrictedNames, NoUndefined, NoUseBeforeDefine}
 use Rattle.rules.specs.declared.rule_list.RuleName.{RuleName}
@@ -26,6 +26,7 @@ called PreferConst = codes "prefer-const"
 abbrev pub all_rules : List RuleName
 all_rules =
     OnNodes Curly
+    ∷ OnNodes DefaultCaseLast
     ∷ OnNodes EqEqEq
     ∷ OnNodes ForDirection
     ∷ OnNodes NoArrayConstructor
@@ -35,6 +36,8 @@ all_rules =
     ∷ OnNames NoClassAssign
     ∷ OnNodes NoCompareNegZero
     ∷ OnNames NoConstAssign
+    ∷ OnNodes NoConstantBinaryExpression
+    ∷ OnNodes NoConstantCondition
     ∷ OnNodes NoDebugger
     ∷ OnNodes NoEmpty
     ∷ OnNodes NoEmptyPattern
@@ -65,14 +68,19 @@ all_rules =
     ∷ OnNodes NoProto
     ∷ OnNodes NoPrototypeBuiltins
     ∷ OnNames NoRedeclare
+    ∷ OnNodes NoSelfAssign
+    ∷ OnNodes NoSelfCompare
     ∷ OnNodes NoSetterReturn
     ∷ NoShadow
     ∷ OnNames NoShadowRestrictedNames
     ∷ OnNodes NoSparseArrays
+    ∷ OnNodes NoThrowLiteral
     ∷ NoUndef
     ∷ OnNames NoUndefined
     ∷ OnNodes NoUnneededTernary
+    ∷ OnNodes NoUnsafeFinally
     ∷ OnNodes NoUnsafeNegation
+    ∷ OnNodes NoUnsafeOptionalChaining
     ∷ OnNodes NoUnusedExpressions
     ∷ OnNodes NoUnusedLabels
     ∷ NoUnusedVars
@@ -83,7 +91,9 @@ all_rules =
     ∷ OnNodes NoVar
     ∷ OnNodes NoVoid
     ∷ OnNodes ObjectShorthand
+    ∷ OnNodes OperatorAssignment
     ∷ PreferConst
+    ∷ OnNodes PreferTemplate
     ∷ OnNodes Radix
     ∷ OnNodes RequireYield
     ∷ OnNodes UseIsNan
@@ -114,6 +124,8 @@ recommended_rules =
     ∷ OnNames NoClassAssign
     ∷ OnNodes NoCompareNegZero
     ∷ OnNames NoConstAssign
+    ∷ OnNodes NoConstantBinaryExpression
+    ∷ OnNodes NoConstantCondition
     ∷ OnNodes NoDebugger
     ∷ OnNodes NoEmpty
     ∷ OnNodes NoEmptyPattern
@@ -130,11 +142,14 @@ recommended_rules =
     ∷ OnNames NoObjCalls
     ∷ OnNodes NoPrototypeBuiltins
     ∷ OnNames NoRedeclare
+    ∷ OnNodes NoSelfAssign
     ∷ OnNodes NoSetterReturn
     ∷ OnNames NoShadowRestrictedNames
     ∷ OnNodes NoSparseArrays
     ∷ NoUndef
+    ∷ OnNodes NoUnsafeFinally
     ∷ OnNodes NoUnsafeNegation
+    ∷ OnNodes NoUnsafeOptionalChaining
     ∷ OnNodes NoUnusedLabels
     ∷ NoUnusedVars
     ∷ OnNodes NoUselessCatch

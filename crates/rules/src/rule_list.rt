@@ -23,8 +23,9 @@ pub enum RuleName {
 }
 
 /// The rules, in the order of their names.
-pub const RULES: [RuleName; 64] = [
+pub const RULES: [RuleName; 74] = [
     RuleName::OnNodes(NodeRule::Curly),
+    RuleName::OnNodes(NodeRule::DefaultCaseLast),
     RuleName::OnNodes(NodeRule::EqEqEq),
     RuleName::OnNodes(NodeRule::ForDirection),
     RuleName::OnNodes(NodeRule::NoArrayConstructor),
@@ -34,6 +35,8 @@ pub const RULES: [RuleName; 64] = [
     RuleName::OnNames(ReferenceRule::NoClassAssign),
     RuleName::OnNodes(NodeRule::NoCompareNegZero),
     RuleName::OnNames(ReferenceRule::NoConstAssign),
+    RuleName::OnNodes(NodeRule::NoConstantBinaryExpression),
+    RuleName::OnNodes(NodeRule::NoConstantCondition),
     RuleName::OnNodes(NodeRule::NoDebugger),
     RuleName::OnNodes(NodeRule::NoEmpty),
     RuleName::OnNodes(NodeRule::NoEmptyPattern),
@@ -64,14 +67,19 @@ pub const RULES: [RuleName; 64] = [
     RuleName::OnNodes(NodeRule::NoProto),
     RuleName::OnNodes(NodeRule::NoPrototypeBuiltins),
     RuleName::OnNames(ReferenceRule::NoRedeclare),
+    RuleName::OnNodes(NodeRule::NoSelfAssign),
+    RuleName::OnNodes(NodeRule::NoSelfCompare),
     RuleName::OnNodes(NodeRule::NoSetterReturn),
     RuleName::NoShadow,
     RuleName::OnNames(ReferenceRule::NoShadowRestrictedNames),
     RuleName::OnNodes(NodeRule::NoSparseArrays),
+    RuleName::OnNodes(NodeRule::NoThrowLiteral),
     RuleName::NoUndef,
     RuleName::OnNames(ReferenceRule::NoUndefined),
     RuleName::OnNodes(NodeRule::NoUnneededTernary),
+    RuleName::OnNodes(NodeRule::NoUnsafeFinally),
     RuleName::OnNodes(NodeRule::NoUnsafeNegation),
+    RuleName::OnNodes(NodeRule::NoUnsafeOptionalChaining),
     RuleName::OnNodes(NodeRule::NoUnusedExpressions),
     RuleName::OnNodes(NodeRule::NoUnusedLabels),
     RuleName::NoUnusedVars,
@@ -82,7 +90,9 @@ pub const RULES: [RuleName; 64] = [
     RuleName::OnNodes(NodeRule::NoVar),
     RuleName::OnNodes(NodeRule::NoVoid),
     RuleName::OnNodes(NodeRule::ObjectShorthand),
+    RuleName::OnNodes(NodeRule::OperatorAssignment),
     RuleName::PreferConst,
+    RuleName::OnNodes(NodeRule::PreferTemplate),
     RuleName::OnNodes(NodeRule::Radix),
     RuleName::OnNodes(NodeRule::RequireYield),
     RuleName::OnNodes(NodeRule::UseIsNan),
@@ -104,13 +114,15 @@ pub(crate) const NINE: [RuleName; 9] = [
 ];
 
 /// Those that ESLint recommends, by its 8th version or by its 9th.
-pub(crate) const RECOMMENDED: [RuleName; 33] = [
+pub(crate) const RECOMMENDED: [RuleName; 38] = [
     RuleName::OnNodes(NodeRule::ForDirection),
     RuleName::OnNodes(NodeRule::NoAsyncPromiseExecutor),
     RuleName::OnNodes(NodeRule::NoCaseDeclarations),
     RuleName::OnNames(ReferenceRule::NoClassAssign),
     RuleName::OnNodes(NodeRule::NoCompareNegZero),
     RuleName::OnNames(ReferenceRule::NoConstAssign),
+    RuleName::OnNodes(NodeRule::NoConstantBinaryExpression),
+    RuleName::OnNodes(NodeRule::NoConstantCondition),
     RuleName::OnNodes(NodeRule::NoDebugger),
     RuleName::OnNodes(NodeRule::NoEmpty),
     RuleName::OnNodes(NodeRule::NoEmptyPattern),
@@ -127,11 +139,14 @@ pub(crate) const RECOMMENDED: [RuleName; 33] = [
     RuleName::OnNames(ReferenceRule::NoObjCalls),
     RuleName::OnNodes(NodeRule::NoPrototypeBuiltins),
     RuleName::OnNames(ReferenceRule::NoRedeclare),
+    RuleName::OnNodes(NodeRule::NoSelfAssign),
     RuleName::OnNodes(NodeRule::NoSetterReturn),
     RuleName::OnNames(ReferenceRule::NoShadowRestrictedNames),
     RuleName::OnNodes(NodeRule::NoSparseArrays),
     RuleName::NoUndef,
+    RuleName::OnNodes(NodeRule::NoUnsafeFinally),
     RuleName::OnNodes(NodeRule::NoUnsafeNegation),
+    RuleName::OnNodes(NodeRule::NoUnsafeOptionalChaining),
     RuleName::OnNodes(NodeRule::NoUnusedLabels),
     RuleName::NoUnusedVars,
     RuleName::OnNodes(NodeRule::NoUselessCatch),
