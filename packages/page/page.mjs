@@ -96,11 +96,14 @@ function asked(jslint) {
 
 const counted = (count, what) => `${count} ${what}${count === 1 ? '' : 's'}`;
 
+/** What the program puts behind the text of a warning. */
+const markOf = (it) => (it.severity === 'warning' ? ' (warning)' : '');
+
 function reports(jslint, text) {
   const found = jslint.check(text, { settings: settings.value, language: language.value || undefined }), told = counted(found.length, 'report');
-  const copied = () => found.map((it) => `${it.line}:${it.column} ${it.rule} ${it.message}\n`).join('');
+  const copied = () => found.map((it) => `${it.line}:${it.column} ${it.rule} ${it.message}${markOf(it)}\n`).join('');
   if (found.length === 0) return { made: [element('p', { className: 'fine' }, 'No report.')], told, copied };
-  const made = (it) => located(text, it.index, `${it.line}:${it.column}`, it.rule, it.message);
+  const made = (it) => located(text, it.index, `${it.line}:${it.column}`, it.rule, `${it.message}${markOf(it)}`);
   return { made: inPieces(found, element('ul', { className: 'reports' }), made, REPORTS), told, copied };
 }
 

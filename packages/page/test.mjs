@@ -136,6 +136,7 @@ async function answers(browser) {
   expect('no report', await type(browser, 'script', '"use strict";'), 'No report.');
   expect('a character of two units', await type(browser, 'script', "'\u{1f600}'; debugger;"), /1:6 no-debugger/);
   expect('settings', await type(browser, 'settings', '[rules]\nno-debugger = false\n'), 'No report.');
+  expect('a warning', await type(browser, 'settings', 'rules.no-debugger = "warn"'), /1:6 no-debugger debugger statement \(warning\)/);
   expect('refused settings', await type(browser, 'settings', 'x'), 'Refused: bad settings at 1:2');
   await type(browser, 'settings', '');
 }
