@@ -18,6 +18,7 @@ HOOKS, ACTION = '.pre-commit-hooks.yaml', 'action.yml'
 MODULE = 'export {};\n'
 JSX, PERHAPS = 'x = <a/>;\n', "syntax error (perhaps: JSX isn't ECMAScript)"
 CAST = '/** @type {A} */ globalThis /**/; globalThis.a = /** @type {A} */ (1);\n'
+UNFORMATTED, FORMATTED = 'if(a){f( (1),b ) // c\n}', 'if (a) {\n  f((1), b); // c\n}\n'
 # What a hook takes from its repository. JSLINT names the program, so that no launcher is asked.
 TAKEN = [HOOKS, 'tools/jslint-files', 'tools/jslint_files', 'packages/npm/lib/hints.json', 'share/jslint/jslint.schema.json']
 
@@ -50,7 +51,7 @@ def program():
 def hook_words(room):
     """Each hook with the names that it is for, and no others; what a project writes as `args` takes the place of the hook's."""
     found = hooks()
-    same(sorted(found), ['jslint', 'jslint-unwrap'])
+    same(sorted(found), ['jslint', 'jslint-format', 'jslint-list', 'jslint-unwrap'])
     for it in found.values():
         wanted = {'language': 'script', 'types': '[file]', 'exclude_types': '[symlink]', 'args': '[--]', 'require_serial': 'true'}
         same({key: it.get(key) for key in wanted}, wanted)
@@ -72,17 +73,53 @@ def hook_words(room):
     same(call('jslint-unwrap', *names), (0, '', ''))
     same([room.text(it) for it in names], [UNWRAPPED] * 3)
     same(call('jslint-unwrap', 'j.js'), (2, '', 'j.js:1:5: syntax error\n'))
+    by_project = [it for it in found if it != 'jslint-list']
     for kind in ('{}', '{"type": "module"}'):
         room.put('package.json', kind)
-        same([call(it, 'm.js') for it in found], [(0, '', '')] * 2)
+        same([call(it, 'm.js') for it in by_project], [(0, '', '')] * 3)
     # (what is ignored stays as it is, also where nothing else is there; so does a script with a cast)
     room.put('.gitignore', 'vendor\n')
     room.put('vendor/lib.js', WRONG)
     room.put('cast.js', CAST)
-    same([call(it, 'vendor/lib.js') for it in found], [(0, '', '')] * 2)
+    same([call(it, 'vendor/lib.js') for it in by_project], [(0, '', '')] * 3)
     same(call('jslint', 'cast.js'), (0, '', ''))
     same(call('jslint-unwrap', 'vendor/lib.js', 'cast.js', 'm.js'), (0, '', 'cast.js:1:67: note: left as it is: unwrap would take the pair of a cast; --drop-casts permits it\n'))
     same([room.text(it) for it in ('vendor/lib.js', 'cast.js')], [WRONG, CAST])
+
+
+def hook_format(room):
+    """It formats scripts, and takes the words of `format`."""
+    hook = hooks()['jslint-format']
+    os.makedirs(room.path('.git'))
+    call = lambda *names, args=None: room.run([*words_of(hook, args), *names], **program())
+    for args, wanted in ((None, FORMATTED), (['--indent', '4', '--'], FORMATTED.replace('  f', '    f'))):
+        room.put('a.js', UNFORMATTED)
+        room.put('-h.js', FORMATTED)
+        room.put('m.js', 'export   {}')
+        same(call('a.js', '-h.js', 'm.js', args=args), (0, '', ''))
+        same([room.text(it) for it in ('a.js', 'm.js')], [wanted, 'export {};\n'])
+    same(call('a.js', args=['--fewest', '--']), (0, '', ''))
+    same(room.text('a.js'), FORMATTED.replace('(1)', '1'))
+
+
+def hook_list(room):
+    """One call of the program for all names, whatever they are; words before `--` are the program's; nothing else runs but a shell."""
+    hook, odd = hooks()['jslint-list'], ['two words.js', '-h.js', '--', "'$(x)`.js", 'a\\nb.js', '--module']
+    for it in odd:
+        room.put(it, 'debugger;\n')
+    room.put('m.js', 'export {};\ndebugger;\n')
+    room.put('s.toml', 'rules.no-debugger = "warn"\n')
+    room.put('begun', '')
+    room.put('program', '#!/bin/sh\necho >>begun\nexec "$JSLINT_REAL" "$@"\n', 0o755)
+    how = {'JSLINT': f'{room.folder}/program', 'JSLINT_REAL': f'{recipes.BIN}/jslint', 'PATH': '/usr/bin:/bin'}
+    call = lambda *names, args=None: room.run([*words_of(hook, args), *names], **how)
+    found = ''.join(f'{it}:1:1 no-debugger debugger statement\n' for it in odd)
+    same((call(*odd), room.text('begun').count('\n')), ((1, found, ''), 1))
+    same(call(*odd, args=['--settings', 's.toml', '--']), (0, found.replace('\n', ' (warning)\n'), ''))
+    same(call('m.js', args=['--module', '--spans', '--']), (1, 'm.js:11 20 no-debugger debugger statement\n', ''))
+    same(call('m.js', 'none.js'), (2, '', 'jslint: m.js: syntax error at 1:1 (perhaps: --module)\njslint: read failed: none.js: missing\n'))
+    same([call(), call(args=['--settings', 'none', '--'])], [(0, '', ''), (2, '', 'jslint: read failed: none: missing\n')])
+    same(room.run(['sh', '-c', '"$@" >/dev/full', 'sh', *words_of(hook), *odd], **how), (2, '', 'jslint: write failed\n'))
 
 
 def by_pre_commit(room):
@@ -175,12 +212,24 @@ def action_script(room):
     room.put('.jslintignore', '')
     same(call(SETTINGS='none'), (2, '', 'jslint-files: none: read failed: missing\n'))
     for it in ('$(touch made)', '`touch made`', '"; touch made; "', '--help'):
-        call(FILES=it, SETTINGS=it, UNSUPPORTED=it, PROJECT=it, ALLOW_NONE=it, ARGS=it, VERSION=it, SARIF=f'out {it}'.replace('/', ''))
-        call(FILES=it, SETTINGS=it, ARGS=it, SARIF=f'out {it}'.replace('/', ''))
+        call(FILES=it, SETTINGS=it, UNSUPPORTED=it, PROJECT=it, ALLOW_NONE=it, ARGS=it, VERSION=it, FORMAT=it, FORMAT_ARGS=it, SARIF=f'out {it}'.replace('/', ''))
+        call(FILES=it, SETTINGS=it, ARGS=it, FORMAT='true', FORMAT_ARGS=it, SARIF=f'out {it}'.replace('/', ''))
         is_well('made' not in room.names(), it)
     same(call(FILES=plain, SARIF='out.sarif'), (1, ''.join(both), ''))
     found = json.loads(room.text('out.sarif'))
     same((sarif.faults(found), len(found['runs'][0]['results'])), ([], 5))
+    room.put('f/100%,a:b.js', UNFORMATTED)
+    room.put('f/c.js', FORMATTED)
+    room.put('f/d.js', FORMATTED.replace('  f', '    f'))
+    room.git('add', '.')
+    unformatted = '::error file=f/{},title=jslint::not as jslint format writes it\n'
+    how = {'FILES': 'f', 'ARGS': '--only\nno-var'}
+    same(call(**how), (0, '', ''))
+    same(call(**how, FORMAT='true'), (1, unformatted.format('100%25%2Ca%3Ab.js') + unformatted.format('d.js'), ''))
+    same(call(**how, FORMAT='true', FORMAT_ARGS='--indent=4\n'), (1, unformatted.format('100%25%2Ca%3Ab.js') + unformatted.format('c.js'), ''))
+    same(call(FILES='f/c.js', ARGS=how['ARGS'], FORMAT='true', SETTINGS='none.toml'), (0, '', ''))
+    same(call(**how, FORMAT='yes'), (2, '::error title=jslint::the input format is true or false\n', ''))
+    same(call(FILES='f/c.js', ARGS=how['ARGS'], FORMAT='true', FORMAT_ARGS='--nope'), (2, '', 'jslint-files: --nope is no option; a file of that name stands behind --\n'))
     same(call(FILES='ok.js', SARIF='/dev/full'), (2, '', 'jslint-files: write failed\n'))
     is_well(call(FILES='ok.js', SARIF='none/out.sarif')[0], 'a folder that is missing')
     room.run(['mv', '.git', 'elsewhere'], status=0)
@@ -188,4 +237,4 @@ def action_script(room):
     is_well(status and not out and 'not a git repository' in err, f'{status} {out} {err}')
 
 
-TESTS = [hook_words, by_pre_commit, action_script]
+TESTS = [hook_words, hook_format, hook_list, by_pre_commit, action_script]

@@ -26,7 +26,7 @@ PACKED = {
     'LICENSE-APACHE', 'LICENSE-MIT', 'README.md', 'bin/eslint-json.mjs', 'bin/jslint-lsp.mjs', 'bin/jslint.mjs', 'bin/streams.mjs', 'browser.mjs', 'core.d.mts', 'core.mjs', 'eslint-json.d.mts', 'eslint-json.mjs',
     'jslint.d.mts', 'jslint.mjs', 'jslint.wasm', 'package.json', 'worker.mjs', 'lib/hints.json', 'lib/texts.json',
     *(f'lib/{it}.mjs' for it in (
-        'actions', 'beside', 'casts', 'changes', 'checking', 'connection', 'document', 'editor', 'edits', 'engine', 'frames', 'git', 'hinting', 'hints', 'ignore', 'jobs', 'languages', 'progress',
+        'actions', 'beside', 'casts', 'changes', 'checking', 'connection', 'document', 'editor', 'edits', 'engine', 'frames', 'git', 'hinting', 'hints', 'ignore', 'jobs', 'languages', 'program', 'progress',
         'protocol', 'rewriting', 'server', 'settings', 'shown', 'suppressions', 'texts', 'thread', 'workspace')),
     *(f'lib/{it}.md' for it in RULES),
 }
