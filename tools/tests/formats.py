@@ -22,7 +22,7 @@ FEWEST = FORMATTED.replace('(1)', '1')
 TEXTS = [
     ('', ''), ('\n', ''), ('// a', '// a\n'), ('a', 'a;\n'), ('a;\n', 'a;\n'), ('a;\r\n', 'a;\r\n'), ('a\r\n;b', 'a;\r\nb;\r\n'), ('a;\nb;\r\n', 'a;\nb;\n'), ('a;\rb;\r\n', 'a;\r\nb;\r\n'), ('a;\rb', 'a;\nb;\n'),
     ('a;\u2028b', 'a;\nb;\n'), ('a;\r\n\r\n\r\n\r\nb\r\n', 'a;\r\n\r\nb;\r\n'), ('\ufeffa', '\ufeffa;\n'), ('\ufeffa;\n', '\ufeffa;\n'), ('\ufeffa\r\n', '\ufeffa;\r\n'), ('\ufeff', '\ufeff'), ('#!/a  b\na', '#!/a  b\na;\n'), ('#!a\r\na', '#!a\r\na;\r\n'),
-    ('x = `a\r\nb` + "c\\\r\nd"\r\n', 'x =\r\n  `a\r\nb` +\r\n  "c\\\r\nd";\r\n'), ('/*\r\n * a\r\n   * b\r\n */a\r\n', '/*\r\n * a\r\n * b\r\n */ a;\r\n'), ('a // b  \r\n', 'a; // b\r\n'), ('\U0001f600 = 1', None), ("'\U0001f600'", "'\U0001f600';\n"),
+    ('x = `a\r\nb` + "c\\\r\nd"\r\n', 'x =\r\n  `a\r\nb` + "c\\\r\nd";\r\n'), ('/*\r\n * a\r\n   * b\r\n */a\r\n', '/*\r\n * a\r\n * b\r\n */ a;\r\n'), ('a // b  \r\n', 'a; // b\r\n'), ('\U0001f600 = 1', None), ("'\U0001f600'", "'\U0001f600';\n"),
 ]
 
 
@@ -92,7 +92,7 @@ def choices(room):
         room.put('a.js', wanted)
         same(files(room, 'format', '--check', *it, 'a.js'), (0, '', ''), it)
         found.add(wanted)
-    is_well(len(found) >= 10, found)
+    is_well(len(found) >= 8, found)
 
 
 def texts(room):

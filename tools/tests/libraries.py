@@ -162,7 +162,7 @@ def python_example(room):
         is_well(found == want or want.startswith(f'{found}:'), f'{call}: {found} where {want} is wanted')
     refused = "import jslint\ntry: jslint.fix('a b')\nexcept jslint.Refused as it: print(it, it.status)"
     same(ran([sys.executable, '-c', refused], cwd=folder), ('syntax error at 1:3 2\n', ''))
-    warned = "import jslint\nfor it in jslint.check('var a; debugger;', 'only = [\\"no-var\\", \\"no-debugger\\"]\\nrules.no-var = 1'): print(it.message, it.severity)"
+    warned = "import jslint\nfor it in jslint.check('var a; debugger;', '''only = [\"no-var\", \"no-debugger\"]\nrules.no-var = 1'''): print(it.message, it.severity)"
     same(ran([sys.executable, '-c', warned], cwd=folder), ('use let or const instead of var warning\ndebugger statement error\n', ''))
     hinted = "import jslint\nfor text in 'a b', 'export {};', 'async () => 1;':\n try: jslint.fix(text)\n except jslint.Refused as it: print(it, it.code, it.line, it.column, it.hint)"
     same(ran([sys.executable, '-c', hinted], cwd=folder), ('syntax error at 1:3 syntax 1 3 None\nsyntax error at 1:1 syntax 1 1 module\nsyntax error at 1:10 syntax 1 10 2022\n', ''))

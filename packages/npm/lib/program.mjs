@@ -19,7 +19,8 @@ export function wordsOfIndentation(words, { tabSize, insertSpaces } = {}) {
 /** A script formatted by the program with these words. A refusal is thrown as those of the module. */
 export function formattedBy(program, words, text, language) {
   const it = spawnSync(program, ['format', ...words, ...LANGUAGE_WORDS[language], '--', '-'], { input: text, encoding: 'utf8', maxBuffer: MOST, timeout: MOST_MS, killSignal: 'SIGKILL' });
-  if (it.error) throw new Error(`${program}: ${it.error.code ?? it.error.message}`);
+  // (a program that refuses its words doesn't read the text)
+  if (it.error && it.error.code !== 'EPIPE') throw new Error(`${program}: ${it.error.code ?? it.error.message}`);
   if (it.status === 0) return it.stdout;
   const [said] = it.stderr.split('\n'), refused = new Refused('format', said.replace(/^jslint: /, ''), it.status);
   throw refused.code && said.startsWith('jslint: ') ? refused : new Error(`${program}: ${said || `status ${it.status ?? it.signal}`}`);

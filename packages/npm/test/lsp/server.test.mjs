@@ -331,7 +331,7 @@ test('a report of a rule that only warns is a warning at most, and its message h
       // (between refused states they stay what they were)
       const stale = client.diagnostics(uriOf('warn/a.js'));
       client.change(uriOf('warn/a.js'), 2, { range: range(2, 1, 2, 2), text: ' c' });
-      assert.deepEqual((await stale).filter((it) => it.data?.isStale).map((it) => [it.severity, it.code]), wanted(asked, atMost).slice(0, 4).map((it) => it.slice(0, 2)));
+      assert.deepEqual((await stale).filter((it) => it.data?.isStale).map((it) => [it.severity, it.code]), wanted(asked, atMost).map((it) => it.slice(0, 2)));
     }, { more: { initializationOptions: { severity } } });
   }
 });
