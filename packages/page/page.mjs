@@ -169,7 +169,7 @@ function treeOf(jslint, text) {
   return { made: [branch(tree, null, new Budget(FIRST))], told: counted(tree.body.length, 'statement'), copied: () => jslint.treeText(text, asked(jslint)) };
 }
 
-const SHOWN = { 'tab-check': reports, 'tab-fix': rewritten('fix'), 'tab-unwrap': rewritten('unwrap'), 'tab-tree': treeOf, 'tab-cost': costs };
+const SHOWN = { 'tab-check': reports, 'tab-fix': rewritten('fix'), 'tab-unwrap': rewritten('unwrap'), 'tab-format': rewritten('format'), 'tab-tree': treeOf, 'tab-cost': costs };
 
 /** What a refused script may have that its language lacks, with a button for each language that has it. */
 function hintFor(jslint, error, text, index) {
