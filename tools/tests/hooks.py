@@ -20,7 +20,7 @@ JSX, PERHAPS = 'x = <a/>;\n', "syntax error (perhaps: JSX isn't ECMAScript)"
 CAST = '/** @type {A} */ globalThis /**/; globalThis.a = /** @type {A} */ (1);\n'
 UNFORMATTED, FORMATTED = 'if(a){f( (1),b ) // c\n}', 'if (a) {\n  f((1), b); // c\n}\n'
 # What a hook takes from its repository. JSLINT names the program, so that no launcher is asked.
-TAKEN = [HOOKS, 'tools/jslint-files', 'tools/jslint_files', 'packages/npm/lib/hints.json', 'share/jslint/jslint.schema.json']
+TAKEN = [HOOKS, 'tools/check-list', 'tools/jslint-files', 'tools/jslint_files', 'packages/npm/lib/hints.json', 'share/jslint/jslint.schema.json']
 
 
 def text_of(name):
@@ -123,7 +123,7 @@ def hook_list(room):
 
 
 def by_pre_commit(room):
-    """pre-commit runs both hooks from a clone: what is staged counts, links and other files are left out, and a script that was rewritten fails."""
+    """pre-commit runs the hooks from a clone: what is staged counts, links and other files are left out, and a script that was rewritten fails."""
     asked = tool('pre-commit')
     for it in TAKEN:
         os.makedirs(os.path.dirname(f'{room.folder}/hooks/{it}'), exist_ok=True)
@@ -135,7 +135,8 @@ def by_pre_commit(room):
     tag = git('rev-parse', 'HEAD', at='hooks')[1].strip()
     for name, text in [('a.js', KEPT), ('-h.js', WRONG), ('two words.js', WRONG), ('b.mjs', WRONG), ('c.cjs', WRONG), ('vendor/lib.js', WRONG), ('.jslintignore', 'vendor/\n'), ('m.js', MODULE), ('jslint.toml', '[rules]\nno-unused-vars = false\nprefer-const = false\n')]:
         room.put(f'project/{name}', text)
-    room.put('project/.pre-commit-config.yaml', f'repos:\n- repo: {room.folder}/hooks\n  rev: {tag}\n  hooks:\n  - id: jslint\n  - id: jslint-unwrap\n')
+    room.put('project/.pre-commit-config.yaml', f'repos:\n- repo: {room.folder}/hooks\n  rev: {tag}\n  hooks:\n  - id: jslint\n  - id: jslint-unwrap\n  - id: jslint-format\n'
+             '  - id: jslint-list\n    args: [--settings, jslint.toml, --]\n    files: ^(a|-h)\\.js$\n')
     git('init', '-q')
     os.symlink('a.js', room.path('project/link.js'))
     git('add', '.')
@@ -148,11 +149,21 @@ def by_pre_commit(room):
     is_well(status == 1 and 'files were modified by this hook' in out, out)
     same([room.text(f'project/{it}') for it in ('a.js', '-h.js', 'two words.js', 'b.mjs', 'c.cjs', 'vendor/lib.js')], [UNWRAPPED, *['let x = 1;\n'] * 4, WRONG])
     git('add', '.')
+    status, out, _ = call('jslint-format')
+    is_well(status == 1 and 'files were modified by this hook' in out, out)
+    same([room.text(f'project/{it}') for it in ('a.js', '-h.js', 'vendor/lib.js')], [UNWRAPPED.replace('1 /', '1; /'), 'let x = 1;\n', WRONG])
+    git('add', '.')
     same([call()[0], call('--all-files')[0]], [0, 0])
+    room.put('project/a.js', 'debugger;\n')
+    git('add', '.')
+    status, out, _ = call('jslint-list')
+    is_well(status == 1 and '\na.js:1:1 no-debugger debugger statement\n' in out, out)
+    room.put('project/a.js', '')
+    git('add', '.')
     room.put('project/bad.js', REFUSED)
     git('add', 'bad.js')
     status, out, _ = call()
-    is_well(status == 1 and out.count('bad.js:2:1: syntax error\n') == 2, out)
+    is_well(status == 1 and out.count('bad.js:2:1: syntax error\n') == 3, out)
 
 
 def action():
