@@ -65,14 +65,7 @@ def judge(options, names):
     for name in ('write', 'diff') if is_check else CHECKING:
         if options[name] not in (None, False, []):
             raise Wrong(f'--{name} is for {"fix, unwrap and format" if is_check else "check"}')
-    if command != 'format':
-        for name in FORMATTING:
-            if options[name] not in (None, False):
-                raise Wrong(f'--{name} is for format')
-    for name, (least, most) in RANGES.items():
-        value = options[name]
-        if value is not None and not (re.fullmatch('[1-9][0-9]{0,2}', value) and least <= int(value) <= most):
-            raise Wrong(f'--{name} takes a number from {least} to {most}')
+    judge_formatting(options)
     if options['drop-comments'] and command != 'fix':
         raise Wrong('--drop-comments is for fix' + (f': {command} keeps them' if not is_check else ''))
     if options['drop-casts'] and command != 'unwrap' and not options['fewest']:
@@ -89,6 +82,17 @@ def judge(options, names):
         raise Wrong('--max-warnings takes a number')
     if options['stdin'] is not None and (names or options['files-from'] is not None):
         raise Wrong('--stdin stands for the only script')
+
+
+def judge_formatting(options):
+    if options['command'] != 'format':
+        for name in FORMATTING:
+            if options[name] not in (None, False):
+                raise Wrong(f'--{name} is for format')
+    for name, (least, most) in RANGES.items():
+        value = options[name]
+        if value is not None and not (re.fullmatch('[1-9][0-9]{0,2}', value) and least <= int(value) <= most):
+            raise Wrong(f'--{name} takes a number from {least} to {most}')
 
 
 def judge_rewriting(options):
