@@ -4,6 +4,7 @@ it must accept. Those of a crate are in `CRATE.edits`; form.py says in which for
     run.py [--built] [--anew] [CRATE | CRATE/NAME | CRATE/refused | CRATE/accepted ..]
     run.py --quarter [--built] [--anew] [CRATE ..]
     run.py --fit [CRATE ..]
+    run.py --read [CRATE | CRATE/NAME ..]
 
 Tries those that are named, or all, and says of each why it was refused, or that it was accepted. The exit status is 0 where each is what it must be.
 
@@ -12,6 +13,8 @@ the crate and of those below it: it is another one after most changes, and for t
 
 With `--fit` it only says which edits can't be read, or don't fit their crate: each old text has to stand just once in its file, each accepted edit has to be
 of another function, and a crate with edits has at least three of those, or as many as functions. That takes a second and no toolchain, and comes first where no edits are named.
+
+With `--read` it only says which edits don't reach the prover, since they don't compile or a contract can't be read: some seconds for each that one function has.
 
 An edit whose try ended as it must in an earlier run on this machine isn't tried again, where nothing that its try read has changed: the edit itself, the
 crate, the libraries below it, the kit, and verdicts.py. Where `rt ci` keeps what it passed, that is in its folder, for runs with `--built`; a kit that keeps
@@ -31,9 +34,10 @@ import tempfile
 
 sys.dont_write_bytecode = True
 import form
+import reading
 import verdicts
 
-OPTIONS = ('--anew', '--built', '--fit', '--quarter')
+OPTIONS = ('--anew', '--built', '--fit', '--quarter', '--read')
 TURNS = 4
 # How many bodies that mean the same each crate with edits has at least, if it has so many functions.
 LEAST_ACCEPTED = 3
@@ -123,6 +127,15 @@ def tried_crate(crate, words, is_built, kept_by_runs):
     return ended, lines, earlier.used
 
 
+def read_all(names, words):
+    """Says which edits of these crates, or of those of them that are named, don't reach the prover. The exit status."""
+    toolchain = verdicts.load()
+    crates = [it for it in toolchain.rtlib.crates_below(form.ROOT) if it.name in names]
+    found = [f'{crate.name}/{edit}: {why[:160]}' for crate in crates for edit, why in reading.all_unreadable(crate, words)]
+    print(*found, f'edits/run.py: edits of {len(crates)} crates, {len(found)} unread', sep='\n')
+    return 1 if found else 0
+
+
 def try_all(names, words, options):
     """Tries the edits of these crates, or those of them that are named, and says how many ended as they must. The exit status."""
     is_built = '--built' in options
@@ -162,7 +175,7 @@ def main(words):
         return 1 if faults else 0
     if '--quarter' in options and any('/' in it for it in words):
         sys.exit('edits/run.py: --quarter is of whole crates, so it takes no names of edits')
-    return try_all(names, words, options)
+    return read_all(names, words) if '--read' in options else try_all(names, words, options)
 
 
 if __name__ == '__main__':
