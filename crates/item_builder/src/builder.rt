@@ -81,7 +81,7 @@ impl<'t> Builder<'t> {
         self.gap.read(self.text, start, first)?;
         if start > 0 {
             let line = self.text.get(..start).unwrap_or("");
-            self.push(piece(line.trim_end()));
+            self.push(piece(line));
             self.item_line(Item::HardLine);
         }
         Ok(())
