@@ -1,5 +1,5 @@
-use Rattle.std.proofs.Common.{◌≡◌, string_bytes, subst, true, false}
-use Rattle.std.specs.Result.{IfErr, IfOk}
+use Rattle.std.proofs.Common.{string_bytes, subst, true, false}
+use Rattle.std.specs.Result.{IfOk}
 use Rattle.layout_items.specs.declared.style.Style.{Style}
 use Rattle.lint.specs.Formats.{FormatsWith}
 use Rattle.lint.proofs.Formatting.{either_refused}
