@@ -121,13 +121,7 @@ fn check_command<'a>(alloc: Global) -> Result<clap::Command<'a>, AllocError>
 }
 
 /// An option with a number in a range.
-fn number_option<'a>(
-    alloc: Global,
-    id: &'a str,
-    least: u64,
-    most: u64,
-    about: &'a str,
-) -> Arg<'a>
+fn number_option<'a>(alloc: Global, id: &'a str, least: u64, most: u64, about: &'a str) -> Arg<'a>
     ensures rule { rule_of result ≡ number_rule id.now least most }
     ensures local { result.global ≡ false }
 {
