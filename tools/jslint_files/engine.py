@@ -77,6 +77,10 @@ class Program:
     def program(self):
         return self
 
+    def with_words(self, words):
+        """The same with other words behind `format`."""
+        return Program(self.path, words)
+
     def version(self):
         import subprocess
         ran = subprocess.run([self.path, '--version'], stdin=subprocess.DEVNULL, stdout=subprocess.PIPE)
@@ -141,6 +145,10 @@ class Library:
         """The program that was installed with it."""
         beside = f'{self.here}/jslint'
         return Program(beside) if not self.is_named and os.access(beside, os.X_OK) else None
+
+    def with_words(self, words):
+        """The program, which alone takes words behind `format`."""
+        return Program(path_of_program(self.here), words) if words else self
 
     def version(self):
         """That of the program, if there is one: none is built to be asked."""

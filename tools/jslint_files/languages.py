@@ -54,11 +54,13 @@ class Languages:
         self.layers = layers
         self.engine, self.project, self.settings_for, self.asked = engine, project, settings_for, asked(options)
         self.is_project, self.packages, self.left, self.folders = options['project'], {}, {}, {}
+        # (`format` itself takes no settings, so the language that they say is to be named)
+        self.is_named = options['command'] != 'check' and options['settings'] is not None
 
     def of(self, name):
         """The languages for a script, in the order in which they are tried."""
         kind = self.kind_of(name)
-        if not self.is_project and kind != 'module' and self.asked != '2022':
+        if not self.is_project and not self.is_named and kind != 'module' and self.asked != '2022':
             return [self.asked]
         left = self.left_by(self.settings_of(name))
         if kind == 'module' and 'module' in left:

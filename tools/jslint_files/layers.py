@@ -1,6 +1,7 @@
 """The settings of each file: those of a `jslint.toml`, what its `[[overrides]]` say of the file, and what the words --rule and --only say.
 
-The program knows the settings of one file. Where there is no more than a document, it gets that as it is; else one is made for each file.
+The program knows the settings of one file, and not those of `[format]`. Where there is no more than a document, it gets that as it is; else one is made for each
+file.
 """
 import json
 import os
@@ -8,10 +9,12 @@ import os
 from .ignoring import in_bytes, patterns_of, verdict
 from .outcomes import Refused
 from .rule_table import MOOT, RULES
-from .settings import Unfit, faults, judge_settings, read_toml, schema
+from .settings import Unfit, judge_own, judge_settings, read_toml
 from .streams import Wrong, shown
 
-OVERRIDES, FILES = 'overrides', 'files'
+OVERRIDES, FILES, FORMAT = 'overrides', 'files', 'format'
+# Keys that the program doesn't know.
+OWN = (FORMAT, OVERRIDES)
 SEVERITIES = {'off': 'off', '0': 'off', 'false': 'off', 'warn': 'warn', '1': 'warn', 'error': 'error', '2': 'error', 'true': 'error'}
 # Keys whose values are added to those that stand before.
 ADDED = ('env', 'globals')
@@ -63,27 +66,41 @@ def key_in_toml(key):
 
 
 def lines_of(settings):
-    """Settings as keys of the document, dotted for rules, each with the text of its value."""
+    """Settings as keys of the document, dotted for rules and for `format`, each with the text of its value."""
     for key, value in settings.items():
-        if key == 'rules' and isinstance(value, dict):
-            yield from ((f'rules.{key_in_toml(name)}', in_toml(each)) for name, each in value.items())
+        if key in ('rules', FORMAT) and isinstance(value, dict):
+            yield from ((f'{key}.{key_in_toml(name)}', in_toml(each)) for name, each in value.items())
         else:
             yield key_in_toml(key), in_toml(value)
 
 
 def document(settings):
-    return ''.join(f'{key} = {value}\n' for key, value in lines_of(settings)).encode()
+    """Settings as the program takes them."""
+    return ''.join(f'{key} = {value}\n' for key, value in lines_of({key: it for key, it in settings.items() if key not in OWN})).encode()
+
+
+def for_program(text):
+    """A document as the program takes it."""
+    found = read_toml(text) if has_own(text) else None
+    return document(found) if found and any(it in found for it in OWN) else text
+
+
+def has_own(text):
+    """Whether a document may have keys that the program doesn't know."""
+    return any(it.encode() in text for it in OWN)
 
 
 # ---- one over another
 
 def over(settings, more):
-    """Settings with others over them: rules one by one, names added, all else in place of what stood there."""
+    """Settings with others over them: rules and the keys of `format` one by one, names added, all else in place of what stood there."""
     found = dict(settings)
     for key, value in more.items():
         before = found.get(key)
         if key == 'rules' and isinstance(before, dict):
             found[key] = {**before, **{name: rule_over(before.get(name), each) for name, each in value.items()}}
+        elif key == FORMAT and isinstance(before, dict):
+            found[key] = {**before, **value}
         elif key in ADDED and before:
             found[key] = [*before, *(it for it in value if it not in before)]
         else:
@@ -126,36 +143,29 @@ class Layers:
         return self.documents[path]
 
     def read_anew(self, path, text):
-        if not self.words and OVERRIDES.encode() not in text:
+        if not self.words and not has_own(text):
             return None
         found = read_toml(text) if text else {}
         if found is None and self.words:
             if not has_toml():
                 raise Wrong('--rule and --only beside settings need Python 3.11, which reads TOML')
             return None
-        if found is None or not self.words and OVERRIDES not in found:
+        if found is None or not self.words and not any(it in found for it in OWN):
             return None
         return {key: value for key, value in found.items() if key != OVERRIDES}, found.get(OVERRIDES, [])
 
     def judge(self, engine, path, text, asked):
         """Refuses a document that gives no settings: itself, or with one of its overrides."""
-        found = self.read(path, text)
-        if found is None:
-            return judge_settings(engine, text, asked)
-        settings, overrides = found
         # (the words are judged where they are read)
-        judge_settings(engine, text if OVERRIDES not in (read_toml(text) or {}) else document(settings), asked)
-        table = schema()
-        why = next(faults(table['properties'][OVERRIDES], overrides, OVERRIDES), None) if table else None
-        if why is not None:
-            raise Unfit(f'bad settings: {why}', 1, 1, f'bad settings: {why}')
+        judge_own(text, OWN)
+        judge_settings(engine, text, asked, for_program)
+        settings, overrides = self.read(path, text) or ({}, [])
         for number, it in enumerate(overrides):
             try:
                 judge_settings(engine, document(over(settings, Override(it).settings)), asked)
             except Refused as error:
                 words = f'with {OVERRIDES}.{number}: {error.words if isinstance(error, Unfit) else error}'
                 raise Unfit(words, 1, 1, words) from None
-        return None
 
     def parts_of(self, path, name):
         """A script's path from a document's folder, by its parts; None for one that isn't below it."""
@@ -183,11 +193,17 @@ class Layers:
 
     def of(self, path, text, name):
         """The settings of a script, as the program takes them. `path` is that of their document, or None where there is none."""
-        if self.read(path, text) is None:
-            return text
+        return text if self.read(path, text) is None else self.made_of(path, text, name)[0]
+
+    def format_of(self, path, text, name):
+        """What the settings of a script say of its lines."""
+        return {} if self.read(path, text) is None else self.made_of(path, text, name)[1]
+
+    def made_of(self, path, text, name):
         key = (path, *(self.holding(path, text, name) if path is not None else ()))
         if key not in self.made:
-            self.made[key] = document(self.settings_of(path, text, name)[0])
+            settings = self.settings_of(path, text, name)[0]
+            self.made[key] = document(settings), settings.get(FORMAT, {})
         return self.made[key]
 
 
@@ -204,6 +220,7 @@ def printed(layers, found, name):
     path, text = found or (None, b'')
     if not has_toml():
         raise Wrong('--print-config needs Python 3.11, which reads TOML')
+    judge_own(text, OWN)
     head = f'# {shown(name)}: ' + (f'{shown(path)}\n' if path else 'no settings: the set nine\n')
     if layers.read(path, text) is None:
         settings = read_toml(text) or {}

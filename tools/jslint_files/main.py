@@ -112,16 +112,25 @@ class Run:
         guesses = Guesses(has_hints(options), options['unsupported'] == 'note')
         if self.is_check:
             has_ends = options['ends'] or options['format'] in ('pretty', 'sarif')
-            settings_for = self.settings()
+            settings_for = self.settings_by(self.documents())
             languages = Languages(self.engine, options, self.project, settings_for)
             self.worker = Checker(self.engine, settings_for, languages, guesses, options['suppressions'], has_ends)
             self.batches = Batches(self.engine, self.worker, has_ends or options['format'] in TEXT_FORMS)
         else:
-            if asked(options) in (None, '2022'):
-                # (they may say the language)
-                self.settings()
-            self.worker = Rewriter(self.engine, options, Languages(self.engine, options, self.project, layers=self.layers), guesses)
+            self.worker = self.formatter(guesses) if options['command'] == 'format' else self.rewriter(guesses)
         self.progress, self.tally = Progress(len(self.names)), Tally(options['summary'])
+
+    def rewriter(self, guesses):
+        if asked(self.options) in (None, '2022'):
+            # (they may say the language)
+            self.documents()
+        return Rewriter(self.engine, self.options, Languages(self.engine, self.options, self.project, layers=self.layers), guesses, dict.fromkeys(self.names, ()))
+
+    def formatter(self, guesses):
+        document_of = self.documents()
+        languages = Languages(self.engine, self.options, self.project, self.settings_by(document_of))
+        words_of = {it: handed(self.options, self.layers.format_of(*document_of(it), it)) for it in self.names if it not in self.bad}
+        return Rewriter(self.engine, self.options, languages, guesses, words_of)
 
     def named(self, names):
         """The files, in their order."""
@@ -134,29 +143,38 @@ class Run:
             found, self.ignored = meant.with_folders(found or ['.'] * (options['files-from'] is None), self.project)
         return meant.once(found) if options['write'] else found
 
-    def settings(self):
-        """What gives the settings for a script. They are judged here once, before any script is read."""
+    def settings_by(self, document_of):
+        """What gives the settings for a script, as the program takes them."""
+        return lambda it: self.layers.of(*document_of(it), it)
+
+    def documents(self):
+        """What gives the document of settings for a script, as its path and its text. They are judged here once, before any script is read."""
         name = self.options['settings']
         if name is not None:
             try:
                 text = read(name)
-                self.layers.judge(self.engine, name, text, asked(self.options))
+                self.layers.judge(self.engine, name, text, self.asked_of_settings())
             except Refused as why:
-                raise Wrong(f'{shown(name)}: {why.words if isinstance(why, Unfit) else why}') from None
-            return lambda it: self.layers.of(name, text, it)
+                raise Wrong(f'{shown(name)}: {said_of(why)}') from None
+            return lambda it: (name, text)
         if not self.options['project']:
-            return lambda it: self.layers.of(None, b'', it)
+            return lambda it: (None, b'')
         found = {it: self.project.settings_of(os.path.realpath(it)) for it in {os.path.dirname(it) for it in self.names}}
         texts = dict(filter(None, found.values()))
         self.leave_bad(found, texts)
-        return lambda it: self.layers.of(*(found[os.path.dirname(it)] or (None, b'')), it)
+        return lambda it: found[os.path.dirname(it)] or (None, b'')
+
+    def asked_of_settings(self):
+        """The language of which settings have to leave something: where scripts are rewritten, words for one go over settings."""
+        found = asked(self.options)
+        return found if self.is_check or found == '2022' else None
 
     def leave_bad(self, found, texts):
         """Takes the scripts out whose settings are refused: these are told of instead, and all others are looked at."""
         bad = self.project.bad
         for path in sorted({*texts} - {*bad}):
             try:
-                self.layers.judge(self.engine, path, texts[path], asked(self.options))
+                self.layers.judge(self.engine, path, texts[path], self.asked_of_settings())
             except Refused as why:
                 bad[path] = why
         kept = [it for it in self.names if not found[os.path.dirname(it)] or found[os.path.dirname(it)][0] not in bad]
@@ -291,6 +309,11 @@ def beside(path):
     return path if named.split(os.sep)[0] == '..' else named
 
 
+def said_of(why):
+    """How a line says it that begins with the name of settings."""
+    return why.words if isinstance(why, Unfit) else why
+
+
 def is_coloured(wish):
     """As https://no-color.org has it."""
     return wish == 'always' or wish != 'never' and not os.environ.get('NO_COLOR') and os.environ.get('TERM') != 'dumb' and os.isatty(1)
@@ -312,13 +335,16 @@ def config_of(options, name):
         try:
             return printed(layers, (options['settings'], read(options['settings'])), name)
         except Refused as why:
-            raise Wrong(f'{shown(options["settings"])}: {why}') from None
+            raise Wrong(f'{shown(options["settings"])}: {said_of(why)}') from None
     project = Project()
     found = project.settings_of(os.path.dirname(os.path.realpath(name)))
     bad = next(iter(project.bad.items()), None)
     if bad:
         raise Wrong(f'{shown(bad[0])}: {bad[1]}')
-    return printed(layers, found, name)
+    try:
+        return printed(layers, found, name)
+    except Unfit as why:
+        raise Wrong(f'{shown(found[0])}: {why.words}') from None
 
 
 def main(words, here):

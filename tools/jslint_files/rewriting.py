@@ -148,8 +148,10 @@ def differs(file, text):
 class Rewriter:
     """Rewrites scripts by a command, or says how they would differ."""
 
-    def __init__(self, engine, options, languages, guesses):
-        self.engine, self.options, self.languages, self.guesses = engine, options, languages, guesses
+    def __init__(self, engine, options, languages, guesses, words_of):
+        """`words_of` has the words for the program's command, by the scripts' names. What answers with them is known before the first script is read."""
+        self.engine, self.options, self.languages, self.guesses, self.words_of = engine, options, languages, guesses, words_of
+        self.engines = {it: engine.with_words(it) for it in {*words_of.values()}}
 
     def outcome(self, name, text=None):
         """What comes of a file, or of a text that is as good as one of that name."""
@@ -157,28 +159,28 @@ class Rewriter:
         if text is None and os.path.exists(name) and not os.path.isfile(path):
             raise Refused(f'not {"rewritten" if self.options["write"] else "compared"}: no regular file')
         given, text = text, read(path) if text is None else text
-        languages = self.languages.of(name)
+        languages, engine = self.languages.of(name), self.engines[self.words_of[name]]
         try:
-            return first_reading(languages, lambda it: self.outcome_in(InLanguage(self.engine, it), name, path, text, given is not None))[0]
+            return first_reading(languages, lambda it: self.outcome_in(InLanguage(engine, it), name, path, text, given is not None))[0]
         except Refused as why:
             raise self.guesses.add(why, text, languages, lambda it: checked(self.engine, text, language=it)) from None
 
     def outcome_in(self, engine, name, path, text, is_given):
         hold_comments(engine, self.options, text)
-        return self.replaced(engine, path, text) if self.options['write'] else self.made(engine, name, text, is_given)
+        return self.replaced(engine, name, path, text) if self.options['write'] else self.made(engine, name, text, is_given)
 
-    def cast_in(self, engine, text, file):
+    def cast_in(self, engine, name, text, file):
         """A pair for which a script is left as it is."""
-        command = 'unwrap' if self.options['command'] == 'unwrap' else 'format --fewest' if self.options['fewest'] else None
+        command = 'unwrap' if self.options['command'] == 'unwrap' else 'format --fewest' if '--fewest' in self.words_of[name] else None
         return cast_in(engine, text, file, command) if command and not self.options['drop-casts'] else None
 
-    def replaced(self, engine, path, text):
+    def replaced(self, engine, name, path, text):
         """Replaces a file by what the program makes of it."""
         with TRACES.new_file(os.path.dirname(path)) as (file, new):
             write_changed(engine, self.options, text, file)
             if not differs(file, text):
                 return Outcome()
-            cast = self.cast_in(engine, text, file)
+            cast = self.cast_in(engine, name, text, file)
             if cast:
                 return Outcome([cast])
             os.fsync(file.fileno())
@@ -190,7 +192,7 @@ class Rewriter:
         with TRACES.new_file(None) as (file, new):
             write_changed(engine, self.options, text, file)
             is_changed = differs(file, text)
-            cast = self.cast_in(engine, text, file) if is_changed else None
+            cast = self.cast_in(engine, name, text, file) if is_changed else None
             if self.options['check']:
                 return Outcome([cast] if cast else None, is_unformatted=is_changed and not cast)
             if self.options['diff'] or not is_given:

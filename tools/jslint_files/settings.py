@@ -25,9 +25,9 @@ class Unfit(Refused):
         self.words = words
 
 
-def judge_settings(engine, text, asked):
-    """Refuses settings that no language takes which the words leave."""
-    refusals = [engine.run('check', b'', text, language=it) for it in (LEFT[asked] if asked else (None,))]
+def judge_settings(engine, text, asked, handed=lambda it: it):
+    """Refuses settings that no language takes which the words leave. `handed` is what the program gets of a document."""
+    refusals = [engine.run('check', b'', handed(text), language=it) for it in (LEFT[asked] if asked else (None,))]
     if not all(status for status, _, _ in refusals):
         return
     status, _, err = refusals[0]
@@ -37,11 +37,28 @@ def judge_settings(engine, text, asked):
         raise Unfit(at[1], at[2], at[3], words)
     if words != 'bad settings':
         raise Unfit(words, 1, 1, words)
-    is_taken = lambda it: engine.run('check', b'', it)[0] == 0
+    is_taken = lambda it: engine.run('check', b'', handed(it))[0] == 0
     line = line_of_fault(is_taken, text)
     why = fault_of(text) or (unasked(text, asked) if asked and is_taken(text) else '') or shown_line(text, line)
     more = f': {why}' if why else ''
-    raise Unfit(f'{words}{more}', line or 1, 1, f'{words}{f" (line {line})" if line else ""}{more}')
+    raise unfit(f'{words}{more}', words, line, more)
+
+
+def judge_own(text, keys):
+    """Refuses a document in which keys that the program doesn't know have values that the schema doesn't take."""
+    why = next(own_faults(read_toml(text), keys), None)
+    if why is not None:
+        line = line_of_fault(lambda it: (found := read_toml(it)) is not None and why not in own_faults(found, keys), text)
+        raise unfit(f'bad settings: {why}', 'bad settings', line, f': {why}')
+
+
+def own_faults(settings, keys):
+    table = schema()
+    return (why for key in keys if table and settings and key in settings for why in faults(table['properties'][key], settings[key], key))
+
+
+def unfit(text, words, line, more):
+    return Unfit(text, line or 1, 1, f'{words}{f" (line {line})" if line else ""}{more}')
 
 
 def line_of_fault(is_taken, text):
@@ -135,12 +152,16 @@ def fits(table, value):
         return any(fits(it, value) for it in table['anyOf'])
     if 'enum' in table:
         return any(type(it) is type(value) and it == value for it in table['enum'])
+    if table['type'] == 'integer':
+        return type(value) is int and table['minimum'] <= value <= table['maximum']
     return isinstance(value, {'boolean': bool, 'string': str}.get(table['type'], ()))
 
 
 def wish_of(table):
     if 'anyOf' in table:
         return f'{", ".join(map(in_toml, table["anyOf"][0]["enum"]))} or a table with a severity or options'
+    if table.get('type') == 'integer':
+        return f'a number from {table["minimum"]} to {table["maximum"]}'
     return listed(table['enum']) if 'enum' in table else {'boolean': 'true or false', 'array': 'an array', 'object': 'a table'}.get(table['type'], f'a {table["type"]}')
 
 

@@ -15,7 +15,7 @@ VALUES = ('format', 'settings', 'jobs', 'files-from', 'stdin', 'color', 'unsuppo
 # Those that may stand several times.
 LISTS = ('rule', 'only')
 # Those that `check` alone takes.
-CHECKING = ('format', 'settings', 'color', 'ends', 'suppressions', 'max-warnings', 'explain', 'print-config', 'rule', 'only', 'init')
+CHECKING = ('format', 'color', 'ends', 'suppressions', 'max-warnings', 'explain', 'print-config', 'rule', 'only', 'init')
 # Those that `format` alone takes, and of them those that the program is handed, with what holds without them.
 FORMATTING = ('check', 'width', 'indent', 'tabs', 'commas', 'bare-arrows', 'fewest')
 HANDED = {'width': '80', 'indent': '2', 'commas': 'all', 'tabs': False, 'bare-arrows': False, 'fewest': False}
@@ -65,10 +65,12 @@ def judge(options, names):
     for name in ('write', 'diff') if is_check else CHECKING:
         if options[name] not in (None, False, []):
             raise Wrong(f'--{name} is for {"fix, unwrap and format" if is_check else "check"}')
+    if options['settings'] is not None and command not in ('check', 'format'):
+        raise Wrong('--settings is for check and format')
     judge_formatting(options)
     if options['drop-comments'] and command != 'fix':
         raise Wrong('--drop-comments is for fix' + (f': {command} keeps them' if not is_check else ''))
-    if options['drop-casts'] and command != 'unwrap' and not options['fewest']:
+    if options['drop-casts'] and command != 'unwrap' and not may_be_fewest(options):
         raise Wrong('--drop-casts is for unwrap' + (': fix drops all comments' if command == 'fix' else ', and for format with --fewest' if command == 'format' else ''))
     if options['no-ignore'] and not options['project']:
         raise Wrong('--no-ignore is for --project: no ignore file is looked for without it')
@@ -82,6 +84,11 @@ def judge(options, names):
         raise Wrong('--max-warnings takes a number')
     if options['stdin'] is not None and (names or options['files-from'] is not None):
         raise Wrong('--stdin stands for the only script')
+
+
+def may_be_fewest(options):
+    """Whether `format` may take pairs of parentheses: by the word, or by settings."""
+    return options['command'] == 'format' and (options['fewest'] or options['project'] or options['settings'] is not None)
 
 
 def judge_formatting(options):
@@ -110,10 +117,14 @@ def is_compared(options):
     return options['diff'] or options['check']
 
 
-def handed(options):
-    """The words for the program's own command, as far as they aren't what holds without them."""
-    found = [] if options['command'] != 'format' else [(name, options[name]) for name, usual in HANDED.items() if options[name] not in (None, usual)]
-    return tuple(word for name, value in found for word in ((f'--{name}',) if value is True else (f'--{name}', value)))
+def handed(options, said=None):
+    """The words for the program's own command, over what settings say, as far as they aren't what holds without them."""
+    if options['command'] != 'format':
+        return ()
+    chosen = {**HANDED, **(said or {}), **{name: options[name] for name in HANDED if options[name] not in (None, False)}}
+    flags = {name: [f'--{name}'] for name in HANDED if chosen[name] is True}
+    values = {name: [f'--{name}', str(chosen[name])] for name, usual in HANDED.items() if name not in flags and str(chosen[name]) != str(usual)}
+    return tuple(word for name in HANDED for word in {**flags, **values}.get(name, ()))
 
 
 def has_hints(options):
