@@ -1,0 +1,36 @@
+-- What stands again, as a loop goes over what is compared, with the labels of those before in sets.
+use Rattle.std.proofs.Common.{◌≡◌, ℕ, suc, ◌+◌, ◌<◌, ◌≤◌, Bool, true, false, not, List, [], ◌∷◌, ◌++◌, length, drop, get_or, refl, sym, ap, ◌∙◌, add-one, append_assoc, append-nil}
+use Rattle.std.specs.Prelude.{◌&&◌, ◌||◌}
+use Rattle.std.specs.Str.{bytes_eq}
+use Rattle.std.proofs.Math.Seq.{drop-cons}
+use Rattle.std.proofs.lemmas.List.{drop_all}
+use Rattle.rule_words.specs.Reports.{Report}
+use Rattle.repetition_rules.specs.declared.again.Seen.{Seen}
+use Rattle.repetition_rules.specs.declared.repetition_rule.RepetitionRule.{RepetitionRule}
+use Rattle.repetition_rules.specs.Entries.{Entry, is_again, reads_among, writes_among}
+use Rattle.repetition_rules.specs.Rows.{report_if, reported}
+use Rattle.repetition_rules.specs.Seen.{Holds, IsWith, is_seen}
+
+-- sets with one more label
+pub holds-more : (old new : Seen) (e : Entry) (before : List Entry) → Holds old before → IsWith e old new → Holds new (e ∷ before)
+holds-more old new e before h i w = (
+  (i w).0 ∙ ap (λ b. (e.is_read && bytes_eq w e.label) || b) (h w).0,
+  (i w).1 ∙ ap (λ b. (e.is_written && bytes_eq w e.label) || b) (h w).1,
+)
+
+-- what the sets say is what those before say
+seen-is : (seen : Seen) (before : List Entry) (e : Entry) → Holds seen before → is_seen seen e ≡ is_again before e
+seen-is seen before e h =
+    ap (λ b. (e.is_read && b) || (e.is_written && _)) (h e.label).0 ∙ ap (λ b. (e.is_read && reads_among before e.label) || (e.is_written && b)) (h e.label).1
+
+module _ (rule : RepetitionRule) (before es : List Entry) (i : ℕ) (acc total : List Report) (so : acc ++ reported rule before (drop i es) ≡ total) where
+  -- a turn
+  pub again-turn : (seen : Seen) (d : Entry) (new : List Report) → i < length es → Holds seen before → new ≡ acc ++ report_if (is_seen seen (get_or es i d)) rule (get_or es i d) →
+      new ++ reported rule (get_or es i d ∷ before) (drop (i + 1) es) ≡ total
+  again-turn seen d new l h n =
+      let e : Entry = get_or es i d in
+      rw (add-one i) (ap (λ a. a ++ reported rule (e ∷ before) (drop (suc i) es)) (n ∙ ap (λ b. acc ++ report_if b rule e) (seen-is seen before e h))
+      ∙ append_assoc acc (report_if (is_again before e) rule e) (reported rule (e ∷ before) (drop (suc i) es)) ∙ ap (λ ys. acc ++ reported rule before ys) (sym (drop-cons es i d l)) ∙ so)
+
+  pub again-end : length es ≤ i → acc ≡ total
+  again-end l = sym (append-nil acc) ∙ ap (λ ys. acc ++ reported rule before ys) (sym (drop_all i es l)) ∙ so
