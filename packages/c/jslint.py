@@ -4,7 +4,7 @@
     jslint.fix('((a))')                                     'a;\\n'
     jslint.unwrap('x = (a); // c')                          'x = a; // c'
     jslint.format('f( (a),b )')                             'f((a), b);\\n'
-    jslint.check('debugger;')                               [Report(line=1, column=1, rule='no-debugger', message='debugger statement')]
+    jslint.check('debugger;')                               [Report(line=1, column=1, rule='no-debugger', message='debugger statement', severity='error')]
     jslint.spans('debugger;')                               [Span(start=0, end=9, rule='no-debugger', message='debugger statement')]
     jslint.tree('a')['body'][0]['type']                     'ExpressionStatement'
     jslint.same('a + (b)', 'a + b; // c')                   True: the two have one tree
@@ -24,7 +24,7 @@ import threading
 
 LANGUAGES = {None: 0, '2020': 1, '2022': 2, 'module': 3}
 COMMANDS = {'check': 0, 'tree': 1, 'fix': 2, 'cost': 3, 'verify': 4, 'unwrap': 5, 'spans': 6, 'same': 7, 'format': 8}
-Report = collections.namedtuple('Report', 'line column rule message')
+Report = collections.namedtuple('Report', 'line column rule message severity')
 Span = collections.namedtuple('Span', 'start end rule message')
 Answer = collections.namedtuple('Answer', 'bytes status is_refusal')
 
@@ -148,13 +148,14 @@ def format(text, language=None):
 
 
 def check(text, settings='', language=None):
-    """What the rules find; the settings are TOML."""
-    lines = re.findall(r'^(\d+):(\d+) (\S+) (.*)$', _output('check', text, settings, language), re.M)
-    return [Report(int(line), int(column), rule, message) for line, column, rule, message in lines]
+    """What the rules find; the settings are TOML, and say which rules only warn: the severity is 'error' or 'warning'."""
+    # (behind the text of a warning stands a mark, which no text of a rule here ends in)
+    lines = re.findall(r'^(\d+):(\d+) (\S+) (.*?)( \(warning\))?$', _output('check', text, settings, language), re.M)
+    return [Report(int(line), int(column), rule, message, 'warning' if mark else 'error') for line, column, rule, message, mark in lines]
 
 
 def spans(text, settings='', language=None):
-    """What the rules find, from where to where, in bytes of the text's UTF-8."""
+    """What the rules find, from where to where, in bytes of the text's UTF-8; as `check --spans` it doesn't say which rules only warn."""
     lines = [it.split(' ', 3) for it in _output('spans', text, settings, language).split('\n')[:-1]]
     return [Span(int(start), int(end), rule, message) for start, end, rule, message in lines]
 

@@ -13,6 +13,8 @@ const LEAST_ROOM = 16384;
 const OUTCOME = 16;
 // An instance that has taken more memory than this is let go after the call: a memory doesn't shrink.
 const MOST_KEPT = 256 * 1024 * 1024;
+// A line of what `check` answers. Behind the text of a warning stands a mark, which no text of a rule here ends in.
+const REPORT = /^(\d+):(\d+) (\S+) (.*?)( \(warning\))?$/s;
 // What the calls may be asked beside a text.
 const PLACES = ['indices', 'bytes'];
 const OUT_OF_STACK = { text: 'jslint: out of stack\n', status: 2, isRefusal: true };
@@ -178,8 +180,8 @@ function reportsOf(lines, text) {
   if (lines === '') return [];
   const index = placesIn(text);
   return lines.slice(0, -1).split('\n').map((each) => {
-    const [, line, column, rule, message] = /^(\d+):(\d+) (\S+) (.*)$/s.exec(each);
-    return { line: Number(line), column: Number(column), rule, message, index: index(Number(line), Number(column)) };
+    const [, line, column, rule, message, mark] = REPORT.exec(each);
+    return { line: Number(line), column: Number(column), rule, message, severity: mark ? 'warning' : 'error', index: index(Number(line), Number(column)) };
   });
 }
 

@@ -4,7 +4,8 @@ import type { Language, Text } from './jslint.mjs';
 export interface Message {
   ruleId: string | null;
   fatal?: true;
-  severity: 2;
+  /** 2 is an error, 1 a warning. */
+  severity: 1 | 2;
   message: string;
   line: number;
   column: number;
@@ -16,7 +17,7 @@ export interface Result {
   suppressedMessages: never[];
   errorCount: number;
   fatalErrorCount: number;
-  warningCount: 0;
+  warningCount: number;
   fixableErrorCount: 0;
   fixableWarningCount: 0;
   /** The text, where anything was found in it. */

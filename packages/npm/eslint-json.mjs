@@ -2,16 +2,18 @@
 import { placesIn } from './core.mjs';
 import { Refused, check } from '#jslint';
 
+const SEVERITIES = { warning: 1, error: 2 };
+
 /** Counts columns as ESLint does, in UTF-16 units and without a byte order mark. Places come in order. */
 function columnsIn(text) {
   const index = placesIn(text), startOf = placesIn(text), mark = text.startsWith('\ufeff') ? 1 : 0;
   return (line, column) => Math.max(1, index(line, column) - startOf(line, 1) + 1 - (line === 1 ? mark : 0));
 }
 
-/** Messages as ESLint has them. Severity 2 is an error. */
+/** Messages as ESLint has them. Severity 2 is an error, 1 a warning. */
 function messagesOf(reports, source) {
   const columns = columnsIn(source);
-  return reports.map((it) => ({ ruleId: it.rule, severity: 2, message: it.message, line: it.line, column: columns(it.line, it.column) }));
+  return reports.map((it) => ({ ruleId: it.rule, severity: SEVERITIES[it.severity], message: it.message, line: it.line, column: columns(it.line, it.column) }));
 }
 
 /** A refused text has one message without a rule, which ESLint calls fatal. */
@@ -26,9 +28,10 @@ function refusalOf(refused, source) {
 }
 
 function resultWith(filePath, messages, source) {
+  const count = (severity) => messages.filter((it) => it.severity === severity).length;
   return {
-    filePath, messages, suppressedMessages: [], errorCount: messages.length, fatalErrorCount: messages.filter((it) => it.fatal).length,
-    warningCount: 0, fixableErrorCount: 0, fixableWarningCount: 0, ...(source === null ? {} : { source }), usedDeprecatedRules: [],
+    filePath, messages, suppressedMessages: [], errorCount: count(SEVERITIES.error), fatalErrorCount: messages.filter((it) => it.fatal).length,
+    warningCount: count(SEVERITIES.warning), fixableErrorCount: 0, fixableWarningCount: 0, ...(source === null ? {} : { source }), usedDeprecatedRules: [],
   };
 }
 

@@ -6,16 +6,18 @@ export type Command = 'check' | 'tree' | 'fix' | 'cost' | 'verify' | 'unwrap' | 
 /** The base profile, strict scripts of ECMAScript 2022, or its modules. Without one: the base profile, or for `check` and `spans` what the settings say. */
 export type Language = '2020' | '2022' | 'module';
 
-/** What a rule finds at a place. Lines and columns count from 1, columns in characters; `index` is the place in the string. */
+/** What a rule finds at a place. Lines and columns count from 1, columns in characters; `index` is the place in the string. The settings say which rules only
+ * warn; the message is without the mark that the program puts behind the text of a warning. */
 export interface Report {
   line: number;
   column: number;
   rule: string;
   message: string;
+  severity: 'error' | 'warning';
   index: number;
 }
 
-/** What a rule finds, from where to where: indices into the string, or bytes. */
+/** What a rule finds, from where to where: indices into the string, or bytes. As `check --spans` it doesn't say which rules only warn. */
 export interface Span {
   start: number;
   end: number;

@@ -96,11 +96,14 @@ function asked(jslint) {
 
 const counted = (count, what) => `${count} ${what}${count === 1 ? '' : 's'}`;
 
+/** What the program puts behind the text of a warning. */
+const markOf = (it) => (it.severity === 'warning' ? ' (warning)' : '');
+
 function reports(jslint, text) {
   const found = jslint.check(text, { settings: settings.value, language: language.value || undefined }), told = counted(found.length, 'report');
-  const copied = () => found.map((it) => `${it.line}:${it.column} ${it.rule} ${it.message}\n`).join('');
+  const copied = () => found.map((it) => `${it.line}:${it.column} ${it.rule} ${it.message}${markOf(it)}\n`).join('');
   if (found.length === 0) return { made: [element('p', { className: 'fine' }, 'No report.')], told, copied };
-  const made = (it) => located(text, it.index, `${it.line}:${it.column}`, it.rule, it.message);
+  const made = (it) => located(text, it.index, `${it.line}:${it.column}`, it.rule, `${it.message}${markOf(it)}`);
   return { made: inPieces(found, element('ul', { className: 'reports' }), made, REPORTS), told, copied };
 }
 
@@ -166,7 +169,7 @@ function treeOf(jslint, text) {
   return { made: [branch(tree, null, new Budget(FIRST))], told: counted(tree.body.length, 'statement'), copied: () => jslint.treeText(text, asked(jslint)) };
 }
 
-const SHOWN = { 'tab-check': reports, 'tab-fix': rewritten('fix'), 'tab-unwrap': rewritten('unwrap'), 'tab-tree': treeOf, 'tab-cost': costs };
+const SHOWN = { 'tab-check': reports, 'tab-fix': rewritten('fix'), 'tab-unwrap': rewritten('unwrap'), 'tab-format': rewritten('format'), 'tab-tree': treeOf, 'tab-cost': costs };
 
 /** What a refused script may have that its language lacks, with a button for each language that has it. */
 function hintFor(jslint, error, text, index) {

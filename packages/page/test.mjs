@@ -129,6 +129,7 @@ async function answers(browser) {
   expect('reports', await click(browser, 'check'), /1:5 prefer-const 'x' is never reassigned[^]*\^[^]*1:9 no-extra-parens unnecessary parentheses/);
   expect('the fixed text', await click(browser, 'fix'), /for \(y = \(a in b && c in d\);;\) ;[^]*\(a\?\.b\)\.c;/);
   expect('the unwrapped text', await click(browser, 'unwrap'), /^let x = 1; x;[^]*for \(y = \(a in b && c in d\);;\); \/\/ two pairs\n\(a\?\.b\)\.c; "use strict"; 1 \.toString\(\);/);
+  expect('the formatted text', await click(browser, 'format'), /^let x = \(1\);\nx;\n\{\n  let x = 2;\n  x = 3;\n\}\nfor \(y = \(a in b\) && \(c in d\);;\); \/\/ two pairs\n/);
   expect('the tree', await click(browser, 'tree'), /Program 0\.\.\d+[^]*body: \[/);
   expect('the cost table', await click(browser, 'cost'), /The script has \d+ grouping pairs\. No text with its tree has fewer than \d+[^]*MemberExpression/);
   await click(browser, 'check');
@@ -136,6 +137,7 @@ async function answers(browser) {
   expect('no report', await type(browser, 'script', '"use strict";'), 'No report.');
   expect('a character of two units', await type(browser, 'script', "'\u{1f600}'; debugger;"), /1:6 no-debugger/);
   expect('settings', await type(browser, 'settings', '[rules]\nno-debugger = false\n'), 'No report.');
+  expect('a warning', await type(browser, 'settings', 'rules.no-debugger = "warn"'), /1:6 no-debugger debugger statement \(warning\)/);
   expect('refused settings', await type(browser, 'settings', 'x'), 'Refused: bad settings at 1:2');
   await type(browser, 'settings', '');
 }
@@ -224,7 +226,7 @@ async function large(browser) {
 async function copying(browser) {
   await browser.send('Browser.grantPermissions', { permissions: ['clipboardReadWrite', 'clipboardSanitizedWrite'] });
   await type(browser, 'script', 'debugger; (a)');
-  for (const [tab, wanted] of [['check', '1:1 no-debugger debugger statement\n1:11 no-extra-parens unnecessary parentheses\n1:12 no-undef \'a\' is not defined\n'], ['fix', 'debugger;\na;\n'], ['unwrap', 'debugger; a'], ['cost', /^jslint-cost 2\n[^]*total 0\n$/], ['tree', /^\{"body":/]]) {
+  for (const [tab, wanted] of [['check', '1:1 no-debugger debugger statement\n1:11 no-extra-parens unnecessary parentheses\n1:12 no-undef \'a\' is not defined\n'], ['fix', 'debugger;\na;\n'], ['unwrap', 'debugger; a'], ['format', 'debugger;\n(a);\n'], ['cost', /^jslint-cost 2\n[^]*total 0\n$/], ['tree', /^\{"body":/]]) {
     await click(browser, tab);
     await browser.send('Page.bringToFront');
     await browser.evaluate(click_('#copy'));

@@ -6,7 +6,7 @@ import threading
 from .streams import Wrong, put, shown
 from .traces import TRACES
 
-COMMANDS = {'check': 0, 'tree': 1, 'fix': 2, 'cost': 3, 'verify': 4, 'unwrap': 5, 'spans': 6}
+COMMANDS = {'check': 0, 'tree': 1, 'fix': 2, 'cost': 3, 'verify': 4, 'unwrap': 5, 'spans': 6, 'format': 8}
 # The program's words for a command that isn't one of its own.
 WORDS = {'spans': ('check', '--spans')}
 # What asks for a language: the program's words, and the library's numbers.
@@ -48,8 +48,9 @@ def path_of_program(here):
 class Program:
     """The program, which is started for each call."""
 
-    def __init__(self, path):
-        self.path, self.files, self.lock = path, {}, threading.Lock()
+    def __init__(self, path, words=()):
+        """`words` go behind `format`."""
+        self.path, self.words, self.files, self.lock = path, {**WORDS, 'format': ('format', *words)}, {}, threading.Lock()
 
     def file_of(self, settings):
         """An open file that has these settings. It has no name, so nothing is left of it."""
@@ -64,7 +65,7 @@ class Program:
     def run(self, command, text, settings=b'', out=None, language=None):
         """What it answers for a text: its status, and its two streams; the first goes to a file where one is given."""
         from subprocess import PIPE
-        words, passed = [self.path, *WORDS.get(command, (command,)), *LANGUAGE_WORDS[language]], ()
+        words, passed = [self.path, *self.words.get(command, (command,)), *LANGUAGE_WORDS[language]], ()
         if settings:
             passed = (self.file_of(settings),)
             words += ['--settings', f'/dev/fd/{passed[0]}']
@@ -164,8 +165,9 @@ def library_of(here):
         return None
 
 
-def engine_of(here):
-    return library_of(here) or Program(path_of_program(here))
+def engine_of(here, words=()):
+    """What answers: with words behind `format` the program, since the library takes none."""
+    return (None if words else library_of(here)) or Program(path_of_program(here), words)
 
 
 class InLanguage:

@@ -3,14 +3,16 @@
        jslint-files fix --write|--diff [--edition 2020|2022] [--module] [--drop-comments] [--hints] [--unsupported error|note] [--project] [--no-ignore] [--allow-none]
                     [--stdin NAME] [--summary] [--jobs N] [--files-from FILE] [--] [FILE ..]
        jslint-files unwrap --write|--diff [--drop-casts] [the same, but for --drop-comments] [--] [FILE ..]
+       jslint-files format --write|--diff|--check [--width N] [--indent N] [--tabs] [--commas none|lists|all] [--bare-arrows] [--fewest [--drop-casts]]
+                    [the same, but for --drop-comments] [--] [FILE ..]
        jslint-files --explain RULE|E1..E37
        jslint-files --print-config FILE | --init
        jslint-files --help|--version
 
-`fix` drops comments. So `fix --write` refuses a script that has any, and says how many, unless --drop-comments is there. `unwrap` keeps them.
+`fix` drops comments. So `fix --write` refuses a script that has any, and says how many, unless --drop-comments is there. `unwrap` and `format` keep them.
 
 What `jslint check` finds in several scripts, each report with its file's name, in the order of the files. Or several scripts are rewritten by
-`jslint fix` or `jslint unwrap`.
+`jslint fix`, `jslint unwrap` or `jslint format`.
 
   FILE                a script, or a pattern such as 'src/**/*.js' (in quotes, so that the shell leaves it alone); ** follows no link to a folder
   --files-from FILE   the names that FILE has, each ended by a line feed, or by a zero byte if there is any; - is standard input
@@ -47,15 +49,18 @@ What `jslint check` finds in several scripts, each report with its file's name, 
   --write             replaces each script by its rewritten text, if that differs: a new file beside it is renamed. The mode stays. Where a name is a
                       symbolic link, the file that it leads to is replaced. A script that changed since it was read is refused
   --diff              prints how the rewritten texts differ, as `diff -u` does, and writes no script
+  --check             prints the name of each script that isn't formatted, a line each, and writes no script
+  --width, --indent, --tabs, --commas, --bare-arrows, --fewest
+                      which lines `format` makes (jslint format)
   --drop-comments     `fix --write` also where comments are lost
-  --drop-casts        `unwrap` also of a script that would lose the pair of a cast, `/** @type {T} */ (a)`, which it leaves as it is
+  --drop-casts        `unwrap`, or `format --fewest`, also of a script that would lose the pair of a cast, `/** @type {T} */ (a)`, which it leaves as it is
   --jobs N            N scripts side by side; without it, as many as there are processors
   --version           the program's version
 
 A script that is refused has one line, at 1:1 if the refusal names no place, on standard error where scripts are rewritten; it stays as it is. So has a
 jslint.toml that is refused; its scripts aren't looked at. Control characters in a name are shown as \\x1b, those that turn a text round as \\u{202e}. On
-a terminal, a line on standard error says how far it is after the first second. A script named check, fix or unwrap stands behind --. Where the first line
-of a script ends in CR LF, so do all lines of its fixed text; a byte order mark and a line of `#!` stay.
+a terminal, a line on standard error says how far it is after the first second. A script named check, fix, unwrap or format stands behind --. Where the
+first line of a script ends in CR LF, so do all lines of its fixed or formatted text; a byte order mark and a line of `#!` stay.
 
 The status is 0 where nothing was found, or warnings alone; 1 where there is another report or a difference; 2 where a script was refused, there was none to look at, the words or
 the settings make no sense, or not all could be written (as ESLint's with --exit-on-fatal-error). After an interruption there is no new file, and each
@@ -86,7 +91,7 @@ from .rewriting import Rewriter
 from .rules import explained
 from .settings import Unfit
 from .streams import Wrong, say, shown, warn
-from .words import has_hints, judge, number_of_jobs, options_of
+from .words import handed, has_hints, is_compared, judge, number_of_jobs, options_of
 
 # How many scripts a thread takes at once, at most.
 MOST_AT_ONCE = 32
@@ -98,7 +103,7 @@ class Run:
     """What is done to each script, and how it is told."""
 
     def __init__(self, options, names, here):
-        self.options, self.project, self.engine = options, Project(not options['no-ignore']), engine_of(here)
+        self.options, self.project, self.engine = options, Project(not options['no-ignore']), engine_of(here, handed(options))
         self.is_check, self.advice = options['command'] == 'check', Advice()
         self.layers = Layers(rules_said(options['rule']), rules_left(options['only']))
         # (the names that are ignored; settings that are refused, by their names; how many scripts these are for)
@@ -160,7 +165,7 @@ class Run:
 
     def outcome(self, name, answer=None):
         """What comes of a file, whose lines may be there already."""
-        done = 'checked' if self.is_check else 'compared' if self.options['diff'] else 'rewritten'
+        done = 'checked' if self.is_check else 'compared' if is_compared(self.options) else 'rewritten'
         try:
             came = self.outcome_of_bad(name) if name in self.bad else self.outcome_of_script(name, answer)
         except Refused as why:
@@ -235,9 +240,9 @@ class Run:
             if came.is_told():
                 self.progress.clear()
                 warn(form(name, came))
-            if came.difference or came.rewritten:
+            if came.difference or came.rewritten or came.is_unformatted:
                 self.progress.clear()
-                say(came.difference or came.rewritten)
+                say(f'{shown(name)}\n' if came.is_unformatted else came.difference or came.rewritten)
         return ''
 
     def form(self):
@@ -262,7 +267,7 @@ class Run:
 
     def tell_none(self):
         """What is said where there was nothing to be looked at. Text on standard input that is ignored goes on as it is, where a rewritten one would."""
-        if self.ignored and self.options['stdin'] is not None and not self.is_check and not self.options['diff']:
+        if self.ignored and self.options['stdin'] is not None and not self.is_check and not is_compared(self.options):
             pass_on()
         if not self.options['allow-none']:
             why = f': {plural(len(self.ignored), "name")} {"is" if len(self.ignored) == 1 else "are"} ignored (--no-ignore looks at them all the same)' if self.ignored else ''

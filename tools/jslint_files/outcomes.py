@@ -47,14 +47,14 @@ class Refused(Exception):
 
 class Outcome:
     """What came of a file: what was found, or the lines that `check` answered; how its rewritten text differs, whether it does, and that text itself, if
-    it goes to standard output; and the file's own text, if that could be read and is asked for."""
+    it goes to standard output; whether that it differs is all that is asked; and the file's own text, if that could be read and is asked for."""
 
     # (settings are told of too, where they are refused)
     is_script = True
 
-    def __init__(self, found=None, answer='', difference=b'', text=None, is_changed=False, rewritten=b''):
+    def __init__(self, found=None, answer='', difference=b'', text=None, is_changed=False, rewritten=b'', is_unformatted=False):
         self.list, self.answer, self.difference, self.text, self.rewritten = found, answer, difference, text, rewritten
-        self.is_changed = is_changed or bool(difference)
+        self.is_unformatted, self.is_changed = is_unformatted, is_changed or is_unformatted or bool(difference)
 
     @property
     def found(self):
@@ -68,8 +68,8 @@ class Outcome:
 
     def status(self):
         if self.is_plain():
-            return 1 if self.difference or has_errors(self.answer) else 0
-        return max([1 if self.difference else 0, *(it.status() for it in self.list)])
+            return 1 if self.difference or self.is_unformatted or has_errors(self.answer) else 0
+        return max([1 if self.difference or self.is_unformatted else 0, *(it.status() for it in self.list)])
 
     def seen(self):
         """What isn't turned off by a comment."""

@@ -4,6 +4,7 @@ import threading
 import time
 
 from .streams import warn
+from .words import is_compared
 
 
 class Progress:
@@ -58,7 +59,7 @@ class Tally:
 
     def told(self, options, ignored, unread):
         """In a line: all that came, how many names are ignored, and how many scripts have settings that are refused. The rules with the most reports are first."""
-        scripts, done = plural(self.scripts, 'script'), 'to be rewritten' if options['diff'] else 'rewritten'
+        scripts, done = plural(self.scripts, 'script'), 'to be rewritten' if is_compared(options) else 'rewritten'
         first = f'{plural(self.reports, "report")} in {scripts}' if options['command'] == 'check' else f'{self.changed} of {scripts} {done}'
         more = [(self.refused, 'refused'), (self.noted, 'with what the profile lacks'), (self.casts, 'left for a cast'), (self.suppressed, 'turned off by comments'),
                 (ignored, 'ignored'), (unread, 'left for bad settings')]

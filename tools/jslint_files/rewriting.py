@@ -1,4 +1,4 @@
-"""A script rewritten by `fix` or `unwrap`: in its place, as a difference, or to standard output."""
+"""A script rewritten by `fix`, `unwrap` or `format`: in its place, as a difference, or to standard output."""
 import contextlib
 import errno
 import os
@@ -15,8 +15,9 @@ from .outcomes import LINE_END, Found, Outcome, Refused, refusal
 from .reading import MOST, read
 from .streams import shown
 from .traces import TRACES
+from .words import is_compared
 
-CAST = 'left as it is: unwrap would take the pair of a cast; --drop-casts permits it'
+CAST = 'left as it is: {} would take the pair of a cast; --drop-casts permits it'
 
 
 def keep_comments(engine, text):
@@ -38,19 +39,20 @@ def has_cr(text):
     return text[:max(text.find(b'\n'), 0)].endswith(b'\r')
 
 
-def head_of(text):
-    """What a file keeps before its fixed text: a byte order mark, or a line of `#!`."""
-    first = FIRST_LINE.match(text)
+def head_of(text, command):
+    """What a file keeps before its fixed or formatted text: a byte order mark, or a line of `#!`, which `format` keeps as a comment."""
+    first = FIRST_LINE.match(text) if command == 'fix' else None
     return first[0] + b'\n' if first else MARK if text.startswith(MARK) else b''
 
 
-def keep_form(engine, file, head, is_cr):
-    """Puts a head before a fixed text, and ends each line with CR LF where that is wanted, if what comes of it has the same fixed text."""
+def keep_form(engine, command, file, head, is_cr):
+    """Puts a head before a fixed or formatted text, and ends each line with CR LF where that is wanted, if what comes of it has the same fixed or formatted
+    text."""
     file.seek(0)
     fixed = file.read(MOST + 1)
     text = head + fixed
     text = re.sub(rb'(?<!\r)\n', b'\r\n', text) if is_cr else text
-    status, again, err = engine.run('fix', text)
+    status, again, err = engine.run(command, text)
     if status or err:
         raise refusal(status, err, 'rewritten')
     if again.replace(b'\r\n', b'\n') != fixed.replace(b'\r\n', b'\n'):
@@ -111,10 +113,11 @@ def write_changed(engine, options, text, file):
     """Writes the rewritten text to a new file, with the line ends and the head of the script."""
     status, _, err = engine.run(options['command'], text, out=file)
     if status or err:
-        raise refusal(status, err, 'compared' if options['diff'] else 'rewritten')
-    head, is_cr = head_of(text), has_cr(text)
-    if options['command'] == 'fix' and (head or is_cr):
-        keep_form(engine, file, head, is_cr)
+        raise refusal(status, err, 'compared' if is_compared(options) else 'rewritten')
+    command = options['command']
+    head, is_cr = head_of(text, command), has_cr(text)
+    if command != 'unwrap' and (head or is_cr):
+        keep_form(engine, command, file, head, is_cr)
 
 
 def lost_cast(engine, text, new):
@@ -123,15 +126,15 @@ def lost_cast(engine, text, new):
     return found[0] if found else lost(text, engine.run('tree', text)[1], new, engine.run('tree', new)[1])
 
 
-def cast_in(engine, text, file):
-    """The first pair of a cast that `unwrap` took in a new file, as a note."""
+def cast_in(engine, text, file, command):
+    """The first pair of a cast that a command took in a new file, as a note."""
     if not WORD.search(text):
         return None
     file.seek(0)
     at = lost_cast(engine, text, file.read())
     if at is None:
         return None
-    note = Found(*places_at(text, [at])[at], None, CAST)
+    note = Found(*places_at(text, [at])[at], None, CAST.format(command))
     note.is_noted = True
     return note
 
@@ -166,7 +169,8 @@ class Rewriter:
 
     def cast_in(self, engine, text, file):
         """A pair for which a script is left as it is."""
-        return cast_in(engine, text, file) if self.options['command'] == 'unwrap' and not self.options['drop-casts'] else None
+        command = 'unwrap' if self.options['command'] == 'unwrap' else 'format --fewest' if self.options['fewest'] else None
+        return cast_in(engine, text, file, command) if command and not self.options['drop-casts'] else None
 
     def replaced(self, engine, path, text):
         """Replaces a file by what the program makes of it."""
@@ -187,6 +191,8 @@ class Rewriter:
             write_changed(engine, self.options, text, file)
             is_changed = differs(file, text)
             cast = self.cast_in(engine, text, file) if is_changed else None
+            if self.options['check']:
+                return Outcome([cast] if cast else None, is_unformatted=is_changed and not cast)
             if self.options['diff'] or not is_given:
                 return Outcome([cast] if cast else None, difference=difference(text, new, name) if is_changed and not cast else b'')
             file.seek(0)

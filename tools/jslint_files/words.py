@@ -5,17 +5,23 @@ import shutil
 
 from .streams import Wrong, shown
 
-COMMANDS = ('check', 'fix', 'unwrap')
+COMMANDS = ('check', 'fix', 'unwrap', 'format')
 FORMS = ('unix', 'pretty', 'json', 'sarif', 'junit', 'github')
 FLAGS = (
     'help', 'version', 'module', 'write', 'diff', 'drop-comments', 'drop-casts', 'project', 'no-ignore', 'allow-none', 'hints', 'ends', 'suppressions', 'summary', 'init',
+    'check', 'tabs', 'bare-arrows', 'fewest',
 )
-VALUES = ('format', 'settings', 'jobs', 'files-from', 'stdin', 'color', 'unsupported', 'max-warnings', 'explain', 'edition', 'print-config')
+VALUES = ('format', 'settings', 'jobs', 'files-from', 'stdin', 'color', 'unsupported', 'max-warnings', 'explain', 'edition', 'print-config', 'width', 'indent', 'commas')
 # Those that may stand several times.
 LISTS = ('rule', 'only')
 # Those that `check` alone takes.
 CHECKING = ('format', 'settings', 'color', 'ends', 'suppressions', 'max-warnings', 'explain', 'print-config', 'rule', 'only', 'init')
-CHOICES = {'edition': ('2020', '2022'), 'format': FORMS, 'unsupported': ('error', 'note'), 'color': ('auto', 'always', 'never')}
+# Those that `format` alone takes, and of them those that the program is handed, with what holds without them.
+FORMATTING = ('check', 'width', 'indent', 'tabs', 'commas', 'bare-arrows', 'fewest')
+HANDED = {'width': '80', 'indent': '2', 'commas': 'all', 'tabs': False, 'bare-arrows': False, 'fewest': False}
+# From which number to which they go.
+RANGES = {'width': (40, 200), 'indent': (1, 8)}
+CHOICES = {'edition': ('2020', '2022'), 'format': FORMS, 'unsupported': ('error', 'note'), 'color': ('auto', 'always', 'never'), 'commas': ('none', 'lists', 'all')}
 # The forms that show a guess at what a refused script has without being asked for it.
 HINTING = ('pretty', 'sarif', 'junit')
 
@@ -58,11 +64,19 @@ def judge(options, names):
         raise Wrong("--module doesn't go with --edition 2020")
     for name in ('write', 'diff') if is_check else CHECKING:
         if options[name] not in (None, False, []):
-            raise Wrong(f'--{name} is for {"fix and unwrap" if is_check else "check"}')
+            raise Wrong(f'--{name} is for {"fix, unwrap and format" if is_check else "check"}')
+    if command != 'format':
+        for name in FORMATTING:
+            if options[name] not in (None, False):
+                raise Wrong(f'--{name} is for format')
+    for name, (least, most) in RANGES.items():
+        value = options[name]
+        if value is not None and not (re.fullmatch('[1-9][0-9]{0,2}', value) and least <= int(value) <= most):
+            raise Wrong(f'--{name} takes a number from {least} to {most}')
     if options['drop-comments'] and command != 'fix':
-        raise Wrong('--drop-comments is for fix' + (': unwrap keeps them' if command == 'unwrap' else ''))
-    if options['drop-casts'] and command != 'unwrap':
-        raise Wrong('--drop-casts is for unwrap' + (': fix drops all comments' if command == 'fix' else ''))
+        raise Wrong('--drop-comments is for fix' + (f': {command} keeps them' if not is_check else ''))
+    if options['drop-casts'] and command != 'unwrap' and not options['fewest']:
+        raise Wrong('--drop-casts is for unwrap' + (': fix drops all comments' if command == 'fix' else ', and for format with --fewest' if command == 'format' else ''))
     if options['no-ignore'] and not options['project']:
         raise Wrong('--no-ignore is for --project: no ignore file is looked for without it')
     if not is_check:
@@ -79,10 +93,23 @@ def judge(options, names):
 
 def judge_rewriting(options):
     command, is_stdin = options['command'], options['stdin'] is not None
+    ways = ['--write', '--diff', *(['--check'] if command == 'format' else [])]
+    asked = [it for it in ways if options[it[2:]]]
     if is_stdin and options['write']:
         raise Wrong('--stdin writes to standard output: --write is for files')
-    if not is_stdin and options['write'] == options['diff']:
-        raise Wrong(f'{command} wants --write or --diff, and not both' if options['diff'] else f'{command} wants --write or --diff')
+    if len(asked) > 1 or not asked and not is_stdin:
+        raise Wrong(f'{command} wants {in_words(ways)}' + (f', and not {"both" if len(ways) == 2 else "several"}' if asked else ''))
+
+
+def is_compared(options):
+    """Whether rewritten texts are held against the scripts, and not written."""
+    return options['diff'] or options['check']
+
+
+def handed(options):
+    """The words for the program's own command, as far as they aren't what holds without them."""
+    found = [] if options['command'] != 'format' else [(name, options[name]) for name, usual in HANDED.items() if options[name] not in (None, usual)]
+    return tuple(word for name, value in found for word in ((f'--{name}',) if value is True else (f'--{name}', value)))
 
 
 def has_hints(options):

@@ -80,9 +80,18 @@ def wrong_moot(_, top):
     yield from (f'rules/moot/{it}.toml: is_moot of {path} says otherwise' for it in sorted(found ^ wanted))
 
 
+def numbers_of(version):
+    return [int(it) for it in version.split('.')]
+
+
 def wrong_versions(rules, top):
-    headings = re.findall(r'^## (\d+\.\d+\.\d+)\b', read('CHANGELOG.md', top) or '', re.M)
-    yield from (f'rules/{it.name}.toml: CHANGELOG.md has no version {it.since}' for it in rules if it.since not in headings)
+    """Each rule's version is one of CHANGELOG.md, or while that has unreleased entries a later one than all there."""
+    text = read('CHANGELOG.md', top) or ''
+    versions = re.findall(r'^## (\d+\.\d+\.\d+)\b', text, re.M)
+    is_open = re.search(r'^## Unreleased$', text, re.M) and versions
+    newest = max(map(numbers_of, versions)) if is_open else None
+    unknown = [it for it in rules if it.since not in versions and not (newest and numbers_of(it.since) > newest)]
+    yield from (f'rules/{it.name}.toml: CHANGELOG.md has no version {it.since}' for it in unknown)
 
 
 def wrong_options(rules, top):

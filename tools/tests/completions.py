@@ -15,6 +15,7 @@ COMMANDS = {'check', 'cost', 'fix', 'format', 'help', 'same', 'tree', 'unwrap', 
 LANGUAGE = {'--edition', '--module'}
 SHARED = {*LANGUAGE, '--jobs', '--files-from', '--help', '--version', '--project', '--no-ignore', '--allow-none', '--stdin', '--hints', '--unsupported', '--summary'}
 REWRITING = {'--write', '--diff'} | SHARED
+FORMATTING = {'--check', '--width', '--indent', '--tabs', '--commas', '--bare-arrows', '--fewest', '--drop-casts'}
 CHECKING = {'--settings', '--format', '--color', '--ends', '--suppressions', '--max-warnings', '--explain', '--rule', '--only', '--print-config', '--init'} | SHARED
 SCRIPTS = {'a.js', 'two words.js'}
 # Words of a command line, the last one unfinished; what is offered for it; and what mustn't be.
@@ -26,9 +27,10 @@ ASKED = [
     ('jslint format -', {'--width', '--indent', '--tabs', '--commas', '--bare-arrows', '--fewest', '--check', '--help', *LANGUAGE}, {'--settings', '--write'}),
     ('jslint format --commas ', {'none', 'lists', 'all'}, SCRIPTS), ('jslint format ', SCRIPTS, COMMANDS), ('jslint format --ch', {'--check'}, {'--commas'}),
     ('jslint same --edition ', {'2020', '2022'}, SCRIPTS), ('jslint-files --edition ', {'2020', '2022'}, SCRIPTS), ('jslint help -', set(), LANGUAGE),
-    ('jslint-files ', {'check', 'fix', 'unwrap'} | SCRIPTS, {'tree'}), ('jslint-files -', CHECKING, {'--write'}),
+    ('jslint-files ', {'check', 'fix', 'unwrap', 'format'} | SCRIPTS, {'tree'}), ('jslint-files -', CHECKING, {'--write'}),
     ('jslint-files check -', CHECKING, {'--write'}), ('jslint-files fix -', REWRITING | {'--drop-comments'}, {'--settings', '--format', '--drop-casts'}),
-    ('jslint-files unwrap -', REWRITING | {'--drop-casts'}, {'--drop-comments', '--format'}), ('jslint-files unwrap ', SCRIPTS, {'fix'}),
+    ('jslint-files unwrap -', REWRITING | {'--drop-casts'}, {'--drop-comments', '--format', '--check', '--width'}), ('jslint-files format -', REWRITING | FORMATTING, {'--drop-comments', '--settings'}),
+    ('jslint-files format --commas ', {'none', 'lists', 'all'}, SCRIPTS), ('jslint-files format ', SCRIPTS, {'fix'}), ('jslint-files unwrap ', SCRIPTS, {'fix'}),
     ('jslint-files --format ', {'unix', 'pretty', 'json', 'sarif', 'junit', 'github'}, SCRIPTS), ('jslint-files --unsupported ', {'error', 'note'}, SCRIPTS),
     ('jslint-files --color ', {'auto', 'always', 'never'}, SCRIPTS), ('jslint-files --explain ', {'no-var', 'prefer-const'}, SCRIPTS), ('jslint-files --settings ', {'s.toml'}, {'check'}),
 ]
@@ -44,7 +46,7 @@ def offers(room, offered):
         is_well(wanted <= found and not unwanted & found, f'{words!r}: {sorted(found)}')
     named = set(re.findall(r'(?<![\w-])--[a-z][a-z-]*', room.run(['jslint-files', '--help'])[1].split('\n\n')[0]))
     is_well(named, 'the help names no option')
-    same(named - {it for line in ('jslint-files -', 'jslint-files fix -', 'jslint-files unwrap -') for it in offered(line)}, set())
+    same(named - {it for line in ('jslint-files -', 'jslint-files fix -', 'jslint-files unwrap -', 'jslint-files format -') for it in offered(line)}, set())
 
 
 def share(name):

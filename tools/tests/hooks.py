@@ -18,8 +18,9 @@ HOOKS, ACTION = '.pre-commit-hooks.yaml', 'action.yml'
 MODULE = 'export {};\n'
 JSX, PERHAPS = 'x = <a/>;\n', "syntax error (perhaps: JSX isn't ECMAScript)"
 CAST = '/** @type {A} */ globalThis /**/; globalThis.a = /** @type {A} */ (1);\n'
+UNFORMATTED, FORMATTED = 'if(a){f( (1),b ) // c\n}', 'if (a) {\n  f((1), b); // c\n}\n'
 # What a hook takes from its repository. JSLINT names the program, so that no launcher is asked.
-TAKEN = [HOOKS, 'tools/jslint-files', 'tools/jslint_files', 'packages/npm/lib/hints.json', 'share/jslint/jslint.schema.json']
+TAKEN = [HOOKS, 'tools/check-list', 'tools/jslint-files', 'tools/jslint_files', 'packages/npm/lib/hints.json', 'share/jslint/jslint.schema.json']
 
 
 def text_of(name):
@@ -50,7 +51,7 @@ def program():
 def hook_words(room):
     """Each hook with the names that it is for, and no others; what a project writes as `args` takes the place of the hook's."""
     found = hooks()
-    same(sorted(found), ['jslint', 'jslint-unwrap'])
+    same(sorted(found), ['jslint', 'jslint-format', 'jslint-list', 'jslint-unwrap'])
     for it in found.values():
         wanted = {'language': 'script', 'types': '[file]', 'exclude_types': '[symlink]', 'args': '[--]', 'require_serial': 'true'}
         same({key: it.get(key) for key in wanted}, wanted)
@@ -72,21 +73,57 @@ def hook_words(room):
     same(call('jslint-unwrap', *names), (0, '', ''))
     same([room.text(it) for it in names], [UNWRAPPED] * 3)
     same(call('jslint-unwrap', 'j.js'), (2, '', 'j.js:1:5: syntax error\n'))
+    by_project = [it for it in found if it != 'jslint-list']
     for kind in ('{}', '{"type": "module"}'):
         room.put('package.json', kind)
-        same([call(it, 'm.js') for it in found], [(0, '', '')] * 2)
+        same([call(it, 'm.js') for it in by_project], [(0, '', '')] * 3)
     # (what is ignored stays as it is, also where nothing else is there; so does a script with a cast)
     room.put('.gitignore', 'vendor\n')
     room.put('vendor/lib.js', WRONG)
     room.put('cast.js', CAST)
-    same([call(it, 'vendor/lib.js') for it in found], [(0, '', '')] * 2)
+    same([call(it, 'vendor/lib.js') for it in by_project], [(0, '', '')] * 3)
     same(call('jslint', 'cast.js'), (0, '', ''))
     same(call('jslint-unwrap', 'vendor/lib.js', 'cast.js', 'm.js'), (0, '', 'cast.js:1:67: note: left as it is: unwrap would take the pair of a cast; --drop-casts permits it\n'))
     same([room.text(it) for it in ('vendor/lib.js', 'cast.js')], [WRONG, CAST])
 
 
+def hook_format(room):
+    """It formats scripts, and takes the words of `format`."""
+    hook = hooks()['jslint-format']
+    os.makedirs(room.path('.git'))
+    call = lambda *names, args=None: room.run([*words_of(hook, args), *names], **program())
+    for args, wanted in ((None, FORMATTED), (['--indent', '4', '--'], FORMATTED.replace('  f', '    f'))):
+        room.put('a.js', UNFORMATTED)
+        room.put('-h.js', FORMATTED)
+        room.put('m.js', 'export   {}')
+        same(call('a.js', '-h.js', 'm.js', args=args), (0, '', ''))
+        same([room.text(it) for it in ('a.js', 'm.js')], [wanted, 'export {};\n'])
+    same(call('a.js', args=['--fewest', '--']), (0, '', ''))
+    same(room.text('a.js'), FORMATTED.replace('(1)', '1'))
+
+
+def hook_list(room):
+    """One call of the program for all names, whatever they are; words before `--` are the program's; nothing else runs but a shell."""
+    hook, odd = hooks()['jslint-list'], ['two words.js', '-h.js', '--', "'$(x)`.js", 'a\\nb.js', '--module']
+    for it in odd:
+        room.put(it, 'debugger;\n')
+    room.put('m.js', 'export {};\ndebugger;\n')
+    room.put('s.toml', 'rules.no-debugger = "warn"\n')
+    room.put('begun', '')
+    room.put('program', '#!/bin/sh\necho >>begun\nexec "$JSLINT_REAL" "$@"\n', 0o755)
+    how = {'JSLINT': f'{room.folder}/program', 'JSLINT_REAL': f'{recipes.BIN}/jslint', 'PATH': '/usr/bin:/bin'}
+    call = lambda *names, args=None: room.run([*words_of(hook, args), *names], **how)
+    found = ''.join(f'{it}:1:1 no-debugger debugger statement\n' for it in odd)
+    same((call(*odd), room.text('begun').count('\n')), ((1, found, ''), 1))
+    same(call(*odd, args=['--settings', 's.toml', '--']), (0, found.replace('\n', ' (warning)\n'), ''))
+    same(call('m.js', args=['--module', '--spans', '--']), (1, 'm.js:11 20 no-debugger debugger statement\n', ''))
+    same(call('m.js', 'none.js'), (2, '', 'jslint: m.js: syntax error at 1:1 (perhaps: --module)\njslint: read failed: none.js: missing\n'))
+    same([call(), call(args=['--settings', 'none', '--'])], [(0, '', ''), (2, '', 'jslint: read failed: none: missing\n')])
+    same(room.run(['sh', '-c', '"$@" >/dev/full', 'sh', *words_of(hook), *odd], **how), (2, '', 'jslint: write failed\n'))
+
+
 def by_pre_commit(room):
-    """pre-commit runs both hooks from a clone: what is staged counts, links and other files are left out, and a script that was rewritten fails."""
+    """pre-commit runs the hooks from a clone: what is staged counts, links and other files are left out, and a script that was rewritten fails."""
     asked = tool('pre-commit')
     for it in TAKEN:
         os.makedirs(os.path.dirname(f'{room.folder}/hooks/{it}'), exist_ok=True)
@@ -98,7 +135,8 @@ def by_pre_commit(room):
     tag = git('rev-parse', 'HEAD', at='hooks')[1].strip()
     for name, text in [('a.js', KEPT), ('-h.js', WRONG), ('two words.js', WRONG), ('b.mjs', WRONG), ('c.cjs', WRONG), ('vendor/lib.js', WRONG), ('.jslintignore', 'vendor/\n'), ('m.js', MODULE), ('jslint.toml', '[rules]\nno-unused-vars = false\nprefer-const = false\n')]:
         room.put(f'project/{name}', text)
-    room.put('project/.pre-commit-config.yaml', f'repos:\n- repo: {room.folder}/hooks\n  rev: {tag}\n  hooks:\n  - id: jslint\n  - id: jslint-unwrap\n')
+    room.put('project/.pre-commit-config.yaml', f'repos:\n- repo: {room.folder}/hooks\n  rev: {tag}\n  hooks:\n  - id: jslint\n  - id: jslint-unwrap\n  - id: jslint-format\n'
+             '  - id: jslint-list\n    args: [--settings, jslint.toml, --]\n    files: ^(a|-h)\\.js$\n')
     git('init', '-q')
     os.symlink('a.js', room.path('project/link.js'))
     git('add', '.')
@@ -111,11 +149,21 @@ def by_pre_commit(room):
     is_well(status == 1 and 'files were modified by this hook' in out, out)
     same([room.text(f'project/{it}') for it in ('a.js', '-h.js', 'two words.js', 'b.mjs', 'c.cjs', 'vendor/lib.js')], [UNWRAPPED, *['let x = 1;\n'] * 4, WRONG])
     git('add', '.')
+    status, out, _ = call('jslint-format')
+    is_well(status == 1 and 'files were modified by this hook' in out, out)
+    same([room.text(f'project/{it}') for it in ('a.js', '-h.js', 'vendor/lib.js')], [UNWRAPPED.replace('1 /', '1; /'), 'let x = 1;\n', WRONG])
+    git('add', '.')
     same([call()[0], call('--all-files')[0]], [0, 0])
+    room.put('project/a.js', 'debugger;\n')
+    git('add', '.')
+    status, out, _ = call('jslint-list')
+    is_well(status == 1 and '\na.js:1:1 no-debugger debugger statement\n' in out, out)
+    room.put('project/a.js', '')
+    git('add', '.')
     room.put('project/bad.js', REFUSED)
     git('add', 'bad.js')
     status, out, _ = call()
-    is_well(status == 1 and out.count('bad.js:2:1: syntax error\n') == 2, out)
+    is_well(status == 1 and out.count('bad.js:2:1: syntax error\n') == 3, out)
 
 
 def action():
@@ -175,12 +223,24 @@ def action_script(room):
     room.put('.jslintignore', '')
     same(call(SETTINGS='none'), (2, '', 'jslint-files: none: read failed: missing\n'))
     for it in ('$(touch made)', '`touch made`', '"; touch made; "', '--help'):
-        call(FILES=it, SETTINGS=it, UNSUPPORTED=it, PROJECT=it, ALLOW_NONE=it, ARGS=it, VERSION=it, SARIF=f'out {it}'.replace('/', ''))
-        call(FILES=it, SETTINGS=it, ARGS=it, SARIF=f'out {it}'.replace('/', ''))
+        call(FILES=it, SETTINGS=it, UNSUPPORTED=it, PROJECT=it, ALLOW_NONE=it, ARGS=it, VERSION=it, FORMAT=it, FORMAT_ARGS=it, SARIF=f'out {it}'.replace('/', ''))
+        call(FILES=it, SETTINGS=it, ARGS=it, FORMAT='true', FORMAT_ARGS=it, SARIF=f'out {it}'.replace('/', ''))
         is_well('made' not in room.names(), it)
     same(call(FILES=plain, SARIF='out.sarif'), (1, ''.join(both), ''))
     found = json.loads(room.text('out.sarif'))
     same((sarif.faults(found), len(found['runs'][0]['results'])), ([], 5))
+    room.put('f/100%,a:b.js', UNFORMATTED)
+    room.put('f/c.js', FORMATTED)
+    room.put('f/d.js', FORMATTED.replace('  f', '    f'))
+    room.git('add', '.')
+    unformatted = '::error file=f/{},title=jslint::not as jslint format writes it\n'
+    how = {'FILES': 'f', 'ARGS': '--only\nno-var'}
+    same(call(**how), (0, '', ''))
+    same(call(**how, FORMAT='true'), (1, unformatted.format('100%25%2Ca%3Ab.js') + unformatted.format('d.js'), ''))
+    same(call(**how, FORMAT='true', FORMAT_ARGS='--indent=4\n'), (1, unformatted.format('100%25%2Ca%3Ab.js') + unformatted.format('c.js'), ''))
+    same(call(FILES='f/c.js', ARGS=how['ARGS'], FORMAT='true', SETTINGS='none.toml'), (0, '', ''))
+    same(call(**how, FORMAT='yes'), (2, '::error title=jslint::the input format is true or false\n', ''))
+    same(call(FILES='f/c.js', ARGS=how['ARGS'], FORMAT='true', FORMAT_ARGS='--nope'), (2, '', 'jslint-files: --nope is no option; a file of that name stands behind --\n'))
     same(call(FILES='ok.js', SARIF='/dev/full'), (2, '', 'jslint-files: write failed\n'))
     is_well(call(FILES='ok.js', SARIF='none/out.sarif')[0], 'a folder that is missing')
     room.run(['mv', '.git', 'elsewhere'], status=0)
@@ -188,4 +248,4 @@ def action_script(room):
     is_well(status and not out and 'not a git repository' in err, f'{status} {out} {err}')
 
 
-TESTS = [hook_words, by_pre_commit, action_script]
+TESTS = [hook_words, hook_format, hook_list, by_pre_commit, action_script]

@@ -26,7 +26,7 @@ PACKED = {
     'LICENSE-APACHE', 'LICENSE-MIT', 'README.md', 'bin/eslint-json.mjs', 'bin/jslint-lsp.mjs', 'bin/jslint.mjs', 'bin/streams.mjs', 'browser.mjs', 'core.d.mts', 'core.mjs', 'eslint-json.d.mts', 'eslint-json.mjs',
     'jslint.d.mts', 'jslint.mjs', 'jslint.wasm', 'package.json', 'worker.mjs', 'lib/hints.json', 'lib/texts.json',
     *(f'lib/{it}.mjs' for it in (
-        'actions', 'beside', 'casts', 'changes', 'checking', 'connection', 'document', 'editor', 'edits', 'engine', 'frames', 'git', 'hinting', 'hints', 'ignore', 'jobs', 'languages', 'progress',
+        'actions', 'beside', 'casts', 'changes', 'checking', 'connection', 'document', 'editor', 'edits', 'engine', 'frames', 'git', 'hinting', 'hints', 'ignore', 'jobs', 'languages', 'program', 'progress',
         'protocol', 'rewriting', 'server', 'settings', 'shown', 'suppressions', 'texts', 'thread', 'workspace')),
     *(f'lib/{it}.md' for it in RULES),
 }
@@ -153,7 +153,7 @@ def python_example(room):
     with open(f'{folder}/jslint.py', encoding='utf-8') as file:
         said = file.read()
     wanted = re.findall(r'^    (jslint\.\S.*?)  +(\S.*)$', said, re.M)
-    is_well(len(wanted) == 8, wanted)
+    is_well(len(wanted) == 9, wanted)
     asked = '\n'.join(f'print(repr({call}))' for call, _ in wanted)
     out, _ = ran([sys.executable, '-c', f'import jslint\n{asked}'], cwd=folder)
     for found, (call, want) in zip(out.splitlines(), wanted):
@@ -162,6 +162,8 @@ def python_example(room):
         is_well(found == want or want.startswith(f'{found}:'), f'{call}: {found} where {want} is wanted')
     refused = "import jslint\ntry: jslint.fix('a b')\nexcept jslint.Refused as it: print(it, it.status)"
     same(ran([sys.executable, '-c', refused], cwd=folder), ('syntax error at 1:3 2\n', ''))
+    warned = "import jslint\nfor it in jslint.check('var a; debugger;', '''only = [\"no-var\", \"no-debugger\"]\nrules.no-var = 1'''): print(it.message, it.severity)"
+    same(ran([sys.executable, '-c', warned], cwd=folder), ('use let or const instead of var warning\ndebugger statement error\n', ''))
     hinted = "import jslint\nfor text in 'a b', 'export {};', 'async () => 1;':\n try: jslint.fix(text)\n except jslint.Refused as it: print(it, it.code, it.line, it.column, it.hint)"
     same(ran([sys.executable, '-c', hinted], cwd=folder), ('syntax error at 1:3 syntax 1 3 None\nsyntax error at 1:1 syntax 1 1 module\nsyntax error at 1:10 syntax 1 10 2022\n', ''))
 
@@ -299,7 +301,7 @@ def node_readme(room):
     wanted = re.findall(r'^(\w+\(.*);\s+// (\S.*)$', blocks, re.M)
     is_well(len(wanted) >= 8, wanted)
     checks = '\n'.join(f'assert.deepEqual({call}, {want});' for call, want in wanted)
-    asked = f"import assert from 'node:assert/strict';\nimport {{ check, cost, fix, same, spans, tree, unwrap, verify }} from './jslint.mjs';\n{checks}"
+    asked = f"import assert from 'node:assert/strict';\nimport {{ check, cost, fix, format, same, spans, tree, unwrap, verify }} from './jslint.mjs';\n{checks}"
     ran([program, '--input-type=module', '-e', asked], cwd=made)
 
 

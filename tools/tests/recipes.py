@@ -121,7 +121,7 @@ def examples(room):
 
 # The languages of the code blocks of each recipe, all of which a test tries: here, in many.py, or in language_server.py (Vim).
 TRIED = {
-    'Standard input': ['sh'], 'In place': ['sh'], 'A folder': ['sh'], 'Many files': ['', 'sh', '', '', 'sh'], 'A project': ['sh'], 'A git hook': ['sh', 'sh'], 'make': ['make'],
+    'Standard input': ['sh'], 'In place': ['sh'], 'A folder': ['sh'], 'Many files': ['', 'sh', '', '', '', 'sh'], 'A project': ['sh'], 'A git hook': ['sh', 'sh'], 'make': ['make'],
     'GitHub Actions': ['yaml'], 'Vim': ['vim', 'vim', 'vim'], 'Emacs': [], 'VS Code': ['json'],
 }
 

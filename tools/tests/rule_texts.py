@@ -244,6 +244,8 @@ def unlike_crates(room):
     said = [it.split(': ')[1] for it in found[1]]
     is_well(found[0] == 1 and {'there is no rules/no-var.toml', 'no-var has no rules/no-var.toml', 'no definition of the crates is called no-vars'} <= {*said}, said)
     change(f'{top}/rules/no-vars.toml', '"1.0.0"', '"1.0.9"')
+    later = '99.0.0'
+    change(f'{top}/rules/yoda.toml', '"2.5.0"', f'"{later}"')
     change(f'{top}/share/jslint/jslint.schema.json', '"allow-null"', '"allow-nil"')
     change(f'{top}/docs/rules/README.md', '| `allow-comments` | `true`', '| `allow-comment` | `true`')
     called(top)
@@ -251,6 +253,13 @@ def unlike_crates(room):
     for it in ('rules/no-vars.toml: CHANGELOG.md has no version 1.0.9', 'rules/no-empty.toml: the table of settings in docs/rules/README.md has no allow-comments',
                'rules/eqeqeq.toml: the schema in share/jslint has no allow-null with this description: eqeqeq allows comparisons with the literal null'):
         is_well(it in found, f'{it}: {found}')
+    refused = [f'rules/yoda.toml: CHANGELOG.md has no version {later}']
+    with open(f'{top}/CHANGELOG.md', encoding='utf-8') as file:
+        text = re.sub(r'^## Unreleased\n', '', file.read(), flags=re.M)
+    for heading, said in [('## Unreleased\n', []), ('', refused)]:
+        with open(f'{top}/CHANGELOG.md', 'w', encoding='utf-8') as file:
+            file.write(heading + text)
+        same([it for it in faults_of(top)[1] if later in it], said)
 
 
 def numbers_by_hand(room):

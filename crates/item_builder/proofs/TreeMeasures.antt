@@ -1,5 +1,5 @@
 -- What walks over nodes and lists of them go down by: how many nodes there are.
-use Rattle.std.proofs.Common.{◌≡◌, ℕ, zero, suc, ◌+◌, ◌<◌, ◌≤◌, Some, refl, arith, subst, sym}
+use Rattle.std.proofs.Common.{◌≡◌, ℕ, zero, suc, ◌<◌, ◌≤◌, arith, subst, sym}
 use Rattle.tree.specs.Tree.{Tree, node, Parts, none, part, gap, parts_of, parts_drop, node_total, parts_total}
 use Rattle.tree.proofs.PartWalk.{part_smaller, parts_total-at}
 

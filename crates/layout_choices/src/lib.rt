@@ -2,18 +2,19 @@
 
 //! How a part of a script is laid out, as far as its nodes and the comments before it say; and items in which no other node's stand.
 //! - May touch: nodes, and a builder.
-//! - Begin at: `call_shape.rt`, arguments; `value_position.rt`, values.
+//! - Begin at: `call_arguments.rt`, arguments; `assigned_value.rt`, values.
 
-mod call_shape;
+mod assigned_value;
+mod call_arguments;
 mod elements;
 mod operator_levels;
 mod parameters;
 mod parentheses;
 mod specifiers;
 mod statement_words;
-mod value_position;
 
-pub use call_shape::{CallShape, call_shape, hug_of};
+pub use assigned_value::{Assigned, ValuePosition, value_position};
+pub use call_arguments::{CallShape, call_shape, hug_of};
 pub use elements::{
     element_line, has_several_parts, holds_object_pattern, is_object_pattern, is_short_key,
     start_of_group,
@@ -25,4 +26,3 @@ pub use parentheses::{
 };
 pub use specifiers::{braces, from, import};
 pub use statement_words::{has_initialiser, is_complex, is_empty_statement, jump, word_behind};
-pub use value_position::{Assigned, ValuePosition, value_position};

@@ -1,5 +1,5 @@
 -- The fields of a node have fewer nodes than the node, in all.
-use Rattle.std.proofs.Common.{◌≡◌, ℕ, zero, suc, ◌+◌, ◌-◌, ◌<◌, ◌≤◌, Option, Some, None, refl, sym, arith, ap}
+use Rattle.std.proofs.Common.{◌≡◌, ℕ, zero, suc, ◌+◌, ◌-◌, ◌<◌, ◌≤◌, Option, Some, None, refl, sym, arith}
 use Rattle.std.proofs.lemmas.Option.{none-some}
 use Rattle.tree.specs.Tree.{Tree, node, Parts, none, part, gap, parts_of, part_count, part_at, parts_drop, parts_take, node_total, parts_total}
 use Rattle.tree.specs.Fields.{field, list_from, last_part, before_last, with_one, with_two, with_three}

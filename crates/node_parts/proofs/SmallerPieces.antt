@@ -1,5 +1,5 @@
 -- What the pieces of statements, expressions and classes have has fewer nodes than the piece.
-use Rattle.std.proofs.Common.{◌≡◌, ℕ, ◌+◌, ◌<◌, Option, Some, None, refl, sym, arith, ap}
+use Rattle.std.proofs.Common.{◌≡◌, ℕ, ◌+◌, ◌<◌, Some, sym, arith, ap}
 use Rattle.std.proofs.lemmas.Option.{none-some}
 use Rattle.tree.specs.Tree.{Tree, kind_of, flags_of, parts_of, node_total, parts_total}
 use Rattle.tree.specs.Fields.{field, list_from}

@@ -1,9 +1,9 @@
 -- What a view of a node has has fewer nodes than the node.
-use Rattle.std.proofs.Common.{◌≡◌, ℕ, ◌+◌, ◌<◌, ◌≤◌, Bool, true, false, Option, Some, None, option_map, if◌then◌else◌, refl, sym, arith, ap}
+use Rattle.std.proofs.Common.{◌≡◌, ℕ, ◌+◌, ◌<◌, Bool, true, false, Option, Some, None, option_map, if◌then◌else◌, refl, sym, arith, ap}
 use Rattle.std.specs.Prelude.{IfSome}
 use Rattle.std.proofs.lemmas.Option.{none-some}
-use Rattle.tree.specs.Tree.{Tree, node, Parts, kind_of, text_of, flags_of, parts_of, node_total, parts_total}
-use Rattle.tree.specs.Fields.{field, list_from, last_part, before_last, with_one, with_two, with_three}
+use Rattle.tree.specs.Tree.{Tree, node, kind_of, text_of, flags_of, parts_of, node_total}
+use Rattle.tree.specs.Fields.{field, list_from, last_part, before_last}
 use Rattle.tree.specs.Uses.{is_generator, is_async}
 use Rattle.tree.specs.declared.kind.Kind.{Kind}
 use Rattle.tree.specs.declared.kind.Kind.TheVariants as kind
@@ -18,7 +18,7 @@ use Rattle.typed_nodes.specs.Patterns.{PatternView, pattern_by, pattern_of}
 use Rattle.typed_nodes.specs.Modules as m
 use Rattle.typed_nodes.specs.Modules.{ModuleItemView, module_item_by, module_item_of}
 use Rattle.node_parts.specs.Sizes.{option_total, function_total, class_total, statement_total, expression_total, pattern_total, module_total}
-use Rattle.node_parts.proofs.SmallerFields.{four_fields, parts_smaller, first_and_list, list_and_last, drop_smaller, one_smaller, two_smaller, three_smaller, some_smaller}
+use Rattle.node_parts.proofs.SmallerFields.{four_fields, parts_smaller, first_and_list, list_and_last, one_smaller, two_smaller, three_smaller, some_smaller}
 
 -- a node of its kind's length
 pub if_whole : {A : Type 0} (b : Bool) (o : Option A) (v : A) → Some v ≡ (if b then o else None) → Some v ≡ o

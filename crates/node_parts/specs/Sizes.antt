@@ -1,6 +1,6 @@
 -- How many nodes there are in what a view of a node has. All calls go down by them.
 use Rattle.std.specs.Prelude.{ℕ, ◌+◌, Option, None, Some, option_map}
-use Rattle.tree.specs.Tree.{Tree, Parts, node_total, parts_total}
+use Rattle.tree.specs.Tree.{Tree, node_total, parts_total}
 use Rattle.tree.specs.Node.{node_tree, list_parts}
 use Rattle.tree.specs.declared.node.Node.{Node}
 use Rattle.tree.specs.declared.node_list.NodeList.{NodeList}

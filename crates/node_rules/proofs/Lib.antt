@@ -6,3 +6,4 @@ pub mod Together
 pub mod DueLemmas
 pub mod ValueSearchLemmas
 pub mod PathLemmas
+pub mod RiskLemmas

@@ -3,6 +3,7 @@ import path from 'node:path';
 import { fileURLToPath, pathToFileURL } from 'node:url';
 import { Beside, SETTINGS } from './beside.mjs';
 import { Document } from './document.mjs';
+import { isFormatWord } from './program.mjs';
 import { CODES, ResponseError, stringOf } from './protocol.mjs';
 
 export const NAME = 'jslint';
@@ -12,7 +13,9 @@ const number = (least, most) => (it) => Number.isInteger(it) && it >= least && i
 // The editor's settings: for each what holds without it, and what it may be.
 const OPTIONS = {
   settings: [null, (it) => it === null || (typeof it === 'string' && it !== '')],
-  format: ['unwrap', oneOf('unwrap', 'layout')],
+  format: ['unwrap', oneOf('unwrap', 'layout', 'lines')],
+  formatWords: [[], (it) => Array.isArray(it) && it.every((each) => typeof each === 'string' && isFormatWord(each))],
+  program: [null, (it) => it === null || (typeof it === 'string' && path.isAbsolute(it))],
   unsupported: ['information', oneOf(...Object.keys(SEVERITIES), 'off')],
   severity: ['warning', oneOf(...Object.keys(SEVERITIES))],
   debounce: [120, number(0, 60000)],

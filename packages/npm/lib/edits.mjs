@@ -1,4 +1,5 @@
-// The few small edits that make one text of another, where the two differ as `unwrap` makes them differ: a character here and there.
+// The few small edits that make one text of another, where the two differ as `unwrap` makes them differ, a character here and there, or as `format` does,
+// in blanks between the same characters.
 
 // So many equal characters count as going on together, after a small step and after a larger one.
 const SMALL_STEP = 6, SMALL_RUN = 6, RUN = 24;
@@ -53,6 +54,45 @@ function stepsBetween(a, b) {
 /** Edits that make exactly the second text of the first: small ones, or else one of the whole text. That they do is tried. */
 export function editsBetween(a, b) {
   const found = stepsBetween(a, b);
+  return applied(a, found) === b ? found : [{ start: 0, end: a.length, text: b }];
+}
+
+// (what `\s` takes in a pattern)
+const isBlank = (code) => code === 32 || (code > 8 && code < 14) || (code > 127 && /\s/.test(String.fromCharCode(code)));
+
+/** A text without its blanks, and where each character of that is. */
+function bare(text) {
+  const at = new Uint32Array(text.length + 1);
+  let count = 0;
+  for (let index = 0; index < text.length; index++) if (!isBlank(text.charCodeAt(index))) at[count++] = index;
+  at[count] = text.length;
+  return { text: text.replace(/\s+/g, ''), at };
+}
+
+/** An edit without what both texts have at its two ends. */
+function narrowed(text, { start, end, text: to }) {
+  const from = text.slice(start, end), most = Math.min(from.length, to.length);
+  let head = 0, tail = 0;
+  while (head < most && from[head] === to[head]) head++;
+  while (tail < most - head && from[from.length - 1 - tail] === to[to.length - 1 - tail]) tail++;
+  return { start: start + head, end: end - tail, text: to.slice(head, to.length - tail) };
+}
+
+/** Edits that make exactly the second text of the first, where they differ in blanks and few characters: one for each stretch between characters that both
+ * have; or else one of the whole text. */
+export function layoutEditsBetween(a, b) {
+  const one = bare(a), other = bare(b), found = [];
+  let i = 0, j = 0, from = 0, to = 0;
+  /** Goes on to the next character that both have: what stands before it, behind the last one, is made equal. */
+  const until = (x, y) => {
+    const end = one.at[x], stop = other.at[y];
+    if ((end > from || stop > to) && a.slice(from, end) !== b.slice(to, stop)) found.push(snapped(a, narrowed(a, { start: from, end, text: b.slice(to, stop) })));
+    [i, j, from, to] = [x + 1, y + 1, end + 1, stop + 1];
+  };
+  for (const it of [...stepsBetween(one.text, other.text), { start: one.text.length, end: one.text.length, text: '' }]) {
+    while (i < it.start) until(i, j);
+    until(it.end, j + it.text.length);
+  }
   return applied(a, found) === b ? found : [{ start: 0, end: a.length, text: b }];
 }
 

@@ -2,14 +2,17 @@
 import { Refused, indexOf } from '../core.mjs';
 import { isCast, isOfCast, losesCast, mayHaveCasts } from './casts.mjs';
 import { Judge, mayHaveComments } from './changes.mjs';
-import { applied, editsBetween } from './edits.mjs';
+import { applied, editsBetween, layoutEditsBetween } from './edits.mjs';
 import { earlyHint, syntaxHint } from './hints.mjs';
 import { Languages, inLanguage } from './languages.mjs';
+import { formattedBy } from './program.mjs';
 import { lineAt, lineStarts, suppressingEdits, withoutSuppressed } from './suppressions.mjs';
 
 const HALF_PAIR = /(?:[^\ud800-\udbff]|^)[\udc00-\udfff]|[\ud800-\udbff](?![\udc00-\udfff])/;
 // How many lines of refused settings are taken away one by one.
 const MOST_LINES = 500;
+// What settings that make a rule warn have somewhere: the word, the number, or an escape that may stand for a letter of the word.
+const MAY_WARN = /warn|1|\\/;
 // No more reports of one text than this are handed on.
 const MOST_REPORTS = 20000;
 // How much of a report of these rules is underlined: `var` and `(`, where all that they hold is reported.
@@ -35,6 +38,9 @@ function answered(call) {
     throw error;
   }
 }
+
+/** Whether two texts, the first of which may be null, differ in CR LF alone. */
+const isButForCr = (text, other) => text?.replaceAll('\r\n', '\n') === other.replaceAll('\r\n', '\n');
 
 export class Jobs {
   /** The commands are those of core.mjs. */
@@ -92,9 +98,15 @@ export class Jobs {
     }
   }
 
+  /** The reports with their ends, and whether they are warnings: `check` says that of the same reports in the same order. */
+  reportsOf(text, settings, commands) {
+    const spans = commands.spans(text, { settings }), told = MAY_WARN.test(settings) ? commands.check(text, { settings }) : [];
+    return spans.map((it, at) => ({ ...it, isWarning: told[at]?.severity === 'warning' }));
+  }
+
   /** What is shown of what `check` reports: not the pairs of casts, and not what comments turn off, if they are read. Whether there were such pairs. */
   found({ text, settings, areRead }, commands) {
-    const all = commands.spans(text, { settings }), kept = mayHaveCasts(text) ? all.filter((it) => !isOfCast(text, it)) : all;
+    const all = this.reportsOf(text, settings, commands), kept = mayHaveCasts(text) ? all.filter((it) => !isOfCast(text, it)) : all;
     const reports = areRead ? withoutSuppressed(text, kept, (it) => answered(() => commands.fix(it))) : kept;
     return { reports, hasCasts: kept.length < all.length };
   }
@@ -124,6 +136,28 @@ export class Jobs {
       const fixed = commands.fix(text), isCrLf = /^[^\r\n]*\r\n/.test(text), other = isCrLf ? fixed.replaceAll('\n', '\r\n') : fixed;
       const to = other !== fixed && answered(() => commands.fix(other)) !== fixed ? fixed : other;
       return { edits: editsBetween(text, to), hasComments: mayHaveComments(text) };
+    });
+  }
+
+  /** The formatted text of a job's: by the module, or with words by the program that has them. CR LF stays where the first line of the text ends so and that
+   * keeps the rest. */
+  formattedText({ text, words, program }, commands, language) {
+    const format = (it) => (words.length ? formattedBy(program, words, it, language) : commands.format(it)), formatted = format(text);
+    if (!/^[^\r\n]*\r\n/.test(text)) return { format, formatted };
+    const other = formatted.replace(/(?<!\r)\n/g, '\r\n');
+    return { format, formatted: isButForCr(answered(() => format(other)), formatted) ? other : formatted };
+  }
+
+  /** The edits that format a text, none where a cast would lose its pair; of those the ones in a stretch, if one is asked for: where the text that they make
+   * is formatted to the same text, so that the tree and the comments stay. */
+  format(job) {
+    const { text, stretch } = job;
+    return this.tried(job, (commands, language) => {
+      const { format, formatted } = this.formattedText(job, commands, language), edits = layoutEditsBetween(text, formatted);
+      if (mayHaveCasts(text) && losesCast(text, formatted)) return { edits: [] };
+      const some = stretch ? edits.filter((it) => stretch.start <= it.start && it.end <= stretch.end) : edits;
+      if (some.length === edits.length) return { edits };
+      return { edits: isButForCr(answered(() => format(applied(text, some))), formatted) ? some : [] };
     });
   }
 

@@ -23,6 +23,7 @@ export function inLanguage(commands, language) {
     tree: (text, more) => commands.tree(text, { ...more, ...options }),
     fix: (text) => commands.fix(text, options),
     unwrap: (text) => commands.unwrap(text, options),
+    format: (text) => commands.format(text, options),
     treeText: (text) => commands.treeText(text, options),
     cost: (text) => commands.cost(text, options),
     same: (text, other) => commands.same(text, other, options),

@@ -1,4 +1,5 @@
 // Formatting, and the commands that rewrite a text.
+import { wordsOfIndentation } from './program.mjs';
 import { CODES, ResponseError, untilAborted } from './protocol.mjs';
 
 export const COMMANDS = { unwrap: 'jslint.unwrap', layout: 'jslint.layout' };
@@ -55,28 +56,44 @@ export class Rewriting {
     return refusal ? null : hasCasts ? [] : edits;
   }
 
+  /** Which lines are asked for: by words of the editor's settings and by its indentation, if there is a program that takes words; else those of the module. */
+  linesFor(indentation) {
+    const { formatWords, program } = this.editor.options;
+    if (program !== null) return { words: [...formatWords, ...wordsOfIndentation(formatWords, indentation)], program };
+    if (formatWords.length) throw new ResponseError(CODES.params, 'jslint: the setting formatWords needs the setting program, the path of jslint');
+    return { words: [], program: null };
+  }
+
+  /** The edits that format a text, or those of them in a stretch; null where it is refused. */
+  async inLines(document, signal, indentation, stretch = null) {
+    const { edits = null } = await this.answerOf('format', document, signal, { ...this.linesFor(indentation), stretch });
+    return edits;
+  }
+
   /** What formatting does: in one layout only if that is set, and no comment can go. */
-  async formatted(document, signal) {
+  async formatted(document, signal, indentation) {
+    if (this.editor.options.format === 'lines') return this.inLines(document, signal, indentation);
     if (this.editor.options.format !== 'layout') return this.unwrapped(document, signal);
     const { refusal, edits, hasComments } = await this.answerOf('fix', document, signal);
     return refusal ? null : hasComments ? this.unwrapped(document, signal) : edits;
   }
 
   /** Of a text that is ignored or refused, and of one in another language, nothing. */
-  format({ textDocument, workDoneToken }, { signal }) {
+  format({ textDocument, options, workDoneToken }, { signal }) {
     const document = this.editor.document(textDocument), { revision } = document;
     if (!this.editor.isChecked(document)) return null;
     return this.unlessChanged(document, signal, async (either) => {
-      const edits = await this.progress.during(workDoneToken, 'jslint: formatting', () => this.formatted(document, either));
+      const edits = await this.progress.during(workDoneToken, 'jslint: formatting', () => this.formatted(document, either, options));
       return edits && this.editsOf(document, revision, edits);
     });
   }
 
-  formatRange({ textDocument, range }, { signal }) {
+  formatRange({ textDocument, range, options }, { signal }) {
     const document = this.editor.document(textDocument), { revision } = document, [start, end] = document.indicesOf(range);
     if (!this.editor.isChecked(document)) return null;
     return this.unlessChanged(document, signal, async (either) => {
-      const { edits = null } = await this.answerOf('unwrapWithin', document, either, { start, end });
+      const isInLines = this.editor.options.format === 'lines';
+      const { edits = null } = isInLines ? { edits: await this.inLines(document, either, options, { start, end }) } : await this.answerOf('unwrapWithin', document, either, { start, end });
       return edits && this.editsOf(document, revision, edits);
     });
   }

@@ -15,7 +15,7 @@ function withName(text, key, name, lineEnd) {
 
 /** The text with a rule turned off. */
 function withoutRule(text, rule, lineEnd) {
-  const on = new RegExp(`((?:^|[{,])[ \\t]*(?:rules\\.)?"?${rule}"?[ \\t]*=[ \\t]*)true`, 'm');
+  const on = new RegExp(`((?:^|[{,])[ \\t]*(?:rules\\.)?"?${rule}"?[ \\t]*=[ \\t]*)(?:true|[12](?!\\w)|"(?:warn|error)"|'(?:warn|error)')`, 'm');
   if (on.test(text)) return text.replace(on, '$1false');
   const head = /^([ \t]*\[rules\][ \t]*(?:#[^\r\n]*)?)(?=\r?$)/m, inline = /^([ \t]*rules[ \t]*=[ \t]*\{)([^}\n]*?)[ \t]*\}/m, dotted = /^([ \t]*rules\.)/m;
   if (head.test(text)) return text.replace(head, `$1${lineEnd}${rule} = false`);

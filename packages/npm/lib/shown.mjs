@@ -50,8 +50,9 @@ export class Shown {
     return [this.diagnostic(document, 0, 0, SEVERITIES.error, code, message)];
   }
 
+  /** A report; one of a rule that only warns is a warning at most. */
   report(document, it) {
-    const severity = SEVERITIES[this.editor.options.severity];
+    const asked = SEVERITIES[this.editor.options.severity], severity = it.isWarning ? Math.max(asked, SEVERITIES.warning) : asked;
     return this.diagnostic(document, it.start, it.end, severity, it.rule, it.message, FADED.has(it.rule) ? [UNNECESSARY] : undefined);
   }
 

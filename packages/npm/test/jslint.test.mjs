@@ -32,6 +32,16 @@ test('check takes settings', () => {
   assert.deepEqual(lines(check('debugger;', { settings: new TextEncoder().encode('[rules]\nno-debugger = false\n') })), []);
 });
 
+test('check says which reports are warnings, and takes the mark off', () => {
+  const text = 'var a = 1;\ndebugger;\n', settings = 'rules.no-var = "warn"\nrules.no-unused-vars = 1\n';
+  assert.deepEqual(check(text, { settings }).map((it) => [it.rule, it.message, it.severity]), [
+    ['no-var', 'use let or const instead of var', 'warning'], ['no-unused-vars', "'a' is never read", 'warning'], ['no-debugger', 'debugger statement', 'error'],
+  ]);
+  assert.deepEqual([check(text), check(text, { settings: 'rules.no-var = "error"' })].map((it) => it.map(({ severity }) => severity)), Array(2).fill(['error', 'error', 'error']));
+  assert.equal(run('check', new TextEncoder().encode(text), new TextEncoder().encode(settings)).text.split('\n')[0], '1:1 no-var use let or const instead of var (warning)');
+  assert.deepEqual(spans(text, { settings }).map(({ message }) => message), check(text, { settings }).map(({ message }) => message));
+});
+
 test('places are indices into the string', () => {
   const text = "'\u{1f600}é'; /* \u2028 */ debugger;\r\n  debugger;";
   for (const it of check(text)) assert.equal(text.slice(it.index, it.index + 8), 'debugger');

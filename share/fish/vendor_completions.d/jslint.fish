@@ -26,10 +26,11 @@ complete -c jslint -n "__fish_seen_subcommand_from $commands; and not __fish_see
 complete -c jslint -n "__fish_seen_subcommand_from $commands; and not __fish_seen_subcommand_from help" -l module -d 'Modules of ECMAScript 2022'
 complete -c jslint -s h -l help -d 'Print help'
 
-set -l rewriting fix unwrap
+set -l rewriting fix unwrap format
 complete -c jslint-files -n __fish_is_first_arg -a check -d 'Report what the rules find'
 complete -c jslint-files -n __fish_is_first_arg -a fix -d 'Rewrite scripts in one layout, comments dropped'
 complete -c jslint-files -n __fish_is_first_arg -a unwrap -d 'Take unnecessary parentheses out of scripts'
+complete -c jslint-files -n __fish_is_first_arg -a format -d 'Rewrite scripts in lines of a width, comments kept'
 complete -c jslint-files -n "not __fish_seen_subcommand_from $rewriting" -l settings -r -F -d 'Rules and options, as TOML'
 complete -c jslint-files -n "not __fish_seen_subcommand_from $rewriting" -l format -x -a 'unix pretty json sarif junit github' -d 'How reports are printed'
 complete -c jslint-files -n "not __fish_seen_subcommand_from $rewriting" -l color -x -a 'auto always never' -d 'Colours of --format pretty'
@@ -44,7 +45,14 @@ complete -c jslint-files -n "not __fish_seen_subcommand_from $rewriting" -l expl
 complete -c jslint-files -n "__fish_seen_subcommand_from $rewriting" -l write -d 'Replace the scripts'
 complete -c jslint-files -n "__fish_seen_subcommand_from $rewriting" -l diff -d 'Show how the scripts would differ'
 complete -c jslint-files -n '__fish_seen_subcommand_from fix' -l drop-comments -d 'Replace scripts whose comments are lost, too'
-complete -c jslint-files -n '__fish_seen_subcommand_from unwrap' -l drop-casts -d 'Replace scripts whose casts lose their parentheses, too'
+complete -c jslint-files -n '__fish_seen_subcommand_from unwrap format' -l drop-casts -d 'Replace scripts whose casts lose their parentheses, too'
+complete -c jslint-files -n '__fish_seen_subcommand_from format' -l check -d 'Name the scripts that are not formatted'
+complete -c jslint-files -n '__fish_seen_subcommand_from format' -l width -x -d 'Columns of a line, 40 to 200'
+complete -c jslint-files -n '__fish_seen_subcommand_from format' -l indent -x -a '1 2 3 4 5 6 7 8' -d 'Columns of a level of indentation'
+complete -c jslint-files -n '__fish_seen_subcommand_from format' -l tabs -d 'A tab for each level'
+complete -c jslint-files -n '__fish_seen_subcommand_from format' -l commas -x -a 'none lists all' -d 'Where a list over several lines ends with a comma'
+complete -c jslint-files -n '__fish_seen_subcommand_from format' -l bare-arrows -d 'No parentheses round one plain parameter'
+complete -c jslint-files -n '__fish_seen_subcommand_from format' -l fewest -d 'With the fewest parentheses'
 complete -c jslint-files -l edition -x -a '2020 2022' -d 'The language of scripts'
 complete -c jslint-files -l module -d 'Modules of ECMAScript 2022'
 complete -c jslint-files -l project -d 'Folders, the nearest jslint.toml, ignore files'

@@ -1,6 +1,6 @@
 // The server as editors meet it: started as a process, over its streams.
 import assert from 'node:assert/strict';
-import { mkdirSync, mkdtempSync, readFileSync, rmSync, writeFileSync } from 'node:fs';
+import { chmodSync, mkdirSync, mkdtempSync, readFileSync, rmSync, writeFileSync } from 'node:fs';
 import { tmpdir } from 'node:os';
 import path from 'node:path';
 import { pathToFileURL } from 'node:url';
@@ -180,6 +180,61 @@ test('formatting: unwrap in small edits, a stretch, and the layout where nothing
   }, { more: { initializationOptions: { format: 'layout' } } });
 });
 
+test('formatting in lines: the whole text, a stretch, and with the words of a program', async () => {
+  const text = 'f( (a),b ) // c\nif(a){\n    b\n}\n', ask = (client, name, options) => client.request('textDocument/formatting', { ...at(uriOf(name)), options });
+  await withClient(async (client) => {
+    await client.open(uriOf('lines.js'), text);
+    const all = await ask(client, 'lines.js', { tabSize: 4, insertSpaces: true });
+    assert.equal(edited(text, all), 'f((a), b); // c\nif (a) {\n  b;\n}\n');
+    assert.ok(all.length > 4 && all.every((it) => it.newText.length < 3), JSON.stringify(all));
+    const some = await client.request('textDocument/rangeFormatting', { ...at(uriOf('lines.js')), range: range(1, 0, 4, 0), options: { tabSize: 2, insertSpaces: true } });
+    assert.equal(edited(text, some), 'f( (a),b ) // c\nif (a) {\n  b;\n}\n');
+    await client.open(uriOf('lines.js'), edited(text, all));
+    assert.deepEqual(await ask(client, 'lines.js', {}), []);
+    await client.open(uriOf('lines.js'), 'a b');
+    assert.equal(await ask(client, 'lines.js', {}), null);
+    await client.open(uriOf('lines.mjs'), 'export{a};let a\r\n');
+    assert.equal(edited('export{a};let a\r\n', await ask(client, 'lines.mjs', {})), 'export { a };\r\nlet a;\r\n');
+  }, { more: { initializationOptions: { format: 'lines' } } });
+  // (a program that answers its words)
+  put('words', '#!/bin/sh\ncat >/dev/null\necho "\'$*\';"\n');
+  put('refuses', '#!/bin/sh\necho "jslint: syntax error at 1:1" >&2\nexit 2\n');
+  put('fails', '#!/bin/sh\necho "error: no such word" >&2\nexit 2\n');
+  for (const it of ['words', 'refuses', 'fails']) chmodSync(path.join(folder, it), 0o755);
+  const by = (program, formatWords = []) => ({ more: { initializationOptions: { format: 'lines', program: path.join(folder, program), formatWords } } });
+  await withClient(async (client) => {
+    const words = async (options) => edited('a', await ask(client, 'words.js', options)).slice(1, -3);
+    await client.open(uriOf('words.js'), 'a');
+    assert.equal(await words({ tabSize: 4, insertSpaces: true }), 'format --indent=4 --edition 2020 -- -');
+    assert.equal(await words({ tabSize: 2, insertSpaces: false }), 'format --tabs --edition 2020 -- -');
+    assert.equal(await words({ tabSize: 8, insertSpaces: false }), 'format --indent=8 --tabs --edition 2020 -- -');
+    for (const none of [{ tabSize: 2, insertSpaces: true }, {}, { tabSize: 9 }, { tabSize: 'x' }]) assert.equal(edited('a', await ask(client, 'words.js', none)), 'a;\n');
+  }, by('words'));
+  await withClient(async (client) => {
+    await client.open(uriOf('words.js'), 'a');
+    assert.equal(edited('a', await ask(client, 'words.js', { tabSize: 4 })), "'format --width=100 --tabs --edition 2020 -- -';\n");
+  }, by('words', ['--width=100', '--tabs']));
+  await withClient(async (client) => {
+    await client.open(uriOf('words.js'), 'a');
+    assert.equal(await ask(client, 'words.js', { tabSize: 4 }), null);
+  }, by('refuses'));
+  for (const [program, said] of [['fails', /error: no such word/], ['none', /ENOENT/]]) {
+    await withClient(async (client) => {
+      await client.open(uriOf('words.js'), 'a');
+      await assert.rejects(ask(client, 'words.js', { tabSize: 4 }), said);
+    }, by(program));
+  }
+  await withClient(async (client) => {
+    await client.open(uriOf('words.js'), 'a');
+    await assert.rejects(ask(client, 'words.js', {}), /needs the setting program/);
+    // (what is no word of a layout is left out)
+  }, { more: { initializationOptions: { format: 'lines', program: 'jslint', formatWords: ['--width=100'] } } });
+  await withClient(async (client) => {
+    await client.open(uriOf('words.js'), 'a');
+    assert.equal(edited('a', await ask(client, 'words.js', {})), 'a;\n');
+  }, { more: { initializationOptions: { format: 'lines', formatWords: ['--check'] } } });
+});
+
 test('CR LF stays, in each edit', () => withClient(async (client) => {
   const text = 'x = (\r\n  // (c)\r\n  (a) + b\r\n);\r\nlet y = (1);\r\n';
   await client.open(uriOf('crlf.js'), text);
@@ -261,6 +316,24 @@ test('languages: a module by its name, by package.json, by the settings or by it
     await client.open(uriOf('languages/c.js'), '#!a\nif ((a)) b');
     assert.equal(edited('#!a\nif ((a)) b', await formatted(client, 'languages/c.js')), '#!a\nif (a) b');
   }, { more: { initializationOptions: { format: 'layout' } } });
+});
+
+test('a report of a rule that only warns is a warning at most, and its message has no mark', async () => {
+  put('warn/jslint.toml', 'rules = { no-var = "warn", no-debugger = 1, no-undef = { severity = "\\u0077arn" } }\n');
+  const text = 'var a = (1);\ndebugger;\nb;\n';
+  const wanted = (asked, atMost) => [[atMost, 'no-var', 'use let or const instead of var'], [asked, 'no-unused-vars', "'a' is never read"], [asked, 'no-extra-parens', 'unnecessary parentheses'],
+    [atMost, 'no-debugger', 'debugger statement'], [atMost, 'no-undef', "'b' is not defined"]];
+  for (const [severity, asked, atMost] of [['error', 1, 2], ['warning', 2, 2], ['information', 3, 3], ['hint', 4, 4]]) {
+    await withClient(async (client) => {
+      const found = await client.open(uriOf('warn/a.js'), text);
+      assert.deepEqual(found.map((it) => [it.severity, it.code, it.message]), wanted(asked, atMost));
+      assert.deepEqual((await client.open(uriOf('unwarned.js'), 'debugger;')).map((it) => it.severity), [asked]);
+      // (between refused states they stay what they were)
+      const stale = client.diagnostics(uriOf('warn/a.js'));
+      client.change(uriOf('warn/a.js'), 2, { range: range(2, 1, 2, 2), text: ' c' });
+      assert.deepEqual((await stale).filter((it) => it.data?.isStale).map((it) => [it.severity, it.code]), wanted(asked, atMost).map((it) => it.slice(0, 2)));
+    }, { more: { initializationOptions: { severity } } });
+  }
 });
 
 test('settings on the disk that are refused, and mended', async () => {

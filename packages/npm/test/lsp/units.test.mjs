@@ -5,12 +5,12 @@ import { mkdirSync, mkdtempSync, readFileSync, rmSync, symlinkSync, writeFileSyn
 import { tmpdir } from 'node:os';
 import path from 'node:path';
 import { test } from 'node:test';
-import { Refused, check, fix, indexOf, spans, tree, unwrap } from '../../jslint.mjs';
+import { Refused, check, fix, format, indexOf, same, spans, tree, unwrap } from '../../jslint.mjs';
 import { Beside } from '../../lib/beside.mjs';
 import { isCast, losesCast } from '../../lib/casts.mjs';
 import { Judge } from '../../lib/changes.mjs';
 import { Document, ENCODINGS } from '../../lib/document.mjs';
-import { applied, editsBetween } from '../../lib/edits.mjs';
+import { applied, editsBetween, layoutEditsBetween } from '../../lib/edits.mjs';
 import { Engine } from '../../lib/engine.mjs';
 import { Frames, framed } from '../../lib/frames.mjs';
 import { earlyHint, syntaxHint } from '../../lib/hints.mjs';
@@ -21,7 +21,7 @@ import { withoutSuppressed } from '../../lib/suppressions.mjs';
 
 const answered = (call) => { try { return call(); } catch (error) { if (error instanceof Refused) return null; throw error; } };
 const judge = (text) => new Judge({ fix, spans, tree, unwrap }, answered, text);
-const jobs = new Jobs({ check, fix, spans, tree, unwrap });
+const jobs = new Jobs({ check, fix, format, spans, tree, unwrap });
 
 let seed = Number(process.env.SEED ?? 20261128);
 const random = (most) => { seed = (seed * 1103515245 + 12345) % 2147483648; return seed % most; };
@@ -129,12 +129,55 @@ test('ignore files: in a folder, in those above it, and in .git', () => {
   }
 });
 
+test('edits of a layout: blanks alone, or few characters more; always exactly the other text', () => {
+  const told = (a, b) => layoutEditsBetween(a, b).map((it) => [it.start, it.end, it.text]);
+  assert.deepEqual(told('f(a,b)\n', 'f(a, b);\n'), [[4, 4, ' '], [6, 6, ';']]);
+  assert.deepEqual(told('if(a){\n    b\n}\n', 'if (a) {\n  b;\n}\n'), [[2, 2, ' '], [5, 5, ' '], [9, 11, ''], [12, 12, ';']]);
+  assert.deepEqual(told('f(\r\n  a,\r\n)\r\n', 'f(a)\r\n'), [[2, 6, ''], [7, 10, '']]);
+  assert.deepEqual(told('\u{1f600}  \u{1f601}', '\u{1f600} \u{1f601}'), [[3, 4, '']]);
+  assert.deepEqual([told('', ''), told('a', 'a'), told('', 'a'), told('a', ''), told(' ', '')], [[], [], [[0, 0, 'a']], [[0, 1, '']], [[0, 1, '']]]);
+  for (let round = 0; round < 3000; round++) {
+    const parts = Array.from({ length: random(30) }, () => ['a', 'bc', ';', ',', '(', ')', '{', '}', '=>', '/* c */', '😀', 'é', 'x = 1', '`\n`'][random(14)]);
+    const spread = () => parts.map((it) => (random(12) === 0 && it.length === 1 ? '' : it) + [' ', '\n', '\r\n', '', '', '  \u2028', '\ufeff'][random(7)]).join('');
+    const a = round % 3 ? spread() : some(12), b = round % 3 ? spread() : some(12), edits = layoutEditsBetween(a, b);
+    assert.equal(applied(a, edits), b, JSON.stringify([a, b, edits]));
+    assert.ok(edits.every((it) => a.slice(it.start, it.end) !== it.text));
+  }
+  // (a large text takes no long time, and one changed line one edit)
+  const large = 'f(a, b);\n'.repeat(100000), begun = process.cpuUsage();
+  assert.deepEqual(told(large, `${large.slice(0, 450000)}f( a, b);\n${large.slice(450009)}`), [[450002, 450002, ' ']]);
+  assert.ok(process.cpuUsage(begun).user < 5e6);
+});
+
+test('jobs: formatting, whole or a stretch', () => {
+  const job = (text, more = {}) => jobs.format({ text, settings: '', kind: null, words: [], program: null, ...more });
+  const done = (text, more) => applied(text, job(text, more).edits);
+  const text = 'f( (a),b ) // c\nif(a){\n    b\n}\n';
+  assert.equal(done(text), 'f((a), b); // c\nif (a) {\n  b;\n}\n');
+  assert.equal(done(text, { stretch: { start: 16, end: text.length } }), 'f( (a),b ) // c\nif (a) {\n  b;\n}\n');
+  assert.equal(done(text, { stretch: { start: 0, end: 15 } }), 'f((a), b); // c\nif(a){\n    b\n}\n');
+  assert.equal(done(text, { stretch: { start: 3, end: 3 } }), text);
+  assert.equal(done('a\r\n;b = `\r\n`\r\n/*\r\na */'), 'a;\r\nb = `\r\n`;\r\n/*\r\na */\r\n');
+  assert.equal(done('export   let a=1'), 'export let a = 1;\n');
+  assert.deepEqual([done(''), done('a;\n'), job('a b').refusal.code, job('"a\ud800"').refusal.code], ['', 'a;\n', 'syntax', 'utf8']);
+  // (each stretch of a text: the tree stays, and the rest is formatted to the same)
+  const made = 'let  x = {a:1,\nb : [1,2 ,3]};// d\nfor(;;){ if(x)\nbreak\nelse { f( ( x ) ) }}\n', whole = done(made);
+  for (let start = 0; start <= made.length; start += 3) {
+    for (let end = start; end <= made.length; end += 5) {
+      const it = done(made, { stretch: { start, end } });
+      assert.ok(it.startsWith(made.slice(0, start)) && it.endsWith(made.slice(end)) && same(it, made) && format(it) === whole, JSON.stringify([start, end, it]));
+    }
+  }
+  assert.equal(done('x = /** @type {T} */ (a)  ;'), 'x = /** @type {T} */ (a);\n');
+});
+
 test('settings: what is put in is read', () => {
   const texts = ['', 'allow-null = true\n', 'globals = ["a"]\n', 'globals = [\n  "a",\n  "b",\n]\n[rules]\nno-var = true\n', 'rules = { no-var = true }\n', 'rules.no-empty = false\n', '[rules]\nno-empty = false\n', 'globals = []'];
   for (const text of texts) {
     assert.deepEqual(check('zz;', { settings: settingsWith(text, { rule: 'no-undef', name: 'zz' }) }).map((it) => it.rule), [], text);
     assert.deepEqual(check('var $ = 1; $;', { settings: settingsWith(text, { rule: 'no-var', name: null }) }).map((it) => it.rule), [], text);
   }
+  for (const it of ['"warn"', "'error'", '1', '2', 'true']) assert.equal(settingsWith(`[rules]\nno-var = ${it} # c\n`, { rule: 'no-var', name: null }), '[rules]\nno-var = false # c\n');
 });
 
 const rows = JSON.parse(readFileSync(new URL('hints.rows.json', import.meta.url), 'utf8'));

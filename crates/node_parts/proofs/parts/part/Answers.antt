@@ -1,8 +1,7 @@
-use Rattle.std.proofs.Common.{◌<◌, ◌≤◌, ◌∙◌, ap, arith}
-use Rattle.tree.specs.Node.{node_tree, list_parts}
-use Rattle.tree.specs.Tree.{node_total, parts_total, parts_of, parts_drop}
-use Rattle.tree.proofs.PartWalk.{part_smaller, parts_total-at}
-use Rattle.node_parts.proofs.SmallerFields.{parts_smaller, drop_smaller}
+use Rattle.std.proofs.Common.{◌<◌}
+use Rattle.tree.specs.Node.{node_tree}
+use Rattle.tree.specs.Tree.{node_total}
+use Rattle.tree.proofs.PartWalk.{part_smaller}
 use Rattle.node_parts.proofs.SmallerViews.{if_seen}
 use Rattle.node_parts.proofs.parts.part.Goals as goal
 
