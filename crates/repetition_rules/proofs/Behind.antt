@@ -3,6 +3,7 @@ use Rattle.std.proofs.Common.{◌≡◌, ℕ, suc, ◌+◌, ◌<◌, ◌≤◌, 
 use Rattle.std.specs.Prelude.{◌&&◌, ◌||◌}
 use Rattle.std.specs.Str.{bytes_eq}
 use Rattle.std.proofs.Math.Seq.{drop-cons}
+use Rattle.name_tables.specs.Sets.{contains}
 use Rattle.std.proofs.lemmas.List.{drop_all}
 use Rattle.rule_words.specs.Reports.{Report}
 use Rattle.repetition_rules.specs.declared.again.Seen.{Seen}
@@ -21,16 +22,16 @@ holds-more old new e before h i w = (
 -- what the sets say is what those before say
 seen-is : (seen : Seen) (before : List Entry) (e : Entry) → Holds seen before → is_seen seen e ≡ is_again before e
 seen-is seen before e h =
-    ap (λ b. (e.is_read && b) || (e.is_written && _)) (h e.label).0 ∙ ap (λ b. (e.is_read && reads_among before e.label) || (e.is_written && b)) (h e.label).1
+    ap (λ b. (e.is_read && b) || (e.is_written && contains seen.written e.label)) (h e.label).0 ∙ ap (λ b. (e.is_read && reads_among before e.label) || (e.is_written && b)) (h e.label).1
 
 module _ (rule : RepetitionRule) (before es : List Entry) (i : ℕ) (acc total : List Report) (so : acc ++ reported rule before (drop i es) ≡ total) where
   -- a turn
-  pub again-turn : (seen : Seen) (d : Entry) (new : List Report) → i < length es → Holds seen before → new ≡ acc ++ report_if (is_seen seen (get_or es i d)) rule (get_or es i d) →
-      new ++ reported rule (get_or es i d ∷ before) (drop (i + 1) es) ≡ total
-  again-turn seen d new l h n =
-      let e : Entry = get_or es i d in
+  pub again-turn : (seen : Seen) (e : Entry) (new : List Report) → i < length es → e ≡ get_or es i e → Holds seen before → new ≡ acc ++ report_if (is_seen seen e) rule e →
+      new ++ reported rule (e ∷ before) (drop (i + 1) es) ≡ total
+  again-turn seen e new l is h n =
+      let at : drop i es ≡ e ∷ drop (suc i) es = drop-cons es i e l ∙ ap (λ x. x ∷ drop (suc i) es) (sym is) in
       rw (add-one i) (ap (λ a. a ++ reported rule (e ∷ before) (drop (suc i) es)) (n ∙ ap (λ b. acc ++ report_if b rule e) (seen-is seen before e h))
-      ∙ append_assoc acc (report_if (is_again before e) rule e) (reported rule (e ∷ before) (drop (suc i) es)) ∙ ap (λ ys. acc ++ reported rule before ys) (sym (drop-cons es i d l)) ∙ so)
+      ∙ append_assoc acc (report_if (is_again before e) rule e) (reported rule (e ∷ before) (drop (suc i) es)) ∙ ap (λ ys. acc ++ reported rule before ys) (sym at) ∙ so)
 
   pub again-end : length es ≤ i → acc ≡ total
   again-end l = sym (append-nil acc) ∙ ap (λ ys. acc ++ reported rule before ys) (sym (drop_all i es l)) ∙ so

@@ -34,7 +34,7 @@ each-nothing [] = refl
 each-nothing (x ∷ xs) = each-nothing xs
 
 -- two lists of rules, one behind the other
-both : (rs qs : List RepetitionRule) (ts : List Tree) → IsPermutation (over_nodes rs ts ++ over_nodes qs ts) (over_nodes (rs ++ qs) ts)
+pub both : (rs qs : List RepetitionRule) (ts : List Tree) → IsPermutation (over_nodes rs ts ++ over_nodes qs ts) (over_nodes (rs ++ qs) ts)
 both rs qs ts =
     subst (IsPermutation (over_nodes rs ts ++ over_nodes qs ts)) (λ i. each (λ t. sym (each-append (λ r. of_node r t) rs qs) i) ts)
     (each-both (λ t. each (λ r. of_node r t) rs) (λ t. each (λ r. of_node r t) qs) ts)

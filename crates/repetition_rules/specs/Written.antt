@@ -1,5 +1,5 @@
 -- What is written down of a tree, places aside: of each node its kind, its flags, its text behind its length, and its parts. Two tests are the same where it is.
-use Rattle.std.specs.Prelude.{ℕ, Bool, true, false, ◌||◌, length, List, [], ◌++◌, codes}
+use Rattle.std.specs.Prelude.{ℕ, Bool, true, false, ◌||◌, length, List, [], ◌++◌, Option, Some, None, codes}
 use Rattle.std.specs.Fmt.{decimal}
 use Rattle.tree.specs.declared.kind.Kind.{Kind}
 use Rattle.tree.specs.declared.kind.Kind.TheVariants.{ArrowFunctionExpression, ClassDeclaration, ClassExpression, FunctionDeclaration, FunctionExpression}
@@ -58,3 +58,8 @@ unfoldable mutual
   written_parts none = []
   written_parts (part tree rest) = written tree ++ written_parts rest
   written_parts (gap rest) = codes "," ++ written_parts rest
+
+-- of a part, which may be a gap
+abbrev pub written_part : Option Tree → List ℕ
+written_part None = codes ","
+written_part (Some tree) = written tree

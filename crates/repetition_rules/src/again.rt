@@ -95,11 +95,7 @@ fn is_again<'t>(entry: &'t Entry, seen: &mut Seen<'t>) -> Result<bool, AllocErro
 }
 
 /// Puts a label into a set, where it belongs there; answers whether it was in it.
-fn put_in<'t>(
-    belongs: bool,
-    label: &'t str,
-    labels: &mut NameSet<'t>,
-) -> Result<bool, AllocError>
+fn put_in<'t>(belongs: bool, label: &'t str, labels: &mut NameSet<'t>) -> Result<bool, AllocError>
     ensures was { IfOk result (λ b. b ≡ (belongs && contains labels.old label.now)) }
     ensures after { OnOk result ((w : List ℕ) → contains labels.new w ≡ ((belongs && bytes_eq w label.now) || contains labels.old w)) }
 {

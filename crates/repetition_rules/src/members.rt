@@ -50,11 +50,7 @@ fn sets_prototype(flags: Flags, label: &str) -> bool
 }
 
 /// Appends a member of a class, but for its constructor.
-pub(crate) fn push_member(
-    alloc: Global,
-    part: Node,
-    out: &mut Vec<Entry>,
-) -> Result<(), AllocError>
+pub(crate) fn push_member(alloc: Global, part: Node, out: &mut Vec<Entry>) -> Result<(), AllocError>
     ensures { OnOk result (out.new.items ≡ out.old.items ++ member (node_tree part.entry)) }
 {
     let flags = part.flags();
@@ -73,12 +69,7 @@ fn push_keyed(label: Option<String>, part: Node, out: &mut Vec<Entry>) -> Result
         return Ok(());
     };
     let form = part.flags().form;
-    out.push(Entry::new(
-        label,
-        !is_setter(form),
-        !is_getter(form),
-        part.span(),
-    ))?;
+    out.push(Entry::new(label, !is_setter(form), !is_getter(form), part.span()))?;
     Ok(())
 }
 

@@ -1,9 +1,9 @@
 //! What is written down of the tree of a test: two tests are the same where that is the same.
 
-ghost use Rattle.std.specs.Prelude.{◌≡◌, ◌++◌, string_bytes, IfOk, OnOk};
+ghost use Rattle.std.specs.Prelude.{◌≡◌, ◌++◌, option_map, string_bytes, IfOk, OnOk};
 ghost use Rattle.tree.specs.Node.{node_tree};
 ghost use Rattle.tree.specs.Tree.{flags_of, kind_of, text_of};
-ghost use Rattle.repetition_rules.specs.Written.{flag_text, form_name, has_code, head, holds_code, sign, written};
+ghost use Rattle.repetition_rules.specs.Written.{flag_text, form_name, has_code, head, holds_code, sign, written, written_part};
 
 use itoa::Buffer;
 use std::alloc::{AllocError, Global};
@@ -51,18 +51,34 @@ pub(crate) fn written(alloc: Global, node: Node) -> Result<String, AllocError>
 }
 
 /// Appends what is written down of a node and of all nodes below it.
+#[cycle(writing)]
 #[tactic(auto, using(tree::proofs::PartWalk::part_steps))]
 fn push_written(node: Node, out: &mut String) -> Result<(), AllocError>
     ensures { OnOk result (string_bytes out.new ≡ string_bytes out.old ++ written (node_tree node.entry)) }
 {
     push_head(node, out)?;
     for index in 0..node.part_count() {
-        match node.part(index) {
-            Some(part) => push_written(part, out)?,
-            None => out.push_str(",")?,
-        }
+        push_part(node.part(index), out)?;
     }
-    out.push_str(")")
+    push_text(")", out)
+}
+
+/// The same of a part; of a gap a comma.
+#[cycle(writing)]
+fn push_part(part: Option<Node>, out: &mut String) -> Result<(), AllocError>
+    ensures { OnOk result (string_bytes out.new ≡ string_bytes out.old ++ written_part (option_map node_tree part.entry)) }
+{
+    match part {
+        Some(part) => push_written(part, out),
+        None => push_text(",", out),
+    }
+}
+
+/// Appends a text.
+fn push_text(text: &str, out: &mut String) -> Result<(), AllocError>
+    ensures { OnOk result (string_bytes out.new ≡ string_bytes out.old ++ text.now) }
+{
+    out.push_str(text)
 }
 
 /// Appends what is written down of a node alone.
