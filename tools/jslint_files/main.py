@@ -3,8 +3,8 @@
        jslint-files fix --write|--diff [--edition 2020|2022] [--module] [--drop-comments] [--hints] [--unsupported error|note] [--project] [--no-ignore] [--allow-none]
                     [--stdin NAME] [--summary] [--jobs N] [--files-from FILE] [--] [FILE ..]
        jslint-files unwrap --write|--diff [--drop-casts] [the same, but for --drop-comments] [--] [FILE ..]
-       jslint-files format --write|--diff|--check [--width N] [--indent N] [--tabs] [--commas none|lists|all] [--bare-arrows] [--fewest [--drop-casts]]
-                    [the same, but for --drop-comments] [--] [FILE ..]
+       jslint-files format --write|--diff|--check [--width N] [--indent N] [--tabs] [--commas none|lists|all] [--bare-arrows] [--fewest] [--drop-casts]
+                    [--settings FILE] [the same, but for --drop-comments] [--] [FILE ..]
        jslint-files --explain RULE|E1..E37
        jslint-files --print-config FILE | --init
        jslint-files --help|--version
@@ -18,8 +18,8 @@ What `jslint check` finds in several scripts, each report with its file's name, 
   --files-from FILE   the names that FILE has, each ended by a line feed, or by a zero byte if there is any; - is standard input
   --project           FILE may be a folder, the current one where none is named: its *.js, *.mjs and *.cjs, without links, node_modules and .git. What
                       .jslintignore, .gitignore, .git/info/exclude and git's core.excludesFile name is left alone, and what lies in node_modules, however it was
-                      named. Without --settings, each script is checked with the nearest jslint.toml above it. All these files are looked for up to the folder
-                      that has .git
+                      named. Without --settings, each script is checked or formatted with the nearest jslint.toml above it. All these files are looked for up to
+                      the folder that has .git
   --no-ignore         looks at what is named and ignored all the same
   --allow-none        the status is 0 also where there was nothing to look at, and nothing is said
   --edition, --module the language of each script (jslint); with --edition 2022 modules are read too. Without --project a script named *.mjs is a module, and
@@ -27,7 +27,7 @@ What `jslint check` finds in several scripts, each report with its file's name, 
                       "type": "module"; each other script is tried as one of the base profile, of 2022, and as a module, but *.cjs and those with
                       "type": "commonjs" not as modules. Settings and words may leave fewer
   --stdin NAME        the script on standard input, as if it were the file NAME. Rewritten, it goes to standard output, or --diff shows how it differs
-  --settings FILE     for each script (jslint check --settings)
+  --settings FILE     for each script (jslint check --settings); of `format` its table `format`, and the language
   --rule NAME=WHAT    the rule is off, warn or error (0, 1, 2), whatever the settings say; may stand several times
   --only NAME         the rule is on, and no other one is but those that further words --only name
   --format unix       FILE:LINE:COLUMN: RULE TEXT, as GNU's compilers do (this is what is printed without --format)
@@ -51,9 +51,9 @@ What `jslint check` finds in several scripts, each report with its file's name, 
   --diff              prints how the rewritten texts differ, as `diff -u` does, and writes no script
   --check             prints the name of each script that isn't formatted, a line each, and writes no script
   --width, --indent, --tabs, --commas, --bare-arrows, --fewest
-                      which lines `format` makes (jslint format)
+                      which lines `format` makes (jslint format), whatever the table `format` of the settings says: its keys have the names of these words
   --drop-comments     `fix --write` also where comments are lost
-  --drop-casts        `unwrap`, or `format --fewest`, also of a script that would lose the pair of a cast, `/** @type {T} */ (a)`, which it leaves as it is
+  --drop-casts        `unwrap`, or `format` with the fewest pairs, also of a script that would lose the pair of a cast, `/** @type {T} */ (a)`, which it leaves as it is
   --jobs N            N scripts side by side; without it, as many as there are processors
   --version           the program's version
 

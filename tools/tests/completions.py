@@ -15,7 +15,7 @@ COMMANDS = {'check', 'cost', 'fix', 'format', 'help', 'same', 'tree', 'unwrap', 
 LANGUAGE = {'--edition', '--module'}
 SHARED = {*LANGUAGE, '--jobs', '--files-from', '--help', '--version', '--project', '--no-ignore', '--allow-none', '--stdin', '--hints', '--unsupported', '--summary'}
 REWRITING = {'--write', '--diff'} | SHARED
-FORMATTING = {'--check', '--width', '--indent', '--tabs', '--commas', '--bare-arrows', '--fewest', '--drop-casts'}
+FORMATTING = {'--check', '--width', '--indent', '--tabs', '--commas', '--bare-arrows', '--fewest', '--drop-casts', '--settings'}
 CHECKING = {'--settings', '--format', '--color', '--ends', '--suppressions', '--max-warnings', '--explain', '--rule', '--only', '--print-config', '--init'} | SHARED
 SCRIPTS = {'a.js', 'two words.js'}
 # Words of a command line, the last one unfinished; what is offered for it; and what mustn't be.
@@ -29,10 +29,10 @@ ASKED = [
     ('jslint same --edition ', {'2020', '2022'}, SCRIPTS), ('jslint-files --edition ', {'2020', '2022'}, SCRIPTS), ('jslint help -', set(), LANGUAGE),
     ('jslint-files ', {'check', 'fix', 'unwrap', 'format'} | SCRIPTS, {'tree'}), ('jslint-files -', CHECKING, {'--write'}),
     ('jslint-files check -', CHECKING, {'--write'}), ('jslint-files fix -', REWRITING | {'--drop-comments'}, {'--settings', '--format', '--drop-casts'}),
-    ('jslint-files unwrap -', REWRITING | {'--drop-casts'}, {'--drop-comments', '--format', '--check', '--width'}), ('jslint-files format -', REWRITING | FORMATTING, {'--drop-comments', '--settings'}),
+    ('jslint-files unwrap -', REWRITING | {'--drop-casts'}, {'--drop-comments', '--format', '--check', '--width'}), ('jslint-files format -', REWRITING | FORMATTING, {'--drop-comments', '--format'}),
     ('jslint-files format --commas ', {'none', 'lists', 'all'}, SCRIPTS), ('jslint-files format ', SCRIPTS, {'fix'}), ('jslint-files unwrap ', SCRIPTS, {'fix'}),
     ('jslint-files --format ', {'unix', 'pretty', 'json', 'sarif', 'junit', 'github'}, SCRIPTS), ('jslint-files --unsupported ', {'error', 'note'}, SCRIPTS),
-    ('jslint-files --color ', {'auto', 'always', 'never'}, SCRIPTS), ('jslint-files --explain ', {'no-var', 'prefer-const'}, SCRIPTS), ('jslint-files --settings ', {'s.toml'}, {'check'}),
+    ('jslint-files --color ', {'auto', 'always', 'never'}, SCRIPTS), ('jslint-files --explain ', {'no-var', 'prefer-const'}, SCRIPTS), ('jslint-files --settings ', {'s.toml'}, {'check'}), ('jslint-files format --settings ', {'s.toml'}, {'check'}),
 ]
 SHARE = '../share'
 

@@ -67,7 +67,7 @@ def words(room):
         ('format a.js', 'format wants --write, --diff or --check'), ('format --write --check a.js', 'format wants --write, --diff or --check, and not several'), ('format --write --diff --check a.js', 'format wants --write, --diff or --check, and not several'),
         ('format --stdin a.js --write', '--stdin writes to standard output: --write is for files'), ('format --stdin a.js --diff --check', 'format wants --write, --diff or --check, and not several'),
         ('format --drop-comments --write a.js', '--drop-comments is for fix: format keeps them'), ('format --drop-casts --write a.js', '--drop-casts is for unwrap, and for format with --fewest'),
-        ('format --settings s.toml --write a.js', '--settings is for check'), ('format --format json --write a.js', '--format is for check'), ('fix --check a.js', '--check is for format'), ('unwrap --write --fewest a.js', '--fewest is for format'),
+        ('fix --settings s.toml --write a.js', '--settings is for check and format'), ('unwrap --diff --settings=s.toml a.js', '--settings is for check and format'), ('format --format json --write a.js', '--format is for check'), ('fix --check a.js', '--check is for format'), ('unwrap --write --fewest a.js', '--fewest is for format'),
         ('--width 100 a.js', '--width is for format'), ('check --tabs a.js', '--tabs is for format'), ('format --check --width 39 a.js', '--width takes a number from 40 to 200'), ('format --check --width 201 a.js', '--width takes a number from 40 to 200'),
         ('format --check --width=080 a.js', '--width takes a number from 40 to 200'), ('format --check --width x a.js', '--width takes a number from 40 to 200'), ('format --check --indent 0 a.js', '--indent takes a number from 1 to 8'),
         ('format --check --indent 9 a.js', '--indent takes a number from 1 to 8'), ('format --check --indent=\u0662 a.js', '--indent takes a number from 1 to 8'), ('format --check --commas some a.js', '--commas is none, lists or all'),
@@ -291,13 +291,137 @@ def projects(room):
     same(files(room, 'format', '--project', '--stdin', 'vendor/v.js', '--check', given=RAW.encode())[:2], (2, ''))
 
 
+# A script that each choice changes, in two folders.
+WIDE = 'f((a)=>b,{a:1,b:[1,2,3]},"a long text that takes some room",(c),function(){return `${d}`})\ng=["a text of some columns","another text",["one"],"and one more that is long"]\nh("a text of some columns","and one of some more columns than that")\n'
+FLAGS = ('--tabs', '--bare-arrows', '--fewest')
+
+
+def in_project(room, **texts):
+    """A repository with the script in two folders and these files of settings."""
+    os.makedirs(room.path('.git'))
+    for name, text in {'a.js': WIDE, 'sub/b.js': WIDE, **{f'{key}.toml'.replace('__', '/'): it for key, it in texts.items()}}.items():
+        room.put(name, text)
+
+
+def by_settings(room):
+    """Each key of the table is the program's word, alone and with others; words go over it; `check` doesn't see it, and the program refuses it."""
+    in_project(room)
+    rows = [({'width': 100}, ['--width', '100']), ({'width': 40, 'indent': 4}, ['--width=40', '--indent=4']), ({'tabs': True}, ['--tabs']), ({'commas': 'none'}, ['--commas', 'none']), ({'commas': 'lists'}, ['--commas', 'lists']),
+            ({'bare-arrows': True}, ['--bare-arrows']), ({'fewest': True}, ['--fewest']), ({'width': 80, 'indent': 2, 'tabs': False, 'commas': 'all', 'bare-arrows': False, 'fewest': False}, []), ({}, []),
+            ({'width': 120, 'indent': 3, 'tabs': True, 'commas': 'none', 'bare-arrows': True, 'fewest': True}, ['--width', '120', '--indent', '3', '--tabs', '--commas', 'none', '--bare-arrows', '--fewest'])]
+    found = set()
+    for table, words in rows:
+        room.put('jslint.toml', table_of(table))
+        wanted = format_of(room, WIDE, *words)
+        for how in (['--project'], ['--settings', 'jslint.toml'], ['--project', '--settings=jslint.toml']):
+            same(files(room, 'format', *how, '--stdin', 'a.js', given=WIDE.encode()), (0, wanted, ''), f'{table} {how}')
+        same(files(room, 'format', '--stdin', 'a.js', given=WIDE.encode()), (0, format_of(room, WIDE), ''), table)
+        found.add(wanted)
+        over = ['--width=60', '--commas=lists', '--indent', '1']
+        same(files(room, 'format', '--project', *over, '--stdin', 'a.js', given=WIDE.encode()), (0, format_of(room, WIDE, *(it for it in words if it in FLAGS), *over), ''), table)
+        same(files(room, '--project', '--only', 'no-var', 'a.js'), (0, '', ''), table)
+        same(room.run(['jslint', 'check', '--settings', 'jslint.toml', 'a.js']), (2, '', 'jslint: bad settings\n'), table)
+    is_well(len(found) == len(rows) - 1, len(found))
+    # (what holds without settings goes over them too)
+    room.put('jslint.toml', table_of({'width': 120, 'commas': 'none', 'indent': 8}))
+    same(files(room, 'format', '--project', '--width', '80', '--commas', 'all', '--indent', '2', '--stdin', 'a.js', given=WIDE.encode()), (0, format_of(room, WIDE), ''))
+
+
+def table_of(choices):
+    return '[format]\n' + ''.join(f'{key} = {str(it).lower() if isinstance(it, bool) else repr(it)}\n' for key, it in choices.items())
+
+
+def by_folders(room):
+    """The nearest settings count, and in them what overrides say of a script, key by key; each way does by that; one that needs no word of the program has none."""
+    in_project(room, jslint='extends = "none"\n\n[format]\nwidth = 60\nindent = 4\n\n[[overrides]]\nfiles = ["x*.js"]\nformat = { indent = 2, width = 80 }\n\n[[overrides]]\nfiles = ["xy.js", "sub/"]\n\n[overrides.format]\ntabs = true\n',
+               own__jslint='rules.no-var = "off"\n')
+    for name in ('x.js', 'xy.js', 'own/c.js'):
+        room.put(name, WIDE)
+    words = {'a.js': ['--width=60', '--indent=4'], 'sub/b.js': ['--width=60', '--indent=4', '--tabs'], 'x.js': [], 'xy.js': ['--tabs'], 'own/c.js': []}
+    room.put('kept', WIDE)
+    wanted = {name: room.run(['jslint', 'format', *it, '--', 'kept'], status=0)[1] for name, it in words.items()}
+    same(len({*wanted.values()}), 4)
+    how = program(room, 'printf "%s " "$@" >>asked; echo >>asked; exec "$JSLINT_REAL" "$@"')
+    same(files(room, 'format', '--check', '--project', **how), (1, ''.join(f'{it}\n' for it in sorted(words)), ''))
+    asked = {it for it in room.text('asked').splitlines() if it.startswith('format ')}
+    same(asked, {f'format {it}--edition 2020 -- /dev/stdin ' for it in ('', '--tabs ', '--width 60 --indent 4 ', '--width 60 --indent 4 --tabs ')})
+    same(files(room, 'format', '--write', '--project'), (0, '', ''))
+    same({it: room.text(it) for it in words}, wanted)
+    same([files(room, 'format', it, '--project') for it in ('--check', '--diff')], [(0, '', '')] * 2)
+    for name in words:
+        same(files(room, 'format', '--project', '--stdin', name, given=WIDE.encode()), (0, wanted[name], ''), name)
+    # (`--settings` holds wherever a script is, and its patterns are looked for from its folder on)
+    same(files(room, 'format', '--settings', 'jslint.toml', '--stdin', 'sub/b.js', given=WIDE.encode()), (0, wanted['sub/b.js'], ''))
+    same(files(room, 'format', '--settings', 'own/jslint.toml', '--project', '--stdin', 'a.js', given=WIDE.encode()), (0, wanted['own/c.js'], ''))
+    # (a link has the settings of where it is)
+    os.symlink('../a.js', room.path('own/link.js'))
+    same(files(room, 'format', '--check', '--project', 'own/link.js', 'a.js'), (1, 'own/link.js\n', ''))
+    path = os.fsdecode(os.path.realpath(room.path('jslint.toml')))
+    same(files(room, '--print-config', 'xy.js')[1].splitlines()[1:], [f'extends = "none" # {path}', f'format.width = 80 # {path}, overrides.0', f'format.indent = 2 # {path}, overrides.0', f'format.tabs = true # {path}, overrides.1'])
+
+
+def bad_settings(room):
+    """What isn't in range or of another kind is refused with its line, its key, its value and what it takes; nothing is written, and scripts of other settings are
+    done."""
+    number, flag = 'a number from {} to {}'.format, 'true or false'
+    rows = [('[format]\nwidth = 39\n', 2, f'format.width = 39: it takes {number(40, 200)}'), ('[format]\n# a\nwidth = 201', 3, f'format.width = 201: it takes {number(40, 200)}'), ('format.width = -80\n', 1, f'format.width = -80: it takes {number(40, 200)}'),
+            ('format.width = "80"\n', 1, f'format.width = "80": it takes {number(40, 200)}'), ('format.width = 80.0', 1, f'format.width = 80.0: it takes {number(40, 200)}'), ('format.width = true\n', 1, f'format.width = true: it takes {number(40, 200)}'),
+            ('format.indent = 0\n', 1, f'format.indent = 0: it takes {number(1, 8)}'), ('env = [\n "node",\n]\nformat = { indent = 9 }\n', 4, f'format.indent = 9: it takes {number(1, 8)}'), ('format.tabs = 1\n', 1, f'format.tabs = 1: it takes {flag}'),
+            ('format.bare-arrows = "yes"\n', 1, f'format.bare-arrows = "yes": it takes {flag}'), ('format.fewest = []\n', 1, f'format.fewest = []: it takes {flag}'), ('format.commas = "some"\n', 1, 'format.commas = "some": it takes "none", "lists" or "all"'),
+            ('format.commas = true\n', 1, 'format.commas = true: it takes "none", "lists" or "all"'), ('[format]\nTabs = true\n', 2, 'format.Tabs = true: there is no such key'), ('format = "lines"\n', 1, 'format = "lines": it takes a table'), ('format = []\n', 1, 'format = []: it takes a table'),
+            ('[[overrides]]\nfiles = []\nformat.width = 1\n', 3, f'overrides.0.format.width = 1: it takes {number(40, 200)}'), ('[format]\nwidth = 80\n\n[[overrides]]\nfiles = []\n\n[overrides.format]\ntab = 2\n', 8, 'overrides.0.format.tab = 2: there is no such key'),
+            ('[format]\nwidth = 80\n\n[rules]\nx = 1\n', 5, 'rules.x = 1: there is no such rule'), ('extends = "none"\n\n[[overrides]]\nfiles = []\n\n[format]\n\n[rules]\nx = 1\n', 9, 'rules.x = 1: there is no such rule')]
+    in_project(room)
+    room.put('own/c.js', WIDE)
+    room.put('own/jslint.toml', 'format.tabs = true\n')
+    for text, line, why in rows:
+        room.put('jslint.toml', text)
+        room.put('own/c.js', WIDE)
+        for words in (['format', '--write'], ['format', '--check'], ['format', '--diff'], ['check']):
+            same(files(room, *words, '--settings', 'jslint.toml', 'a.js', 'own/c.js'), (2, '', f'jslint-files: jslint.toml: bad settings (line {line}): {why}\n'), text)
+        same(files(room, 'format', '--write', '--project'), (2, '', f'jslint.toml:{line}:1: bad settings: {why}\n'), text)
+        same((room.text('a.js'), room.text('sub/b.js'), room.text('own/c.js')), (WIDE, WIDE, format_of(room, WIDE, '--tabs')), text)
+        same(files(room, 'format', '--project', '--stdin', 'sub/b.js', given=WIDE.encode()), (2, '', f'jslint.toml:{line}:1: bad settings: {why}\n'), text)
+    for text, said in (('[format', 'bad settings at 1:8'), ('format.width = 80\nformat.width = 90\n', 'bad settings at 2:1')):
+        room.put('jslint.toml', text)
+        status, out, err = files(room, 'format', '--check', '--settings', 'jslint.toml', 'a.js')
+        is_well((status, out, err.count('\n')) == (2, '', 1) and err.startswith(f'jslint-files: jslint.toml: {said[:18]}'), err)
+    same(files(room, 'format', '--check', '--settings', 'none.toml', 'a.js'), (2, '', 'jslint-files: none.toml: read failed: missing\n'))
+    room.put('jslint.toml', rows[0][0])
+    same(files(room, '--print-config', 'a.js'), (2, '', f'jslint-files: {os.fsdecode(os.path.realpath(room.path("jslint.toml")))}: bad settings (line 2): {rows[0][2]}\n'))
+
+
+def languages_and_casts(room):
+    """Settings that are named say the language too, but words go over that; `fewest` in settings leaves casts as the word does."""
+    for name, text in [('new.toml', 'edition = 2022\nformat.tabs = true\n'), ('module.toml', 'source-type = "module"\n'), ('old.toml', 'edition = 2020\n'), ('fewest.toml', 'format.fewest = true\n')]:
+        room.put(name, text)
+    call = lambda settings, text, *words, name='a.js': files(room, 'format', '--settings', settings, *words, '--stdin', name, given=text.encode())
+    same(call('new.toml', 'if(a)async()=>await(1)'), (0, 'if (a) async () => await (1);\n', ''))
+    same(call('new.toml', 'if(a){b}'), (0, 'if (a) {\n\tb;\n}\n', ''))
+    same(call('module.toml', 'export   {}'), (0, 'export {};\n', ''))
+    same(call('old.toml', 'async  (a)'), (0, 'async(a);\n', ''))
+    same(call('old.toml', 'export   {}', '--module'), (0, 'export {};\n', ''))
+    same(call('new.toml', 'a  ', '--edition', '2020'), (0, 'a;\n', ''))
+    same(call('old.toml', 'export   {}')[:2], (2, ''))
+    same(call('new.toml', 'export   {}', name='m.mjs'), (0, 'export {};\n', ''))
+    text = 'x=/** @type {A} */ (a),y = (b)\n'
+    note = 'a.js:1:20: note: left as it is: format --fewest would take the pair of a cast; --drop-casts permits it\n'
+    same(call('fewest.toml', text), (0, text, note))
+    same(call('fewest.toml', text, '--drop-casts'), (0, format_of(room, text, '--fewest'), ''))
+    same(call('old.toml', text, '--drop-casts'), (0, format_of(room, text), ''))
+    room.put('a.js', text)
+    same(files(room, 'format', '--write', '--settings', 'fewest.toml', 'a.js'), (0, '', note))
+    same(room.text('a.js'), text)
+
+
 def library_and_program(room):
     """Both say the same; with words for other lines the program is asked, also where a library is."""
     if not has_library():
         raise Skipped('the library is not installed')
     rows = [RAW, FORMATTED, 'a b', '', '\ufeffa', 'let a;\r\nlet b = (1)\r\n', 'x = `${(a)}` // b\n', 'export   {}', '/* a */', 'a;' * 3000]
     names = [f'{it}.js' for it in range(len(rows))]
-    for text in ('--check', '--diff', '--check --tabs', '--check --fewest', '--write --width 100', '--write'):
+    room.put('s.toml', 'format = { width = 60, tabs = true }\n\n[[overrides]]\nfiles = ["[0-4].js"]\nformat = { width = 80, tabs = false }\n')
+    for text in ('--check', '--diff', '--check --tabs', '--check --fewest', '--check --settings s.toml', '--diff --settings s.toml', '--write --width 100', '--write --settings s.toml', '--write'):
         found = []
         for how in ({}, {'JSLINT_LIBRARY': ''}):
             for name, it in zip(names, rows):
@@ -306,4 +430,4 @@ def library_and_program(room):
         same(found[0], found[1], text)
 
 
-TESTS = [ways, words, choices, texts, odd_names, refused, unpermitted, streams, kept, interrupted, casts, projects, library_and_program]
+TESTS = [ways, words, choices, texts, odd_names, refused, unpermitted, streams, kept, interrupted, casts, projects, by_settings, by_folders, bad_settings, languages_and_casts, library_and_program]

@@ -14,12 +14,15 @@ from libraries import Skipped
 from recipes import TOP, is_well, same
 
 recipes.sys.path.insert(0, f'{TOP}/tools')
+from jslint_files.layers import OWN  # noqa: E402
 from jslint_files.rule_table import MOOT, RULES  # noqa: E402
+from jslint_files.settings import faults  # noqa: E402
+from jslint_files.words import CHOICES, HANDED, RANGES  # noqa: E402
 
 PLACE = 'share/jslint/jslint.schema.json'
 # What a schema says to people alone.
 WORDS = {'$schema', 'title', 'description', 'default'}
-TYPES = {'object': dict, 'array': list, 'string': str, 'boolean': bool}
+TYPES = {'object': dict, 'array': list, 'string': str, 'boolean': bool, 'integer': int}
 # Values of each kind that TOML has, but for dates.
 VALUES = ['warn', 'error', 'Off', 'warning', 1, 2, 3, -1, {'severity': 1}, {'severity': 'warning'}, {'severity': {}}, {'allow-null': 1}, {'allow-comments': True}, ['no-var'], ['no-var', 'no-var'], ['no-such'], True, False, 0, 1, 2020, 2021, -1.5, '', 'a', 'true', 'off', [], [''], ['a'], ['a', 'a'], ['a b', 'é"\\\n'], [1], [True], ['a', 1], [[]], {}, {'a': True}]
 # Keys that others' settings have.
@@ -33,13 +36,15 @@ def schema():
 
 def is_valid(it, value):
     """Whether a schema of these few words takes a value. With another word in it, it is to be said here what that means."""
-    unknown = set(it) - WORDS - {'type', 'enum', 'items', 'properties', 'additionalProperties', 'not', 'anyOf', 'uniqueItems', '$ref', 'required'}
+    unknown = set(it) - WORDS - {'type', 'enum', 'items', 'properties', 'additionalProperties', 'not', 'anyOf', 'uniqueItems', '$ref', 'required', 'minimum', 'maximum'}
     is_well(not unknown and it.get('additionalProperties', False) is False, unknown)
     if '$ref' in it:
         return is_valid(schema()['properties'][it['$ref'].rpartition('/')[2]], value)
     if 'anyOf' in it:
         return any(is_valid(each, value) for each in it['anyOf'])
     if 'type' in it and type(value) is not TYPES[it['type']] or 'enum' in it and (type(value), value) not in [(type(each), each) for each in it['enum']]:
+        return False
+    if it.get('type') == 'integer' and not it['minimum'] <= value <= it['maximum']:
         return False
     if isinstance(value, list) and it.get('uniqueItems') and any(each in value[:at] for at, each in enumerate(value)):
         return False
@@ -62,6 +67,8 @@ def samples(it):
         return [one for each in it['anyOf'] for one in samples(each)]
     if 'enum' in it:
         return it['enum']
+    if it['type'] == 'integer':
+        return [it['minimum'], it['maximum'], it['maximum'] // 2]
     if it['type'] == 'array':
         each = samples(it['items'])
         return [[], *([one] for one in each), each, *([] if it.get('uniqueItems') else [each[:1] * 2])]
@@ -111,7 +118,8 @@ def without_later(it, version):
     """A schema without the rules of later versions than the program's, and without what jslint-files alone takes."""
     later = [each.name for each in rule_texts.rules() if rule_texts.version_of(each.since) > rule_texts.version_of(version)]
     found = copy.deepcopy(it)
-    del found['properties']['overrides']
+    for key in OWN:
+        del found['properties'][key]
     found['properties']['rules']['properties'] = {name: each for name, each in it['properties']['rules']['properties'].items() if name not in later}
     return found
 
@@ -131,7 +139,7 @@ def as_program(room):
     with open(f'{TOP}/docs/rules/README.md', encoding='utf-8') as file:
         page = file.read()
     same(sorted(it['properties']['rules']['properties']), sorted({*re.findall(r'^\| \[([\w-]+)\]', page, re.M), *MOOT}))
-    same(sorted({*it['properties']} - {'overrides'}), sorted(re.findall(r'^\| `([\w-]+)` \| ', page.partition('\n## A settings file\n')[2].partition('\n## ')[0], re.M)))
+    same(sorted({*it['properties']} - {*OWN}), sorted(re.findall(r'^\| `([\w-]+)` \| ', page.partition('\n## A settings file\n')[2].partition('\n## ')[0], re.M)))
     with open(f'{os.path.dirname(recipes.BIN)}/{PLACE}', encoding='utf-8') as file:
         same(json.load(file), it)
 
@@ -159,4 +167,24 @@ def words(_):
     same({key: each['description'] for key, each in rules.items()}, RULES | {key: f'Finds nothing in strict code: {it}' for key, it in MOOT.items()})
 
 
-TESTS = [as_program, by_validator, words]
+def lines(_):
+    """What it says of `format` is what the words of the command take, with what holds without them."""
+    keys = schema()['properties']['format']['properties']
+    same({key: it['default'] if isinstance(it['default'], bool) else str(it['default']) for key, it in keys.items()}, HANDED)
+    same({key: (it['minimum'], it['maximum']) for key, it in keys.items() if it.get('type') == 'integer'}, RANGES)
+    same({key: tuple(it['enum']) for key, it in keys.items() if 'enum' in it}, {key: CHOICES[key] for key in keys if key in CHOICES})
+    same({key for key, it in keys.items() if it.get('type') == 'boolean'}, {key for key, it in HANDED.items() if it is False})
+
+
+def as_jslint_files(_):
+    """`jslint-files` finds a fault in just those tables of overrides and of `format` that it doesn't take."""
+    it = schema()
+    for key in OWN:
+        table = it['properties'][key]
+        values = [*VALUES, *samples(table), 39, 40, 200, 201] + ([{name: value} for name in {*table['properties'], *beside(table['properties'])} for value in [*VALUES, 8, 9, 39, 40, 200, 201]] if key == 'format' else [])
+        verdicts = [(is_valid(table, value), value) for value in values]
+        same([value for is_taken, value in verdicts if is_taken == any(True for _ in faults(table, value, key))], [], key)
+        is_well({is_taken for is_taken, _ in verdicts} == {True, False}, key)
+
+
+TESTS = [as_program, by_validator, words, lines, as_jslint_files]

@@ -99,11 +99,13 @@ rules.no-var = "off"
     out = files(room, '--print-config', 'test/x/a.js')[1]
     path = os.fsdecode(os.path.realpath(room.path('jslint.toml')))
     same(out.splitlines()[1:], [f'extends = "none" # {path}', f'env = ["node", "jest"] # {path}, overrides.0', f'rules.no-var = "off" # {path}, overrides.1', f'rules.no-undef = "error" # {path}, overrides.0'])
-    for text, why in (('[[overrides]]\nenv = []\n', 'overrides.0: there is no files'), ('[[overrides]]\nfiles = "a"\n', 'overrides.0.files = "a": it takes an array'),
-                      ('[[overrides]]\nfiles = []\nrules.x = 1\n', 'overrides.0.rules.x = 1: there is no such rule'), ('overrides = 1\n', 'overrides = 1: it takes an array')):
+    for line, text, why in ((1, '[[overrides]]\nenv = []\n', 'overrides.0: there is no files'), (2, '[[overrides]]\nfiles = "a"\n', 'overrides.0.files = "a": it takes an array'),
+                            (3, '[[overrides]]\nfiles = []\nrules.x = 1\n', 'overrides.0.rules.x = 1: there is no such rule'), (1, 'overrides = 1\n', 'overrides = 1: it takes an array'),
+                            (4, '[[overrides]]\nfiles = []\n[rules]\nx = 1\n', 'rules.x = 1: there is no such rule')):
         room.put('jslint.toml', text)
         status, out, err = files(room, '--project', 'a.js')
-        same((status, out, err), (2, f'jslint.toml:1:1: bad settings: {why}\n', ''), text)
+        same((status, out, err), (2, f'jslint.toml:{line}:1: bad settings: {why}\n', ''), text)
+        same(files(room, '--print-config', 'a.js')[:2], (2, '') if why.startswith('overrides') else (0, files(room, '--print-config', 'a.js')[1]), text)
 
 
 def by_words(room):

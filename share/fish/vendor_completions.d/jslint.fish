@@ -53,6 +53,7 @@ complete -c jslint-files -n '__fish_seen_subcommand_from format' -l tabs -d 'A t
 complete -c jslint-files -n '__fish_seen_subcommand_from format' -l commas -x -a 'none lists all' -d 'Where a list over several lines ends with a comma'
 complete -c jslint-files -n '__fish_seen_subcommand_from format' -l bare-arrows -d 'No parentheses round one plain parameter'
 complete -c jslint-files -n '__fish_seen_subcommand_from format' -l fewest -d 'With the fewest parentheses'
+complete -c jslint-files -n '__fish_seen_subcommand_from format' -l settings -r -F -d 'Lines and language, as TOML'
 complete -c jslint-files -l edition -x -a '2020 2022' -d 'The language of scripts'
 complete -c jslint-files -l module -d 'Modules of ECMAScript 2022'
 complete -c jslint-files -l project -d 'Folders, the nearest jslint.toml, ignore files'
