@@ -1,5 +1,5 @@
 -- What stands again, as a loop goes over what is compared, with the labels of those before in sets.
-use Rattle.std.proofs.Common.{◌≡◌, ℕ, suc, ◌+◌, ◌<◌, ◌≤◌, Bool, true, false, not, List, [], ◌∷◌, ◌++◌, length, drop, get_or, refl, sym, ap, ◌∙◌, add-one, append_assoc, append-nil}
+use Rattle.std.proofs.Common.{◌≡◌, ℕ, suc, ◌+◌, ◌<◌, ◌≤◌, List, ◌∷◌, ◌++◌, length, drop, get_or, sym, ap, ◌∙◌, add-one, append_assoc, append-nil}
 use Rattle.std.specs.Prelude.{◌&&◌, ◌||◌}
 use Rattle.std.specs.Str.{bytes_eq}
 use Rattle.std.proofs.Math.Seq.{drop-cons}
@@ -8,7 +8,7 @@ use Rattle.std.proofs.lemmas.List.{drop_all}
 use Rattle.rule_words.specs.Reports.{Report}
 use Rattle.repetition_rules.specs.declared.again.Seen.{Seen}
 use Rattle.repetition_rules.specs.declared.repetition_rule.RepetitionRule.{RepetitionRule}
-use Rattle.repetition_rules.specs.Entries.{Entry, is_again, reads_among, writes_among}
+use Rattle.repetition_rules.specs.Entries.{Entry, is_again, reads_among}
 use Rattle.repetition_rules.specs.Rows.{report_if, reported}
 use Rattle.repetition_rules.specs.Seen.{Holds, IsWith, is_seen}
 

@@ -1,11 +1,11 @@
 -- What keys are compared by: what the tree alone says of the value of a PropertyName (12.2.6).
-use Rattle.std.specs.Prelude.{ℕ, Bool, true, false, not, ◌&&◌, ◌||◌, nat_eq, nat_le, cond, length, List, [], ◌∷◌, ◌++◌, Option, Some, None, is_some, option_map, option_and_then, encode_utf8_all, codes}
-use Rattle.std.specs.Str.{bytes_eq, chars}
+use Rattle.std.specs.Prelude.{ℕ, Bool, true, false, ◌&&◌, ◌||◌, nat_eq, nat_le, cond, length, List, [], ◌∷◌, ◌++◌, Option, Some, None, option_map, encode_utf8_all, codes}
+use Rattle.std.specs.Str.{chars}
 use Rattle.std.specs.Char.Utf16.{has_unpaired_surrogate, utf16_lossy_chars}
 use Rattle.tokens.specs.Strings.{string_units}
 use Rattle.tokens.specs.Templates.{cooked_value}
 use Rattle.tree.specs.declared.kind.Kind.TheVariants.{Identifier, Literal, TemplateLiteral}
-use Rattle.tree.specs.Tree.{Tree, node, Parts, part_at, parts_of, text_of}
+use Rattle.tree.specs.Tree.{Tree, node, part_at, parts_of, text_of}
 
 abbrev pub is_quoted : List ℕ → Bool
 is_quoted [] = false

@@ -2,7 +2,7 @@
 use Rattle.std.specs.Prelude.{ℕ, Bool, true, false, cond, List, [], ◌∷◌, ◌++◌, codes}
 use Rattle.tree.specs.declared.kind.Kind.{Kind}
 use Rattle.tree.specs.declared.kind.Kind.TheVariants.{ClassBody, ObjectExpression, SwitchStatement}
-use Rattle.tree.specs.Tree.{Tree, Parts, kind_of, parts_of}
+use Rattle.tree.specs.Tree.{Tree, kind_of, parts_of}
 use Rattle.name_tables.specs.BoundNames.{each_part}
 use Rattle.rule_words.specs.Reports.{Report}
 use Rattle.repetition_rules.specs.declared.repetition_rule.RepetitionRule.{RepetitionRule}
