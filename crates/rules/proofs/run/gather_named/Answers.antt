@@ -26,8 +26,8 @@ returns c =
     let names = c.loop-name.on_names.items in
     let parts = c.loop-name.on_parts.items in
     let both = c.in_ok-push_on_names.ensures.found ∙ ap (λ rs. c.push_on_nodes.new.out.items ++ found_on_names rs v) c.deref-2.ensures.value
-        ∙ ap (λ l. l ++ found_on_names names v) (c.in_ok-push_on_nodes.ensures.found ∙ ap (λ rs. c.loop-name.out.items ++ found_on_nodes rs v) c.deref.ensures.value)
-        ∙ append_assoc c.loop-name.out.items (found_on_nodes nodes v) (found_on_names names v) in
+    ∙ ap (λ l. l ++ found_on_names names v) (c.in_ok-push_on_nodes.ensures.found ∙ ap (λ rs. c.loop-name.out.items ++ found_on_nodes rs v) c.deref.ensures.value)
+    ∙ append_assoc c.loop-name.out.items (found_on_nodes nodes v) (found_on_names names v) in
     on_ok c.push_on_parts.result
     (λ e. rules-end c.args.names.now c.loop-name.name-index (λ ns. found_by_names ns v) refl _ c.loop-name.out.items (found_together nodes names parts v) c.push_on_parts.new.out.items c.loop-name-test.false
     (e ∙ ap (λ rs. c.push_on_names.new.out.items ++ found_on_parts rs v) c.deref-3.ensures.value ∙ ap (λ l. l ++ found_on_parts parts v) both
