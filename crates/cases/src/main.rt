@@ -34,6 +34,7 @@ mod printing;
 mod ranks;
 mod reference_rule_rows;
 mod refusals;
+mod repetition_rule_rows;
 mod reports;
 mod runs;
 mod seen;

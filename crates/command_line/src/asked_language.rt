@@ -83,10 +83,7 @@ fn module_of(edition: LanguageChoice) -> Result<LanguageChoice, OptionMistake>
 }
 
 /// The language that a line asks for.
-fn language_of(
-    edition: Option<&str>,
-    is_module: bool,
-) -> Result<LanguageChoice, OptionMistake>
+fn language_of(edition: Option<&str>, is_module: bool) -> Result<LanguageChoice, OptionMistake>
     ensures { result ≡ language_of (option_map (λ name. name.now) edition.entry) is_module }
 {
     let Some(edition) = edition_of(edition) else {

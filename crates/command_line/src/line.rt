@@ -1,12 +1,12 @@
 //! The words of the command line.
 
 ghost use Rattle.std.specs.Prelude.{◌≡◌, IfErr, IfOk, IfSome, IsOkAnd, Some, [], false, map, true};
-ghost use Rattle.clap.specs.Words.{FailsBy, app_of, fault_of, first_of, kind_of, rows_of, found_of, subcommand_of, subcommand_rows_of, takes, with_subcommand};
+ghost use Rattle.clap.specs.Words.{FailsBy, app_of, fault_of, first_of, kind_of, rows_of, found_of, rule_of, subcommand_of, subcommand_rows_of, takes, with_subcommand};
 ghost use Rattle.clap.specs.declared.builder.command.Command.TheViews.{out-Command};
 ghost use Rattle.commands.specs.Commands.{default_format, word_of};
 ghost use Rattle.commands.specs.declared.command.Command.TheVariants.{Check, Format, Same, Verify};
 ghost use Rattle.commands.specs.declared.command.ReportForm.TheVariants.{Places};
-ghost use Rattle.command_line.specs.CommandLine.{Chooses, MeetsCommand, ReadsAlike, bare_app, command_app, file_app, form_of, format_of, is_set, jslint_app, lone_file_app, measured_app, number_of, plain, punctuated_app, reporting_app};
+ghost use Rattle.command_line.specs.CommandLine.{Chooses, MeetsCommand, ReadsAlike, bare_app, command_app, file_app, flag_rule, form_of, format_of, is_set, jslint_app, lone_file_app, measured_app, number_of, number_rule, plain, punctuated_app, reporting_app};
 ghost use Rattle.command_line.specs.AskedLanguage.{commas_or_all};
 
 use crate::asked_language::commas_or_all;
@@ -120,24 +120,39 @@ fn check_command<'a>(alloc: Global) -> Result<clap::Command<'a>, AllocError>
     reporting_command(alloc)?.arg(list)
 }
 
+/// An option with a number in a range.
+fn number_option<'a>(alloc: Global, id: &'a str, least: u64, most: u64, about: &'a str) -> Arg<'a>
+    ensures rule { rule_of result ≡ number_rule id.now least most }
+    ensures local { result.global ≡ false }
+{
+    Arg::new(alloc, id)
+        .long(id)
+        .value_name("N")
+        .value_parser(ValueParser::unsigned(least, most))
+        .help(about)
+}
+
 /// `format`, with the measures of its lines.
 fn measured_command<'a>(alloc: Global) -> Result<clap::Command<'a>, AllocError>
     ensures shape { IfOk result (λ c. app_of c ≡ measured_app) }
     ensures local { IfOk result (λ c. (out-Command c).has_globals ≡ false) }
 {
-    let width = Arg::new(alloc, "width")
-        .long("width")
-        .value_name("N")
-        .value_parser(ValueParser::unsigned(40, 200))
-        .help(help::WIDTH);
-    let indent = Arg::new(alloc, "indent")
-        .long("indent")
-        .value_name("N")
-        .value_parser(ValueParser::unsigned(1, 8))
-        .help(help::INDENT);
+    let width = number_option(alloc, "width", 40, 200, help::WIDTH);
+    let indent = number_option(alloc, "indent", 1, 8, help::INDENT);
     noted_command(alloc, "format", help::FORMAT, help::FORMAT_NOTE)?
         .arg(width)?
         .arg(indent)
+}
+
+/// A flag.
+fn flag<'a>(alloc: Global, id: &'a str, about: &'a str) -> Arg<'a>
+    ensures rule { rule_of result ≡ flag_rule id.now }
+    ensures local { result.global ≡ false }
+{
+    Arg::new(alloc, id)
+        .long(id)
+        .action(ArgAction::SetTrue)
+        .help(about)
 }
 
 /// `format`, with what its lines are made of.
@@ -145,22 +160,14 @@ fn punctuated_command<'a>(alloc: Global) -> Result<clap::Command<'a>, AllocError
     ensures shape { IfOk result (λ c. app_of c ≡ punctuated_app) }
     ensures local { IfOk result (λ c. (out-Command c).has_globals ≡ false) }
 {
-    let tabs = Arg::new(alloc, "tabs")
-        .long("tabs")
-        .action(ArgAction::SetTrue)
-        .help(help::TABS);
     let commas = Arg::new(alloc, "commas")
         .long("commas")
         .value_name("WHERE")
         .help(help::COMMAS);
-    let bare_arrows = Arg::new(alloc, "bare-arrows")
-        .long("bare-arrows")
-        .action(ArgAction::SetTrue)
-        .help(help::BARE_ARROWS);
     measured_command(alloc)?
-        .arg(tabs)?
+        .arg(flag(alloc, "tabs", help::TABS))?
         .arg(commas)?
-        .arg(bare_arrows)
+        .arg(flag(alloc, "bare-arrows", help::BARE_ARROWS))
 }
 
 /// `format`, with all that it takes.
@@ -168,15 +175,9 @@ fn format_command<'a>(alloc: Global) -> Result<clap::Command<'a>, AllocError>
     ensures shape { IfOk result (λ c. app_of c ≡ command_app (Format default_format)) }
     ensures local { IfOk result (λ c. (out-Command c).has_globals ≡ false) }
 {
-    let fewest = Arg::new(alloc, "fewest")
-        .long("fewest")
-        .action(ArgAction::SetTrue)
-        .help(help::FEWEST);
-    let check = Arg::new(alloc, "check")
-        .long("check")
-        .action(ArgAction::SetTrue)
-        .help(help::CHECKED);
-    punctuated_command(alloc)?.arg(fewest)?.arg(check)
+    punctuated_command(alloc)?
+        .arg(flag(alloc, "fewest", help::FEWEST))?
+        .arg(flag(alloc, "check", help::CHECKED))
 }
 
 /// `verify`, with its TABLE.

@@ -1,7 +1,7 @@
 -- A refusal of a run whose devices are memory: but where the writer failed, nothing was written and no device failed.
 use Rattle.std.proofs.Common.{◌≡◌, ◌≢◌, ◌⊎◌, ℕ, List, [], Bool, true, false, Some, inl, inr, refl, sym, subst, ◌∙◌}
 use Rattle.source_text.specs.declared.fault.Fault.{Fault}
-use Rattle.source_text.specs.declared.fault.Fault.TheVariants.{NotUtf8, TooLong, OutOfMemory, ReadFailed, WriteFailed, BadSettings, BadTable, UnwrapFailed}
+use Rattle.source_text.specs.declared.fault.Fault.TheVariants.{NotUtf8, TooLong, OutOfMemory, ReadFailed, WriteFailed, BadSettings, BadTable, UnwrapFailed, FormatFailed}
 use Rattle.commands.specs.declared.command.Command.{Command}
 use Rattle.commands.specs.declared.language_choice.LanguageChoice.{LanguageChoice}
 use Rattle.commands.specs.declared.hint.Hint.{Hint}
@@ -25,6 +25,7 @@ module _ (command : Command) (choice : LanguageChoice) where
   nothing_written false seen BadSettings place hint other refused = (refused.0.2, refused.1)
   nothing_written false seen (BadTable row why) place hint other refused = (refused.0.2, refused.1)
   nothing_written false seen UnwrapFailed place hint other refused = (refused.0.2, refused.1)
+  nothing_written false seen FormatFailed place hint other refused = (refused.0.2, refused.1)
   nothing_written false seen (NotUtf8 at) place hint other refused = (refused.0.2, refused.1)
   nothing_written false seen TooLong place hint other refused = (refused.0.2, refused.1)
   nothing_written false seen _ place hint other (kept, (text, is, source, (language, inl (none, read), why, hinted), at)) = (none.2, kept)

@@ -3,7 +3,6 @@ use Rattle.std.proofs.Common.{◌≡◌, ◌≢◌, ◌∙◌, ℕ, List, Bool, 
 use Rattle.source_text.specs.Source.{IsRefusal, max_bytes}
 use Rattle.source_text.specs.declared.fault.Fault.{Fault}
 use Rattle.source_text.specs.declared.fault.Fault.TheVariants.{NotUtf8, TooLong, OutOfMemory, ReadFailed, Usage}
-use Rattle.commands.specs.declared.hint.Hint.{Hint}
 use Rattle.commands.specs.declared.hint.Hint.TheVariants.{Nothing}
 use Rattle.commands.specs.Refused.{at_no_place, place_of}
 use Rattle.commands.specs.WholeTexts.{ReadsUpTo}

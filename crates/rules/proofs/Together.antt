@@ -4,6 +4,7 @@ use Rattle.std.proofs.lemmas.List.Sorted.{IsPermutation-trans, IsPermutation-app
 use Rattle.std.proofs.Math.Seq.{drop-cons}
 use Rattle.std.proofs.lemmas.List.{drop_all}
 use Rattle.tree.specs.Tree.{Tree}
+use Rattle.tree.specs.Flat.{post_order}
 use Rattle.rule_words.specs.Reports.{Report}
 use Rattle.node_rules.specs.declared.node_rule.NodeOptions.{NodeOptions}
 use Rattle.node_rules.specs.declared.node_rule.NodeRule.{NodeRule}
@@ -13,9 +14,11 @@ use Rattle.node_rules.specs.Rows.{of_node, of_rules}
 use Rattle.node_rules.proofs.Together.{both-nodes, no-rules, same-permutation}
 use Rattle.reference_rules.specs.declared.reference_rule.ReferenceRule.{ReferenceRule}
 use Rattle.reference_rules.proofs.Together.{both, no-rules as no-name-rules}
-use Rattle.rules.specs.NameRules.{found_on_names, found_together}
+use Rattle.repetition_rules.specs.declared.repetition_rule.RepetitionRule.{RepetitionRule}
+use Rattle.repetition_rules.proofs.Together.{both as both-parts, no-rules as no-part-rules}
+use Rattle.rules.specs.NameRules.{found_on_names, found_on_parts, found_together}
 use Rattle.rules.specs.NodeRules.{found_on_nodes}
-use Rattle.rules.specs.Rules.{View, node_options, on_names, on_nodes, profile_of}
+use Rattle.rules.specs.Rules.{View, node_options, on_names, on_nodes, on_parts, profile_of}
 
 -- no rules find nothing
 pub none-on-nodes : (v : View) → found_on_nodes [] v ≡ []
@@ -33,12 +36,16 @@ joins rs r v =
     subst (IsPermutation (found_on_nodes rs v ++ on_nodes r v)) (λ i. over_nodes (λ a t. sym (joined o v.text rs r a t) i) round_root v.tree)
     (both-nodes (of_rules o v.text rs) (of_node o v.text r) round_root v.tree)
 
--- no rules on names, and one more of them
-pub none-together : (v : View) → found_together [] [] v ≡ []
-none-together v = ap (λ l. l ++ found_on_names [] v) (none-on-nodes v) ∙ no-name-rules (profile_of v.tree) [] v.found refl
+-- no rules together, and one more on names, or on what stands twice
+pub none-together : (v : View) → found_together [] [] [] v ≡ []
+none-together v =
+    ap (λ l. (l ++ found_on_names [] v) ++ found_on_parts [] v) (none-on-nodes v) ∙ ap (λ l. l ++ found_on_parts [] v) (no-name-rules (profile_of v.tree) [] v.found refl) ∙ no-part-rules [] v.tree refl
 
 pub names-join : (rs : List ReferenceRule) (r : ReferenceRule) (v : View) → IsPermutation (found_on_names rs v ++ on_names r v) (found_on_names (rs ++ r ∷ []) v)
 names-join rs r v = both (profile_of v.tree) rs (r ∷ []) v.found
+
+pub parts-join : (rs : List RepetitionRule) (r : RepetitionRule) (v : View) → IsPermutation (found_on_parts rs v ++ on_parts r v) (found_on_parts (rs ++ r ∷ []) v)
+parts-join rs r v = both-parts rs (r ∷ []) (post_order v.tree)
 
 -- in front of what others find, and behind it
 pub joins-in-front : (found others alone new : List Report) → IsPermutation (found ++ alone) new → IsPermutation ((found ++ others) ++ alone) (new ++ others)

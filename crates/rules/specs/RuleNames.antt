@@ -7,8 +7,10 @@ use Rattle.node_rules.specs.Rows.{called as row_called}
 use Rattle.node_rules.specs.declared.node_rule.NodeRule.TheVariants.{Curly, DefaultCaseLast, EqEqEq, ForDirection, NoArrayConstructor, NoAsyncPromiseExecutor, NoCaller, NoCaseDeclarations, NoCompareNegZero, NoConstantBinaryExpression, NoConstantCondition, NoDebugger, NoEmpty, NoEmptyPattern, NoEmptyStaticBlock, NoEval, NoExtraBooleanCast, NoExtraSemi, NoImplicitCoercion, NoInnerDeclarations, NoLabels, NoLonelyIf, NoMultiAssign, NoMultiStr, NoNestedTernary, NoNew, NoNewFunc, NoNewObject, NoNewWrappers, NoProto, NoPrototypeBuiltins, NoSelfAssign, NoSelfCompare, NoSetterReturn, NoSparseArrays, NoThrowLiteral, NoUnneededTernary, NoUnsafeFinally, NoUnsafeNegation, NoUnsafeOptionalChaining, NoUnusedExpressions, NoUnusedLabels, NoUselessCatch, NoUselessComputedKey, NoUselessRename, NoVar, NoVoid, ObjectShorthand, OperatorAssignment, PreferTemplate, Radix, RequireYield, UseIsNan, ValidTypeof, Yoda}
 use Rattle.reference_rules.specs.Rows.{called as name_called}
 use Rattle.reference_rules.specs.declared.reference_rule.ReferenceRule.TheVariants.{NoClassAssign, NoConstAssign, NoExAssign, NoFuncAssign, NoGlobalAssign, NoImportAssign, NoNewNativeNonconstructor, NoNewSymbol, NoObjCalls, NoParamReassign, NoRedeclare, NoShadowRestrictedNames, NoUndefined, NoUseBeforeDefine}
+use Rattle.repetition_rules.specs.Rows.{called as part_called}
+use Rattle.repetition_rules.specs.declared.repetition_rule.RepetitionRule.TheVariants.{NoDupeClassMembers, NoDupeKeys, NoDuplicateCase}
 use Rattle.rules.specs.declared.rule_list.RuleName.{RuleName}
-use Rattle.rules.specs.declared.rule_list.RuleName.TheVariants.{OnNodes, OnNames, NoExtraParens, NoShadow, NoUndef, NoUnusedVars, PreferConst}
+use Rattle.rules.specs.declared.rule_list.RuleName.TheVariants.{OnNodes, OnNames, OnParts, NoExtraParens, NoShadow, NoUndef, NoUnusedVars, PreferConst}
 use Rattle.rules.specs.declared.rule_set.RuleSet.{RuleSet}
 use Rattle.rules.specs.declared.rule_set.RuleSet.TheVariants.{Nine, Recommended, Every, Nothing}
 
@@ -16,6 +18,7 @@ use Rattle.rules.specs.declared.rule_set.RuleSet.TheVariants.{Nine, Recommended,
 abbrev pub called : RuleName → List ℕ
 called (OnNodes rule) = row_called rule
 called (OnNames rule) = name_called rule
+called (OnParts rule) = part_called rule
 called NoExtraParens = codes "no-extra-parens"
 called NoShadow = codes "no-shadow"
 called NoUndef = codes "no-undef"
@@ -39,6 +42,9 @@ all_rules =
     ∷ OnNodes NoConstantBinaryExpression
     ∷ OnNodes NoConstantCondition
     ∷ OnNodes NoDebugger
+    ∷ OnParts NoDupeClassMembers
+    ∷ OnParts NoDupeKeys
+    ∷ OnParts NoDuplicateCase
     ∷ OnNodes NoEmpty
     ∷ OnNodes NoEmptyPattern
     ∷ OnNodes NoEmptyStaticBlock
@@ -127,6 +133,9 @@ recommended_rules =
     ∷ OnNodes NoConstantBinaryExpression
     ∷ OnNodes NoConstantCondition
     ∷ OnNodes NoDebugger
+    ∷ OnParts NoDupeClassMembers
+    ∷ OnParts NoDupeKeys
+    ∷ OnParts NoDuplicateCase
     ∷ OnNodes NoEmpty
     ∷ OnNodes NoEmptyPattern
     ∷ OnNodes NoEmptyStaticBlock

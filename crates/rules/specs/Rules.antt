@@ -12,6 +12,8 @@ use Rattle.reference_rules.specs.BuiltIn.{is_built_in_for}
 use Rattle.reference_rules.specs.Found.{found_by_rule as found_by_name_rule}
 use Rattle.reference_rules.specs.declared.reference_rule.Profile.{Profile}
 use Rattle.reference_rules.specs.declared.reference_rule.ReferenceRule.{ReferenceRule}
+use Rattle.repetition_rules.specs.Found.{found_by_rule as found_by_part_rule}
+use Rattle.repetition_rules.specs.declared.repetition_rule.RepetitionRule.{RepetitionRule}
 use Rattle.rule_words.specs.Reports.{Report, report, quoted}
 use Rattle.node_rules.specs.Found.{found_by_rule}
 use Rattle.node_rules.specs.declared.node_rule.NodeOptions.{NodeOptions}
@@ -57,6 +59,10 @@ profile_of tree = record { is_2022 = is_of_2022 tree; is_module = is (text_of tr
 -- what one of them finds
 abbrev pub on_names : ReferenceRule → View → List Report
 on_names rule v = found_by_name_rule (profile_of v.tree) rule v.found
+
+-- Rules on what stands twice in one node: `specs/Rows.antt` of `repetition_rules` says what each reports.
+abbrev pub on_parts : RepetitionRule → View → List Report
+on_parts rule v = found_by_part_rule rule v.tree
 
 abbrev pub is_known : Bool → Settings → List ℕ → Bool
 is_known of_2022 s text = is_built_in_for of_2022 text || is_global text s

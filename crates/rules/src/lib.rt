@@ -1,7 +1,7 @@
 //! The rules, rules of others in boxes, the settings that both look at, and the lines of reports.
 //! - May touch: what a `View` shows: tree, scopes, extra pairs, settings. No rule knows another.
 //! - Contract: `run_rules` answers all that the rules which are on find, by what each says of itself, sorted.
-//! - Begin at: `rule.rt`, `Rule`; `run.rt`, `run_rules`; `rule_list.rt` says which rules there are; those on nodes are rows of `node_rules`, those on names of `reference_rules`, the others have a file each.
+//! - Begin at: `rule.rt`, `Rule`; `run.rt`, `run_rules`; `rule_list.rt` says which rules there are; those on nodes are rows of `node_rules`, those on names of `reference_rules`, those on what stands twice of `repetition_rules`, the others have a file each.
 #![tactic(auto)]
 
 mod bindings;
@@ -44,6 +44,7 @@ pub use no_unused_vars::NoUnusedVars;
 pub use node_rules::NodeRule;
 pub use prefer_const::PreferConst;
 pub use reference_rules::ReferenceRule;
+pub use repetition_rules::RepetitionRule;
 pub use rule::Rule;
 pub use rule_list::{RULES, RuleName};
 pub use rule_option::{RuleOption, RuleOptions};

@@ -2,6 +2,7 @@
 
 use node_rules::NodeRule;
 use reference_rules::ReferenceRule;
+use repetition_rules::RepetitionRule;
 
 /// The name of a rule that ships with the program.
 #[derive(Clone, Copy, Debug, PartialEq, Eq)]
@@ -10,6 +11,8 @@ pub enum RuleName {
     OnNodes(NodeRule),
     /// A rule that asks what names mean: a row of `reference_rules`.
     OnNames(ReferenceRule),
+    /// A rule on what stands twice in one node: a row of `repetition_rules`.
+    OnParts(RepetitionRule),
     /// `no-extra-parens`.
     NoExtraParens,
     /// `no-shadow`.
@@ -23,7 +26,7 @@ pub enum RuleName {
 }
 
 /// The rules, in the order of their names.
-pub const RULES: [RuleName; 74] = [
+pub const RULES: [RuleName; 77] = [
     RuleName::OnNodes(NodeRule::Curly),
     RuleName::OnNodes(NodeRule::DefaultCaseLast),
     RuleName::OnNodes(NodeRule::EqEqEq),
@@ -38,6 +41,9 @@ pub const RULES: [RuleName; 74] = [
     RuleName::OnNodes(NodeRule::NoConstantBinaryExpression),
     RuleName::OnNodes(NodeRule::NoConstantCondition),
     RuleName::OnNodes(NodeRule::NoDebugger),
+    RuleName::OnParts(RepetitionRule::NoDupeClassMembers),
+    RuleName::OnParts(RepetitionRule::NoDupeKeys),
+    RuleName::OnParts(RepetitionRule::NoDuplicateCase),
     RuleName::OnNodes(NodeRule::NoEmpty),
     RuleName::OnNodes(NodeRule::NoEmptyPattern),
     RuleName::OnNodes(NodeRule::NoEmptyStaticBlock),
@@ -114,7 +120,7 @@ pub(crate) const NINE: [RuleName; 9] = [
 ];
 
 /// Those that ESLint recommends, by its 8th version or by its 9th.
-pub(crate) const RECOMMENDED: [RuleName; 38] = [
+pub(crate) const RECOMMENDED: [RuleName; 41] = [
     RuleName::OnNodes(NodeRule::ForDirection),
     RuleName::OnNodes(NodeRule::NoAsyncPromiseExecutor),
     RuleName::OnNodes(NodeRule::NoCaseDeclarations),
@@ -124,6 +130,9 @@ pub(crate) const RECOMMENDED: [RuleName; 38] = [
     RuleName::OnNodes(NodeRule::NoConstantBinaryExpression),
     RuleName::OnNodes(NodeRule::NoConstantCondition),
     RuleName::OnNodes(NodeRule::NoDebugger),
+    RuleName::OnParts(RepetitionRule::NoDupeClassMembers),
+    RuleName::OnParts(RepetitionRule::NoDupeKeys),
+    RuleName::OnParts(RepetitionRule::NoDuplicateCase),
     RuleName::OnNodes(NodeRule::NoEmpty),
     RuleName::OnNodes(NodeRule::NoEmptyPattern),
     RuleName::OnNodes(NodeRule::NoEmptyStaticBlock),
@@ -166,6 +175,7 @@ impl RuleName {
         match self {
             RuleName::OnNodes(rule) => rule.name(),
             RuleName::OnNames(rule) => rule.name(),
+            RuleName::OnParts(rule) => rule.name(),
             RuleName::NoExtraParens => "no-extra-parens",
             RuleName::NoShadow => "no-shadow",
             RuleName::NoUndef => "no-undef",

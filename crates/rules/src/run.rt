@@ -12,10 +12,11 @@ ghost use Rattle.rules.specs.Settings.{is_on};
 
 use crate::rule::Rule;
 use crate::rule_list::RuleName;
-use crate::shipped_rule::{ShippedRule, push_on_names, push_on_nodes};
+use crate::shipped_rule::{ShippedRule, push_on_names, push_on_nodes, push_on_parts};
 use crate::view::View;
 use node_rules::NodeRule;
 use reference_rules::ReferenceRule;
+use repetition_rules::RepetitionRule;
 use rule_words::Report;
 use std::alloc::{AllocError, Global};
 
@@ -84,17 +85,18 @@ fn run_shipped(
     ShippedRule::new(alloc, name).check(view, out)
 }
 
-/// Appends what a rule of a name finds, if it is on. A rule on nodes joins those that run in one walk, and one on names those that run
-/// in one pass.
+/// Appends what a rule of a name finds, if it is on. A rule on nodes joins those that run in one walk, one on names those that run
+/// in one pass, and one on what stands twice those of its kind.
 fn run_named(
     alloc: Global,
     name: RuleName,
     view: &View,
     nodes: &mut Vec<NodeRule>,
     names: &mut Vec<ReferenceRule>,
+    parts: &mut Vec<RepetitionRule>,
     out: &mut Vec<Report>,
 ) -> Result<(), AllocError>
-    ensures { OnOk result (IsPermutation ((out.old.items ++ found_together nodes.old.items names.old.items (seen view.now)) ++ found_by_name name (seen view.now)) (out.new.items ++ found_together nodes.new.items names.new.items (seen view.now))) }
+    ensures { OnOk result (IsPermutation ((out.old.items ++ found_together nodes.old.items names.old.items parts.old.items (seen view.now)) ++ found_by_name name (seen view.now)) (out.new.items ++ found_together nodes.new.items names.new.items parts.new.items (seen view.now))) }
 {
     if !view.settings.is_on(name.as_str()) {
         return Ok(());
@@ -106,6 +108,10 @@ fn run_named(
         },
         RuleName::OnNames(rule) => {
             names.push(rule)?;
+            Ok(())
+        },
+        RuleName::OnParts(rule) => {
+            parts.push(rule)?;
             Ok(())
         },
         _ => run_shipped(alloc, name, view, out),
@@ -123,11 +129,21 @@ fn gather_named(
 {
     let mut on_nodes = Vec::new(alloc);
     let mut on_names = Vec::new(alloc);
+    let mut on_parts = Vec::new(alloc);
     for name in names {
-        run_named(alloc, *name, view, &mut on_nodes, &mut on_names, out)?;
+        run_named(
+            alloc,
+            *name,
+            view,
+            &mut on_nodes,
+            &mut on_names,
+            &mut on_parts,
+            out,
+        )?;
     }
     push_on_nodes(alloc, &on_nodes, view, out)?;
-    push_on_names(alloc, &on_names, view, out)
+    push_on_names(alloc, &on_names, view, out)?;
+    push_on_parts(alloc, &on_parts, view, out)
 }
 
 /// All reports of the rules that are on, of those that ship with the program by their names and of others in boxes, sorted by start, rule

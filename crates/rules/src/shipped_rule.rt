@@ -3,7 +3,7 @@
 ghost use Rattle.std.specs.Prelude.{◌≡◌, ◌++◌, OnOk};
 ghost use Rattle.rule_words.specs.Appends.{Grows};
 ghost use Rattle.tree.specs.Node.{node_tree};
-ghost use Rattle.rules.specs.NameRules.{found_on_names};
+ghost use Rattle.rules.specs.NameRules.{found_on_names, found_on_parts};
 ghost use Rattle.rules.specs.NodeRules.{found_on_nodes};
 ghost use Rattle.rules.specs.Rules.{node_options, profile_of};
 ghost use Rattle.rules.specs.RuleViews.{seen};
@@ -20,6 +20,7 @@ use crate::settings::Settings;
 use crate::view::View;
 use node_rules::{NodeOptions, NodeRule, push_found};
 use reference_rules::{Profile, ReferenceRule, push_found as push_by_names};
+use repetition_rules::{RepetitionRule, push_found as push_by_parts};
 use rule_words::Report;
 use std::alloc::{AllocError, Global};
 use tree::Node;
@@ -61,6 +62,7 @@ impl Rule for ShippedRule {
         match self.name {
             RuleName::OnNodes(rule) => push_on_nodes(self.alloc, &[rule], view, out),
             RuleName::OnNames(rule) => push_on_names(self.alloc, &[rule], view, out),
+            RuleName::OnParts(rule) => push_on_parts(self.alloc, &[rule], view, out),
             RuleName::NoExtraParens => NoExtraParens::new(self.alloc).check(view, out),
             RuleName::NoShadow => NoShadow::new(self.alloc).check(view, out),
             RuleName::NoUndef => NoUndef::new(self.alloc).check(view, out),
@@ -135,4 +137,17 @@ pub(crate) fn push_on_names(
         view.scopes,
         out,
     )
+}
+
+/// Appends what rules on what stands twice in one node find in a view.
+pub(crate) fn push_on_parts(
+    alloc: Global,
+    rules: &[RepetitionRule],
+    view: &View,
+    out: &mut Vec<Report>,
+) -> Result<(), AllocError>
+    ensures found { OnOk result (out.new.items ≡ out.old.items ++ found_on_parts rules.now (seen view.now)) }
+    ensures kept { Grows out.old.items out.new.items }
+{
+    push_by_parts(alloc, rules, view.program, out)
 }

@@ -1,5 +1,5 @@
 -- The number of a value is that of its definition.
-use Rattle.std.proofs.Common.{◌≡◌, ◌∙◌, ◌<◌, ◌≤◌, ◌^◌, ℕ, Bool, cond, true, false, Option, Some, None, Result, Ok, Err, refl, sym, ap, arith, codes, true≢false}
+use Rattle.std.proofs.Common.{◌≡◌, ◌∙◌, ℕ, Bool, cond, true, false, Option, Some, None, Result, Ok, Err, refl, sym, ap, arith, true≢false}
 use Rattle.std.specs.Option.{option_map}
 use Rattle.std.specs.Borrow.{Bor}
 use Rattle.std.specs.Str.Parse.{ParsesUnsigned, digits_value, without_leading_plus}
@@ -18,7 +18,7 @@ by_value found id o value default number e is at =
     let first : value ≡ first_of id (rows_of found) = sym is ∙ e ∙ first_value-rows found id in
     at ∙ ap (number_of default) first
 
-is_ok : {A B : Type 0} → Result A B → Bool
+abbrev is_ok : {A B : Type 0} → Result A B → Bool
 is_ok (Ok x) = true
 is_ok (Err e) = false
 
@@ -42,8 +42,18 @@ unread {E} text (Err e) default error h is = go (is_unsigned_in 0 255 text) (λ 
     h (a.0, omega (arith, small)))
   where
     go : (b : Bool) → (b ≡ true → ⊥) → default ≡ cond b (digits_value 10 (without_leading_plus text)) default
-    go true no = absurd (no refl)
-    go false no = refl
+    go true untaken = absurd (untaken refl)
+    go false untaken = refl
 
 pub returns-in_default : goal.returns-in_default
 returns-in_default c = by_value (found_of c.args.met.now) c.args.id.now c.get_str.result None c.args.default c.args.default c.get_str.ensures (ap (option_map (λ s. s.now)) c.in_default.is) refl
+
+pub returns-in-Ok : goal.returns-in-Ok
+returns-in-Ok c =
+    by_value (found_of c.args.met.now) c.args.id.now c.get_str.result (Some c.in-Some.text.now) c.args.default c.in-Ok.number c.get_str.ensures (ap (option_map (λ s. s.now)) c.in-Some.is)
+    (read c.in-Some.text.now c.parse.result c.args.default c.in-Ok.number c.parse.ensures.value.0 c.in-Ok.is)
+
+pub returns-in-Err : goal.returns-in-Err
+returns-in-Err c =
+    by_value (found_of c.args.met.now) c.args.id.now c.get_str.result (Some c.in-Some.text.now) c.args.default c.args.default c.get_str.ensures (ap (option_map (λ s. s.now)) c.in-Some.is)
+    (unread c.in-Some.text.now c.parse.result c.args.default c.in-Err.field-0 c.parse.ensures.value.0 c.in-Err.is)

@@ -14,3 +14,6 @@ returns-in-Cost-clause-answer g c = λ finds. rw (c.in-Cost.is, c.requires.ready
 
 pub returns-in-Verify-clause-answer : goal.returns-in-Verify-clause-answer
 returns-in-Verify-clause-answer g c = λ finds. rw c.in-Verify.is (c.verify.ensures.answer finds c.args.language c.args.source.now)
+
+pub returns-in-Format-clause-answer : goal.returns-in-Format-clause-answer
+returns-in-Format-clause-answer g c = λ finds. rw (c.in-Format.is, c.requires.ready) (c.format.ensures.answer finds (g.S.Feed.left c.args.second.now))

@@ -7,4 +7,4 @@ use Rattle.rules.proofs.run.gather_named.Given as goal
 abbrev pub invariant-loop-name : goal.invariant-loop-name
 invariant-loop-name l =
     IsPermutation (found_by_names l.names (seen l.view) ++ l.fn.out.items)
-    (l.out.items ++ (found_together l.on_nodes.items l.on_names.items (seen l.view) ++ found_by_names (drop l.name-index l.names) (seen l.view)))
+    (l.out.items ++ (found_together l.on_nodes.items l.on_names.items l.on_parts.items (seen l.view) ++ found_by_names (drop l.name-index l.names) (seen l.view)))

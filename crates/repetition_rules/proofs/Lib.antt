@@ -1,0 +1,6 @@
+mod Behind
+mod CodeSearch
+mod Digits
+mod Passes
+pub mod Together
+mod Writing
