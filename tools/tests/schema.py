@@ -26,7 +26,7 @@ TYPES = {'object': dict, 'array': list, 'string': str, 'boolean': bool, 'integer
 # Values of each kind that TOML has, but for dates.
 VALUES = ['warn', 'error', 'Off', 'warning', 1, 2, 3, -1, {'severity': 1}, {'severity': 'warning'}, {'severity': {}}, {'allow-null': 1}, {'allow-comments': True}, ['no-var'], ['no-var', 'no-var'], ['no-such'], True, False, 0, 1, 2020, 2021, -1.5, '', 'a', 'true', 'off', [], [''], ['a'], ['a', 'a'], ['a b', 'é"\\\n'], [1], [True], ['a', 1], [[]], {}, {'a': True}]
 # Keys that others' settings have.
-FOREIGN = ['', 'extends', 'env', '$schema', 'plugins', 'ignore', 'include', 'overrides', 'parserOptions', 'severity', 'global', 'semi']
+FOREIGN = ['', 'extends', 'env', '$schema', 'plugins', 'ignore', 'include', 'overrides', 'format', 'parserOptions', 'severity', 'global', 'semi']
 
 
 def schema():
