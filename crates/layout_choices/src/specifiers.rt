@@ -81,21 +81,14 @@ pub fn braces<'t>(b: &mut Builder<'t>, list: NodeList<'_, '_>) {
     b.push(Item::GroupEnd);
 }
 
-/// `a`, or `a as b`; `a as a` is `a`.
+/// `a`, or `a as b`; `a as a` has a part more than `a`, and stays.
 fn specifier<'t>(b: &mut Builder<'t>) {
     b.lead();
-    let name = b.peek(0);
     b.any_token();
-    if !b.is("as") {
-        return;
+    if b.is("as") {
+        b.space();
+        b.any_token();
+        b.space();
+        b.any_token();
     }
-    if b.peek(1) == name {
-        b.skip();
-        b.skip();
-        return;
-    }
-    b.space();
-    b.any_token();
-    b.space();
-    b.any_token();
 }
