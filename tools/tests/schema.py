@@ -120,6 +120,7 @@ def without_later(it, version):
     found = copy.deepcopy(it)
     for key in OWN:
         del found['properties'][key]
+    found['properties']['only']['items']['enum'] = [name for name in it['properties']['only']['items']['enum'] if name not in later]
     found['properties']['rules']['properties'] = {name: each for name, each in it['properties']['rules']['properties'].items() if name not in later}
     return found
 
