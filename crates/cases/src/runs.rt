@@ -11,7 +11,7 @@ use commands::{Command, FormatChoice, LanguageChoice, Refused, ReportForm, write
 use language::Language;
 use lint::run::run;
 use rules::{RULES, Rule};
-use source_text::{FailurePlan, Fault, MAX_PIECE, MemoryFeed, MemorySink, Sink};
+use source_text::{FailurePlan, Fault, MAX_BYTES, MAX_PIECE, MemoryFeed, MemorySink, Sink};
 use std::alloc::{AllocError, Global};
 use std::str::from_utf8;
 
@@ -54,6 +54,8 @@ struct Run<'a> {
     second: &'a [u8],
     reader: FailurePlan,
     second_reader: FailurePlan,
+    /// How many bytes the writer takes.
+    room: usize,
     has_tenth: bool,
 }
 
@@ -73,6 +75,7 @@ impl<'a> Run<'a> {
             second,
             reader: plan(per_call),
             second_reader: plan(per_call),
+            room: 65536,
             has_tenth: false,
         }
     }
@@ -141,9 +144,10 @@ pub(crate) fn push_run(
         second: row.text(5).as_bytes(),
         reader: plan(row.text(3)),
         second_reader: plan(row.text(6)),
+        room: ROOM,
         has_tenth: false,
     };
-    let mut writer = MemorySink::new(alloc, ROOM, plan(row.text(4)))?;
+    let mut writer = MemorySink::new(alloc, given.room, plan(row.text(4)))?;
     let answered = answered(alloc, given, &mut writer)?;
     unless_refused(&answered, writer.bytes().len())?;
     push_answer(&answered, writer.bytes(), out)
@@ -176,7 +180,7 @@ fn push_outcome(
     per_call: &str,
     out: &mut String,
 ) -> Result<(), AllocError> {
-    let mut writer = MemorySink::new(alloc, 65536, plan(per_call))?;
+    let mut writer = MemorySink::new(alloc, given.room, plan(per_call))?;
     let answered = answered(alloc, given, &mut writer)?;
     unless_refused(&answered, writer.bytes().len())?;
     match answered {
@@ -212,7 +216,7 @@ fn push_both(alloc: Global, run: Run, out: &mut String) -> Result<(), AllocError
     push_by_bytes(alloc, run, out)
 }
 
-/// What a command answers for a text.
+/// What a command answers for a text, of any length.
 pub(crate) fn push_alone(
     alloc: Global,
     command: Command,
@@ -220,7 +224,9 @@ pub(crate) fn push_alone(
     out: &mut String,
 ) -> Result<(), AllocError> {
     let file = row.text(1).as_bytes();
-    push_both(alloc, Run::new(command, row.language(), file, b"", ""), out)
+    let mut run = Run::new(command, row.language(), file, b"", "");
+    run.room = MAX_BYTES;
+    push_both(alloc, run, out)
 }
 
 /// What a command, by its word, answers for a text and the text of its second file.
