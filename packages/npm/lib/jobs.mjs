@@ -6,6 +6,7 @@ import { applied, editsBetween, layoutEditsBetween } from './edits.mjs';
 import { earlyHint, syntaxHint } from './hints.mjs';
 import { Languages, inLanguage } from './languages.mjs';
 import { formattedBy } from './program.mjs';
+import { withoutFormat } from './settings.mjs';
 import { lineAt, lineStarts, suppressingEdits, withoutSuppressed } from './suppressions.mjs';
 
 const HALF_PAIR = /(?:[^\ud800-\udbff]|^)[\udc00-\udfff]|[\ud800-\udbff](?![\udc00-\udfff])/;
@@ -42,9 +43,16 @@ function answered(call) {
 /** Whether two texts, the first of which may be null, differ in CR LF alone. */
 const isButForCr = (text, other) => text?.replaceAll('\r\n', '\n') === other.replaceAll('\r\n', '\n');
 
+/** The commands, under settings that may have a table `[format]`. */
+function underProjects(commands) {
+  const taken = (more) => (more?.settings === undefined ? more : { ...more, settings: withoutFormat(more.settings) });
+  return { ...commands, check: (text, more) => commands.check(text, taken(more)), spans: (text, more) => commands.spans(text, taken(more)) };
+}
+
 export class Jobs {
   /** The commands are those of core.mjs. */
-  constructor(commands) {
+  constructor(given) {
+    const commands = underProjects(given);
     const isTaken = (settings, language) => !HALF_PAIR.test(settings) && answered(() => commands.check('', { settings, language })) !== null;
     Object.assign(this, { commands, judge: null, last: null, languages: new Languages(isTaken) });
   }

@@ -5,6 +5,16 @@ export const ENVIRONMENTS = ['browser', 'node', 'commonjs', 'worker', 'es2022', 
 // By the name of a language: what a text of it is, and the line that says so.
 export const LANGUAGES = { module: { what: 'module', line: 'source-type = "module"' }, 2022: { what: 'script of ES2022', line: 'edition = 2022' } };
 
+// The table `[format]` with what stands in it, up to the next table.
+const FORMAT_TABLE = /^\[[ \t]*format[ \t]*\][ \t]*(?:#[^\n]*)?\r?(?:\n(?![ \t]*\[)[^\n]*)*/gm;
+// What begins a string of several lines, in which a line that looks like a table's head is none.
+const LONG_STRING = /"""|'''/;
+
+/** Settings without the table `[format]`, which is for formatting alone, and which the program refuses. Its lines stay, empty. */
+export function withoutFormat(settings) {
+  return LONG_STRING.test(settings) ? settings : settings.replace(FORMAT_TABLE, (it) => it.replace(/[^\n]/g, ''));
+}
+
 /** The text with a name more among the globals, or among the environments. */
 function withName(text, key, name, lineEnd) {
   const word = JSON.stringify(name), found = new RegExp(`^([ \\t]*${key}[ \\t]*=[ \\t]*\\[)([^\\]]*?)(,?)(\\s*)\\]`, 'm').exec(text);

@@ -16,7 +16,7 @@ import { Frames, framed } from '../../lib/frames.mjs';
 import { earlyHint, syntaxHint } from '../../lib/hints.mjs';
 import { isIgnored, patternsOf } from '../../lib/ignore.mjs';
 import { Jobs } from '../../lib/jobs.mjs';
-import { ENVIRONMENTS, settingsWith } from '../../lib/settings.mjs';
+import { ENVIRONMENTS, settingsWith, withoutFormat } from '../../lib/settings.mjs';
 import { withoutSuppressed } from '../../lib/suppressions.mjs';
 
 const answered = (call) => { try { return call(); } catch (error) { if (error instanceof Refused) return null; throw error; } };
@@ -435,6 +435,20 @@ test('ignore files: of another work tree, of the user, and of a file that a link
   git('config', 'core.excludesFile', path.join(top, 'global'));
   const beside = new Beside(), is = (name) => beside.isIgnored(path.join(top, name));
   assert.deepEqual(['one/excluded.js', 'two/excluded.js', 'one/global.js', 'two/global.js', 'one/a.js', 'two/a.js', 'one/link.js', 'one/vendor/v.js'].map(is), [true, true, true, true, false, false, true, true]);
+});
+
+test('settings: the table [format] is for formatting alone, and its lines stay', () => {
+  for (const [settings, wanted] of [
+    ['[format]\nwidth = 100\n[rules]\nno-var = false\n', '\n\n[rules]\nno-var = false\n'],
+    ['env = ["node"]\n\n[ format ] # lines\r\ntabs = true\r\n', 'env = ["node"]\n\n\n\n'],
+    ['[rules]\nno-var = true\n[format]\nindent = 4', '[rules]\nno-var = true\n\n'],
+    ['[format.a]\nb = 1\n', '[format.a]\nb = 1\n'],
+    ['globals = ["""\n[format]\n"""]\n', 'globals = ["""\n[format]\n"""]\n'],
+    ['[[overrides]]\nfiles = []\n', '[[overrides]]\nfiles = []\n'],
+  ]) assert.equal(withoutFormat(settings), wanted);
+  assert.equal(jobs.areTaken('[format]\nwidth = 100\n\n[rules]\nno-var = false\n'), true);
+  assert.equal(jobs.areTaken('[format]\nwidth = 100\n\n[rules]\nno-vars = false\n'), false);
+  assert.equal(jobs.settings({ settings: 'extends = "nine"\n[format]\nwidth = 100\n[rules]\nno-vars = false\n' }).line, 3);
 });
 
 test('frames: in pieces of any size, and what is no header', () => {
