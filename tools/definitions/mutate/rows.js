@@ -1,6 +1,6 @@
 'use strict';
 // The rows of crates/cases/data that the definitions can be asked for, with what each wants of them: its least early error, its scopes and references,
-// its reports by the settings, or the reports of one rule on nodes. A row {text, language, look, want, ..}; `look` is a name of LOOKS.
+// its reports by the settings, or the reports of one rule: on nodes, on names, on what stands twice. A row {text, language, look, want, ..}; `look` is a name of LOOKS.
 
 const path = require('node:path');
 const antt = require('../antt.js');
@@ -8,6 +8,8 @@ const behind = require('../behind.js');
 const { rowsOf } = require('../cases.js');
 const { Model, PLAIN_MODEL, plainTree } = require('../model.js');
 const { NodeRules, rowsOfNodeRules } = require('../node_rules.js');
+const { ReferenceRules, rowsOfReferenceRules } = require('../reference_rules.js');
+const { RepetitionRules, rowsOfRepetitionRules } = require('../repetition_rules.js');
 const { Reports } = require('../reports.js');
 const { parseOnly } = require(path.join(PLAIN_MODEL, 'parse.js'));
 
@@ -36,11 +38,13 @@ const LOOKS = {
   scopes: scopesInWords,
   check: ({ reports }, row) => JSON.stringify(behind.linesOf(reports, row)),
   rule: ({ rules }, row) => rules.said(row),
+  name: ({ names }, row) => names.said(row),
+  again: ({ again }, row) => again.said(row),
 };
 // all that the looks ask, of these definitions as they are now
 function lookedAt(spec) {
   const model = new Model([], spec);
-  return { model, reports: new Reports('', model), rules: new NodeRules(model) };
+  return { model, reports: new Reports('', model), rules: new NodeRules(model), names: new ReferenceRules(model), again: new RepetitionRules(model) };
 }
 const saidOf = (definitions, row) => LOOKS[row.look](definitions, row);
 
@@ -50,7 +54,9 @@ function allRows() {
   const scopes = rowsOf('resolved', ['scopes']).map(({ texts: [text], language, want }) => ({ text, language, look: 'scopes', want }));
   const check = behind.rowsOfReports().map((row) => ({ ...row, look: 'check', want: JSON.stringify(row.want) }));
   const rule = rowsOfNodeRules().map((row) => ({ ...row, look: 'rule' }));
-  const rows = [...early, ...scopes, ...check, ...rule].filter(({ text }) => text.length < LONGEST);
+  const name = rowsOfReferenceRules().map((row) => ({ ...row, look: 'name' }));
+  const again = rowsOfRepetitionRules().map((row) => ({ ...row, look: 'again' }));
+  const rows = [...early, ...scopes, ...check, ...rule, ...name, ...again].filter(({ text }) => text.length < LONGEST);
   for (const row of rows) row.read = parseOnly(row.text, { ...LIMITS, ...MORE[row.language] });
   return rows.filter((row) => row.read.ok);
 }
