@@ -28,6 +28,7 @@ class NodeRules {
   said(row) {
     const read = (row.read ??= parseOnly(row.text, { maxHeight: 1e5, maxParens: 1e5, ...MORE[row.language] }));
     if (!read.ok) return 'no script';
+    if (!this.rules.has(row.name)) return 'no such rule';
     const found = this.found(OPTIONS, antt.bytes(row.text), this.rules.get(row.name), this.model.tree(plainTree(read.tree, row.language)));
     return antt.toArray(found).map((it) => `${it.start} ${antt.text(it.text)}; `).join('');
   }

@@ -27,6 +27,7 @@ class ReferenceRules {
   said(row) {
     const read = (row.read ??= parseOnly(row.text, { maxHeight: 1e5, maxParens: 1e5, ...MORE[row.language] }));
     if (!read.ok) return 'no script';
+    if (!this.rules.has(row.name)) return 'no such rule';
     const profile = { is_2022: row.language !== 'base', is_module: row.language === 'module' };
     const found = this.found(profile, this.rules.get(row.name), this.scopes(this.model.tree(plainTree(read.tree, row.language))));
     return antt.toArray(found).map((it) => `${it.start} ${antt.text(it.text)}; `).join('');

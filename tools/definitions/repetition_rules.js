@@ -26,6 +26,7 @@ class RepetitionRules {
   said(row) {
     const read = (row.read ??= parseOnly(row.text, { maxHeight: 1e5, maxParens: 1e5, ...MORE[row.language] }));
     if (!read.ok) return 'no script';
+    if (!this.rules.has(row.name)) return 'no such rule';
     const found = this.found(this.rules.get(row.name), this.model.tree(plainTree(read.tree, row.language)));
     return antt.toArray(found).sort((one, other) => one.start - other.start).map((it) => `${it.start} ${antt.text(it.text)}; `).join('');
   }
