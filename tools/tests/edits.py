@@ -63,7 +63,7 @@ MISFITS = [
 def begin(room):
     """A repository of one crate, with edits that fit."""
     os.makedirs(room.path('edits'))
-    for name in ('form.py', 'run.py', 'verdicts.py'):
+    for name in ('form.py', 'reading.py', 'run.py', 'verdicts.py'):
         shutil.copy(f'{TOP}/edits/{name}', room.path(f'edits/{name}'))
     room.put('crates.txt', '# one crate\nsmall:\n')
     room.put('crates/small/src/lib.rt', SOURCE)

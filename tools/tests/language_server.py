@@ -75,7 +75,7 @@ def texts(room):
     asked = f"import {{ pagesOf }} from '{PACKAGES}/npm/make-texts.mjs'; console.log(JSON.stringify(pagesOf(new URL('file://{TOP}/'))));"
     pages = json.loads(ran([libraries.node(), '--input-type=module', '-e', asked])[0])
     same(sorted(pages), sorted(f'{it}.md' for it in now['rules']))
-    is_well(all(text.startswith(f'# {name[:-3]}\n') and '## What differs from ESLint' in text and not re.search(r'\]\((?!http)', text) for name, text in pages.items()), 'a page of a rule')
+    is_well(all(text.startswith(f'# {name[:-3]}\n') and ('## What differs from ESLint' in text or '## Why it finds nothing' in text) and not re.search(r'\]\((?!http)', text) for name, text in pages.items()), 'a page of a rule')
     same(sorted(now['rules']), sorted(set(os.path.basename(it)[:-3] for it in glob.glob(f'{TOP}/docs/rules/*.md')) - {'README'}))
     early = re.findall(r'^\| \d+ \|', text_of(f'{TOP}/docs/USAGE.md').partition('The early errors')[2].partition('\n## ')[0], re.M)
     same(len(now['early']), len(early))
@@ -106,7 +106,7 @@ def vscode(_):
     wanted = {f'jslint.{name}': json.loads(value.replace("'", '"')) for name, value in re.findall(r'^  (\w+): \[(\[.*?\]|[^,]*), ', options, re.M)}
     same({name: it['default'] for name, it in properties.items()}, wanted)
     page = text_of(f'{TOP}/docs/EDITORS.md')
-    is_well(len(wanted) == 8 and all(f'| `{name.split(".")[1]}` | ' in page for name in wanted), wanted)
+    is_well(len(wanted) == 10 and all(f'| `{name.split(".")[1]}` | ' in page for name in wanted), wanted)
     same(package['version'], json.loads(text_of(f'{PACKAGES}/npm/package.json'))['version'])
     copied = re.fullmatch(r'cp (\S+/([\w.]+)) \.', package['scripts']['vscode:prepublish'])
     is_well(os.path.isfile(f'{folder}/{copied[1]}') and package['contributes']['tomlValidation'] == [{'fileMatch': 'jslint.toml', 'url': f'./{copied[2]}'}], package)

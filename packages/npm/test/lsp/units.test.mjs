@@ -448,7 +448,7 @@ test('settings: the table [format] is for formatting alone, and its lines stay',
   ]) assert.equal(withoutFormat(settings), wanted);
   assert.equal(jobs.areTaken('[format]\nwidth = 100\n\n[rules]\nno-var = false\n'), true);
   assert.equal(jobs.areTaken('[format]\nwidth = 100\n\n[rules]\nno-vars = false\n'), false);
-  assert.equal(jobs.settings({ settings: 'extends = "nine"\n[format]\nwidth = 100\n[rules]\nno-vars = false\n' }).line, 3);
+  assert.equal(jobs.settings({ settings: 'extends = "nine"\n[format]\nwidth = 100\n[rules]\nno-vars = false\n' }).line, 4);
 });
 
 test('frames: in pieces of any size, and what is no header', () => {
