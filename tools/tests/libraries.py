@@ -398,7 +398,8 @@ def by_ctypes(folder):
 
 def by_node(folder):
     """Answers by the package in a process of its own."""
-    words = [node(), f'{TOP}/tools/tests/answers.mjs', folder]
+    # (until the engine has compiled a function for speed, which takes longer on a busy machine, a deep text needs more stack than Node gives)
+    words = [node(), '--stack-size=4000', f'{TOP}/tools/tests/answers.mjs', folder]
     process = subprocess.Popen(words, stdin=subprocess.PIPE, stdout=subprocess.PIPE, text=True)
 
     def answers(name, text, second):
