@@ -14,7 +14,7 @@ import subprocess
 import sys
 
 import rows
-from jslint_files.rule_table import RULES
+from jslint_files.rule_table import MOOT, RULES
 from recipes import is_well, same
 
 TOP = os.path.dirname(os.path.dirname(os.path.dirname(os.path.realpath(__file__))))
@@ -28,7 +28,7 @@ PACKED = {
     *(f'lib/{it}.mjs' for it in (
         'actions', 'beside', 'casts', 'changes', 'checking', 'connection', 'document', 'editor', 'edits', 'engine', 'frames', 'git', 'hinting', 'hints', 'ignore', 'jobs', 'languages', 'program', 'progress',
         'protocol', 'rewriting', 'server', 'settings', 'shown', 'suppressions', 'texts', 'thread', 'workspace')),
-    *(f'lib/{it}.md' for it in RULES),
+    *(f'lib/{it}.md' for it in (*RULES, *MOOT)),
 }
 # Where the libraries are, or why there are none.
 PLACE, WHY = None, None
