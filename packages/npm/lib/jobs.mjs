@@ -44,7 +44,7 @@ function answered(call) {
 const isButForCr = (text, other) => text?.replaceAll('\r\n', '\n') === other.replaceAll('\r\n', '\n');
 
 /** The commands, under settings that may have a table `[format]`. */
-function underProjects(commands) {
+function passingOverFormat(commands) {
   const taken = (more) => (more?.settings === undefined ? more : { ...more, settings: withoutFormat(more.settings) });
   return { ...commands, check: (text, more) => commands.check(text, taken(more)), spans: (text, more) => commands.spans(text, taken(more)) };
 }
@@ -52,7 +52,7 @@ function underProjects(commands) {
 export class Jobs {
   /** The commands are those of core.mjs. */
   constructor(given) {
-    const commands = underProjects(given);
+    const commands = passingOverFormat(given);
     const isTaken = (settings, language) => !HALF_PAIR.test(settings) && answered(() => commands.check('', { settings, language })) !== null;
     Object.assign(this, { commands, judge: null, last: null, languages: new Languages(isTaken) });
   }
