@@ -25,5 +25,5 @@ pub fn items_of<'t>(
     statements(&mut builder, body);
     builder.push_closing(body.len() > 0);
     builder.push(Item::HardLine);
-    Ok(builder.finished())
+    builder.finished()
 }

@@ -32,8 +32,10 @@ pub struct Builder<'t> {
     ignored: Option<usize>,
     /// A space was asked for behind the last piece, or a break that is one when flat.
     is_behind_space: bool,
-    /// The tree and the tokens don't agree, or memory was refused.
+    /// The tree and the tokens don't agree.
     is_lost: bool,
+    /// Memory was refused for comments.
+    is_refused: bool,
 }
 
 impl<'t> Builder<'t> {
@@ -63,6 +65,7 @@ impl<'t> Builder<'t> {
             ignored: None,
             is_behind_space: false,
             is_lost: false,
+            is_refused: false,
         };
         builder.read_beginning()?;
         Ok(builder)
@@ -88,18 +91,25 @@ impl<'t> Builder<'t> {
     }
 
     /// The items, if the tree and the tokens agree: all tokens were passed but the end of the text.
-    pub fn finished(self) -> Option<ItemList<'t>> {
+    ///
+    /// # Errors
+    /// `AllocError` where memory was refused for comments.
+    pub fn finished(self) -> Result<Option<ItemList<'t>>, AllocError> {
         let Builder {
             items,
             is_lost,
+            is_refused,
             next,
             tokens,
             ..
         } = self;
-        if is_lost || tokens.len().saturating_sub(next) != 1 {
-            return None;
+        if is_refused {
+            return Err(AllocError);
         }
-        Some(items)
+        if is_lost || tokens.len().saturating_sub(next) != 1 {
+            return Ok(None);
+        }
+        Ok(Some(items))
     }
 
     /// The tree and the tokens don't agree: nothing is answered in the end.
@@ -217,7 +227,7 @@ impl<'t> Builder<'t> {
         };
         let start = after.span.start as usize;
         if self.gap.read(self.text, self.end, start).is_err() {
-            self.is_lost = true;
+            self.is_refused = true;
         }
     }
 
@@ -539,7 +549,7 @@ impl<'t> Builder<'t> {
             None => end,
         };
         if self.gap.read(self.text, end, start).is_err() {
-            self.is_lost = true;
+            self.is_refused = true;
         }
     }
 

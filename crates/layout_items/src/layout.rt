@@ -1,6 +1,6 @@
 //! The layout of items.
 
-ghost use Rattle.std.specs.Prelude.{◌≡◌, ◌+◌, ◌≤◌, None, List, ◌∷◌, true, reverse, IfOk, IfErr, OnOk};
+ghost use Rattle.std.specs.Prelude.{◌≡◌, ◌+◌, ◌≤◌, None, List, ◌∷◌, length, true, reverse, IfOk, IfErr, OnOk};
 ghost use Rattle.std.specs.String.{string_bytes};
 ghost use Rattle.layout_items.specs.declared.item.Item.{Item};
 ghost use Rattle.layout_items.specs.Items.{is_start};
@@ -29,6 +29,7 @@ pub fn lay_out(
     alloc: Global,
 ) -> Result<String, LayoutError>
     ensures laid { IfOk result (λ text. (items.now.refused ≡ None) × IsLayout style items.now.items.items (string_bytes text)) }
+    ensures within { IfOk result (λ text. length (string_bytes text) ≤ limit) }
     ensures refused { IfErr result (Refuses style limit items.now) }
 {
     let listed = items.items()?;

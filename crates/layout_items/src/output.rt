@@ -1,9 +1,7 @@
 //! What is written of a layout.
 
-ghost use Rattle.std.specs.Prelude.{◌≡◌, ℕ, ◌+◌, ◌≤◌, [], ◌∷◌, ◌++◌, length, replicate, cond};
+ghost use Rattle.std.specs.Prelude.{◌≤◌, length};
 ghost use Rattle.std.specs.String.{string_bytes};
-ghost use Rattle.layout_items.specs.Layout.{gap_text, indentation, item_text, ending};
-ghost use Rattle.layout_items.specs.Written.{Appended, bytes_of};
 
 use crate::form::Form;
 use crate::gap::Gap;
@@ -18,9 +16,15 @@ use std::alloc::Global;
 pub(crate) struct Output {
     text: String,
     limit: usize,
+    ghost within: { length (string_bytes text) ≤ limit },
 }
 
 impl Output {
+    ghost use Rattle.std.specs.Prelude.{◌≡◌, ℕ, ◌+◌, ◌≤◌, [], ◌∷◌, ◌++◌, length, replicate, cond};
+    ghost use Rattle.std.specs.String.{string_bytes};
+    ghost use Rattle.layout_items.specs.Layout.{gap_text, indentation, item_text, ending};
+    ghost use Rattle.layout_items.specs.Written.{Appended, bytes_of};
+
     /// Nothing is written.
     pub(crate) fn new(alloc: Global, limit: usize) -> Output
         ensures text { bytes_of result ≡ [] }
@@ -158,7 +162,8 @@ impl Output {
 
     /// The text.
     pub(crate) fn into_text(self) -> String
-        ensures { string_bytes result ≡ bytes_of self }
+        ensures text { string_bytes result ≡ bytes_of self }
+        ensures within { length (string_bytes result) ≤ self.limit }
     {
         self.text
     }

@@ -48,5 +48,8 @@ pub returns-clause-laid : goal.returns-clause-laid
 returns-clause-laid c =
     let now = c.loop-item in (
       c.in_ok-listed.ensures.refused,
-      laid-at_end c.args.style c.args.items.now.items.items c.in_ok-listed.listed.now now.place (reverse now.forms.items) now.output c.append_ending.new.self now.item-index _ c.loop-item-test.false c.in_ok-listed.ensures.items now.invariant.laid c.in_ok-append_ending.ensures c.into_text.ensures,
+      laid-at_end c.args.style c.args.items.now.items.items c.in_ok-listed.listed.now now.place (reverse now.forms.items) now.output c.append_ending.new.self now.item-index _ c.loop-item-test.false c.in_ok-listed.ensures.items now.invariant.laid c.in_ok-append_ending.ensures c.into_text.ensures.text,
     )
+
+pub returns-clause-within : goal.returns-clause-within
+returns-clause-within c = omega (arith, c.into_text.ensures.within, c.in_ok-append_ending.ensures.1, c.loop-item.invariant.limit)
