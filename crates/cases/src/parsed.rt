@@ -10,7 +10,7 @@ use crate::plans::{push_extra, push_extra_pairs, push_gauged_table, push_plan};
 use crate::printing::{is_fixed, push_gauged_layout, push_layout, push_pieces, push_written};
 use crate::reference_rule_rows::push_name_rule;
 use crate::refusals::push_refusal;
-use crate::repetition_rule_rows::push_repetition_rule;
+use crate::rule_alone_rows::push_rule_alone;
 use crate::reports::{push_rules, push_scopes};
 use crate::runs::is_written;
 use commands::Command;
@@ -178,7 +178,9 @@ fn push_shown(
         "rules" | "refused rule" | "rule on nodes" => push_rules(alloc, row, parsed, out),
         "rule alone" => push_node_rule(alloc, row, parsed, out),
         "name rule" => push_name_rule(alloc, row, program, out),
-        "repetition rule" => push_repetition_rule(alloc, row, program, out),
+        "flow rule" | "literal rule" | "repetition rule" | "text rule" => {
+            push_rule_alone(alloc, row, program, out)
+        },
         "alike" => push_alike(alloc, program, row, out),
         "kept" => push_kept(alloc, parsed, row, out),
         "retained" => push_retained(alloc, parsed, row, out),

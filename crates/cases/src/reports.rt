@@ -298,7 +298,7 @@ fn push_checked(
     let groups = pair_rows(alloc, program, parsed.grouping_pairs())?;
     let extra = spans_of(alloc, program, &groups)?;
     let scopes = resolve(alloc, program)?;
-    let view = View::new(program, row.text(1), &scopes, &extra, settings);
+    let view = View::new(program, row.text(1), Some(&scopes), &extra, settings);
     match row.text(0) {
         "rules" => push_of_all(alloc, &view, out),
         "rule on nodes" => push_of_like(alloc, &view, out),

@@ -112,11 +112,6 @@ telling_renamed gives command choice settings name other result same = subst (λ
 
 -- ---- the list and the settings
 
--- a line without settings has none
-pub no_settings : (gives : Contents) (line : Line) (settings : List ℕ) → line.second ≡ None → settings ≡ [] → HasSettings gives line settings
-no_settings gives line settings none empty =
-    subst (λ (second : Option (Bor Text)). HoldsAny gives (option_map (λ s. s.now) second) settings) (sym none) empty
-
 -- those that it names
 pub named_settings : (gives : Contents) (line : Line) (name : Bor Text) (result : Result (Vec ℕ Global) Stop) → line.second ≡ Some name
     → IfOk result (λ bytes. Holds gives name.now bytes.items) → IfOk result (λ bytes. HasSettings gives line bytes.items)
@@ -136,10 +131,6 @@ stops_second gives line name (Err (Refuses refused)) named stops = stops
 pub stops_first : (gives : Contents) (line : Line) (choice : LanguageChoice) (stop : Stop) → StopsReading gives line.file.now stop → StopsList gives line choice stop
 stops_first gives line choice (Unread other failure) (is, cannot) = inl (inl is, subst (λ (n : Text). CannotRead gives n failure) (sym is) cannot)
 stops_first gives line choice (Refuses refused) stops = inr (inr stops)
-
-pub stops_file : (gives : Contents) (line : Line) (choice : LanguageChoice) (stop : Stop) → StopsFile gives line stop → StopsList gives line choice stop
-stops_file gives line choice (Unread other failure) stops = inl stops
-stops_file gives line choice (Refuses refused) stops = inr (inr stops)
 
 -- want of memory has words of its own
 pub told_reading : (gives : Contents) (name : Text) (stop : Stop) → StopsReading gives name stop → IsTold stop

@@ -1,6 +1,7 @@
 -- From what is read and found to what `check` answers.
 use Rattle.std.proofs.Common.{◌≡◌, ◌≢◌, ◌∙◌, ℕ, List, Bool, false, map, refl, sym, ap, subst, inl, inr, Option, None, Some, Result, Ok, Err}
-use Rattle.std.specs.Prelude.{IfOk, IfErr}
+use Rattle.std.specs.Prelude.{◌++◌, [], IfOk, IfErr}
+use Rattle.std.specs.List.Sorted.{IsPermutation, IsSorted}
 use Rattle.std.specs.Str.{IsUtf8}
 use Rattle.tree.specs.declared.kind.Pair.{Pair}
 use Rattle.tree.specs.declared.kind.Span.{Span}
@@ -10,6 +11,9 @@ use Rattle.spellings.specs.Groupings.{grouping, row_starts}
 use Rattle.paren_planner.specs.Plans.{AreWraps}
 use Rattle.paren_planner.specs.Extra.{extra_spans}
 use Rattle.paren_planner.proofs.PairRows.{extra_pairs_are_extra}
+use Rattle.paren_planner.specs.Wrapped.{flags}
+use Rattle.paren_planner.proofs.WrappedRows.{flagged_wrapped}
+use Rattle.language.specs.Pieces.{script}
 use Rattle.source_text.specs.Source.{max_bytes}
 use Rattle.source_text.specs.declared.fault.Fault.{Fault}
 use Rattle.source_text.specs.declared.fault.Fault.TheVariants.{OutOfMemory, BadSettings, ReadFailed, Usage}
@@ -19,9 +23,14 @@ use Rattle.commands.specs.declared.command.ReportForm.TheVariants.{Places, Spans
 use Rattle.commands.specs.declared.refused.Refused.{Refused}
 use Rattle.commands.specs.WholeTexts.{ReadsUpTo}
 use Rattle.scopes.specs.Found.{Found, found}
+use Rattle.rule_words.specs.Order.{report_cmp}
 use Rattle.rules.specs.Reports.{Report}
 use Rattle.rules.specs.Lines.{report_lines}
 use Rattle.rules.specs.Rules.{View}
+use Rattle.rules.specs.RuleViews.{found_or_nothing}
+use Rattle.rules.specs.Run.{found_by_names, found_with, look_at_pairs, look_at_scopes}
+use Rattle.rules.specs.declared.rule_list.RuleName.{RuleName}
+use Rattle.rules.proofs.Views.{same_without_pairs, same_without_scopes, with_extra, with_found}
 use Rattle.rules.specs.Settings.{Settings}
 use Rattle.rules.specs.Toml.{settings_of_text}
 use Rattle.lint.specs.declared.answer.Answer.{Answer}
@@ -30,7 +39,8 @@ use Rattle.commands.specs.Refused.{at_no_place, place_of}
 use Rattle.commands.specs.declared.language_choice.LanguageChoice.{LanguageChoice}
 use Rattle.lint.specs.declared.check_command.Checked.{Checked}
 use Rattle.lint.specs.Languages.{asked_language, language_of}
-use Rattle.lint.specs.Outputs.{Checks, IsExtra, IsOutput, IsSecond, IsView}
+use Rattle.lint.specs.Asked.{HasExtra, HasScopes}
+use Rattle.lint.specs.Outputs.{Checks, IsExtra, IsOutput, IsSecond, IsView, Reports}
 use Rattle.lint.specs.ReadScripts.{IsReading, RefusesReading}
 use Rattle.lint.specs.Hints.{IsHint}
 use Rattle.lint.specs.Run.{IsSource, Refuses, Seen}
@@ -46,16 +56,46 @@ are_extra language text n P wraps spans utf8 wrapped is = record {
   but_needed = λ o last d. is ∙ extra_pairs_are_extra language text o n last P utf8 d wraps;
 }
 
--- the view that is made of a script, what is found in it, its extra pairs and settings
-pub view_is : (language : Language) (text : List ℕ) (n : Tree) (P : List Pair) (settings : Settings) (view : View) (m : Tree) (f : Found) (spans : List Span)
-    → view ≡ record { tree = m; text = text; found = f; extra = spans; settings = settings } → m ≡ n → f ≡ found n → IsExtra language text n P spans → IsView language text n P settings view
-view_is language text n P settings view m f spans is tree scopes extra = record {
-  of_tree = ap (λ (v : View). v.tree) is ∙ tree;
-  of_text = ap (λ (v : View). v.text) is;
-  of_scopes = ap (λ (v : View). v.found) is ∙ scopes;
-  of_extra = subst (IsExtra language text n P) (sym (ap (λ (v : View). v.extra) is)) extra;
-  of_settings = ap (λ (v : View). v.settings) is;
-}
+-- ---- rules find the same where scopes and extra pairs are there at which none of them looks
+
+-- the extra pairs of a script, by its tree
+all_extra : Tree → List Pair → List Span
+all_extra n P = extra_spans (flags n script) (map (grouping (row_starts n)) P)
+
+module _ {B : Type 0} (called : B → List ℕ) (finds : B → View → List Report) (names : List RuleName) (bs : List B) where
+  finds_all : View → List Report
+  finds_all = found_with called finds names bs
+
+  -- with the others, of which there are none
+  names_alone : (v w : View) → bs ≡ [] → found_by_names names v ≡ found_by_names names w → finds_all v ≡ finds_all w
+  names_alone v w empty same =
+      ap (λ rest. found_with called finds names rest v) empty ∙ ap (λ l. l ++ []) same ∙ sym (ap (λ rest. found_with called finds names rest w) empty)
+
+  scoped : (v : View) (scopes : Option Found) (n : Tree) → v.found ≡ found_or_nothing scopes → HasScopes names bs v.settings n scopes → finds_all v ≡ finds_all (with_found v (found n))
+  scoped v (Some f) n is has = ap (λ g. finds_all (with_found v g)) (is ∙ has)
+  scoped v None n is (empty, off) = names_alone v (with_found v (found n)) empty (sym (same_without_scopes names v (found n) off))
+
+  -- the pairs that a script has, whether or not they were looked for
+  pub paired : (v : View) (n : Tree) (P : List Pair) → HasExtra names bs v.settings n P v.extra → (spans : List Span) × ((language text : _) → IsUtf8 text → IsExtra language text n P spans) × (finds_all v ≡ finds_all (with_extra v spans))
+  paired v n P (inl are) = (v.extra, are, refl)
+  paired v n P (inr (empty, off)) =
+      let spans : List Span = all_extra n P in
+      (spans, (λ language text utf8. are_extra language text n P (flags n script) spans utf8 (flagged_wrapped n script) refl), names_alone v (with_extra v spans) empty (sym (same_without_pairs names v spans off)))
+
+  -- so what they find in the view that was made is what they find in a view of which all is there
+  pub whole_reports : (language : Language) (text : List ℕ) (n : Tree) (P : List Pair) (settings : Settings) (v : View) (scopes : Option Found) (reports : List Report) → IsUtf8 text
+      → v.tree ≡ n → v.text ≡ text → v.settings ≡ settings → v.found ≡ found_or_nothing scopes → HasScopes names bs settings n scopes → HasExtra names bs settings n P v.extra
+      → IsPermutation (finds_all v) reports → IsSorted report_cmp reports → Reports finds_all language text n P settings reports
+  whole_reports language text n P settings v scopes reports utf8 tree is_text given is has extra all sorted =
+      let pairs = paired v n P (subst (λ s. HasExtra names bs s n P v.extra) (sym given) extra) in
+      let w : View = with_extra v pairs.0 in
+      let same : finds_all v ≡ finds_all (with_found w (found n)) = pairs.1.1 ∙ scoped w scopes n is (subst (λ s. HasScopes names bs s n scopes) (sym given) has) in
+      record {
+        view = with_found w (found n);
+        is_view = record { of_tree = tree; of_text = is_text; of_scopes = refl; of_extra = pairs.1.0 language text utf8; of_settings = given };
+        all = subst (λ l. IsPermutation l reports) same all;
+        sorted = sorted;
+      }
 
 -- what `check` answers for settings that were read
 checked : (finds : View → List Report) (form : ReportForm) (language : Language) (text : List ℕ) (n : Tree) (P : List Pair) (second output : List ℕ) (settings : Settings) (answer : Answer) → IsUtf8 second
@@ -122,20 +162,6 @@ pub settings_told : (given : Option (List ℕ)) (failed : Bool) (second : List �
     → IfOk result (λ _. IsUtf8 second) → IfOk result (λ settings. settings_of_text second ≡ Some settings) → IfErr result (RefusesSettingsBy second) → ReadsSettings given result failed
 settings_told given failed second (Ok settings) well is utf8 are why = (well, (second, is, utf8, are))
 settings_told given failed second (Err refused) well is utf8 are why = refused_settings given failed second refused well is why
-
-unlike : (fault : Fault) (refused : Refused) → refused.fault ≡ fault → (fault ≡ Usage → ⊥) → refused.fault ≢ Usage
-unlike fault refused is other usage = other (sym is ∙ usage)
-
--- what it is refused for has words of its own
-pub lacking_told : (given : Option (List ℕ)) (refused : Refused) (failed : Bool) → LacksSettings given refused failed → refused.fault ≢ Usage
-lacking_told given refused failed (inl unread) = unlike ReadFailed refused (ap (λ (r : Refused). r.fault) unread.1) (λ e. cc)
-lacking_told given refused failed (inr (well, inl memory)) = unlike OutOfMemory refused (ap (λ (r : Refused). r.fault) memory) (λ e. cc)
-lacking_told given refused failed (inr (well, inr why)) = unlike BadSettings refused why.2.0 (λ e. cc)
-
--- so has what settings and the call contradict each other in
-pub language_told : (choice : LanguageChoice) (given : Option (List ℕ)) (refused : Refused) (failed : Bool) → LacksLanguage choice given refused failed → refused.fault ≢ Usage
-language_told choice given refused failed (inl lacks) = lacking_told given refused failed lacks
-language_told choice given refused failed (inr (well, is, other)) = unlike BadSettings refused (ap (λ (r : Refused). r.fault) is) (λ e. cc)
 
 -- settings that were read leave no language that a call asks for
 pub contradicted : (choice : LanguageChoice) (given : Option (List ℕ)) (settings : Settings) (failed : Bool) (refused : Refused) → ReadsSettings given (Ok settings) failed → language_of choice settings.languages ≡ None

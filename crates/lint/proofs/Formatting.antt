@@ -67,32 +67,11 @@ fewest_either bytes language style text between (Err fault) unwraps formats = tt
 -- ---- refusals
 
 -- a script whose layout is refused isn't formatted
-pub laying_refused : (language : Language) (text : List ℕ) (n : Tree) (P : List Pair) (fault : Fault) → Accepted language text n P → IsUnlaid text fault
-    → RefusesFormatting language text fault
-laying_refused language text n P TooLong is unlaid = (n, P, is, unlaid)
-laying_refused language text n P FormatFailed is unlaid = (n, P, is, unlaid)
-laying_refused language text n P OutOfMemory is unlaid = tt
-laying_refused language text n P _ is unlaid = absurd unlaid
-
--- in a result
-pub laying_either : {X : Type 0} (language : Language) (text : List ℕ) (n : Tree) (P : List Pair) (result : Result X Fault) → Accepted language text n P → IfErr result (IsUnlaid text)
-    → IfErr result (RefusesFormatting language text)
-laying_either language text n P (Ok x) is refused = tt
-laying_either language text n P (Err fault) is refused = laying_refused language text n P fault is refused
-
--- and by a choice either
 pub unlaid_refused : (fewest : Bool) (text : List ℕ) (n : Tree) (P : List Pair) (fault : Fault) → IsUnlaid text fault → RefusesFormat fewest text n P fault
 unlaid_refused fewest text n P TooLong unlaid = inl unlaid
 unlaid_refused fewest text n P FormatFailed unlaid = tt
 unlaid_refused fewest text n P OutOfMemory unlaid = tt
 unlaid_refused fewest text n P _ unlaid = absurd unlaid
-
--- nor is one with the fewest pairs that isn't unwrapped
-pub unwrapping_refused : (text : List ℕ) (n : Tree) (P : List Pair) (fault : Fault) → RefusesScript text n P fault → RefusesFormat true text n P fault
-unwrapping_refused text n P TooLong refused = inr (refl, refused)
-unwrapping_refused text n P UnwrapFailed refused = (refl, refused)
-unwrapping_refused text n P OutOfMemory refused = tt
-unwrapping_refused text n P _ refused = absurd refused
 
 -- a refusal of a layout, in a result
 pub either_refused : {X : Type 0} (fewest : Bool) (text : List ℕ) (n : Tree) (P : List Pair) (result : Result X Fault) → IfErr result (IsUnlaid text)

@@ -5,5 +5,6 @@ pub mod Formats
 pub mod Unwraps
 pub mod Hints
 pub mod Outputs
+pub mod Asked
 pub mod Run
 pub mod Steps

@@ -7,6 +7,7 @@ ghost use Rattle.commands.specs.declared.command.Command.TheVariants.{Check};
 ghost use Rattle.rules.specs.Run.{found_with};
 ghost use Rattle.rules.specs.Toml.{settings_of_text};
 ghost use Rattle.lint.specs.ReadScripts.{IsScript};
+ghost use Rattle.lint.specs.Asked.{HasExtra, HasScopes};
 ghost use Rattle.lint.specs.Outputs.{IsExtra, Reports};
 ghost use Rattle.lint.specs.Run.{IsSource};
 ghost use Rattle.lint.specs.Steps.{AnswersBytes, ReadsLanguage, RefusesChecked, ReadsSettings, IsWritable, RefusesSettingsBy, ReportsLines, lines_in};
@@ -20,9 +21,10 @@ use language::Language;
 use paren_planner::{extra_pairs, wraps_by_pairs};
 use parser::Parsed;
 use rules::{
-    Report, Rule, RuleName, Settings, View, report_lines, report_status, run_rules, span_lines,
+    Report, Rule, RuleName, Settings, View, look_at_pairs, look_at_scopes, report_lines,
+    report_status, run_rules, span_lines,
 };
-use scopes::resolve;
+use scopes::{Scopes, resolve};
 use source_text::{Fault, Feed, MAX_BYTES, Source};
 use spellings::pair_rows;
 use std::alloc::{AllocError, Global};
@@ -128,6 +130,40 @@ fn extra_spans(alloc: Global, parsed: &Parsed<'_>) -> Result<Vec<Span>, AllocErr
     Ok(spans)
 }
 
+/// The spans of a script's extra pairs, if a rule that is on may look at them: one of these names, or any other rule.
+fn asked_spans(
+    alloc: Global,
+    names: &[RuleName],
+    rules: &[Box<dyn Rule>],
+    parsed: &Parsed<'_>,
+    settings: &Settings,
+) -> Result<Vec<Span>, AllocError>
+    requires script { IsScript parsed.now.program parsed.now.pairs.items }
+    ensures { IfOk result (λ spans. HasExtra names.now rules.now settings.now parsed.now.program parsed.now.pairs.items spans.items) }
+{
+    if rules.is_empty() && !look_at_pairs(names, settings) {
+        return Ok(Vec::new(alloc));
+    }
+    extra_spans(alloc, parsed)
+}
+
+/// The scopes of a script, if a rule that is on may look at them: one of these names, or any other rule.
+fn asked_scopes<'t>(
+    alloc: Global,
+    names: &[RuleName],
+    rules: &[Box<dyn Rule>],
+    parsed: &'t Parsed<'_>,
+    settings: &Settings,
+) -> Result<Option<Scopes<'t>>, AllocError>
+    ensures { IfOk result (λ scopes. HasScopes names.now rules.now settings.now parsed.now.program scopes) }
+{
+    if rules.is_empty() && !look_at_scopes(names, settings) {
+        return Ok(None);
+    }
+    let scopes = resolve(alloc, parsed.program())?;
+    Ok(Some(scopes))
+}
+
 /// What the rules that are on report of a script, in order.
 fn reports(
     alloc: Global,
@@ -141,9 +177,15 @@ fn reports(
     requires utf8 { IsUtf8 source.now }
     ensures { IfOk result (λ reports. (language : _) → Reports (found_with (λ b. called b) (λ b. finds b) names.now rules.now) language source.now parsed.now.program parsed.now.pairs.items settings.now reports.items) }
 {
-    let extra = extra_spans(alloc, parsed)?;
-    let scopes = resolve(alloc, parsed.program())?;
-    let view = View::new(parsed.program(), source.text(), &scopes, &extra, settings);
+    let extra = asked_spans(alloc, names, rules, parsed, settings)?;
+    let scopes = asked_scopes(alloc, names, rules, parsed, settings)?;
+    let view = View::new(
+        parsed.program(),
+        source.text(),
+        scopes.as_ref(),
+        &extra,
+        settings,
+    );
     let reports = run_rules(alloc, names, rules, &view)?;
     Ok(reports)
 }

@@ -12,17 +12,6 @@ use Rattle.embedding.specs.declared.output.Output.{Output}
 use Rattle.named_answers.specs.NamedAnswers.{Answers, Tells, refusal_line_of, told_of}
 use Rattle.named_answers.specs.declared.Telling.{Telling}
 
--- four pieces, one behind the other
-pub four_pieces : (p q r s : List ℕ) → (((([] ++ p) ++ q) ++ r) ++ s) ≡ p ++ (q ++ (r ++ s))
-four_pieces p q r s = append_assoc (p ++ q) r s ∙ append_assoc p q (r ++ s)
-
--- the line of a refusal, from the plain one
-pub refusal_named : (shown plain line : List ℕ) (refused : Refused) → plain ≡ refusal_line refused
-    → line ≡ (((([] ++ codes "jslint: ") ++ shown) ++ codes ": ") ++ drop 8 plain) → line ≡ refusal_line_of shown refused
-refusal_named shown plain line refused is made =
-    made ∙ ap (λ (text : List ℕ). (((([] ++ codes "jslint: ") ++ shown) ++ codes ": ") ++ drop 8 text)) is
-    ∙ four_pieces (codes "jslint: ") shown (codes ": ") (refusal_words refused ++ 10 ∷ [])
-
 -- the answer, or that memory was refused for what is told of it
 pub told_either : (command : Command) (choice : LanguageChoice) (shown text settings : List ℕ) (output : Output) (result : Result Telling AllocError)
     → AnswersBytes command choice text settings (Ok output) → IfOk result (λ telling. Tells telling (told_of shown (Ok output)) ⊎ Tells telling (told_of shown (Err no_memory)))

@@ -4,7 +4,6 @@ use Rattle.std.proofs.lemmas.List.Sorted.{IsPermutation-trans, IsPermutation-app
 use Rattle.std.proofs.Math.Seq.{drop-cons}
 use Rattle.std.proofs.lemmas.List.{drop_all}
 use Rattle.tree.specs.Tree.{Tree}
-use Rattle.tree.specs.Flat.{post_order}
 use Rattle.rule_words.specs.Reports.{Report}
 use Rattle.node_rules.specs.declared.node_rule.NodeOptions.{NodeOptions}
 use Rattle.node_rules.specs.declared.node_rule.NodeRule.{NodeRule}
@@ -12,13 +11,8 @@ use Rattle.node_rules.specs.Arounds.{round_root}
 use Rattle.node_rules.specs.Over.{over_nodes}
 use Rattle.node_rules.specs.Rows.{of_node, of_rules}
 use Rattle.node_rules.proofs.Together.{both-nodes, no-rules, same-permutation}
-use Rattle.reference_rules.specs.declared.reference_rule.ReferenceRule.{ReferenceRule}
-use Rattle.reference_rules.proofs.Together.{both, no-rules as no-name-rules}
-use Rattle.repetition_rules.specs.declared.repetition_rule.RepetitionRule.{RepetitionRule}
-use Rattle.repetition_rules.proofs.Together.{both as both-parts, no-rules as no-part-rules}
-use Rattle.rules.specs.NameRules.{found_on_names, found_on_parts, found_together}
 use Rattle.rules.specs.NodeRules.{found_on_nodes}
-use Rattle.rules.specs.Rules.{View, node_options, on_names, on_nodes, on_parts, profile_of}
+use Rattle.rules.specs.Rules.{View, node_options, on_nodes}
 
 -- no rules find nothing
 pub none-on-nodes : (v : View) → found_on_nodes [] v ≡ []
@@ -35,27 +29,6 @@ joins rs r v =
     let o : NodeOptions = node_options v.settings in
     subst (IsPermutation (found_on_nodes rs v ++ on_nodes r v)) (λ i. over_nodes (λ a t. sym (joined o v.text rs r a t) i) round_root v.tree)
     (both-nodes (of_rules o v.text rs) (of_node o v.text r) round_root v.tree)
-
--- no rules together, and one more on names, or on what stands twice
-pub none-together : (v : View) → found_together [] [] [] v ≡ []
-none-together v =
-    ap (λ l. (l ++ found_on_names [] v) ++ found_on_parts [] v) (none-on-nodes v) ∙ ap (λ l. l ++ found_on_parts [] v) (no-name-rules (profile_of v.tree) [] v.found refl) ∙ no-part-rules [] v.tree refl
-
-pub names-join : (rs : List ReferenceRule) (r : ReferenceRule) (v : View) → IsPermutation (found_on_names rs v ++ on_names r v) (found_on_names (rs ++ r ∷ []) v)
-names-join rs r v = both (profile_of v.tree) rs (r ∷ []) v.found
-
-pub parts-join : (rs : List RepetitionRule) (r : RepetitionRule) (v : View) → IsPermutation (found_on_parts rs v ++ on_parts r v) (found_on_parts (rs ++ r ∷ []) v)
-parts-join rs r v = both-parts rs (r ∷ []) (post_order v.tree)
-
--- in front of what others find, and behind it
-pub joins-in-front : (found others alone new : List Report) → IsPermutation (found ++ alone) new → IsPermutation ((found ++ others) ++ alone) (new ++ others)
-joins-in-front found others alone new h =
-    IsPermutation-trans _ _ _ (same-permutation _ _ (append_assoc found others alone))
-    (IsPermutation-trans _ _ _ (IsPermutation-append_right found _ _ (IsPermutation-append_comm others alone))
-    (IsPermutation-trans _ _ _ (same-permutation _ _ (sym (append_assoc found alone others))) (IsPermutation-append_left others _ _ h)))
-
-pub joins-behind : (others found alone new : List Report) → IsPermutation (found ++ alone) new → IsPermutation ((others ++ found) ++ alone) (others ++ new)
-joins-behind others found alone new h = IsPermutation-trans _ _ _ (same-permutation _ _ (append_assoc others found alone)) (IsPermutation-append_right others _ _ h)
 
 -- one rule alone
 pub alone : (r : NodeRule) (v : View) → found_on_nodes (r ∷ []) v ≡ on_nodes r v
@@ -101,10 +74,6 @@ pub rules-end : {X : Type 0} (xs : List X) (i : ℕ) (each : List X → List Rep
 rules-end xs i each nothing all out found new l e so =
     IsPermutation-trans _ _ _ so
     (same-permutation _ _ (ap (λ t. out ++ (found ++ t)) (ap each (drop_all i xs l) ∙ nothing) ∙ ap (λ t. out ++ t) (append-nil found) ∙ sym e))
-
--- rules of names begin behind what was found
-pub named-begin : (each out found : List Report) → found ≡ [] → IsPermutation (each ++ out) (out ++ (found ++ each))
-named-begin each out found e = IsPermutation-trans _ _ _ (IsPermutation-append_comm each out) (same-permutation _ _ (ap (λ l. out ++ (l ++ each)) (sym e)))
 
 -- what rules of names find, and what the others do
 pub with-others : (each found out new : List Report) → IsPermutation found out → IsPermutation (each ++ out) new → IsPermutation (each ++ found) new

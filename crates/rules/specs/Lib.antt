@@ -15,8 +15,8 @@ pub mod Refusals
 pub use Rattle.rule_words.specs.Appends
 pub mod Nodes
 pub mod NodeRules
-pub mod NameRules
 pub mod Used
 pub mod RuleViews
 pub mod Run
+pub mod Groups
 pub mod Lines

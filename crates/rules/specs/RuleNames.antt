@@ -1,5 +1,5 @@
 -- The names of the rules, and sets of rules.
-use Rattle.std.specs.Prelude.{ℕ, Bool, cond, ◌||◌, List, [], ◌∷◌, Option, Some, None, codes}
+use Rattle.std.specs.Prelude.{ℕ, Bool, true, false, cond, ◌||◌, List, [], ◌∷◌, Option, Some, None, codes}
 use Rattle.std.specs.List.{list_any}
 use Rattle.std.specs.Str.{bytes_eq}
 use Rattle.language.specs.Vocabulary.{is}
@@ -10,20 +10,34 @@ use Rattle.reference_rules.specs.declared.reference_rule.ReferenceRule.TheVarian
 use Rattle.repetition_rules.specs.Rows.{called as part_called}
 use Rattle.repetition_rules.specs.declared.repetition_rule.RepetitionRule.TheVariants.{NoDupeClassMembers, NoDupeKeys, NoDuplicateCase}
 use Rattle.rules.specs.declared.rule_list.RuleName.{RuleName}
-use Rattle.rules.specs.declared.rule_list.RuleName.TheVariants.{OnNodes, OnNames, OnParts, NoExtraParens, NoShadow, NoUndef, NoUnusedVars, PreferConst}
+use Rattle.rules.specs.declared.rule_list.RuleName.TheVariants.{OnNodes, OnReferences, OnRepetitions, NoExtraParens, NoShadow, NoUndef, NoUnusedVars, PreferConst}
 use Rattle.rules.specs.declared.rule_set.RuleSet.{RuleSet}
 use Rattle.rules.specs.declared.rule_set.RuleSet.TheVariants.{Nine, Recommended, Every, Nothing}
 
 -- what settings and reports call a rule
 abbrev pub called : RuleName → List ℕ
 called (OnNodes rule) = row_called rule
-called (OnNames rule) = name_called rule
-called (OnParts rule) = part_called rule
+called (OnReferences rule) = name_called rule
+called (OnRepetitions rule) = part_called rule
 called NoExtraParens = codes "no-extra-parens"
 called NoShadow = codes "no-shadow"
 called NoUndef = codes "no-undef"
 called NoUnusedVars = codes "no-unused-vars"
 called PreferConst = codes "prefer-const"
+
+-- a rule looks at scopes
+abbrev pub looks_at_scopes : RuleName → Bool
+looks_at_scopes (OnReferences rule) = true
+looks_at_scopes NoShadow = true
+looks_at_scopes NoUndef = true
+looks_at_scopes NoUnusedVars = true
+looks_at_scopes PreferConst = true
+looks_at_scopes _ = false
+
+-- and at the extra pairs of parentheses
+abbrev pub looks_at_pairs : RuleName → Bool
+looks_at_pairs NoExtraParens = true
+looks_at_pairs _ = false
 
 -- the rules, in the order of their names
 abbrev pub all_rules : List RuleName
@@ -36,27 +50,27 @@ all_rules =
     ∷ OnNodes NoAsyncPromiseExecutor
     ∷ OnNodes NoCaller
     ∷ OnNodes NoCaseDeclarations
-    ∷ OnNames NoClassAssign
+    ∷ OnReferences NoClassAssign
     ∷ OnNodes NoCompareNegZero
-    ∷ OnNames NoConstAssign
+    ∷ OnReferences NoConstAssign
     ∷ OnNodes NoConstantBinaryExpression
     ∷ OnNodes NoConstantCondition
     ∷ OnNodes NoDebugger
-    ∷ OnParts NoDupeClassMembers
-    ∷ OnParts NoDupeKeys
-    ∷ OnParts NoDuplicateCase
+    ∷ OnRepetitions NoDupeClassMembers
+    ∷ OnRepetitions NoDupeKeys
+    ∷ OnRepetitions NoDuplicateCase
     ∷ OnNodes NoEmpty
     ∷ OnNodes NoEmptyPattern
     ∷ OnNodes NoEmptyStaticBlock
     ∷ OnNodes NoEval
-    ∷ OnNames NoExAssign
+    ∷ OnReferences NoExAssign
     ∷ OnNodes NoExtraBooleanCast
     ∷ NoExtraParens
     ∷ OnNodes NoExtraSemi
-    ∷ OnNames NoFuncAssign
-    ∷ OnNames NoGlobalAssign
+    ∷ OnReferences NoFuncAssign
+    ∷ OnReferences NoGlobalAssign
     ∷ OnNodes NoImplicitCoercion
-    ∷ OnNames NoImportAssign
+    ∷ OnReferences NoImportAssign
     ∷ OnNodes NoInnerDeclarations
     ∷ OnNodes NoLabels
     ∷ OnNodes NoLonelyIf
@@ -65,24 +79,24 @@ all_rules =
     ∷ OnNodes NoNestedTernary
     ∷ OnNodes NoNew
     ∷ OnNodes NoNewFunc
-    ∷ OnNames NoNewNativeNonconstructor
+    ∷ OnReferences NoNewNativeNonconstructor
     ∷ OnNodes NoNewObject
-    ∷ OnNames NoNewSymbol
+    ∷ OnReferences NoNewSymbol
     ∷ OnNodes NoNewWrappers
-    ∷ OnNames NoObjCalls
-    ∷ OnNames NoParamReassign
+    ∷ OnReferences NoObjCalls
+    ∷ OnReferences NoParamReassign
     ∷ OnNodes NoProto
     ∷ OnNodes NoPrototypeBuiltins
-    ∷ OnNames NoRedeclare
+    ∷ OnReferences NoRedeclare
     ∷ OnNodes NoSelfAssign
     ∷ OnNodes NoSelfCompare
     ∷ OnNodes NoSetterReturn
     ∷ NoShadow
-    ∷ OnNames NoShadowRestrictedNames
+    ∷ OnReferences NoShadowRestrictedNames
     ∷ OnNodes NoSparseArrays
     ∷ OnNodes NoThrowLiteral
     ∷ NoUndef
-    ∷ OnNames NoUndefined
+    ∷ OnReferences NoUndefined
     ∷ OnNodes NoUnneededTernary
     ∷ OnNodes NoUnsafeFinally
     ∷ OnNodes NoUnsafeNegation
@@ -90,7 +104,7 @@ all_rules =
     ∷ OnNodes NoUnusedExpressions
     ∷ OnNodes NoUnusedLabels
     ∷ NoUnusedVars
-    ∷ OnNames NoUseBeforeDefine
+    ∷ OnReferences NoUseBeforeDefine
     ∷ OnNodes NoUselessCatch
     ∷ OnNodes NoUselessComputedKey
     ∷ OnNodes NoUselessRename
@@ -127,33 +141,33 @@ recommended_rules =
     OnNodes ForDirection
     ∷ OnNodes NoAsyncPromiseExecutor
     ∷ OnNodes NoCaseDeclarations
-    ∷ OnNames NoClassAssign
+    ∷ OnReferences NoClassAssign
     ∷ OnNodes NoCompareNegZero
-    ∷ OnNames NoConstAssign
+    ∷ OnReferences NoConstAssign
     ∷ OnNodes NoConstantBinaryExpression
     ∷ OnNodes NoConstantCondition
     ∷ OnNodes NoDebugger
-    ∷ OnParts NoDupeClassMembers
-    ∷ OnParts NoDupeKeys
-    ∷ OnParts NoDuplicateCase
+    ∷ OnRepetitions NoDupeClassMembers
+    ∷ OnRepetitions NoDupeKeys
+    ∷ OnRepetitions NoDuplicateCase
     ∷ OnNodes NoEmpty
     ∷ OnNodes NoEmptyPattern
     ∷ OnNodes NoEmptyStaticBlock
-    ∷ OnNames NoExAssign
+    ∷ OnReferences NoExAssign
     ∷ OnNodes NoExtraBooleanCast
     ∷ OnNodes NoExtraSemi
-    ∷ OnNames NoFuncAssign
-    ∷ OnNames NoGlobalAssign
-    ∷ OnNames NoImportAssign
+    ∷ OnReferences NoFuncAssign
+    ∷ OnReferences NoGlobalAssign
+    ∷ OnReferences NoImportAssign
     ∷ OnNodes NoInnerDeclarations
-    ∷ OnNames NoNewNativeNonconstructor
-    ∷ OnNames NoNewSymbol
-    ∷ OnNames NoObjCalls
+    ∷ OnReferences NoNewNativeNonconstructor
+    ∷ OnReferences NoNewSymbol
+    ∷ OnReferences NoObjCalls
     ∷ OnNodes NoPrototypeBuiltins
-    ∷ OnNames NoRedeclare
+    ∷ OnReferences NoRedeclare
     ∷ OnNodes NoSelfAssign
     ∷ OnNodes NoSetterReturn
-    ∷ OnNames NoShadowRestrictedNames
+    ∷ OnReferences NoShadowRestrictedNames
     ∷ OnNodes NoSparseArrays
     ∷ NoUndef
     ∷ OnNodes NoUnsafeFinally

@@ -57,12 +57,12 @@ abbrev pub profile_of : Tree → Profile
 profile_of tree = record { is_2022 = is_of_2022 tree; is_module = is (text_of tree) "module" }
 
 -- what one of them finds
-abbrev pub on_names : ReferenceRule → View → List Report
-on_names rule v = found_by_name_rule (profile_of v.tree) rule v.found
+abbrev pub on_references : ReferenceRule → View → List Report
+on_references rule v = found_by_name_rule (profile_of v.tree) rule v.found
 
 -- Rules on what stands twice in one node: `specs/Rows.antt` of `repetition_rules` says what each reports.
-abbrev pub on_parts : RepetitionRule → View → List Report
-on_parts rule v = found_by_part_rule rule v.tree
+abbrev pub on_repetitions : RepetitionRule → View → List Report
+on_repetitions rule v = found_by_part_rule rule v.tree
 
 abbrev pub is_known : Bool → Settings → List ℕ → Bool
 is_known of_2022 s text = is_built_in_for of_2022 text || is_global text s

@@ -6,6 +6,7 @@
 
 mod bindings;
 mod environment;
+mod groups;
 mod interface_names;
 mod known_keys;
 mod languages;
@@ -49,7 +50,7 @@ pub use rule::Rule;
 pub use rule_list::{RULES, RuleName};
 pub use rule_option::{RuleOption, RuleOptions};
 pub use rule_words::Report;
-pub use run::run_rules;
+pub use run::{look_at_pairs, look_at_scopes, run_rules};
 pub use settings::Settings;
 pub use settings_error::SettingsError;
 pub use shipped_rule::ShippedRule;

@@ -52,12 +52,15 @@ impl Rule for NoShadow {
 
     /// Adds what the rule finds.
     fn check(&self, view: &View, out: &mut Vec<Report>) -> Result<(), AllocError> {
+        let Some(scopes) = view.scopes else {
+            return Ok(());
+        };
         let walk = BindingWalk {
             rule: BindingRule::Shadow,
             alloc: self.alloc,
             used: &UsedBindings::new(self.alloc),
         };
-        push_bindings(walk, view.scopes, out)
+        push_bindings(walk, scopes, out)
     }
 }
 

@@ -56,11 +56,14 @@ impl Rule for NoUndef {
 
     /// Adds what the rule finds.
     fn check(&self, view: &View, out: &mut Vec<Report>) -> Result<(), AllocError> {
+        let Some(scopes) = view.scopes else {
+            return Ok(());
+        };
         let known = KnownNames {
             is_2022: is_of_2022(view.program.root()),
             settings: view.settings,
         };
-        push_all_undefined(self.alloc, known, view.scopes.references(), out)
+        push_all_undefined(self.alloc, known, scopes.references(), out)
     }
 }
 

@@ -53,13 +53,16 @@ impl Rule for NoUnusedVars {
 
     /// Adds what the rule finds.
     fn check(&self, view: &View, out: &mut Vec<Report>) -> Result<(), AllocError> {
+        let Some(scopes) = view.scopes else {
+            return Ok(());
+        };
         push_by_use(
             BindingRule::Unused {
                 ignore_underscore: view.settings.has_option(RuleOption::IgnoreUnderscore),
             },
             self.alloc,
             false,
-            view.scopes,
+            scopes,
             out,
         )
     }

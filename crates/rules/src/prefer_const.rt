@@ -52,7 +52,10 @@ impl Rule for PreferConst {
 
     /// Adds what the rule finds.
     fn check(&self, view: &View, out: &mut Vec<Report>) -> Result<(), AllocError> {
-        push_by_use(BindingRule::Constant, self.alloc, true, view.scopes, out)
+        let Some(scopes) = view.scopes else {
+            return Ok(());
+        };
+        push_by_use(BindingRule::Constant, self.alloc, true, scopes, out)
     }
 }
 

@@ -10,9 +10,9 @@ pub enum RuleName {
     /// A rule that looks at single nodes: a row of `node_rules`.
     OnNodes(NodeRule),
     /// A rule that asks what names mean: a row of `reference_rules`.
-    OnNames(ReferenceRule),
+    OnReferences(ReferenceRule),
     /// A rule on what stands twice in one node: a row of `repetition_rules`.
-    OnParts(RepetitionRule),
+    OnRepetitions(RepetitionRule),
     /// `no-extra-parens`.
     NoExtraParens,
     /// `no-shadow`.
@@ -35,27 +35,27 @@ pub const RULES: [RuleName; 77] = [
     RuleName::OnNodes(NodeRule::NoAsyncPromiseExecutor),
     RuleName::OnNodes(NodeRule::NoCaller),
     RuleName::OnNodes(NodeRule::NoCaseDeclarations),
-    RuleName::OnNames(ReferenceRule::NoClassAssign),
+    RuleName::OnReferences(ReferenceRule::NoClassAssign),
     RuleName::OnNodes(NodeRule::NoCompareNegZero),
-    RuleName::OnNames(ReferenceRule::NoConstAssign),
+    RuleName::OnReferences(ReferenceRule::NoConstAssign),
     RuleName::OnNodes(NodeRule::NoConstantBinaryExpression),
     RuleName::OnNodes(NodeRule::NoConstantCondition),
     RuleName::OnNodes(NodeRule::NoDebugger),
-    RuleName::OnParts(RepetitionRule::NoDupeClassMembers),
-    RuleName::OnParts(RepetitionRule::NoDupeKeys),
-    RuleName::OnParts(RepetitionRule::NoDuplicateCase),
+    RuleName::OnRepetitions(RepetitionRule::NoDupeClassMembers),
+    RuleName::OnRepetitions(RepetitionRule::NoDupeKeys),
+    RuleName::OnRepetitions(RepetitionRule::NoDuplicateCase),
     RuleName::OnNodes(NodeRule::NoEmpty),
     RuleName::OnNodes(NodeRule::NoEmptyPattern),
     RuleName::OnNodes(NodeRule::NoEmptyStaticBlock),
     RuleName::OnNodes(NodeRule::NoEval),
-    RuleName::OnNames(ReferenceRule::NoExAssign),
+    RuleName::OnReferences(ReferenceRule::NoExAssign),
     RuleName::OnNodes(NodeRule::NoExtraBooleanCast),
     RuleName::NoExtraParens,
     RuleName::OnNodes(NodeRule::NoExtraSemi),
-    RuleName::OnNames(ReferenceRule::NoFuncAssign),
-    RuleName::OnNames(ReferenceRule::NoGlobalAssign),
+    RuleName::OnReferences(ReferenceRule::NoFuncAssign),
+    RuleName::OnReferences(ReferenceRule::NoGlobalAssign),
     RuleName::OnNodes(NodeRule::NoImplicitCoercion),
-    RuleName::OnNames(ReferenceRule::NoImportAssign),
+    RuleName::OnReferences(ReferenceRule::NoImportAssign),
     RuleName::OnNodes(NodeRule::NoInnerDeclarations),
     RuleName::OnNodes(NodeRule::NoLabels),
     RuleName::OnNodes(NodeRule::NoLonelyIf),
@@ -64,24 +64,24 @@ pub const RULES: [RuleName; 77] = [
     RuleName::OnNodes(NodeRule::NoNestedTernary),
     RuleName::OnNodes(NodeRule::NoNew),
     RuleName::OnNodes(NodeRule::NoNewFunc),
-    RuleName::OnNames(ReferenceRule::NoNewNativeNonconstructor),
+    RuleName::OnReferences(ReferenceRule::NoNewNativeNonconstructor),
     RuleName::OnNodes(NodeRule::NoNewObject),
-    RuleName::OnNames(ReferenceRule::NoNewSymbol),
+    RuleName::OnReferences(ReferenceRule::NoNewSymbol),
     RuleName::OnNodes(NodeRule::NoNewWrappers),
-    RuleName::OnNames(ReferenceRule::NoObjCalls),
-    RuleName::OnNames(ReferenceRule::NoParamReassign),
+    RuleName::OnReferences(ReferenceRule::NoObjCalls),
+    RuleName::OnReferences(ReferenceRule::NoParamReassign),
     RuleName::OnNodes(NodeRule::NoProto),
     RuleName::OnNodes(NodeRule::NoPrototypeBuiltins),
-    RuleName::OnNames(ReferenceRule::NoRedeclare),
+    RuleName::OnReferences(ReferenceRule::NoRedeclare),
     RuleName::OnNodes(NodeRule::NoSelfAssign),
     RuleName::OnNodes(NodeRule::NoSelfCompare),
     RuleName::OnNodes(NodeRule::NoSetterReturn),
     RuleName::NoShadow,
-    RuleName::OnNames(ReferenceRule::NoShadowRestrictedNames),
+    RuleName::OnReferences(ReferenceRule::NoShadowRestrictedNames),
     RuleName::OnNodes(NodeRule::NoSparseArrays),
     RuleName::OnNodes(NodeRule::NoThrowLiteral),
     RuleName::NoUndef,
-    RuleName::OnNames(ReferenceRule::NoUndefined),
+    RuleName::OnReferences(ReferenceRule::NoUndefined),
     RuleName::OnNodes(NodeRule::NoUnneededTernary),
     RuleName::OnNodes(NodeRule::NoUnsafeFinally),
     RuleName::OnNodes(NodeRule::NoUnsafeNegation),
@@ -89,7 +89,7 @@ pub const RULES: [RuleName; 77] = [
     RuleName::OnNodes(NodeRule::NoUnusedExpressions),
     RuleName::OnNodes(NodeRule::NoUnusedLabels),
     RuleName::NoUnusedVars,
-    RuleName::OnNames(ReferenceRule::NoUseBeforeDefine),
+    RuleName::OnReferences(ReferenceRule::NoUseBeforeDefine),
     RuleName::OnNodes(NodeRule::NoUselessCatch),
     RuleName::OnNodes(NodeRule::NoUselessComputedKey),
     RuleName::OnNodes(NodeRule::NoUselessRename),
@@ -124,33 +124,33 @@ pub(crate) const RECOMMENDED: [RuleName; 41] = [
     RuleName::OnNodes(NodeRule::ForDirection),
     RuleName::OnNodes(NodeRule::NoAsyncPromiseExecutor),
     RuleName::OnNodes(NodeRule::NoCaseDeclarations),
-    RuleName::OnNames(ReferenceRule::NoClassAssign),
+    RuleName::OnReferences(ReferenceRule::NoClassAssign),
     RuleName::OnNodes(NodeRule::NoCompareNegZero),
-    RuleName::OnNames(ReferenceRule::NoConstAssign),
+    RuleName::OnReferences(ReferenceRule::NoConstAssign),
     RuleName::OnNodes(NodeRule::NoConstantBinaryExpression),
     RuleName::OnNodes(NodeRule::NoConstantCondition),
     RuleName::OnNodes(NodeRule::NoDebugger),
-    RuleName::OnParts(RepetitionRule::NoDupeClassMembers),
-    RuleName::OnParts(RepetitionRule::NoDupeKeys),
-    RuleName::OnParts(RepetitionRule::NoDuplicateCase),
+    RuleName::OnRepetitions(RepetitionRule::NoDupeClassMembers),
+    RuleName::OnRepetitions(RepetitionRule::NoDupeKeys),
+    RuleName::OnRepetitions(RepetitionRule::NoDuplicateCase),
     RuleName::OnNodes(NodeRule::NoEmpty),
     RuleName::OnNodes(NodeRule::NoEmptyPattern),
     RuleName::OnNodes(NodeRule::NoEmptyStaticBlock),
-    RuleName::OnNames(ReferenceRule::NoExAssign),
+    RuleName::OnReferences(ReferenceRule::NoExAssign),
     RuleName::OnNodes(NodeRule::NoExtraBooleanCast),
     RuleName::OnNodes(NodeRule::NoExtraSemi),
-    RuleName::OnNames(ReferenceRule::NoFuncAssign),
-    RuleName::OnNames(ReferenceRule::NoGlobalAssign),
-    RuleName::OnNames(ReferenceRule::NoImportAssign),
+    RuleName::OnReferences(ReferenceRule::NoFuncAssign),
+    RuleName::OnReferences(ReferenceRule::NoGlobalAssign),
+    RuleName::OnReferences(ReferenceRule::NoImportAssign),
     RuleName::OnNodes(NodeRule::NoInnerDeclarations),
-    RuleName::OnNames(ReferenceRule::NoNewNativeNonconstructor),
-    RuleName::OnNames(ReferenceRule::NoNewSymbol),
-    RuleName::OnNames(ReferenceRule::NoObjCalls),
+    RuleName::OnReferences(ReferenceRule::NoNewNativeNonconstructor),
+    RuleName::OnReferences(ReferenceRule::NoNewSymbol),
+    RuleName::OnReferences(ReferenceRule::NoObjCalls),
     RuleName::OnNodes(NodeRule::NoPrototypeBuiltins),
-    RuleName::OnNames(ReferenceRule::NoRedeclare),
+    RuleName::OnReferences(ReferenceRule::NoRedeclare),
     RuleName::OnNodes(NodeRule::NoSelfAssign),
     RuleName::OnNodes(NodeRule::NoSetterReturn),
-    RuleName::OnNames(ReferenceRule::NoShadowRestrictedNames),
+    RuleName::OnReferences(ReferenceRule::NoShadowRestrictedNames),
     RuleName::OnNodes(NodeRule::NoSparseArrays),
     RuleName::NoUndef,
     RuleName::OnNodes(NodeRule::NoUnsafeFinally),
@@ -166,7 +166,7 @@ pub(crate) const RECOMMENDED: [RuleName; 41] = [
 
 impl RuleName {
     ghost use Rattle.std.specs.Prelude.{◌≡◌};
-    ghost use Rattle.rules.specs.RuleNames.{called};
+    ghost use Rattle.rules.specs.RuleNames.{called, looks_at_pairs, looks_at_scopes};
 
     /// What settings and reports call it.
     pub fn as_str(self) -> &'static str
@@ -174,13 +174,34 @@ impl RuleName {
     {
         match self {
             RuleName::OnNodes(rule) => rule.name(),
-            RuleName::OnNames(rule) => rule.name(),
-            RuleName::OnParts(rule) => rule.name(),
+            RuleName::OnReferences(rule) => rule.name(),
+            RuleName::OnRepetitions(rule) => rule.name(),
             RuleName::NoExtraParens => "no-extra-parens",
             RuleName::NoShadow => "no-shadow",
             RuleName::NoUndef => "no-undef",
             RuleName::NoUnusedVars => "no-unused-vars",
             RuleName::PreferConst => "prefer-const",
         }
+    }
+
+    /// Whether it looks at scopes.
+    pub(crate) fn looks_at_scopes(self) -> bool
+        ensures { result ≡ looks_at_scopes self }
+    {
+        matches!(
+            self,
+            RuleName::OnReferences(_)
+                | RuleName::NoShadow
+                | RuleName::NoUndef
+                | RuleName::NoUnusedVars
+                | RuleName::PreferConst
+        )
+    }
+
+    /// Whether it looks at the extra pairs of parentheses.
+    pub(crate) fn looks_at_pairs(self) -> bool
+        ensures { result ≡ looks_at_pairs self }
+    {
+        matches!(self, RuleName::NoExtraParens)
     }
 }

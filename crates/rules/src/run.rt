@@ -3,16 +3,18 @@
 ghost use Rattle.std.specs.Prelude.{◌≡◌, ◌++◌, IfOk, IfSome, OnOk, true};
 ghost use Rattle.std.specs.List.Sorted.{IsPermutation, IsSorted};
 ghost use Rattle.rules.specs.AllRules.{finds as finds_by_name};
-ghost use Rattle.rules.specs.NameRules.{found_together};
+ghost use Rattle.rules.specs.Groups.{found_alone, found_alone_by, is_alone};
 ghost use Rattle.rules.specs.NodeRules.{IsOnNodes, found_on_nodes};
 ghost use Rattle.rule_words.specs.Order.{report_cmp};
-ghost use Rattle.rules.specs.Run.{all_found, found_by, found_by_name, found_by_names, found_with};
+ghost use Rattle.rules.specs.Run.{all_found, found_by, found_by_name, found_by_names, found_with, look_at_pairs, look_at_scopes};
 ghost use Rattle.rules.specs.RuleViews.{seen};
 ghost use Rattle.rules.specs.Settings.{is_on};
 
+use crate::groups::{Grouped, push_group};
 use crate::rule::Rule;
 use crate::rule_list::RuleName;
-use crate::shipped_rule::{ShippedRule, push_on_names, push_on_nodes, push_on_parts};
+use crate::shipped_rule::ShippedRule;
+use crate::settings::Settings;
 use crate::view::View;
 use node_rules::NodeRule;
 use reference_rules::ReferenceRule;
@@ -69,7 +71,7 @@ fn gather(alloc: Global, rules: &[Box<dyn Rule>], view: &View) -> Result<Vec<Rep
     for rule in rules {
         run_rule(rule, view, &mut together, &mut found)?;
     }
-    push_on_nodes(alloc, &together, view, &mut found)?;
+    NodeRule::push_reports(alloc, &together, view, &mut found)?;
     Ok(found)
 }
 
@@ -85,37 +87,48 @@ fn run_shipped(
     ShippedRule::new(alloc, name).check(view, out)
 }
 
-/// Appends what a rule of a name finds, if it is on. A rule on nodes joins those that run in one walk, one on names those that run
-/// in one pass, and one on what stands twice those of its kind.
-fn run_named(
+/// Whether a name is of a rule that is of no group.
+fn is_alone(name: RuleName) -> bool
+    ensures { result ≡ is_alone name }
+{
+    matches!(
+        name,
+        RuleName::NoExtraParens
+            | RuleName::NoShadow
+            | RuleName::NoUndef
+            | RuleName::NoUnusedVars
+            | RuleName::PreferConst
+    )
+}
+
+/// Appends what a rule of a name finds, if it is of no group, and on.
+fn push_if_alone(
     alloc: Global,
     name: RuleName,
     view: &View,
-    nodes: &mut Vec<NodeRule>,
-    names: &mut Vec<ReferenceRule>,
-    parts: &mut Vec<RepetitionRule>,
     out: &mut Vec<Report>,
 ) -> Result<(), AllocError>
-    ensures { OnOk result (IsPermutation ((out.old.items ++ found_together nodes.old.items names.old.items parts.old.items (seen view.now)) ++ found_by_name name (seen view.now)) (out.new.items ++ found_together nodes.new.items names.new.items parts.new.items (seen view.now))) }
+    ensures { OnOk result (out.new.items ≡ out.old.items ++ found_alone_by name (seen view.now)) }
 {
-    if !view.settings.is_on(name.as_str()) {
-        return Ok(());
+    if is_alone(name) && view.settings.is_on(name.as_str()) {
+        run_shipped(alloc, name, view, out)?;
     }
-    match name {
-        RuleName::OnNodes(rule) => {
-            nodes.push(rule)?;
-            Ok(())
-        },
-        RuleName::OnNames(rule) => {
-            names.push(rule)?;
-            Ok(())
-        },
-        RuleName::OnParts(rule) => {
-            parts.push(rule)?;
-            Ok(())
-        },
-        _ => run_shipped(alloc, name, view, out),
+    Ok(())
+}
+
+/// Appends what the rules of these names find that are of no group, and on.
+fn push_alone(
+    alloc: Global,
+    names: &[RuleName],
+    view: &View,
+    out: &mut Vec<Report>,
+) -> Result<(), AllocError>
+    ensures { OnOk result (out.new.items ≡ out.old.items ++ found_alone names.now (seen view.now)) }
+{
+    for name in names {
+        push_if_alone(alloc, *name, view, out)?;
     }
+    Ok(())
 }
 
 /// Appends what the rules of these names that are on find, in no order.
@@ -127,23 +140,28 @@ fn gather_named(
 ) -> Result<(), AllocError>
     ensures { OnOk result (IsPermutation (found_by_names names.now (seen view.now) ++ out.old.items) out.new.items) }
 {
-    let mut on_nodes = Vec::new(alloc);
-    let mut on_names = Vec::new(alloc);
-    let mut on_parts = Vec::new(alloc);
-    for name in names {
-        run_named(
-            alloc,
-            *name,
-            view,
-            &mut on_nodes,
-            &mut on_names,
-            &mut on_parts,
-            out,
-        )?;
-    }
-    push_on_nodes(alloc, &on_nodes, view, out)?;
-    push_on_names(alloc, &on_names, view, out)?;
-    push_on_parts(alloc, &on_parts, view, out)
+    push_group::<NodeRule>(alloc, names, view, out)?;
+    push_group::<ReferenceRule>(alloc, names, view, out)?;
+    push_group::<RepetitionRule>(alloc, names, view, out)?;
+    push_alone(alloc, names, view, out)
+}
+
+/// Whether one of these rules that looks at scopes is on: if not, a view needs none.
+pub fn look_at_scopes(names: &[RuleName], settings: &Settings) -> bool
+    ensures { result ≡ look_at_scopes names.now settings.now }
+{
+    names
+        .iter()
+        .any(|name| name.looks_at_scopes() && settings.is_on(name.as_str()))
+}
+
+/// Whether one of these rules that looks at the extra pairs of parentheses is on: if not, a view may have none.
+pub fn look_at_pairs(names: &[RuleName], settings: &Settings) -> bool
+    ensures { result ≡ look_at_pairs names.now settings.now }
+{
+    names
+        .iter()
+        .any(|name| name.looks_at_pairs() && settings.is_on(name.as_str()))
 }
 
 /// All reports of the rules that are on, of those that ship with the program by their names and of others in boxes, sorted by start, rule

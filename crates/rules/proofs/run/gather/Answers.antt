@@ -23,6 +23,6 @@ returns g c =
     let v = seen c.args.view.now in
     rules-end c.args.rules.now c.loop-rule.rule-index
     (λ rs. all_found (λ b. (goal.Rule-dyn g (b.vtable, b.value)).called b.value) (λ b. (goal.Rule-dyn g (b.vtable, b.value)).finds b.value) rs v)
-    refl _ c.loop-rule.found.items (found_on_nodes c.loop-rule.together.items v) c.push_on_nodes.new.out.items c.loop-rule-test.false
-    (c.in_ok-push_on_nodes.ensures.found ∙ ap (λ rs. c.loop-rule.found.items ++ found_on_nodes rs v) c.deref.ensures.value)
+    refl _ c.loop-rule.found.items (found_on_nodes c.loop-rule.together.items v) c.push_reports.new.out.items c.loop-rule-test.false
+    (c.in_ok-push_reports.ensures.found ∙ ap (λ rs. c.loop-rule.found.items ++ found_on_nodes rs v) c.deref.ensures.value)
     c.loop-rule.invariant

@@ -1,0 +1,119 @@
+-- What rules find group after group is what they find one by one, in another order.
+use Rattle.std.proofs.Common.{◌≡◌, ℕ, ◌+◌, ◌<◌, ◌≤◌, length, drop, get_or, Bool, true, false, cond, List, [], ◌∷◌, ◌++◌, Option, Some, None, refl, sym, ap, ap₂, ◌∙◌, append_assoc, append-nil, IsPermutation}
+use Rattle.std.proofs.lemmas.List.Sorted.{IsPermutation-refl, IsPermutation-trans, IsPermutation-append_left, IsPermutation-append_right, IsPermutation-append_comm}
+use Rattle.std.proofs.lemmas.List.{drop_all}
+use Rattle.tree.specs.Flat.{post_order}
+use Rattle.rule_words.specs.Reports.{Report}
+use Rattle.node_rules.specs.declared.node_rule.NodeRule.{NodeRule}
+use Rattle.node_rules.specs.Arounds.{round_root}
+use Rattle.node_rules.specs.Rows.{of_node, of_rules}
+use Rattle.node_rules.proofs.Together.{both-nodes, same-permutation}
+use Rattle.reference_rules.specs.declared.reference_rule.ReferenceRule.{ReferenceRule}
+use Rattle.reference_rules.proofs.Together.{both as both-references, no-rules as no-reference-rules}
+use Rattle.repetition_rules.specs.declared.repetition_rule.RepetitionRule.{RepetitionRule}
+use Rattle.repetition_rules.proofs.Together.{both as both-repetitions, no-rules as no-repetition-rules}
+use Rattle.rules.specs.declared.rule_list.RuleName.{RuleName}
+use Rattle.rules.specs.declared.rule_list.RuleName.TheVariants.{OnNodes, OnReferences, OnRepetitions, NoExtraParens, NoShadow, NoUndef, NoUnusedVars, PreferConst}
+use Rattle.rules.specs.Groups.{chosen, chosen_if, found_alone, found_alone_by, found_in_groups, found_on_references, found_on_repetitions, node_rule_named, reference_rule_named, repetition_rule_named}
+use Rattle.rules.specs.NodeRules.{found_on_nodes}
+use Rattle.rules.specs.RuleNames.{called}
+use Rattle.rules.specs.Rules.{View, node_options, on_nodes, on_references, on_repetitions, profile_of}
+use Rattle.rules.specs.Run.{found_by_name, found_by_names}
+use Rattle.rules.specs.Settings.{Settings, is_on}
+use Rattle.rules.proofs.AppendLoops.{append-turn}
+use Rattle.rules.proofs.Together.{none-on-nodes}
+
+-- ---- the rules of a group, one by one
+
+chosen-behind : {R : Type 0} (o : Option R) (on : Bool) (rs : List R) → chosen_if o on rs ≡ chosen_if o on [] ++ rs
+chosen-behind None on rs = refl
+chosen-behind (Some r) true rs = refl
+chosen-behind (Some r) false rs = refl
+
+pub chosen-turn : {R : Type 0} (named : RuleName → Option R) (s : Settings) (names : List RuleName) (i : ℕ) (d : RuleName) (acc new total : List R) → i < length names →
+    new ≡ acc ++ chosen_if (named (get_or names i d)) (is_on (called (get_or names i d)) s) [] → acc ++ chosen named (drop i names) s ≡ total → new ++ chosen named (drop (i + 1) names) s ≡ total
+chosen-turn named s names i d acc new total l e so =
+    append-turn (λ ns. chosen named ns s) (λ n. chosen_if (named n) (is_on (called n) s) []) (λ n ns. chosen-behind (named n) (is_on (called n) s) (chosen named ns s)) names i d acc new total l e so
+
+pub chosen-end : {R : Type 0} (named : RuleName → Option R) (s : Settings) (names : List RuleName) (i : ℕ) (acc total : List R) → length names ≤ i → acc ++ chosen named (drop i names) s ≡ total → acc ≡ total
+chosen-end named s names i acc total l so = sym (append-nil acc) ∙ ap (λ ns. acc ++ chosen named ns s) (sym (drop_all i names l)) ∙ so
+
+-- ---- one name more
+
+-- what a rule finds stands in front of what its group finds
+module _ {R : Type 0} (found : List R → List Report) (one : R → List Report) (joins : (r : R) (rs : List R) → IsPermutation (one r ++ found rs) (found (r ∷ rs))) where
+  joins-if : (on : Bool) (r : R) (rs : List R) → IsPermutation (cond on (one r) [] ++ found rs) (found (chosen_if (Some r) on rs))
+  joins-if true r rs = joins r rs
+  joins-if false r rs = IsPermutation-refl (found rs)
+
+at-head : (one old new rest : List Report) → IsPermutation (one ++ old) new → IsPermutation (one ++ (old ++ rest)) (new ++ rest)
+at-head one old new rest h = IsPermutation-trans _ _ _ (same-permutation _ _ (sym (append_assoc one old rest))) (IsPermutation-append_left rest _ _ h)
+
+behind : (first one old new : List Report) → IsPermutation (one ++ old) new → IsPermutation (one ++ (first ++ old)) (first ++ new)
+behind first one old new h =
+    IsPermutation-trans _ _ _ (same-permutation _ _ (sym (append_assoc one first old)))
+    (IsPermutation-trans _ _ _ (IsPermutation-append_left old _ _ (IsPermutation-append_comm one first))
+    (IsPermutation-trans _ _ _ (same-permutation _ _ (append_assoc first one old)) (IsPermutation-append_right first _ _ h)))
+
+-- what a rule finds that is of no group stands behind what the groups find
+alone-last : (one : List Report) (names : List RuleName) (v : View) → IsPermutation (one ++ found_in_groups names v)
+    (found_on_nodes (chosen node_rule_named names v.settings) v ++ (found_on_references (chosen reference_rule_named names v.settings) v ++ (found_on_repetitions (chosen repetition_rule_named names v.settings) v
+    ++ (one ++ found_alone names v))))
+alone-last one names v =
+    behind (found_on_nodes (chosen node_rule_named names v.settings) v) one _ _ (behind (found_on_references (chosen reference_rule_named names v.settings) v) one _ _
+    (behind (found_on_repetitions (chosen repetition_rule_named names v.settings) v) one _ _ (IsPermutation-refl (one ++ found_alone names v))))
+
+-- a name more
+step : (name : RuleName) (names : List RuleName) (v : View) → IsPermutation (found_by_name name v ++ found_in_groups names v) (found_in_groups (name ∷ names) v)
+step (OnNodes r) names v =
+    at-head _ _ _ _ (joins-if (λ rs. found_on_nodes rs v) (λ q. on_nodes q v) (λ q rs. both-nodes (of_node (node_options v.settings) v.text q) (of_rules (node_options v.settings) v.text rs) round_root v.tree)
+    (is_on (called (OnNodes r)) v.settings) r (chosen node_rule_named names v.settings))
+step (OnReferences r) names v =
+    behind _ _ _ _ (at-head _ _ _ _ (joins-if (λ rs. found_on_references rs v) (λ q. on_references q v) (λ q rs. both-references (profile_of v.tree) (q ∷ []) rs v.found)
+    (is_on (called (OnReferences r)) v.settings) r (chosen reference_rule_named names v.settings)))
+step (OnRepetitions r) names v =
+    behind _ _ _ _ (behind _ _ _ _ (at-head _ _ _ _ (joins-if (λ rs. found_on_repetitions rs v) (λ q. on_repetitions q v) (λ q rs. both-repetitions (q ∷ []) rs (post_order v.tree))
+    (is_on (called (OnRepetitions r)) v.settings) r (chosen repetition_rule_named names v.settings))))
+step NoExtraParens names v = alone-last (found_by_name NoExtraParens v) names v
+step NoShadow names v = alone-last (found_by_name NoShadow v) names v
+step NoUndef names v = alone-last (found_by_name NoUndef v) names v
+step NoUnusedVars names v = alone-last (found_by_name NoUnusedVars v) names v
+step PreferConst names v = alone-last (found_by_name PreferConst v) names v
+
+-- no names, no reports
+none-in-groups : (v : View) → found_in_groups [] v ≡ []
+none-in-groups v =
+    ap (λ l. l ++ (found_on_references [] v ++ (found_on_repetitions [] v ++ []))) (none-on-nodes v)
+    ∙ ap (λ l. l ++ (found_on_repetitions [] v ++ [])) (no-reference-rules (profile_of v.tree) [] v.found refl) ∙ ap (λ l. l ++ []) (no-repetition-rules [] v.tree refl)
+
+-- group after group
+pub group-after-group : (names : List RuleName) (v : View) → IsPermutation (found_by_names names v) (found_in_groups names v)
+group-after-group [] v = same-permutation [] (found_in_groups [] v) (sym (none-in-groups v))
+group-after-group (name ∷ names) v = IsPermutation-trans _ _ _ (IsPermutation-append_right (found_by_name name v) _ _ (group-after-group names v)) (step name names v)
+
+-- what the groups find, appended one after the other
+pub appended-groups : (names : List RuleName) (v : View) (out one two three new : List Report)
+    → one ≡ out ++ found_on_nodes (chosen node_rule_named names v.settings) v
+    → two ≡ one ++ found_on_references (chosen reference_rule_named names v.settings) v
+    → three ≡ two ++ found_on_repetitions (chosen repetition_rule_named names v.settings) v
+    → new ≡ three ++ found_alone names v
+    → IsPermutation (found_by_names names v ++ out) new
+appended-groups names v out one two three new a b c d =
+    let nodes : List Report = found_on_nodes (chosen node_rule_named names v.settings) v in
+    let references : List Report = found_on_references (chosen reference_rule_named names v.settings) v in
+    let repetitions : List Report = found_on_repetitions (chosen repetition_rule_named names v.settings) v in
+    let alone : List Report = found_alone names v in
+    IsPermutation-trans _ _ _ (IsPermutation-append_comm (found_by_names names v) out)
+    (IsPermutation-trans _ _ _ (IsPermutation-append_right out _ _ (group-after-group names v))
+    (same-permutation _ _ (sym (append_assoc out nodes _) ∙ ap (λ l. l ++ (references ++ (repetitions ++ alone))) (sym a)
+    ∙ sym (append_assoc one references _) ∙ ap (λ l. l ++ (repetitions ++ alone)) (sym b)
+    ∙ sym (append_assoc two repetitions _) ∙ ap (λ l. l ++ alone) (sym c) ∙ sym d)))
+
+-- ---- rules that are of no group, one by one
+
+pub alone-turn : (names : List RuleName) (v : View) (i : ℕ) (d : RuleName) (acc new total : List Report) → i < length names →
+    new ≡ acc ++ found_alone_by (get_or names i d) v → acc ++ found_alone (drop i names) v ≡ total → new ++ found_alone (drop (i + 1) names) v ≡ total
+alone-turn names v i d acc new total l e so = append-turn (λ ns. found_alone ns v) (λ n. found_alone_by n v) (λ n ns. refl) names i d acc new total l e so
+
+pub alone-end : (names : List RuleName) (v : View) (i : ℕ) (acc total : List Report) → length names ≤ i → acc ++ found_alone (drop i names) v ≡ total → acc ≡ total
+alone-end names v i acc total l so = sym (append-nil acc) ∙ ap (λ ns. acc ++ found_alone ns v) (sym (drop_all i names l)) ∙ so
