@@ -1,12 +1,15 @@
 -- What is reported, as the walk goes over nodes and rules.
-use Rattle.std.proofs.Common.{◌≡◌, ℕ, suc, ◌+◌, ◌<◌, ◌≤◌, List, ◌++◌, length, drop, get_or, Some, sym, ap, ◌∙◌, add-one, append_assoc, append-nil}
+use Rattle.std.proofs.Common.{◌≡◌, ℕ, suc, ◌+◌, ◌<◌, ◌≤◌, List, ◌++◌, length, drop, get_or, Option, Some, None, sym, ap, ◌∙◌, add-one, append_assoc, append-nil}
 use Rattle.std.specs.List.{slice_get}
 use Rattle.std.proofs.Math.Seq.{drop-cons}
 use Rattle.std.proofs.lemmas.List.{drop_all}
 use Rattle.std.proofs.lemmas.Option.{get_or_from_slice_get, slice_get_within}
 use Rattle.rule_words.specs.Appends.{Grows}
 use Rattle.rule_words.specs.Reports.{Report}
-use Rattle.literal_rules.specs.Found.{each}
+use Rattle.tree.specs.Tree.{Tree}
+use Rattle.name_tables.specs.PatternParts.{at_part}
+use Rattle.literal_rules.specs.declared.literal_rule.LiteralRule.{LiteralRule}
+use Rattle.literal_rules.specs.Found.{each, of_part, of_template}
 
 -- what is appended to a longer list is appended to the shorter one too
 pub grown : (xs ys zs : List Report) → Grows xs ys → Grows ys zs → Grows xs zs
@@ -24,3 +27,8 @@ module _ {X : Type 0} (f : X → List Report) (xs : List X) (i : ℕ) (acc total
 
   pub each-end : length xs ≤ i → acc ≡ total
   each-end l = sym (append-nil acc) ∙ ap (λ ys. acc ++ each f ys) (sym (drop_all i xs l)) ∙ so
+
+-- a part, as loops over parts have it
+pub appended-part : (rule : LiteralRule) (o : Option Tree) (old new : List Report) → new ≡ old ++ of_part rule o → new ≡ old ++ at_part (of_template rule) o
+appended-part rule None old new n = n
+appended-part rule (Some t) old new n = n

@@ -1,5 +1,5 @@
 -- What is looked for in patterns of regular expressions (22.2.1), and in strings.
-use Rattle.std.specs.Prelude.{ℕ, Bool, true, false, not, ◌||◌, ◌&&◌, nat_eq, nat_le, List, take, drop, codes}
+use Rattle.std.specs.Prelude.{ℕ, Bool, true, false, not, ◌||◌, ◌&&◌, nat_le, List, take, drop, codes}
 use Rattle.std.specs.Str.{str_eq_ignore_ascii_case}
 use Rattle.tokens.specs.Alphabet.{one_of}
 use Rattle.literal_rules.specs.declared.text_state.TextState.{TextState}

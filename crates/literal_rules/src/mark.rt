@@ -1,6 +1,6 @@
 //! Where in a text is what a rule looks for.
 
-ghost use Rattle.std.specs.Prelude.{◌≡◌, ◌++◌, ◌+◌, ◌<◌, length, IfSome, OnOk};
+ghost use Rattle.std.specs.Prelude.{◌≡◌, ◌++◌, ◌+◌, ◌^◌, ◌<◌, length, IfSome, OnOk};
 ghost use Rattle.rule_words.specs.Appends.{Grows};
 ghost use Rattle.literal_rules.specs.Marks.{each_mark, first_mark, report_if};
 

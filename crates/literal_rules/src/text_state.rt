@@ -4,7 +4,7 @@ ghost use Rattle.std.specs.Prelude.{◌≡◌};
 ghost use Rattle.literal_rules.specs.TextStates.{next_behind_dollar, next_escaped, next_in_body, next_in_class, next_in_template, next_of_quote, next_opened, next_plain, next_state, or_backslash};
 
 /// How far a text has been read.
-#[derive(Clone, Copy, Debug, PartialEq, Eq)]
+#[derive(Clone, Copy)]
 pub(crate) enum TextState {
     /// Before the first `/` of a regular expression.
     Slash,

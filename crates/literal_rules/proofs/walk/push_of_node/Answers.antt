@@ -1,4 +1,5 @@
 use Rattle.tree.specs.Node.{node_tree}
+use Rattle.literal_rules.specs.Found.{of_node}
 use Rattle.literal_rules.proofs.Passes.{each-turn, grown}
 use Rattle.literal_rules.proofs.walk.push_of_node.Goals as goal
 
