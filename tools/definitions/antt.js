@@ -29,6 +29,7 @@ const LEFT_OUT = {
   node_rules: 'specs: KindNumbers Due Laws',
   reference_rules: 'specs: Laws',
   repetition_rules: 'specs: Laws Seen',
+  literal_rules: 'specs: Laws',
   rules: 'specs: Toml NameOrder Run RuleViews Used Nodes NodeRules NameRules Refusals Lines',
   estree_json: 'specs: Sent Primitives Table',
   regular_expressions: 'specs: Scanned',
@@ -50,6 +51,7 @@ function codes(s) {                        // the characters of a literal
   if (l === undefined) codesMemo.set(s, l = fromArray([...s].map((c) => c.codePointAt(0))));
   return l;
 }
+const lowercase = (l) => fromArray(toArray(l).map((c) => (c >= 65 && c <= 90 ? c + 32 : c)));   // letters of ASCII
 const bytesMemo = new Map();
 function bytes(s) {                        // the UTF-8 bytes of a JS string
   let l = bytesMemo.get(s);
@@ -134,6 +136,7 @@ const LIBRARY = {
   filter_map: [2, (f, l) => fromArray(toArray(l).flatMap((x) => f(x).a))],
   starts_with: [3, (eq, l, n) => { for (; n !== null; l = l.t, n = n.t) if (l === null || !eq(l.h)(n.h)) return false; return true; }],
   codes: [1, codes], bytes_eq: [2, bytesEq], string_eq: [2, bytesEq],
+  str_eq_ignore_ascii_case: [2, (a, b) => bytesEq(lowercase(a), lowercase(b))],
   encode_utf8_all: [1, (l) => fromArray(toArray(l).flatMap(UTF8))], encode_utf8: [1, (c) => fromArray(UTF8(c))],
   has_unpaired_surrogate: [1, (l) => !String.fromCharCode(...toArray(l)).isWellFormed()],
   utf16_lossy_chars: [1, (l) => codes(String.fromCharCode(...toArray(l)).toWellFormed())], decimal: [1, (n) => codes(String(n))],

@@ -1,12 +1,13 @@
 'use strict';
 // The rows of crates/cases/data that the definitions can be asked for, with what each wants of them: its least early error, its scopes and references,
-// its reports by the settings, or the reports of one rule: on nodes, on names, on what stands twice. A row {text, language, look, want, ..}; `look` is a name of LOOKS.
+// its reports by the settings, or the reports of one rule: on nodes, on names, on what stands twice, on literals. A row {text, language, look, want, ..}; `look` is a name of LOOKS.
 
 const path = require('node:path');
 const antt = require('../antt.js');
 const behind = require('../behind.js');
 const { rowsOf } = require('../cases.js');
 const { Model, PLAIN_MODEL, plainTree } = require('../model.js');
+const { LiteralRules, rowsOfLiteralRules } = require('../literal_rules.js');
 const { NodeRules, rowsOfNodeRules } = require('../node_rules.js');
 const { ReferenceRules, rowsOfReferenceRules } = require('../reference_rules.js');
 const { RepetitionRules, rowsOfRepetitionRules } = require('../repetition_rules.js');
@@ -40,11 +41,12 @@ const LOOKS = {
   rule: ({ rules }, row) => rules.said(row),
   name: ({ names }, row) => names.said(row),
   again: ({ again }, row) => again.said(row),
+  literal: ({ literals }, row) => literals.said(row),
 };
 // all that the looks ask, of these definitions as they are now
 function lookedAt(spec) {
   const model = new Model([], spec);
-  return { model, reports: new Reports('', model), rules: new NodeRules(model), names: new ReferenceRules(model), again: new RepetitionRules(model) };
+  return { model, reports: new Reports('', model), rules: new NodeRules(model), names: new ReferenceRules(model), again: new RepetitionRules(model), literals: new LiteralRules(model) };
 }
 const saidOf = (definitions, row) => LOOKS[row.look](definitions, row);
 
@@ -56,7 +58,8 @@ function allRows() {
   const rule = rowsOfNodeRules().map((row) => ({ ...row, look: 'rule' }));
   const name = rowsOfReferenceRules().map((row) => ({ ...row, look: 'name' }));
   const again = rowsOfRepetitionRules().map((row) => ({ ...row, look: 'again' }));
-  const rows = [...early, ...scopes, ...check, ...rule, ...name, ...again].filter(({ text }) => text.length < LONGEST);
+  const literal = rowsOfLiteralRules().map((row) => ({ ...row, look: 'literal' }));
+  const rows = [...early, ...scopes, ...check, ...rule, ...name, ...again, ...literal].filter(({ text }) => text.length < LONGEST);
   for (const row of rows) row.read = parseOnly(row.text, { ...LIMITS, ...MORE[row.language] });
   return rows.filter((row) => row.read.ok);
 }

@@ -1,0 +1,3 @@
+mod Passes
+mod Reading
+pub mod Together
