@@ -28,7 +28,8 @@ class LiteralRules {
     if (!read.ok) return 'no script';
     if (!this.rules.has(row.name)) return 'no such rule';
     const found = this.found(this.rules.get(row.name), this.model.tree(plainTree(read.tree, row.language)));
-    return antt.toArray(found).sort((one, other) => one.start - other.start).map((it) => `${it.start} ${antt.text(it.text)}; `).join('');
+    const named = (it) => (antt.text(it.rule) === row.name ? '' : `${antt.text(it.rule)} `);
+    return antt.toArray(found).sort((one, other) => one.start - other.start).map((it) => `${named(it)}${it.start} ${antt.text(it.text)}; `).join('');
   }
 }
 
