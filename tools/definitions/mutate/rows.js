@@ -1,6 +1,6 @@
 'use strict';
 // The rows of crates/cases/data that the definitions can be asked for, with what each wants of them: its least early error, its scopes and references,
-// its reports by the settings, or the reports of one rule: on nodes, on names, on what stands twice, on literals. A row {text, language, look, want, ..}; `look` is a name of LOOKS.
+// its reports by the settings, or the reports of one rule: on nodes, on names, on what stands twice, on literals, on what stands between tokens. A row {text, language, look, want, ..}; `look` is a name of LOOKS.
 
 const path = require('node:path');
 const antt = require('../antt.js');
@@ -12,6 +12,7 @@ const { NodeRules, rowsOfNodeRules } = require('../node_rules.js');
 const { ReferenceRules, rowsOfReferenceRules } = require('../reference_rules.js');
 const { RepetitionRules, rowsOfRepetitionRules } = require('../repetition_rules.js');
 const { Reports } = require('../reports.js');
+const { TextRules, rowsOfTextRules } = require('../text_rules.js');
 const { parseOnly } = require(path.join(PLAIN_MODEL, 'parse.js'));
 
 // longer texts are about sizes
@@ -42,11 +43,12 @@ const LOOKS = {
   name: ({ names }, row) => names.said(row),
   again: ({ again }, row) => again.said(row),
   literal: ({ literals }, row) => literals.said(row),
+  text: ({ texts }, row) => texts.said(row),
 };
 // all that the looks ask, of these definitions as they are now
 function lookedAt(spec) {
   const model = new Model([], spec);
-  return { model, reports: new Reports('', model), rules: new NodeRules(model), names: new ReferenceRules(model), again: new RepetitionRules(model), literals: new LiteralRules(model) };
+  return { model, reports: new Reports('', model), rules: new NodeRules(model), names: new ReferenceRules(model), again: new RepetitionRules(model), literals: new LiteralRules(model), texts: new TextRules(model) };
 }
 const saidOf = (definitions, row) => LOOKS[row.look](definitions, row);
 
@@ -59,7 +61,8 @@ function allRows() {
   const name = rowsOfReferenceRules().map((row) => ({ ...row, look: 'name' }));
   const again = rowsOfRepetitionRules().map((row) => ({ ...row, look: 'again' }));
   const literal = rowsOfLiteralRules().map((row) => ({ ...row, look: 'literal' }));
-  const rows = [...early, ...scopes, ...check, ...rule, ...name, ...again, ...literal].filter(({ text }) => text.length < LONGEST);
+  const text = rowsOfTextRules().map((row) => ({ ...row, look: 'text' }));
+  const rows = [...early, ...scopes, ...check, ...rule, ...name, ...again, ...literal, ...text].filter(({ text }) => text.length < LONGEST);
   for (const row of rows) row.read = parseOnly(row.text, { ...LIMITS, ...MORE[row.language] });
   return rows.filter((row) => row.read.ok);
 }

@@ -1,0 +1,6 @@
+mod Characters
+mod CommentsPassed
+mod NodeTurns
+mod PartTurns
+pub mod Together
+mod Turns

@@ -1,0 +1,20 @@
+//! Rules that look at what stands between the tokens of a script: parentheses, line ends, white space, comments.
+//! - May touch: the nodes of a tree, the script's text, and memory for reports. It makes no token.
+//! - Contract: `push_found` appends what each of the rules reports, rule after rule; by `together_is_alone` that is what each rule finds
+//!   alone. What stands between two parts of a node is read once for each rule that asks for it, and never beyond them.
+//! - Begin at: `text_rule.rt`, `TextRule`, and `specs/Rows.antt` beside it; `reading.rt` has how characters are read, `gap.rt` what is asked
+//!   of what stands between two places, `parts.rt` which parts of nodes are looked at, `spaces.rt` the text outside literals.
+#![tactic(auto)]
+
+mod gap;
+pub mod laws;
+mod pairs;
+mod parts;
+mod reading;
+mod spaces;
+mod spot;
+mod text_rule;
+mod walk;
+
+pub use text_rule::{TEXT_RULES, TextRule};
+pub use walk::push_found;
