@@ -1,5 +1,5 @@
 -- What is reported of the parts of a node, one by one.
-use Rattle.std.proofs.Common.{◌≡◌, ℕ, zero, suc, ◌+◌, ◌<◌, ◌≤◌, List, [], ◌++◌, Option, Some, None, arith, refl, sym, ap, ◌∙◌, add-one}
+use Rattle.std.proofs.Common.{◌≡◌, ℕ, zero, suc, ◌+◌, ◌<◌, ◌≤◌, List, [], ◌++◌, Option, arith, refl, sym, ap, ◌∙◌, add-one}
 use Rattle.tree.specs.Tree.{Tree, Parts, none, part, gap, part_at, part_count, parts_drop}
 use Rattle.rule_words.specs.Reports.{Report}
 use Rattle.text_rules.specs.declared.text_rule.TextRule.{TextRule}

@@ -1,5 +1,5 @@
 -- Rules in one call find what each of them finds, rule after rule.
-use Rattle.std.proofs.Common.{◌≡◌, ℕ, true, nat_eq, length, List, [], ◌∷◌, ◌++◌, refl, sym, ap, ◌∙◌, subst, append_assoc, IsPermutation}
+use Rattle.std.proofs.Common.{◌≡◌, ℕ, true, nat_eq, length, List, [], ◌∷◌, ◌++◌, refl, ap, ◌∙◌, subst, append_assoc, IsPermutation}
 use Rattle.std.proofs.lemmas.Bool.{eqb-true}
 use Rattle.std.proofs.lemmas.List.{nil_from_length}
 use Rattle.std.proofs.lemmas.List.Sorted.{IsPermutation-refl}

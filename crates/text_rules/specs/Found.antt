@@ -1,5 +1,5 @@
 -- What rules that look at what stands between tokens find in a script, rule after rule.
-use Rattle.std.specs.Prelude.{ℕ, ◌+◌, Bool, true, false, ◌&&◌, ◌||◌, cond, length, List, [], ◌∷◌, ◌++◌, Option, Some, None}
+use Rattle.std.specs.Prelude.{ℕ, ◌+◌, Bool, true, false, cond, length, List, [], ◌∷◌, ◌++◌, Option, Some, None}
 use Rattle.std.specs.Str.{chars}
 use Rattle.tokens.specs.Alphabet.{is_among}
 use Rattle.tokens.specs.Comments.{hashbang}
@@ -11,7 +11,7 @@ use Rattle.tree.specs.Flat.{post_order}
 use Rattle.rule_words.specs.Reports.{Report}
 use Rattle.text_rules.specs.declared.text_rule.TextRule.{TextRule}
 use Rattle.text_rules.specs.declared.text_rule.TextRule.TheVariants.{NoCondAssign, NoIrregularWhitespace, NoSequences, NoUnexpectedMultiline}
-use Rattle.text_rules.specs.Rows.{behind_part, between, looks, of_part}
+use Rattle.text_rules.specs.Rows.{between, looks, of_part}
 
 -- what is said of each
 abbrev pub each : {X : Type 0} → (X → List Report) → List X → List Report

@@ -1,5 +1,5 @@
 -- Comments in what stands between two tokens, character by character (ECMA-262 11.2 to 11.4).
-use Rattle.std.specs.Prelude.{ℕ, Bool, true, false, not, ◌&&◌, ◌||◌, cond}
+use Rattle.std.specs.Prelude.{ℕ, Bool, true, false, not, ◌&&◌, cond}
 use Rattle.source_text.specs.Lines.{is_line_terminator}
 use Rattle.tokens.specs.Alphabet.{one_of, is_white_space}
 use Rattle.text_rules.specs.declared.spot.Spot.{Spot}
