@@ -1,8 +1,7 @@
 -- What is known of parts, as a walk adds it up part by part, is what the definitions say of them.
-use Rattle.std.proofs.Common.{◌≡◌, Bool, true, false, Option, Some, None, refl, sym, ap, ◌∙◌}
+use Rattle.std.proofs.Common.{◌≡◌, Bool, true, false, refl, sym, ap, ◌∙◌}
 use Rattle.std.specs.Prelude.{◌&&◌, ◌||◌}
-use Rattle.tree.specs.Tree.{Tree, node, Parts, none, part, gap, kind_of, parts_of}
-use Rattle.flow_rules.specs.declared.flow.Flow.{Flow}
+use Rattle.tree.specs.Tree.{Tree, node, Parts, none, part, gap, parts_of}
 use Rattle.flow_rules.specs.declared.flow.Place.{Place}
 use Rattle.flow_rules.specs.declared.flow.Place.TheVariants.{First, Later, Second, Third}
 use Rattle.flow_rules.specs.declared.flow.Sums.{Sums}

@@ -4,30 +4,7 @@ use Rattle.std.specs.Prelude.{◌&&◌, ◌||◌}
 use Rattle.std.proofs.Math.Seq.{drop-cons}
 use Rattle.std.proofs.lemmas.List.{drop_all}
 use Rattle.flow_rules.specs.Completion.{are_digits, is_digit}
-use Rattle.flow_rules.specs.Fallthrough.{begins, begins_falls, is_letter, says_falls}
-
-and_false : (a : Bool) → (a && false) ≡ false
-and_false true = refl
-and_false false = refl
-
--- no text begins with a longer word
-pub begins-short : (ws cs : List ℕ) → length cs < length ws → false ≡ begins ws cs
-begins-short [] cs l = absurd (omega (arith, l))
-begins-short (w ∷ ws) [] l = refl
-begins-short (w ∷ ws) (c ∷ cs) l = sym (and_false (is_letter w c)) ∙ ap (λ b. is_letter w c && b) (begins-short ws cs (omega (arith, l)))
-
-module _ (ws cs : List ℕ) (i : ℕ) (total : Bool) (so : begins (drop i ws) (drop i cs) ≡ total) where
-  begins-step : i < length ws → i < length cs → (c d : ℕ) → begins (drop i ws) (drop i cs) ≡ (is_letter (get_or ws i c) (get_or cs i d) && begins (drop (suc i) ws) (drop (suc i) cs))
-  begins-step l m c d = ap (λ x. begins x (drop i cs)) (drop-cons ws i c l) ∙ ap (begins (get_or ws i c ∷ drop (suc i) ws)) (drop-cons cs i d m)
-
-  pub begins-not : i < length ws → i < length cs → (c d : ℕ) → is_letter (get_or ws i c) (get_or cs i d) ≡ false → false ≡ total
-  begins-not l m c d h = sym (ap (λ b. b && begins (drop (suc i) ws) (drop (suc i) cs)) h) ∙ sym (begins-step l m c d) ∙ so
-
-  pub begins-turn : i < length ws → i < length cs → (c d : ℕ) → is_letter (get_or ws i c) (get_or cs i d) ≡ true → begins (drop (i + 1) ws) (drop (i + 1) cs) ≡ total
-  begins-turn l m c d h = rw (add-one i) (sym (ap (λ b. b && begins (drop (suc i) ws) (drop (suc i) cs)) h) ∙ sym (begins-step l m c d) ∙ so)
-
-  pub begins-end : length ws ≤ i → true ≡ total
-  begins-end l = sym (ap (λ x. begins x (drop i cs)) (drop_all i ws l)) ∙ so
+use Rattle.flow_rules.specs.Fallthrough.{begins_falls, says_falls}
 
 says-step : (cs : List ℕ) (i : ℕ) → i < length cs → says_falls (drop i cs) ≡ (begins_falls (drop i cs) || says_falls (drop (suc i) cs))
 says-step [] i l = absurd (omega (arith, l))

@@ -1,5 +1,5 @@
 -- Rules in one walk find what each of them finds, in another order: once, for any list of rules.
-use Rattle.std.proofs.Common.{◌≡◌, ℕ, ◌+◌, true, nat_eq, length, List, [], ◌∷◌, ◌++◌, refl, sym, ap, ◌∙◌, subst, append_assoc, append-nil, IsPermutation}
+use Rattle.std.proofs.Common.{◌≡◌, ℕ, true, nat_eq, length, List, [], ◌∷◌, ◌++◌, refl, sym, ap, ◌∙◌, subst, append_assoc, IsPermutation}
 use Rattle.std.proofs.lemmas.Bool.{eqb-true}
 use Rattle.std.proofs.lemmas.List.{nil_from_length}
 use Rattle.std.proofs.lemmas.List.Sorted.{IsPermutation-refl, IsPermutation-trans, IsPermutation-append, IsPermutation-append_left, IsPermutation-append_right, IsPermutation-append_comm}
@@ -7,11 +7,11 @@ use Rattle.tree.specs.Tree.{Tree, node, Parts, none, part, gap}
 use Rattle.rule_words.specs.Reports.{Report}
 use Rattle.flow_rules.specs.declared.around.Around.{Around}
 use Rattle.flow_rules.specs.declared.flow.Flow.{Flow}
-use Rattle.flow_rules.specs.declared.node_rule.FlowRule.{FlowRule}
+use Rattle.flow_rules.specs.declared.flow_rule.FlowRule.{FlowRule}
 use Rattle.flow_rules.specs.Arounds.{inside, behind, behind_gap, round_root}
 use Rattle.flow_rules.specs.Flows.{flow_of}
-use Rattle.flow_rules.specs.Found.{found_by_rule, found_by_rules}
-use Rattle.flow_rules.specs.Laws.{each_alone, FindTogether}
+use Rattle.flow_rules.specs.Found.{found_by_rules}
+use Rattle.flow_rules.specs.Laws.{FindTogether}
 use Rattle.flow_rules.specs.Over.{over_nodes, over_parts}
 use Rattle.flow_rules.specs.Rows.{of_node, of_rules}
 

@@ -1,5 +1,5 @@
 -- What is said of nodes, and what is known of them, as the walk goes.
-use Rattle.std.proofs.Common.{◌≡◌, ℕ, zero, suc, ◌+◌, ◌<◌, ◌≤◌, List, [], ◌∷◌, ◌++◌, Option, Some, None, length, drop, get_or, refl, sym, ap, ◌∙◌, arith, add-one, append_assoc, append-nil}
+use Rattle.std.proofs.Common.{◌≡◌, ℕ, zero, suc, ◌+◌, ◌<◌, ◌≤◌, List, [], ◌∷◌, ◌++◌, Option, length, drop, get_or, refl, sym, ap, ◌∙◌, arith, add-one, append_assoc, append-nil}
 use Rattle.std.proofs.Math.Seq.{drop-cons}
 use Rattle.tree.specs.Tree.{Tree, node, Parts, none, part, gap, parts_of, part_at, part_count, parts_drop}
 use Rattle.rule_words.specs.Reports.{Report}
@@ -9,7 +9,7 @@ use Rattle.flow_rules.specs.declared.flow.Flow.{Flow}
 use Rattle.flow_rules.specs.declared.flow.Place.{Place}
 use Rattle.flow_rules.specs.declared.flow.Sums.{Sums}
 use Rattle.flow_rules.specs.Arounds.{inside}
-use Rattle.flow_rules.specs.Flows.{flow_of, next_place}
+use Rattle.flow_rules.specs.Flows.{flow_of}
 use Rattle.flow_rules.specs.Over.{over_nodes, over_parts}
 use Rattle.flow_rules.specs.Steps.{around_behind, over_part, sums_behind}
 use Rattle.flow_rules.proofs.SumLemmas.{folded}

@@ -1,7 +1,5 @@
 -- What stands round a node, as far as rules ask.
-use Rattle.std.specs.Prelude.{ℕ, ◌-◌, Bool, true, false, not, ◌&&◌, ◌||◌, cond, nat_eq, List, [], ◌∷◌, Option, Some, None, is_some, codes}
-use Rattle.std.specs.List.{list_any}
-use Rattle.std.specs.Str.{bytes_eq}
+use Rattle.std.specs.Prelude.{ℕ, ◌-◌, Bool, true, false, not, ◌&&◌, ◌||◌, cond, nat_eq, List, [], Option, Some, None, is_some}
 use Rattle.tree.specs.declared.kind.Kind.{Kind}
 use Rattle.tree.specs.declared.kind.Kind.TheVariants.{ChainExpression, EmptyStatement, FunctionDeclaration, Identifier, MemberExpression, Program, VariableDeclaration}
 use Rattle.tree.specs.declared.kind.Flags.{Flags}

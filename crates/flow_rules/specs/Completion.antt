@@ -1,6 +1,6 @@
 -- Whether a statement can complete normally (6.2.3), as 14.22 of the Java Language Specification has it: unless each way through it ends otherwise.
 -- An expression may have any value, a condition that is surely true has its own, and a `break` counts wherever it stands.
-use Rattle.std.specs.Prelude.{ℕ, zero, suc, Bool, true, false, not, ◌&&◌, ◌||◌, cond, nat_eq, nat_le, List, [], ◌∷◌, Option, Some, None, is_none, is_some}
+use Rattle.std.specs.Prelude.{ℕ, zero, suc, Bool, true, false, not, ◌&&◌, ◌||◌, nat_le, List, [], ◌∷◌, Option, Some, None, is_none, is_some}
 use Rattle.std.specs.Str.{bytes_eq}
 use Rattle.tree.specs.declared.kind.Kind.{Kind}
 use Rattle.tree.specs.declared.kind.Kind.TheVariants.{BlockStatement, BreakStatement, CatchClause, ContinueStatement, DoWhileStatement, ForStatement, IfStatement, LabeledStatement, Literal, ReturnStatement, Super, SwitchCase, SwitchStatement, ThrowStatement, TryStatement, WhileStatement}

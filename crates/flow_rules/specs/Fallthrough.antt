@@ -1,7 +1,6 @@
 -- What is said between two cases.
-use Rattle.std.specs.Prelude.{ℕ, zero, suc, ◌+◌, Bool, true, false, ◌&&◌, ◌||◌, cond, nat_eq, nat_le, List, [], ◌∷◌, drop, length, Option, Some, None, codes}
+use Rattle.std.specs.Prelude.{ℕ, ◌+◌, Bool, true, false, ◌&&◌, ◌||◌, cond, nat_eq, nat_le, List, [], ◌∷◌, drop, Option, Some, None, codes}
 use Rattle.std.specs.List.{slice_range}
-use Rattle.tree.specs.declared.kind.Kind.{Kind}
 use Rattle.tree.specs.Tree.{Tree, kind_of, part_at, part_count, parts_of, start_of, stop_of}
 use Rattle.tree.specs.Fields.{last_part}
 use Rattle.flow_rules.specs.declared.flow.Flow.{Flow}

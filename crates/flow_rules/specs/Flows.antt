@@ -1,6 +1,6 @@
 -- What is known of a node once its parts are known.
-use Rattle.std.specs.Prelude.{Bool, true, false, not, ◌&&◌, ◌||◌, Option, Some, None, is_none}
-use Rattle.tree.specs.Tree.{Tree, Parts, kind_of, part_at, parts_of}
+use Rattle.std.specs.Prelude.{Bool, true, false, not, ◌&&◌, ◌||◌}
+use Rattle.tree.specs.Tree.{Tree, kind_of, part_at, parts_of}
 use Rattle.flow_rules.specs.declared.flow.Flow.{Flow}
 use Rattle.flow_rules.specs.declared.flow.Leaving.{Leaving}
 use Rattle.flow_rules.specs.declared.flow.Place.{Place}

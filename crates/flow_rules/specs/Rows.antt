@@ -1,6 +1,5 @@
 -- Rules that ask how statements complete, row by row: the name, what a rule reports by what stands round a node, by what leaves it, and by itself, where, and what it says.
 use Rattle.std.specs.Prelude.{ℕ, Bool, true, false, not, ◌&&◌, ◌||◌, cond, List, [], ◌∷◌, ◌++◌, is_none, codes}
-use Rattle.tree.specs.declared.kind.Kind.{Kind}
 use Rattle.tree.specs.declared.kind.Span.{Span}
 use Rattle.tree.specs.Kinds.{is_function, is_loop, is_super}
 use Rattle.tree.specs.Tree.{Tree, kind_of, part_at, parts_of, start_of, stop_of}
@@ -13,7 +12,7 @@ use Rattle.flow_rules.specs.declared.flow_rule.FlowRule.{FlowRule}
 use Rattle.flow_rules.specs.declared.flow_rule.FlowRule.TheVariants.{ArrayCallbackReturn, ConsistentReturn, ConstructorSuper, GetterReturn, NoElseReturn, NoFallthrough, NoThisBeforeSuper, NoUnreachable, NoUnreachableLoop, NoUselessReturn}
 use Rattle.flow_rules.specs.Arounds.{at_tail, is_hoisted, is_third}
 use Rattle.flow_rules.specs.Fallthrough.{is_said}
-use Rattle.flow_rules.specs.KindSets.{is_block, is_if, is_member_expression, is_return, is_switch, is_this}
+use Rattle.flow_rules.specs.KindSets.{is_block, is_if, is_member_expression, is_return, is_this}
 
 -- what settings and reports call a rule
 abbrev pub called : FlowRule → List ℕ

@@ -250,8 +250,7 @@ impl Around {
         let parent = self.round.parent;
         parent.is_function()
             || (self.round.in_tail
-                && (((is_block(parent) || (is_case(parent) || is_switch(parent)))
-                    && self.left == 1)
+                && (((is_block(parent) || (is_case(parent) || is_switch(parent))) && self.left == 1)
                     || ((is_if(parent) || is_catch(parent))
                         || (is_try(parent)
                             && (is_second(self.place) && !self.round.has_finalizer)))))
@@ -262,7 +261,8 @@ impl Around {
         ensures { result ≡ chained_inside self kind }
     {
         let parent = self.round.parent;
-        is_if(kind) && (is_list(parent) || (is_if(parent) && (is_third(self.place) && self.chained)))
+        is_if(kind)
+            && (is_list(parent) || (is_if(parent) && (is_third(self.place) && self.chained)))
     }
 }
 

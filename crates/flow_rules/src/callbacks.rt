@@ -44,13 +44,7 @@ fn key_name<'t, 's>(computed: bool, key: Option<Node<'t, 's>>) -> &'t str
         return "";
     };
     match node.kind() {
-        Kind::Identifier => {
-            if computed {
-                ""
-            } else {
-                node.text()
-            }
-        },
+        Kind::Identifier => { if computed { "" } else { node.text() } },
         _ => "",
     }
 }

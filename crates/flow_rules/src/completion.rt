@@ -57,22 +57,67 @@ fn do_completes(test: Option<Node>, sums: Sums) -> bool
 fn leaving_by(node: Node, below: Leaving) -> Leaving
     ensures { result ≡ leaving_by (node_tree node.entry) below }
 {
-    let kind = node.kind();
-    let code = is_code(kind);
-    let has_first = node.part(0).is_some();
     Leaving {
-        breaks: (is_break(kind) && !has_first)
-            || (!(code || (kind.is_loop() || is_switch(kind))) && below.breaks),
-        labelled_breaks: (is_break(kind) && has_first) || (!code && below.labelled_breaks),
-        continues: (is_continue(kind) && !has_first)
-            || (!(code || kind.is_loop()) && below.continues),
-        labelled_continues: (is_continue(kind) && has_first)
-            || (!code && below.labelled_continues),
-        values: (is_return(kind) && has_first) || (!code && below.values),
-        empties: (is_return(kind) && !has_first) || (!code && below.empties),
-        supers: (is_call(kind) && is_super_part(node.part(0)))
-            || (!is_own_function(kind) && below.supers),
+        breaks: leaves_by_breaks(node, below.breaks),
+        labelled_breaks: leaves_by_labelled_breaks(node, below.labelled_breaks),
+        continues: leaves_by_continues(node, below.continues),
+        labelled_continues: leaves_by_labelled_continues(node, below.labelled_continues),
+        values: leaves_by_values(node, below.values),
+        empties: leaves_by_empties(node, below.empties),
+        supers: leaves_by_supers(node, below.supers),
     }
+}
+
+/// Whether a `break` without a label leaves a node, if it is known whether one leaves a part.
+fn leaves_by_breaks(node: Node, below: bool) -> bool
+    ensures { result ≡ leaves Break (node_tree node.entry) below }
+{
+    (is_break(node.kind()) && node.part(0).is_none())
+        || (!(is_code(node.kind()) || (node.kind().is_loop() || is_switch(node.kind()))) && below)
+}
+
+/// Whether one with a label leaves a node, if it is known whether one leaves a part.
+fn leaves_by_labelled_breaks(node: Node, below: bool) -> bool
+    ensures { result ≡ leaves LabelledBreak (node_tree node.entry) below }
+{
+    (is_break(node.kind()) && node.part(0).is_some()) || (!is_code(node.kind()) && below)
+}
+
+/// Whether a `continue` without a label leaves a node, if it is known whether one leaves a part.
+fn leaves_by_continues(node: Node, below: bool) -> bool
+    ensures { result ≡ leaves Continue (node_tree node.entry) below }
+{
+    (is_continue(node.kind()) && node.part(0).is_none())
+        || (!(is_code(node.kind()) || node.kind().is_loop()) && below)
+}
+
+/// Whether one with a label leaves a node, if it is known whether one leaves a part.
+fn leaves_by_labelled_continues(node: Node, below: bool) -> bool
+    ensures { result ≡ leaves LabelledContinue (node_tree node.entry) below }
+{
+    (is_continue(node.kind()) && node.part(0).is_some()) || (!is_code(node.kind()) && below)
+}
+
+/// Whether a `return` with an argument leaves a node, if it is known whether one leaves a part.
+fn leaves_by_values(node: Node, below: bool) -> bool
+    ensures { result ≡ leaves ReturnsValue (node_tree node.entry) below }
+{
+    (is_return(node.kind()) && node.part(0).is_some()) || (!is_code(node.kind()) && below)
+}
+
+/// Whether one without leaves a node, if it is known whether one leaves a part.
+fn leaves_by_empties(node: Node, below: bool) -> bool
+    ensures { result ≡ leaves ReturnsNothing (node_tree node.entry) below }
+{
+    (is_return(node.kind()) && node.part(0).is_none()) || (!is_code(node.kind()) && below)
+}
+
+/// Whether a call of `super` leaves a node, if it is known whether one leaves a part.
+fn leaves_by_supers(node: Node, below: bool) -> bool
+    ensures { result ≡ leaves SuperCall (node_tree node.entry) below }
+{
+    (is_call(node.kind()) && is_super_part(node.part(0)))
+        || (!is_own_function(node.kind()) && below)
 }
 
 /// Whether a part is `super`.

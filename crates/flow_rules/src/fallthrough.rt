@@ -64,19 +64,17 @@ fn is_white(byte: u8) -> bool
     byte == 32 || (byte >= 9 && byte <= 13)
 }
 
-/// Whether a text begins with a word, in any case of letters.
+/// Whether a text begins with a word, in any case of letters. It calls itself as often as the word is long.
 fn begins(word: &[u8], text: &[u8]) -> bool
     ensures { result ≡ begins word.now text.now }
 {
-    if text.len() < word.len() {
+    let Some((letter, more)) = word.split_first() else {
+        return true;
+    };
+    let Some((first, rest)) = text.split_first() else {
         return false;
-    }
-    for index in 0..word.len() {
-        if !is_letter(word[index], text[index]) {
-            return false;
-        }
-    }
-    true
+    };
+    is_letter(*letter, *first) && begins(more, rest)
 }
 
 /// Whether a text begins with `through`, perhaps behind one byte of white space.

@@ -220,6 +220,5 @@ fn gives_nothing(around: Around, flow: Flow, node: Node) -> bool
 fn is_this_use(around: Around, node: Node) -> bool
     ensures { result ≡ is_this_use around (node_tree node.entry) }
 {
-    is_this(node.kind())
-        || (node.kind().is_super() && is_member_expression(around.round.parent))
+    is_this(node.kind()) || (node.kind().is_super() && is_member_expression(around.round.parent))
 }

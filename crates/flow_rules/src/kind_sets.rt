@@ -51,7 +51,10 @@ pub(crate) fn has_own_this(kind: Kind) -> bool
 pub(crate) fn is_list(kind: Kind) -> bool
     ensures { result ≡ is_list kind }
 {
-    matches!(kind, Kind::Program | Kind::BlockStatement | Kind::StaticBlock | Kind::SwitchCase)
+    matches!(
+        kind,
+        Kind::Program | Kind::BlockStatement | Kind::StaticBlock | Kind::SwitchCase
+    )
 }
 
 /// Whether it is the kind of a block.

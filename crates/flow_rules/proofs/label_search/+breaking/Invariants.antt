@@ -12,4 +12,4 @@ abbrev pub decreases-parts_break : goal.decreases-parts_break
 decreases-parts_break l = 2 * node_total (node_tree l.node)
 
 abbrev pub invariant-parts_break-loop-index : goal.invariant-parts_break-loop-index
-invariant-parts_break-loop-index l = some (BreakOf l.label.now) (parts_drop l.index (parts_of (node_tree l.node))) ≡ some (BreakOf l.label.now) (parts_of (node_tree l.node))
+invariant-parts_break-loop-index l = some (BreakOf l.label) (parts_drop l.index (parts_of (node_tree l.node))) ≡ some (BreakOf l.label) (parts_of (node_tree l.node))
