@@ -31,6 +31,7 @@ const LEFT_OUT = {
   repetition_rules: 'specs: Laws Seen',
   literal_rules: 'specs: Laws',
   text_rules: 'specs: Laws',
+  flow_rules: 'specs: Laws Steps',
   rules: 'specs: Toml NameOrder Run RuleViews Used Nodes NodeRules NameRules Refusals Lines',
   estree_json: 'specs: Sent Primitives Table',
   regular_expressions: 'specs: Scanned',
@@ -203,7 +204,7 @@ function items(lines, where) {
   for (const line of lines) {
     const n = indentOf(line.text);
     if (n < indent) throw new AnttError(`${where}:${line.no}: layout`);
-    if (n === indent) list.push([line]); else list[list.length - 1].push(line);
+    if (n === indent && !/^[)\]}]/.test(line.text.trimStart())) list.push([line]); else list[list.length - 1].push(line);   // a bracket that closes goes on
   }
   return list;
 }

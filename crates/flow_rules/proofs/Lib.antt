@@ -1,0 +1,5 @@
+mod SumLemmas
+mod WalkLemmas
+pub mod Together
+mod LabelLemmas
+mod TextLemmas

@@ -1,0 +1,10 @@
+pub mod KindSets
+pub mod Completion
+pub mod Flows
+pub mod Fallthrough
+pub mod Arounds
+pub mod Rows
+pub mod Over
+pub mod Steps
+pub mod Found
+pub mod Laws
