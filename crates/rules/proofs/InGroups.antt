@@ -12,12 +12,20 @@ use Rattle.reference_rules.specs.declared.reference_rule.ReferenceRule.{Referenc
 use Rattle.reference_rules.proofs.Together.{both as both-references, no-rules as no-reference-rules}
 use Rattle.repetition_rules.specs.declared.repetition_rule.RepetitionRule.{RepetitionRule}
 use Rattle.repetition_rules.proofs.Together.{both as both-repetitions, no-rules as no-repetition-rules}
+use Rattle.flow_rules.specs.declared.flow_rule.FlowRule.{FlowRule}
+use Rattle.flow_rules.specs.Arounds.{round_root as flow_round_root}
+use Rattle.flow_rules.specs.Rows.{of_node as flow_of_node, of_rules as flow_of_rules}
+use Rattle.flow_rules.proofs.Together.{both-nodes as both-flows, no-rules as no-flow-rules}
+use Rattle.literal_rules.specs.declared.literal_rule.LiteralRule.{LiteralRule}
+use Rattle.literal_rules.proofs.Together.{both as both-literal, no-rules as no-literal-rules}
+use Rattle.text_rules.specs.declared.text_rule.TextRule.{TextRule}
+use Rattle.text_rules.specs.Found.{found_by_rule as found_by_text_rule}
 use Rattle.rules.specs.declared.rule_list.RuleName.{RuleName}
-use Rattle.rules.specs.declared.rule_list.RuleName.TheVariants.{OnNodes, OnReferences, OnRepetitions, NoExtraParens, NoShadow, NoUndef, NoUnusedVars, PreferConst}
-use Rattle.rules.specs.Groups.{chosen, chosen_if, found_alone, found_alone_by, found_in_groups, found_on_references, found_on_repetitions, node_rule_named, reference_rule_named, repetition_rule_named}
+use Rattle.rules.specs.declared.rule_list.RuleName.TheVariants.{OnNodes, OnReferences, OnRepetitions, OnFlow, OnLiterals, OnTexts, NoExtraParens, NoShadow, NoUndef, NoUnusedVars, PreferConst}
+use Rattle.rules.specs.Groups.{chosen, chosen_if, found_alone, found_alone_by, found_in_groups, found_on_references, found_on_repetitions, found_on_flow, flow_rule_named, found_on_literals, literal_rule_named, found_on_texts, text_rule_named, node_rule_named, reference_rule_named, repetition_rule_named}
 use Rattle.rules.specs.NodeRules.{found_on_nodes}
 use Rattle.rules.specs.RuleNames.{called}
-use Rattle.rules.specs.Rules.{View, node_options, on_nodes, on_references, on_repetitions, profile_of}
+use Rattle.rules.specs.Rules.{View, node_options, on_nodes, on_references, on_repetitions, on_flow, on_literals, on_texts, profile_of}
 use Rattle.rules.specs.Run.{found_by_name, found_by_names}
 use Rattle.rules.specs.Settings.{Settings, is_on}
 use Rattle.rules.proofs.AppendLoops.{append-turn}
@@ -58,10 +66,13 @@ behind first one old new h =
 -- what a rule finds that is of no group stands behind what the groups find
 alone-last : (one : List Report) (names : List RuleName) (v : View) → IsPermutation (one ++ found_in_groups names v)
     (found_on_nodes (chosen node_rule_named names v.settings) v ++ (found_on_references (chosen reference_rule_named names v.settings) v ++ (found_on_repetitions (chosen repetition_rule_named names v.settings) v
-    ++ (one ++ found_alone names v))))
+    ++ (found_on_flow (chosen flow_rule_named names v.settings) v ++ (found_on_literals (chosen literal_rule_named names v.settings) v ++ (found_on_texts (chosen text_rule_named names v.settings) v
+    ++ (one ++ found_alone names v)))))))
 alone-last one names v =
     behind (found_on_nodes (chosen node_rule_named names v.settings) v) one _ _ (behind (found_on_references (chosen reference_rule_named names v.settings) v) one _ _
-    (behind (found_on_repetitions (chosen repetition_rule_named names v.settings) v) one _ _ (IsPermutation-refl (one ++ found_alone names v))))
+    (behind (found_on_repetitions (chosen repetition_rule_named names v.settings) v) one _ _ (behind (found_on_flow (chosen flow_rule_named names v.settings) v) one _ _
+    (behind (found_on_literals (chosen literal_rule_named names v.settings) v) one _ _ (behind (found_on_texts (chosen text_rule_named names v.settings) v) one _ _
+    (IsPermutation-refl (one ++ found_alone names v)))))))
 
 -- a name more
 step : (name : RuleName) (names : List RuleName) (v : View) → IsPermutation (found_by_name name v ++ found_in_groups names v) (found_in_groups (name ∷ names) v)
@@ -74,6 +85,15 @@ step (OnReferences r) names v =
 step (OnRepetitions r) names v =
     behind _ _ _ _ (behind _ _ _ _ (at-head _ _ _ _ (joins-if (λ rs. found_on_repetitions rs v) (λ q. on_repetitions q v) (λ q rs. both-repetitions (q ∷ []) rs (post_order v.tree))
     (is_on (called (OnRepetitions r)) v.settings) r (chosen repetition_rule_named names v.settings))))
+step (OnFlow r) names v =
+    behind _ _ _ _ (behind _ _ _ _ (behind _ _ _ _ (at-head _ _ _ _ (joins-if (λ rs. found_on_flow rs v) (λ q. on_flow q v) (λ q rs. both-flows (flow_of_node v.text q) (flow_of_rules v.text rs) flow_round_root v.tree)
+    (is_on (called (OnFlow r)) v.settings) r (chosen flow_rule_named names v.settings)))))
+step (OnLiterals r) names v =
+    behind _ _ _ _ (behind _ _ _ _ (behind _ _ _ _ (behind _ _ _ _ (at-head _ _ _ _ (joins-if (λ rs. found_on_literals rs v) (λ q. on_literals q v) (λ q rs. both-literal (q ∷ []) rs (post_order v.tree))
+    (is_on (called (OnLiterals r)) v.settings) r (chosen literal_rule_named names v.settings))))))
+step (OnTexts r) names v =
+    behind _ _ _ _ (behind _ _ _ _ (behind _ _ _ _ (behind _ _ _ _ (behind _ _ _ _ (at-head _ _ _ _ (joins-if (λ rs. found_on_texts rs v) (λ q. on_texts q v) (λ q rs. IsPermutation-refl (on_texts q v ++ found_on_texts rs v))
+    (is_on (called (OnTexts r)) v.settings) r (chosen text_rule_named names v.settings)))))))
 step NoExtraParens names v = alone-last (found_by_name NoExtraParens v) names v
 step NoShadow names v = alone-last (found_by_name NoShadow v) names v
 step NoUndef names v = alone-last (found_by_name NoUndef v) names v
@@ -83,31 +103,45 @@ step PreferConst names v = alone-last (found_by_name PreferConst v) names v
 -- no names, no reports
 none-in-groups : (v : View) → found_in_groups [] v ≡ []
 none-in-groups v =
-    ap (λ l. l ++ (found_on_references [] v ++ (found_on_repetitions [] v ++ []))) (none-on-nodes v)
-    ∙ ap (λ l. l ++ (found_on_repetitions [] v ++ [])) (no-reference-rules (profile_of v.tree) [] v.found refl) ∙ ap (λ l. l ++ []) (no-repetition-rules [] v.tree refl)
+    ap (λ l. l ++ (found_on_references [] v ++ (found_on_repetitions [] v ++ (found_on_flow [] v ++ (found_on_literals [] v ++ []))))) (none-on-nodes v)
+    ∙ ap (λ l. l ++ (found_on_repetitions [] v ++ (found_on_flow [] v ++ (found_on_literals [] v ++ [])))) (no-reference-rules (profile_of v.tree) [] v.found refl)
+    ∙ ap (λ l. l ++ (found_on_flow [] v ++ (found_on_literals [] v ++ []))) (no-repetition-rules [] v.tree refl)
+    ∙ ap (λ l. l ++ (found_on_literals [] v ++ [])) (no-flow-rules v.text [] v.tree refl)
+    ∙ ap (λ l. l ++ []) (no-literal-rules [] v.tree refl)
 
 -- group after group
 pub group-after-group : (names : List RuleName) (v : View) → IsPermutation (found_by_names names v) (found_in_groups names v)
 group-after-group [] v = same-permutation [] (found_in_groups [] v) (sym (none-in-groups v))
 group-after-group (name ∷ names) v = IsPermutation-trans _ _ _ (IsPermutation-append_right (found_by_name name v) _ _ (group-after-group names v)) (step name names v)
 
--- what the groups find, appended one after the other
-pub appended-groups : (names : List RuleName) (v : View) (out one two three new : List Report)
+-- what a group finds, appended, and what is appended behind it
+then : (out found rest next new : List Report) → next ≡ out ++ found → new ≡ next ++ rest → new ≡ out ++ (found ++ rest)
+then out found rest next new is all = all ∙ ap (λ l. l ++ rest) is ∙ append_assoc out found rest
+
+-- what was found before, and behind it what the groups find
+pub behind-found : (names : List RuleName) (v : View) (out new : List Report) → new ≡ out ++ found_in_groups names v → IsPermutation (found_by_names names v ++ out) new
+behind-found names v out new is =
+    IsPermutation-trans _ _ _ (IsPermutation-append_comm (found_by_names names v) out)
+    (IsPermutation-trans _ _ _ (IsPermutation-append_right out _ _ (group-after-group names v)) (same-permutation _ _ (sym is)))
+
+-- group after group, appended
+pub appended-groups : (names : List RuleName) (v : View) (out one two three four five six new : List Report)
     → one ≡ out ++ found_on_nodes (chosen node_rule_named names v.settings) v
     → two ≡ one ++ found_on_references (chosen reference_rule_named names v.settings) v
     → three ≡ two ++ found_on_repetitions (chosen repetition_rule_named names v.settings) v
-    → new ≡ three ++ found_alone names v
+    → four ≡ three ++ found_on_flow (chosen flow_rule_named names v.settings) v
+    → five ≡ four ++ found_on_literals (chosen literal_rule_named names v.settings) v
+    → six ≡ five ++ found_on_texts (chosen text_rule_named names v.settings) v
+    → new ≡ six ++ found_alone names v
     → IsPermutation (found_by_names names v ++ out) new
-appended-groups names v out one two three new a b c d =
-    let nodes : List Report = found_on_nodes (chosen node_rule_named names v.settings) v in
-    let references : List Report = found_on_references (chosen reference_rule_named names v.settings) v in
-    let repetitions : List Report = found_on_repetitions (chosen repetition_rule_named names v.settings) v in
-    let alone : List Report = found_alone names v in
-    IsPermutation-trans _ _ _ (IsPermutation-append_comm (found_by_names names v) out)
-    (IsPermutation-trans _ _ _ (IsPermutation-append_right out _ _ (group-after-group names v))
-    (same-permutation _ _ (sym (append_assoc out nodes _) ∙ ap (λ l. l ++ (references ++ (repetitions ++ alone))) (sym a)
-    ∙ sym (append_assoc one references _) ∙ ap (λ l. l ++ (repetitions ++ alone)) (sym b)
-    ∙ sym (append_assoc two repetitions _) ∙ ap (λ l. l ++ alone) (sym c) ∙ sym d)))
+appended-groups names v out one two three four five six new a b c d e f g =
+    behind-found names v out new
+    (then out (found_on_nodes (chosen node_rule_named names v.settings) v) _ one new a
+    (then one (found_on_references (chosen reference_rule_named names v.settings) v) _ two new b
+    (then two (found_on_repetitions (chosen repetition_rule_named names v.settings) v) _ three new c
+    (then three (found_on_flow (chosen flow_rule_named names v.settings) v) _ four new d
+    (then four (found_on_literals (chosen literal_rule_named names v.settings) v) _ five new e
+    (then five (found_on_texts (chosen text_rule_named names v.settings) v) _ six new f g))))))
 
 -- ---- rules that are of no group, one by one
 

@@ -6,13 +6,19 @@ use Rattle.reference_rules.specs.Found.{found_by_rules}
 use Rattle.reference_rules.specs.declared.reference_rule.ReferenceRule.{ReferenceRule}
 use Rattle.repetition_rules.specs.Found.{found_by_rules as found_by_repetition_rules}
 use Rattle.repetition_rules.specs.declared.repetition_rule.RepetitionRule.{RepetitionRule}
+use Rattle.flow_rules.specs.Found.{found_by_rules as found_by_flow_rules}
+use Rattle.flow_rules.specs.declared.flow_rule.FlowRule.{FlowRule}
+use Rattle.literal_rules.specs.Found.{found_by_rules as found_by_literal_rules}
+use Rattle.literal_rules.specs.declared.literal_rule.LiteralRule.{LiteralRule}
+use Rattle.text_rules.specs.Found.{found_by_rules as found_by_text_rules}
+use Rattle.text_rules.specs.declared.text_rule.TextRule.{TextRule}
 use Rattle.rules.specs.NodeRules.{found_on_nodes}
 use Rattle.rules.specs.RuleNames.{called}
 use Rattle.rules.specs.Rules.{View, profile_of}
 use Rattle.rules.specs.Run.{found_by_name}
 use Rattle.rules.specs.Settings.{Settings, is_on}
 use Rattle.rules.specs.declared.rule_list.RuleName.{RuleName}
-use Rattle.rules.specs.declared.rule_list.RuleName.TheVariants.{OnNodes, OnReferences, OnRepetitions, NoExtraParens, NoShadow, NoUndef, NoUnusedVars, PreferConst}
+use Rattle.rules.specs.declared.rule_list.RuleName.TheVariants.{OnNodes, OnReferences, OnRepetitions, OnFlow, OnLiterals, OnTexts, NoExtraParens, NoShadow, NoUndef, NoUnusedVars, PreferConst}
 
 -- the rule of a group that a name is of
 abbrev pub node_rule_named : RuleName → Option NodeRule
@@ -26,6 +32,18 @@ reference_rule_named _ = None
 abbrev pub repetition_rule_named : RuleName → Option RepetitionRule
 repetition_rule_named (OnRepetitions rule) = Some rule
 repetition_rule_named _ = None
+
+abbrev pub flow_rule_named : RuleName → Option FlowRule
+flow_rule_named (OnFlow rule) = Some rule
+flow_rule_named _ = None
+
+abbrev pub literal_rule_named : RuleName → Option LiteralRule
+literal_rule_named (OnLiterals rule) = Some rule
+literal_rule_named _ = None
+
+abbrev pub text_rule_named : RuleName → Option TextRule
+text_rule_named (OnTexts rule) = Some rule
+text_rule_named _ = None
 
 -- a name of a rule that is of no group
 abbrev pub is_alone : RuleName → Bool
@@ -42,6 +60,15 @@ found_on_references rules v = found_by_rules (profile_of v.tree) rules v.found
 
 abbrev pub found_on_repetitions : List RepetitionRule → View → List Report
 found_on_repetitions rules v = found_by_repetition_rules rules v.tree
+
+abbrev pub found_on_flow : List FlowRule → View → List Report
+found_on_flow rules v = found_by_flow_rules v.text rules v.tree
+
+abbrev pub found_on_literals : List LiteralRule → View → List Report
+found_on_literals rules v = found_by_literal_rules rules v.tree
+
+abbrev pub found_on_texts : List TextRule → View → List Report
+found_on_texts rules v = found_by_text_rules v.text rules v.tree
 
 -- in front of these the rule of a name, if it is of the group, and on
 abbrev pub chosen_if : {R : Type 0} → Option R → Bool → List R → List R
@@ -67,4 +94,7 @@ found_in_groups names v =
     found_on_nodes (chosen node_rule_named names v.settings) v
     ++ (found_on_references (chosen reference_rule_named names v.settings) v
     ++ (found_on_repetitions (chosen repetition_rule_named names v.settings) v
-    ++ found_alone names v))
+    ++ (found_on_flow (chosen flow_rule_named names v.settings) v
+    ++ (found_on_literals (chosen literal_rule_named names v.settings) v
+    ++ (found_on_texts (chosen text_rule_named names v.settings) v
+    ++ found_alone names v)))))

@@ -9,8 +9,14 @@ use Rattle.reference_rules.specs.Rows.{called as name_called}
 use Rattle.reference_rules.specs.declared.reference_rule.ReferenceRule.TheVariants.{NoClassAssign, NoConstAssign, NoExAssign, NoFuncAssign, NoGlobalAssign, NoImportAssign, NoNewNativeNonconstructor, NoNewSymbol, NoObjCalls, NoParamReassign, NoRedeclare, NoShadowRestrictedNames, NoUndefined, NoUseBeforeDefine}
 use Rattle.repetition_rules.specs.Rows.{called as part_called}
 use Rattle.repetition_rules.specs.declared.repetition_rule.RepetitionRule.TheVariants.{NoDupeClassMembers, NoDupeKeys, NoDuplicateCase}
+use Rattle.flow_rules.specs.Rows.{called as flow_rule_called}
+use Rattle.flow_rules.specs.declared.flow_rule.FlowRule.TheVariants.{ArrayCallbackReturn, ConsistentReturn, ConstructorSuper, GetterReturn, NoElseReturn, NoFallthrough, NoThisBeforeSuper, NoUnreachable, NoUnreachableLoop, NoUselessReturn}
+use Rattle.literal_rules.specs.Rows.{called as literal_rule_called}
+use Rattle.literal_rules.specs.declared.literal_rule.LiteralRule.TheVariants.{NoControlRegex, NoDivRegex, NoEmptyCharacterClass, NoRegexSpaces, NoScriptUrl, NoTemplateCurlyInString, NoUselessEscape}
+use Rattle.text_rules.specs.Rows.{called as text_rule_called}
+use Rattle.text_rules.specs.declared.text_rule.TextRule.TheVariants.{NoCondAssign, NoIrregularWhitespace, NoSequences, NoUnexpectedMultiline}
 use Rattle.rules.specs.declared.rule_list.RuleName.{RuleName}
-use Rattle.rules.specs.declared.rule_list.RuleName.TheVariants.{OnNodes, OnReferences, OnRepetitions, NoExtraParens, NoShadow, NoUndef, NoUnusedVars, PreferConst}
+use Rattle.rules.specs.declared.rule_list.RuleName.TheVariants.{OnNodes, OnReferences, OnRepetitions, OnFlow, OnLiterals, OnTexts, NoExtraParens, NoShadow, NoUndef, NoUnusedVars, PreferConst}
 use Rattle.rules.specs.declared.rule_set.RuleSet.{RuleSet}
 use Rattle.rules.specs.declared.rule_set.RuleSet.TheVariants.{Nine, Recommended, Every, Nothing}
 
@@ -19,6 +25,9 @@ abbrev pub called : RuleName → List ℕ
 called (OnNodes rule) = row_called rule
 called (OnReferences rule) = name_called rule
 called (OnRepetitions rule) = part_called rule
+called (OnFlow rule) = flow_rule_called rule
+called (OnLiterals rule) = literal_rule_called rule
+called (OnTexts rule) = text_rule_called rule
 called NoExtraParens = codes "no-extra-parens"
 called NoShadow = codes "no-shadow"
 called NoUndef = codes "no-undef"
@@ -42,24 +51,33 @@ looks_at_pairs _ = false
 -- the rules, in the order of their names
 abbrev pub all_rules : List RuleName
 all_rules =
-    OnNodes Curly
+    OnFlow ArrayCallbackReturn
+    ∷ OnFlow ConsistentReturn
+    ∷ OnFlow ConstructorSuper
+    ∷ OnNodes Curly
     ∷ OnNodes DefaultCaseLast
     ∷ OnNodes EqEqEq
     ∷ OnNodes ForDirection
+    ∷ OnFlow GetterReturn
     ∷ OnNodes NoArrayConstructor
     ∷ OnNodes NoAsyncPromiseExecutor
     ∷ OnNodes NoCaller
     ∷ OnNodes NoCaseDeclarations
     ∷ OnReferences NoClassAssign
     ∷ OnNodes NoCompareNegZero
+    ∷ OnTexts NoCondAssign
     ∷ OnReferences NoConstAssign
     ∷ OnNodes NoConstantBinaryExpression
     ∷ OnNodes NoConstantCondition
+    ∷ OnLiterals NoControlRegex
     ∷ OnNodes NoDebugger
+    ∷ OnLiterals NoDivRegex
     ∷ OnRepetitions NoDupeClassMembers
     ∷ OnRepetitions NoDupeKeys
     ∷ OnRepetitions NoDuplicateCase
+    ∷ OnFlow NoElseReturn
     ∷ OnNodes NoEmpty
+    ∷ OnLiterals NoEmptyCharacterClass
     ∷ OnNodes NoEmptyPattern
     ∷ OnNodes NoEmptyStaticBlock
     ∷ OnNodes NoEval
@@ -67,11 +85,13 @@ all_rules =
     ∷ OnNodes NoExtraBooleanCast
     ∷ NoExtraParens
     ∷ OnNodes NoExtraSemi
+    ∷ OnFlow NoFallthrough
     ∷ OnReferences NoFuncAssign
     ∷ OnReferences NoGlobalAssign
     ∷ OnNodes NoImplicitCoercion
     ∷ OnReferences NoImportAssign
     ∷ OnNodes NoInnerDeclarations
+    ∷ OnTexts NoIrregularWhitespace
     ∷ OnNodes NoLabels
     ∷ OnNodes NoLonelyIf
     ∷ OnNodes NoMultiAssign
@@ -88,16 +108,24 @@ all_rules =
     ∷ OnNodes NoProto
     ∷ OnNodes NoPrototypeBuiltins
     ∷ OnReferences NoRedeclare
+    ∷ OnLiterals NoRegexSpaces
+    ∷ OnLiterals NoScriptUrl
     ∷ OnNodes NoSelfAssign
     ∷ OnNodes NoSelfCompare
+    ∷ OnTexts NoSequences
     ∷ OnNodes NoSetterReturn
     ∷ NoShadow
     ∷ OnReferences NoShadowRestrictedNames
     ∷ OnNodes NoSparseArrays
+    ∷ OnLiterals NoTemplateCurlyInString
+    ∷ OnFlow NoThisBeforeSuper
     ∷ OnNodes NoThrowLiteral
     ∷ NoUndef
     ∷ OnReferences NoUndefined
+    ∷ OnTexts NoUnexpectedMultiline
     ∷ OnNodes NoUnneededTernary
+    ∷ OnFlow NoUnreachable
+    ∷ OnFlow NoUnreachableLoop
     ∷ OnNodes NoUnsafeFinally
     ∷ OnNodes NoUnsafeNegation
     ∷ OnNodes NoUnsafeOptionalChaining
@@ -107,7 +135,9 @@ all_rules =
     ∷ OnReferences NoUseBeforeDefine
     ∷ OnNodes NoUselessCatch
     ∷ OnNodes NoUselessComputedKey
+    ∷ OnLiterals NoUselessEscape
     ∷ OnNodes NoUselessRename
+    ∷ OnFlow NoUselessReturn
     ∷ OnNodes NoVar
     ∷ OnNodes NoVoid
     ∷ OnNodes ObjectShorthand
@@ -138,44 +168,56 @@ nine_rules =
 -- those that ESLint recommends, by its 8th version or by its 9th
 abbrev pub recommended_rules : List RuleName
 recommended_rules =
-    OnNodes ForDirection
+    OnFlow ConstructorSuper
+    ∷ OnNodes ForDirection
+    ∷ OnFlow GetterReturn
     ∷ OnNodes NoAsyncPromiseExecutor
     ∷ OnNodes NoCaseDeclarations
     ∷ OnReferences NoClassAssign
     ∷ OnNodes NoCompareNegZero
+    ∷ OnTexts NoCondAssign
     ∷ OnReferences NoConstAssign
     ∷ OnNodes NoConstantBinaryExpression
     ∷ OnNodes NoConstantCondition
+    ∷ OnLiterals NoControlRegex
     ∷ OnNodes NoDebugger
     ∷ OnRepetitions NoDupeClassMembers
     ∷ OnRepetitions NoDupeKeys
     ∷ OnRepetitions NoDuplicateCase
     ∷ OnNodes NoEmpty
+    ∷ OnLiterals NoEmptyCharacterClass
     ∷ OnNodes NoEmptyPattern
     ∷ OnNodes NoEmptyStaticBlock
     ∷ OnReferences NoExAssign
     ∷ OnNodes NoExtraBooleanCast
     ∷ OnNodes NoExtraSemi
+    ∷ OnFlow NoFallthrough
     ∷ OnReferences NoFuncAssign
     ∷ OnReferences NoGlobalAssign
     ∷ OnReferences NoImportAssign
     ∷ OnNodes NoInnerDeclarations
+    ∷ OnTexts NoIrregularWhitespace
     ∷ OnReferences NoNewNativeNonconstructor
     ∷ OnReferences NoNewSymbol
     ∷ OnReferences NoObjCalls
     ∷ OnNodes NoPrototypeBuiltins
     ∷ OnReferences NoRedeclare
+    ∷ OnLiterals NoRegexSpaces
     ∷ OnNodes NoSelfAssign
     ∷ OnNodes NoSetterReturn
     ∷ OnReferences NoShadowRestrictedNames
     ∷ OnNodes NoSparseArrays
+    ∷ OnFlow NoThisBeforeSuper
     ∷ NoUndef
+    ∷ OnTexts NoUnexpectedMultiline
+    ∷ OnFlow NoUnreachable
     ∷ OnNodes NoUnsafeFinally
     ∷ OnNodes NoUnsafeNegation
     ∷ OnNodes NoUnsafeOptionalChaining
     ∷ OnNodes NoUnusedLabels
     ∷ NoUnusedVars
     ∷ OnNodes NoUselessCatch
+    ∷ OnLiterals NoUselessEscape
     ∷ OnNodes RequireYield
     ∷ OnNodes UseIsNan
     ∷ OnNodes ValidTypeof

@@ -14,6 +14,12 @@ use Rattle.reference_rules.specs.declared.reference_rule.Profile.{Profile}
 use Rattle.reference_rules.specs.declared.reference_rule.ReferenceRule.{ReferenceRule}
 use Rattle.repetition_rules.specs.Found.{found_by_rule as found_by_part_rule}
 use Rattle.repetition_rules.specs.declared.repetition_rule.RepetitionRule.{RepetitionRule}
+use Rattle.flow_rules.specs.Found.{found_by_rule as found_by_flow_rule}
+use Rattle.flow_rules.specs.declared.flow_rule.FlowRule.{FlowRule}
+use Rattle.literal_rules.specs.Found.{found_by_rule as found_by_literal_rule}
+use Rattle.literal_rules.specs.declared.literal_rule.LiteralRule.{LiteralRule}
+use Rattle.text_rules.specs.Found.{found_by_rule as found_by_text_rule}
+use Rattle.text_rules.specs.declared.text_rule.TextRule.{TextRule}
 use Rattle.rule_words.specs.Reports.{Report, report, quoted}
 use Rattle.node_rules.specs.Found.{found_by_rule}
 use Rattle.node_rules.specs.declared.node_rule.NodeOptions.{NodeOptions}
@@ -63,6 +69,18 @@ on_references rule v = found_by_name_rule (profile_of v.tree) rule v.found
 -- Rules on what stands twice in one node: `specs/Rows.antt` of `repetition_rules` says what each reports.
 abbrev pub on_repetitions : RepetitionRule → View → List Report
 on_repetitions rule v = found_by_part_rule rule v.tree
+
+-- Rules on the ways that statements end: `specs/Rows.antt` of `flow_rules` says what each reports.
+abbrev pub on_flow : FlowRule → View → List Report
+on_flow rule v = found_by_flow_rule v.text rule v.tree
+
+-- Rules on the texts of literals: `specs/Rows.antt` of `literal_rules` says what each reports.
+abbrev pub on_literals : LiteralRule → View → List Report
+on_literals rule v = found_by_literal_rule rule v.tree
+
+-- Rules on what stands between tokens: `specs/Rows.antt` of `text_rules` says what each reports.
+abbrev pub on_texts : TextRule → View → List Report
+on_texts rule v = found_by_text_rule v.text rule v.tree
 
 abbrev pub is_known : Bool → Settings → List ℕ → Bool
 is_known of_2022 s text = is_built_in_for of_2022 text || is_global text s

@@ -15,11 +15,14 @@ use crate::rule_list::RuleName;
 use crate::rule_option::RuleOption;
 use crate::settings::Settings;
 use crate::view::View;
+use flow_rules::{FlowRule, push_found as push_flow_reports};
+use literal_rules::{LiteralRule, push_found as push_literal_reports};
 use node_rules::{NodeOptions, NodeRule, push_found as push_node_reports};
 use reference_rules::{Profile, ReferenceRule, push_found as push_reference_reports};
 use repetition_rules::{RepetitionRule, push_found as push_repetition_reports};
 use rule_words::Report;
 use std::alloc::{AllocError, Global};
+use text_rules::{TextRule, push_found as push_text_reports};
 use tree::Node;
 
 /// A rule of a group.
@@ -147,6 +150,78 @@ impl Grouped for RepetitionRule {
         out: &mut Vec<Report>,
     ) -> Result<(), AllocError> {
         push_repetition_reports(alloc, rules, view.program, out)
+    }
+}
+
+impl Grouped for FlowRule {
+    ghost use Rattle.rules.specs.Groups.{found_on_flow, flow_rule_named};
+
+    ghost named = { λ name. flow_rule_named name };
+
+    ghost found = { λ rules v. found_on_flow rules v };
+
+    fn of_name(name: RuleName) -> Option<FlowRule> {
+        match name {
+            RuleName::OnFlow(rule) => Some(rule),
+            _ => None,
+        }
+    }
+
+    fn push_reports(
+        alloc: Global,
+        rules: &[FlowRule],
+        view: &View,
+        out: &mut Vec<Report>,
+    ) -> Result<(), AllocError> {
+        push_flow_reports(alloc, view.text, rules, view.program, out)
+    }
+}
+
+impl Grouped for LiteralRule {
+    ghost use Rattle.rules.specs.Groups.{found_on_literals, literal_rule_named};
+
+    ghost named = { λ name. literal_rule_named name };
+
+    ghost found = { λ rules v. found_on_literals rules v };
+
+    fn of_name(name: RuleName) -> Option<LiteralRule> {
+        match name {
+            RuleName::OnLiterals(rule) => Some(rule),
+            _ => None,
+        }
+    }
+
+    fn push_reports(
+        alloc: Global,
+        rules: &[LiteralRule],
+        view: &View,
+        out: &mut Vec<Report>,
+    ) -> Result<(), AllocError> {
+        push_literal_reports(alloc, rules, view.program, out)
+    }
+}
+
+impl Grouped for TextRule {
+    ghost use Rattle.rules.specs.Groups.{found_on_texts, text_rule_named};
+
+    ghost named = { λ name. text_rule_named name };
+
+    ghost found = { λ rules v. found_on_texts rules v };
+
+    fn of_name(name: RuleName) -> Option<TextRule> {
+        match name {
+            RuleName::OnTexts(rule) => Some(rule),
+            _ => None,
+        }
+    }
+
+    fn push_reports(
+        alloc: Global,
+        rules: &[TextRule],
+        view: &View,
+        out: &mut Vec<Report>,
+    ) -> Result<(), AllocError> {
+        push_text_reports(alloc, view.text, rules, view.program, out)
     }
 }
 

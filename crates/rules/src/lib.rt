@@ -1,7 +1,8 @@
 //! The rules, rules of others in boxes, the settings that both look at, and the lines of reports.
 //! - May touch: what a `View` shows: tree, scopes, extra pairs, settings. No rule knows another.
 //! - Contract: `run_rules` answers all that the rules which are on find, by what each says of itself, sorted.
-//! - Begin at: `rule.rt`, `Rule`; `run.rt`, `run_rules`; `rule_list.rt` says which rules there are; those on nodes are rows of `node_rules`, those on names of `reference_rules`, those on what stands twice of `repetition_rules`, the others have a file each.
+//! - Begin at: `rule.rt`, `Rule`; `run.rt`, `run_rules`; `rule_list.rt` says which rules there are, `groups.rt` how those of one crate run
+//!   together: rows of `node_rules`, `reference_rules`, `repetition_rules`, `flow_rules`, `literal_rules` and `text_rules`. The others have a file each.
 #![tactic(auto)]
 
 mod bindings;
@@ -36,8 +37,10 @@ mod window_names;
 mod worker_names;
 
 pub use environment::{Environment, Environments};
+pub use flow_rules::FlowRule;
 pub use languages::Languages;
 pub use lines::{report_lines, report_status, span_lines};
+pub use literal_rules::LiteralRule;
 pub use no_extra_parens::NoExtraParens;
 pub use no_shadow::NoShadow;
 pub use no_undef::NoUndef;
@@ -54,4 +57,5 @@ pub use run::{look_at_pairs, look_at_scopes, run_rules};
 pub use settings::Settings;
 pub use settings_error::SettingsError;
 pub use shipped_rule::ShippedRule;
+pub use text_rules::TextRule;
 pub use view::View;

@@ -1,8 +1,11 @@
 //! Which rules there are, by their names.
 
+use flow_rules::FlowRule;
+use literal_rules::LiteralRule;
 use node_rules::NodeRule;
 use reference_rules::ReferenceRule;
 use repetition_rules::RepetitionRule;
+use text_rules::TextRule;
 
 /// The name of a rule that ships with the program.
 #[derive(Clone, Copy, Debug, PartialEq, Eq)]
@@ -13,6 +16,12 @@ pub enum RuleName {
     OnReferences(ReferenceRule),
     /// A rule on what stands twice in one node: a row of `repetition_rules`.
     OnRepetitions(RepetitionRule),
+    /// A rule on the ways that statements end: a row of `flow_rules`.
+    OnFlow(FlowRule),
+    /// A rule on the texts of literals: a row of `literal_rules`.
+    OnLiterals(LiteralRule),
+    /// A rule on what stands between tokens: a row of `text_rules`.
+    OnTexts(TextRule),
     /// `no-extra-parens`.
     NoExtraParens,
     /// `no-shadow`.
@@ -26,25 +35,34 @@ pub enum RuleName {
 }
 
 /// The rules, in the order of their names.
-pub const RULES: [RuleName; 77] = [
+pub const RULES: [RuleName; 98] = [
+    RuleName::OnFlow(FlowRule::ArrayCallbackReturn),
+    RuleName::OnFlow(FlowRule::ConsistentReturn),
+    RuleName::OnFlow(FlowRule::ConstructorSuper),
     RuleName::OnNodes(NodeRule::Curly),
     RuleName::OnNodes(NodeRule::DefaultCaseLast),
     RuleName::OnNodes(NodeRule::EqEqEq),
     RuleName::OnNodes(NodeRule::ForDirection),
+    RuleName::OnFlow(FlowRule::GetterReturn),
     RuleName::OnNodes(NodeRule::NoArrayConstructor),
     RuleName::OnNodes(NodeRule::NoAsyncPromiseExecutor),
     RuleName::OnNodes(NodeRule::NoCaller),
     RuleName::OnNodes(NodeRule::NoCaseDeclarations),
     RuleName::OnReferences(ReferenceRule::NoClassAssign),
     RuleName::OnNodes(NodeRule::NoCompareNegZero),
+    RuleName::OnTexts(TextRule::NoCondAssign),
     RuleName::OnReferences(ReferenceRule::NoConstAssign),
     RuleName::OnNodes(NodeRule::NoConstantBinaryExpression),
     RuleName::OnNodes(NodeRule::NoConstantCondition),
+    RuleName::OnLiterals(LiteralRule::NoControlRegex),
     RuleName::OnNodes(NodeRule::NoDebugger),
+    RuleName::OnLiterals(LiteralRule::NoDivRegex),
     RuleName::OnRepetitions(RepetitionRule::NoDupeClassMembers),
     RuleName::OnRepetitions(RepetitionRule::NoDupeKeys),
     RuleName::OnRepetitions(RepetitionRule::NoDuplicateCase),
+    RuleName::OnFlow(FlowRule::NoElseReturn),
     RuleName::OnNodes(NodeRule::NoEmpty),
+    RuleName::OnLiterals(LiteralRule::NoEmptyCharacterClass),
     RuleName::OnNodes(NodeRule::NoEmptyPattern),
     RuleName::OnNodes(NodeRule::NoEmptyStaticBlock),
     RuleName::OnNodes(NodeRule::NoEval),
@@ -52,11 +70,13 @@ pub const RULES: [RuleName; 77] = [
     RuleName::OnNodes(NodeRule::NoExtraBooleanCast),
     RuleName::NoExtraParens,
     RuleName::OnNodes(NodeRule::NoExtraSemi),
+    RuleName::OnFlow(FlowRule::NoFallthrough),
     RuleName::OnReferences(ReferenceRule::NoFuncAssign),
     RuleName::OnReferences(ReferenceRule::NoGlobalAssign),
     RuleName::OnNodes(NodeRule::NoImplicitCoercion),
     RuleName::OnReferences(ReferenceRule::NoImportAssign),
     RuleName::OnNodes(NodeRule::NoInnerDeclarations),
+    RuleName::OnTexts(TextRule::NoIrregularWhitespace),
     RuleName::OnNodes(NodeRule::NoLabels),
     RuleName::OnNodes(NodeRule::NoLonelyIf),
     RuleName::OnNodes(NodeRule::NoMultiAssign),
@@ -73,16 +93,24 @@ pub const RULES: [RuleName; 77] = [
     RuleName::OnNodes(NodeRule::NoProto),
     RuleName::OnNodes(NodeRule::NoPrototypeBuiltins),
     RuleName::OnReferences(ReferenceRule::NoRedeclare),
+    RuleName::OnLiterals(LiteralRule::NoRegexSpaces),
+    RuleName::OnLiterals(LiteralRule::NoScriptUrl),
     RuleName::OnNodes(NodeRule::NoSelfAssign),
     RuleName::OnNodes(NodeRule::NoSelfCompare),
+    RuleName::OnTexts(TextRule::NoSequences),
     RuleName::OnNodes(NodeRule::NoSetterReturn),
     RuleName::NoShadow,
     RuleName::OnReferences(ReferenceRule::NoShadowRestrictedNames),
     RuleName::OnNodes(NodeRule::NoSparseArrays),
+    RuleName::OnLiterals(LiteralRule::NoTemplateCurlyInString),
+    RuleName::OnFlow(FlowRule::NoThisBeforeSuper),
     RuleName::OnNodes(NodeRule::NoThrowLiteral),
     RuleName::NoUndef,
     RuleName::OnReferences(ReferenceRule::NoUndefined),
+    RuleName::OnTexts(TextRule::NoUnexpectedMultiline),
     RuleName::OnNodes(NodeRule::NoUnneededTernary),
+    RuleName::OnFlow(FlowRule::NoUnreachable),
+    RuleName::OnFlow(FlowRule::NoUnreachableLoop),
     RuleName::OnNodes(NodeRule::NoUnsafeFinally),
     RuleName::OnNodes(NodeRule::NoUnsafeNegation),
     RuleName::OnNodes(NodeRule::NoUnsafeOptionalChaining),
@@ -92,7 +120,9 @@ pub const RULES: [RuleName; 77] = [
     RuleName::OnReferences(ReferenceRule::NoUseBeforeDefine),
     RuleName::OnNodes(NodeRule::NoUselessCatch),
     RuleName::OnNodes(NodeRule::NoUselessComputedKey),
+    RuleName::OnLiterals(LiteralRule::NoUselessEscape),
     RuleName::OnNodes(NodeRule::NoUselessRename),
+    RuleName::OnFlow(FlowRule::NoUselessReturn),
     RuleName::OnNodes(NodeRule::NoVar),
     RuleName::OnNodes(NodeRule::NoVoid),
     RuleName::OnNodes(NodeRule::ObjectShorthand),
@@ -120,45 +150,57 @@ pub(crate) const NINE: [RuleName; 9] = [
 ];
 
 /// Those that ESLint recommends, by its 8th version or by its 9th.
-pub(crate) const RECOMMENDED: [RuleName; 41] = [
+pub(crate) const RECOMMENDED: [RuleName; 53] = [
+    RuleName::OnFlow(FlowRule::ConstructorSuper),
     RuleName::OnNodes(NodeRule::ForDirection),
+    RuleName::OnFlow(FlowRule::GetterReturn),
     RuleName::OnNodes(NodeRule::NoAsyncPromiseExecutor),
     RuleName::OnNodes(NodeRule::NoCaseDeclarations),
     RuleName::OnReferences(ReferenceRule::NoClassAssign),
     RuleName::OnNodes(NodeRule::NoCompareNegZero),
+    RuleName::OnTexts(TextRule::NoCondAssign),
     RuleName::OnReferences(ReferenceRule::NoConstAssign),
     RuleName::OnNodes(NodeRule::NoConstantBinaryExpression),
     RuleName::OnNodes(NodeRule::NoConstantCondition),
+    RuleName::OnLiterals(LiteralRule::NoControlRegex),
     RuleName::OnNodes(NodeRule::NoDebugger),
     RuleName::OnRepetitions(RepetitionRule::NoDupeClassMembers),
     RuleName::OnRepetitions(RepetitionRule::NoDupeKeys),
     RuleName::OnRepetitions(RepetitionRule::NoDuplicateCase),
     RuleName::OnNodes(NodeRule::NoEmpty),
+    RuleName::OnLiterals(LiteralRule::NoEmptyCharacterClass),
     RuleName::OnNodes(NodeRule::NoEmptyPattern),
     RuleName::OnNodes(NodeRule::NoEmptyStaticBlock),
     RuleName::OnReferences(ReferenceRule::NoExAssign),
     RuleName::OnNodes(NodeRule::NoExtraBooleanCast),
     RuleName::OnNodes(NodeRule::NoExtraSemi),
+    RuleName::OnFlow(FlowRule::NoFallthrough),
     RuleName::OnReferences(ReferenceRule::NoFuncAssign),
     RuleName::OnReferences(ReferenceRule::NoGlobalAssign),
     RuleName::OnReferences(ReferenceRule::NoImportAssign),
     RuleName::OnNodes(NodeRule::NoInnerDeclarations),
+    RuleName::OnTexts(TextRule::NoIrregularWhitespace),
     RuleName::OnReferences(ReferenceRule::NoNewNativeNonconstructor),
     RuleName::OnReferences(ReferenceRule::NoNewSymbol),
     RuleName::OnReferences(ReferenceRule::NoObjCalls),
     RuleName::OnNodes(NodeRule::NoPrototypeBuiltins),
     RuleName::OnReferences(ReferenceRule::NoRedeclare),
+    RuleName::OnLiterals(LiteralRule::NoRegexSpaces),
     RuleName::OnNodes(NodeRule::NoSelfAssign),
     RuleName::OnNodes(NodeRule::NoSetterReturn),
     RuleName::OnReferences(ReferenceRule::NoShadowRestrictedNames),
     RuleName::OnNodes(NodeRule::NoSparseArrays),
+    RuleName::OnFlow(FlowRule::NoThisBeforeSuper),
     RuleName::NoUndef,
+    RuleName::OnTexts(TextRule::NoUnexpectedMultiline),
+    RuleName::OnFlow(FlowRule::NoUnreachable),
     RuleName::OnNodes(NodeRule::NoUnsafeFinally),
     RuleName::OnNodes(NodeRule::NoUnsafeNegation),
     RuleName::OnNodes(NodeRule::NoUnsafeOptionalChaining),
     RuleName::OnNodes(NodeRule::NoUnusedLabels),
     RuleName::NoUnusedVars,
     RuleName::OnNodes(NodeRule::NoUselessCatch),
+    RuleName::OnLiterals(LiteralRule::NoUselessEscape),
     RuleName::OnNodes(NodeRule::RequireYield),
     RuleName::OnNodes(NodeRule::UseIsNan),
     RuleName::OnNodes(NodeRule::ValidTypeof),
@@ -176,6 +218,9 @@ impl RuleName {
             RuleName::OnNodes(rule) => rule.name(),
             RuleName::OnReferences(rule) => rule.name(),
             RuleName::OnRepetitions(rule) => rule.name(),
+            RuleName::OnFlow(rule) => rule.name(),
+            RuleName::OnLiterals(rule) => rule.name(),
+            RuleName::OnTexts(rule) => rule.name(),
             RuleName::NoExtraParens => "no-extra-parens",
             RuleName::NoShadow => "no-shadow",
             RuleName::NoUndef => "no-undef",

@@ -13,14 +13,17 @@ ghost use Rattle.rules.specs.Settings.{is_on};
 use crate::groups::{Grouped, push_group};
 use crate::rule::Rule;
 use crate::rule_list::RuleName;
-use crate::shipped_rule::ShippedRule;
 use crate::settings::Settings;
+use crate::shipped_rule::ShippedRule;
 use crate::view::View;
+use flow_rules::FlowRule;
+use literal_rules::LiteralRule;
 use node_rules::NodeRule;
 use reference_rules::ReferenceRule;
 use repetition_rules::RepetitionRule;
 use rule_words::Report;
 use std::alloc::{AllocError, Global};
+use text_rules::TextRule;
 
 /// Appends what a rule finds, if it is on.
 fn run_alone(rule: &Box<dyn Rule>, view: &View, out: &mut Vec<Report>) -> Result<(), AllocError>
@@ -143,6 +146,9 @@ fn gather_named(
     push_group::<NodeRule>(alloc, names, view, out)?;
     push_group::<ReferenceRule>(alloc, names, view, out)?;
     push_group::<RepetitionRule>(alloc, names, view, out)?;
+    push_group::<FlowRule>(alloc, names, view, out)?;
+    push_group::<LiteralRule>(alloc, names, view, out)?;
+    push_group::<TextRule>(alloc, names, view, out)?;
     push_alone(alloc, names, view, out)
 }
 
@@ -150,18 +156,14 @@ fn gather_named(
 pub fn look_at_scopes(names: &[RuleName], settings: &Settings) -> bool
     ensures { result ≡ look_at_scopes names.now settings.now }
 {
-    names
-        .iter()
-        .any(|name| name.looks_at_scopes() && settings.is_on(name.as_str()))
+    names.iter().any(|name| name.looks_at_scopes() && settings.is_on(name.as_str()))
 }
 
 /// Whether one of these rules that looks at the extra pairs of parentheses is on: if not, a view may have none.
 pub fn look_at_pairs(names: &[RuleName], settings: &Settings) -> bool
     ensures { result ≡ look_at_pairs names.now settings.now }
 {
-    names
-        .iter()
-        .any(|name| name.looks_at_pairs() && settings.is_on(name.as_str()))
+    names.iter().any(|name| name.looks_at_pairs() && settings.is_on(name.as_str()))
 }
 
 /// All reports of the rules that are on, of those that ship with the program by their names and of others in boxes, sorted by start, rule

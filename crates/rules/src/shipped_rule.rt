@@ -9,11 +9,14 @@ use crate::prefer_const::PreferConst;
 use crate::rule::Rule;
 use crate::rule_list::RuleName;
 use crate::view::View;
+use flow_rules::FlowRule;
+use literal_rules::LiteralRule;
 use node_rules::NodeRule;
 use reference_rules::ReferenceRule;
 use repetition_rules::RepetitionRule;
 use rule_words::Report;
 use std::alloc::{AllocError, Global};
+use text_rules::TextRule;
 
 /// A rule of `RULES`, by its name: boxes of one type hold any of them.
 #[derive(Drop)]
@@ -57,6 +60,9 @@ impl Rule for ShippedRule {
             RuleName::OnRepetitions(rule) => {
                 RepetitionRule::push_reports(self.alloc, &[rule], view, out)
             },
+            RuleName::OnFlow(rule) => FlowRule::push_reports(self.alloc, &[rule], view, out),
+            RuleName::OnLiterals(rule) => LiteralRule::push_reports(self.alloc, &[rule], view, out),
+            RuleName::OnTexts(rule) => TextRule::push_reports(self.alloc, &[rule], view, out),
             RuleName::NoExtraParens => NoExtraParens::new(self.alloc).check(view, out),
             RuleName::NoShadow => NoShadow::new(self.alloc).check(view, out),
             RuleName::NoUndef => NoUndef::new(self.alloc).check(view, out),

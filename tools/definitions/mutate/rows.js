@@ -1,12 +1,13 @@
 'use strict';
 // The rows of crates/cases/data that the definitions can be asked for, with what each wants of them: its least early error, its scopes and references,
-// its reports by the settings, or the reports of one rule: on nodes, on names, on what stands twice, on literals, on what stands between tokens. A row {text, language, look, want, ..}; `look` is a name of LOOKS.
+// its reports by the settings, or the reports of one rule: on nodes, on names, on what stands twice, on how statements complete, on literals, on what stands between tokens. A row {text, language, look, want, ..}; `look` is a name of LOOKS.
 
 const path = require('node:path');
 const antt = require('../antt.js');
 const behind = require('../behind.js');
 const { rowsOf } = require('../cases.js');
 const { Model, PLAIN_MODEL, plainTree } = require('../model.js');
+const { FlowRules, rowsOfFlowRules } = require('../flow_rules.js');
 const { LiteralRules, rowsOfLiteralRules } = require('../literal_rules.js');
 const { NodeRules, rowsOfNodeRules } = require('../node_rules.js');
 const { ReferenceRules, rowsOfReferenceRules } = require('../reference_rules.js');
@@ -42,13 +43,14 @@ const LOOKS = {
   rule: ({ rules }, row) => rules.said(row),
   name: ({ names }, row) => names.said(row),
   again: ({ again }, row) => again.said(row),
+  flow: ({ flows }, row) => flows.said(row),
   literal: ({ literals }, row) => literals.said(row),
   text: ({ texts }, row) => texts.said(row),
 };
 // all that the looks ask, of these definitions as they are now
 function lookedAt(spec) {
   const model = new Model([], spec);
-  return { model, reports: new Reports('', model), rules: new NodeRules(model), names: new ReferenceRules(model), again: new RepetitionRules(model), literals: new LiteralRules(model), texts: new TextRules(model) };
+  return { model, reports: new Reports('', model), rules: new NodeRules(model), names: new ReferenceRules(model), again: new RepetitionRules(model), flows: new FlowRules(model), literals: new LiteralRules(model), texts: new TextRules(model) };
 }
 const saidOf = (definitions, row) => LOOKS[row.look](definitions, row);
 
@@ -60,9 +62,10 @@ function allRows() {
   const rule = rowsOfNodeRules().map((row) => ({ ...row, look: 'rule' }));
   const name = rowsOfReferenceRules().map((row) => ({ ...row, look: 'name' }));
   const again = rowsOfRepetitionRules().map((row) => ({ ...row, look: 'again' }));
+  const flow = rowsOfFlowRules().map((row) => ({ ...row, look: 'flow' }));
   const literal = rowsOfLiteralRules().map((row) => ({ ...row, look: 'literal' }));
   const text = rowsOfTextRules().map((row) => ({ ...row, look: 'text' }));
-  const rows = [...early, ...scopes, ...check, ...rule, ...name, ...again, ...literal, ...text].filter(({ text }) => text.length < LONGEST);
+  const rows = [...early, ...scopes, ...check, ...rule, ...name, ...again, ...flow, ...literal, ...text].filter(({ text }) => text.length < LONGEST);
   for (const row of rows) row.read = parseOnly(row.text, { ...LIMITS, ...MORE[row.language] });
   return rows.filter((row) => row.read.ok);
 }
