@@ -63,37 +63,71 @@ behind first one old new h =
     (IsPermutation-trans _ _ _ (IsPermutation-append_left old _ _ (IsPermutation-append_comm one first))
     (IsPermutation-trans _ _ _ (same-permutation _ _ (append_assoc first one old)) (IsPermutation-append_right first _ _ h)))
 
+-- what each group finds of these
+abbrev nodes-find : List RuleName → View → List Report
+nodes-find names v = found_on_nodes (chosen node_rule_named names v.settings) v
+
+abbrev references-find : List RuleName → View → List Report
+references-find names v = found_on_references (chosen reference_rule_named names v.settings) v
+
+abbrev repetitions-find : List RuleName → View → List Report
+repetitions-find names v = found_on_repetitions (chosen repetition_rule_named names v.settings) v
+
+abbrev flow-find : List RuleName → View → List Report
+flow-find names v = found_on_flow (chosen flow_rule_named names v.settings) v
+
+abbrev literals-find : List RuleName → View → List Report
+literals-find names v = found_on_literals (chosen literal_rule_named names v.settings) v
+
+abbrev texts-find : List RuleName → View → List Report
+texts-find names v = found_on_texts (chosen text_rule_named names v.settings) v
+
 -- what a rule finds that is of no group stands behind what the groups find
-alone-last : (one : List Report) (names : List RuleName) (v : View) → IsPermutation (one ++ found_in_groups names v)
-    (found_on_nodes (chosen node_rule_named names v.settings) v ++ (found_on_references (chosen reference_rule_named names v.settings) v ++ (found_on_repetitions (chosen repetition_rule_named names v.settings) v
-    ++ (found_on_flow (chosen flow_rule_named names v.settings) v ++ (found_on_literals (chosen literal_rule_named names v.settings) v ++ (found_on_texts (chosen text_rule_named names v.settings) v
-    ++ (one ++ found_alone names v)))))))
+alone-last : (one : List Report) (names : List RuleName) (v : View) → IsPermutation (one ++ found_in_groups names v) (nodes-find names v ++ (references-find names v ++ (repetitions-find names v ++ (flow-find names v ++ (literals-find names v ++ (texts-find names v ++ (one ++ found_alone names v)))))))
 alone-last one names v =
-    behind (found_on_nodes (chosen node_rule_named names v.settings) v) one _ _ (behind (found_on_references (chosen reference_rule_named names v.settings) v) one _ _
-    (behind (found_on_repetitions (chosen repetition_rule_named names v.settings) v) one _ _ (behind (found_on_flow (chosen flow_rule_named names v.settings) v) one _ _
-    (behind (found_on_literals (chosen literal_rule_named names v.settings) v) one _ _ (behind (found_on_texts (chosen text_rule_named names v.settings) v) one _ _
+    behind (nodes-find names v) one (references-find names v ++ (repetitions-find names v ++ (flow-find names v ++ (literals-find names v ++ (texts-find names v ++ found_alone names v))))) (references-find names v ++ (repetitions-find names v ++ (flow-find names v ++ (literals-find names v ++ (texts-find names v ++ (one ++ found_alone names v))))))
+    (behind (references-find names v) one (repetitions-find names v ++ (flow-find names v ++ (literals-find names v ++ (texts-find names v ++ found_alone names v)))) (repetitions-find names v ++ (flow-find names v ++ (literals-find names v ++ (texts-find names v ++ (one ++ found_alone names v)))))
+    (behind (repetitions-find names v) one (flow-find names v ++ (literals-find names v ++ (texts-find names v ++ found_alone names v))) (flow-find names v ++ (literals-find names v ++ (texts-find names v ++ (one ++ found_alone names v))))
+    (behind (flow-find names v) one (literals-find names v ++ (texts-find names v ++ found_alone names v)) (literals-find names v ++ (texts-find names v ++ (one ++ found_alone names v)))
+    (behind (literals-find names v) one (texts-find names v ++ found_alone names v) (texts-find names v ++ (one ++ found_alone names v))
+    (behind (texts-find names v) one found_alone names v (one ++ found_alone names v)
     (IsPermutation-refl (one ++ found_alone names v)))))))
 
 -- a name more
 step : (name : RuleName) (names : List RuleName) (v : View) → IsPermutation (found_by_name name v ++ found_in_groups names v) (found_in_groups (name ∷ names) v)
 step (OnNodes r) names v =
-    at-head _ _ _ _ (joins-if (λ rs. found_on_nodes rs v) (λ q. on_nodes q v) (λ q rs. both-nodes (of_node (node_options v.settings) v.text q) (of_rules (node_options v.settings) v.text rs) round_root v.tree)
-    (is_on (called (OnNodes r)) v.settings) r (chosen node_rule_named names v.settings))
+    at-head (found_by_name (OnNodes r) v) (nodes-find names v) (nodes-find (OnNodes r ∷ names) v) (references-find names v ++ (repetitions-find names v ++ (flow-find names v ++ (literals-find names v ++ (texts-find names v ++ found_alone names v)))))
+    (joins-if (λ rs. found_on_nodes rs v) (λ q. on_nodes q v) (λ q rs. both-nodes (of_node (node_options v.settings) v.text q) (of_rules (node_options v.settings) v.text rs) round_root v.tree) (is_on (called (OnNodes r)) v.settings) r (chosen node_rule_named names v.settings))
 step (OnReferences r) names v =
-    behind _ _ _ _ (at-head _ _ _ _ (joins-if (λ rs. found_on_references rs v) (λ q. on_references q v) (λ q rs. both-references (profile_of v.tree) (q ∷ []) rs v.found)
-    (is_on (called (OnReferences r)) v.settings) r (chosen reference_rule_named names v.settings)))
+    behind (nodes-find names v) (found_by_name (OnReferences r) v) (references-find names v ++ (repetitions-find names v ++ (flow-find names v ++ (literals-find names v ++ (texts-find names v ++ found_alone names v))))) (references-find (OnReferences r ∷ names) v ++ (repetitions-find names v ++ (flow-find names v ++ (literals-find names v ++ (texts-find names v ++ found_alone names v)))))
+    (at-head (found_by_name (OnReferences r) v) (references-find names v) (references-find (OnReferences r ∷ names) v) (repetitions-find names v ++ (flow-find names v ++ (literals-find names v ++ (texts-find names v ++ found_alone names v))))
+    (joins-if (λ rs. found_on_references rs v) (λ q. on_references q v) (λ q rs. both-references (profile_of v.tree) (q ∷ []) rs v.found) (is_on (called (OnReferences r)) v.settings) r (chosen reference_rule_named names v.settings)))
 step (OnRepetitions r) names v =
-    behind _ _ _ _ (behind _ _ _ _ (at-head _ _ _ _ (joins-if (λ rs. found_on_repetitions rs v) (λ q. on_repetitions q v) (λ q rs. both-repetitions (q ∷ []) rs (post_order v.tree))
-    (is_on (called (OnRepetitions r)) v.settings) r (chosen repetition_rule_named names v.settings))))
+    behind (nodes-find names v) (found_by_name (OnRepetitions r) v) (references-find names v ++ (repetitions-find names v ++ (flow-find names v ++ (literals-find names v ++ (texts-find names v ++ found_alone names v))))) (references-find names v ++ (repetitions-find (OnRepetitions r ∷ names) v ++ (flow-find names v ++ (literals-find names v ++ (texts-find names v ++ found_alone names v)))))
+    (behind (references-find names v) (found_by_name (OnRepetitions r) v) (repetitions-find names v ++ (flow-find names v ++ (literals-find names v ++ (texts-find names v ++ found_alone names v)))) (repetitions-find (OnRepetitions r ∷ names) v ++ (flow-find names v ++ (literals-find names v ++ (texts-find names v ++ found_alone names v))))
+    (at-head (found_by_name (OnRepetitions r) v) (repetitions-find names v) (repetitions-find (OnRepetitions r ∷ names) v) (flow-find names v ++ (literals-find names v ++ (texts-find names v ++ found_alone names v)))
+    (joins-if (λ rs. found_on_repetitions rs v) (λ q. on_repetitions q v) (λ q rs. both-repetitions (q ∷ []) rs (post_order v.tree)) (is_on (called (OnRepetitions r)) v.settings) r (chosen repetition_rule_named names v.settings))))
 step (OnFlow r) names v =
-    behind _ _ _ _ (behind _ _ _ _ (behind _ _ _ _ (at-head _ _ _ _ (joins-if (λ rs. found_on_flow rs v) (λ q. on_flow q v) (λ q rs. both-flows (flow_of_node v.text q) (flow_of_rules v.text rs) flow_round_root v.tree)
-    (is_on (called (OnFlow r)) v.settings) r (chosen flow_rule_named names v.settings)))))
+    behind (nodes-find names v) (found_by_name (OnFlow r) v) (references-find names v ++ (repetitions-find names v ++ (flow-find names v ++ (literals-find names v ++ (texts-find names v ++ found_alone names v))))) (references-find names v ++ (repetitions-find names v ++ (flow-find (OnFlow r ∷ names) v ++ (literals-find names v ++ (texts-find names v ++ found_alone names v)))))
+    (behind (references-find names v) (found_by_name (OnFlow r) v) (repetitions-find names v ++ (flow-find names v ++ (literals-find names v ++ (texts-find names v ++ found_alone names v)))) (repetitions-find names v ++ (flow-find (OnFlow r ∷ names) v ++ (literals-find names v ++ (texts-find names v ++ found_alone names v))))
+    (behind (repetitions-find names v) (found_by_name (OnFlow r) v) (flow-find names v ++ (literals-find names v ++ (texts-find names v ++ found_alone names v))) (flow-find (OnFlow r ∷ names) v ++ (literals-find names v ++ (texts-find names v ++ found_alone names v)))
+    (at-head (found_by_name (OnFlow r) v) (flow-find names v) (flow-find (OnFlow r ∷ names) v) (literals-find names v ++ (texts-find names v ++ found_alone names v))
+    (joins-if (λ rs. found_on_flow rs v) (λ q. on_flow q v) (λ q rs. both-flows (flow_of_node v.text q) (flow_of_rules v.text rs) flow_round_root v.tree) (is_on (called (OnFlow r)) v.settings) r (chosen flow_rule_named names v.settings)))))
 step (OnLiterals r) names v =
-    behind _ _ _ _ (behind _ _ _ _ (behind _ _ _ _ (behind _ _ _ _ (at-head _ _ _ _ (joins-if (λ rs. found_on_literals rs v) (λ q. on_literals q v) (λ q rs. both-literal (q ∷ []) rs (post_order v.tree))
-    (is_on (called (OnLiterals r)) v.settings) r (chosen literal_rule_named names v.settings))))))
+    behind (nodes-find names v) (found_by_name (OnLiterals r) v) (references-find names v ++ (repetitions-find names v ++ (flow-find names v ++ (literals-find names v ++ (texts-find names v ++ found_alone names v))))) (references-find names v ++ (repetitions-find names v ++ (flow-find names v ++ (literals-find (OnLiterals r ∷ names) v ++ (texts-find names v ++ found_alone names v)))))
+    (behind (references-find names v) (found_by_name (OnLiterals r) v) (repetitions-find names v ++ (flow-find names v ++ (literals-find names v ++ (texts-find names v ++ found_alone names v)))) (repetitions-find names v ++ (flow-find names v ++ (literals-find (OnLiterals r ∷ names) v ++ (texts-find names v ++ found_alone names v))))
+    (behind (repetitions-find names v) (found_by_name (OnLiterals r) v) (flow-find names v ++ (literals-find names v ++ (texts-find names v ++ found_alone names v))) (flow-find names v ++ (literals-find (OnLiterals r ∷ names) v ++ (texts-find names v ++ found_alone names v)))
+    (behind (flow-find names v) (found_by_name (OnLiterals r) v) (literals-find names v ++ (texts-find names v ++ found_alone names v)) (literals-find (OnLiterals r ∷ names) v ++ (texts-find names v ++ found_alone names v))
+    (at-head (found_by_name (OnLiterals r) v) (literals-find names v) (literals-find (OnLiterals r ∷ names) v) (texts-find names v ++ found_alone names v)
+    (joins-if (λ rs. found_on_literals rs v) (λ q. on_literals q v) (λ q rs. both-literal (q ∷ []) rs (post_order v.tree)) (is_on (called (OnLiterals r)) v.settings) r (chosen literal_rule_named names v.settings))))))
 step (OnTexts r) names v =
-    behind _ _ _ _ (behind _ _ _ _ (behind _ _ _ _ (behind _ _ _ _ (behind _ _ _ _ (at-head _ _ _ _ (joins-if (λ rs. found_on_texts rs v) (λ q. on_texts q v) (λ q rs. IsPermutation-refl (on_texts q v ++ found_on_texts rs v))
-    (is_on (called (OnTexts r)) v.settings) r (chosen text_rule_named names v.settings)))))))
+    behind (nodes-find names v) (found_by_name (OnTexts r) v) (references-find names v ++ (repetitions-find names v ++ (flow-find names v ++ (literals-find names v ++ (texts-find names v ++ found_alone names v))))) (references-find names v ++ (repetitions-find names v ++ (flow-find names v ++ (literals-find names v ++ (texts-find (OnTexts r ∷ names) v ++ found_alone names v)))))
+    (behind (references-find names v) (found_by_name (OnTexts r) v) (repetitions-find names v ++ (flow-find names v ++ (literals-find names v ++ (texts-find names v ++ found_alone names v)))) (repetitions-find names v ++ (flow-find names v ++ (literals-find names v ++ (texts-find (OnTexts r ∷ names) v ++ found_alone names v))))
+    (behind (repetitions-find names v) (found_by_name (OnTexts r) v) (flow-find names v ++ (literals-find names v ++ (texts-find names v ++ found_alone names v))) (flow-find names v ++ (literals-find names v ++ (texts-find (OnTexts r ∷ names) v ++ found_alone names v)))
+    (behind (flow-find names v) (found_by_name (OnTexts r) v) (literals-find names v ++ (texts-find names v ++ found_alone names v)) (literals-find names v ++ (texts-find (OnTexts r ∷ names) v ++ found_alone names v))
+    (behind (literals-find names v) (found_by_name (OnTexts r) v) (texts-find names v ++ found_alone names v) (texts-find (OnTexts r ∷ names) v ++ found_alone names v)
+    (at-head (found_by_name (OnTexts r) v) (texts-find names v) (texts-find (OnTexts r ∷ names) v) found_alone names v
+    (joins-if (λ rs. found_on_texts rs v) (λ q. on_texts q v) (λ q rs. IsPermutation-refl (on_texts q v ++ found_on_texts rs v)) (is_on (called (OnTexts r)) v.settings) r (chosen text_rule_named names v.settings)))))))
 step NoExtraParens names v = alone-last (found_by_name NoExtraParens v) names v
 step NoShadow names v = alone-last (found_by_name NoShadow v) names v
 step NoUndef names v = alone-last (found_by_name NoUndef v) names v
