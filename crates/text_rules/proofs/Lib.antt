@@ -2,5 +2,5 @@ mod Characters
 mod CommentsPassed
 mod NodeTurns
 mod PartTurns
-pub mod Together
+mod Together
 mod Turns
