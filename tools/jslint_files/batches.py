@@ -2,10 +2,9 @@
 import re
 from collections import defaultdict
 
-from .casts import RULE, WORD
-from .checking import TURNS_OFF
+from .checking import RULE, TURNS_OFF, WORD
 from .engine import LANGUAGE_WORDS
-from .outcomes import ANSWER, Refused, has_errors
+from .outcomes import Refused, has_errors, is_answer
 from .reading import read
 from .streams import escaped
 from .traces import TRACES
@@ -71,17 +70,11 @@ class Batches:
             return {}
         found = {name: ''.join(f'{it[len(name) + 1:]}\n' for it in lines) for name, lines in reports.items() if not refused[name]}
         wanted = 2 if len(found) < len(names) else 1 if any(map(has_errors, found.values())) else 0
-        return found if status == wanted and all(map(ANSWER.fullmatch, found.values())) else {}
+        return found if status == wanted and all(map(is_answer, found.values())) else {}
 
     def run(self, names, settings, language):
-        from subprocess import PIPE
-        words, passed = [self.program.path, 'check', '--list', *LANGUAGE_WORDS[language]], ()
-        if settings:
-            passed = (self.program.file_of(settings),)
-            words += ['--settings', f'/dev/fd/{passed[0]}']
-        with TRACES.call([*words, '-'], stdin=PIPE, stdout=PIPE, stderr=PIPE, pass_fds=passed) as process:
-            out, err = process.communicate('\0'.join(names).encode())
-        return process.returncode, out, err
+        words = [self.program.path, 'check', '--list', *LANGUAGE_WORDS[language], *self.program.settings_words(settings), '-']
+        return TRACES.call(words, '\0'.join(names).encode())
 
     def is_enough(self, name, answer):
         """Whether nothing of the file's text is asked for."""

@@ -68,27 +68,24 @@ script is whole.
 JSLINT in the environment is the path of the program; else it is the one beside this file. JSLINT_LIBRARY is that of libjslint.so, which answers in this
 process; without both, the one that was installed with the program does. An empty JSLINT_LIBRARY: the program is started for each script.
 """
-import collections
-import contextlib
 import os
 import re
 import threading
-from concurrent.futures import ThreadPoolExecutor
 
-from . import forms, names as meant
+# (what a run doesn't need it doesn't import: of one script that takes longer than its check)
+from . import names as meant
 from .advice import Advice
 from .batches import Batches
 from .checking import Checker
-from .engine import STACK, Library, engine_of, path_of_program, Program
+from .engine import Program, engine_of, path_of_program
 from .hints import Guesses
 from .languages import Languages, asked
-from .layers import Layers, printed, rules_left, rules_said
+from .layers import Layers, rules_left, rules_said
 from .outcomes import Outcome, Refused
+from .pool import in_order
 from .progress import Progress, Tally, plural
 from .project import Project
 from .reading import pass_on, read
-from .rewriting import Rewriter
-from .rules import explained
 from .settings import Unfit
 from .streams import Wrong, say, shown, warn
 from .words import handed, has_hints, is_compared, judge, number_of_jobs, options_of
@@ -124,13 +121,17 @@ class Run:
         if asked(self.options) in (None, '2022'):
             # (they may say the language)
             self.documents()
-        return Rewriter(self.engine, self.options, Languages(self.engine, self.options, self.project, layers=self.layers), guesses, dict.fromkeys(self.names, ()))
+        return self.rewriter_with(Languages(self.engine, self.options, self.project, layers=self.layers), guesses, dict.fromkeys(self.names, ()))
 
     def formatter(self, guesses):
         document_of = self.documents()
         languages = Languages(self.engine, self.options, self.project, self.settings_by(document_of))
         words_of = {it: handed(self.options, self.layers.format_of(*document_of(it), it)) for it in self.names if it not in self.bad}
-        return Rewriter(self.engine, self.options, languages, guesses, words_of)
+        return self.rewriter_with(languages, guesses, words_of)
+
+    def rewriter_with(self, *more):
+        from .rewriting import Rewriter
+        return Rewriter(self.engine, self.options, *more)
 
     def named(self, names):
         """The files, in their order."""
@@ -219,35 +220,29 @@ class Run:
         """Some files and what came of them, in the order of the files."""
         size = max(1, min(MOST_AT_ONCE, len(self.names) // (8 * jobs)))
         parts = [self.names[at:at + size] for at in range(0, len(self.names), size)]
-        if isinstance(self.engine, Library):
-            threading.stack_size(STACK)
-        else:
-            # (now, and not while the first script is waited for)
-            import subprocess  # noqa: F401
-        with ThreadPoolExecutor(jobs) as pool:
-            self.progress.begin()
-            left = collections.deque((it, pool.submit(self.outcomes, it)) for it in parts)
-            try:
-                while left:
-                    names, future = left.popleft()
-                    came = future.result()
-                    for it in came:
-                        self.tally.add(it)
-                    yield list(zip(names, came))
-            finally:
-                # (where not all can be written nothing more is begun)
-                for _, it in left:
-                    it.cancel()
+        threading.stack_size(self.engine.stack)
+        self.progress.begin()
+        came = in_order(jobs, self.outcomes, parts)
+        try:
+            for names, found in zip(parts, came):
+                for it in found:
+                    self.tally.add(it)
+                yield list(zip(names, found))
+        finally:
+            came.close()
 
     def tell(self, jobs):
         """Prints what comes of the files."""
-        form = self.form()
-        with contextlib.closing(self.parts(jobs)) as parts:
+        form, parts = self.form(), self.parts(jobs)
+        try:
             is_document = self.options['format'] in DOCUMENTS
             for it in form(pair for part in parts for pair in part) if is_document else (self.told(form, part) for part in parts):
                 if it:
                     self.progress.clear()
                     say(it)
+        finally:
+            # (where not all can be written nothing more is begun)
+            parts.close()
         self.progress.clear()
 
     def told(self, form, part):
@@ -264,12 +259,12 @@ class Run:
         return ''
 
     def form(self):
+        from . import forms
         name = self.options['format']
         if name == 'pretty':
             return forms.pretty(is_coloured(self.options['color']))
         if name not in DOCUMENTS:
             return forms.github if name == 'github' else forms.unix
-        # (a start is shorter without)
         from . import documents
         if name == 'sarif':
             return documents.sarif(self.version())
@@ -330,6 +325,7 @@ def say_init(options, names, here):
 
 def config_of(options, name):
     """What applies to a script, and from where."""
+    from .layers import printed
     layers = Layers(rules_said(options['rule']), rules_left(options['only']))
     if options['settings'] is not None:
         try:
@@ -354,6 +350,7 @@ def main(words, here):
         return 0
     judge(options, names)
     if options['explain'] is not None:
+        from .rules import explained
         say(explained(options['explain']))
         return 0
     if options['print-config'] is not None:

@@ -1,7 +1,6 @@
 """The words of the command line."""
 import os
 import re
-import shutil
 
 from .streams import Wrong, shown
 
@@ -76,7 +75,7 @@ def judge(options, names):
         raise Wrong('--no-ignore is for --project: no ignore file is looked for without it')
     if not is_check:
         judge_rewriting(options)
-    if options['diff'] and not shutil.which('diff'):
+    if options['diff'] and not has_diff():
         raise Wrong('diff is not found')
     if options['ends'] and options['format'] != 'json':
         raise Wrong('--ends is for --format json')
@@ -84,6 +83,11 @@ def judge(options, names):
         raise Wrong('--max-warnings takes a number')
     if options['stdin'] is not None and (names or options['files-from'] is not None):
         raise Wrong('--stdin stands for the only script')
+
+
+def has_diff():
+    import shutil
+    return shutil.which('diff') is not None
 
 
 def may_be_fewest(options):
