@@ -76,6 +76,10 @@ class Program:
     def program(self):
         return self
 
+    def made_of(self):
+        """The files that answer."""
+        return [self.path]
+
     def with_words(self, words):
         """The same with other words behind `format`."""
         return Program(self.path, words)

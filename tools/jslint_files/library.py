@@ -29,7 +29,7 @@ class Library:
 
     def __init__(self, path, here, is_named=False):
         """`is_named`: by the environment, so that it may be of another version than the program that is there."""
-        self.is_named = is_named
+        self.is_named, self.path = is_named, path
         stretch = [ctypes.c_char_p, ctypes.c_size_t]
         self.call, self.here, self.kept = ctypes.CDLL(path).jslint_answer_in, here, threading.local()
         self.call.restype, self.call.argtypes = None, [ctypes.c_uint32, ctypes.c_uint32, *stretch, *stretch, ctypes.c_void_p, ctypes.c_size_t, ctypes.c_void_p]
@@ -74,6 +74,10 @@ class Library:
         """The program that was installed with it."""
         beside = f'{self.here}/jslint'
         return Program(beside) if not self.is_named and os.access(beside, os.X_OK) else None
+
+    def made_of(self):
+        program = self.program()
+        return [self.path, *(program.made_of() if program else ())]
 
     def with_words(self, words):
         """The program, which alone takes words behind `format`."""

@@ -101,7 +101,7 @@ class Run:
 
     def __init__(self, options, names, here):
         self.options, self.project, self.engine = options, Project(not options['no-ignore']), engine_of(here, handed(options))
-        self.is_check, self.advice = options['command'] == 'check', Advice()
+        self.is_check, self.advice, self.cache = options['command'] == 'check', Advice(), None
         self.layers = Layers(rules_said(options['rule']), rules_left(options['only']))
         # (the names that are ignored; settings that are refused, by their names; how many scripts these are for)
         self.ignored, self.bad, self.unread = [], {}, 0
@@ -113,9 +113,24 @@ class Run:
             languages = Languages(self.engine, options, self.project, settings_for)
             self.worker = Checker(self.engine, settings_for, languages, guesses, options['suppressions'], has_ends)
             self.batches = Batches(self.engine, self.worker, has_ends or options['format'] in TEXT_FORMS)
+            self.cache = self.cache_with([*map(str, (has_hints(options), options['unsupported'], options['suppressions'], has_ends))]) if options['cache'] else None
         else:
             self.worker = self.formatter(guesses) if options['command'] == 'format' else self.rewriter(guesses)
         self.progress, self.tally = Progress(len(self.names)), Tally(options['summary'])
+
+    def cache_with(self, words):
+        """What was found before; None where the program can't be read."""
+        from .cache import NAME, Cache
+        words = [it.encode() for it in words]
+        languages_of = lambda it: ','.join(map(str, self.worker.languages.of(it))).encode()
+        ignores_of = lambda it: self.project.ignores_above(os.path.dirname(it)) if self.options['project'] else ()
+        conditions_of = lambda it: (self.worker.settings_for(it), languages_of(it), *words, *ignores_of(it))
+        path = self.options['cache-location'] or NAME
+        try:
+            return Cache(path, self.engine.made_of(), conditions_of, self.options['format'] in TEXT_FORMS)
+        except OSError as error:
+            warn(f'jslint-files: {shown(path)}: the cache is not used: {error.strerror}\n')
+            return None
 
     def rewriter(self, guesses):
         if asked(self.options) in (None, '2022'):
@@ -160,10 +175,11 @@ class Run:
             return lambda it: (name, text)
         if not self.options['project']:
             return lambda it: (None, b'')
-        found = {it: self.project.settings_of(os.path.realpath(it)) for it in {os.path.dirname(it) for it in self.names}}
+        folders = {it: os.path.dirname(it) for it in self.names}
+        found = {it: self.project.settings_of(os.path.realpath(it)) for it in {*folders.values()}}
         texts = dict(filter(None, found.values()))
         self.leave_bad(found, texts)
-        return lambda it: found[os.path.dirname(it)] or (None, b'')
+        return {name: found[it] or (None, b'') for name, it in folders.items()}.__getitem__
 
     def asked_of_settings(self):
         """The language of which settings have to leave something: where scripts are rewritten, words for one go over settings."""
@@ -182,11 +198,11 @@ class Run:
         self.unread, self.bad = len(self.names) - len(kept), {beside(path): (bad[path], texts[path]) for path in sorted(bad)}
         self.names = [*self.bad, *kept]
 
-    def outcome(self, name, answer=None):
-        """What comes of a file, whose lines may be there already."""
+    def outcome(self, name, answer=None, known=None):
+        """What comes of a file, whose lines may be there already, or all of it."""
         done = 'checked' if self.is_check else 'compared' if is_compared(self.options) else 'rewritten'
         try:
-            came = self.outcome_of_bad(name) if name in self.bad else self.outcome_of_script(name, answer)
+            came = self.outcome_of_bad(name) if name in self.bad else self.outcome_of_script(name, answer, known)
         except Refused as why:
             came = Outcome([why.found])
         except (OSError, MemoryError) as error:
@@ -202,19 +218,23 @@ class Run:
         came.is_script = False
         return came
 
-    def outcome_of_script(self, name, answer):
+    def outcome_of_script(self, name, answer, known):
         if name in self.project.faults:
             raise self.project.faults[name]
-        came = Outcome(answer=answer) if answer is not None else self.worker.outcome(name, read(0) if self.options['stdin'] is not None else None)
+        came = known or (Outcome(answer=answer) if answer is not None else self.worker.outcome(name, read(0) if self.options['stdin'] is not None else None))
+        if self.cache and not known:
+            self.cache.add(name, came)
         if self.is_check and not self.worker.settings_for(name):
             self.advice.add(came.answer)
         return came
 
     def outcomes(self, names):
         """What comes of some files; of those that one call can answer, by one."""
+        asked = [it for it in names if it not in self.bad and it not in self.project.faults]
+        known = {it: came for it in asked if (came := self.cache.found(it))} if self.cache else {}
         is_single = not self.is_check or self.options['stdin'] is not None
-        answers = {} if is_single else self.batches.answers([it for it in names if it not in self.bad and it not in self.project.faults])
-        return [self.outcome(it, answers.get(it)) for it in names]
+        answers = {} if is_single else self.batches.answers([it for it in asked if it not in known])
+        return [self.outcome(it, answers.get(it), known.get(it)) for it in names]
 
     def parts(self, jobs):
         """Some files and what came of them, in the order of the files."""
@@ -363,6 +383,8 @@ def main(words, here):
     jobs = number_of_jobs(options['jobs'])
     run = Run(options, names, here)
     run.tell(jobs)
+    if run.cache:
+        run.cache.write(run.names)
     if not run.names:
         run.tell_none()
     warn(run.advice.told(options['project']))
