@@ -1,5 +1,6 @@
 """usage: jslint-files [check] [--edition 2020|2022] [--module] [--settings FILE] [--format FORM] [--color WHEN] [--hints] [--ends] [--unsupported error|note] [--suppressions]
-                    [--max-warnings N] [--rule NAME=SEVERITY] [--only NAME] [--project] [--no-ignore] [--allow-none] [--stdin NAME] [--summary] [--jobs N] [--files-from FILE] [--] [FILE ..]
+                    [--max-warnings N] [--rule NAME=SEVERITY] [--only NAME] [--cache [--cache-location FILE]] [--project] [--no-ignore] [--allow-none] [--stdin NAME] [--summary] [--jobs N]
+                    [--files-from FILE] [--] [FILE ..]
        jslint-files fix --write|--diff [--edition 2020|2022] [--module] [--drop-comments] [--hints] [--unsupported error|note] [--project] [--no-ignore] [--allow-none]
                     [--stdin NAME] [--summary] [--jobs N] [--files-from FILE] [--] [FILE ..]
        jslint-files unwrap --write|--diff [--drop-casts] [the same, but for --drop-comments] [--] [FILE ..]
@@ -42,6 +43,7 @@ What `jslint check` finds in several scripts, each report with its file's name, 
                       a fault in a language that jslint reads fails
   --suppressions      `// jslint-disable-line RULE, RULE -- WHY` and `// jslint-disable-next-line` turn reports off, but for no-extra-parens
   --max-warnings N    the status is 0 with up to N reports, errors and warnings, and 1 with more
+  --cache             what was found in unchanged scripts isn't looked for again: it stands in .jslintcache, or in the file that --cache-location names
   --summary           counts, in a line on standard error
   --print-config FILE what applies to the script, with --project or not, and from where: a key a line
   --init              writes a first jslint.toml, from package.json and the names that the scripts use
