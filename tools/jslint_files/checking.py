@@ -66,11 +66,13 @@ class Checker:
                 total.update(part)
         return total.digest()
 
-    def outcome(self, name, text=None):
-        """What is found in a file, or in a text that is as good as one of that name."""
+    def outcome(self, name, text=None, refused=None):
+        """What is found in a file, or in a text that is as good as one of that name. It may be known already that it is refused."""
         text, settings = read(name) if text is None else text, self.settings_for(name)
         languages = self.languages.of(name)
         try:
+            if refused:
+                raise refused
             answer, language = first_reading(languages, lambda it: checked(self.engine, text, settings, it))
         except Refused as why:
             tried = [it or self.languages.first_of(settings) for it in languages]

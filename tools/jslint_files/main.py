@@ -92,8 +92,8 @@ from .settings import Unfit
 from .streams import Wrong, say, shown, warn
 from .words import handed, has_hints, is_compared, judge, number_of_jobs, options_of
 
-# How many scripts a thread takes at once, at most.
-MOST_AT_ONCE = 32
+# How many scripts a thread takes at once, at most: one call of the program checks them.
+MOST_AT_ONCE = 256
 # The forms that are one document, and those that show a part of the text, or need it for their columns.
 DOCUMENTS, TEXT_FORMS = ('json', 'sarif', 'junit'), ('json', 'pretty', 'sarif')
 
@@ -223,12 +223,19 @@ class Run:
     def outcome_of_script(self, name, answer, known):
         if name in self.project.faults:
             raise self.project.faults[name]
-        came = known or (Outcome(answer=answer) if answer is not None else self.worker.outcome(name, read(0) if self.options['stdin'] is not None else None))
+        came = known or self.outcome_of_answer(name, answer)
         if self.cache and not known:
             self.cache.add(name, came)
         if self.is_check and not self.worker.settings_for(name):
             self.advice.add(came.answer)
         return came
+
+    def outcome_of_answer(self, name, answer):
+        """The outcome of a file by its lines or its refusal, if one of these is known."""
+        if isinstance(answer, str):
+            return Outcome(answer=answer)
+        text = read(0) if self.options['stdin'] is not None else None
+        return self.worker.outcome(name, text, answer) if answer else self.worker.outcome(name, text)
 
     def outcomes(self, names):
         """What comes of some files; of those that one call can answer, by one."""
