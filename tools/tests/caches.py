@@ -7,11 +7,15 @@ import json
 import os
 import shutil
 import signal
+import sys
 import time
 
 import recipes
 from files import as_nobody, ended, files, program, started
-from recipes import is_well, same
+from recipes import TOP, is_well, same
+
+sys.path.insert(0, f'{TOP}/tools')
+from jslint_files.cache import COARSE, GRAIN as FINE_GRAIN, SECOND, is_settled  # noqa: E402
 
 BUG, FINE, OTHER = 'debugger;\n', 'f();;\nfunction f() {}\n', 'let = ;\n'
 FOUND = '1:1: no-debugger debugger statement\n'
@@ -96,6 +100,27 @@ def at_once(room):
         cached(room, 'a.js', '--only', 'no-debugger', **how)
         room.put('a.js', 'x' * len(text))
         same(cached(room, 'a.js', '--only', 'no-debugger', **how), (0, '', ''))
+
+
+def meanwhile(room):
+    """A script that changes while it is checked gets no record: neither its old nor its new text is taken for what was checked."""
+    put(room, {'a.js': BUG, 'other': '// debug;\n'})
+    how = program(room, '"$JSLINT_REAL" "$@"; status=$?; test ! -e change || { rm change; cat other >a.js; }; exit $status', 'changing') | {'JSLINT_LIBRARY': ''}
+    room.put('change', '')
+    same(files(room, '--cache', 'a.js', **how)[0], 1)
+    same(room.text('a.js'), '// debug;\n')
+    same(files(room, '--cache', 'a.js', **how), (0, '', ''))
+    for text, status in (('debugger;\n', 1), ('// debug;\n', 0)):
+        room.put('a.js', text)
+        same(files(room, '--cache', 'a.js', **how)[0], status, text)
+
+
+def settled(_):
+    """Which times of a file a further change would surely change, by the clock at the beginning of a run."""
+    at = 5 * SECOND + 1
+    same([is_settled([1, at, at, 1], at + it) for it in (-1, 0, FINE_GRAIN, FINE_GRAIN + 1)], [False, False, False, True])
+    same([is_settled([1, at - 1, at - 1, 1], at - 1 + it) for it in (FINE_GRAIN + 1, COARSE, COARSE + 1)], [False, False, True])
+    same([is_settled([1, written, at, 1], at + FINE_GRAIN + 1) for written in (0, at, at + 1)], [True, True, False])
 
 
 def touched(room):
@@ -249,4 +274,4 @@ def words(room):
     same(room.names('below'), ['kept'])
 
 
-TESTS = [unchanged, changed, at_once, touched, other_rules, other_program, torn, in_the_way, unpermitted, interrupted, not_by_text, kept, words]
+TESTS = [unchanged, changed, at_once, meanwhile, settled, touched, other_rules, other_program, torn, in_the_way, unpermitted, interrupted, not_by_text, kept, words]
