@@ -36,12 +36,14 @@ const REFUSALS = [
 ];
 
 // What stands before them where the other text of `same` is refused, and behind them where a later language takes the text.
-const SECOND = 'second file: ', HINT = / \(perhaps: --(?:edition )?(2022|module)\)$/;
+const SECOND = 'second file: ',
+  HINT = / \(perhaps: --(?:edition )?(2022|module)\)$/;
 
 /** A text that was refused, or one for which the engine had too little stack or memory. */
 export class Refused extends Error {
   constructor(command, words, status) {
-    const hint = HINT.exec(words), plain = hint ? words.slice(0, hint.index) : words;
+    const hint = HINT.exec(words),
+      plain = hint ? words.slice(0, hint.index) : words;
     super(plain);
     this.name = 'Refused';
     this.command = command;
@@ -52,7 +54,9 @@ export class Refused extends Error {
       const found = form.exec(this.inSecond ? plain.slice(SECOND.length) : plain);
       if (found === null) continue;
       this.code = code;
-      names.forEach((name, at) => { this[name] = /^\d+$/.test(found[at + 1]) ? Number(found[at + 1]) : found[at + 1]; });
+      names.forEach((name, at) => {
+        this[name] = /^\d+$/.test(found[at + 1]) ? Number(found[at + 1]) : found[at + 1];
+      });
     }
   }
 }
@@ -96,7 +100,10 @@ class Running {
 
   /** The answer's bytes with its outcome; null where the engine has no memory for them. */
   answer(command, text, second, language, room) {
-    const from = this.put(text), other = this.put(second), told = this.take(OUTCOME), to = this.take(room);
+    const from = this.put(text),
+      other = this.put(second),
+      told = this.take(OUTCOME),
+      to = this.take(room);
     if ([from, other, told, to].includes(null)) return null;
     this.exports.jslint_answer_in(language, COMMANDS[command], from, BigInt(text.length), other, BigInt(second.length), to, BigInt(room), told);
     const outcome = this.outcome(told);
@@ -146,8 +153,10 @@ export function placesIn(text) {
 /** The index into the string of a line and a column. A place that isn't there is a RangeError. */
 export function indexOf(text, line, column) {
   if (typeof text !== 'string') throw new TypeError('places are looked for in a string');
-  const starts = lineStarts(text), end = line < starts.length ? starts[line] : text.length;
-  let at = [line, column].every((it) => Number.isInteger(it) && it > 0) && line <= starts.length ? starts[line - 1] : NaN, left = column - 1;
+  const starts = lineStarts(text),
+    end = line < starts.length ? starts[line] : text.length;
+  let at = [line, column].every((it) => Number.isInteger(it) && it > 0) && line <= starts.length ? starts[line - 1] : NaN,
+    left = column - 1;
   for (; left > 0 && at < end; left--) at += text.codePointAt(at) > 0xffff ? 2 : 1;
   if (left !== 0 || !(at <= end)) throw new RangeError(`this text has no place ${line}:${column}`);
   return at;
@@ -157,7 +166,8 @@ export function indexOf(text, line, column) {
 function indices(text, length) {
   const found = new Uint32Array(length + 1);
   for (let at = 0, byte = 0; at < text.length;) {
-    const code = text.codePointAt(at), end = byte + (code < 0x80 ? 1 : code < 0x800 ? 2 : code < 0x10000 ? 3 : 4);
+    const code = text.codePointAt(at),
+      end = byte + (code < 0x80 ? 1 : code < 0x800 ? 2 : code < 0x10000 ? 3 : 4);
     // (`fill` is slow for so few)
     while (byte < end) found[byte++] = at;
     at += code > 0xffff ? 2 : 1;
@@ -168,7 +178,8 @@ function indices(text, length) {
 
 /** Puts the places of all nodes below, which are bytes, where they are in the string. */
 function placeNodes(program, text) {
-  const at = indices(text, program.end), left = [program];
+  const at = indices(text, program.end),
+    left = [program];
   while (left.length) {
     const node = left.pop();
     if (typeof node.start === 'number') [node.start, node.end] = [at[node.start], at[node.end]];
@@ -179,29 +190,37 @@ function placeNodes(program, text) {
 function reportsOf(lines, text) {
   if (lines === '') return [];
   const index = placesIn(text);
-  return lines.slice(0, -1).split('\n').map((each) => {
-    const [, line, column, rule, message, mark] = REPORT.exec(each);
-    return { line: Number(line), column: Number(column), rule, message, severity: mark ? 'warning' : 'error', index: index(Number(line), Number(column)) };
-  });
+  return lines
+    .slice(0, -1)
+    .split('\n')
+    .map((each) => {
+      const [, line, column, rule, message, mark] = REPORT.exec(each);
+      return { line: Number(line), column: Number(column), rule, message, severity: mark ? 'warning' : 'error', index: index(Number(line), Number(column)) };
+    });
 }
 
 /** Reports from where to where: their places are bytes, or indices into the string. */
 function spansOf(lines, text, places) {
   if (lines === '') return [];
-  const string = stringOf(text), length = places === 'indices' ? bytesOf(text).length : string.length;
+  const string = stringOf(text),
+    length = places === 'indices' ? bytesOf(text).length : string.length;
   // (in a text of ASCII both are the same)
   const at = length === string.length ? null : indices(string, length);
-  return lines.slice(0, -1).split('\n').map((each) => {
-    const [, from, to, rule, message] = /^(\d+) (\d+) (\S+) (.*)$/s.exec(each);
-    const [start, end] = [Number(from), Number(to)];
-    return { start: at ? at[start] : start, end: at ? at[end] : end, rule, message };
-  });
+  return lines
+    .slice(0, -1)
+    .split('\n')
+    .map((each) => {
+      const [, from, to, rule, message] = /^(\d+) (\d+) (\S+) (.*)$/s.exec(each);
+      const [start, end] = [Number(from), Number(to)];
+      return { start: at ? at[start] : start, end: at ? at[end] : end, rule, message };
+    });
 }
 
 /** The module's number of a language: '2020', '2022' or 'module'. */
 function numberOf(language) {
   if (language === undefined || language === null) return 0;
-  if (typeof language === 'symbol' || !Object.hasOwn(LANGUAGES, language)) throw new TypeError(`jslint has no language ${String(language)}: it has '2020', '2022' and 'module'`);
+  if (typeof language === 'symbol' || !Object.hasOwn(LANGUAGES, language))
+    throw new TypeError(`jslint has no language ${String(language)}: it has '2020', '2022' and 'module'`);
   return LANGUAGES[language];
 }
 
@@ -220,7 +239,10 @@ function bytesOnly(it, name) {
 }
 
 /** Whether the engine's stack was used up, or the module's own. Either ends a call half done. */
-const isOutOfStack = (error) => error instanceof WebAssembly.RuntimeError || error?.name === 'InternalError' || (error instanceof RangeError && /stack|recursion/i.test(error.message));
+const isOutOfStack = (error) =>
+  error instanceof WebAssembly.RuntimeError ||
+  error?.name === 'InternalError' ||
+  (error instanceof RangeError && /stack|recursion/i.test(error.message));
 
 /** Whether the engine has no memory for an instance, a buffer or a string. */
 const isOutOfMemory = (error) => error instanceof RangeError || /out of memory/i.test(error?.message);
@@ -285,7 +307,8 @@ export function commandsOf(module, runDeeper = () => null) {
     treeText: plain('tree'),
     tree(text, options = {}) {
       const { places, language } = optionsOf(options, 'places', 'language');
-      const program = JSON.parse(output('tree', text, undefined, language)), string = stringOf(text);
+      const program = JSON.parse(output('tree', text, undefined, language)),
+        string = stringOf(text);
       if (places === 'indices' && program.end !== string.length) placeNodes(program, string);
       return program;
     },

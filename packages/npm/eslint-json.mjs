@@ -6,7 +6,9 @@ const SEVERITIES = { warning: 1, error: 2 };
 
 /** Counts columns as ESLint does, in UTF-16 units and without a byte order mark. Places come in order. */
 function columnsIn(text) {
-  const index = placesIn(text), startOf = placesIn(text), mark = text.startsWith('\ufeff') ? 1 : 0;
+  const index = placesIn(text),
+    startOf = placesIn(text),
+    mark = text.startsWith('\ufeff') ? 1 : 0;
   return (line, column) => Math.max(1, index(line, column) - startOf(line, 1) + 1 - (line === 1 ? mark : 0));
 }
 
@@ -30,8 +32,16 @@ function refusalOf(refused, source) {
 function resultWith(filePath, messages, source) {
   const count = (severity) => messages.filter((it) => it.severity === severity).length;
   return {
-    filePath, messages, suppressedMessages: [], errorCount: count(SEVERITIES.error), fatalErrorCount: messages.filter((it) => it.fatal).length,
-    warningCount: count(SEVERITIES.warning), fixableErrorCount: 0, fixableWarningCount: 0, ...(source === null ? {} : { source }), usedDeprecatedRules: [],
+    filePath,
+    messages,
+    suppressedMessages: [],
+    errorCount: count(SEVERITIES.error),
+    fatalErrorCount: messages.filter((it) => it.fatal).length,
+    warningCount: count(SEVERITIES.warning),
+    fixableErrorCount: 0,
+    fixableWarningCount: 0,
+    ...(source === null ? {} : { source }),
+    usedDeprecatedRules: [],
   };
 }
 

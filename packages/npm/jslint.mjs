@@ -17,15 +17,18 @@ const threads = globalThis.process?.versions?.node ? await import('node:worker_t
 const WORKER = new URL('./worker.mjs', import.meta.url);
 const STACK_MB = 64;
 // How long such a thread may take to begin, and to answer. One that ended can't be heard of while it is waited for.
-const BEGIN_MS = 20000, ANSWER_MS = 300000;
+const BEGIN_MS = 20000,
+  ANSWER_MS = 300000;
 // What a thread says of itself: that it has an answer, and that it has begun.
-const DONE = 0, BEGUN = 1;
+const DONE = 0,
+  BEGUN = 1;
 const module = await compiled();
 let deeper = null;
 
 /** A thread with more stack, which doesn't keep the process from ending; null where there can be none. */
 function startDeeper() {
-  const said = new Int32Array(new SharedArrayBuffer(8)), { port1, port2 } = new threads.MessageChannel();
+  const said = new Int32Array(new SharedArrayBuffer(8)),
+    { port1, port2 } = new threads.MessageChannel();
   port1.unref();
   try {
     const worker = new threads.Worker(WORKER, { workerData: { module, said, port: port2 }, transferList: [port2], resourceLimits: { stackSizeMb: STACK_MB } });

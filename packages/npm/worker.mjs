@@ -3,7 +3,8 @@ import { workerData } from 'node:worker_threads';
 import { commandsOf } from './core.mjs';
 
 const { module, said, port } = workerData;
-const DONE = 0, BEGUN = 1;
+const DONE = 0,
+  BEGUN = 1;
 const { run } = commandsOf(module);
 
 function answered({ command, text, second, language }) {

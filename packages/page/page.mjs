@@ -6,7 +6,8 @@ const at = (id) => document.getElementById(id);
 const [language, script, settings, panel, state, copy] = ['language', 'script', 'settings', 'panel', 'state', 'copy'].map(at);
 const hints = hintsOf(JSON.parse(at('hints').textContent));
 // A text that a module alone may be, and one that no script of the base profile is.
-const OF_MODULES = "import 'a'", OF_2022 = 'async () => {}';
+const OF_MODULES = "import 'a'",
+  OF_2022 = 'async () => {}';
 const tabs = [...document.querySelectorAll('[role=tab]')];
 const HEADS = ['row', 'expression', 'any', 'not {', 'statement', 'for', 'for, not {', 'new', 'new, not {', 'new, statement'];
 // How much of a line is shown before and after the place that a report speaks of.
@@ -14,7 +15,12 @@ const REACH = 60;
 const PAUSE_MS = 150;
 const LINE_END = /\r\n|[\n\r\u2028\u2029]/;
 // How many reports, parts of a node and rows of a table are shown at once, how many nodes of a tree at first and where one is opened, and how much of a value.
-const REPORTS = 200, PARTS = 100, ROWS = 300, FIRST = 400, OPENED = 60, LONG = 300;
+const REPORTS = 200,
+  PARTS = 100,
+  ROWS = 300,
+  FIRST = 400,
+  OPENED = 60,
+  LONG = 300;
 // Of how many lines the pieces of a text are.
 const LINES = 200;
 // The languages as a button names them.
@@ -28,7 +34,8 @@ function element(name, attributes = {}, ...children) {
 
 /** The line round an index, no more of it than is shown, and blanks up to the place below it. */
 function pointedAt(text, index) {
-  const from = Math.max(0, index - REACH), before = text.slice(from, index).split(LINE_END).pop();
+  const from = Math.max(0, index - REACH),
+    before = text.slice(from, index).split(LINE_END).pop();
   return [`${before}${text.slice(index, index + REACH).split(LINE_END)[0]}`, before.replace(/[^\t]/gu, ' ')];
 }
 
@@ -41,8 +48,12 @@ function widthOf(style) {
 
 /** Goes to a place in the script, and has it in view: lines aren't broken there, and all are as high. */
 function goTo(index) {
-  const text = script.value.slice(0, index), start = text.lastIndexOf('\n') + 1, style = getComputedStyle(script);
-  const height = parseFloat(style.lineHeight), top = (text.split('\n').length - 1) * height, left = text.slice(start).replace(/\t/g, '    ').length * widthOf(style);
+  const text = script.value.slice(0, index),
+    start = text.lastIndexOf('\n') + 1,
+    style = getComputedStyle(script);
+  const height = parseFloat(style.lineHeight),
+    top = (text.split('\n').length - 1) * height,
+    left = text.slice(start).replace(/\t/g, '    ').length * widthOf(style);
   script.focus();
   script.setSelectionRange(index, index + 1);
   script.scrollTop = Math.max(0, top - script.clientHeight / 2);
@@ -64,7 +75,8 @@ function inPieces(all, into, made, most) {
 
 /** A text in pieces, of which a browser lays out those in view. */
 function textInPieces(text) {
-  const lines = text.split('\n'), pieces = [];
+  const lines = text.split('\n'),
+    pieces = [];
   for (let at = 0; at < lines.length; at += LINES) pieces.push(`${lines.slice(at, at + LINES).join('\n')}${at + LINES < lines.length ? '\n' : ''}`);
   return pieces.length < 2 ? [element('pre', {}, text)] : pieces.map((it) => element('pre', { className: 'piece' }, it));
 }
@@ -100,7 +112,8 @@ const counted = (count, what) => `${count} ${what}${count === 1 ? '' : 's'}`;
 const markOf = (it) => (it.severity === 'warning' ? ' (warning)' : '');
 
 function reports(jslint, text) {
-  const found = jslint.check(text, { settings: settings.value, language: language.value || undefined }), told = counted(found.length, 'report');
+  const found = jslint.check(text, { settings: settings.value, language: language.value || undefined }),
+    told = counted(found.length, 'report');
   const copied = () => found.map((it) => `${it.line}:${it.column} ${it.rule} ${it.message}${markOf(it)}\n`).join('');
   if (found.length === 0) return { made: [element('p', { className: 'fine' }, 'No report.')], told, copied };
   const made = (it) => located(text, it.index, `${it.line}:${it.column}`, it.rule, `${it.message}${markOf(it)}`);
@@ -130,7 +143,8 @@ function branch(it, key, budget) {
   if (it === null || typeof it !== 'object' || (Array.isArray(it) && it.length === 0)) return element('div', { className: 'leaf' }, name, valueOf(it));
   const keys = Object.keys(it).filter((each) => Array.isArray(it) || !['type', 'start', 'end'].includes(each));
   const span = typeof it.start === 'number' ? element('span', { className: 'span' }, ` ${it.start}..${it.end}`) : '';
-  const head = Array.isArray(it) ? `[${it.length}]` : it.type ?? '{}', open = budget.take();
+  const head = Array.isArray(it) ? `[${it.length}]` : it.type ?? '{}',
+    open = budget.take();
   const made = element('details', { open }, element('summary', {}, name, head, span));
   const fill = (some) => made.append(...inPieces(keys, element('div'), (each) => branch(it[each], each, some), PARTS));
   if (open) fill(budget);
@@ -149,7 +163,8 @@ function rowOf(kind, cells) {
 }
 
 function costs(jslint, text) {
-  const table = jslint.cost(text, asked(jslint)), rows = table.trimEnd().split('\n').slice(1, -1);
+  const table = jslint.cost(text, asked(jslint)),
+    rows = table.trimEnd().split('\n').slice(1, -1);
   const { pairs, least } = jslint.verify(text, table, asked(jslint));
   const said = `The script has ${counted(pairs, 'grouping pair')}. No text with its tree has fewer than ${least}, which this table shows; it was checked just now.`;
   const made = inPieces(rows, element('table', {}, rowOf('th', HEADS)), (it) => rowOf('td', cellsOf(it)), ROWS);
@@ -169,12 +184,20 @@ function treeOf(jslint, text) {
   return { made: [branch(tree, null, new Budget(FIRST))], told: counted(tree.body.length, 'statement'), copied: () => jslint.treeText(text, asked(jslint)) };
 }
 
-const SHOWN = { 'tab-check': reports, 'tab-fix': rewritten('fix'), 'tab-unwrap': rewritten('unwrap'), 'tab-format': rewritten('format'), 'tab-tree': treeOf, 'tab-cost': costs };
+const SHOWN = {
+  'tab-check': reports,
+  'tab-fix': rewritten('fix'),
+  'tab-unwrap': rewritten('unwrap'),
+  'tab-format': rewritten('format'),
+  'tab-tree': treeOf,
+  'tab-cost': costs,
+};
 
 /** What a refused script may have that its language lacks, with a button for each language that has it. */
 function hintFor(jslint, error, text, index) {
   const said = asked(jslint).language;
-  const found = error.code === 'syntax' ? hints.syntaxHint(text, index, said) : error.code === 'early' ? hints.earlyHint(error.number, text, index, said) : null;
+  const found =
+    error.code === 'syntax' ? hints.syntaxHint(text, index, said) : error.code === 'early' ? hints.earlyHint(error.number, text, index, said) : null;
   if (!found) return [];
   const buttons = (found.readBy ?? []).map((it) => {
     const button = element('button', { className: 'read', type: 'button' }, `read it as ${NAMES[it]}`);
@@ -194,13 +217,23 @@ function refused(jslint, error, text) {
   // (the place in settings is none in the script)
   if (typeof error.line !== 'number' || error.code === 'settings') return { made: [told], told: '', copied };
   const index = Math.min(indexOf(text, error.line, error.column), text.length);
-  return { made: [told, ...hintFor(jslint, error, text, index), element('ul', { className: 'reports' }, located(text, index, `${error.line}:${error.column}`, '', ''))], told: '', copied };
+  return {
+    made: [
+      told,
+      ...hintFor(jslint, error, text, index),
+      element('ul', { className: 'reports' }, located(text, index, `${error.line}:${error.column}`, '', '')),
+    ],
+    told: '',
+    copied,
+  };
 }
 
 /** Shows what a tab answers, and says in a line how it went. */
 function answer(jslint, tab) {
-  const text = script.value, begun = performance.now();
-  let found, went = 'answered';
+  const text = script.value,
+    begun = performance.now();
+  let found,
+    went = 'answered';
   try {
     found = SHOWN[tab.id](jslint, text);
   } catch (error) {
@@ -229,12 +262,14 @@ async function copyText(text) {
 
 /** The tab that a key leads to, as the pattern for tabs has it. */
 function tabOf(key, tab) {
-  const last = tabs.length - 1, now = tabs.indexOf(tab);
+  const last = tabs.length - 1,
+    now = tabs.indexOf(tab);
   return tabs[{ ArrowRight: now === last ? 0 : now + 1, ArrowLeft: now === 0 ? last : now - 1, Home: 0, End: last }[key]];
 }
 
 function listen(jslint) {
-  let shown = tabs.find((it) => it.id === `tab-${location.hash.slice(1)}`) ?? tabs[0], waiting = 0;
+  let shown = tabs.find((it) => it.id === `tab-${location.hash.slice(1)}`) ?? tabs[0],
+    waiting = 0;
   const show = (tab) => answer(jslint, shown = tab);
   for (const it of [language, script, settings]) {
     it.addEventListener('input', () => {

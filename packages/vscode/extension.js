@@ -4,7 +4,9 @@ const { commands } = require('vscode');
 const { LanguageClient, TransportKind } = require('vscode-languageclient/node');
 
 const SELECTOR = [
-  { scheme: 'file', language: 'javascript' }, { scheme: 'untitled', language: 'javascript' }, { scheme: 'file', pattern: '**/jslint.toml' },
+  { scheme: 'file', language: 'javascript' },
+  { scheme: 'untitled', language: 'javascript' },
+  { scheme: 'file', pattern: '**/jslint.toml' },
 ];
 let client;
 

@@ -26,7 +26,10 @@ const isBeside = (key, node) => ['regex', 'bigint', 'value'].includes(key) || (k
 function reader() {
   const acorn = require(FOLDER);
   class Strict extends acorn.Parser {
-    constructor(...words) { super(...words); this.strict = true; }
+    constructor(...words) {
+      super(...words);
+      this.strict = true;
+    }
   }
   return (text, language) => {
     try {
@@ -51,7 +54,8 @@ function bytesOf(text) {
 
 // Where our tree and acorn's differ first: a path; null where they don't. Without `at` places are left out.
 function apart(ours, theirs, at, where = '') {
-  if (typeof ours !== 'object' || ours === null || typeof theirs !== 'object' || theirs === null) return ours === theirs ? null : `${where}: ${JSON.stringify(ours)} | ${JSON.stringify(theirs)}`;
+  if (typeof ours !== 'object' || ours === null || typeof theirs !== 'object' || theirs === null)
+    return ours === theirs ? null : `${where}: ${JSON.stringify(ours)} | ${JSON.stringify(theirs)}`;
   if (Array.isArray(ours) && ours.length !== theirs.length) return `${where}: ${ours.length} | ${theirs.length} parts`;
   for (const key of new Set([...Object.keys(ours), ...Object.keys(theirs)])) {
     if (key === 'start' || key === 'end') {
@@ -72,12 +76,16 @@ function* nodes(it) {
   for (const part of Object.values(it)) yield* nodes(part);
 }
 
-const some = (tree, test) => { for (const node of nodes(tree)) if (test(node)) return true; return false; };
+const some = (tree, test) => {
+  for (const node of nodes(tree)) if (test(node)) return true;
+  return false;
+};
 
 // Why one may take what the other refuses: what acorn took, or said, and what we said.
 const REASONS = {
   'an escape in a name': (text, { tree }) => tree && some(tree, (it) => /Identifier$/.test(it.type) && /\\/.test(text.slice(it.start, it.end))),
-  '`await` as a name': (text, { tree }) => tree && some(tree, (it) => (it.type === 'Identifier' || it.type === 'LabeledStatement') && (it.name ?? it.label.name) === 'await'),
+  '`await` as a name': (text, { tree }) =>
+    tree && some(tree, (it) => (it.type === 'Identifier' || it.type === 'LabeledStatement') && (it.name ?? it.label.name) === 'await'),
   'an HTML-like comment': (text, { tree }) => tree && /<!--|-->/.test(text),
   'a name of `catch` declared by `var`': (text, { tree }, ours) => tree && /early error E12 /.test(ours),
   'nested too deep': (text, { tree }, ours) => tree && /nested too deep/.test(ours),
@@ -91,7 +99,8 @@ function run(words, input) {
 
 // What is wrong with a text that a command wrote, whose tree has to be this one.
 function misjudged(command, text, tree, language, least, folder, read) {
-  const file = path.join(folder, 'written.js'), table = path.join(folder, 'table');
+  const file = path.join(folder, 'written.js'),
+    table = path.join(folder, 'table');
   fs.writeFileSync(file, text);
   const theirs = read(text, language);
   const words = LANGUAGES[language];
@@ -106,7 +115,8 @@ function misjudged(command, text, tree, language, least, folder, read) {
 
 // What is wrong with what is answered of a file in a language, of which acorn has this tree.
 function* faults(file, language, tree, folder, read) {
-  const words = LANGUAGES[language], table = path.join(folder, 'own');
+  const words = LANGUAGES[language],
+    table = path.join(folder, 'own');
   fs.writeFileSync(table, run(['cost', ...words, file]).out);
   const pairs = /^pairs \d+ least (\d+)\n$/.exec(run(['verify', ...words, file, table]).out);
   if (!pairs) return yield 'verify refuses the table of cost';
@@ -126,8 +136,12 @@ function look(file, folder, read) {
   const found = [];
   let judged = false;
   for (const language of ['script', 'module']) {
-    const ours = run(['tree', ...LANGUAGES[language], file]), theirs = read(text, language);
-    if (ours.status !== 0 && theirs.fault) { found.push([language, 'refused by both']); continue; }
+    const ours = run(['tree', ...LANGUAGES[language], file]),
+      theirs = read(text, language);
+    if (ours.status !== 0 && theirs.fault) {
+      found.push([language, 'refused by both']);
+      continue;
+    }
     if (ours.status !== 0 || theirs.fault) {
       const reason = Object.keys(REASONS).find((it) => REASONS[it](text, theirs, ours.err));
       found.push([language, reason ?? 'UNEXPLAINED', `${ours.err.trim()} | ${theirs.fault ?? 'taken'}`]);
@@ -144,7 +158,8 @@ function look(file, folder, read) {
 
 // What is found of files, in a thread with room for acorn.
 function looked(list) {
-  const folder = fs.mkdtempSync(path.join(os.tmpdir(), 'acorn-')), read = reader();
+  const folder = fs.mkdtempSync(path.join(os.tmpdir(), 'acorn-')),
+    read = reader();
   const found = list.map((file) => look(file, folder, read));
   fs.rmSync(folder, { recursive: true });
   return found;
@@ -161,14 +176,17 @@ function* filesOf(name) {
 }
 
 function main() {
-  const every = process.argv.slice(2).flatMap((name) => [...filesOf(name)]), counts = new Map();
+  const every = process.argv.slice(2).flatMap((name) => [...filesOf(name)]),
+    counts = new Map();
   for (let i = 0; i < every.length; i += 50) {
     const list = every.slice(i, i + 50);
-    runInBigStack(__filename, 'looked', [list]).forEach((found, k) => found.forEach(([language, what, why]) => {
-      const key = `${language}: ${what}`;
-      counts.set(key, (counts.get(key) ?? 0) + 1);
-      if (what === 'UNEXPLAINED') console.log(`${list[k]}: ${language}: ${why}`);
-    }));
+    runInBigStack(__filename, 'looked', [list]).forEach((found, k) =>
+      found.forEach(([language, what, why]) => {
+        const key = `${language}: ${what}`;
+        counts.set(key, (counts.get(key) ?? 0) + 1);
+        if (what === 'UNEXPLAINED') console.log(`${list[k]}: ${language}: ${why}`);
+      })
+    );
   }
   if (every.length === 0) console.log('name files or folders');
   for (const [key, count] of [...counts].sort()) console.log(`${key}: ${count}`);

@@ -21,7 +21,6 @@ const { resolve } = require('../model/scopes.js');
 const { linesColumns, withoutHint, words } = require('./scripts.js');
 const { OWN, scopeScript } = require('../rows/scope_texts.js');
 
-
 // Names that some environment has; they stand for `b` in half of the texts.
 const NAMES = ['document', 'process', 'exports', 'importScripts', 'WeakRef', 'describe', 'expect', 'fetch'];
 const renamed = (source, text) => (source.below(2) ? text.replace(/\bb\b/g, source.pick(NAMES)) : text);
@@ -33,13 +32,43 @@ const SEVERITIES = ['true', 'false', '"off"', '"warn"', '"error"', '0', '1', '2'
 function settingsText(source) {
   const lines = [];
   const wrong = source.below(12);
-  if (source.below(2)) lines.push(`globals = [${['a', 'b', 'zz', 'Math'].filter(() => source.below(2)).map((it) => JSON.stringify(it)).join(', ')}]`);
-  if (source.below(3) === 0) lines.push(`env = [${[...ENVIRONMENTS.keys()].filter(() => source.below(3) === 0).map((it) => JSON.stringify(it)).join(', ')}]`);
+  if (source.below(2))
+    lines.push(
+      `globals = [${['a', 'b', 'zz', 'Math']
+        .filter(() => source.below(2))
+        .map((it) => JSON.stringify(it))
+        .join(', ')}]`
+    );
+  if (source.below(3) === 0)
+    lines.push(
+      `env = [${[...ENVIRONMENTS.keys()]
+        .filter(() => source.below(3) === 0)
+        .map((it) => JSON.stringify(it))
+        .join(', ')}]`
+    );
   if (source.below(2)) lines.push(`allow-null = ${source.below(2) === 1}`);
   if (source.below(2)) lines.push(`allow-comments = ${source.below(2) === 1}`);
   if (source.below(2)) lines.push(`ignore-underscore = ${source.below(2) === 1}`);
-  if (source.below(6) === 0) lines.push(`only = [${RULE_NAMES.filter(() => source.below(3) === 0).map((it) => JSON.stringify(it)).join(', ')}]`);
-  if (wrong === 0) lines.push(source.pick(['rule = 1', 'allow-null = "yes"', 'globals = [1]', 'globals = ["a"', 'env = ["x"]', 'env = "node"', 'ignore-underscore = 1', 'x', 'allow-null = true\nallow-null = true']));
+  if (source.below(6) === 0)
+    lines.push(
+      `only = [${RULE_NAMES.filter(() => source.below(3) === 0)
+        .map((it) => JSON.stringify(it))
+        .join(', ')}]`
+    );
+  if (wrong === 0)
+    lines.push(
+      source.pick([
+        'rule = 1',
+        'allow-null = "yes"',
+        'globals = [1]',
+        'globals = ["a"',
+        'env = ["x"]',
+        'env = "node"',
+        'ignore-underscore = 1',
+        'x',
+        'allow-null = true\nallow-null = true',
+      ])
+    );
   if (source.below(2)) {
     lines.push('[rules]');
     for (const name of RULE_NAMES) if (source.below(3) === 0) lines.push(`${name} = ${source.pick(SEVERITIES)}`);
@@ -55,10 +84,20 @@ function model(text, settings) {
   if (!parsed.ok) return { status: 2, out: '', err: `jslint: ${words(parsed.fault, bytes)}\n` };
   const read = fromToml(Buffer.from(settings));
   if (read === null) return { status: 2, out: '', err: 'jslint: bad settings\n' };
-  const reports = runRules({ tree: parsed.tree, text: bytes, scopes: resolve(parsed.tree), extra: extraPairs(parsed.pairs, plan(parsed.tree).wrapped), settings: read });
+  const reports = runRules({
+    tree: parsed.tree,
+    text: bytes,
+    scopes: resolve(parsed.tree),
+    extra: extraPairs(parsed.pairs, plan(parsed.tree).wrapped),
+    settings: read,
+  });
   const places = linesColumns(bytes, reports.map((it) => it.start));
   const warns = ({ rule }) => read.rules[rule] === 'warn';
-  return { status: reports.every(warns) ? 0 : 1, out: reports.map((it, i) => `${places[i]} ${it.rule} ${it.text}${warns(it) ? ' (warning)' : ''}\n`).join(''), err: '' };
+  return {
+    status: reports.every(warns) ? 0 : 1,
+    out: reports.map((it, i) => `${places[i]} ${it.rule} ${it.text}${warns(it) ? ' (warning)' : ''}\n`).join(''),
+    err: '',
+  };
 }
 
 // A refusal's line; which place an error of syntax names isn't fixed, in settings neither.
@@ -71,7 +110,8 @@ function main() {
   for (let k = 0; k < count; k++) made.push(nested(source), scopeScript(source), scopeScript(source));
   const texts = [...OWN, ...makeTexts(count, Number(option('seed', 1))), ...withAdditions(source, made)];
   const folder = fs.mkdtempSync(path.join(os.tmpdir(), 'rules-'));
-  const file = path.join(folder, 'a.js'), second = path.join(folder, 'settings.toml');
+  const file = path.join(folder, 'a.js'),
+    second = path.join(folder, 'settings.toml');
   const counts = { reports: 0, clean: 0, refused: 0, apart: 0 };
   for (const text of texts.map((it) => renamed(source, it))) {
     const settings = settingsText(source);
@@ -86,7 +126,9 @@ function main() {
     }
     counts.apart += 1;
     if (counts.apart <= Number(option('show', 5))) {
-      console.log(`${JSON.stringify(text)} with ${JSON.stringify(settings)}\n  program ${done.status} ${JSON.stringify(done.stdout + done.stderr)}\n  model   ${wanted.status} ${JSON.stringify(wanted.out + wanted.err)}`);
+      console.log(
+        `${JSON.stringify(text)} with ${JSON.stringify(settings)}\n  program ${done.status} ${JSON.stringify(done.stdout + done.stderr)}\n  model   ${wanted.status} ${JSON.stringify(wanted.out + wanted.err)}`
+      );
     }
   }
   fs.rmSync(folder, { recursive: true });

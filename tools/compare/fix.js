@@ -47,7 +47,8 @@ function main() {
   let differ = 0;
   const tell = (text, wanted, given) => {
     differ += 1;
-    if (differ <= Number(option('show', 20))) console.log(JSON.stringify(text) + '\n  model: ' + JSON.stringify(wanted) + '\n  crate: ' + JSON.stringify(given));
+    if (differ <= Number(option('show', 20)))
+      console.log(JSON.stringify(text) + '\n  model: ' + JSON.stringify(wanted) + '\n  crate: ' + JSON.stringify(given));
   };
   for (let i = 0; i < answers.length; i++) {
     const wanted = model(texts[i]);

@@ -31,10 +31,18 @@ function mutated(source, pool, program = source.pick(PROGRAMS)) {
   for (let m = source.below(3); m >= 0; m--) {
     const i = source.below(list.length + 1);
     switch (source.below(5)) {
-      case 0: list.splice(i, 1); break;
-      case 1: list.splice(i, 0, source.pick(pool)); break;
-      case 2: list[Math.min(i, list.length - 1)] = source.pick(pool); break;
-      case 3: list.splice(i, 0, source.pick(['\n', '(', ')', '(a)', '/', '+', '`x`', '{', '}', ',', '=>', '=', '...'])); break;
+      case 0:
+        list.splice(i, 1);
+        break;
+      case 1:
+        list.splice(i, 0, source.pick(pool));
+        break;
+      case 2:
+        list[Math.min(i, list.length - 1)] = source.pick(pool);
+        break;
+      case 3:
+        list.splice(i, 0, source.pick(['\n', '(', ')', '(a)', '/', '+', '`x`', '{', '}', ',', '=>', '=', '...']));
+        break;
       default: { // a group round a stretch
         const j = Math.min(list.length, i + 1 + source.below(8));
         list.splice(j, 0, ')');
@@ -63,10 +71,96 @@ function makeTexts(count, seed) {
 // What holds an expression at its `@`, as an expression or as a statement (`ended`), and what holds a statement, as an
 // expression (`valued`) or as a statement.
 const HOLDERS = {
-  expression: ['(@)', '[@]', '[...@]', '[, @]', '({a: @})', '({[@]: 1})', '({...@})', '-@', '!@', '@ + b', 'a * @', '(@) ** b', 'a ** @', '@ ? a : b', 'a ? @ : b', 'a ? b : @', 'a = @', '[a] = @', '[a = @] = b', '({a = @} = b)', '({a: [b = @]} = c)', 'f(@)', 'f(...@)', '(@)(b)', '(@).b', '(@)[b]', 'a[@]', '`${@}`', '(@)`x`', 'new (@)', 'new a(@)', '() => @', '(a = @) => b', '({a = @}) => b', '(...[a = @]) => b', 'x => (@)', 'a?.[@]', '(@)?.b.c', 'typeof @', 'a ?? @', '(a, @)', '(@, a)', 'function (a = @) {}', 'class extends (@) {}', 'class { [@]() {} }', 'import(@)', '({get a() { return @ }})', '({set a(b = @) {}})'],
-  ended: ['@;', 'if (@) ;', 'while (@) a;', 'throw @;', 'var a = @;', 'let [a = @] = b;', 'for (@;;) ;', 'for (;@;) ;', 'for (;;@) ;', 'for (a of @) ;', 'for (let a = @;;) ;', 'for ([a = @] of b) ;', 'switch (@) {}', 'switch (a) { case @: }', 'do ; while (@)', 'try {} catch ([a = @]) {}', 'function f(a = @) {}', 'class A extends (@) {}'],
+  expression: [
+    '(@)',
+    '[@]',
+    '[...@]',
+    '[, @]',
+    '({a: @})',
+    '({[@]: 1})',
+    '({...@})',
+    '-@',
+    '!@',
+    '@ + b',
+    'a * @',
+    '(@) ** b',
+    'a ** @',
+    '@ ? a : b',
+    'a ? @ : b',
+    'a ? b : @',
+    'a = @',
+    '[a] = @',
+    '[a = @] = b',
+    '({a = @} = b)',
+    '({a: [b = @]} = c)',
+    'f(@)',
+    'f(...@)',
+    '(@)(b)',
+    '(@).b',
+    '(@)[b]',
+    'a[@]',
+    '`${@}`',
+    '(@)`x`',
+    'new (@)',
+    'new a(@)',
+    '() => @',
+    '(a = @) => b',
+    '({a = @}) => b',
+    '(...[a = @]) => b',
+    'x => (@)',
+    'a?.[@]',
+    '(@)?.b.c',
+    'typeof @',
+    'a ?? @',
+    '(a, @)',
+    '(@, a)',
+    'function (a = @) {}',
+    'class extends (@) {}',
+    'class { [@]() {} }',
+    'import(@)',
+    '({get a() { return @ }})',
+    '({set a(b = @) {}})',
+  ],
+  ended: [
+    '@;',
+    'if (@) ;',
+    'while (@) a;',
+    'throw @;',
+    'var a = @;',
+    'let [a = @] = b;',
+    'for (@;;) ;',
+    'for (;@;) ;',
+    'for (;;@) ;',
+    'for (a of @) ;',
+    'for (let a = @;;) ;',
+    'for ([a = @] of b) ;',
+    'switch (@) {}',
+    'switch (a) { case @: }',
+    'do ; while (@)',
+    'try {} catch ([a = @]) {}',
+    'function f(a = @) {}',
+    'class A extends (@) {}',
+  ],
   valued: ['function () { @ }', '() => { @ }', '({m() { @ }})', '({set a(b) { @ }})', 'class { static m() { @ } }', 'class extends A { constructor() { @ } }'],
-  statement: ['{ @ }', 'if (a) @', 'if (a) b; else @', 'while (a) @', 'do @ while (a)', 'for (;;) @', 'for (a in b) @', 'for (const a of b) @', 'l: @', 'switch (a) { case b: @ }', 'switch (a) { default: @ }', 'try { @ } catch {}', 'try {} catch (a) { @ }', 'try {} finally { @ }', 'function f() { @ }', 'class A { m() { @ } }', 'a; @'],
+  statement: [
+    '{ @ }',
+    'if (a) @',
+    'if (a) b; else @',
+    'while (a) @',
+    'do @ while (a)',
+    'for (;;) @',
+    'for (a in b) @',
+    'for (const a of b) @',
+    'l: @',
+    'switch (a) { case b: @ }',
+    'switch (a) { default: @ }',
+    'try { @ } catch {}',
+    'try {} catch (a) { @ }',
+    'try {} finally { @ }',
+    'function f() { @ }',
+    'class A { m() { @ } }',
+    'a; @',
+  ],
 };
 function nested(source) {
   let text = source.pick(['a', '1', "'x'", 'this', '({})', 'a.b']);
@@ -87,7 +181,9 @@ function nested(source) {
 const LETTERS = { computed: 'c', optional: 'o', is_static: 's', prefix: 'p', directive: 'd', expression: 'e' };
 function show(n) {
   if (n === null) return '~';
-  const flags = Object.keys(LETTERS).map((f) => (n.flags[f] ? LETTERS[f] : '')).join('');
+  const flags = Object.keys(LETTERS)
+    .map((f) => (n.flags[f] ? LETTERS[f] : ''))
+    .join('');
   const form = n.flags.form === 'init' ? '' : ':' + n.flags.form;
   return `(${n.kind} ${n.start} ${n.stop} [${n.text}] ${flags}${form}${n.parts.map(show).join('')})`;
 }
@@ -122,7 +218,8 @@ function rowsOf(source) {
   const count = Number(option('mutants', 0));
   if (count === 0) return rows;
   const pool = rows.flatMap((row) => pieces(row.text)).filter((p) => p.trim() !== '');
-  return Array.from({ length: count }, () => source.pick(rows)).map(({ text, language }) => ({ text: mutated(source, pool, text), language }))
+  return Array.from({ length: count }, () => source.pick(rows))
+    .map(({ text, language }) => ({ text: mutated(source, pool, text), language }))
     .filter(({ text }) => text.isWellFormed() && !text.includes('\0'));
 }
 
@@ -131,8 +228,14 @@ function main() {
   const count = Number(option('nested', 0));
   const source = randomSource(Number(option('seed', 1)));
   const rows = process.argv.includes('--rows') ? rowsOf(source) : null;
-  const texts = rows !== null ? rows.map((row) => row.text) : file !== null ? fs.readFileSync(file, 'utf8').split('\0')
-    : count > 0 ? withAdditions(source, Array.from({ length: count }, () => nested(source))) : makeTexts(Number(option('n', 1000)), Number(option('seed', 1)));
+  const texts =
+    rows !== null
+      ? rows.map((row) => row.text)
+      : file !== null
+      ? fs.readFileSync(file, 'utf8').split('\0')
+      : count > 0
+      ? withAdditions(source, Array.from({ length: count }, () => nested(source)))
+      : makeTexts(Number(option('n', 1000)), Number(option('seed', 1)));
   const languageOf = (i) => (rows === null ? option('language', 'base') : rows[i].language);
   const answers = run(texts.map((text, i) => languageOf(i)[0] + text));
   let accepted = 0;
@@ -141,7 +244,8 @@ function main() {
   for (let i = 0; i < answers.length; i++) {
     const wanted = answer(texts[i], languageOf(i));
     const isRefused = rows?.[i].answer === 'syntax';
-    if (rows?.[i].answer !== undefined && isRefused !== (answers[i] === 'Syntax')) console.log(`row ${i}: ${rows[i].answer}, but the parser answers ${answers[i]}`);
+    if (rows?.[i].answer !== undefined && isRefused !== (answers[i] === 'Syntax'))
+      console.log(`row ${i}: ${rows[i].answer}, but the parser answers ${answers[i]}`);
     if (wanted.endsWith(')')) accepted += 1;
     if (wanted === 'TooDeep') deep += 1;
     if (wanted === answers[i]) continue;

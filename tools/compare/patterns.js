@@ -23,25 +23,36 @@ function* scriptsBelow(folder) {
 function literalsOf(text) {
   for (const sourceType of ['script', 'module']) {
     const found = [];
-    const onToken = (token) => { if (token.type.label === 'regexp') found.push(`/${token.value.pattern}/${token.value.flags}`); };
+    const onToken = (token) => {
+      if (token.type.label === 'regexp') found.push(`/${token.value.pattern}/${token.value.flags}`);
+    };
     try {
       acorn.parse(text, { ecmaVersion: 'latest', sourceType, allowReturnOutsideFunction: true, allowHashBang: true, onToken });
       return found;
-    } catch { /* perhaps it is a module */ }
+    } catch {
+      /* perhaps it is a module */
+    }
   }
   return null;
 }
 
 function isTakenByV8(pattern, flags) {
-  try { return new RegExp(pattern, flags) instanceof RegExp; } catch { return false; }
+  try {
+    return new RegExp(pattern, flags) instanceof RegExp;
+  } catch {
+    return false;
+  }
 }
 
 const isClamped = (pattern) => /\{\d{10,}/.test(pattern);
 // whether the two differ on a literal
 function differs(literal) {
-  const end = literal.lastIndexOf('/'), pattern = literal.slice(1, end), flags = literal.slice(end + 1);
+  const end = literal.lastIndexOf('/'),
+    pattern = literal.slice(1, end),
+    flags = literal.slice(end + 1);
   if (flags.includes('v') || isClamped(pattern)) return false;
-  const ours = patternFault(literal) === null, theirs = isTakenByV8(pattern, flags);
+  const ours = patternFault(literal) === null,
+    theirs = isTakenByV8(pattern, flags);
   return flags.includes('u') ? ours !== theirs : ours && !theirs;
 }
 
@@ -55,7 +66,8 @@ for (const folder of process.argv.slice(2)) {
     found.forEach((literal) => literals.add(literal));
   }
 }
-const refused = [...literals].filter((literal) => patternFault(literal) !== null), unlike = [...literals].filter(differs);
+const refused = [...literals].filter((literal) => patternFault(literal) !== null),
+  unlike = [...literals].filter(differs);
 unlike.forEach((literal) => console.log(literal));
 console.log(`${literals.size} literals of ${files} files: ${refused.length} refused by the 13th edition, ${unlike.length} unlike`);
 process.exitCode = unlike.length === 0 ? 0 : 1;

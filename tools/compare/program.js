@@ -37,10 +37,12 @@ const plain = (said) => said.replace(/syntax error at .*/, 'syntax error');
 
 // Which the model answers: of each text what each command does.
 function modelAnswers(texts, limits, commands) {
-  return texts.map((text) => commands.map((command) => {
-    const answer = modelOf(command, Buffer.from(text), limits);
-    return `${answer.status} ${plain(answer.err)}${answer.out}${judgement(command, Buffer.from(text), answer, limits)}`;
-  }));
+  return texts.map((text) =>
+    commands.map((command) => {
+      const answer = modelOf(command, Buffer.from(text), limits);
+      return `${answer.status} ${plain(answer.err)}${answer.out}${judgement(command, Buffer.from(text), answer, limits)}`;
+    })
+  );
 }
 
 function jslint(...words) {
@@ -72,7 +74,8 @@ function main() {
   const limits = { maxHeight: Number(option('height', 600)), maxParens: Number(option('open', 1200)) };
   const model = runInBigStack(__filename, 'modelAnswers', [texts, limits, COMMANDS]);
   const folder = fs.mkdtempSync(path.join(os.tmpdir(), 'program-'));
-  let accepted = 0, differ = 0;
+  let accepted = 0,
+    differ = 0;
   const tell = (text, command, wanted, given) => {
     differ += 1;
     if (differ <= Number(option('show', 20))) console.log(`${command} ${JSON.stringify(text)}\n  model:   ${wanted}\n  program: ${given}`);

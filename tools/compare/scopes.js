@@ -19,9 +19,18 @@ const texts = [...OWN, ...withAdditions(source, Array.from({ length: Number(opti
 function answer(text) {
   const result = parseOnly(text);
   if (!result.ok) return 'refused';
-  const settings = { rules: Object.fromEntries(RULE_NAMES.map((r) => [r, r === 'no-var' ? 'off' : 'error'])), globals: ['a', 'zz'], environments: [], allowNull: true, allowComments: true, ignoreUnderscore: false };
+  const settings = {
+    rules: Object.fromEntries(RULE_NAMES.map((r) => [r, r === 'no-var' ? 'off' : 'error'])),
+    globals: ['a', 'zz'],
+    environments: [],
+    allowNull: true,
+    allowComments: true,
+    ignoreUnderscore: false,
+  };
   const extra = result.pairs.map((p) => ({ start: p.left, end: p.right + 1 }));
-  return runRules({ tree: result.tree, text, scopes: resolve(result.tree), extra, settings }).map((r) => `${r.start}-${r.end} ${r.rule} ${r.text}\n`).join('');
+  return runRules({ tree: result.tree, text, scopes: resolve(result.tree), extra, settings })
+    .map((r) => `${r.start}-${r.end} ${r.rule} ${r.text}\n`)
+    .join('');
 }
 
 const answers = answersOf(copied(path.join(__dirname, 'scopes.txt'), ['source_text', 'tree', 'language', 'parser', 'scopes', 'rules']), texts, 8000);
@@ -30,7 +39,8 @@ answers.forEach((given, i) => {
   const wanted = answer(texts[i]);
   if (given === wanted) return;
   differ += 1;
-  if (differ <= Number(option('show', 5))) console.log(JSON.stringify(texts[i]) + '\n  program ' + JSON.stringify(given) + '\n  model   ' + JSON.stringify(wanted));
+  if (differ <= Number(option('show', 5)))
+    console.log(JSON.stringify(texts[i]) + '\n  program ' + JSON.stringify(given) + '\n  model   ' + JSON.stringify(wanted));
 });
 console.log(`${answers.length} texts, ${differ} disagreements`);
 process.exitCode = differ === 0 && answers.length === texts.length ? 0 : 1;

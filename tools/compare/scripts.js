@@ -77,7 +77,9 @@ function lineColumn(bytes, at) {
 // The same of places in ascending order, in one pass.
 function linesColumns(bytes, places) {
   const found = [];
-  let line = 1, column = 1, at = 0;
+  let line = 1,
+    column = 1,
+    at = 0;
   for (const place of places) {
     for (; at < place; at++) {
       const c = bytes[at];
@@ -97,12 +99,18 @@ function linesColumns(bytes, places) {
 
 function words(fault, bytes) {
   switch (fault.kind) {
-    case 'NotUtf8': return `not UTF-8 at byte ${fault.at}`;
-    case 'TooLong': return 'longer than 16777216 bytes';
-    case 'Syntax': return `syntax error at ${lineColumn(bytes, fault.at)}`;
-    case 'Early': return `early error E${fault.number} at ${lineColumn(bytes, fault.at)}`;
-    case 'TooDeep': return 'nested too deep';
-    default: return fault.kind;
+    case 'NotUtf8':
+      return `not UTF-8 at byte ${fault.at}`;
+    case 'TooLong':
+      return 'longer than 16777216 bytes';
+    case 'Syntax':
+      return `syntax error at ${lineColumn(bytes, fault.at)}`;
+    case 'Early':
+      return `early error E${fault.number} at ${lineColumn(bytes, fault.at)}`;
+    case 'TooDeep':
+      return 'nested too deep';
+    default:
+      return fault.kind;
   }
 }
 
@@ -168,7 +176,9 @@ function written(text, folder) {
 
 // What is seen of one command over all files.
 class Seen {
-  constructor(command) { Object.assign(this, { command, written: 0, refused: 0, apart: 0, size: 0 }); }
+  constructor(command) {
+    Object.assign(this, { command, written: 0, refused: 0, apart: 0, size: 0 });
+  }
 
   look(file, folder, wanted) {
     const ours = answer(this.command, file, folder);
@@ -189,7 +199,9 @@ class Seen {
 
   note() {}
 
-  tell() { console.log(`${this.command}: ${this.written} answers alike (${this.size} characters), ${this.refused} texts refused alike, ${this.apart} disagreements`); }
+  tell() {
+    console.log(`${this.command}: ${this.written} answers alike (${this.size} characters), ${this.refused} texts refused alike, ${this.apart} disagreements`);
+  }
 }
 
 // Of `unwrap` also how many scripts became others, the pairs before and after, as `verify` counts them, and the lines that differ, as `diff` does.
@@ -211,7 +223,9 @@ class SeenUnwrap extends Seen {
 
   tell() {
     super.tell();
-    console.log(`  ${this.changed} of them became others: ${this.before} pairs before, ${this.after} after; ${this.linesChanged} of ${this.lines} lines differ`);
+    console.log(
+      `  ${this.changed} of them became others: ${this.before} pairs before, ${this.after} after; ${this.linesChanged} of ${this.lines} lines differ`
+    );
   }
 }
 
@@ -229,7 +243,8 @@ function main() {
   const commands = word === 'all' ? Object.keys(ANSWERS) : word.split(',');
   if (!commands.every((it) => it in ANSWERS)) throw new Error('check, tree, fix, unwrap, cost or verify?');
   const folder = fs.mkdtempSync(path.join(os.tmpdir(), 'scripts-'));
-  const every = files(), seen = commands.map((it) => (it === 'unwrap' ? new SeenUnwrap() : new Seen(it)));
+  const every = files(),
+    seen = commands.map((it) => (it === 'unwrap' ? new SeenUnwrap() : new Seen(it)));
   for (let i = 0; i < every.length; i += 20) {
     const list = every.slice(i, i + 20);
     const wanted = runInBigStack(__filename, 'models', [commands, list]);

@@ -27,7 +27,8 @@ const BEHIND_OPERAND = /^([;)\]},+*/%<>?&|]|\*\*|&&|\|\||\?\?|)$/;
 // The text with what the 12th edition adds: logical assignments in place of others, and numbers with separators. In three texts of four only
 // where they have a chance to stand; in the fourth anywhere, and numbers that are none too.
 function extended(source, text) {
-  const list = pieces(text), isWild = source.below(4) === 0;
+  const list = pieces(text),
+    isWild = source.below(4) === 0;
   const seen = list.map((_, i) => i).filter((i) => !/^\s/.test(list[i]));
   const numbers = isWild ? [...NUMBERS, ...NO_NUMBERS] : NUMBERS;
   seen.forEach((i, k) => {
@@ -46,7 +47,10 @@ const withAdditions = (source, texts) => texts.map((it) => (source.below(2) === 
 
 // A line of crates.txt: a crate and the libraries that it names.
 function crateLines() {
-  const lines = fs.readFileSync(path.join(CRATES, '..', 'crates.txt'), 'utf8').split('\n').filter((l) => l !== '');
+  const lines = fs
+    .readFileSync(path.join(CRATES, '..', 'crates.txt'), 'utf8')
+    .split('\n')
+    .filter((l) => l !== '');
   return new Map(lines.map((l) => [l.split(':')[0], { line: l, needs: l.split(':')[1].trim().split(/\s+/) }]));
 }
 
@@ -86,7 +90,11 @@ function answersOf(folder, texts, size) {
     const given = texts.slice(i, i + size);
     const file = path.join(folder, 'texts');
     fs.writeFileSync(file, given.join('\0'));
-    const done = spawnSync(process.env.RT ?? 'rt', ['try', '--steps', '1000000000000', '--seconds', '600', '--data', 'texts=' + file], { cwd: path.join(folder, 'crates', 'dump'), maxBuffer: 1 << 30, encoding: 'utf8' });
+    const done = spawnSync(process.env.RT ?? 'rt', ['try', '--steps', '1000000000000', '--seconds', '600', '--data', 'texts=' + file], {
+      cwd: path.join(folder, 'crates', 'dump'),
+      maxBuffer: 1 << 30,
+      encoding: 'utf8',
+    });
     const list = done.stdout.split('\0');
     const rest = list.pop();
     answers.push(...list);

@@ -30,7 +30,15 @@ function newsAndCalls(source, depth) {
   if (depth === 0) return source.pick(['a', '(b)', 'new c', '(new d)', '(new e)()']);
   const inner = newsAndCalls(source, depth - 1);
   const call = () => source.pick(['()', '()', '()', '(x)', '((y))']);
-  return source.pick([`new (${inner})`, `new (${inner})${call()}`, `(${inner})`, `(${inner})${call()}`, `(${inner})${call()}${call()}`, `(${inner}).p`, `(${inner})?.${call()}`]);
+  return source.pick([
+    `new (${inner})`,
+    `new (${inner})${call()}`,
+    `(${inner})`,
+    `(${inner})${call()}`,
+    `(${inner})${call()}${call()}`,
+    `(${inner}).p`,
+    `(${inner})?.${call()}`,
+  ]);
 }
 
 // Scripts that the model accepts.
@@ -47,13 +55,17 @@ function someTexts(count, seed) {
 }
 
 const REFUSAL = /^(syntax|E\d+ \d+|nested too deep)$/;
-const meant = (text) => text
-  .replace(/⟦([^⟦⟧×]*)×(\d+)⟧/g, (_, piece, count) => piece.repeat(Number(count)))
-  .replace(/[\u2400-\u241f]/g, (c) => String.fromCharCode(c.charCodeAt(0) - 0x2400));
+const meant = (text) =>
+  text
+    .replace(/⟦([^⟦⟧×]*)×(\d+)⟧/g, (_, piece, count) => piece.repeat(Number(count)))
+    .replace(/[\u2400-\u241f]/g, (c) => String.fromCharCode(c.charCodeAt(0) - 0x2400));
 
 // The worked texts, with their answers.
 function workedRows() {
-  const lines = fs.readFileSync(ROWS, 'utf8').split('\n').filter((line) => line !== '' && !line.startsWith('#'));
+  const lines = fs
+    .readFileSync(ROWS, 'utf8')
+    .split('\n')
+    .filter((line) => line !== '' && !line.startsWith('#'));
   return lines.map((line) => line.split('\t').slice(1).map(meant)).map(([text, want]) => [text, REFUSAL.test(want) ? 'refused' : want]);
 }
 
@@ -69,8 +81,12 @@ function modelAnswers(texts) {
 function main() {
   const file = option('file', null);
   const rows = process.argv.includes('--cases') ? workedRows() : [];
-  const texts = rows.length > 0 ? rows.map(([text]) => text)
-    : file !== null ? fs.readFileSync(file, 'utf8').split('\0') : someTexts(Number(option('n', 300)), Number(option('seed', 1)));
+  const texts =
+    rows.length > 0
+      ? rows.map(([text]) => text)
+      : file !== null
+      ? fs.readFileSync(file, 'utf8').split('\0')
+      : someTexts(Number(option('n', 300)), Number(option('seed', 1)));
   const answers = answersOf(copied(path.join(__dirname, 'unwrap.txt'), CRATES), texts, 4000);
   const model = runInBigStack(__filename, 'modelAnswers', [texts]);
   const counts = { changed: 0, before: 0, after: 0, differ: 0 };

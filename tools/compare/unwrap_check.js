@@ -46,7 +46,10 @@ function pieces(parsed, edition) {
   let touched = false;
   for (const token of tokens) {
     gap += token.gap;
-    if (grouping.has(token.start)) { touched = true; continue; }
+    if (grouping.has(token.start)) {
+      touched = true;
+      continue;
+    }
     list.push({ text: token.text, cls: token.cls, postfix: token.postfix, gap, touched });
     gap = '';
     touched = false;
@@ -68,12 +71,16 @@ function htmlLike({ list }) {
 // Goes over both lists of tokens; null, or what is wrong. Where `()` was put in after a `new` isn't told, so
 // each `()` that may be one is tried both ways.
 function compare(source, written) {
-  const isPut = (j) => written[j]?.text === '(' && written[j + 1]?.text === ')' && written[j + 1].gap === ''
-    && !written[j + 1].touched && (written[j].gap === '' || written[j].touched);
-  const choices = [];                                    // where else to go on: [i, j, places of comments so far]
+  const isPut = (j) =>
+    written[j]?.text === '(' &&
+    written[j + 1]?.text === ')' &&
+    written[j + 1].gap === '' &&
+    !written[j + 1].touched &&
+    (written[j].gap === '' || written[j].touched);
+  const choices = []; // where else to go on: [i, j, places of comments so far]
   let first = null;
   let [i, j, from, to] = [0, 0, [], []];
-  for (let tries = 0; tries < 5000; ) {
+  for (let tries = 0; tries < 5000;) {
     let fault = null;
     const put = [];
     const mayEnd = source[i - 1]?.postfix || (source[i - 1]?.text === '}' && source[i].text === 'from');
@@ -85,8 +92,7 @@ function compare(source, written) {
       from.push(...commentsOf(a).map(() => i));
       to.push(...[...put, b].flatMap(commentsOf).map(() => i));
       const before = source[i - 1];
-      const moved = (BINDS_NEXT.test(a.text) && leadsToPair(source, i + 1))
-        || (/^(\+\+|--|;|,)$/.test(before?.text) && before.touched);
+      const moved = (BINDS_NEXT.test(a.text) && leadsToPair(source, i + 1)) || (/^(\+\+|--|;|,)$/.test(before?.text) && before.touched);
       if (!a.touched && a.gap !== b.gap && !moved) fault = `8 gap before token ${i}: ${JSON.stringify(a.gap)} became ${JSON.stringify(b.gap)}`;
       i += 1;
       j += 1;
@@ -114,8 +120,10 @@ const commentsOf = (token) => token.gap.match(COMMENTS) ?? [];
 function misplaced(source, from, to) {
   for (let k = 0; k < from.length; k++) {
     const over = source.slice(Math.min(from[k], to[k]), Math.max(from[k], to[k])).map((token) => token.text);
-    const isLawful = to[k] === from[k] || (to[k] < from[k] && over.every((text) => BINDS_NEXT.test(text)))
-      || (to[k] > from[k] && over.every((text) => /^(\+\+|--|;|,)$/.test(text)));
+    const isLawful =
+      to[k] === from[k] ||
+      (to[k] < from[k] && over.every((text) => BINDS_NEXT.test(text))) ||
+      (to[k] > from[k] && over.every((text) => /^(\+\+|--|;|,)$/.test(text)));
     if (!isLawful) return `5 comment ${k} moved from ${from[k]} to ${to[k]}`;
   }
   return null;
@@ -142,7 +150,8 @@ function refusedByV8(source, written, tokens, isModule) {
 function check(before, after, unwrap, options = FINAL) {
   const source = parse(before, options);
   if (!source.ok) return 'the source is refused';
-  const language = languageOf(options), total = fewest(source.tree, language);
+  const language = languageOf(options),
+    total = fewest(source.tree, language);
   const written = parse(after, options);
   if (!written.ok) return '1 refused: ' + JSON.stringify(written.fault);
   if (shown(source.tree, language) !== shown(written.tree, language)) return '2 another tree';
@@ -169,7 +178,10 @@ if (require.main === module) {
     const before = fs.readFileSync(name);
     const answer = unwrap(before);
     const fault = answer.ok ? check(before, answer.text, unwrap) : 'refused: ' + JSON.stringify(answer.fault);
-    if (fault !== null) { bad += 1; console.log(`${name}: ${fault}`); }
+    if (fault !== null) {
+      bad += 1;
+      console.log(`${name}: ${fault}`);
+    }
   }
   process.exitCode = bad > 0 ? 1 : 0;
 }

@@ -39,7 +39,11 @@ function shuffle(source, list) {
 }
 
 // Texts that the rows have of a language of 2022.
-const textsOf = (language) => ['editions', 'later_answers'].flatMap((file) => rowsOf(file, ['early', 'unwrap'])).filter((row) => row.language === language).map((row) => row.texts[0]);
+const textsOf = (language) =>
+  ['editions', 'later_answers']
+    .flatMap((file) => rowsOf(file, ['early', 'unwrap']))
+    .filter((row) => row.language === language)
+    .map((row) => row.texts[0]);
 
 // Texts of a language that are to be strewn.
 function taken(source, language, round, rows) {
@@ -50,9 +54,11 @@ function taken(source, language, round, rows) {
 
 // So many strewn texts that have pairs.
 function* strewnTexts(count, seed, language) {
-  const source = randomSource(seed), options = optionsOf(language), rows = textsOf(language);
+  const source = randomSource(seed),
+    options = optionsOf(language),
+    rows = textsOf(language);
   let left = count;
-  for (let round = seed; ; round++) {
+  for (let round = seed;; round++) {
     for (const text of shuffle(source, taken(source, language, round, rows))) {
       const it = strewn(source, text, options);
       if (!isWhole(it) || pairsOf(it, options) === 0) continue;
@@ -83,7 +89,9 @@ function judged(text, unwrap, options) {
 // What is seen of the texts, and of each that is at fault what it is and what is wrong.
 function seen(jslint, count, seed, language) {
   const folder = fs.mkdtempSync(path.join(os.tmpdir(), 'judge-'));
-  const unwrap = unwrapper(jslint, folder, language), counts = { texts: 0, changed: 0, before: 0, after: 0 }, faults = [];
+  const unwrap = unwrapper(jslint, folder, language),
+    counts = { texts: 0, changed: 0, before: 0, after: 0 },
+    faults = [];
   for (const text of strewnTexts(count, seed, language)) {
     const { before, after, changed, fault } = judged(text, unwrap, optionsOf(language));
     counts.texts += 1;

@@ -18,23 +18,41 @@ const withoutPairs = (settings) => ({ ...settings, rules: { ...settings.rules, '
 
 // the rows {text, language, settings, want}, of which `want` has a line "LINE:COLUMN RULE TEXT" for each report
 function rowsOfReports() {
-  return ['scopes', 'rules', 'later_answers'].flatMap((file) => rowsOf(file, ['check'])).filter(({ texts }) => texts.every((it) => it.length < LONG))
+  return ['scopes', 'rules', 'later_answers']
+    .flatMap((file) => rowsOf(file, ['check']))
+    .filter(({ texts }) => texts.every((it) => it.length < LONG))
     .map(({ texts: [text, settings], language, want }) => ({ text, language, settings: fromToml(Buffer.from(settings)), want }))
     .filter(({ settings, want }) => settings !== null && /^[01] /.test(want))
-    .map((row) => ({ ...row, settings: withoutPairs(row.settings), want: row.want.slice(2).split('\n').filter((line) => line !== '' && !isPair(line)) }));
+    .map((row) => ({
+      ...row,
+      settings: withoutPairs(row.settings),
+      want: row.want
+        .slice(2)
+        .split('\n')
+        .filter((line) => line !== '' && !isPair(line)),
+    }));
 }
 
 // what the plain model reads of a row's text; kept, since runners that change the definitions ask again and again
-const readOf = (row) => (row.read ??= parseOnly(row.text, { maxHeight: 1e5, maxParens: 1e5, ...(row.language === 'base' ? {} : { edition: 2022, module: row.language === 'module' }) }));
+const readOf = (row) =>
+  (row.read ??= parseOnly(row.text, {
+    maxHeight: 1e5,
+    maxParens: 1e5,
+    ...(row.language === 'base' ? {} : { edition: 2022, module: row.language === 'module' }),
+  }));
 
 // the lines that the definitions report of a row's text
 function linesOf(definitions, row) {
-  const { text, language, settings } = row, { ok, tree } = readOf(row);
+  const { text, language, settings } = row,
+    { ok, tree } = readOf(row);
   if (!ok) return null;
   const root = definitions.model.tree(plainTree(tree, language));
   const bytes = Buffer.from(text);
   return definitions.reports(root, text, definitions.found(root), [], settings).map((r) => {
-    const before = bytes.subarray(0, r.start).toString().split(/\r\n|[\n\r\u2028\u2029]/);
+    const before = bytes
+      .subarray(0, r.start)
+      .toString()
+      .split(/\r\n|[\n\r\u2028\u2029]/);
     return `${before.length}:${[...before[before.length - 1]].length + 1} ${r.rule} ${r.text}${r.warns ? ' (warning)' : ''}`;
   });
 }
@@ -44,14 +62,16 @@ function* disagreements(definitions, rows, counts = { reports: 0 }) {
   for (const row of rows) {
     const got = linesOf(definitions, row);
     counts.reports += got?.length ?? 0;
-    if (JSON.stringify(got) !== JSON.stringify(row.want)) yield `${row.language} ${JSON.stringify(row.text)}\n  definitions ${JSON.stringify(got)}\n  row         ${JSON.stringify(row.want)}`;
+    if (JSON.stringify(got) !== JSON.stringify(row.want))
+      yield `${row.language} ${JSON.stringify(row.text)}\n  definitions ${JSON.stringify(got)}\n  row         ${JSON.stringify(row.want)}`;
   }
 }
 
 function main() {
   const at = process.argv.indexOf('--crates');
   const definitions = new Reports(at < 0 ? path.join(__dirname, '../../crates') : process.argv[at + 1]);
-  const rows = rowsOfReports(), counts = { reports: 0 };
+  const rows = rowsOfReports(),
+    counts = { reports: 0 };
   const differ = [...disagreements(definitions, rows, counts)];
   for (const line of differ.slice(0, 12)) console.log(line);
   console.log(`${rows.length} rows with ${counts.reports} reports by the definitions, ${differ.length} disagreements`);

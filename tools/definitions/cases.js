@@ -8,7 +8,8 @@ const path = require('node:path');
 
 const DATA = path.join(__dirname, '../../crates/cases/data');
 
-const meant = (text) => text.replace(/⟦([^]*?)×(\d+)⟧/g, (_, one, n) => one.repeat(Number(n))).replace(/[\u2400-\u241f]/g, (c) => String.fromCharCode(c.charCodeAt(0) & 0x1f));
+const meant = (text) =>
+  text.replace(/⟦([^]*?)×(\d+)⟧/g, (_, one, n) => one.repeat(Number(n))).replace(/[\u2400-\u241f]/g, (c) => String.fromCharCode(c.charCodeAt(0) & 0x1f));
 
 function rowOf(line, section) {
   const [named, ...texts] = line.split('\t');
@@ -22,7 +23,10 @@ function rowsOf(file, calls = null) {
   let section = file;
   for (const line of fs.readFileSync(path.join(DATA, file), 'utf8').split('\n').slice(1)) {
     if (line === '') continue;
-    if (line.startsWith('#')) { section = line.slice(2); continue; }
+    if (line.startsWith('#')) {
+      section = line.slice(2);
+      continue;
+    }
     const row = rowOf(line, section);
     if (calls === null || calls.includes(row.call)) rows.push(row);
   }
@@ -30,7 +34,10 @@ function rowsOf(file, calls = null) {
 }
 
 // what each language takes, and the early errors of the base profile: rows {text, language, section, answer}
-const rowsOfLanguages = () => ['editions', 'early'].flatMap((file) => rowsOf(file, ['early'])).map(({ texts: [text], language, section, want }) => ({ text, language, section, answer: want }));
+const rowsOfLanguages = () =>
+  ['editions', 'early']
+    .flatMap((file) => rowsOf(file, ['early']))
+    .map(({ texts: [text], language, section, want }) => ({ text, language, section, answer: want }));
 
 // what several calls want of one text: a row {text, language, section, CALL: want, ..} for each
 function byText(rows) {

@@ -34,7 +34,10 @@ class Reading {
     list = [];
     for (const t of found) {
       if (t.cls === 'fault') continue;
-      const v = this.model.seen_in(this.language, this.model.as_read(this.model.token({ cls: t.cls, text: t.text, start: byteAt(t.start), stop: byteAt(t.end), afterBreak: t.afterBreak })));
+      const v = this.model.seen_in(
+        this.language,
+        this.model.as_read(this.model.token({ cls: t.cls, text: t.text, start: byteAt(t.start), stop: byteAt(t.end), afterBreak: t.afterBreak }))
+      );
       list.push({ v, end: t.end, last: t.cls === 'end', id: this.n++ });
     }
     this.memo.set(at, list);
@@ -64,7 +67,8 @@ class TooMuch extends Error {}
 class Derive {
   constructor(model) {
     this.m = model;
-    this.open = antt.codes('('); this.close = antt.codes(')');
+    this.open = antt.codes('(');
+    this.close = antt.codes(')');
     this.names = new Map();
   }
   derive(text, tree, options = {}) {
@@ -89,11 +93,17 @@ class Derive {
     }
     return [...out.values()];
   }
-  isMark(w, c) { return c.t !== null && this.m.is_mark(w, c.t.v); }
+  isMark(w, c) {
+    return c.t !== null && this.m.is_mark(w, c.t.v);
+  }
   // the next token is a keyword, and the node the identifier of its text
   isReserved(n, c) {
-    return c.t !== null && n.a[0].$.name === 'Identifier' && n.a[5].$.name === 'none' && this.m.is_lean(n) && this.m.is_keyword(n.a[1])
-      && this.m.is_token(this.m.classes.keyword, n.a[1], c.t.v);
+    return c.t !== null &&
+      n.a[0].$.name === 'Identifier' &&
+      n.a[5].$.name === 'none' &&
+      this.m.is_lean(n) &&
+      this.m.is_keyword(n.a[1]) &&
+      this.m.is_token(this.m.classes.keyword, n.a[1], c.t.v);
   }
   placed(a, n, c, end) {
     if (!this.places) return c.t !== null;
@@ -154,13 +164,20 @@ class Derive {
       if (qs === null) return ps.$.name === 'none' ? [{ c, P: null, o: 0 }] : [];
       const q = qs.h;
       switch (q.$.name) {
-        case 'lay': qs = qs.t; continue;
-        case 'never': return [];
+        case 'lay':
+          qs = qs.t;
+          continue;
+        case 'never':
+          return [];
         case 'tok': {
           if (c.t === null || !m.is_token(q.a[0], q.a[1], c.t.v)) return [];
           const next = reading.over(c);
           within = null;
-          if (next.length === 1) { c = next[0]; qs = qs.t; continue; }
+          if (next.length === 1) {
+            c = next[0];
+            qs = qs.t;
+            continue;
+          }
           return next.flatMap((d) => this.runs(qs.t, ps, d));
         }
         case 'may': {
@@ -175,13 +192,16 @@ class Derive {
         }
         case 'ahead':
           if (c.t === null || !m.is_token(m.classes.name, q.a[0], c.t.v)) return [];
-          qs = qs.t; continue;
+          qs = qs.t;
+          continue;
         case 'unbroken':
           if (c.t === null || c.t.v.after_break) return [];
-          qs = qs.t; continue;
+          qs = qs.t;
+          continue;
         case 'no_operand':
           if (c.t === null || !m.begins_no_operand(c.t.v)) return [];
-          qs = qs.t; continue;
+          qs = qs.t;
+          continue;
         case 'ending': {
           if (c.t === null) return [];
           const out = [];
@@ -197,7 +217,9 @@ class Derive {
           return reading.over(c).flatMap((d) => this.runs(qs.t, ps, d).map((x) => ({ ...x, o: Math.max(x.o, 1) - 1 })));
         case 'absent':
           if (ps.$.name !== 'gap') return [];
-          qs = qs.t; ps = ps.a[0]; continue;
+          qs = qs.t;
+          ps = ps.a[0];
+          continue;
         case 'sub': {
           if (ps.$.name !== 'part') return [];
           const [n, rest] = ps.a;
@@ -208,7 +230,8 @@ class Derive {
           for (const x of found) for (const y of this.runs(qs.t, rest, x.c)) out.push({ c: y.c, P: join(x.P, y.P), o: Math.max(x.o, y.o) });
           return out;
         }
-        default: throw new Error('unknown piece ' + q.$.name);
+        default:
+          throw new Error('unknown piece ' + q.$.name);
       }
     }
   }
@@ -220,7 +243,13 @@ function flatten(P) {
   while (stack.length > 0) {
     const p = stack.pop();
     if (p === null) continue;
-    if (p.pair !== undefined) { out.push(p.pair); stack.push(p.rest); } else { stack.push(p.b); stack.push(p.a); }
+    if (p.pair !== undefined) {
+      out.push(p.pair);
+      stack.push(p.rest);
+    } else {
+      stack.push(p.b);
+      stack.push(p.a);
+    }
   }
   return out;
 }

@@ -31,46 +31,122 @@ const { randomSource } = require(path.join(PLAIN_MODEL, 'random.js'));
 const NEW_CHECKS = [
   ['break behind async, arrow name', 'if (!second.afterBreak && this.isIdentifier(second)) {', 'if (this.isIdentifier(second)) {'],
   ['break behind async, parenthesis', "if (!second.afterBreak && this.is(second, '(')) {", "if (this.is(second, '(')) {"],
-  ['async ( is always a call', "const next = this.peekDiv();\n    if (this.is(next, '=>') && !next.afterBreak) {\n      const params = list.map", "const next = this.peekDiv();\n    if (false) {\n      const params = list.map"],
+  [
+    'async ( is always a call',
+    "const next = this.peekDiv();\n    if (this.is(next, '=>') && !next.afterBreak) {\n      const params = list.map",
+    "const next = this.peekDiv();\n    if (false) {\n      const params = list.map",
+  ],
   ['break before => of async, name', "if (this.is(third, '=>') && !third.afterBreak) {", "if (this.is(third, '=>')) {"],
-  ['break before => of async, parenthesis', "if (this.is(next, '=>') && !next.afterBreak) {\n      const params = list.map", "if (this.is(next, '=>')) {\n      const params = list.map"],
+  [
+    'break before => of async, parenthesis',
+    "if (this.is(next, '=>') && !next.afterBreak) {\n      const params = list.map",
+    "if (this.is(next, '=>')) {\n      const params = list.map",
+  ],
   ['break behind async, function', "return this.isWord(second, 'function') && !second.afterBreak;", "return this.isWord(second, 'function');"],
   ['operand of yield behind a break', 'const bare = next.afterBreak || next.cls', 'const bare = next.cls'],
   ['yield is always bare', 'const bare = next.afterBreak || next.cls', 'const bare = true || next.cls'],
-  ['yield at any operand', "if (UNARY_OPERATORS.has(token.text)) {", "if (this.modern && token.text === 'yield') return this.parseYield(true);\n        if (UNARY_OPERATORS.has(token.text)) {"],
+  [
+    'yield at any operand',
+    "if (UNARY_OPERATORS.has(token.text)) {",
+    "if (this.modern && token.text === 'yield') return this.parseYield(true);\n        if (UNARY_OPERATORS.has(token.text)) {",
+  ],
   ['await is a name', "&& !(this.modern && token.text === 'await')", ''],
-  ['await is never an operator', [["&& !(this.modern && token.text === 'await')", ''], ["if (this.modern && this.isWord(token, 'await')) {", 'if (false) {']]],
+  [
+    'await is never an operator',
+    [
+      ["&& !(this.modern && token.text === 'await')", ''],
+      ["if (this.modern && this.isWord(token, 'await')) {", 'if (false) {'],
+    ],
+  ],
   ['await before **', " || left.type === 'AwaitExpression'", ''],
   ['#x without In', 'if (!In || RANK.in < lowest) this.fail(token);', 'if (RANK.in < lowest) this.fail(token);'],
   ['#x at any level', 'if (!In || RANK.in < lowest) this.fail(token);', ''],
   ['#x before any operator', "if (!this.sees('in')) this.fail(this.peekDiv());\n    return name;", 'return name;'],
-  ['#x as an operand', "return this.fail(token);\n      default:\n        return this.fail(token);", "return this.fail(token);\n      default:\n        return token.cls === 'private' ? this.parsePrivateName() : this.fail(token);"],
-  ['#x as a key of an object', "if (token.cls === 'name') return { node: this.parseName(), computed: false, token };", "if (token.cls === 'private') return { node: this.parsePrivateName(), computed: false, token };\n    if (token.cls === 'name') return { node: this.parseName(), computed: false, token };"],
+  [
+    '#x as an operand',
+    "return this.fail(token);\n      default:\n        return this.fail(token);",
+    "return this.fail(token);\n      default:\n        return token.cls === 'private' ? this.parsePrivateName() : this.fail(token);",
+  ],
+  [
+    '#x as a key of an object',
+    "if (token.cls === 'name') return { node: this.parseName(), computed: false, token };",
+    "if (token.cls === 'private') return { node: this.parsePrivateName(), computed: false, token };\n    if (token.cls === 'name') return { node: this.parseName(), computed: false, token };",
+  ],
   ['super.#x', "return this.member(start, base, this.parseName(), false, false);", 'return this.member(start, base, this.parseMemberName(), false, false);'],
   ['async method behind a break', 'if (second.afterBreak || !(this.beginsKey(second, inClass)', 'if (!(this.beginsKey(second, inClass)'],
-  ['* before get', "    const accessor = this.acceptAccessor(true);\n    const special = accessor === null ?", "    const star = this.accept('*', GOAL.RegExp);\n    const accessor = this.acceptAccessor(true);\n    const special = star ? { async: false, generator: true } : accessor === null ?"],
+  [
+    '* before get',
+    "    const accessor = this.acceptAccessor(true);\n    const special = accessor === null ?",
+    "    const star = this.accept('*', GOAL.RegExp);\n    const accessor = this.acceptAccessor(true);\n    const special = star ? { async: false, generator: true } : accessor === null ?",
+  ],
   ['fields end anywhere', "if (token.afterBreak && token.cls !== 'fault' && !(value", "if (token.cls !== 'fault' && !(value"],
   ['fields end at each break', ' && !(value !== null && this.goesOn(this.rightEdge(value), token))', ''],
-  ['get as a field at a break', 'if (!this.beginsKey(this.secondToken(), inClass)) return null;', 'if (!this.beginsKey(this.secondToken(), inClass) || this.secondToken().afterBreak) return null;'],
+  [
+    'get as a field at a break',
+    'if (!this.beginsKey(this.secondToken(), inClass)) return null;',
+    'if (!this.beginsKey(this.secondToken(), inClass) || this.secondToken().afterBreak) return null;',
+  ],
   ['static as a field at a break', 'const isStatic = second !== null && (', 'const isStatic = second !== null && !second.afterBreak && ('],
   ['static is no word', 'const isStatic = second !== null && (', 'const isStatic = false && second !== null && ('],
-  ['fields values end at operators', "      if (!Object.hasOwn(RANK, token.text)) return left;", "      if (!Object.hasOwn(RANK, token.text) || (token.afterBreak && ['*', 'in', 'instanceof'].includes(token.text))) return left;"],
-  ['fields values end at brackets', "      const token = this.peekDiv();\n      if (this.is(token, '.')) {", "      const token = this.peekDiv();\n      if (token.afterBreak && this.is(token, '[')) return node;\n      if (this.is(token, '.')) {"],
-  ['a sequence as the value of a field', "const value = this.accept('=') ? this.inside(() => this.parseAssignment(true)) : null;\n      this.fieldEnd", "const value = this.accept('=') ? this.inside(() => this.parseExpression(true)) : null;\n      this.fieldEnd"],
-  ['async function as an expression statement', [["    if (this.seesAsyncFunction()) return this.parseFunction('FunctionDeclaration');\n    if (this.is", '    if (this.is'], ['if (this.seesAsyncFunction()) this.fail(token);', '']]],
-  ['async function as a statement', 'if (this.seesAsyncFunction()) this.fail(token);', "if (this.seesAsyncFunction()) return this.parseFunction('FunctionDeclaration');"],
-  ['async arrow as an operand', "          case 'async':\n", "          case 'async':\n            if (this.modern && !this.secondToken().afterBreak && this.isIdentifier(this.secondToken()) && this.is(this.tokenBehind(this.secondToken()), '=>')) { const at = this.take().start; return this.parseArrow(at, [this.parseIdentifier()], true, true); }\n"],
+  [
+    'fields values end at operators',
+    "      if (!Object.hasOwn(RANK, token.text)) return left;",
+    "      if (!Object.hasOwn(RANK, token.text) || (token.afterBreak && ['*', 'in', 'instanceof'].includes(token.text))) return left;",
+  ],
+  [
+    'fields values end at brackets',
+    "      const token = this.peekDiv();\n      if (this.is(token, '.')) {",
+    "      const token = this.peekDiv();\n      if (token.afterBreak && this.is(token, '[')) return node;\n      if (this.is(token, '.')) {",
+  ],
+  [
+    'a sequence as the value of a field',
+    "const value = this.accept('=') ? this.inside(() => this.parseAssignment(true)) : null;\n      this.fieldEnd",
+    "const value = this.accept('=') ? this.inside(() => this.parseExpression(true)) : null;\n      this.fieldEnd",
+  ],
+  [
+    'async function as an expression statement',
+    [
+      ["    if (this.seesAsyncFunction()) return this.parseFunction('FunctionDeclaration');\n    if (this.is", '    if (this.is'],
+      ['if (this.seesAsyncFunction()) this.fail(token);', ''],
+    ],
+  ],
+  [
+    'async function as a statement',
+    'if (this.seesAsyncFunction()) this.fail(token);',
+    "if (this.seesAsyncFunction()) return this.parseFunction('FunctionDeclaration');",
+  ],
+  [
+    'async arrow as an operand',
+    "          case 'async':\n",
+    "          case 'async':\n            if (this.modern && !this.secondToken().afterBreak && this.isIdentifier(this.secondToken()) && this.is(this.tokenBehind(this.secondToken()), '=>')) { const at = this.take().start; return this.parseArrow(at, [this.parseIdentifier()], true, true); }\n",
+  ],
   ['rest of async anywhere', 'if (i !== list.length - 1 || commaAfterRest) this.fail(next);', ''],
   ['initialised shorthand of async', "if (left !== undefined) throw new Refusal('Syntax');", ''],
   ['for await of in', "if (isAwait && !(left !== null && this.sees('of'))) this.fail(this.peekDiv());", ''],
   ['return in a static block', 'this.inFunction = false;', 'this.inFunction = true;'],
-  ['directives of a static block', "const body = this.parseList(false, () => this.sees('}', GOAL.RegExp));\n    this.expect('}', GOAL.RegExp);\n    this.inFunction = outer;", "const body = this.parseList(true, () => this.sees('}', GOAL.RegExp));\n    this.expect('}', GOAL.RegExp);\n    this.inFunction = outer;"],
+  [
+    'directives of a static block',
+    "const body = this.parseList(false, () => this.sees('}', GOAL.RegExp));\n    this.expect('}', GOAL.RegExp);\n    this.inFunction = outer;",
+    "const body = this.parseList(true, () => this.sees('}', GOAL.RegExp));\n    this.expect('}', GOAL.RegExp);\n    this.inFunction = outer;",
+  ],
   ['from behind a break', "if (this.isWord(this.peekDiv(), 'from')) {", "if (this.isWord(this.peekDiv(), 'from') && !this.peekDiv().afterBreak) {"],
-  ['export default function as an expression', "if (this.isWord(token, 'function') || this.seesAsyncFunction()) return this.parseFunction('FunctionDeclaration', true);", ''],
+  [
+    'export default function as an expression',
+    "if (this.isWord(token, 'function') || this.seesAsyncFunction()) return this.parseFunction('FunctionDeclaration', true);",
+    '',
+  ],
   ['export default class as an expression', "if (this.isWord(token, 'class')) return this.parseClass('ClassDeclaration', true);", ''],
-  ['export default sequence', "const expression = this.inside(() => this.parseAssignment(true));\n    this.semicolon(this.rightEdge(expression));\n    return expression;", "const expression = this.inside(() => this.parseExpression(true));\n    this.semicolon(this.rightEdge(expression));\n    return expression;"],
+  [
+    'export default sequence',
+    "const expression = this.inside(() => this.parseAssignment(true));\n    this.semicolon(this.rightEdge(expression));\n    return expression;",
+    "const expression = this.inside(() => this.parseExpression(true));\n    this.semicolon(this.rightEdge(expression));\n    return expression;",
+  ],
   ['import of a reserved word', 'if (!this.isIdentifier(token)) this.fail(this.peekDiv());\n      local', 'local'],
-  ['imports in a block', "  parseListItem() {\n", "  parseListItem() {\n    if (this.modern && this.isWord(this.peek(), 'import') && !this.is(this.secondToken(), '(') && !this.is(this.secondToken(), '.')) return this.parseImportDeclaration();\n    if (this.modern && this.isWord(this.peek(), 'export')) return this.parseExport();\n"],
+  [
+    'imports in a block',
+    "  parseListItem() {\n",
+    "  parseListItem() {\n    if (this.modern && this.isWord(this.peek(), 'import') && !this.is(this.secondToken(), '(') && !this.is(this.secondToken(), '.')) return this.parseImportDeclaration();\n    if (this.modern && this.isWord(this.peek(), 'export')) return this.parseExport();\n",
+  ],
   ['names of export default functions', "return this.parseFunction('FunctionDeclaration', true);", "return this.parseFunction('FunctionDeclaration');"],
   ['bare yield goes on', "          if (n.argument === null) return 'arrow';", "          if (n.argument === null) return 'expression';"],
 ];
@@ -81,16 +157,28 @@ function relaxed() {
   const out = [];
   for (const [name, one, other] of NEW_CHECKS) {
     const changes = Array.isArray(one) ? one : [[one, other]];
-    if (!changes.every(([from]) => source.includes(from))) { console.log('no such check: ' + name); continue; }
+    if (!changes.every(([from]) => source.includes(from))) {
+      console.log('no such check: ' + name);
+      continue;
+    }
     const m = new Module(file, null);
-    m.filename = file; m.paths = Module._nodeModulePaths(path.dirname(file));
-    m._compile(changes.reduce((text, [from, to]) => text.split(from).join(to), source).replace("require('./bigstack.js')", '{ runInBigStack: () => { throw new RangeError(); } }'), file);
+    m.filename = file;
+    m.paths = Module._nodeModulePaths(path.dirname(file));
+    m._compile(
+      changes
+        .reduce((text, [from, to]) => text.split(from).join(to), source)
+        .replace("require('./bigstack.js')", '{ runInBigStack: () => { throw new RangeError(); } }'),
+      file
+    );
     out.push({ name, parseOnly: m.exports.parseOnly, seen: 0, taken: 0 });
   }
   return out;
 }
 
-const option = (name, otherwise) => { const i = process.argv.indexOf('--' + name); return i < 0 ? otherwise : process.argv[i + 1]; };
+const option = (name, otherwise) => {
+  const i = process.argv.indexOf('--' + name);
+  return i < 0 ? otherwise : process.argv[i + 1];
+};
 const LIMITS = { maxHeight: 1e5, maxParens: 1e5 };
 const optionsOf = (language) => ({ ...LIMITS, ...(language === 'base' ? {} : { edition: 2022, module: language === 'module' }) });
 
@@ -99,25 +187,51 @@ const TREES = Number(option('trees', 0));
 const has = (name) => process.argv.includes('--' + name);
 const how = { bare: has('bare'), early: has('early'), tokens: has('tokens'), first: false };
 let model, derive;
-const use = (crates) => { model = new Model(crates); derive = new Derive(model); };
-const KINDS = fs.readFileSync(path.join(__dirname, '../../crates/tree/src/kind.rt'), 'utf8').match(/pub enum Kind \{[^]*?\n\}/)[0].match(/^    \w+(?=,$)/gm).map((k) => k.trim());
-const parsers = relaxed().concat(require('./relaxed.js').relaxed().map((p) => ({ ...p, seen: 0, taken: 0 })));
+const use = (crates) => {
+  model = new Model(crates);
+  derive = new Derive(model);
+};
+const KINDS = fs
+  .readFileSync(path.join(__dirname, '../../crates/tree/src/kind.rt'), 'utf8')
+  .match(/pub enum Kind \{[^]*?\n\}/)[0]
+  .match(/^    \w+(?=,$)/gm)
+  .map((k) => k.trim());
+const parsers = relaxed().concat(
+  require('./relaxed.js')
+    .relaxed()
+    .map((p) => ({ ...p, seen: 0, taken: 0 }))
+);
 const counts = {};
-const count = (k) => { counts[k] = (counts[k] ?? 0) + 1; };
+const count = (k) => {
+  counts[k] = (counts[k] ?? 0) + 1;
+};
 let said = 0;
 let lastError = 'none';
 class Disagreement extends Error {}
-const say = (what, language, text, more = '') => { const line = [what, language, JSON.stringify(text), String(more).slice(0, 600)].join(' | '); if (how.first) throw new Disagreement(line); said += 1; count('DISAGREEMENT: ' + what); console.log(line); };
+const say = (what, language, text, more = '') => {
+  const line = [what, language, JSON.stringify(text), String(more).slice(0, 600)].join(' | ');
+  if (how.first) throw new Disagreement(line);
+  said += 1;
+  count('DISAGREEMENT: ' + what);
+  console.log(line);
+};
 function tryDerive(text, plain, language, places = true, bounds = null) {
   plain = { ...plain, text: TEXT[language], spec: undefined };
   try {
     return derive.derive(text, plain, { places, language, bounds, budget: 4e5 });
-  } catch (error) { if (error instanceof TooMuch) { count('given up'); return null; } throw error; }
+  } catch (error) {
+    if (error instanceof TooMuch) {
+      count('given up');
+      return null;
+    }
+    throw error;
+  }
 }
 function check(text, language) {
   count('texts');
   const r = parseOnly(text, optionsOf(language));
-  let own = null, plain = null;
+  let own = null,
+    plain = null;
   if (r.ok) {
     count('texts taken');
     plain = plainTree(r.tree);
@@ -139,7 +253,10 @@ function check(text, language) {
 
   function checkDerivations(r, spec) {
     const want = r.pairs.map((p) => `${p.left}-${p.right}`).join(' ');
-    (function lean(n) { if (!model.is_lean(n.spec)) say('not lean', language, text, n.kind); n.parts.forEach((p) => p !== null && lean(p)); })({ ...plain, spec });
+    (function lean(n) {
+      if (!model.is_lean(n.spec)) say('not lean', language, text, n.kind);
+      n.parts.forEach((p) => p !== null && lean(p));
+    })({ ...plain, spec });
     for (const places of [true, false]) {
       const bounds = places ? [] : null;
       const d = tryDerive(text, plain, language, places, bounds);
@@ -159,8 +276,10 @@ function check(text, language) {
     if (!again.ok || bareText(plainTree(again.tree)) !== own) say('the fixed text has another tree', language, text, JSON.stringify(fixed));
     else {
       const least = String(model.least(spec, model.script).a[0]);
-      if (String(again.pairs.length) !== least || again.pairs.length > r.pairs.length) say('pairs of the fixed text', language, text, JSON.stringify(fixed) + ' ' + least);
-      if (antt.text(model.fixed_text(model.tree({ ...plainTree(again.tree), text: TEXT[language] }))) !== fixed) say('the fixed text changes', language, text, JSON.stringify(fixed));
+      if (String(again.pairs.length) !== least || again.pairs.length > r.pairs.length)
+        say('pairs of the fixed text', language, text, JSON.stringify(fixed) + ' ' + least);
+      if (antt.text(model.fixed_text(model.tree({ ...plainTree(again.tree), text: TEXT[language] }))) !== fixed)
+        say('the fixed text changes', language, text, JSON.stringify(fixed));
       const d = tryDerive(fixed, plain, language, false);
       if (d !== null && (d.length !== 1 || String(d[0].pairs.length) !== least)) say('the fixed text derives otherwise', language, text, JSON.stringify(fixed));
     }
@@ -170,13 +289,16 @@ function check(text, language) {
 // name but an operator, or an `of` behind which no `=>` stands (`Apart` in Promises, which is a type, and so written here by hand).
 function checkBounds(bounds, text, language) {
   for (const { role, node, cursor, goesOn } of bounds) {
-    const last = cursor.b.v, t = cursor.t.v;
+    const last = cursor.b.v,
+      t = cursor.t.v;
     if (t.class === model.classes.regexp || (t.class === model.classes.template && t.text.h === 125)) continue;
     count('bounds of expressions');
     const [rank, hasIn] = role.a;
-    if (model.stops(rank, hasIn, model.edge(node), last, t) === goesOn) say(goesOn ? 'an expression goes on that stops' : 'an expression stops that goes on', language, text, `${node.a[0].$.name} before ${antt.text(t.text)}`);
+    if (model.stops(rank, hasIn, model.edge(node), last, t) === goesOn)
+      say(goesOn ? 'an expression goes on that stops' : 'an expression stops that goes on', language, text, `${node.a[0].$.name} before ${antt.text(t.text)}`);
     if (goesOn || t.class !== model.classes.name || t.after_break || model.operation(t).$.name !== 'op_none') continue;
-    if (antt.text(t.text) !== 'of' || derive.reading.over(cursor).some((c) => c.t !== null && model.is_mark(antt.codes('=>'), c.t.v))) say('a name behind an expression', language, text, antt.text(t.text));
+    if (antt.text(t.text) !== 'of' || derive.reading.over(cursor).some((c) => c.t !== null && model.is_mark(antt.codes('=>'), c.t.v)))
+      say('a name behind an expression', language, text, antt.text(t.text));
   }
 }
 // the trees of parsers with a check left out, one of each kind; kept, since plant_languages.js asks again and again
@@ -189,9 +311,12 @@ function wrongTrees(text, language) {
       try {
         const q = p.parseOnly(text, optionsOf(language));
         if (!q.ok) continue;
-        const tree = plainTree(q.tree), b = bareText(tree);
+        const tree = plainTree(q.tree),
+          b = bareText(tree);
         if (!found.has(b)) found.set(b, { p, tree, b });
-      } catch { continue; }
+      } catch {
+        continue;
+      }
     }
     wrong.set(key, [...found.values()]);
   }
@@ -217,18 +342,40 @@ function others(text, language, plain, own) {
       const all = nodesOf(t);
       const n = all[random.below(all.length)];
       switch (random.below(6)) {
-        case 0: case 1: { const f = FLAGS[random.below(FLAGS.length)]; n.flags[f] = !n.flags[f]; break; }
-        case 2: n.flags.form = random.pick(Object.keys(FORM)); break;
-        case 3: n.kind = KINDS[random.below(KINDS.length)]; break;
-        case 4: { const other = all[random.below(all.length)]; n.text = other.text; break; }
-        default: { const i = random.below(n.parts.length + 1); if (random.below(2) === 0) n.parts.splice(i, 1); else n.parts.splice(i, 0, random.below(2) === 0 ? null : copyTree(all[random.below(all.length)])); }
+        case 0:
+        case 1: {
+          const f = FLAGS[random.below(FLAGS.length)];
+          n.flags[f] = !n.flags[f];
+          break;
+        }
+        case 2:
+          n.flags.form = random.pick(Object.keys(FORM));
+          break;
+        case 3:
+          n.kind = KINDS[random.below(KINDS.length)];
+          break;
+        case 4: {
+          const other = all[random.below(all.length)];
+          n.text = other.text;
+          break;
+        }
+        default: {
+          const i = random.below(n.parts.length + 1);
+          if (random.below(2) === 0) n.parts.splice(i, 1);
+          else n.parts.splice(i, 0, random.below(2) === 0 ? null : copyTree(all[random.below(all.length)]));
+        }
       }
       if (n === t && n.kind !== 'Program') continue;
       const b = bareText({ ...t, text: '' });
       if (b === own) continue;
       count('other trees of the same text');
       let d = null;
-      try { d = tryDerive(text, t, language, false); } catch (error) { if (!/unknown|not covered|no clause|match/i.test(error.message)) throw error; count('other trees that the definitions have no clause for'); }
+      try {
+        d = tryDerive(text, t, language, false);
+      } catch (error) {
+        if (!/unknown|not covered|no clause|match/i.test(error.message)) throw error;
+        count('other trees that the definitions have no clause for');
+      }
       if (d !== null && d.length > 0) say('another tree is derived', language, text, b + ' / ' + own);
     }
   }
@@ -245,26 +392,108 @@ function others(text, language, plain, own) {
 }
 
 // Trees that no text spells though each of their nodes is spelled somewhere: [text, a text whose tree is nearly it, what is changed]
-const kindOf = (kind) => (n) => { n.kind = kind; n.flags.form = 'init'; };
+const kindOf = (kind) => (n) => {
+  n.kind = kind;
+  n.flags.form = 'init';
+};
 const nodeOf = (t, kind, i = 0) => nodesOf(t).filter((n) => n.kind === kind)[i];
 const WRONG = [
   ["import {a, * as b} from 'c'", "import {a, b} from 'c'", (t) => kindOf('ImportNamespaceSpecifier')(nodeOf(t, 'ImportSpecifier', 1))],
   ["import {a, b} from 'c'", "import {a, b} from 'c'", (t) => kindOf('ImportDefaultSpecifier')(nodeOf(t, 'ImportSpecifier', 1))],
   ["import {a, b} from 'c'", "import {a, b} from 'c'", (t) => kindOf('ImportDefaultSpecifier')(nodeOf(t, 'ImportSpecifier', 0))],
   ["import a, {b} from 'c'", "import a, {b} from 'c'", (t) => kindOf('ImportDefaultSpecifier')(nodeOf(t, 'ImportSpecifier', 0))],
-  ["export {a, b} from 'c'", "export {a, b} from 'c'", (t) => { nodeOf(t, 'ExportSpecifier', 1).kind = 'ImportSpecifier'; }],
-  ["export {a, b}", "export {a, b}", (t) => { nodeOf(t, 'ExportSpecifier', 1).kind = 'ImportSpecifier'; }],
-  ["export if (a);", "export var a;", (t, of) => { nodeOf(t, 'ExportNamedDeclaration').parts[0] = of('if (a);').parts[0]; }],
-  ["export default var a;", "export default a;", (t, of) => { nodeOf(t, 'ExportDefaultDeclaration').parts[0] = of('var a;').parts[0]; }],
-  ["export default a;", "export default a;", (t, of) => { nodeOf(t, 'ExportDefaultDeclaration').parts[0] = of('a;').parts[0]; }],
-  ["export function () {}", "export function a() {}", (t) => { nodeOf(t, 'FunctionDeclaration').parts[0] = null; }],
-  ["class A { super() {} }", "class A { super() {} }", (t) => { nodeOf(t, 'MethodDefinition').parts[0].kind = 'Super'; }],
-  ["a.#b", "a.b", (t) => { kindOf('PrivateIdentifier')(nodeOf(t, 'MemberExpression').parts[1]); nodeOf(t, 'MemberExpression').flags.computed = true; }],
-  ["class A { [#b] = 1 }", "class A { [b] = 1 }", (t) => { nodeOf(t, 'PropertyDefinition').parts[0].kind = 'PrivateIdentifier'; }],
-  ["({#b: 1})", "({b: 1})", (t) => { nodeOf(t, 'Property').parts[0].kind = 'PrivateIdentifier'; }],
-  ["class A { get *a() {} }", "class A { get a() {} }", (t) => { nodeOf(t, 'FunctionExpression').flags.form = 'generator'; }],
-  ["class A { get a() {} }", "class A { get a() {} }", (t) => { nodeOf(t, 'FunctionExpression').flags.form = 'generator'; }],
-  ["class A { *constructor() {} }", "class A { constructor() {} }", (t) => { nodeOf(t, 'FunctionExpression').flags.form = 'generator'; }],
+  [
+    "export {a, b} from 'c'",
+    "export {a, b} from 'c'",
+    (t) => {
+      nodeOf(t, 'ExportSpecifier', 1).kind = 'ImportSpecifier';
+    },
+  ],
+  [
+    "export {a, b}",
+    "export {a, b}",
+    (t) => {
+      nodeOf(t, 'ExportSpecifier', 1).kind = 'ImportSpecifier';
+    },
+  ],
+  [
+    "export if (a);",
+    "export var a;",
+    (t, of) => {
+      nodeOf(t, 'ExportNamedDeclaration').parts[0] = of('if (a);').parts[0];
+    },
+  ],
+  [
+    "export default var a;",
+    "export default a;",
+    (t, of) => {
+      nodeOf(t, 'ExportDefaultDeclaration').parts[0] = of('var a;').parts[0];
+    },
+  ],
+  [
+    "export default a;",
+    "export default a;",
+    (t, of) => {
+      nodeOf(t, 'ExportDefaultDeclaration').parts[0] = of('a;').parts[0];
+    },
+  ],
+  [
+    "export function () {}",
+    "export function a() {}",
+    (t) => {
+      nodeOf(t, 'FunctionDeclaration').parts[0] = null;
+    },
+  ],
+  [
+    "class A { super() {} }",
+    "class A { super() {} }",
+    (t) => {
+      nodeOf(t, 'MethodDefinition').parts[0].kind = 'Super';
+    },
+  ],
+  [
+    "a.#b",
+    "a.b",
+    (t) => {
+      kindOf('PrivateIdentifier')(nodeOf(t, 'MemberExpression').parts[1]);
+      nodeOf(t, 'MemberExpression').flags.computed = true;
+    },
+  ],
+  [
+    "class A { [#b] = 1 }",
+    "class A { [b] = 1 }",
+    (t) => {
+      nodeOf(t, 'PropertyDefinition').parts[0].kind = 'PrivateIdentifier';
+    },
+  ],
+  [
+    "({#b: 1})",
+    "({b: 1})",
+    (t) => {
+      nodeOf(t, 'Property').parts[0].kind = 'PrivateIdentifier';
+    },
+  ],
+  [
+    "class A { get *a() {} }",
+    "class A { get a() {} }",
+    (t) => {
+      nodeOf(t, 'FunctionExpression').flags.form = 'generator';
+    },
+  ],
+  [
+    "class A { get a() {} }",
+    "class A { get a() {} }",
+    (t) => {
+      nodeOf(t, 'FunctionExpression').flags.form = 'generator';
+    },
+  ],
+  [
+    "class A { *constructor() {} }",
+    "class A { constructor() {} }",
+    (t) => {
+      nodeOf(t, 'FunctionExpression').flags.form = 'generator';
+    },
+  ],
 ];
 function tryWrong() {
   const of = (text) => plainTree(parseOnly(text, optionsOf('module')).tree);
@@ -273,7 +502,10 @@ function tryWrong() {
     const tree = copyTree(of(near));
     change(tree, of);
     const d = tryDerive(text, tree, 'module', false);
-    if (d !== null && d.length > 0) { derived += 1; say('a wrong tree is derived', 'module', text, bareText(tree)); }
+    if (d !== null && d.length > 0) {
+      derived += 1;
+      say('a wrong tree is derived', 'module', text, bareText(tree));
+    }
   }
   return derived;
 }
@@ -295,7 +527,10 @@ function firstOf(crates, rows, looks) {
     for (const row of rows) checkRow(row);
     if (!how.early) tryWrong();
     return null;
-  } catch (error) { if (error instanceof Disagreement) return error.message; throw error; }
+  } catch (error) {
+    if (error instanceof Disagreement) return error.message;
+    throw error;
+  }
 }
 function main() {
   use(CRATES);
@@ -303,29 +538,74 @@ function main() {
   const [part, of] = option('jobs', '0/1').split('/').map(Number);
   const taken = [];
   const sections = option('sections', null)?.split(/,(?! )/);
-  let agree = 0; let differ = 0;
+  let agree = 0;
+  let differ = 0;
   rows.forEach((row, i) => {
     if (i % of !== part || (sections !== undefined && sections !== null && !sections.includes(row.section))) return;
     const before = said;
     const plain = checkRow(row);
-    if (said === before) agree += 1; else differ += 1;
+    if (said === before) agree += 1;
+    else differ += 1;
     if (plain !== null && row.text.length < 120) taken.push({ ...row, plain, own: bareText(plain) });
   });
-  if (part === 0 && !how.early) { const derived = tryWrong(); console.log(`wrong trees made by hand: ${WRONG.length}, ${derived} derived`); }
+  if (part === 0 && !how.early) {
+    const derived = tryWrong();
+    console.log(`wrong trees made by hand: ${WRONG.length}, ${derived} derived`);
+  }
   console.log(`rows: ${agree} agree, ${differ} don't`);
   const source = randomSource(Number(option('seed', 1)));
   const pool = rows.flatMap((r) => pieces(r.text)).filter((p) => p.trim() !== '');
-  const EXTRA = ['\n', '\n', '\n', '(', ')', '(a)', '{', '}', '[', ']', ',', ';', '=', '*', 'async ', 'await ', 'yield ', 'static ', 'get ', '#a', 'in ', 'of ', 'from ', 'as ', 'function ', 'class ', 'default ', '=> ', 'a '];
+  const EXTRA = [
+    '\n',
+    '\n',
+    '\n',
+    '(',
+    ')',
+    '(a)',
+    '{',
+    '}',
+    '[',
+    ']',
+    ',',
+    ';',
+    '=',
+    '*',
+    'async ',
+    'await ',
+    'yield ',
+    'static ',
+    'get ',
+    '#a',
+    'in ',
+    'of ',
+    'from ',
+    'as ',
+    'function ',
+    'class ',
+    'default ',
+    '=> ',
+    'a ',
+  ];
   for (let k = Number(option('mutants', 0)); k > 0; k--) {
     const row = source.pick(taken);
     const list = pieces(row.text);
     for (let m = source.below(2); m >= 0; m--) {
       const i = source.below(list.length + 1);
       switch (source.below(4)) {
-        case 0: list.splice(i, 1); break;
-        case 1: list.splice(i, 0, source.pick(EXTRA)); break;
-        case 2: list[Math.min(i, list.length - 1)] = source.pick(pool); break;
-        default: { const j = Math.min(list.length, i + 1 + source.below(6)); list.splice(j, 0, ')'); list.splice(i, 0, '('); }
+        case 0:
+          list.splice(i, 1);
+          break;
+        case 1:
+          list.splice(i, 0, source.pick(EXTRA));
+          break;
+        case 2:
+          list[Math.min(i, list.length - 1)] = source.pick(pool);
+          break;
+        default: {
+          const j = Math.min(list.length, i + 1 + source.below(6));
+          list.splice(j, 0, ')');
+          list.splice(i, 0, '(');
+        }
       }
     }
     const text = list.join('');
@@ -333,12 +613,21 @@ function main() {
     const plain = check(text, row.language);
     const same = plain !== null && bareText(plain) === row.own;
     const d = tryDerive(text, row.plain, row.language, false);
-    if (d !== null) { count('old trees and mutants'); if ((d.length > 0) !== same) say(same ? 'old tree not derived' : 'old tree derived', row.language, text, row.own); }
+    if (d !== null) {
+      count('old trees and mutants');
+      if ((d.length > 0) !== same) say(same ? 'old tree not derived' : 'old tree derived', row.language, text, row.own);
+    }
   }
   process.exitCode = said === 0 && agree > 0 ? 0 : 1;
   if (has('brief')) return;
   console.log(counts);
-  console.log('checks that saw no tree:', parsers.filter((p) => p.seen === 0).map((p) => p.name).join('; '));
+  console.log(
+    'checks that saw no tree:',
+    parsers
+      .filter((p) => p.seen === 0)
+      .map((p) => p.name)
+      .join('; ')
+  );
 }
 module.exports = { firstOf, wrongTrees, optionsOf };
 if (require.main === module) main();

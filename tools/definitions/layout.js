@@ -19,10 +19,20 @@ function compareLayout(m, program, root, pl, random) {
   if (fixed.length <= 400) differ('items that stand apart', m.stand_apart(items), true);
   differ('a tree that fits', m.fits((r) => planned.has(r), root, m.script, 1), true);
   if (random !== undefined && pl.rows.length <= 300) {
-    const wrapped = new Set(pl.wrapped); const numbers = new Set(pl.wrappedRows);
-    pl.rows.forEach((r, i) => { if (random.chance(15)) { wrapped.add(r.node); numbers.add(i + 1); } });
+    const wrapped = new Set(pl.wrapped);
+    const numbers = new Set(pl.wrappedRows);
+    pl.rows.forEach((r, i) => {
+      if (random.chance(15)) {
+        wrapped.add(r.node);
+        numbers.add(i + 1);
+      }
+    });
     let got;
-    try { got = antt.text(m.layout((r) => numbers.has(r), root, m.script, 1, 0)); } catch (error) { got = String(error.message); }
+    try {
+      got = antt.text(m.layout((r) => numbers.has(r), root, m.script, 1, 0));
+    } catch (error) {
+      got = String(error.message);
+    }
     differ('layout of more pairs', got, layout(program, wrapped));
   }
   return out;

@@ -42,16 +42,21 @@ const GROUPS = {
 
 class WordError extends Error {}
 
-const NUMBERS = ['--turns', '--turn'], TEXTS = ['--only', '--list'];
+const NUMBERS = ['--turns', '--turn'],
+  TEXTS = ['--only', '--list'];
 function valueOf(word, value) {
-  if (value === undefined || (NUMBERS.includes(word) && !/^\d+$/.test(value))) throw new WordError(`${word} takes a ${NUMBERS.includes(word) ? 'number' : 'text'}`);
+  if (value === undefined || (NUMBERS.includes(word) && !/^\d+$/.test(value)))
+    throw new WordError(`${word} takes a ${NUMBERS.includes(word) ? 'number' : 'text'}`);
   return NUMBERS.includes(word) ? Number(value) : value;
 }
 function wordsOf(argv) {
   const words = { groups: [], brief: false, list: path.join(__dirname, 'means_the_same.txt'), only: '', turns: 1 };
   for (let i = 0; i < argv.length; i++) {
     if (argv[i] === '--brief') words.brief = true;
-    else if ([...NUMBERS, ...TEXTS].includes(argv[i])) { words[argv[i].slice(2)] = valueOf(argv[i], argv[i + 1]); i += 1; } else if (Object.hasOwn(GROUPS, argv[i])) words.groups.push(argv[i]);
+    else if ([...NUMBERS, ...TEXTS].includes(argv[i])) {
+      words[argv[i].slice(2)] = valueOf(argv[i], argv[i + 1]);
+      i += 1;
+    } else if (Object.hasOwn(GROUPS, argv[i])) words.groups.push(argv[i]);
     else throw new WordError(`unknown: ${argv[i]}; groups are ${Object.keys(GROUPS).join(' ')}`);
   }
   if (words.turns === 0 || words.turn >= words.turns) throw new WordError('--turn K is below --turns N, which is at least 1');
@@ -75,7 +80,9 @@ function tried(spec, rows, mutant) {
   } catch (error) {
     if (!isRefusal(error)) throw error;
     return { status: 'refused', why: error.message };
-  } finally { takeOut(); }
+  } finally {
+    takeOut();
+  }
 }
 
 // ---------------------------------------------------------------- all
@@ -88,19 +95,25 @@ function faultsOfList(list, reasons, mutants) {
   return [...reasons].filter(([key]) => !keys.has(key)).map(([key, { line }]) => `${list}:${line}: no such mutant any more: ${key.replace(/\t/g, ' | ')}`);
 }
 function answerOf(mutant, { status, runs, row, why }, reason) {
-  if (reason === undefined) return status === 'unseen' ? { is: 'UNSEEN', line: `UNSEEN    ${lineOf(mutant)}${runs === 0 ? '   (no row runs it)' : ''}` } : { is: status };
+  if (reason === undefined)
+    return status === 'unseen' ? { is: 'UNSEEN', line: `UNSEEN    ${lineOf(mutant)}${runs === 0 ? '   (no row runs it)' : ''}` } : { is: status };
   if (status === 'unseen') return { is: 'the same', line: `the same  ${lineOf(mutant)}   ${reason.reason}` };
-  return { is: 'WRONG', line: `WRONG     the list has it, but ${row === undefined ? `it is refused (${why.slice(0, 80)})` : `a row sees it, ${row.language} ${JSON.stringify(row.text)}`}: ${lineOf(mutant)}` };
+  return {
+    is: 'WRONG',
+    line: `WRONG     the list has it, but ${row === undefined ? `it is refused (${why.slice(0, 80)})` : `a row sees it, ${row.language} ${JSON.stringify(row.text)}`}: ${lineOf(mutant)}`,
+  };
 }
 
 function run(words) {
-  const reasons = readList(words.list), spec = new Changeable(FOLDERS);
+  const reasons = readList(words.list),
+    spec = new Changeable(FOLDERS);
   const all = mutantsOf(spec, Object.values(GROUPS).flat());
   const faults = faultsOfList(words.list, reasons, all);
   const files = words.groups.flatMap((it) => GROUPS[it]);
   const mine = all.filter(({ file, key }) => files.includes(file) && key.includes(words.only)).filter((_, i) => i % words.turns === words.turn);
   const rows = new Rows(spec);
-  for (const { row, said } of rows.otherwise) faults.push(`the definitions say otherwise than a row: ${row.language} ${JSON.stringify(row.text)}: ${said}, the row ${row.want}`);
+  for (const { row, said } of rows.otherwise)
+    faults.push(`the definitions say otherwise than a row: ${row.language} ${JSON.stringify(row.text)}: ${said}, the row ${row.want}`);
   const counts = { seen: 0, refused: 0, 'the same': 0, UNSEEN: 0, WRONG: 0 };
   for (const mutant of mine) {
     const { is, line } = answerOf(mutant, tried(spec, rows.running(mutant.clauses), mutant), reasons.get(mutant.key));
@@ -108,7 +121,9 @@ function run(words) {
     if (line !== undefined && !(words.brief && is === 'the same')) console.log(line);
   }
   for (const fault of faults) console.log(fault);
-  console.log(`${mine.length} mutants of ${all.length}, ${rows.rows.length} rows: ${counts.seen} seen by a row, ${counts.refused} refused, ${counts['the same']} the same, ${counts.UNSEEN} UNSEEN; ${counts.WRONG + faults.length} faults of the list or the rows`);
+  console.log(
+    `${mine.length} mutants of ${all.length}, ${rows.rows.length} rows: ${counts.seen} seen by a row, ${counts.refused} refused, ${counts['the same']} the same, ${counts.UNSEEN} UNSEEN; ${counts.WRONG + faults.length} faults of the list or the rows`
+  );
   return mine.length > 0 && counts.UNSEEN + counts.WRONG + faults.length === 0 ? 0 : 1;
 }
 function main() {

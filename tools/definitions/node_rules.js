@@ -20,7 +20,10 @@ class NodeRules {
     const { spec } = model;
     const called = spec.fn('called', 'Rows', 'node_rules');
     const source = fs.readFileSync(path.join(crates, 'node_rules/src/node_rule.rt'), 'utf8');
-    const variants = /pub enum NodeRule \{([^}]*)\}/.exec(source)[1].match(/\w+/g).map((name) => spec.variant('NodeRule', name));
+    const variants = /pub enum NodeRule \{([^}]*)\}/
+      .exec(source)[1]
+      .match(/\w+/g)
+      .map((name) => spec.variant('NodeRule', name));
     this.found = spec.fn('found_by_rule', 'Found', 'node_rules');
     this.rules = new Map(variants.map((rule) => [antt.text(called(rule)), rule]));
   }
@@ -30,7 +33,10 @@ class NodeRules {
     if (!read.ok) return 'no script';
     if (!this.rules.has(row.name)) return 'no such rule';
     const found = this.found(OPTIONS, antt.bytes(row.text), this.rules.get(row.name), this.model.tree(plainTree(read.tree, row.language)));
-    return antt.toArray(found).map((it) => `${it.start} ${antt.text(it.text)}; `).join('');
+    return antt
+      .toArray(found)
+      .map((it) => `${it.start} ${antt.text(it.text)}; `)
+      .join('');
   }
 }
 

@@ -5,6 +5,7 @@
 // I/K: the faults I, I + K .. alone; --turns: those of one K-th, which is told by the definitions, so that each has its turn as they change. With nothing
 // planted as many of the rows, but for --only. --brief names only what is otherwise than it should be. Exit status 1 where a fault isn't seen, where its
 // text isn't found just once, or where anything disagrees with nothing planted.
+// Its rows are laid out by hand.
 
 const fs = require('node:fs');
 const path = require('node:path');

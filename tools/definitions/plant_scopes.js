@@ -13,11 +13,18 @@ const { REPORTING, Reports } = require('./reports.js');
 const { copyOf, chosen, partOf } = require('./planting.js');
 
 const argv = process.argv.slice(2);
-const value = (name, d) => { const i = argv.indexOf(name); return i < 0 ? d : argv[i + 1]; };
+const value = (name, d) => {
+  const i = argv.indexOf(name);
+  return i < 0 ? d : argv[i + 1];
+};
 const n = Number(value('--n', '600'));
 
-const ROLES = 'scopes/specs/Roles.antt', OPENINGS = 'scopes/specs/Openings.antt', BINDINGS = 'scopes/specs/Bindings.antt', BUILT_IN = 'reference_rules/specs/BuiltIn.antt';
-const NODE_ROWS = 'node_rules/specs/Rows.antt', TESTS = 'node_rules/specs/Tests.antt';
+const ROLES = 'scopes/specs/Roles.antt',
+  OPENINGS = 'scopes/specs/Openings.antt',
+  BINDINGS = 'scopes/specs/Bindings.antt',
+  BUILT_IN = 'reference_rules/specs/BuiltIn.antt';
+const NODE_ROWS = 'node_rules/specs/Rows.antt',
+  TESTS = 'node_rules/specs/Tests.antt';
 
 // what, file, old, new
 const FAULTS = [
@@ -31,7 +38,12 @@ const FAULTS = [
   ['++ reads alone', ROLES, 'part_roles u UpdateExpression text flags b = All ReadWrite', 'part_roles u UpdateExpression text flags b = All Read'],
   ['a for-in target reads', ROLES, 'part_roles u ForInStatement text flags b = First Write Read', 'part_roles u ForInStatement text flags b = All Read'],
   ['a default is a target', ROLES, 'part_roles u AssignmentPattern text flags b = First u Read', 'part_roles u AssignmentPattern text flags b = Same'],
-  ['a shorthand reads in a pattern', ROLES, 'part_roles u Property text flags b = First (key_role flags) u', 'part_roles u Property text flags b = First (key_role flags) Read'],
+  [
+    'a shorthand reads in a pattern',
+    ROLES,
+    'part_roles u Property text flags b = First (key_role flags) u',
+    'part_roles u Property text flags b = First (key_role flags) Read',
+  ],
   ['a body is a scope', OPENINGS, 'cond (is_body u) NoScope Block', 'Block'],
   ['a switch head is in a scope', OPENINGS, 'opens_all u _ = NoScope', 'opens_all u SwitchStatement = Switch\nopens_all u _ = NoScope'],
   ['an expression has no name inside', OPENINGS, 'opens_all u FunctionExpression = FirstPart FunctionName', 'opens_all u FunctionExpression = NoScope'],
@@ -43,8 +55,18 @@ const FAULTS = [
   ['var in a case stays', BINDINGS, 'holds_statements SwitchCase = true', 'holds_statements SwitchCase = false'],
   ['a plain for settles', BINDINGS, 'settles ForHead parts = false', 'settles ForHead parts = is_initialised (others parts)'],
   ['the last of a name stays', 'scopes/specs/Found.antt', 'cond (has_name b.name bs) (cond b.exported', 'cond false (cond b.exported'],
-  ['the outermost is meant', 'scopes/specs/Found.antt', 'here_or_outer n (Some i) o = Some (n, i)', 'here_or_outer n (Some i) None = Some (n, i)\nhere_or_outer n (Some i) (Some p) = Some p'],
-  ['arrows have arguments', OPENINGS, 'has_arguments FunctionExpression = true', 'has_arguments FunctionExpression = true\nhas_arguments ArrowFunctionExpression = true'],
+  [
+    'the outermost is meant',
+    'scopes/specs/Found.antt',
+    'here_or_outer n (Some i) o = Some (n, i)',
+    'here_or_outer n (Some i) None = Some (n, i)\nhere_or_outer n (Some i) (Some p) = Some p',
+  ],
+  [
+    'arrows have arguments',
+    OPENINGS,
+    'has_arguments FunctionExpression = true',
+    'has_arguments FunctionExpression = true\nhas_arguments ArrowFunctionExpression = true',
+  ],
   ['arguments is a reference', 'scopes/specs/Found.antt', 'is_reference z.role && not (z.in_function && is word "arguments")', 'is_reference z.role'],
   ['eqeqeq ignores allow-null', NODE_ROWS, 'options.allow_null && any_part is_null (parts_of tree)', 'false'],
   ['bodies count as empty', TESTS, 'not (is_function around.parent || (options', 'not (false || (options'],
@@ -56,7 +78,12 @@ const FAULTS = [
   ['self shadows', 'rules/specs/Rules.antt', 'b.shadows && not (is_itself b.kind)', 'b.shadows'],
   ['const without value', 'rules/specs/Rules.antt', 'b.settled && not (written m)', 'not (written m)'],
   ['env is ignored', 'rules/specs/Settings.antt', ' || is_of_environment s.environments name', ''],
-  ['a worker has the names of a window', 'rules/specs/Environments.antt', 'is_shared_name text || is_worker_member text', 'is_browser_name text || is_worker_member text'],
+  [
+    'a worker has the names of a window',
+    'rules/specs/Environments.antt',
+    'is_shared_name text || is_worker_member text',
+    'is_browser_name text || is_worker_member text',
+  ],
   ['Jest is Mocha', 'rules/specs/Environments.antt', 'e.jest && is_jest_name text', 'e.mocha && is_jest_name text'],
   ['a name is left out', 'rules/specs/EnvironmentNames.antt', '"importScripts" ∷ ', ''],
 ];
@@ -66,9 +93,19 @@ const OF_ROWS = [
   ['a key of a field is read', ROLES, 'part_roles u PropertyDefinition text flags b = First (key_role flags) Read\n', ''],
   ['export * as reads', ROLES, 'part_roles u ExportAllDeclaration text flags b = All NoReference\n', ''],
   ['an exported name is read', ROLES, 'part_roles u ExportSpecifier text flags b = First u NoReference', 'part_roles u ExportSpecifier text flags b = All u'],
-  ['an exported local is no reference', ROLES, 'part_roles u ExportSpecifier text flags b = First u NoReference', 'part_roles u ExportSpecifier text flags b = All NoReference'],
+  [
+    'an exported local is no reference',
+    ROLES,
+    'part_roles u ExportSpecifier text flags b = First u NoReference',
+    'part_roles u ExportSpecifier text flags b = All NoReference',
+  ],
   ['a namespace of an import reads', ROLES, 'part_roles u ImportNamespaceSpecifier text flags b = All NoReference\n', ''],
-  ['an export from another module reads', ROLES, 'part_roles u ExportNamedDeclaration text flags b = All (exported_role b)', 'part_roles u ExportNamedDeclaration text flags b = All Read'],
+  [
+    'an export from another module reads',
+    ROLES,
+    'part_roles u ExportNamedDeclaration text flags b = All (exported_role b)',
+    'part_roles u ExportNamedDeclaration text flags b = All Read',
+  ],
   ['a static block makes no scope', OPENINGS, 'opens_all u StaticBlock = Items\n', ''],
   ['export default exports nothing', BINDINGS, 'stands_in (node ExportDefaultDeclaration text flags from to parts) = Export\n', ''],
 ];
@@ -76,7 +113,12 @@ const OF_ROWS = [
 // each name that a script has without declaring it, and each kind that holds statements, left out
 const source = (file) => fs.readFileSync(path.join(__dirname, '../../crates', file), 'utf8');
 const NAMES = [...source(BUILT_IN).matchAll(/"(\w+)" ∷ /g)].map(([written, name]) => [`${name} is not built in`, BUILT_IN, written, '']);
-const HOLDERS = [...source(BINDINGS).matchAll(/holds_statements (\w+) = true\n/g)].map(([written, kind]) => [`${kind} holds no statements`, BINDINGS, written, '']);
+const HOLDERS = [...source(BINDINGS).matchAll(/holds_statements (\w+) = true\n/g)].map(([written, kind]) => [
+  `${kind} holds no statements`,
+  BINDINGS,
+  written,
+  '',
+]);
 const ROWS = [...OF_ROWS, ...NAMES, ...HOLDERS];
 
 const copy = copyOf(path.join(__dirname, '../../crates'), REPORTING);
@@ -91,7 +133,8 @@ function first(withTexts) {
 }
 // what is seen of a fault, and whether that is as it should be
 function one([what, file, old, other], withTexts) {
-  const target = path.join(copy, file), whole = fs.readFileSync(target, 'utf8');
+  const target = path.join(copy, file),
+    whole = fs.readFileSync(target, 'utf8');
   const found = whole.split(old).length - 1;
   if (found !== 1) return [false, `found ${found} times: ${what}`];
   fs.writeFileSync(target, whole.replace(old, () => other));
@@ -100,7 +143,9 @@ function one([what, file, old, other], withTexts) {
     return line === null ? [false, `NOT SEEN  ${what}`] : [true, `seen      ${what}   ${line.replace(/\n/g, ' ').slice(0, 120)}`];
   } catch (error) {
     return [false, `BROKEN    ${what}: ${String(error.message).slice(0, 300)}`];
-  } finally { fs.writeFileSync(target, whole); }
+  } finally {
+    fs.writeFileSync(target, whole);
+  }
 }
 
 const [part, of] = partOf(argv, REPORTING.map((crate) => path.join(copy, crate)));

@@ -13,10 +13,14 @@ function copyOf(folder, crates) {
   for (const file of filesBelow(dir)) fs.chmodSync(file, 0o644);
   return dir;
 }
-const filesBelow = (dir) => fs.readdirSync(dir, { withFileTypes: true }).flatMap((e) => (e.isDirectory() ? filesBelow(path.join(dir, e.name)) : [path.join(dir, e.name)]));
+const filesBelow = (dir) =>
+  fs.readdirSync(dir, { withFileTypes: true }).flatMap((e) => (e.isDirectory() ? filesBelow(path.join(dir, e.name)) : [path.join(dir, e.name)]));
 // [I, K] of `--jobs I/K`, or of `--turns K`: there which K-th has its turn is told by a sum of the definitions in these folders
 function partOf(argv, folders) {
-  const value = (name) => { const i = argv.indexOf(name); return i < 0 ? null : argv[i + 1]; };
+  const value = (name) => {
+    const i = argv.indexOf(name);
+    return i < 0 ? null : argv[i + 1];
+  };
   if (value('--turns') === null) return (value('--jobs') ?? '0/1').split('/').map(Number);
   const sum = crypto.createHash('sha256');
   for (const folder of folders) for (const file of filesBelow(folder).sort()) if (file.endsWith('.antt')) sum.update(fs.readFileSync(file));

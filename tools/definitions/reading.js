@@ -11,7 +11,16 @@ const { GOAL, makeSource, scan, stringValue, templateValue, lineColumn } = requi
 const points = (text) => [...text].map((c) => c.codePointAt(0));
 const units = (text) => Array.from({ length: text.length }, (_, i) => text.charCodeAt(i));
 const show = (cs) => JSON.stringify(String.fromCodePoint(...cs));
-const WORD = { name: 'IdentifierName', punctuator: 'Punctuator', number: 'NumericLiteral', string: 'StringLiteral', template: 'Template', regexp: 'RegularExpressionLiteral', private: 'PrivateName', end: 'End' };
+const WORD = {
+  name: 'IdentifierName',
+  punctuator: 'Punctuator',
+  number: 'NumericLiteral',
+  string: 'StringLiteral',
+  template: 'Template',
+  regexp: 'RegularExpressionLiteral',
+  private: 'PrivateName',
+  end: 'End',
+};
 const yes = (o) => (o.$.name === 'None' ? null : antt.toArray(o.a[0]));
 
 // [{what, detail}] of one text; `info` counts
@@ -22,8 +31,10 @@ function compareReading(m, text, info) {
   const say = (what, detail) => out.push({ what, detail });
   const list = (i, j) => antt.fromArray(cs.slice(i, j));
   const rests = Array.from({ length: n + 1 }, (_, i) => list(i, n));
-  const indexOf = [0]; for (let i = 0; i < n; i++) indexOf.push(indexOf[i] + (cs[i] > 0xffff ? 2 : 1));
-  const byteOf = [0]; for (let i = 0; i < n; i++) byteOf.push(byteOf[i] + m.size(list(i, i + 1)));
+  const indexOf = [0];
+  for (let i = 0; i < n; i++) indexOf.push(indexOf[i] + (cs[i] > 0xffff ? 2 : 1));
+  const byteOf = [0];
+  for (let i = 0; i < n; i++) byteOf.push(byteOf[i] + m.size(list(i, i + 1)));
   const source = makeSource(text);
   // tokens of any goal whose text begins at i: [{class, end}]
   const words = new Map();
@@ -69,7 +80,8 @@ function compareReading(m, text, info) {
     }
     const place = lineColumn(text, byteOf[i]);
     const mine = m.line_column(antt.bytes(text), byteOf[i]);
-    if (mine[0] !== place.line || mine[1] !== place.column) say('line and column', `at byte ${byteOf[i]}: definitions ${mine}, model ${place.line},${place.column}`);
+    if (mine[0] !== place.line || mine[1] !== place.column)
+      say('line and column', `at byte ${byteOf[i]}: definitions ${mine}, model ${place.line},${place.column}`);
   }
   return out;
 }
@@ -90,25 +102,239 @@ function compareTemplate(m, characters, info) {
   const { raw, cooked } = templateValue(characters);
   const cs = antt.fromArray(points(characters));
   const ours = antt.toArray(m.raw_value(cs)).join(' ');
-  if (ours !== points(raw).join(' ')) out.push({ what: 'raw value', detail: `${JSON.stringify(characters)}: definitions ${ours}, model ${points(raw).join(' ')}` });
-  const mine = yes(m.cooked_value(cs)); const want = cooked === null ? null : units(cooked);
-  if (String(mine === null ? 'none' : mine.join(' ')) !== String(want === null ? 'none' : want.join(' '))) out.push({ what: 'cooked value', detail: `${JSON.stringify(characters)}: definitions ${mine}, model ${want}` });
+  if (ours !== points(raw).join(' '))
+    out.push({ what: 'raw value', detail: `${JSON.stringify(characters)}: definitions ${ours}, model ${points(raw).join(' ')}` });
+  const mine = yes(m.cooked_value(cs));
+  const want = cooked === null ? null : units(cooked);
+  if (String(mine === null ? 'none' : mine.join(' ')) !== String(want === null ? 'none' : want.join(' ')))
+    out.push({ what: 'cooked value', detail: `${JSON.stringify(characters)}: definitions ${mine}, model ${want}` });
   if (m.cooks(antt.bytes(raw)) !== (cooked !== null)) out.push({ what: 'whether a part cooks', detail: JSON.stringify(characters) });
   return out;
 }
 
-const CHARACTERS = ['0', '1', '7', '9', '.', 'e', 'E', '+', '-', 'x', 'X', 'o', 'b', 'n', '_', 'a', 'f', '/', '*', '=', '>', '<', '?', '!', '&', '|', '$', ' ', '\n', '\r', '\u2028', '\u2029', '\u00a0', '\ufeff', '\u200c', '\u200d', 'é', '𝒜', '²', '\u180e', '\u0085', '(', ')', '[', ']', '{', '}', ';', ',', ':', '%', '^', '~', '@', '#', '\\', '0x', '1.', '..', '?.', '//', '/*', '*/', '>>>', '**', '\t', '\v', '\f', '\u1680', '\u2000', '\u200a', '\u200b', '\u202f', '\u205f', '\u3000', '\u0301', '℘', '゛', '=>', '\r\n'];
-const QUOTED = ["'", '"', "'", '"', '\\', '\\', '\\x4', '\\x4f', '\\u', '\\u{', '\\u{63}', '\\u{10FFFF}', '\\u{110000}', '\\u{}', '\\u0063', '\\uD83D', '\\00', '\\0', '\\8', '1', '0', 'c', '}', '\n', '\r', '\r\n', '\\\r\n', '\u2028', '\u2029', '\\\u2028', '😀', 'é', '\\😀', '\\b', '\\t', '\\n', '\\v', '\\f', '\\r', '\\z', 'g', 'a', '//', '/*', '$', ' '];
-const TEMPLATES = ['`', '`', '}', '}', '$', '{', '${', '\\`', '\\', '\\$', '$$', '\n', '\r', '\r\n', '\\\r\n', '\\u', '\\u{', '\\u{63}', '\\u{110000}', '\\x6', '\\x61', '\\0', '\\01', '\\1', 'a', '0', "'", '/', '//', '/*', '\u2028', '😀', 'é', ' '];
-const REGEXPS = ['/', '/', '/', '[', ']', '\\', '\\/', '\\[', '\\]', '*', '=', 'a', 'g', 'u', '1', '$', '_', '\u200d', '\n', '\r', '\u2028', '\\\n', '😀', '\\😀', '(', ')', '+', ' ', '//', '[/]', 'é', '}', '{'];
+const CHARACTERS = [
+  '0',
+  '1',
+  '7',
+  '9',
+  '.',
+  'e',
+  'E',
+  '+',
+  '-',
+  'x',
+  'X',
+  'o',
+  'b',
+  'n',
+  '_',
+  'a',
+  'f',
+  '/',
+  '*',
+  '=',
+  '>',
+  '<',
+  '?',
+  '!',
+  '&',
+  '|',
+  '$',
+  ' ',
+  '\n',
+  '\r',
+  '\u2028',
+  '\u2029',
+  '\u00a0',
+  '\ufeff',
+  '\u200c',
+  '\u200d',
+  'é',
+  '𝒜',
+  '²',
+  '\u180e',
+  '\u0085',
+  '(',
+  ')',
+  '[',
+  ']',
+  '{',
+  '}',
+  ';',
+  ',',
+  ':',
+  '%',
+  '^',
+  '~',
+  '@',
+  '#',
+  '\\',
+  '0x',
+  '1.',
+  '..',
+  '?.',
+  '//',
+  '/*',
+  '*/',
+  '>>>',
+  '**',
+  '\t',
+  '\v',
+  '\f',
+  '\u1680',
+  '\u2000',
+  '\u200a',
+  '\u200b',
+  '\u202f',
+  '\u205f',
+  '\u3000',
+  '\u0301',
+  '℘',
+  '゛',
+  '=>',
+  '\r\n',
+];
+const QUOTED = [
+  "'",
+  '"',
+  "'",
+  '"',
+  '\\',
+  '\\',
+  '\\x4',
+  '\\x4f',
+  '\\u',
+  '\\u{',
+  '\\u{63}',
+  '\\u{10FFFF}',
+  '\\u{110000}',
+  '\\u{}',
+  '\\u0063',
+  '\\uD83D',
+  '\\00',
+  '\\0',
+  '\\8',
+  '1',
+  '0',
+  'c',
+  '}',
+  '\n',
+  '\r',
+  '\r\n',
+  '\\\r\n',
+  '\u2028',
+  '\u2029',
+  '\\\u2028',
+  '😀',
+  'é',
+  '\\😀',
+  '\\b',
+  '\\t',
+  '\\n',
+  '\\v',
+  '\\f',
+  '\\r',
+  '\\z',
+  'g',
+  'a',
+  '//',
+  '/*',
+  '$',
+  ' ',
+];
+const TEMPLATES = [
+  '`',
+  '`',
+  '}',
+  '}',
+  '$',
+  '{',
+  '${',
+  '\\`',
+  '\\',
+  '\\$',
+  '$$',
+  '\n',
+  '\r',
+  '\r\n',
+  '\\\r\n',
+  '\\u',
+  '\\u{',
+  '\\u{63}',
+  '\\u{110000}',
+  '\\x6',
+  '\\x61',
+  '\\0',
+  '\\01',
+  '\\1',
+  'a',
+  '0',
+  "'",
+  '/',
+  '//',
+  '/*',
+  '\u2028',
+  '😀',
+  'é',
+  ' ',
+];
+const REGEXPS = [
+  '/',
+  '/',
+  '/',
+  '[',
+  ']',
+  '\\',
+  '\\/',
+  '\\[',
+  '\\]',
+  '*',
+  '=',
+  'a',
+  'g',
+  'u',
+  '1',
+  '$',
+  '_',
+  '\u200d',
+  '\n',
+  '\r',
+  '\u2028',
+  '\\\n',
+  '😀',
+  '\\😀',
+  '(',
+  ')',
+  '+',
+  ' ',
+  '//',
+  '[/]',
+  'é',
+  '}',
+  '{',
+];
 const COMMENTS = ['/*', '/*', '*/', '*/', '*', '/', '//', '\n', '\r', '\r\n', '\u2028', '\u2029', 'a', '1', ' ', '\u205f', '**', '}', '`', '=', "'"];
 // A random text for tokens.
 function randomText(random) {
   const from = random.pick([CHARACTERS, CHARACTERS, QUOTED, TEMPLATES, REGEXPS, COMMENTS]);
   const some = Array.from({ length: 3 + random.below(5) }, () => random.pick(from));
-  const opening = from === QUOTED ? random.pick(["'", '"', '']) : from === TEMPLATES ? random.pick(['`', '}', '']) : from === REGEXPS ? random.pick(['/', '/a', '/[', '']) : '';
+  const opening =
+    from === QUOTED
+      ? random.pick(["'", '"', ''])
+      : from === TEMPLATES
+      ? random.pick(['`', '}', ''])
+      : from === REGEXPS
+      ? random.pick(['/', '/a', '/[', ''])
+      : '';
   const body = Array.from({ length: 1 + random.below(7) }, () => random.pick(random.chance(60) ? some : random.chance(80) ? from : CHARACTERS)).join('');
-  const closing = from === QUOTED ? random.pick([opening, opening, '']) : from === TEMPLATES ? random.pick(['`', '${', '']) : from === REGEXPS ? random.pick(['/', '/g', ']/', '']) : '';
+  const closing =
+    from === QUOTED
+      ? random.pick([opening, opening, ''])
+      : from === TEMPLATES
+      ? random.pick(['`', '${', ''])
+      : from === REGEXPS
+      ? random.pick(['/', '/g', ']/', ''])
+      : '';
   return opening + body + closing;
 }
 // Every character up to a bound, characters beside each other, punctuators (the model's and the definitions'), numbers, and pairs of pieces inside regular expressions,
@@ -120,10 +346,73 @@ function allTexts(m) {
   for (const p of new Set([...PUNCTUATORS, ...antt.toArray(m.punctuators)])) {
     for (const b of ['', '=', '.', '1', 'a', '>', '?', '/', '*', '&', '|', '+', '-', '<', '!', '..', '.1', '>=', "'", '`', '}']) out.push(p + b);
   }
-  for (const a of ['0', '1', '9', '10', '01', '0.', '0.5', '.5', '5.', '1e', '1e1', '1e+', '1E-1', '0x', '0xF', '0XfFn', '0o7', '0O8', '0b1', '0B2', '0b', '0o', '1n', '0n', '1.n', '1e1n', '1_0', '1__0', '1_', '0_1', '1_0.0_1', '1_.0', '1._0', '.0_1', '._1', '1e1_0', '1e_1', '1_e1', '1e1_', '1_0n', '1_n', '0x1_0', '0x_1', '0x1_', '0x1__0', '0o1_0', '0o_1', '0b1_0', '0b1_', '00', '08', '1.e1', '.e1', '.', '..', '1..', '1...']) {
+  for (const a of [
+    '0',
+    '1',
+    '9',
+    '10',
+    '01',
+    '0.',
+    '0.5',
+    '.5',
+    '5.',
+    '1e',
+    '1e1',
+    '1e+',
+    '1E-1',
+    '0x',
+    '0xF',
+    '0XfFn',
+    '0o7',
+    '0O8',
+    '0b1',
+    '0B2',
+    '0b',
+    '0o',
+    '1n',
+    '0n',
+    '1.n',
+    '1e1n',
+    '1_0',
+    '1__0',
+    '1_',
+    '0_1',
+    '1_0.0_1',
+    '1_.0',
+    '1._0',
+    '.0_1',
+    '._1',
+    '1e1_0',
+    '1e_1',
+    '1_e1',
+    '1e1_',
+    '1_0n',
+    '1_n',
+    '0x1_0',
+    '0x_1',
+    '0x1_',
+    '0x1__0',
+    '0o1_0',
+    '0o_1',
+    '0b1_0',
+    '0b1_',
+    '00',
+    '08',
+    '1.e1',
+    '.e1',
+    '.',
+    '..',
+    '1..',
+    '1...',
+  ]) {
     for (const b of ['', 'n', 'a', '$', '\\', '1', '.', '.a', '.1', 'e1', ' ', '\u200c', 'é', '(', '_', '/', '+1']) out.push(a + b);
   }
-  for (const [list, open, close] of [[REGEXPS, '/', '/g'], [QUOTED, "'", "'"], [TEMPLATES, '`', '`'], [COMMENTS, '/*', '*/']]) {
+  for (const [list, open, close] of [
+    [REGEXPS, '/', '/g'],
+    [QUOTED, "'", "'"],
+    [TEMPLATES, '`', '`'],
+    [COMMENTS, '/*', '*/'],
+  ]) {
     const parts = [...new Set(list)];
     for (const a of parts) for (const b of parts) out.push(open + a + b + close);
   }

@@ -18,7 +18,10 @@ class ReferenceRules {
     const { spec } = model;
     const called = spec.fn('called', 'Rows', 'reference_rules');
     const source = fs.readFileSync(path.join(crates, 'reference_rules/src/reference_rule.rt'), 'utf8');
-    const variants = /pub enum ReferenceRule \{([^}]*)\}/.exec(source)[1].match(/\w+/g).map((name) => spec.variant('ReferenceRule', name));
+    const variants = /pub enum ReferenceRule \{([^}]*)\}/
+      .exec(source)[1]
+      .match(/\w+/g)
+      .map((name) => spec.variant('ReferenceRule', name));
     this.found = spec.fn('found_by_rule', 'Found', 'reference_rules');
     this.scopes = spec.fn('found', 'Found', 'scopes');
     this.rules = new Map(variants.map((rule) => [antt.text(called(rule)), rule]));
@@ -30,7 +33,10 @@ class ReferenceRules {
     if (!this.rules.has(row.name)) return 'no such rule';
     const profile = { is_2022: row.language !== 'base', is_module: row.language === 'module' };
     const found = this.found(profile, this.rules.get(row.name), this.scopes(this.model.tree(plainTree(read.tree, row.language))));
-    return antt.toArray(found).map((it) => `${it.start} ${antt.text(it.text)}; `).join('');
+    return antt
+      .toArray(found)
+      .map((it) => `${it.start} ${antt.text(it.text)}; `)
+      .join('');
   }
 }
 

@@ -18,7 +18,10 @@ class RepetitionRules {
     const { spec } = model;
     const called = spec.fn('called', 'Rows', 'repetition_rules');
     const source = fs.readFileSync(path.join(crates, 'repetition_rules/src/repetition_rule.rt'), 'utf8');
-    const variants = /pub enum RepetitionRule \{([^}]*)\}/.exec(source)[1].match(/\w+/g).map((name) => spec.variant('RepetitionRule', name));
+    const variants = /pub enum RepetitionRule \{([^}]*)\}/
+      .exec(source)[1]
+      .match(/\w+/g)
+      .map((name) => spec.variant('RepetitionRule', name));
     this.found = spec.fn('found_by_rule', 'Found', 'repetition_rules');
     this.rules = new Map(variants.map((rule) => [antt.text(called(rule)), rule]));
   }
@@ -28,12 +31,17 @@ class RepetitionRules {
     if (!read.ok) return 'no script';
     if (!this.rules.has(row.name)) return 'no such rule';
     const found = this.found(this.rules.get(row.name), this.model.tree(plainTree(read.tree, row.language)));
-    return antt.toArray(found).sort((one, other) => one.start - other.start).map((it) => `${it.start} ${antt.text(it.text)}; `).join('');
+    return antt
+      .toArray(found)
+      .sort((one, other) => one.start - other.start)
+      .map((it) => `${it.start} ${antt.text(it.text)}; `)
+      .join('');
   }
 }
 
 // the rows {text, language, name, want}
-const rowsOfRepetitionRules = () => rowsOf('repetition_rules', ['repetition rule']).map(({ texts: [text, name], language, want }) => ({ text, language, name, want }));
+const rowsOfRepetitionRules = () =>
+  rowsOf('repetition_rules', ['repetition rule']).map(({ texts: [text, name], language, want }) => ({ text, language, name, want }));
 
 function main() {
   const rules = new RepetitionRules(new Model([...CRATES, ...['rule_words', 'repetition_rules'].map((crate) => path.join(crates, crate))]));

@@ -23,7 +23,8 @@ function compareSources(spec) {
       const ours = got.map((t) => [t.class.$.name, Buffer.from(antt.toArray(t.text).map(Number)).toString(), t.start, t.stop, t.after_break].join(' '));
       const theirs = want === null ? ['none'] : want.map((t) => [t.cls, t.text, t.start, t.stop, t.afterBreak].join(' '));
       count++;
-      if (ours.join('\n') !== theirs.join('\n')) out.push({ what: 'tokens of an example', text, detail: `${file}: ${ours.join(', ')}; model ${theirs.join(', ')}` });
+      if (ours.join('\n') !== theirs.join('\n'))
+        out.push({ what: 'tokens of an example', text, detail: `${file}: ${ours.join(', ')}; model ${theirs.join(', ')}` });
     }
   }
   return { out, count };

@@ -40,7 +40,9 @@ function check(row) {
   if (model.fits((n) => planned.has(n), root, model.script, 1) !== true) say('a tree that fits', row, false, true);
 }
 const [part, of] = partOf(process.argv, CRATES);
-const rows = byText([...rowsOf('fixed', ['fix']), ...rowsOf('later_answers', ['fix', 'cost'])]).filter((row) => !isRefused(row.fix ?? row.cost) && row.text.length < 2000);
+const rows = byText([...rowsOf('fixed', ['fix']), ...rowsOf('later_answers', ['fix', 'cost'])]).filter(
+  (row) => !isRefused(row.fix ?? row.cost) && row.text.length < 2000
+);
 const mine = rows.filter((_, i) => i % of === part);
 mine.forEach(check);
 console.log(`${mine.length} texts, ${mine.filter((row) => row.cost !== undefined).length} with a cost table; ${differ} disagreements`);

@@ -1,5 +1,6 @@
 'use strict';
 // Texts to compare on, and mutations of texts and trees.
+// Its rows are laid out by hand.
 
 const path = require('path');
 const { randomSource } = require('../model/random.js');

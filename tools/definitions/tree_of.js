@@ -11,13 +11,24 @@ const { parseOnly } = require(path.join(PLAIN_MODEL, 'parse.js'));
 const { GOAL, scan } = require(path.join(PLAIN_MODEL, 'scan.js'));
 
 const quoted = (s) => '"' + s.replace(/\\/g, '\\\\').replace(/"/g, '\\"').replace(/\n/g, '\\n') + '"';
-const KIND = { string: 'StringLiteral', name: 'IdentifierName', punctuator: 'Punctuator', number: 'NumericLiteral', template: 'Template', regexp: 'RegularExpressionLiteral', end: 'End' };
+const KIND = {
+  string: 'StringLiteral',
+  name: 'IdentifierName',
+  punctuator: 'Punctuator',
+  number: 'NumericLiteral',
+  template: 'Template',
+  regexp: 'RegularExpressionLiteral',
+  end: 'End',
+};
 const FORMS = { get: 'Get', set: 'Set', method: 'Method', shorthand: 'Shorthand', constructor: 'Constructor' };
 const WRAPPERS = { computed: 'computed', optional: 'optional', is_static: 'static_one', prefix: 'before', directive: 'directive', expression: 'short' };
 
 // A plain tree (model.js) as a term that may stand as an argument; `used` gathers the names that it needs.
 function term(n, used = new Set()) {
-  const word = (w) => { used.add(w); return w; };
+  const word = (w) => {
+    used.add(w);
+    return w;
+  };
   const parts = (list) => {
     if (list.length === 0) return word('none');
     const few = [undefined, 'one', 'two', 'three'][list.length];
@@ -29,7 +40,8 @@ function term(n, used = new Set()) {
   if (plain && fits && n.kind === 'Identifier') return `(${word('id')} ${quoted(n.text)} ${n.start})`;
   if (plain && fits && n.kind === 'Literal') return `(${word('lit')} ${quoted(n.text)} ${n.start})`;
   if (plain && n.text === '' && n.kind === 'Program' && n.start === 0) return `(${word('program')} ${n.stop} ${parts(n.parts)})`;
-  if (plain && n.text === '' && n.kind === 'ExpressionStatement' && n.parts.length === 1 && n.parts[0] !== null) return `(${word('st')} ${n.start} ${n.stop} ${term(n.parts[0], used)})`;
+  if (plain && n.text === '' && n.kind === 'ExpressionStatement' && n.parts.length === 1 && n.parts[0] !== null)
+    return `(${word('st')} ${n.start} ${n.stop} ${term(n.parts[0], used)})`;
   const head = n.text === '' ? `${word('n')} ${word(n.kind)}` : `${word('t')} ${word(n.kind)} ${quoted(n.text)}`;
   let out = `(${head} ${n.start} ${n.stop} ${parts(n.parts)})`;
   for (const [flag, wrapper] of Object.entries(WRAPPERS)) if (n.flags[flag]) out = `(${word(wrapper)} ${out})`;
@@ -42,7 +54,7 @@ const bare = (s) => (s.startsWith('(') ? s.slice(1, -1) : s);
 function tokensOf(text, regexps) {
   const list = [];
   let inTemplate = false;
-  for (let at = 0; ;) {
+  for (let at = 0;;) {
     const probe = scan(text, at, GOAL.Div);
     const ch = text[probe.start];
     const goal = ch === '/' && regexps ? GOAL.RegExp : ch === '}' && inTemplate ? GOAL.TemplateTail : GOAL.Div;

@@ -6,7 +6,7 @@ TELLING = {
     'browser': ('document', 'localStorage', 'navigator', 'window'),
     'node': ('Buffer', '__dirname', '__filename', 'exports', 'module', 'process', 'require'),
 }
-NAMES = re.compile(rf"^\d+:\d+ no-undef '({'|'.join(it for names in TELLING.values() for it in names)})' is not defined$", re.M)
+NAMES = rf"^\d+:\d+ no-undef '({'|'.join(it for names in TELLING.values() for it in names)})' is not defined$"
 
 
 class Advice:
@@ -17,7 +17,7 @@ class Advice:
 
     def add(self, answer):
         if 'no-undef' in answer:
-            self.names.update(NAMES.findall(answer))
+            self.names.update(re.findall(NAMES, answer, re.M))
 
     def told(self, is_project):
         """A line, or nothing."""

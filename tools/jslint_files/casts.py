@@ -3,11 +3,9 @@ takes such a pair as it takes any other."""
 import bisect
 import re
 
+from .checking import WORD
 from .comments import comments
 
-RULE = 'no-extra-parens'
-# (of a script with no such word no pair is a cast's)
-WORD = re.compile(rb'@(?:type|satisfies)\b')
 # The blanks and line ends of ECMA-262, in UTF-8.
 BLANKS = re.compile(rb'(?:[\t\n\x0b\x0c\r ]|\xc2\xa0|\xe1\x9a\x80|\xe2\x80[\x80-\x8a\xa8\xa9\xaf]|\xe2\x81\x9f|\xe3\x80\x80|\xef\xbb\xbf)*')
 

@@ -1,17 +1,16 @@
 """What is found in a script."""
-import bisect
 import re
 
-from .casts import RULE, WORD, casts
 from .languages import first_reading
-from .outcomes import ANSWER, Outcome, Refused, refusal
+from .outcomes import Outcome, Refused, is_answer, refusal
 from .reading import PART, read
-from .suppressions import suppressed
 from .traces import TRACES
 
 # A line of what `check --spans` answers, and what ends a line of a script.
-SPAN = re.compile(r'^(\d+) (\d+) (\S+) (.*)$', re.M)
-BYTES_OF_LINE_END = re.compile(rb'\r\n|[\n\r]|\xe2\x80[\xa8\xa9]')
+SPAN = r'^(\d+) (\d+) (\S+) (.*)$'
+BYTES_OF_LINE_END = rb'\r\n|[\n\r]|\xe2\x80[\xa8\xa9]'
+# The rule whose reports may be of a cast's pair. Of a script with no such word none is.
+RULE, WORD = 'no-extra-parens', re.compile(rb'@(?:type|satisfies)\b')
 # Of a script with no such word no comment turns a report off.
 TURNS_OFF = b'jslint-disable-'
 
@@ -19,7 +18,7 @@ TURNS_OFF = b'jslint-disable-'
 def answer_of(status, out, err):
     """The lines of reports that `check` answers; None where that is a refusal."""
     text = out.decode(errors='replace')
-    return text if status in (0, 1) and not err and ANSWER.fullmatch(text) else None
+    return text if status in (0, 1) and not err and is_answer(text) else None
 
 
 def checked(engine, text, settings=b'', language=None):
@@ -34,7 +33,7 @@ def checked(engine, text, settings=b'', language=None):
 def spans_of(engine, text, settings=b'', language=None):
     """Where each report begins and ends, in bytes, with its rule and text, as the program or a library says that."""
     status, out, err = engine.run('spans', text, settings, language=language)
-    found = SPAN.findall(out.decode(errors='replace')) if status in (0, 1) and not err else []
+    found = re.findall(SPAN, out.decode(errors='replace'), re.M) if status in (0, 1) and not err else []
     return [(int(start), int(end), rule, words) for start, end, rule, words in found]
 
 
@@ -42,7 +41,10 @@ def casts_of(engine, text, spans, language=None):
     """Which of the reported pairs are casts, by the bytes at which they begin."""
     pairs = [start for start, _, rule, _ in spans if rule == RULE] if WORD.search(text) else []
     status, tree, _ = engine.run('tree', text, language=language) if pairs else (0, b'', b'')
-    return casts(text, pairs, tree) if pairs and status == 0 else []
+    if not pairs or status:
+        return []
+    from .casts import casts
+    return casts(text, pairs, tree)
 
 
 class Checker:
@@ -64,11 +66,13 @@ class Checker:
                 total.update(part)
         return total.digest()
 
-    def outcome(self, name, text=None):
-        """What is found in a file, or in a text that is as good as one of that name."""
+    def outcome(self, name, text=None, refused=None):
+        """What is found in a file, or in a text that is as good as one of that name. It may be known already that it is refused."""
         text, settings = read(name) if text is None else text, self.settings_for(name)
         languages = self.languages.of(name)
         try:
+            if refused:
+                raise refused
             answer, language = first_reading(languages, lambda it: checked(self.engine, text, settings, it))
         except Refused as why:
             tried = [it or self.languages.first_of(settings) for it in languages]
@@ -78,6 +82,7 @@ class Checker:
         if answer and (self.has_ends or has_casts):
             self.add_spans(came, text, settings, language)
         if self.has_suppressions and TURNS_OFF in text:
+            from .suppressions import suppressed
             language = language or self.languages.first_of(settings)
             came.list = suppressed(came.found, text.decode(), lambda it: self.fixed(it, language))
         return came
@@ -98,7 +103,8 @@ class Checker:
 
 def places_at(text, offsets):
     """The line and the column of each of these bytes of a text, which are looked for in their order: no text takes long."""
-    starts, found, at, line, column = [0, *(it.end() for it in BYTES_OF_LINE_END.finditer(text))], {}, 0, 1, 1
+    starts, found, at, line, column = [0, *(it.end() for it in re.finditer(BYTES_OF_LINE_END, text))], {}, 0, 1, 1
+    import bisect
     for offset in sorted(offsets):
         number = bisect.bisect_right(starts, offset)
         if number != line:

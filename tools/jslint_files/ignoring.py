@@ -3,6 +3,7 @@
 git compares bytes, so `?` is one of them: texts and names have a character for each byte here (`in_bytes`). A repository may be a stranger's, so no pattern
 takes longer than its length times the path's.
 """
+import functools
 import os
 import re
 
@@ -12,7 +13,7 @@ CLASSES = {
     'alpha': 'A-Za-z', 'digit': '0-9', 'alnum': 'A-Za-z0-9', 'upper': 'A-Z', 'lower': 'a-z', 'space': r' \t\n\r', 'punct': r'!-/:-@\[-`{-~', 'xdigit': '0-9A-Fa-f',
     'blank': r' \t', 'cntrl': r'\x00-\x1f\x7f', 'print': r'\x20-\x7e', 'graph': r'\x21-\x7e',
 }
-PIECE = re.compile(r'(?P<stars>\*+)|(?P<one>\?)|\\(?P<quoted>[\s\S])|\[(?P<not>[!^]?)(?P<set>\]?(?:\[:\w+:\]|\\[\s\S]|[^\]\\])*)\]|(?P<plain>[^\\[])', re.S)
+PIECE = r'(?P<stars>\*+)|(?P<one>\?)|\\(?P<quoted>[\s\S])|\[(?P<not>[!^]?)(?P<set>\]?(?:\[:\w+:\]|\\[\s\S]|[^\]\\])*)\]|(?P<plain>[^\\[])'
 # A run of stars in a segment, and a segment of two or more alone.
 STAR, ANY = object(), object()
 
@@ -46,13 +47,18 @@ def pattern_of(line):
     return Pattern(segments if is_anchored else [ANY, [STAR] if segments[0] is ANY else segments[0]], is_back, is_folder)
 
 
+@functools.cache
+def piece():
+    return re.compile(PIECE, re.S)
+
+
 def segments_of(text):
     """The segments between slashes; None where a bracket, in which a slash is none, or a backslash never ends."""
     if not re.search(r'[*?\\[]', text):
         return text.split('/')
     found, at = [[]], 0
     while at < len(text):
-        it = PIECE.match(text, at)
+        it = piece().match(text, at)
         if not it:
             return None
         at = it.end()

@@ -1,5 +1,4 @@
 """In which languages a script is tried: as the words and its settings leave them, and as its name and package.json say."""
-import json
 import os
 import re
 
@@ -12,7 +11,7 @@ LEFT = {'module': ('module',), '2020': ('2020',), '2022': ('2022', 'module'), No
 # A text that scripts alone may be.
 OF_SCRIPTS = b'var f; function f() {}'
 # How a refusal begins that another language may not have, and how far the text was read then, where no place says it.
-BY_LANGUAGE = re.compile('syntax error|early error E[0-9]+|nested too deep')
+BY_LANGUAGE = 'syntax error|early error E[0-9]+|nested too deep'
 AT_PLACE, TOO_DEEP, TO_THE_END = 0, 1, 2
 
 
@@ -23,7 +22,7 @@ def asked(options):
 
 def is_by_language(why):
     """Whether another language may have a text that is refused so."""
-    return BY_LANGUAGE.fullmatch(why.found.text) is not None
+    return re.fullmatch(BY_LANGUAGE, why.found.text) is not None
 
 
 def reach_of(why):
@@ -113,6 +112,7 @@ class Languages:
 
 def kind_said(text):
     """What a package.json says."""
+    import json
     try:
         package = json.loads(text)
     except (ValueError, RecursionError):

@@ -3,7 +3,6 @@
 The program knows the settings of one file, and not those of `[format]`. Where there is no more than a document, it gets that as it is; else one is made for each
 file.
 """
-import json
 import os
 
 from .ignoring import in_bytes, patterns_of, verdict
@@ -52,6 +51,7 @@ def rules_left(names):
 
 def in_toml(value):
     """A value of settings as TOML has it."""
+    import json
     if isinstance(value, dict):
         return '{ ' + ', '.join(f'{key_in_toml(key)} = {in_toml(each)}' for key, each in value.items()) + ' }' if value else '{}'
     if isinstance(value, list):

@@ -1,5 +1,6 @@
 """usage: jslint-files [check] [--edition 2020|2022] [--module] [--settings FILE] [--format FORM] [--color WHEN] [--hints] [--ends] [--unsupported error|note] [--suppressions]
-                    [--max-warnings N] [--rule NAME=SEVERITY] [--only NAME] [--project] [--no-ignore] [--allow-none] [--stdin NAME] [--summary] [--jobs N] [--files-from FILE] [--] [FILE ..]
+                    [--max-warnings N] [--rule NAME=SEVERITY] [--only NAME] [--cache [--cache-location FILE]] [--project] [--no-ignore] [--allow-none] [--stdin NAME] [--summary] [--jobs N]
+                    [--files-from FILE] [--] [FILE ..]
        jslint-files fix --write|--diff [--edition 2020|2022] [--module] [--drop-comments] [--hints] [--unsupported error|note] [--project] [--no-ignore] [--allow-none]
                     [--stdin NAME] [--summary] [--jobs N] [--files-from FILE] [--] [FILE ..]
        jslint-files unwrap --write|--diff [--drop-casts] [the same, but for --drop-comments] [--] [FILE ..]
@@ -42,6 +43,7 @@ What `jslint check` finds in several scripts, each report with its file's name, 
                       a fault in a language that jslint reads fails
   --suppressions      `// jslint-disable-line RULE, RULE -- WHY` and `// jslint-disable-next-line` turn reports off, but for no-extra-parens
   --max-warnings N    the status is 0 with up to N reports, errors and warnings, and 1 with more
+  --cache             what was found in unchanged scripts isn't looked for again: it stands in .jslintcache, or in the file that --cache-location names
   --summary           counts, in a line on standard error
   --print-config FILE what applies to the script, with --project or not, and from where: a key a line
   --init              writes a first jslint.toml, from package.json and the names that the scripts use
@@ -68,33 +70,30 @@ script is whole.
 JSLINT in the environment is the path of the program; else it is the one beside this file. JSLINT_LIBRARY is that of libjslint.so, which answers in this
 process; without both, the one that was installed with the program does. An empty JSLINT_LIBRARY: the program is started for each script.
 """
-import collections
-import contextlib
 import os
 import re
 import threading
-from concurrent.futures import ThreadPoolExecutor
 
-from . import forms, names as meant
+# (what a run doesn't need it doesn't import: of one script that takes longer than its check)
+from . import names as meant
 from .advice import Advice
 from .batches import Batches
 from .checking import Checker
-from .engine import STACK, Library, engine_of, path_of_program, Program
+from .engine import Program, engine_of, path_of_program
 from .hints import Guesses
 from .languages import Languages, asked
-from .layers import Layers, printed, rules_left, rules_said
+from .layers import Layers, rules_left, rules_said
 from .outcomes import Outcome, Refused
+from .pool import in_order
 from .progress import Progress, Tally, plural
 from .project import Project
 from .reading import pass_on, read
-from .rewriting import Rewriter
-from .rules import explained
 from .settings import Unfit
 from .streams import Wrong, say, shown, warn
 from .words import handed, has_hints, is_compared, judge, number_of_jobs, options_of
 
-# How many scripts a thread takes at once, at most.
-MOST_AT_ONCE = 32
+# How many scripts a thread takes at once, at most: one call of the program checks them.
+MOST_AT_ONCE = 256
 # The forms that are one document, and those that show a part of the text, or need it for their columns.
 DOCUMENTS, TEXT_FORMS = ('json', 'sarif', 'junit'), ('json', 'pretty', 'sarif')
 
@@ -104,7 +103,7 @@ class Run:
 
     def __init__(self, options, names, here):
         self.options, self.project, self.engine = options, Project(not options['no-ignore']), engine_of(here, handed(options))
-        self.is_check, self.advice = options['command'] == 'check', Advice()
+        self.is_check, self.advice, self.cache = options['command'] == 'check', Advice(), None
         self.layers = Layers(rules_said(options['rule']), rules_left(options['only']))
         # (the names that are ignored; settings that are refused, by their names; how many scripts these are for)
         self.ignored, self.bad, self.unread = [], {}, 0
@@ -116,21 +115,40 @@ class Run:
             languages = Languages(self.engine, options, self.project, settings_for)
             self.worker = Checker(self.engine, settings_for, languages, guesses, options['suppressions'], has_ends)
             self.batches = Batches(self.engine, self.worker, has_ends or options['format'] in TEXT_FORMS)
+            self.cache = self.cache_with([*map(str, (has_hints(options), options['unsupported'], options['suppressions'], has_ends))]) if options['cache'] else None
         else:
             self.worker = self.formatter(guesses) if options['command'] == 'format' else self.rewriter(guesses)
         self.progress, self.tally = Progress(len(self.names)), Tally(options['summary'])
+
+    def cache_with(self, words):
+        """What was found before; None where the program can't be read."""
+        from .cache import NAME, Cache
+        words = [it.encode() for it in words]
+        languages_of = lambda it: ','.join(map(str, self.worker.languages.of(it))).encode()
+        ignores_of = lambda it: self.project.ignores_above(os.path.dirname(it)) if self.options['project'] else ()
+        conditions_of = lambda it: (self.worker.settings_for(it), languages_of(it), *words, *ignores_of(it))
+        path = self.options['cache-location'] or NAME
+        try:
+            return Cache(path, self.engine.made_of(), conditions_of, self.options['format'] in TEXT_FORMS)
+        except OSError as error:
+            warn(f'jslint-files: {shown(path)}: the cache is not used: {error.strerror}\n')
+            return None
 
     def rewriter(self, guesses):
         if asked(self.options) in (None, '2022'):
             # (they may say the language)
             self.documents()
-        return Rewriter(self.engine, self.options, Languages(self.engine, self.options, self.project, layers=self.layers), guesses, dict.fromkeys(self.names, ()))
+        return self.rewriter_with(Languages(self.engine, self.options, self.project, layers=self.layers), guesses, dict.fromkeys(self.names, ()))
 
     def formatter(self, guesses):
         document_of = self.documents()
         languages = Languages(self.engine, self.options, self.project, self.settings_by(document_of))
         words_of = {it: handed(self.options, self.layers.format_of(*document_of(it), it)) for it in self.names if it not in self.bad}
-        return Rewriter(self.engine, self.options, languages, guesses, words_of)
+        return self.rewriter_with(languages, guesses, words_of)
+
+    def rewriter_with(self, *more):
+        from .rewriting import Rewriter
+        return Rewriter(self.engine, self.options, *more)
 
     def named(self, names):
         """The files, in their order."""
@@ -159,10 +177,11 @@ class Run:
             return lambda it: (name, text)
         if not self.options['project']:
             return lambda it: (None, b'')
-        found = {it: self.project.settings_of(os.path.realpath(it)) for it in {os.path.dirname(it) for it in self.names}}
+        folders = {it: os.path.dirname(it) for it in self.names}
+        found = {it: self.project.settings_of(os.path.realpath(it)) for it in {*folders.values()}}
         texts = dict(filter(None, found.values()))
         self.leave_bad(found, texts)
-        return lambda it: found[os.path.dirname(it)] or (None, b'')
+        return {name: found[it] or (None, b'') for name, it in folders.items()}.__getitem__
 
     def asked_of_settings(self):
         """The language of which settings have to leave something: where scripts are rewritten, words for one go over settings."""
@@ -181,11 +200,11 @@ class Run:
         self.unread, self.bad = len(self.names) - len(kept), {beside(path): (bad[path], texts[path]) for path in sorted(bad)}
         self.names = [*self.bad, *kept]
 
-    def outcome(self, name, answer=None):
-        """What comes of a file, whose lines may be there already."""
+    def outcome(self, name, answer=None, known=None):
+        """What comes of a file, whose lines may be there already, or all of it."""
         done = 'checked' if self.is_check else 'compared' if is_compared(self.options) else 'rewritten'
         try:
-            came = self.outcome_of_bad(name) if name in self.bad else self.outcome_of_script(name, answer)
+            came = self.outcome_of_bad(name) if name in self.bad else self.outcome_of_script(name, answer, known)
         except Refused as why:
             came = Outcome([why.found])
         except (OSError, MemoryError) as error:
@@ -201,53 +220,58 @@ class Run:
         came.is_script = False
         return came
 
-    def outcome_of_script(self, name, answer):
+    def outcome_of_script(self, name, answer, known):
         if name in self.project.faults:
             raise self.project.faults[name]
-        came = Outcome(answer=answer) if answer is not None else self.worker.outcome(name, read(0) if self.options['stdin'] is not None else None)
+        came = known or self.outcome_of_answer(name, answer)
+        if self.cache and not known:
+            self.cache.add(name, came)
         if self.is_check and not self.worker.settings_for(name):
             self.advice.add(came.answer)
         return came
 
+    def outcome_of_answer(self, name, answer):
+        """The outcome of a file by its lines or its refusal, if one of these is known."""
+        if isinstance(answer, str):
+            return Outcome(answer=answer)
+        text = read(0) if self.options['stdin'] is not None else None
+        return self.worker.outcome(name, text, answer) if answer else self.worker.outcome(name, text)
+
     def outcomes(self, names):
         """What comes of some files; of those that one call can answer, by one."""
+        asked = [it for it in names if it not in self.bad and it not in self.project.faults]
+        known = {it: came for it in asked if (came := self.cache.found(it))} if self.cache else {}
         is_single = not self.is_check or self.options['stdin'] is not None
-        answers = {} if is_single else self.batches.answers([it for it in names if it not in self.bad and it not in self.project.faults])
-        return [self.outcome(it, answers.get(it)) for it in names]
+        answers = {} if is_single else self.batches.answers([it for it in asked if it not in known])
+        return [self.outcome(it, answers.get(it), known.get(it)) for it in names]
 
     def parts(self, jobs):
         """Some files and what came of them, in the order of the files."""
         size = max(1, min(MOST_AT_ONCE, len(self.names) // (8 * jobs)))
         parts = [self.names[at:at + size] for at in range(0, len(self.names), size)]
-        if isinstance(self.engine, Library):
-            threading.stack_size(STACK)
-        else:
-            # (now, and not while the first script is waited for)
-            import subprocess  # noqa: F401
-        with ThreadPoolExecutor(jobs) as pool:
-            self.progress.begin()
-            left = collections.deque((it, pool.submit(self.outcomes, it)) for it in parts)
-            try:
-                while left:
-                    names, future = left.popleft()
-                    came = future.result()
-                    for it in came:
-                        self.tally.add(it)
-                    yield list(zip(names, came))
-            finally:
-                # (where not all can be written nothing more is begun)
-                for _, it in left:
-                    it.cancel()
+        threading.stack_size(self.engine.stack)
+        self.progress.begin()
+        came = in_order(jobs, self.outcomes, parts)
+        try:
+            for names, found in zip(parts, came):
+                for it in found:
+                    self.tally.add(it)
+                yield list(zip(names, found))
+        finally:
+            came.close()
 
     def tell(self, jobs):
         """Prints what comes of the files."""
-        form = self.form()
-        with contextlib.closing(self.parts(jobs)) as parts:
+        form, parts = self.form(), self.parts(jobs)
+        try:
             is_document = self.options['format'] in DOCUMENTS
             for it in form(pair for part in parts for pair in part) if is_document else (self.told(form, part) for part in parts):
                 if it:
                     self.progress.clear()
                     say(it)
+        finally:
+            # (where not all can be written nothing more is begun)
+            parts.close()
         self.progress.clear()
 
     def told(self, form, part):
@@ -264,12 +288,12 @@ class Run:
         return ''
 
     def form(self):
+        from . import forms
         name = self.options['format']
         if name == 'pretty':
             return forms.pretty(is_coloured(self.options['color']))
         if name not in DOCUMENTS:
             return forms.github if name == 'github' else forms.unix
-        # (a start is shorter without)
         from . import documents
         if name == 'sarif':
             return documents.sarif(self.version())
@@ -330,6 +354,7 @@ def say_init(options, names, here):
 
 def config_of(options, name):
     """What applies to a script, and from where."""
+    from .layers import printed
     layers = Layers(rules_said(options['rule']), rules_left(options['only']))
     if options['settings'] is not None:
         try:
@@ -354,6 +379,7 @@ def main(words, here):
         return 0
     judge(options, names)
     if options['explain'] is not None:
+        from .rules import explained
         say(explained(options['explain']))
         return 0
     if options['print-config'] is not None:
@@ -366,6 +392,8 @@ def main(words, here):
     jobs = number_of_jobs(options['jobs'])
     run = Run(options, names, here)
     run.tell(jobs)
+    if run.cache:
+        run.cache.write(run.names)
     if not run.names:
         run.tell_none()
     warn(run.advice.told(options['project']))

@@ -1,5 +1,4 @@
 """Which files are meant: names, patterns, lists of names, and folders."""
-import fnmatch
 import os
 import re
 
@@ -31,6 +30,7 @@ def ways(folder, parts):
         entries = [(it, os.path.join(folder, it.name)) for it in found]
     if part == '**':
         return [(folder, rest or ['*'])] + [(path, parts) for it, path in entries if not is_hidden(it.name) and it.is_dir(follow_symlinks=False)]
+    import fnmatch
     fits = re.compile(fnmatch.translate(part)).match
     entries = [it for it in entries if fits(it[0].name) and (is_hidden(part) or not is_hidden(it[0].name))]
     return [(path, rest) for _, path in entries if not rest or os.path.isdir(path)]

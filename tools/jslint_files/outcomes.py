@@ -3,11 +3,16 @@ import re
 
 # What stands behind the text of a warning in a line of what `check` answers; such a line, and all of them.
 MARK = ' (warning)'
-REPORT = re.compile(r'^(\d+):(\d+) (\S+) (.*?)( \(warning\))?$', re.M)
-ANSWER = re.compile(r'(?:\d+:\d+ \S+ [^\n]*\n)*')
+REPORT = r'^(\d+):(\d+) (\S+) (.*?)( \(warning\))?$'
+ANSWER = r'(?:\d+:\d+ \S+ [^\n]*\n)*'
 # (whatever the program says behind the place is a guess of its own)
-PLACED = re.compile(r'(.*?) at (\d+):(\d+)(?:[ ,:;(].*)?', re.S)
+PLACED = r'(?s:(.*?) at (\d+):(\d+)(?:[ ,:;(].*)?)'
 LINE_END = re.compile('\r\n|[\n\r\u2028\u2029]')
+
+
+def is_answer(text):
+    """Whether a text is of lines of reports."""
+    return not text or re.fullmatch(ANSWER, text) is not None
 
 
 def has_errors(answer):
@@ -59,7 +64,7 @@ class Outcome:
     @property
     def found(self):
         if self.list is None:
-            self.list = [Found(*it) for it in REPORT.findall(self.answer)]
+            self.list = [Found(*it) for it in re.findall(REPORT, self.answer, re.M)]
         return self.list
 
     def is_plain(self):
@@ -87,5 +92,5 @@ def said(status, err, done):
 
 def refusal(status, err, done):
     text = said(status, err, done)
-    at = PLACED.fullmatch(text)
+    at = re.fullmatch(PLACED, text)
     return Refused(at[1], at[2], at[3]) if at else Refused(text)

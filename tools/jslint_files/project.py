@@ -41,6 +41,7 @@ class Project:
 
     def __init__(self, has_ignores=True):
         self.has_ignores, self.settings, self.patterns, self.faults, self.ways, self.folders, self.bad = has_ignores, {}, {}, {}, {}, {}, {}
+        self.texts, self.above = {}, {}
 
     def folders_above(self, folder):
         """A folder and those above it, up to the one that has .git, or else to the top of the file system."""
@@ -71,8 +72,19 @@ class Project:
 
     def patterns_in(self, folder):
         if folder not in self.patterns:
-            self.patterns[folder] = [pattern for it in self.ignores_of(folder) if (text := text_of(it)) is not None for pattern in patterns_of(text)]
+            self.texts[folder] = [text for it in self.ignores_of(folder) if (text := text_of(it)) is not None]
+            self.patterns[folder] = [pattern for it in self.texts[folder] for pattern in patterns_of(it)]
         return self.patterns[folder]
+
+    def ignores_above(self, named):
+        """The texts of the ignore files that speak of what lies in a folder, in their order."""
+        if named not in self.above:
+            folders = [*self.folders_above(self.real(named))]
+            # (this reads them)
+            for it in folders:
+                self.patterns_in(it)
+            self.above[named] = tuple(text for it in folders for text in self.texts[it])
+        return self.above[named]
 
     def ignores_of(self, folder):
         """The ignore files that speak of what is below a folder from there on, the first of which goes before the others."""

@@ -5,8 +5,8 @@ import os
 import re
 import stat
 
-from .casts import WORD, lost
-from .checking import casts_of, checked, places_at, spans_of
+from .casts import lost
+from .checking import WORD, casts_of, checked, places_at, spans_of
 from .comments import COMMENT, FIRST_LINE, comments
 from .engine import InLanguage
 from .ignoring import MARK
@@ -92,14 +92,12 @@ def replace(path, text, new):
 
 def difference(text, new, name):
     """How a new file differs from a text, as `diff` says it."""
-    from subprocess import PIPE
     # (for `patch` a name with a blank ends at a tab, as git writes it)
     label = shown(name) + ('\t' if ' ' in name else '')
-    words, how = ['diff', '-a', '-u', '-L', label, '-L', label, '--', '-', new], {'env': {**os.environ, 'LC_ALL': 'C'}}
-    with TRACES.call(words, stdin=PIPE, stdout=PIPE, stderr=PIPE, **how) as process:
-        out, err = process.communicate(text)
-    if process.returncode not in (0, 1):
-        raise Refused('not compared: ' + (err.decode(errors='replace').split('\n')[0] or f'diff: status {process.returncode}'))
+    words = ['diff', '-a', '-u', '-L', label, '-L', label, '--', '-', new]
+    status, out, err = TRACES.call(words, text, env={**os.environ, 'LC_ALL': 'C'})
+    if status not in (0, 1):
+        raise Refused('not compared: ' + (err.decode(errors='replace').split('\n')[0] or f'diff: status {status}'))
     return out
 
 

@@ -1,7 +1,7 @@
 """Why settings are refused: the place or the line, the key and its value. The program says no more than `bad settings` of TOML that doesn't fit."""
 import functools
-import json
 import os
+import re
 
 from .languages import LEFT
 from .outcomes import PLACED, Refused, said
@@ -32,7 +32,7 @@ def judge_settings(engine, text, asked, handed=lambda it: it):
         return
     status, _, err = refusals[0]
     words = said(status, err, 'checked')
-    at = PLACED.fullmatch(words)
+    at = re.fullmatch(PLACED, words)
     if at:
         raise Unfit(at[1], at[2], at[3], words)
     if words != 'bad settings':
@@ -85,6 +85,7 @@ def schema():
     path = next(filter(os.path.exists, PLACES), None)
     if path is None:
         return None
+    import json
     with open(path, encoding='utf-8') as file:
         return json.load(file)
 
@@ -106,6 +107,7 @@ def fault_of(text):
 
 def in_toml(value):
     """A value as TOML has it, as far as JSON has it so."""
+    import json
     return cut(json.dumps(value, ensure_ascii=False, default=str))
 
 

@@ -1,11 +1,10 @@
 """What is written to standard output and standard error, and how a name or a text stands in a line."""
-import contextlib
 import os
 import re
 import select
 
-# Characters with which a name could break a line, or have it shown in another order.
-UNSHOWN = re.compile('[\x00-\x1f\x7f-\x9f\u061c\u200e\u200f\u2028-\u202e\u2066-\u2069\ud800-\udfff]')
+# Characters with which a name could break a line, or have it shown in another order. (none of them is printable)
+UNSHOWN = '[\x00-\x1f\x7f-\x9f\u061c\u200e\u200f\u2028-\u202e\u2066-\u2069\ud800-\udfff]'
 
 
 class Wrong(Exception):
@@ -31,8 +30,10 @@ def say(text):
 
 def warn(text):
     """Writes to standard error. Where nobody reads that, the status alone says it."""
-    with contextlib.suppress(OSError):
+    try:
         put(2, text)
+    except OSError:
+        pass
 
 
 def occupy():
@@ -51,7 +52,7 @@ def escaped(text):
         code -= 0xdc00 if 0xdc80 <= code <= 0xdcff else 0
         return f'\\x{code:02x}' if code < 256 else f'\\u{{{code:04x}}}'
 
-    return UNSHOWN.sub(one, text)
+    return text if text.isprintable() else re.sub(UNSHOWN, one, text)
 
 
 def shown(name):

@@ -1,8 +1,9 @@
 """What an interruption leaves: nothing."""
-import contextlib
 import os
 import signal
 import threading
+
+from .calls import Call
 
 
 class Traces:
@@ -24,40 +25,60 @@ class Traces:
         for it in [*self.calls]:
             it.kill()
         for it in self.files:
-            with contextlib.suppress(OSError):
+            try:
                 os.unlink(it)
+            except OSError:
+                pass
         signal.signal(number, signal.SIG_DFL)
         signal.pthread_kill(threading.main_thread().ident, number)
 
-    @contextlib.contextmanager
-    def call(self, words, **how):
-        """A program that runs, with what it is given and what it writes."""
-        # (with the library none does, and a start is shorter without)
-        import subprocess
-        with subprocess.Popen(words, **how) as process:
+    def call(self, words, text, out=None, env=None):
+        """What a program says of a text that it is given: its status, and its two streams; the first goes to a file where one is given."""
+        with Call(words, out, env) as process:
             self.calls.add(process)
             if self.is_stopped:
                 process.kill()
             try:
-                yield process
+                written, said = process.communicate(text)
             finally:
                 self.calls.discard(process)
+        return process.returncode, written, said
 
-    @contextlib.contextmanager
     def new_file(self, folder):
-        """A new file, which is gone at the end unless it was renamed."""
+        """A new file and its path. It is gone at the end unless it was renamed."""
+        return NewFile(self, folder)
+
+
+class NewFile:
+    def __init__(self, traces, folder):
+        self.traces, self.folder = traces, folder
+
+    def __enter__(self):
         import tempfile
-        with self.lock:
-            handle, path = tempfile.mkstemp(prefix='.jslint-', dir=folder)
-            self.files.add(path)
+        with self.traces.lock:
+            handle, self.path = tempfile.mkstemp(prefix='.jslint-', dir=self.folder)
+            self.traces.files.add(self.path)
         try:
-            with open(handle, 'w+b') as file:
-                yield file, path
+            self.file = open(handle, 'w+b')
+        except BaseException:
+            self.remove()
+            raise
+        return self.file, self.path
+
+    def __exit__(self, *_):
+        try:
+            self.file.close()
         finally:
-            with contextlib.suppress(FileNotFoundError):
-                os.unlink(path)
-            with self.lock:
-                self.files.discard(path)
+            self.remove()
+
+    def remove(self):
+        try:
+            os.unlink(self.path)
+        except FileNotFoundError:
+            pass
+        finally:
+            with self.traces.lock:
+                self.traces.files.discard(self.path)
 
 
 TRACES = Traces()

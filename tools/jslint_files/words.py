@@ -1,7 +1,6 @@
 """The words of the command line."""
 import os
 import re
-import shutil
 
 from .streams import Wrong, shown
 
@@ -9,13 +8,13 @@ COMMANDS = ('check', 'fix', 'unwrap', 'format')
 FORMS = ('unix', 'pretty', 'json', 'sarif', 'junit', 'github')
 FLAGS = (
     'help', 'version', 'module', 'write', 'diff', 'drop-comments', 'drop-casts', 'project', 'no-ignore', 'allow-none', 'hints', 'ends', 'suppressions', 'summary', 'init',
-    'check', 'tabs', 'bare-arrows', 'fewest',
+    'check', 'tabs', 'bare-arrows', 'fewest', 'cache',
 )
-VALUES = ('format', 'settings', 'jobs', 'files-from', 'stdin', 'color', 'unsupported', 'max-warnings', 'explain', 'edition', 'print-config', 'width', 'indent', 'commas')
+VALUES = ('format', 'settings', 'jobs', 'files-from', 'stdin', 'color', 'unsupported', 'max-warnings', 'explain', 'edition', 'print-config', 'width', 'indent', 'commas', 'cache-location')
 # Those that may stand several times.
 LISTS = ('rule', 'only')
 # Those that `check` alone takes.
-CHECKING = ('format', 'color', 'ends', 'suppressions', 'max-warnings', 'explain', 'print-config', 'rule', 'only', 'init')
+CHECKING = ('format', 'color', 'ends', 'suppressions', 'max-warnings', 'explain', 'print-config', 'rule', 'only', 'init', 'cache', 'cache-location')
 # Those that `format` alone takes, and of them those that the program is handed, with what holds without them.
 FORMATTING = ('check', 'width', 'indent', 'tabs', 'commas', 'bare-arrows', 'fewest')
 HANDED = {'width': '80', 'indent': '2', 'commas': 'all', 'tabs': False, 'bare-arrows': False, 'fewest': False}
@@ -76,14 +75,23 @@ def judge(options, names):
         raise Wrong('--no-ignore is for --project: no ignore file is looked for without it')
     if not is_check:
         judge_rewriting(options)
-    if options['diff'] and not shutil.which('diff'):
+    if options['diff'] and not has_diff():
         raise Wrong('diff is not found')
     if options['ends'] and options['format'] != 'json':
         raise Wrong('--ends is for --format json')
     if options['max-warnings'] is not None and not re.fullmatch('[0-9]{1,9}', options['max-warnings']):
         raise Wrong('--max-warnings takes a number')
+    if options['cache-location'] is not None and not options['cache']:
+        raise Wrong('--cache-location is for --cache')
+    if options['stdin'] is not None and options['cache']:
+        raise Wrong('--cache is for files')
     if options['stdin'] is not None and (names or options['files-from'] is not None):
         raise Wrong('--stdin stands for the only script')
+
+
+def has_diff():
+    import shutil
+    return shutil.which('diff') is not None
 
 
 def may_be_fewest(options):

@@ -3,10 +3,8 @@
 // earlyErrors(tree, text) answers every error as {number, at} (byte offsets), sorted by
 // place, then by number; the first one is what `read_script` names.
 
-const isFunction = (node) =>
-  node.type === 'FunctionDeclaration' || node.type === 'FunctionExpression' || node.type === 'ArrowFunctionExpression';
-const isLoop = (node) => ['WhileStatement', 'DoWhileStatement', 'ForStatement', 'ForInStatement', 'ForOfStatement']
-  .includes(node.type);
+const isFunction = (node) => node.type === 'FunctionDeclaration' || node.type === 'FunctionExpression' || node.type === 'ArrowFunctionExpression';
+const isLoop = (node) => ['WhileStatement', 'DoWhileStatement', 'ForStatement', 'ForInStatement', 'ForOfStatement'].includes(node.type);
 
 const { RESERVED } = require('./scan.js');
 const { patternFault } = require('./patterns.js');
@@ -15,12 +13,18 @@ const { patternFault } = require('./patterns.js');
 function boundNames(pattern) {
   if (pattern === null) return [];
   switch (pattern.type) {
-    case 'Identifier': return [pattern];
-    case 'ArrayPattern': return pattern.elements.flatMap(boundNames);
-    case 'ObjectPattern': return pattern.properties.flatMap((p) => boundNames(p.type === 'Property' ? p.value : p));
-    case 'AssignmentPattern': return boundNames(pattern.left);
-    case 'RestElement': return boundNames(pattern.argument);
-    default: throw new Error('not a binding: ' + pattern.type);
+    case 'Identifier':
+      return [pattern];
+    case 'ArrayPattern':
+      return pattern.elements.flatMap(boundNames);
+    case 'ObjectPattern':
+      return pattern.properties.flatMap((p) => boundNames(p.type === 'Property' ? p.value : p));
+    case 'AssignmentPattern':
+      return boundNames(pattern.left);
+    case 'RestElement':
+      return boundNames(pattern.argument);
+    default:
+      throw new Error('not a binding: ' + pattern.type);
   }
 }
 const declaredBy = (declaration) => declaration.declarations.flatMap((d) => boundNames(d.id));
@@ -30,13 +34,20 @@ const isDeclaration = (node, ...kinds) => node !== null && node.type === 'Variab
 function assignedNames(target) {
   if (target === null) return [];
   switch (target.type) {
-    case 'Identifier': return [target];
-    case 'MemberExpression': return [];
-    case 'ArrayPattern': return target.elements.flatMap(assignedNames);
-    case 'ObjectPattern': return target.properties.flatMap((p) => assignedNames(p.type === 'Property' ? p.value : p));
-    case 'AssignmentPattern': return assignedNames(target.left);
-    case 'RestElement': return assignedNames(target.argument);
-    default: throw new Error('not a target: ' + target.type);
+    case 'Identifier':
+      return [target];
+    case 'MemberExpression':
+      return [];
+    case 'ArrayPattern':
+      return target.elements.flatMap(assignedNames);
+    case 'ObjectPattern':
+      return target.properties.flatMap((p) => assignedNames(p.type === 'Property' ? p.value : p));
+    case 'AssignmentPattern':
+      return assignedNames(target.left);
+    case 'RestElement':
+      return assignedNames(target.argument);
+    default:
+      throw new Error('not a target: ' + target.type);
   }
 }
 
@@ -64,21 +75,32 @@ function lexicalNames(list, top) {
 function varNames(node) {
   if (node === null) return [];
   switch (node.type) {
-    case 'VariableDeclaration': return node.kind === 'var' ? declaredBy(node) : [];
-    case 'ExportNamedDeclaration': return varNames(node.declaration);
-    case 'BlockStatement': return node.body.flatMap(varNames);
-    case 'IfStatement': return [...varNames(node.consequent), ...varNames(node.alternate)];
-    case 'LabeledStatement': case 'WhileStatement': case 'DoWhileStatement': return varNames(node.body);
-    case 'ForStatement': return [...varNames(node.init), ...varNames(node.body)];
-    case 'ForInStatement': case 'ForOfStatement': return [...varNames(node.left), ...varNames(node.body)];
-    case 'SwitchStatement': return node.cases.flatMap((c) => c.consequent.flatMap(varNames));
+    case 'VariableDeclaration':
+      return node.kind === 'var' ? declaredBy(node) : [];
+    case 'ExportNamedDeclaration':
+      return varNames(node.declaration);
+    case 'BlockStatement':
+      return node.body.flatMap(varNames);
+    case 'IfStatement':
+      return [...varNames(node.consequent), ...varNames(node.alternate)];
+    case 'LabeledStatement':
+    case 'WhileStatement':
+    case 'DoWhileStatement':
+      return varNames(node.body);
+    case 'ForStatement':
+      return [...varNames(node.init), ...varNames(node.body)];
+    case 'ForInStatement':
+    case 'ForOfStatement':
+      return [...varNames(node.left), ...varNames(node.body)];
+    case 'SwitchStatement':
+      return node.cases.flatMap((c) => c.consequent.flatMap(varNames));
     case 'TryStatement':
       return [...varNames(node.block), ...(node.handler ? varNames(node.handler.body) : []), ...varNames(node.finalizer)];
-    default: return [];
+    default:
+      return [];
   }
 }
-const varNamesOfTop = (list) =>
-  list.flatMap((item) => (item.type === 'FunctionDeclaration' ? [item.id] : varNames(item)));
+const varNamesOfTop = (list) => list.flatMap((item) => (item.type === 'FunctionDeclaration' ? [item.id] : varNames(item)));
 
 // Second and later identifiers of a name.
 function repeated(names) {
@@ -157,7 +179,9 @@ function earlyErrors(tree, text, { edition = 2021 } = {}) {
     repeated(params).forEach((id) => report(6, id));
     if (node.body.type !== 'BlockStatement') return;
     const names = nameSet(params);
-    lexicalNames(node.body.body, true).filter((id) => names.has(id.name)).forEach((id) => report(7, id));
+    lexicalNames(node.body.body, true)
+      .filter((id) => names.has(id.name))
+      .forEach((id) => report(7, id));
     if (node.params.every((p) => p.type === 'Identifier')) return;
     node.body.body.filter((item) => item.directive === 'use strict').forEach((item) => report(8, item));
   }
@@ -165,7 +189,9 @@ function earlyErrors(tree, text, { edition = 2021 } = {}) {
   function checkForHead(head, body) {
     if (!isDeclaration(head, 'let', 'const')) return;
     const vars = nameSet(varNames(body));
-    declaredBy(head).filter((id) => vars.has(id.name)).forEach((id) => report(13, id));
+    declaredBy(head)
+      .filter((id) => vars.has(id.name))
+      .forEach((id) => report(13, id));
   }
 
   function checkCatch(clause) {
@@ -202,8 +228,7 @@ function earlyErrors(tree, text, { edition = 2021 } = {}) {
       if (member.static && value === 'prototype') report(19, member.key);
     }
     for (const list of declarations.values()) {
-      const isPair = list.length === 2 && list[0].static === list[1].static &&
-        list.some((m) => m.kind === 'get') && list.some((m) => m.kind === 'set');
+      const isPair = list.length === 2 && list[0].static === list[1].static && list.some((m) => m.kind === 'get') && list.some((m) => m.kind === 'set');
       if (!isPair) list.slice(1).forEach((m) => report(26, m.key));
     }
   }
@@ -235,8 +260,17 @@ function earlyErrors(tree, text, { edition = 2021 } = {}) {
     };
     // Round the value of a field and in a static block.
     const initContext = (privates) => ({
-      labels: [], breakable: false, loop: false, superProperty: true, superCall: false, newTarget: true, forInOfHead: false,
-      yields: false, awaits: false, noArguments: true, privates,
+      labels: [],
+      breakable: false,
+      loop: false,
+      superProperty: true,
+      superCall: false,
+      newTarget: true,
+      forInOfHead: false,
+      yields: false,
+      awaits: false,
+      noArguments: true,
+      privates,
     });
 
     if (isFunction(node)) {
@@ -257,7 +291,10 @@ function earlyErrors(tree, text, { edition = 2021 } = {}) {
           continue;
         }
         if (member.computed) walk(member.key, keys);
-        if (member.type === 'PropertyDefinition') { walk(member.value, initContext(privates)); continue; }
+        if (member.type === 'PropertyDefinition') {
+          walk(member.value, initContext(privates));
+          continue;
+        }
         const derived = member.kind === 'constructor' && cls.superClass !== null;
         walkMethod(member.value, derived ? 'derived' : 'method', privates);
       }
@@ -304,7 +341,10 @@ function earlyErrors(tree, text, { edition = 2021 } = {}) {
           node.declarations.filter((d) => d.init === null).forEach((d) => report(5, d));
         }
         const plain = inBody({ forInOfHead: false });
-        for (const d of node.declarations) { walk(d.id, plain); walk(d.init, plain); }
+        for (const d of node.declarations) {
+          walk(d.id, plain);
+          walk(d.init, plain);
+        }
         return;
       }
       case 'LabeledStatement': {
@@ -315,12 +355,14 @@ function earlyErrors(tree, text, { edition = 2021 } = {}) {
         return;
       }
       case 'BreakStatement':
-        if (node.label === null) { if (!context.breakable) report(9, node); }
-        else if (!context.labels.some((l) => l.name === node.label.name)) report(10, node.label);
+        if (node.label === null) {
+          if (!context.breakable) report(9, node);
+        } else if (!context.labels.some((l) => l.name === node.label.name)) report(10, node.label);
         return;
       case 'ContinueStatement':
-        if (node.label === null) { if (!context.loop) report(9, node); }
-        else if (!context.labels.some((l) => l.name === node.label.name && l.loop)) report(10, node.label);
+        if (node.label === null) {
+          if (!context.loop) report(9, node);
+        } else if (!context.labels.some((l) => l.name === node.label.name && l.loop)) report(10, node.label);
         return;
       case 'WhileStatement':
       case 'DoWhileStatement':
@@ -339,7 +381,10 @@ function earlyErrors(tree, text, { edition = 2021 } = {}) {
         if (node.await === true && !context.awaits) report(23, node);
         if (edition >= 2022 && node.await === false && node.left.type === 'Identifier' && node.left.name === 'async') report(35, node.left);
         if (node.left.type === 'VariableDeclaration') walk(node.left, inBody({ forInOfHead: true }));
-        else { assign(node.left); walk(node.left, context); }
+        else {
+          assign(node.left);
+          walk(node.left, context);
+        }
         checkForHead(node.left, node.body);
         walk(node.right, context);
         walk(node.body, loopContext());
@@ -348,7 +393,10 @@ function earlyErrors(tree, text, { edition = 2021 } = {}) {
         walk(node.discriminant, context);
         checkList(node.cases.flatMap((c) => c.consequent), false);
         const inner = inBody({ breakable: true });
-        for (const c of node.cases) { walk(c.test, context); walkAll(c.consequent, inner); }
+        for (const c of node.cases) {
+          walk(c.test, context);
+          walkAll(c.consequent, inner);
+        }
         return;
       }
       case 'CatchClause':
@@ -371,18 +419,21 @@ function earlyErrors(tree, text, { edition = 2021 } = {}) {
         walk(node.argument, context);
         return;
       case 'MemberExpression':
-        if (node.object.type === 'Super') { if (!context.superProperty) report(14, node.object); }
-        else walk(node.object, context);
+        if (node.object.type === 'Super') {
+          if (!context.superProperty) report(14, node.object);
+        } else walk(node.object, context);
         if (node.computed || node.property.type === 'PrivateIdentifier') walk(node.property, context);
         return;
       case 'CallExpression':
-        if (node.callee.type === 'Super') { if (!context.superCall) report(15, node.callee); }
-        else walk(node.callee, context);
+        if (node.callee.type === 'Super') {
+          if (!context.superCall) report(15, node.callee);
+        } else walk(node.callee, context);
         walkAll(node.arguments);
         return;
       case 'MetaProperty':
-        if (node.meta.name === 'import') { if (!isModule) report(30, node); }
-        else if (!context.newTarget) report(16, node);
+        if (node.meta.name === 'import') {
+          if (!isModule) report(30, node);
+        } else if (!context.newTarget) report(16, node);
         return;
       case 'ClassDeclaration':
       case 'ClassExpression':
@@ -396,7 +447,11 @@ function earlyErrors(tree, text, { edition = 2021 } = {}) {
         return;
       case 'ObjectExpression': {
         const setsPrototype = (p) => p.type === 'Property' && p.kind === 'init' && !p.method && !p.shorthand && keyValue(p) === '__proto__';
-        if (edition >= 2022) node.properties.filter(setsPrototype).slice(1).forEach((p) => report(36, p.key));
+        if (edition >= 2022)
+          node.properties
+            .filter(setsPrototype)
+            .slice(1)
+            .forEach((p) => report(36, p.key));
         return walkAll(node.properties);
       }
       case 'TaggedTemplateExpression':
@@ -424,13 +479,22 @@ function earlyErrors(tree, text, { edition = 2021 } = {}) {
   }
 
   walk(tree, {
-    labels: [], breakable: false, loop: false, superProperty: false, superCall: false, newTarget: false, forInOfHead: false,
-    yields: false, awaits: isModule, noArguments: false, privates: new Set(),
+    labels: [],
+    breakable: false,
+    loop: false,
+    superProperty: false,
+    superCall: false,
+    newTarget: false,
+    forInOfHead: false,
+    yields: false,
+    awaits: isModule,
+    noArguments: false,
+    privates: new Set(),
   });
   return [...errors.values()].sort((a, b) => a.at - b.at || a.number - b.number);
 }
 
-const endsInPrivate = (node) => (node.type === 'ChainExpression' ? endsInPrivate(node.expression)
-  : node.type === 'MemberExpression' && node.property.type === 'PrivateIdentifier');
+const endsInPrivate = (node) =>
+  (node.type === 'ChainExpression' ? endsInPrivate(node.expression) : node.type === 'MemberExpression' && node.property.type === 'PrivateIdentifier');
 
 module.exports = { earlyErrors, boundNames, varNames, lexicalNames };

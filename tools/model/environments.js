@@ -146,8 +146,13 @@ const ENVIRONMENTS = new Map([
   ['commonjs', new Set(words('exports module require'))],
   ['worker', new Set([...WINDOWS_AND_WORKERS, ...WORKERS])],
   ['es2022', new Set(words('AggregateError FinalizationRegistry WeakRef escape unescape'))],
-  ['mocha', new Set(words(`after afterEach before beforeEach context describe it mocha run setup specify suite suiteSetup suiteTeardown
-teardown test xcontext xdescribe xit xspecify`))],
+  [
+    'mocha',
+    new Set(
+      words(`after afterEach before beforeEach context describe it mocha run setup specify suite suiteSetup suiteTeardown
+teardown test xcontext xdescribe xit xspecify`)
+    ),
+  ],
   ['jest', new Set(words('afterAll afterEach beforeAll beforeEach describe expect fdescribe fit it jest test xdescribe xit xtest'))],
 ]);
 

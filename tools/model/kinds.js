@@ -50,7 +50,12 @@ const ROWS = [
   ['UnaryExpression', 'expression', 'argument Unary', { rank: 'Unary', text: 'operator' }],
   ['BinaryExpression', 'expression', 'left operand, right operand', { text: 'operator', layout: '{left} {operator} {right}' }],
   ['LogicalExpression', 'expression', 'left operand, right operand', { text: 'operator', layout: '{left} {operator} {right}' }],
-  ['ConditionalExpression', 'expression', 'test ShortCircuit, consequent Assignment, alternate Assignment', { rank: 'Conditional', layout: '{test} ? {consequent} : {alternate}' }],
+  [
+    'ConditionalExpression',
+    'expression',
+    'test ShortCircuit, consequent Assignment, alternate Assignment',
+    { rank: 'Conditional', layout: '{test} ? {consequent} : {alternate}' },
+  ],
   ['AssignmentExpression', 'expression', 'left target, right Assignment', { rank: 'Assignment', text: 'operator' }],
   ['SequenceExpression', 'expression', 'expressions Assignment..', { rank: 'Expression', layout: '{expressions}' }],
   ['ArrayPattern', 'pattern', 'elements node?..'],
@@ -123,20 +128,34 @@ WhileStatement DoWhileStatement
 ConditionalExpression IfStatement
 BlockStatement ClassBody Program
 EmptyStatement DebuggerStatement
-SequenceExpression ArrayExpression`.trim().split('\n').map((line) => line.split(' '));
+SequenceExpression ArrayExpression`
+  .trim()
+  .split('\n')
+  .map((line) => line.split(' '));
 // Kinds that may be put around a single node.
-const AROUND = ('ChainExpression UnaryExpression SequenceExpression ExpressionStatement BlockStatement SpreadElement NewExpression CallExpression ImportExpression ' +
-  'ArrayExpression ArrayPattern ReturnStatement RestElement').split(' ');
+const AROUND = (
+  'ChainExpression UnaryExpression SequenceExpression ExpressionStatement BlockStatement SpreadElement NewExpression CallExpression ImportExpression ' +
+  'ArrayExpression ArrayPattern ReturnStatement RestElement'
+).split(' ');
 
 const words = (text = '') => text.split(' ').filter(Boolean);
 
 function rowOf([kind, family, written, { rank, text, flags, fields, layout } = {}]) {
-  const parts = written.split(', ').filter(Boolean).map((part) => {
-    const [, field, role, isGap, isList] = /^(\w+) (\w+)(\?)?(\.\.)?$/.exec(part);
-    return { field, role, mayBeGap: isGap !== undefined, isList: isList !== undefined };
-  });
+  const parts = written
+    .split(', ')
+    .filter(Boolean)
+    .map((part) => {
+      const [, field, role, isGap, isList] = /^(\w+) (\w+)(\?)?(\.\.)?$/.exec(part);
+      return { field, role, mayBeGap: isGap !== undefined, isList: isList !== undefined };
+    });
   return {
-    kind, family, parts, rank, text, flags: words(flags), written: layout,
+    kind,
+    family,
+    parts,
+    rank,
+    text,
+    flags: words(flags),
+    written: layout,
     layout: layout?.split(/\{(\w+)\}/).map((it, i) => (i % 2 === 0 ? { word: it } : { field: it, role: parts.find((part) => part.field === it)?.role })),
     fields: fields === undefined ? [...words(text), ...parts.map((it) => it.field), ...words(flags)] : words(fields),
   };

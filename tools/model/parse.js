@@ -77,7 +77,9 @@ class Parser {
     }
     return s.token;
   }
-  peekDiv() { return this.peek(GOAL.Div); }
+  peekDiv() {
+    return this.peek(GOAL.Div);
+  }
 
   take(goal = GOAL.RegExp) {
     const token = this.peek(goal);
@@ -87,13 +89,17 @@ class Parser {
     return token;
   }
 
-  fail(token = this.peek()) { throw new Refusal('Syntax', token.start); }
+  fail(token = this.peek()) {
+    throw new Refusal('Syntax', token.start);
+  }
 
   is(token, word) {
     return (token.cls === 'punctuator' || token.cls === 'name') && token.text === word;
   }
   // After an operand a `/` divides, so `sees` and `expect` look with goal Div by default.
-  sees(word, goal = GOAL.Div) { return this.is(this.peek(goal), word); }
+  sees(word, goal = GOAL.Div) {
+    return this.is(this.peek(goal), word);
+  }
   accept(word, goal = GOAL.Div) {
     if (!this.sees(word, goal)) return false;
     this.take(goal);
@@ -107,11 +113,17 @@ class Parser {
   isIdentifier(token) {
     return token.cls === 'name' && !RESERVED.has(token.text) && !(this.modern && token.text === 'await');
   }
-  isWord(token, word) { return token.cls === 'name' && token.text === word; }
+  isWord(token, word) {
+    return token.cls === 'name' && token.text === word;
+  }
 
   // The token behind the next one.
-  secondToken() { return scan(this.text, this.peek().end, GOAL.Div, this.edition); }
-  tokenBehind(token) { return scan(this.text, token.end, GOAL.Div, this.edition); }
+  secondToken() {
+    return scan(this.text, this.peek().end, GOAL.Div, this.edition);
+  }
+  tokenBehind(token) {
+    return scan(this.text, token.end, GOAL.Div, this.edition);
+  }
 
   // `async`, and on its line `function`.
   seesAsyncFunction() {
@@ -140,7 +152,9 @@ class Parser {
     if (this.openParens > this.maxParens) throw new Refusal('TooDeep');
     if (this.openParens > this.mostParens) this.mostParens = this.openParens;
   }
-  closeParen() { this.openParens -= 1; }
+  closeParen() {
+    this.openParens -= 1;
+  }
 
   group(left, right, node) {
     this.pairs.push({ left: this.byteAt(left), right: this.byteAt(right), node });
@@ -149,7 +163,9 @@ class Parser {
   }
 
   // Where the next expression begins, pairs round its first part included.
-  exprStart() { return this.seed !== null ? this.seed.start : this.peek().start; }
+  exprStart() {
+    return this.seed !== null ? this.seed.start : this.peek().start;
+  }
 
   // -------------------------------------------------------------- expressions
 
@@ -215,7 +231,10 @@ class Parser {
     let listEnd = listStart;
     while (!this.sees(')', GOAL.RegExp)) {
       trailingComma = false;
-      if (this.sees('...', GOAL.RegExp)) { rest = this.parseRestBinding(); break; }
+      if (this.sees('...', GOAL.RegExp)) {
+        rest = this.parseRestBinding();
+        break;
+      }
       items.push(this.parseAssignment(true));
       listEnd = this.lastEnd;
       if (!this.accept(',')) break;
@@ -230,8 +249,7 @@ class Parser {
       return { params };
     }
     if (items.length === 0 || rest !== null || trailingComma) this.fail(next);
-    const node = items.length === 1 ? items[0]
-      : this.node('SequenceExpression', listStart, { expressions: items }, listEnd);
+    const node = items.length === 1 ? items[0] : this.node('SequenceExpression', listStart, { expressions: items }, listEnd);
     return { node: this.group(open.start, close.start, node) };
   }
 
@@ -239,8 +257,7 @@ class Parser {
     this.expect('=>');
     const expression = !this.sees('{', GOAL.RegExp);
     const body = expression ? this.inside(() => this.parseAssignment(In)) : this.parseFunctionBody();
-    return this.node('ArrowFunctionExpression', start,
-      { id: null, params, body, generator: false, async, expression });
+    return this.node('ArrowFunctionExpression', start, { id: null, params, body, generator: false, async, expression });
   }
 
   // `async` and `(` on its line: {params} if `)` `=>` follows on one line, else {node}, a call. Neither counts as open.
@@ -275,8 +292,7 @@ class Parser {
   parseYield(In) {
     const start = this.take().start;
     const next = this.peek();
-    const bare = next.afterBreak || next.cls === 'end' ||
-      (next.cls === 'punctuator' && [')', ']', '}', ',', ';', ':'].includes(next.text));
+    const bare = next.afterBreak || next.cls === 'end' || (next.cls === 'punctuator' && [')', ']', '}', ',', ';', ':'].includes(next.text));
     if (bare) return this.node('YieldExpression', start, { argument: null, delegate: false });
     const delegate = this.accept('*', GOAL.RegExp);
     const argument = this.inside(() => this.parseAssignment(In));
@@ -549,18 +565,25 @@ class Parser {
         return this.parseTemplate();
       case 'name':
         switch (token.text) {
-          case 'this': this.take(); return this.node('ThisExpression', start, {});
-          case 'null': this.take(); return this.node('Literal', start, { raw: 'null', value: null });
+          case 'this':
+            this.take();
+            return this.node('ThisExpression', start, {});
+          case 'null':
+            this.take();
+            return this.node('Literal', start, { raw: 'null', value: null });
           case 'true':
           case 'false':
             this.take();
             return this.node('Literal', start, { raw: token.text, value: token.text === 'true' });
-          case 'function': return this.parseFunction('FunctionExpression');
-          case 'class': return this.parseClass('ClassExpression');
+          case 'function':
+            return this.parseFunction('FunctionExpression');
+          case 'class':
+            return this.parseClass('ClassExpression');
           case 'async':
             if (this.seesAsyncFunction()) return this.parseFunction('FunctionExpression');
             return this.parseIdentifier();
-          default: return this.parseIdentifier();
+          default:
+            return this.parseIdentifier();
         }
       case 'punctuator':
         if (token.text === '[') return this.parseArray();
@@ -598,7 +621,9 @@ class Parser {
   }
 
   // The name of a member: private or not.
-  parseMemberName() { return this.peekDiv().cls === 'private' ? this.parsePrivateName() : this.parseName(); }
+  parseMemberName() {
+    return this.peekDiv().cls === 'private' ? this.parsePrivateName() : this.parseName();
+  }
 
   parseStringLiteral() {
     const token = this.take();
@@ -631,7 +656,10 @@ class Parser {
     const elements = [];
     let commaAfterRest = false;
     while (!this.sees(']', GOAL.RegExp)) {
-      if (this.accept(',', GOAL.RegExp)) { elements.push(null); continue; }
+      if (this.accept(',', GOAL.RegExp)) {
+        elements.push(null);
+        continue;
+      }
       const element = this.inside(() => this.parseSpreadOr(() => this.parseAssignment(true)));
       elements.push(element);
       if (!this.accept(',')) break;
@@ -675,8 +703,7 @@ class Parser {
   }
   // In a class a key may be private.
   beginsKey(token, inClass = false) {
-    return token.cls === 'name' || token.cls === 'string' || token.cls === 'number' || this.is(token, '[') ||
-      (inClass && token.cls === 'private');
+    return token.cls === 'name' || token.cls === 'string' || token.cls === 'number' || this.is(token, '[') || (inClass && token.cls === 'private');
   }
 
   // `get` or `set` before a key; then it is taken.
@@ -700,8 +727,8 @@ class Parser {
 
   parseProperty() {
     const start = this.peek().start;
-    const property = (key, value, kind, method, shorthand) => this.node('Property', start,
-      { key: key.node, value, kind, method, shorthand, computed: key.computed });
+    const property = (key, value, kind, method, shorthand) =>
+      this.node('Property', start, { key: key.node, value, kind, method, shorthand, computed: key.computed });
     const accessor = this.acceptAccessor();
     const special = accessor === null ? this.acceptSpecial() : null;
     const key = this.parseKey();
@@ -739,16 +766,25 @@ class Parser {
   toBinding(node) {
     if (this.grouped.has(node)) this.fail(this.peekDiv());
     if (node.type === 'Identifier') return node;
-    return this.toPattern(node, (part) => this.toBinding(part), (part) => {
-      if (part.type !== 'Identifier') this.fail(this.peekDiv());
-      return this.toBinding(part);
-    });
+    return this.toPattern(
+      node,
+      (part) => this.toBinding(part),
+      (part) => {
+        if (part.type !== 'Identifier') this.fail(this.peekDiv());
+        return this.toBinding(part);
+      }
+    );
   }
-  toBindingElement(node) { return this.toElement(node, (part) => this.toBinding(part)); }
+  toBindingElement(node) {
+    return this.toElement(node, (part) => this.toBinding(part));
+  }
 
   // `part` or `part = initialiser`, where `part` is changed by `toPart`.
   toElement(node, toPart) {
-    if (node.type === 'AssignmentPattern') { node.left = toPart(node.left); return node; }
+    if (node.type === 'AssignmentPattern') {
+      node.left = toPart(node.left);
+      return node;
+    }
     if (node.type === 'AssignmentExpression' && node.operator === '=' && !this.grouped.has(node)) {
       node.type = 'AssignmentPattern';
       delete node.operator;
@@ -777,7 +813,10 @@ class Parser {
     if (node.type === 'ObjectExpression' || node.type === 'ObjectPattern') {
       node.type = 'ObjectPattern';
       for (const property of node.properties) {
-        if (isRest(property)) { rest(property, node.properties, toObjectRest); continue; }
+        if (isRest(property)) {
+          rest(property, node.properties, toObjectRest);
+          continue;
+        }
         if (property.kind !== 'init' || property.method) this.fail(this.peekDiv());
         this.coverInits.delete(property);
         property.value = this.toElement(property.value, toPart);
@@ -797,8 +836,14 @@ class Parser {
       this.take();
       const elements = [];
       while (!this.sees(']', GOAL.RegExp)) {
-        if (this.accept(',', GOAL.RegExp)) { elements.push(null); continue; }
-        if (this.sees('...', GOAL.RegExp)) { elements.push(this.parseRestBinding()); break; }
+        if (this.accept(',', GOAL.RegExp)) {
+          elements.push(null);
+          continue;
+        }
+        if (this.sees('...', GOAL.RegExp)) {
+          elements.push(this.parseRestBinding());
+          break;
+        }
         elements.push(this.inside(() => this.parseBindingElement()));
         if (!this.accept(',')) break;
       }
@@ -827,8 +872,8 @@ class Parser {
   parseBindingProperty() {
     const start = this.peek().start;
     const key = this.parseKey();
-    const property = (value, shorthand) => this.node('Property', start,
-      { key: key.node, value, kind: 'init', method: false, shorthand, computed: key.computed });
+    const property = (value, shorthand) =>
+      this.node('Property', start, { key: key.node, value, kind: 'init', method: false, shorthand, computed: key.computed });
     if (this.accept(':')) return property(this.inside(() => this.parseBindingElement()), false);
     if (!this.isIdentifier(key.token)) this.fail(this.peekDiv());
     const name = this.node('Identifier', start, { name: key.node.name });
@@ -855,7 +900,10 @@ class Parser {
     this.expect('(');
     const params = [];
     while (!this.sees(')', GOAL.RegExp)) {
-      if (this.sees('...', GOAL.RegExp)) { params.push(this.parseRestBinding()); break; }
+      if (this.sees('...', GOAL.RegExp)) {
+        params.push(this.parseRestBinding());
+        break;
+      }
       params.push(this.parseBindingElement());
       if (!this.accept(',')) break;
     }
@@ -940,8 +988,7 @@ class Parser {
     const keyValue = key.computed ? null : key.node.type === 'Identifier' ? key.node.name : key.node.value;
     const isConstructor = !isStatic && special === null && key.node.type !== 'PrivateIdentifier' && keyValue === 'constructor';
     const kind = accessor ?? (isConstructor ? 'constructor' : 'method');
-    return this.node('MethodDefinition', start,
-      { key: key.node, value, kind, computed: key.computed, static: isStatic });
+    return this.node('MethodDefinition', start, { key: key.node, value, kind, computed: key.computed, static: isStatic });
   }
 
   parseClassKey() {
@@ -963,7 +1010,10 @@ class Parser {
   // The `;` of a field, or none: 5 of modern.md. What could have gone on was taken before.
   fieldEnd(value) {
     const token = this.peek();
-    if (this.is(token, ';')) { this.take(); return; }
+    if (this.is(token, ';')) {
+      this.take();
+      return;
+    }
     if (this.is(token, '}')) return;
     if (token.afterBreak && token.cls !== 'fault' && !(value !== null && this.goesOn(this.rightEdge(value), token))) return;
     this.fail(token);
@@ -1018,20 +1068,24 @@ class Parser {
       let more = true;
       if (this.isIdentifier(this.peekDiv())) {
         const at = this.peekDiv().start;
-        specifiers.push(this.inside(() => {
-          const local = this.inside(() => this.parseIdentifier());
-          return this.node('ImportDefaultSpecifier', at, { local });
-        }));
+        specifiers.push(
+          this.inside(() => {
+            const local = this.inside(() => this.parseIdentifier());
+            return this.node('ImportDefaultSpecifier', at, { local });
+          })
+        );
         more = this.accept(',');
       }
       if (more) {
         const at = this.peekDiv().start;
         if (this.accept('*')) {
           this.expectWord('as');
-          specifiers.push(this.inside(() => {
-            const local = this.inside(() => this.parseIdentifier());
-            return this.node('ImportNamespaceSpecifier', at, { local });
-          }));
+          specifiers.push(
+            this.inside(() => {
+              const local = this.inside(() => this.parseIdentifier());
+              return this.node('ImportNamespaceSpecifier', at, { local });
+            })
+          );
         } else this.parseSpecifiers(() => this.parseImportSpecifier(), specifiers);
       }
       this.expectWord('from');
@@ -1059,7 +1113,9 @@ class Parser {
     return list;
   }
   // A name, reserved or not, or a string.
-  parseModuleName() { return this.inside(() => (this.peek().cls === 'string' ? this.parseStringLiteral() : this.parseName())); }
+  parseModuleName() {
+    return this.inside(() => (this.peek().cls === 'string' ? this.parseStringLiteral() : this.parseName()));
+  }
 
   parseImportSpecifier() {
     const token = this.peekDiv();
@@ -1139,32 +1195,47 @@ class Parser {
     });
   }
 
-  parseStatement() { return this.inside(() => this.parseStatementHere()); }
+  parseStatement() {
+    return this.inside(() => this.parseStatementHere());
+  }
 
   parseStatementHere() {
     const token = this.peek();
     const start = token.start;
     if (token.cls === 'punctuator') {
       if (token.text === '{') return this.parseBlock();
-      if (token.text === ';') { this.take(); return this.node('EmptyStatement', start, {}); }
+      if (token.text === ';') {
+        this.take();
+        return this.node('EmptyStatement', start, {});
+      }
     }
     if (token.cls === 'name') {
       switch (token.text) {
-        case 'var': return this.parseDeclarationStatement();
-        case 'if': return this.parseIf();
-        case 'do': return this.parseDo();
+        case 'var':
+          return this.parseDeclarationStatement();
+        case 'if':
+          return this.parseIf();
+        case 'do':
+          return this.parseDo();
         case 'while': {
           this.take();
           const test = this.parseHeadExpression();
           return this.node('WhileStatement', start, { test, body: this.parseStatement() }, this.lastEnd);
         }
-        case 'for': return this.parseFor();
-        case 'continue': return this.parseJump('ContinueStatement');
-        case 'break': return this.parseJump('BreakStatement');
-        case 'return': return this.parseReturn();
-        case 'switch': return this.parseSwitch();
-        case 'throw': return this.parseThrow();
-        case 'try': return this.parseTry();
+        case 'for':
+          return this.parseFor();
+        case 'continue':
+          return this.parseJump('ContinueStatement');
+        case 'break':
+          return this.parseJump('BreakStatement');
+        case 'return':
+          return this.parseReturn();
+        case 'switch':
+          return this.parseSwitch();
+        case 'throw':
+          return this.parseThrow();
+        case 'try':
+          return this.parseTry();
         case 'function':
         case 'class':
         case 'let':
@@ -1195,13 +1266,21 @@ class Parser {
     let n = node;
     while (!this.grouped.has(n)) {
       switch (n.type) {
-        case 'SequenceExpression': n = n.expressions[n.expressions.length - 1]; break;
+        case 'SequenceExpression':
+          n = n.expressions[n.expressions.length - 1];
+          break;
         case 'AssignmentExpression':
         case 'BinaryExpression':
-        case 'LogicalExpression': n = n.right; break;
-        case 'ConditionalExpression': n = n.alternate; break;
+        case 'LogicalExpression':
+          n = n.right;
+          break;
+        case 'ConditionalExpression':
+          n = n.alternate;
+          break;
         case 'UnaryExpression':
-        case 'AwaitExpression': n = n.argument; break;
+        case 'AwaitExpression':
+          n = n.argument;
+          break;
         case 'YieldExpression':
           if (n.argument === null) return 'arrow';
           n = n.argument;
@@ -1214,7 +1293,8 @@ class Parser {
           if (!n.expression) return 'arrow';
           n = n.body;
           break;
-        default: return 'expression';
+        default:
+          return 'expression';
       }
     }
     return 'expression';
@@ -1231,7 +1311,10 @@ class Parser {
 
   semicolon(edge, isDo = false) {
     const token = this.peek();
-    if (this.is(token, ';')) { this.take(); return; }
+    if (this.is(token, ';')) {
+      this.take();
+      return;
+    }
     if (token.cls === 'end' || this.is(token, '}') || isDo) return;
     if (token.afterBreak && token.cls !== 'fault' && !this.goesOn(edge, token)) return;
     this.fail(token);

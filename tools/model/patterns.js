@@ -45,14 +45,34 @@ class Fault extends Error {}
 
 class Reader {
   constructor(pattern, unicode) {
-    this.s = [...pattern]; this.at = 0; this.u = unicode; this.begin = 0;   // begin: where the piece that is being read starts
-    this.groups = 0; this.names = new Set(); this.late = [];                // late: [place, whether it is a fault, asked at the end]
+    this.s = [...pattern];
+    this.at = 0;
+    this.u = unicode;
+    this.begin = 0; // begin: where the piece that is being read starts
+    this.groups = 0;
+    this.names = new Set();
+    this.late = []; // late: [place, whether it is a fault, asked at the end]
   }
-  fail() { throw new Fault(String(this.begin)); }
-  peek(k = 0) { return this.s[this.at + k]; }
-  eat(text) { const cs = [...text]; if (!cs.every((c, k) => this.peek(k) === c)) return false; this.at += cs.length; return true; }
-  must(text) { if (!this.eat(text)) this.fail(); }
-  run(test) { let out = ''; while (this.at < this.s.length && test.test(this.peek())) out += this.s[this.at++]; return out; }
+  fail() {
+    throw new Fault(String(this.begin));
+  }
+  peek(k = 0) {
+    return this.s[this.at + k];
+  }
+  eat(text) {
+    const cs = [...text];
+    if (!cs.every((c, k) => this.peek(k) === c)) return false;
+    this.at += cs.length;
+    return true;
+  }
+  must(text) {
+    if (!this.eat(text)) this.fail();
+  }
+  run(test) {
+    let out = '';
+    while (this.at < this.s.length && test.test(this.peek())) out += this.s[this.at++];
+    return out;
+  }
 
   pattern() {
     let place = null;
@@ -60,22 +80,37 @@ class Reader {
       this.disjunction();
       this.begin = this.at;
       if (this.at < this.s.length) this.fail();
-    } catch (e) { if (!(e instanceof Fault)) throw e; place = +e.message; }
+    } catch (e) {
+      if (!(e instanceof Fault)) throw e;
+      place = +e.message;
+    }
     return place ?? this.late.find(([, test]) => test())?.[0] ?? null;
   }
-  disjunction() { do { while (this.term()); this.begin = this.at; } while (this.eat('|')); }
+  disjunction() {
+    do {
+      while (this.term());
+      this.begin = this.at;
+    } while (this.eat('|'));
+  }
   // whether there was one
   term() {
     const c = this.peek();
     this.begin = this.at;
     if (c === undefined || c === '|' || c === ')') return false;
     if (this.eat('^') || this.eat('$') || this.eat('\\b') || this.eat('\\B')) return true;
-    if (this.eat('(?=') || this.eat('(?!') || this.eat('(?<=') || this.eat('(?<!')) { this.close(); return true; }
+    if (this.eat('(?=') || this.eat('(?!') || this.eat('(?<=') || this.eat('(?<!')) {
+      this.close();
+      return true;
+    }
     this.atom();
     this.quantifier();
     return true;
   }
-  close() { this.disjunction(); this.begin = this.at; this.must(')'); }
+  close() {
+    this.disjunction();
+    this.begin = this.at;
+    this.must(')');
+  }
   quantifier() {
     this.begin = this.at;
     if (!(this.eat('*') || this.eat('+') || this.eat('?'))) {
@@ -92,9 +127,18 @@ class Reader {
   }
   atom() {
     if (this.eat('.')) return;
-    if (this.eat('\\')) { this.atomEscape(); return; }
-    if (this.eat('[')) { this.characterClass(); return; }
-    if (this.eat('(?:')) { this.close(); return; }
+    if (this.eat('\\')) {
+      this.atomEscape();
+      return;
+    }
+    if (this.eat('[')) {
+      this.characterClass();
+      return;
+    }
+    if (this.eat('(?:')) {
+      this.close();
+      return;
+    }
     if (this.eat('(?')) {
       const place = this.begin;
       const name = this.groupName();
@@ -104,28 +148,49 @@ class Reader {
       this.close();
       return;
     }
-    if (this.eat('(')) { this.groups += 1; this.close(); return; }
+    if (this.eat('(')) {
+      this.groups += 1;
+      this.close();
+      return;
+    }
     if (SYNTAX.has(this.peek())) this.fail();
     this.at += 1;
   }
   atomEscape() {
     const place = this.begin;
     const digits = /[1-9]/.test(this.peek() ?? '') ? this.run(/[0-9]/) : '';
-    if (digits !== '') { this.late.push([place, () => BigInt(digits) > BigInt(this.groups)]); return; }
-    if (this.peek() === 'k') { this.at += 1; const name = this.groupName(); this.late.push([place, () => !this.names.has(name)]); return; }
+    if (digits !== '') {
+      this.late.push([place, () => BigInt(digits) > BigInt(this.groups)]);
+      return;
+    }
+    if (this.peek() === 'k') {
+      this.at += 1;
+      const name = this.groupName();
+      this.late.push([place, () => !this.names.has(name)]);
+      return;
+    }
     if (!this.characterClassEscape()) this.characterEscape();
   }
   characterClassEscape() {
-    if (/[dDsSwW]/.test(this.peek() ?? '')) { this.at += 1; return true; }
+    if (/[dDsSwW]/.test(this.peek() ?? '')) {
+      this.at += 1;
+      return true;
+    }
     if (!this.u || !(this.eat('p') || this.eat('P'))) return false;
     this.must('{');
     const text = this.run(/[A-Za-z0-9_=]/);
     this.must('}');
     const parts = text.split('=');
     const [name, value] = parts;
-    if (parts.length === 1) { if (!BINARY.has(name) && !CATEGORIES.has(name)) this.fail(); return true; }
+    if (parts.length === 1) {
+      if (!BINARY.has(name) && !CATEGORIES.has(name)) this.fail();
+      return true;
+    }
     if (parts.length > 2) this.fail();
-    if (name === 'General_Category' || name === 'gc') { if (!CATEGORIES.has(value)) this.fail(); return true; }
+    if (name === 'General_Category' || name === 'gc') {
+      if (!CATEGORIES.has(value)) this.fail();
+      return true;
+    }
     if (!['Script', 'sc', 'Script_Extensions', 'scx'].includes(name) || !SCRIPTS.has(value)) this.fail();
     return true;
   }
@@ -156,8 +221,16 @@ class Reader {
     if (c === undefined) this.fail();
     this.at += 1;
     if ('fnrtv'.includes(c)) return { f: 12, n: 10, r: 13, t: 9, v: 11 }[c];
-    if (c === 'c') { const l = this.peek() ?? ''; if (!/[A-Za-z]/.test(l)) this.fail(); this.at += 1; return l.codePointAt(0) % 32; }
-    if (c === '0') { if (/[0-9]/.test(this.peek() ?? '')) this.fail(); return 0; }
+    if (c === 'c') {
+      const l = this.peek() ?? '';
+      if (!/[A-Za-z]/.test(l)) this.fail();
+      this.at += 1;
+      return l.codePointAt(0) % 32;
+    }
+    if (c === '0') {
+      if (/[0-9]/.test(this.peek() ?? '')) this.fail();
+      return 0;
+    }
     if (c === 'x') return this.hex(2);
     if (c === 'u') return this.unicodeEscape(this.u);
     if (this.u ? !(SYNTAX.has(c) || c === '/') : /\p{ID_Continue}/u.test(c)) this.fail();
@@ -176,7 +249,10 @@ class Reader {
         else if (this.u && this.eat('-')) atoms.push(0x2D);
         else if (this.characterClassEscape()) atoms.push('class');
         else atoms.push(...this.units(this.characterEscape()));
-      } else { this.at += 1; atoms.push(...(c === '-' ? ['-'] : this.units(c.codePointAt(0)))); }
+      } else {
+        this.at += 1;
+        atoms.push(...(c === '-' ? ['-'] : this.units(c.codePointAt(0))));
+      }
     }
     const value = (a) => (a === '-' ? 0x2D : a);
     for (let k = 0; k < atoms.length;) {
@@ -188,7 +264,9 @@ class Reader {
       } else k += 1;
     }
   }
-  units(c) { return this.u || c < 0x10000 ? [c] : [0xD800 + ((c - 0x10000) >> 10), 0xDC00 + ((c - 0x10000) & 0x3FF)]; }
+  units(c) {
+    return this.u || c < 0x10000 ? [c] : [0xD800 + ((c - 0x10000) >> 10), 0xDC00 + ((c - 0x10000) & 0x3FF)];
+  }
   groupName() {
     this.must('<');
     let name = '';
@@ -196,7 +274,10 @@ class Reader {
       let c = this.peek();
       if (c === undefined) this.fail();
       this.at += 1;
-      if (c === '\\') { this.must('u'); c = String.fromCodePoint(this.unicodeEscape(true)); }
+      if (c === '\\') {
+        this.must('u');
+        c = String.fromCodePoint(this.unicodeEscape(true));
+      }
       if (!(name === '' ? /[$_\p{ID_Start}]/u : /[$\u200C\u200D\p{ID_Continue}]/u).test(c)) this.fail();
       name += c;
     }

@@ -96,12 +96,16 @@ const finished = (node) => [...node.parts.filter((it) => it !== null).flatMap(fi
 
 function numbers(tree) {
   const { numberOf } = plan(tree);
-  return finished(plainTree(tree)).map((it) => `${it.kind}${numberOf.has(it.from) ? ` ${numberOf.get(it.from)}` : ''};`).join('');
+  return finished(plainTree(tree))
+    .map((it) => `${it.kind}${numberOf.has(it.from) ? ` ${numberOf.get(it.from)}` : ''};`)
+    .join('');
 }
 
 function rowCounts(tree) {
   const { numberOf } = plan(tree);
-  return finished(plainTree(tree)).map((it) => `${it.kind} ${finished(it).filter((each) => numberOf.has(each.from)).length};`).join('');
+  return finished(plainTree(tree))
+    .map((it) => `${it.kind} ${finished(it).filter((each) => numberOf.has(each.from)).length};`)
+    .join('');
 }
 
 const OF_NODES = { line: (script) => line(script), views: (script) => views(script.parts[0]), rank: (script) => symbol(script.parts[0]) };
@@ -117,7 +121,11 @@ function answer(call, text) {
 // ---------------------------------------------------------------- files
 
 // Which kinds a file has a row of, and its call.
-const EACH = { nodes: ['node line', (row) => row.kind !== 'Program'], views: ['node views', (row) => row.family !== 'part'], ranks: ['node rank', (row) => row.family === 'expression'] };
+const EACH = {
+  nodes: ['node line', (row) => row.kind !== 'Program'],
+  views: ['node views', (row) => row.family !== 'part'],
+  ranks: ['node rank', (row) => row.family === 'expression'],
+};
 
 // A tree of one node of a kind, whose parts are names.
 function sketchOf({ kind, text, parts }) {

@@ -38,10 +38,12 @@ function gapOf(source, share) {
 
 // The text of tokens with pairs, as lists of `(` and `)` by the index of the token.
 function spelled(tokens, opened, closed, gapBefore) {
-  return tokens.map((token, i) => {
-    const pieces = [...Array(opened[i]).fill('('), token.text, ...Array(closed[i]).fill(')')];
-    return pieces.map((piece, k) => gapBefore(k === 0 ? token.gap : '', piece) + piece).join('');
-  }).join('');
+  return tokens
+    .map((token, i) => {
+      const pieces = [...Array(opened[i]).fill('('), token.text, ...Array(closed[i]).fill(')')];
+      return pieces.map((piece, k) => gapBefore(k === 0 ? token.gap : '', piece) + piece).join('');
+    })
+    .join('');
 }
 
 // Pairs round expressions, up to three each; those that don't parse there are left out again.

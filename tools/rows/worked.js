@@ -19,9 +19,8 @@ const { linesColumns } = require('../compare/scripts.js');
 
 // A text as it stands in a row, and the text that a row means.
 const written = (text) => text.replace(/[\x00-\x1f]/g, (it) => String.fromCharCode(0x2400 + it.charCodeAt(0)));
-const meant = (text) => text
-  .replace(/⟦([^⟦⟧×]*)×(\d+)⟧/g, (_, piece, count) => piece.repeat(Number(count)))
-  .replace(/[␀-␟]/g, (it) => String.fromCharCode(it.charCodeAt(0) & 0x1f));
+const meant = (text) =>
+  text.replace(/⟦([^⟦⟧×]*)×(\d+)⟧/g, (_, piece, count) => piece.repeat(Number(count))).replace(/[␀-␟]/g, (it) => String.fromCharCode(it.charCodeAt(0) & 0x1f));
 const row = (call, ...texts) => [call, ...texts.map(written)].join('\t');
 
 // A text of bytes as the program shows it: of a long one how many, and the last 49.
@@ -36,7 +35,8 @@ const ACCEPTED = TEXTS.filter(accepted);
 const fixedText = ({ tree }) => layout(tree, plan(tree).wrapped);
 
 // What the rules find of a script under settings.
-const reportsOf = ({ tree, pairs, text }, settings) => runRules({ tree, text, scopes: resolve(tree), extra: extraPairs(pairs, plan(tree).wrapped), settings: fromToml(Buffer.from(settings)) });
+const reportsOf = ({ tree, pairs, text }, settings) =>
+  runRules({ tree, text, scopes: resolve(tree), extra: extraPairs(pairs, plan(tree).wrapped), settings: fromToml(Buffer.from(settings)) });
 
 // What a command writes of a script, with the text of its second file, and the status; `spans` is `check --spans`.
 const ANSWERS = {
@@ -92,7 +92,9 @@ function beginnings() {
 
 // ---------------------------------------------------------------- long flat texts
 
-const COUNT = 300, LONG = 10_000, HIGH = 400;
+const COUNT = 300,
+  LONG = 10_000,
+  HIGH = 400;
 
 // The text in a block, so many times, and behind all of them one parenthesis that nothing opens.
 function flat() {
@@ -105,7 +107,10 @@ function flat() {
     if (!parseOnly(block.repeat(2), LIMITS).ok || parseOnly(block.repeat(2) + ')', LIMITS).fault?.kind !== 'Syntax') throw new Error(`no flat text: ${it}`);
     return `pairs\t⟦${written(block)}×${COUNT}⟧)\tsyntax`;
   });
-  return [`# Long flat texts with one fault at the end: each worked script in a block, ${COUNT} times, and then a parenthesis. Made by tools/rows/worked.js.`, ...rows];
+  return [
+    `# Long flat texts with one fault at the end: each worked script in a block, ${COUNT} times, and then a parenthesis. Made by tools/rows/worked.js.`,
+    ...rows,
+  ];
 }
 
 // ---------------------------------------------------------------- devices that fail
@@ -125,7 +130,8 @@ const RUNS = [
 const fault = (kind) => `Err(Refused { fault: ${kind}, in_second: false, line: 0, column: 0, hint: Nothing }) `;
 
 // A run, by the plans of the reader, of the writer and of the second reader.
-const run = ([command, text, second], plans, found) => `run\t${[command, text, plans[0], plans[1], second, plans[2]].map(written).join('\t')}\t${written(found)}`;
+const run = ([command, text, second], plans, found) =>
+  `run\t${[command, text, plans[0], plans[1], second, plans[2]].map(written).join('\t')}\t${written(found)}`;
 
 // All calls of a device that passes a byte a call, and the first that is none.
 const callsOf = (text) => Array.from({ length: Buffer.byteLength(text) + 1 }, (_, i) => i + 1);
@@ -135,11 +141,21 @@ function failuresOf(given) {
   const [out, status] = answer(command, text, second);
   const whole = `Ok(${status}) ${out}`;
   const first = callsOf(text).map((k) => run(given, [`1 ${k}`, '', ''], fault('ReadFailed')));
-  const other = second === '' ? [] : [...callsOf(second).map((k) => run(given, ['', '', `1 ${k}`], fault('ReadFailed'))), run(given, ['', '', `1 ${callsOf(second).length + 1}`], whole)];
-  const writes = callsOf(out).slice(0, -1).map((k) => run(given, ['', `1 ${k}`, ''], fault('WriteFailed') + out.slice(0, k - 1)));
+  const other =
+    second === ''
+      ? []
+      : [...callsOf(second).map((k) => run(given, ['', '', `1 ${k}`], fault('ReadFailed'))), run(given, ['', '', `1 ${callsOf(second).length + 1}`], whole)];
+  const writes = callsOf(out)
+    .slice(0, -1)
+    .map((k) => run(given, ['', `1 ${k}`, ''], fault('WriteFailed') + out.slice(0, k - 1)));
   return [
-    ...first, run(given, [`1 ${callsOf(text).length + 1}`, '', ''], whole), ...other, ...writes, run(given, ['', `1 ${callsOf(out).length}`, ''], whole),
-    run(given, ['', '0', ''], out === '' ? whole : fault('WriteFailed')), run(given, ['1', '1', '1'], whole),
+    ...first,
+    run(given, [`1 ${callsOf(text).length + 1}`, '', ''], whole),
+    ...other,
+    ...writes,
+    run(given, ['', `1 ${callsOf(out).length}`, ''], whole),
+    run(given, ['', '0', ''], out === '' ? whole : fault('WriteFailed')),
+    run(given, ['1', '1', '1'], whole),
   ];
 }
 
@@ -179,13 +195,25 @@ const worked = () => [
   '# `cost` and `verify`, which takes the table that `cost` wrote, and what they write; and of `same`, with the fixed text and with the next script.',
   '# Then the text of the JSON value of each, and that the copy of a script is equal to it. Made by tools/rows/worked.js.',
   ...ACCEPTED.flatMap(workedOf),
-  ...ACCEPTED.map((it) => [it, treeJson(parse(it, LIMITS).tree)]).filter(([, json]) => isShort(json)).map(([it, json]) => row('value text', it, json)),
+  ...ACCEPTED.map((it) => [it, treeJson(parse(it, LIMITS).tree)])
+    .filter(([, json]) => isShort(json))
+    .map(([it, json]) => row('value text', it, json)),
   ...EXPRESSIONS.filter((it) => parseOnly(it, LIMITS).ok).map((it) => `equal copy\t${written(it)}\t(true, true)true`),
 ];
 
 // ---------------------------------------------------------------- scopes
 
-const KINDS = { var: 'Var', let: 'Let', const: 'Const', function: 'Function', class: 'Class', param: 'Param', catch: 'Catch', functionName: 'FunctionName', className: 'ClassName' };
+const KINDS = {
+  var: 'Var',
+  let: 'Let',
+  const: 'Const',
+  function: 'Function',
+  class: 'Class',
+  param: 'Param',
+  catch: 'Catch',
+  functionName: 'FunctionName',
+  className: 'ClassName',
+};
 
 function isSettled({ kind, initialised, inLoopHead, inForHead }) {
   if (kind === 'var') return Boolean(initialised);
@@ -197,7 +225,8 @@ function resolvedText({ scopes, references }) {
   const places = new Map();
   scopes.forEach((scope, n) => scope.bindings.forEach((it, i) => places.set(it, `(${n}, ${i})`)));
   const isOutside = (name, n) => n !== null && (scopes[n].bindings.some((it) => it.name === name) || isOutside(name, scopes[n].parent));
-  const binding = (it, parent) => `${it.name} ${KINDS[it.kind]} ${it.start}-${it.end}${isSettled(it) ? ' settled' : ''}${isOutside(it.name, parent) ? ' shadows' : ''}, `;
+  const binding = (it, parent) =>
+    `${it.name} ${KINDS[it.kind]} ${it.start}-${it.end}${isSettled(it) ? ' settled' : ''}${isOutside(it.name, parent) ? ' shadows' : ''}, `;
   const scope = ({ parent, bindings }) => `${parent === null ? 'None' : `Some(${parent})`}: ${bindings.map((it) => binding(it, parent)).join('')}`;
   const flags = (it) => `${it.reads ? ' read' : ''}${it.writes ? ' written' : ''}${it.underTypeof ? ' typeof' : ''}`;
   const reference = (it) => `${it.name} ${it.start}-${it.end} in ${it.scope}${flags(it)}${it.binding === null ? '' : ` ${places.get(it.binding)}`}, `;
@@ -206,7 +235,11 @@ function resolvedText({ scopes, references }) {
 
 function resolved() {
   const file = path.join(__dirname, '..', '..', 'crates', 'cases', 'data', 'scopes');
-  const others = fs.readFileSync(file, 'utf8').split('\n').filter((it) => it.startsWith('check\t')).map((it) => meant(it.split('\t')[1]));
+  const others = fs
+    .readFileSync(file, 'utf8')
+    .split('\n')
+    .filter((it) => it.startsWith('check\t'))
+    .map((it) => meant(it.split('\t')[1]));
   const texts = [...new Set([...ACCEPTED, ...others])].filter((it) => isShort(it));
   return [
     '# Scripts with their scopes, each with the number of the one round it and what it declares, and behind `;` their references, each with the',
@@ -218,21 +251,98 @@ function resolved() {
 // ---------------------------------------------------------------- single calls
 
 const SETTINGS = [
-  '', '\n', 'globals = ["a"]', 'globals = ["b", "a"]\nallow-null = true\n', 'ignore-underscore = true', 'allow-null = false\nignore-underscore = false', 'allow-comments = true', 'allow-comments = false', '[rules]\n', '[rules]\nno-var = false\n',
-  '[rules]\nno-var = true\neqeqeq = false', 'globals = ["b"]\n[rules]\nno-var = false\n', 'env = ["node"]', 'env = ["mocha", "browser"]\nglobals = ["a"]\nallow-null = true', 'ignore-underscore = true\nglobals = []\n[rules]\nno-empty = false',
-  '[rules]\nno-such = true', 'rule = 1', 'globals = [1]', 'allow-null = "yes"', 'allow-comments = 1', 'globals = [', 'a', '[rules', '[rules]\nno-var = 1', 'globals = "a"', 'env = ["x"]', 'env = "node"', 'allow-null = true\nallow-null = true',
-  ...['"off"', '"warn"', '"error"', '0', '1', '2', '3', '-1', '1.0', '"Warn"', '"warning"', '""', '[]', '["warn"]', '{}', '{ severity = "warn" }', '{ severity = false }', '{ severity = 3 }', '{ severity = {} }',
-    '{ Severity = 1 }', '{ allow-null = true }'].map((it) => `rules.no-var = ${it}`),
-  ...['{ allow-null = true }', '{ allow-null = true, severity = 1 }', '{ allow-null = true, severity = 3 }', '{ allow-null = 1 }', '{ allow-comments = true }'].map((it) => `rules.eqeqeq = ${it}`),
-  'allow-null = true\nrules.eqeqeq = { allow-null = false }', 'allow-null = true\nrules.eqeqeq = "warn"', 'allow-null = 1\nrules.eqeqeq = { allow-null = true }', 'rules.no-empty = { allow-comments = true }',
-  'rules.no-unused-vars = { ignore-underscore = true, severity = "off" }', 'extends = "none"\nrules.no-var = {}', 'extends = "none"\nrules.no-var = { severity = 1 }', 'extends = "none"\nrules.no-var = true',
-  'only = []', 'only = ["no-var"]', 'only = ["no-var", "eqeqeq"]\nextends = "none"', 'only = ["no-var"]\nrules.no-var = "warn"', 'only = ["eqeqeq"]\nrules.eqeqeq = "off"\nrules.no-var = "warn"', 'only = ["no-with"]', 'only = ["no-such"]',
-  'only = ["no-var", "no-var"]', 'only = ["no-with", "no-var", "no-with"]', 'only = "no-var"', 'only = [1]', 'only = true', 'only = ["No-var"]', 'Only = []',
-  ...['"error"', 'false', '2', '{ severity = "warn" }', '{}', '"errors"', '{ allow-null = true }'].map((it) => `rules.no-with = ${it}`), 'rules.no-withs = 1', 'rules.no-delete-var = 1\nrules.no-dupe-args = 1\nrules.no-nonoctal-decimal-escape = 1\nrules.no-octal = 1\nrules.no-octal-escape = 1\nrules.no-with = 1',
+  '',
+  '\n',
+  'globals = ["a"]',
+  'globals = ["b", "a"]\nallow-null = true\n',
+  'ignore-underscore = true',
+  'allow-null = false\nignore-underscore = false',
+  'allow-comments = true',
+  'allow-comments = false',
+  '[rules]\n',
+  '[rules]\nno-var = false\n',
+  '[rules]\nno-var = true\neqeqeq = false',
+  'globals = ["b"]\n[rules]\nno-var = false\n',
+  'env = ["node"]',
+  'env = ["mocha", "browser"]\nglobals = ["a"]\nallow-null = true',
+  'ignore-underscore = true\nglobals = []\n[rules]\nno-empty = false',
+  '[rules]\nno-such = true',
+  'rule = 1',
+  'globals = [1]',
+  'allow-null = "yes"',
+  'allow-comments = 1',
+  'globals = [',
+  'a',
+  '[rules',
+  '[rules]\nno-var = 1',
+  'globals = "a"',
+  'env = ["x"]',
+  'env = "node"',
+  'allow-null = true\nallow-null = true',
+  ...[
+    '"off"',
+    '"warn"',
+    '"error"',
+    '0',
+    '1',
+    '2',
+    '3',
+    '-1',
+    '1.0',
+    '"Warn"',
+    '"warning"',
+    '""',
+    '[]',
+    '["warn"]',
+    '{}',
+    '{ severity = "warn" }',
+    '{ severity = false }',
+    '{ severity = 3 }',
+    '{ severity = {} }',
+    '{ Severity = 1 }',
+    '{ allow-null = true }',
+  ].map((it) => `rules.no-var = ${it}`),
+  ...[
+    '{ allow-null = true }',
+    '{ allow-null = true, severity = 1 }',
+    '{ allow-null = true, severity = 3 }',
+    '{ allow-null = 1 }',
+    '{ allow-comments = true }',
+  ].map((it) => `rules.eqeqeq = ${it}`),
+  'allow-null = true\nrules.eqeqeq = { allow-null = false }',
+  'allow-null = true\nrules.eqeqeq = "warn"',
+  'allow-null = 1\nrules.eqeqeq = { allow-null = true }',
+  'rules.no-empty = { allow-comments = true }',
+  'rules.no-unused-vars = { ignore-underscore = true, severity = "off" }',
+  'extends = "none"\nrules.no-var = {}',
+  'extends = "none"\nrules.no-var = { severity = 1 }',
+  'extends = "none"\nrules.no-var = true',
+  'only = []',
+  'only = ["no-var"]',
+  'only = ["no-var", "eqeqeq"]\nextends = "none"',
+  'only = ["no-var"]\nrules.no-var = "warn"',
+  'only = ["eqeqeq"]\nrules.eqeqeq = "off"\nrules.no-var = "warn"',
+  'only = ["no-with"]',
+  'only = ["no-such"]',
+  'only = ["no-var", "no-var"]',
+  'only = ["no-with", "no-var", "no-with"]',
+  'only = "no-var"',
+  'only = [1]',
+  'only = true',
+  'only = ["No-var"]',
+  'Only = []',
+  ...['"error"', 'false', '2', '{ severity = "warn" }', '{}', '"errors"', '{ allow-null = true }'].map((it) => `rules.no-with = ${it}`),
+  'rules.no-withs = 1',
+  'rules.no-delete-var = 1\nrules.no-dupe-args = 1\nrules.no-nonoctal-decimal-escape = 1\nrules.no-octal = 1\nrules.no-octal-escape = 1\nrules.no-with = 1',
 ];
 
 // Those that are no TOML, each with the byte at which the crate `toml` says so.
-const NOT_TOML = new Map([['globals = [', 11], ['a', 1], ['[rules', 6], ['allow-null = true\nallow-null = true', 18]]);
+const NOT_TOML = new Map([
+  ['globals = [', 11],
+  ['a', 1],
+  ['[rules', 6],
+  ['allow-null = true\nallow-null = true', 18],
+]);
 
 function settingsRow(text) {
   const found = fromToml(Buffer.from(text));
@@ -248,7 +358,11 @@ function tableRows(text) {
   const { tree } = parse(text, LIMITS);
   return [1, 2].map((format) => writeTable(plan(tree), format)).flatMap((table) => {
     const lines = table.split('\n').slice(0, -1);
-    const cut = lines.flatMap((line, i) => [lines.slice(0, i).join('\n') + (i > 0 ? '\n' : ''), [...lines.slice(0, i), line.slice(0, -1)].join('\n')].map((it) => row('read table', it, `bad table row ${i} Form`)));
+    const cut = lines.flatMap((line, i) =>
+      [lines.slice(0, i).join('\n') + (i > 0 ? '\n' : ''), [...lines.slice(0, i), line.slice(0, -1)].join('\n')].map((it) =>
+        row('read table', it, `bad table row ${i} Form`)
+      )
+    );
     return [row('read table', table, `(${lines.length - 2}, ${plan(tree).total})`), ...cut];
   });
 }
@@ -265,7 +379,14 @@ function rulesRow(text) {
 const REFUSED = ['debugger;', 'a;', 'debugger; { debugger }', 'if (a) debugger; else { b; debugger\n}'];
 function refusedRow(text) {
   const { tree, pairs } = parse(text, LIMITS);
-  const settings = fromToml(Buffer.from('[rules]\n' + RULE_NAMES.filter((it) => it !== 'no-debugger').map((it) => `${it} = false\n`).join('')));
+  const settings = fromToml(
+    Buffer.from(
+      '[rules]\n' +
+        RULE_NAMES.filter((it) => it !== 'no-debugger')
+          .map((it) => `${it} = false\n`)
+          .join('')
+    )
+  );
   const reports = runRules({ tree, text, scopes: resolve(tree), extra: extraPairs(pairs, plan(tree).wrapped), settings });
   return row('refused rule', text, '', `(true, true)${reports.map((it) => ` ${it.start}-${it.end} ${it.rule}`).join('')}`);
 }
@@ -294,7 +415,17 @@ const calls = () => [
 
 // ---------------------------------------------------------------- pieces
 
-const GAUGED = ['', 'a;', `"⟦a×10000⟧"`, '`⟦a×10000⟧`', '⟦a×10000⟧;', '⟦a;␊×5000⟧', '⟦{×100⟧⟦a = [b, {c: d}];×300⟧⟦}×100⟧', '⟦f(×300⟧a⟦)×300⟧', '({}).a⟦.b×400⟧;'];
+const GAUGED = [
+  '',
+  'a;',
+  `"⟦a×10000⟧"`,
+  '`⟦a×10000⟧`',
+  '⟦a×10000⟧;',
+  '⟦a;␊×5000⟧',
+  '⟦{×100⟧⟦a = [b, {c: d}];×300⟧⟦}×100⟧',
+  '⟦f(×300⟧a⟦)×300⟧',
+  '({}).a⟦.b×400⟧;',
+];
 
 function gaugedRows(given) {
   const text = meant(given);
@@ -304,7 +435,11 @@ function gaugedRows(given) {
   };
   const { tree } = parse(text, LIMITS);
   const rows = ['fix', 'unwrap', 'tree', 'check', 'spans', 'cost', 'same'].map((it) => `gauged run\t${it}\t${size(it)}`);
-  return [...rows, `gauged layout\t${given}\t(Ok(()), ${Buffer.byteLength(layout(tree, new Set()))}, true)`, `gauged table\t${given}\t(Ok(()), ${Buffer.byteLength(answer('cost', text)[0])}, true)`];
+  return [
+    ...rows,
+    `gauged layout\t${given}\t(Ok(()), ${Buffer.byteLength(layout(tree, new Set()))}, true)`,
+    `gauged table\t${given}\t(Ok(()), ${Buffer.byteLength(answer('cost', text)[0])}, true)`,
+  ];
 }
 
 const gauged = () => [

@@ -1,5 +1,6 @@
 'use strict';
 // The texts that this project's description works through, refused ones among them, and the settings that some go with.
+// Its rows are laid out by hand.
 
 // The table of `a + (b);` in the first of the two formats.
 const TABLE = ['jslint-cost 1', '1 BinaryExpression 0 0 0 0 0 - - -', '2 Identifier 0 0 0 0 0 0 0 0', '3 Identifier 0 0 0 0 0 0 0 0', 'total 0', ''].join('\n');

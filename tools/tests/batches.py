@@ -5,8 +5,9 @@ own, in which it works.
 """
 import os
 
+import recipes
 from files import files, program
-from recipes import same
+from recipes import is_well, same
 
 BUG, FINE, MODULE, CAST = 'debugger;\n', 'globalThis.a = 1;\n', 'export default 1;\ndebugger;\n', 'globalThis.b = /** @type {A} */ (globalThis.a);\n'
 TURNED_OFF = 'debugger; // jslint-disable-line no-debugger -- it stays\n'
@@ -62,4 +63,37 @@ def other_programs(room):
         same(files(room, '--', *names, **how), wanted, odd)
 
 
-TESTS = [each_as_alone, by_settings, other_programs]
+def made_up(room, count):
+    """Puts so many scripts in folders: with reports, warnings, refusals by one language and by all, odd names, some that can't be read; and gives their names."""
+    texts, odd, names = [*TEXTS.values(), 'a == b;\nvar c;\n', 'import.meta;\n', 'async () => { await 0; };\n', 'let a, a;\n', '(' * 2000, '\ufeff;;\n'], [it for it in ODD if '/' not in it and it.endswith('.js')], []
+    room.put('jslint.toml', 'extends = "all"\n[rules]\nno-var = "warn"\neqeqeq = "warn"\n[[overrides]]\nfiles = ["3/"]\nrules = { no-debugger = "off" }\n')
+    for number in range(count):
+        folder = number % 7
+        name = f'{folder}/{number} {odd[number // 9 % len(odd)]}' if number % 9 == 0 else f'{folder}/{number}.{("js", "js", "mjs", "cjs")[number % 4]}'
+        os.makedirs(room.path(str(folder)), exist_ok=True)
+        with open(os.path.join(os.fsencode(room.path('.')), os.fsencode(name)), 'wb') as file:
+            file.write(b'a;\xff' if number % 50 == 1 else texts[number % len(texts)].encode())
+        names.append(name)
+        if number % 60 == 2:
+            os.remove(os.path.join(os.fsencode(room.path('.')), os.fsencode(name)))
+            number % 120 == 2 and os.symlink('gone', os.path.join(os.fsencode(room.path('.')), os.fsencode(name)))
+    return names
+
+
+def as_one_by_one(room):
+    """Of 300 scripts of all kinds what is said is what a program that knows no lists has said of each by itself, byte for byte, whatever is asked for."""
+    names = made_up(room, 300)
+    alone = program(room, 'case "$*" in *--list*) exit 2;; *) exec "$JSLINT_REAL" "$@";; esac') | {'JSLINT_LIBRARY': ''}
+    listed = {'JSLINT': f'{recipes.BIN}/jslint', 'JSLINT_LIBRARY': ''}
+    for words in (('--files-from', 'names'), ('--project',), ('--files-from', 'names', '--module'), ('--files-from', 'names', '--settings', 's.toml', '--format', 'github'), ('--project', '--hints', '--summary')):
+        with open(room.path('names'), 'wb') as file:
+            file.write(b''.join(os.fsencode(it) + b'\0' for it in names))
+        room.put('s.toml', 'extends = "recommended"\n[rules]\nno-var = "warn"\n')
+        wanted = files(room, *words, **alone)
+        same(wanted[0], 2, words)
+        is_well(wanted[1].count('\n') > 200, wanted[1].count('\n'))
+        for jobs in ('1', '3'):
+            same(files(room, *words, '--jobs', jobs, **listed), wanted, (words, jobs))
+
+
+TESTS = [each_as_alone, by_settings, other_programs, as_one_by_one]

@@ -16,7 +16,7 @@ LANGUAGE = {'--edition', '--module'}
 SHARED = {*LANGUAGE, '--jobs', '--files-from', '--help', '--version', '--project', '--no-ignore', '--allow-none', '--stdin', '--hints', '--unsupported', '--summary'}
 REWRITING = {'--write', '--diff'} | SHARED
 FORMATTING = {'--check', '--width', '--indent', '--tabs', '--commas', '--bare-arrows', '--fewest', '--drop-casts', '--settings'}
-CHECKING = {'--settings', '--format', '--color', '--ends', '--suppressions', '--max-warnings', '--explain', '--rule', '--only', '--print-config', '--init'} | SHARED
+CHECKING = {'--settings', '--format', '--color', '--ends', '--suppressions', '--cache', '--cache-location', '--max-warnings', '--explain', '--rule', '--only', '--print-config', '--init'} | SHARED
 SCRIPTS = {'a.js', 'two words.js'}
 # Words of a command line, the last one unfinished; what is offered for it; and what mustn't be.
 ASKED = [

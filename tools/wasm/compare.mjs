@@ -45,13 +45,16 @@ function answered(room, command, file, second) {
 
 /** The module's answer, held against the program's, for a file that is told by this name. */
 function compare(room, command, { file, name, text }, second) {
-  const program = answered(room, command, file, second), answer = run(command, text, second);
+  const program = answered(room, command, file, second),
+    answer = run(command, text, second);
   const [out, err] = answer.isRefusal ? ['', answer.text] : [answer.text, ''];
   counts.answers++;
   counts.refusals += answer.isRefusal;
   if (program.status !== answer.status || !program.stdout.equals(Buffer.from(out)) || !program.stderr.equals(Buffer.from(err))) {
     counts.differences++;
-    console.log(`${command} ${name}: the program ${program.status} ${program.stderr} (${program.stdout.length} bytes), the module ${answer.status} ${err} (${out.length})`);
+    console.log(
+      `${command} ${name}: the program ${program.status} ${program.stderr} (${program.stdout.length} bytes), the module ${answer.status} ${err} (${out.length})`
+    );
   }
   return answer;
 }

@@ -12,7 +12,8 @@ import { pathToFileURL } from 'node:url';
 import { parseArgs } from 'node:util';
 
 const { values, positionals } = parseArgs({
-  allowPositionals: true, options: { program: { type: 'string' }, package: { type: 'string' }, rounds: { type: 'string', default: '7' } },
+  allowPositionals: true,
+  options: { program: { type: 'string' }, package: { type: 'string' }, rounds: { type: 'string', default: '7' } },
 });
 const ROUNDS = Number(values.rounds);
 const require = createRequire(import.meta.url);
@@ -32,7 +33,13 @@ function timed(call) {
 function ofProgram(command, file) {
   const times = Array.from({ length: ROUNDS }, () => {
     const out = spawnSync('bash', ['-c', 'TIMEFORMAT="%U %S"; time "$0" "$@" >/dev/null', values.program, command, file], { encoding: 'utf8' });
-    return 1000 * out.stderr.trim().split('\n').pop().split(' ').reduce((sum, it) => sum + Number(it), 0);
+    return 1000 *
+      out.stderr
+        .trim()
+        .split('\n')
+        .pop()
+        .split(' ')
+        .reduce((sum, it) => sum + Number(it), 0);
   });
   return Math.min(...times);
 }
@@ -53,7 +60,8 @@ run('fix', Buffer.from('a'));
 console.log(`loaded and compiled in ${loaded.toFixed(0)} ms, the first call ${(performance.now() - begun - loaded).toFixed(1)}`);
 const [acorn, escodegen] = ['acorn', 'escodegen'].map(installed);
 for (const file of positionals) {
-  const text = readFileSync(file), string = text.toString();
+  const text = readFileSync(file),
+    string = text.toString();
   console.log(`${basename(file)}, ${text.length} bytes`);
   for (const command of ['fix', 'unwrap', 'check', 'tree', 'cost']) {
     const [least, first] = timed(() => run(command, text));

@@ -16,7 +16,8 @@ class Wrong extends Error {}
 
 /** The settings' name, if there is one, and the names of the files. */
 function lineOf(words) {
-  const line = { settings: undefined, names: [], isHelp: false }, left = [...words];
+  const line = { settings: undefined, names: [], isHelp: false },
+    left = [...words];
   while (left.length > 0 && left[0] !== '--') {
     const word = left.shift();
     if (word === '--settings') {
@@ -78,7 +79,8 @@ function main(words) {
     say(USAGE);
     return 0;
   }
-  const settings = line.settings === undefined ? '' : settingsOf(line.settings), areModulesTaken = takesModules(settings);
+  const settings = line.settings === undefined ? '' : settingsOf(line.settings),
+    areModulesTaken = takesModules(settings);
   const results = [...new Set(line.names)].map((it) => resultOfFile(it, settings, areModulesTaken));
   say(`${format(results)}\n`);
   return results.some((it) => it.fatalErrorCount > 0) ? 2 : results.some((it) => it.errorCount > 0) ? 1 : 0;

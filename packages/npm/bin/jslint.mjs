@@ -12,17 +12,22 @@ const COMMANDS = ['check', 'fix', 'unwrap', 'format', 'tree', 'cost', 'verify', 
 
 /** Takes a flag, or an option with its value, out of words before `--`: whether it is there, its value, or null where that is missing. */
 function taken(words, name, hasValue) {
-  const marks = words.indexOf('--'), at = words.findIndex((it) => it === name || (hasValue && it.startsWith(`${name}=`)));
+  const marks = words.indexOf('--'),
+    at = words.findIndex((it) => it === name || (hasValue && it.startsWith(`${name}=`)));
   if (at < 0 || (marks >= 0 && marks < at)) return undefined;
-  const isSpaced = words[at] === name, [word, value = null] = words.splice(at, hasValue && isSpaced ? 2 : 1);
+  const isSpaced = words[at] === name,
+    [word, value = null] = words.splice(at, hasValue && isSpaced ? 2 : 1);
   return !hasValue || (isSpaced ? value : word.slice(name.length + 1));
 }
 
 /** The command, the names of its files and what is said of the language, or null where these are no words of the program. */
 function lineOf(words) {
-  const [command, ...rest] = words, isCheck = command === 'check';
-  const settings = isCheck ? taken(rest, '--settings', true) : undefined, hasSpans = isCheck && taken(rest, '--spans');
-  const edition = taken(rest, '--edition', true), isModule = taken(rest, '--module');
+  const [command, ...rest] = words,
+    isCheck = command === 'check';
+  const settings = isCheck ? taken(rest, '--settings', true) : undefined,
+    hasSpans = isCheck && taken(rest, '--spans');
+  const edition = taken(rest, '--edition', true),
+    isModule = taken(rest, '--module');
   const files = rest.filter((it) => it !== '--');
   const isWell = COMMANDS.includes(command) && files.length === (['verify', 'same'].includes(command) ? 2 : 1) && settings !== null && edition !== null;
   return isWell ? { command: hasSpans ? 'spans' : command, names: [files[0], files[1] ?? settings], edition, isModule } : null;

@@ -39,7 +39,8 @@ export function warn(text) {
 function readFrom(file, most) {
   const parts = [];
   for (let left = most; left > 0;) {
-    const part = Buffer.alloc(Math.min(left, 65536)), length = readSync(file, part);
+    const part = Buffer.alloc(Math.min(left, 65536)),
+      length = readSync(file, part);
     if (length === 0) break;
     parts.push(part.subarray(0, length));
     left -= length;

@@ -43,7 +43,8 @@ class Texts {
   /** `{ text }` or `{ fault }` of a file; null where there is none. A file is always asked for in the same way. */
   of(file, isOfBytes = false) {
     try {
-      const stat = statSync(file, { throwIfNoEntry: false }), state = stat && [stat.ino, stat.mtimeMs, stat.ctimeMs, stat.size].join();
+      const stat = statSync(file, { throwIfNoEntry: false }),
+        state = stat && [stat.ino, stat.mtimeMs, stat.ctimeMs, stat.size].join();
       if (!stat) return isThere(file) ? { fault: 'read failed: missing' } : null;
       const known = this.known.get(file);
       if (known?.state === state) return known.found;
@@ -63,7 +64,7 @@ export class Beside {
 
   /** The folders from a file's own up to that of its repository, or else to the top of the file system. */
   *foldersOf(file) {
-    for (let folder = path.dirname(file); ; folder = path.dirname(folder)) {
+    for (let folder = path.dirname(file);; folder = path.dirname(folder)) {
       yield folder;
       if (path.dirname(folder) === folder || isThere(path.join(folder, '.git'))) return;
     }
@@ -78,7 +79,8 @@ export class Beside {
   /** The nearest settings: `{ file, text }`, or `{ file, fault }` where they can't be read, or null. Open texts go first. Files are not merged. */
   settingsFor(script, openText) {
     for (const folder of this.foldersOf(script)) {
-      const file = path.join(folder, SETTINGS), found = this.settingsIn(file, openText);
+      const file = path.join(folder, SETTINGS),
+        found = this.settingsIn(file, openText);
       if (found !== null) return found;
     }
     return null;
@@ -86,7 +88,8 @@ export class Beside {
 
   /** The settings of a file, as above. */
   settingsIn(file, openText) {
-    const open = openText(file), found = open === null ? this.texts.of(file) : { text: open };
+    const open = openText(file),
+      found = open === null ? this.texts.of(file) : { text: open };
     return found && { file, ...found };
   }
 
@@ -95,7 +98,8 @@ export class Beside {
     if (/\.[cm]js$/.test(script)) return script.endsWith('.mjs') ? 'module' : 'script';
     if (!script.endsWith('.js')) return null;
     for (const folder of this.foldersOf(script)) {
-      const file = path.join(folder, PACKAGE), text = openText(file) ?? this.texts.of(file)?.text;
+      const file = path.join(folder, PACKAGE),
+        text = openText(file) ?? this.texts.of(file)?.text;
       if (text !== undefined) return kindSaid(text);
     }
     return null;
@@ -105,7 +109,8 @@ export class Beside {
   ignoresOf(folder) {
     const found = IGNORES.map((it) => path.join(folder, it));
     if (!isThere(path.join(folder, '.git'))) return found;
-    if (!this.excludes.has(folder)) this.excludes.set(folder, [path.join(commonFolder(folder), 'info', 'exclude'), excludesFile(folder)].filter((it) => it !== null));
+    if (!this.excludes.has(folder))
+      this.excludes.set(folder, [path.join(commonFolder(folder), 'info', 'exclude'), excludesFile(folder)].filter((it) => it !== null));
     return [...found, ...this.excludes.get(folder)];
   }
 
@@ -128,7 +133,8 @@ export class Beside {
 
   /** The folder up to which ignore files of a file count, the file's name from there, and what gives the patterns of a folder from there. */
   ignoring(file) {
-    const top = [...this.foldersOf(file)].at(-1), folderOf = (bytes) => path.join(top, Buffer.from(bytes, 'latin1').toString());
+    const top = [...this.foldersOf(file)].at(-1),
+      folderOf = (bytes) => path.join(top, Buffer.from(bytes, 'latin1').toString());
     return { top, name: path.relative(top, file).split(path.sep).join('/'), patternsAt: (bytes) => this.patternsIn(folderOf(bytes)) };
   }
 
@@ -144,17 +150,26 @@ export class Beside {
   }
 
   isPlaceIgnored(file, roots) {
-    const { top, name, patternsAt } = this.ignoring(file), from = isThere(path.join(top, '.git')) ? [top] : roots;
-    const isLeftOut = (root) => file.startsWith(path.join(root, path.sep)) && path.relative(root, file).split(path.sep).some((it) => LEFT_OUT.has(it));
+    const { top, name, patternsAt } = this.ignoring(file),
+      from = isThere(path.join(top, '.git')) ? [top] : roots;
+    const isLeftOut = (root) =>
+      file.startsWith(path.join(root, path.sep)) &&
+      path
+        .relative(root, file)
+        .split(path.sep)
+        .some((it) => LEFT_OUT.has(it));
     return from.some(isLeftOut) || isIgnored(name, false, patternsAt);
   }
 
   /** The scripts in a folder, and the folders in it, without what is ignored, both in order. Links are followed to neither. */
   entriesOf(folder) {
-    const entries = readdirSync(folder, { withFileTypes: true }).sort((a, b) => (a.name < b.name ? -1 : 1)), found = { scripts: [], folders: [] };
-    const { name, patternsAt } = this.ignoring(path.join(folder, 'any')), above = inBytes(name).split('/').slice(0, -1);
+    const entries = readdirSync(folder, { withFileTypes: true }).sort((a, b) => (a.name < b.name ? -1 : 1)),
+      found = { scripts: [], folders: [] };
+    const { name, patternsAt } = this.ignoring(path.join(folder, 'any')),
+      above = inBytes(name).split('/').slice(0, -1);
     for (const it of entries) {
-      const isScript = it.isFile() && SCRIPTS.some((end) => it.name.endsWith(end)), isFolder = it.isDirectory() && !LEFT_OUT.has(it.name);
+      const isScript = it.isFile() && SCRIPTS.some((end) => it.name.endsWith(end)),
+        isFolder = it.isDirectory() && !LEFT_OUT.has(it.name);
       // (the folders above were asked on the way down)
       if ((!isScript && !isFolder) || verdict([...above, inBytes(it.name)], isFolder, patternsAt)) continue;
       found[isScript ? 'scripts' : 'folders'].push(path.join(folder, it.name));

@@ -19,8 +19,11 @@ function runTogether(left, right) {
 
 /** The edits that take out a pair, with the blanks inside beside it. */
 function pairEdits(text, { start, end }) {
-  const inner = text.slice(start + 1, end - 1), lead = /^[ \t]*/.exec(inner)[0].length, trail = lead < inner.length ? /[ \t]*$/.exec(inner)[0].length : 0;
-  const first = start + 1 + lead, last = end - 1 - trail;
+  const inner = text.slice(start + 1, end - 1),
+    lead = /^[ \t]*/.exec(inner)[0].length,
+    trail = lead < inner.length ? /[ \t]*$/.exec(inner)[0].length : 0;
+  const first = start + 1 + lead,
+    last = end - 1 - trail;
   return [
     { start, end: first, text: runTogether(text[start - 1], text[first]) ? ' ' : '' },
     { start: last, end, text: runTogether(text[last - 1], text[end]) ? ' ' : '' },
@@ -30,18 +33,26 @@ function pairEdits(text, { start, end }) {
 /** The places of the names that a pattern binds. */
 function boundIn(pattern) {
   switch (pattern?.type) {
-    case undefined: return [];
-    case 'Identifier': return [pattern.start];
-    case 'ArrayPattern': return pattern.elements.flatMap(boundIn);
-    case 'ObjectPattern': return pattern.properties.flatMap((it) => boundIn(it.type === 'RestElement' ? it : it.value));
-    case 'AssignmentPattern': return boundIn(pattern.left);
-    default: return boundIn(pattern.argument);
+    case undefined:
+      return [];
+    case 'Identifier':
+      return [pattern.start];
+    case 'ArrayPattern':
+      return pattern.elements.flatMap(boundIn);
+    case 'ObjectPattern':
+      return pattern.properties.flatMap((it) => boundIn(it.type === 'RestElement' ? it : it.value));
+    case 'AssignmentPattern':
+      return boundIn(pattern.left);
+    default:
+      return boundIn(pattern.argument);
   }
 }
 
 /** All `let` declarations of a tree: where each begins, whether it is at the top, and the places of the names that it binds. */
 function letDeclarations(tree) {
-  const found = [], left = [tree], top = new Set(tree.body);
+  const found = [],
+    left = [tree],
+    top = new Set(tree.body);
   while (left.length) {
     const node = left.pop();
     if (node.type === 'VariableDeclaration' && node.kind === 'let') {
@@ -93,7 +104,8 @@ export class Judge {
   }
 
   hasSameComments(candidate) {
-    const unwrapped = this.own('unwrap'), other = unwrapped === null ? null : this.answer('unwrap', candidate);
+    const unwrapped = this.own('unwrap'),
+      other = unwrapped === null ? null : this.answer('unwrap', candidate);
     return other !== null && withoutBlanks(other) === withoutBlanks(unwrapped);
   }
 
@@ -104,14 +116,17 @@ export class Judge {
 
   /** Whether `unwrap` would take a cast's pair. */
   hasCasts() {
-    return mayHaveCasts(this.text) && (this.reportsOf('no-extra-parens').some((it) => isOfCast(this.text, it)) || losesCast(this.text, this.own('unwrap') ?? ''));
+    return mayHaveCasts(this.text) &&
+      (this.reportsOf('no-extra-parens').some((it) => isOfCast(this.text, it)) || losesCast(this.text, this.own('unwrap') ?? ''));
   }
 
   /** The edits that take out the reported pair whose `(` is at an index, or null: the tree stays, and each comment. */
   withoutPair(start) {
-    const pairs = this.once('pairs', () => new Map(this.reportsOf('no-extra-parens').map((it) => [it.start, it]))), pair = pairs.get(start);
+    const pairs = this.once('pairs', () => new Map(this.reportsOf('no-extra-parens').map((it) => [it.start, it]))),
+      pair = pairs.get(start);
     if (!pair) return null;
-    const edits = pairEdits(this.text, pair), candidate = applied(this.text, edits);
+    const edits = pairEdits(this.text, pair),
+      candidate = applied(this.text, edits);
     if (candidate === null || !this.hasSameTree(candidate)) return null;
     return !mayHaveComments(this.text.slice(start, pair.end)) || this.hasSameComments(candidate) ? edits : null;
   }
@@ -139,7 +154,8 @@ export class Judge {
     const it = lets.find((each) => each.names.includes(name));
     if (!it || !text.startsWith('let', it.start) || !it.names.every((each) => reported.has(each))) return null;
     const edits = [{ start: it.start, end: it.start + 'let'.length, text: 'const' }];
-    const before = this.own('fix'), after = this.answer('fix', applied(text, edits));
+    const before = this.own('fix'),
+      after = this.answer('fix', applied(text, edits));
     return before !== null && after !== null && differsInOneWord(before, after, 'let', 'const') ? { edits, isTop: it.isTop } : null;
   }
 }

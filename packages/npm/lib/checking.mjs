@@ -45,7 +45,8 @@ export class Checking {
 
   /** Checks a text after a while in which nothing more is typed; of settings, the scripts that have them. */
   plan(uri, wait) {
-    const { documents } = this.editor, document = documents.get(uri);
+    const { documents } = this.editor,
+      document = documents.get(uri);
     if (this.editor.isSettings(uri)) {
       this.checkSettings({ uri, text: document.text });
       const file = fileOf(uri);
@@ -60,8 +61,11 @@ export class Checking {
   }
 
   async checkNow(document, running) {
-    const { uri, revision, version } = document, message = path.basename(fileOf(uri) ?? uri);
-    const slow = setTimeout(() => { running.said = this.progress.begin('jslint: checking', { message }); }, SLOW_MS);
+    const { uri, revision, version } = document,
+      message = path.basename(fileOf(uri) ?? uri);
+    const slow = setTimeout(() => {
+      running.said = this.progress.begin('jslint: checking', { message });
+    }, SLOW_MS);
     try {
       const diagnostics = await this.diagnostics(document, running.control.signal);
       if (this.editor.isCurrent(document, revision)) this.publish(uri, diagnostics, version);
@@ -76,19 +80,24 @@ export class Checking {
 
   /** What `check` answers for a text: asked once for all who want it, until the text or what it is read by changes. */
   checked(document, signal) {
-    const asked = this.editor.askedFor(document.uri), { revision, kept } = document, by = JSON.stringify(asked);
+    const asked = this.editor.askedFor(document.uri),
+      { revision, kept } = document,
+      by = JSON.stringify(asked);
     if (kept?.revision !== revision || kept.by !== by) {
       const found = this.engine.run('check', { text: document.text, ...asked }, { signal: document.work.signal });
       document.kept = { revision, by, found };
       // (after a fault it is asked again)
-      found.catch(() => { if (document.kept?.found === found) document.kept = null; });
+      found.catch(() => {
+        if (document.kept?.found === found) document.kept = null;
+      });
     }
     return unlessAborted(document.kept.found, signal);
   }
 
   async diagnostics(document, signal) {
     if (!this.editor.isChecked(document)) return [];
-    const settings = this.editor.settingsFor(document.uri), { revision } = document;
+    const settings = this.editor.settingsFor(document.uri),
+      { revision } = document;
     if (settings?.fault) return this.shown.fault(document, 'settings', `not checked: ${settings.file}: ${settings.fault}`);
     try {
       const found = await this.checked(document, signal);
@@ -121,7 +130,8 @@ export class Checking {
     if (this.judged.get(uri)?.text === text) return;
     this.judged.set(uri, { text, isRefused: false });
     try {
-      const found = await this.engine.run('settings', { settings: text }, { rank: 0 }), now = this.judged.get(uri);
+      const found = await this.engine.run('settings', { settings: text }, { rank: 0 }),
+        now = this.judged.get(uri);
       if (now?.text !== text) return;
       now.isRefused = found.line !== null;
       this.publish(uri, this.shown.settings(new Document({ uri, text }, this.editor.encoding), found));
@@ -136,7 +146,9 @@ export class Checking {
   }
 
   async hover({ textDocument, position }, { signal }) {
-    const document = this.editor.document(textDocument), at = document.indexAt(position), settings = this.editor.settingsFor(document.uri);
+    const document = this.editor.document(textDocument),
+      at = document.indexAt(position),
+      settings = this.editor.settingsFor(document.uri);
     if (!this.editor.isChecked(document) || settings?.fault) return null;
     return this.shown.hover(document, await this.unlessChanged(signal, () => this.checked(document, signal)), at);
   }
@@ -150,4 +162,3 @@ export class Checking {
     }
   }
 }
-

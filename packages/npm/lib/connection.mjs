@@ -81,7 +81,8 @@ export class Connection {
   }
 
   async requested({ id, method, params }) {
-    const control = new AbortController(), { signal } = control;
+    const control = new AbortController(),
+      { signal } = control;
     this.running.set(id, control);
     try {
       const refused = this.gate(method, true);

@@ -24,7 +24,9 @@ function startsIn(text, from, to) {
 
 /** Where two texts differ: from where to where in the first, and how long it is in the second. */
 function changedStretch(a, b) {
-  let from = 0, to = a.length, end = b.length;
+  let from = 0,
+    to = a.length,
+    end = b.length;
   while (from < to && from < end && a.charCodeAt(from) === b.charCodeAt(from)) from++;
   while (to > from && end > from && a.charCodeAt(to - 1) === b.charCodeAt(end - 1)) to--, end--;
   return [from, to, end - from];
@@ -51,7 +53,8 @@ export class Document {
 
   /** Stretches that are kept while the text changes: those that a change touches go, and those behind it move. */
   moveMarks(from, to, length) {
-    const shift = length - (to - from), moved = (it) => (it.end <= from ? it : { ...it, start: it.start + shift, end: it.end + shift });
+    const shift = length - (to - from),
+      moved = (it) => (it.end <= from ? it : { ...it, start: it.start + shift, end: it.end + shift });
     this.marks = this.marks.filter((it) => it.end <= from || it.start >= to).map(moved);
   }
 
@@ -63,7 +66,8 @@ export class Document {
 
   /** The number of the line that an index is on. */
   lineAt(index) {
-    let low = 0, high = this.lines.length - 1;
+    let low = 0,
+      high = this.lines.length - 1;
     while (low < high) {
       const middle = (low + high + 1) >> 1;
       if (this.lines[middle] <= index) low = middle;
@@ -83,7 +87,8 @@ export class Document {
   indexAt(place) {
     const { line, character } = placeOf(place);
     if (line >= this.lines.length) return this.text.length;
-    const start = this.lines[line], end = this.endOf(line);
+    const start = this.lines[line],
+      end = this.endOf(line);
     if (this.encoding === 'utf-16') return Math.min(start + character, end);
     const width = WIDTHS[this.encoding];
     let at = start;
@@ -97,7 +102,8 @@ export class Document {
   }
 
   positionAt(index) {
-    const line = this.lineAt(index), start = this.lines[line];
+    const line = this.lineAt(index),
+      start = this.lines[line];
     if (this.encoding === 'utf-16') return { line, character: index - start };
     const width = WIDTHS[this.encoding];
     let character = 0;
@@ -133,11 +139,14 @@ export class Document {
 
   /** Replaces a stretch. Lines are looked for again from the line before the stretch to the first old line that begins behind it. */
   splice(from, to, put) {
-    const first = Math.max(0, this.lineAt(from) - 1), last = this.lineAt(to) + 1, shift = put.length - (to - from);
+    const first = Math.max(0, this.lineAt(from) - 1),
+      last = this.lineAt(to) + 1,
+      shift = put.length - (to - from);
     if (this.marks.length) this.moveMarks(from, to, put.length);
     this.text = this.text.slice(0, from) + put + this.text.slice(to);
     const until = last < this.lines.length ? this.lines[last] + shift : this.text.length + 1;
-    const between = startsIn(this.text, this.lines[first], until - 1), rest = this.lines.slice(last);
+    const between = startsIn(this.text, this.lines[first], until - 1),
+      rest = this.lines.slice(last);
     if (shift) for (let at = 0; at < rest.length; at++) rest[at] += shift;
     this.lines = this.lines.slice(0, first + 1).concat(between.filter((it) => it < until), rest);
   }

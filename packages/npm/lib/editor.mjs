@@ -84,7 +84,13 @@ export class Editor {
 
   /** Where settings for a script would be put: in the folder of the workspace or of the repository that has it; null where there is none. */
   newSettingsFor(uri) {
-    const file = fileOf(uri), folder = this.beside.topOf(file) ?? this.folders.map(fileOf).filter(Boolean).find((it) => file.startsWith(path.join(it, path.sep)));
+    const file = fileOf(uri),
+      folder =
+        this.beside.topOf(file) ??
+        this.folders
+          .map(fileOf)
+          .filter(Boolean)
+          .find((it) => file.startsWith(path.join(it, path.sep)));
     return folder ? uriOf(path.join(folder, SETTINGS)) : null;
   }
 
@@ -94,15 +100,21 @@ export class Editor {
 
   /** The settings of a script: those that the editor names, or else the nearest: `{ file, uri, text }`, or `fault` in place of `text`, or null. */
   settingsFor(uri) {
-    const file = fileOf(uri), named = this.namedSettings(), openText = (name) => this.openOf(name)?.text ?? null;
-    const found = named === null ? file && this.beside.settingsFor(file, openText) : this.beside.settingsIn(named, openText) ?? { file: named, fault: 'read failed: missing' };
+    const file = fileOf(uri),
+      named = this.namedSettings(),
+      openText = (name) => this.openOf(name)?.text ?? null;
+    const found =
+      named === null
+        ? file && this.beside.settingsFor(file, openText)
+        : this.beside.settingsIn(named, openText) ?? { file: named, fault: 'read failed: missing' };
     return found ? { ...found, uri: this.openOf(found.file)?.uri ?? uriOf(found.file) } : null;
   }
 
   /** How a text is read: by which settings, whether its name or package.json says that it is a module or a script, and whether comments in it turn reports
    * off. */
   askedFor(uri) {
-    const file = fileOf(uri), openText = (name) => this.openOf(name)?.text ?? null;
+    const file = fileOf(uri),
+      openText = (name) => this.openOf(name)?.text ?? null;
     return { settings: this.settingsFor(uri)?.text ?? '', kind: file === null ? null : this.beside.kindOf(file, openText), areRead: this.options.suppressions };
   }
 

@@ -2,7 +2,9 @@
 // in blanks between the same characters.
 
 // So many equal characters count as going on together, after a small step and after a larger one.
-const SMALL_STEP = 6, SMALL_RUN = 6, RUN = 24;
+const SMALL_STEP = 6,
+  SMALL_RUN = 6,
+  RUN = 24;
 // How far a place that goes on is looked for.
 const MOST_STEP = 160;
 
@@ -11,9 +13,11 @@ function step(a, i, b, j) {
   for (let sum = 1; sum <= MOST_STEP; sum++) {
     const run = sum <= SMALL_STEP ? SMALL_RUN : RUN;
     for (let other = 0; other <= sum; other++) {
-      const x = i + sum - other, y = j + other;
+      const x = i + sum - other,
+        y = j + other;
       if (x > a.length || y > b.length) continue;
-      const left = a.length - x, right = b.length - y;
+      const left = a.length - x,
+        right = b.length - y;
       if (left < run || right < run) {
         if (left === right && a.slice(x) === b.slice(y)) return [x, y];
       } else if (a.charCodeAt(x) === b.charCodeAt(y) && a.startsWith(b.slice(y, y + run), x)) {
@@ -26,7 +30,8 @@ function step(a, i, b, j) {
 
 /** The rest as one edit, without what the ends share. */
 function rest(a, i, b, j) {
-  let x = a.length, y = b.length;
+  let x = a.length,
+    y = b.length;
   while (x > i && y > j && a.charCodeAt(x - 1) === b.charCodeAt(y - 1)) x--, y--;
   return { start: i, end: x, text: b.slice(j, y) };
 }
@@ -34,7 +39,8 @@ function rest(a, i, b, j) {
 /** Small edits in order, as indices into the first text. */
 function stepsBetween(a, b) {
   const found = [];
-  let i = 0, j = 0;
+  let i = 0,
+    j = 0;
   while (i < a.length || j < b.length) {
     if (i < a.length && j < b.length && a.charCodeAt(i) === b.charCodeAt(j)) {
       i++, j++;
@@ -71,8 +77,10 @@ function bare(text) {
 
 /** An edit without what both texts have at its two ends. */
 function narrowed(text, { start, end, text: to }) {
-  const from = text.slice(start, end), most = Math.min(from.length, to.length);
-  let head = 0, tail = 0;
+  const from = text.slice(start, end),
+    most = Math.min(from.length, to.length);
+  let head = 0,
+    tail = 0;
   while (head < most && from[head] === to[head]) head++;
   while (tail < most - head && from[from.length - 1 - tail] === to[to.length - 1 - tail]) tail++;
   return { start: start + head, end: end - tail, text: to.slice(head, to.length - tail) };
@@ -81,12 +89,19 @@ function narrowed(text, { start, end, text: to }) {
 /** Edits that make exactly the second text of the first, where they differ in blanks and few characters: one for each stretch between characters that both
  * have; or else one of the whole text. */
 export function layoutEditsBetween(a, b) {
-  const one = bare(a), other = bare(b), found = [];
-  let i = 0, j = 0, from = 0, to = 0;
+  const one = bare(a),
+    other = bare(b),
+    found = [];
+  let i = 0,
+    j = 0,
+    from = 0,
+    to = 0;
   /** Goes on to the next character that both have: what stands before it, behind the last one, is made equal. */
   const until = (x, y) => {
-    const end = one.at[x], stop = other.at[y];
-    if ((end > from || stop > to) && a.slice(from, end) !== b.slice(to, stop)) found.push(snapped(a, narrowed(a, { start: from, end, text: b.slice(to, stop) })));
+    const end = one.at[x],
+      stop = other.at[y];
+    if ((end > from || stop > to) && a.slice(from, end) !== b.slice(to, stop))
+      found.push(snapped(a, narrowed(a, { start: from, end, text: b.slice(to, stop) })));
     [i, j, from, to] = [x + 1, y + 1, end + 1, stop + 1];
   };
   for (const it of [...stepsBetween(one.text, other.text), { start: one.text.length, end: one.text.length, text: '' }]) {
@@ -98,7 +113,10 @@ export function layoutEditsBetween(a, b) {
 
 /** An edit that ends within a CR LF or a surrogate pair takes the whole of it. */
 function snapped(a, { start, end, text }) {
-  const splits = (at) => at > 0 && at < a.length && ((a[at - 1] === '\r' && a[at] === '\n') || /^[\ud800-\udbff][\udc00-\udfff]$/.test(a.slice(at - 1, at + 1)));
+  const splits = (at) =>
+    at > 0 &&
+    at < a.length &&
+    ((a[at - 1] === '\r' && a[at] === '\n') || /^[\ud800-\udbff][\udc00-\udfff]$/.test(a.slice(at - 1, at + 1)));
   if (splits(start)) [start, text] = [start - 1, a[start - 1] + text];
   if (splits(end)) [end, text] = [end + 1, text + a[end]];
   return { start, end, text };

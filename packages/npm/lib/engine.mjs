@@ -31,7 +31,10 @@ export class Engine {
 
   start() {
     const worker = new Worker(new URL('./thread.mjs', import.meta.url), {
-      workerData: { module: compiled(), isTest: this.isTest, unwanted: this.unwanted }, resourceLimits: { stackSizeMb: STACK_MB }, stdout: true, stderr: true,
+      workerData: { module: compiled(), isTest: this.isTest, unwanted: this.unwanted },
+      resourceLimits: { stackSizeMb: STACK_MB },
+      stdout: true,
+      stderr: true,
     });
     const gone = (why) => {
       if (this.worker !== worker) return;
@@ -39,7 +42,9 @@ export class Engine {
       this.onLog(`the thread ended: ${why}`);
       this.finish({ error: `the thread ended: ${why}` });
     };
-    worker.on('message', (it) => { if (this.worker === worker && it.id === this.now?.id) this.finish(it); });
+    worker.on('message', (it) => {
+      if (this.worker === worker && it.id === this.now?.id) this.finish(it);
+    });
     worker.on('error', (error) => gone(error.message));
     worker.on('exit', (code) => gone(`status ${code}`));
     worker.unref();

@@ -37,7 +37,8 @@ export class Frames {
   /** Whether a whole header was there. One that makes no sense is thrown: where the following message begins is not known then. */
   readHeader() {
     if (!this.held) return false;
-    const bytes = this.joined(), end = bytes.subarray(0, MOST_HEADER).indexOf('\r\n\r\n');
+    const bytes = this.joined(),
+      end = bytes.subarray(0, MOST_HEADER).indexOf('\r\n\r\n');
     if (end < 0) {
       if (bytes.length >= MOST_HEADER) throw new Error('a header has no end');
       return false;

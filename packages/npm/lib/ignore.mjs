@@ -4,10 +4,21 @@
 // here takes longer than the pattern's length times the path's.
 
 // A run of stars in a segment, and a segment of two or more alone.
-const STAR = Symbol('*'), ANY = Symbol('**');
+const STAR = Symbol('*'),
+  ANY = Symbol('**');
 const CLASSES = {
-  alpha: 'A-Za-z', digit: '0-9', alnum: 'A-Za-z0-9', upper: 'A-Z', lower: 'a-z', space: ' \\t\\n\\r', punct: '!-\\/:-@\\[-`{-~', xdigit: '0-9A-Fa-f', blank: ' \\t',
-  cntrl: '\\x00-\\x1f\\x7f', print: '\\x20-\\x7e', graph: '\\x21-\\x7e',
+  alpha: 'A-Za-z',
+  digit: '0-9',
+  alnum: 'A-Za-z0-9',
+  upper: 'A-Z',
+  lower: 'a-z',
+  space: ' \\t\\n\\r',
+  punct: '!-\\/:-@\\[-`{-~',
+  xdigit: '0-9A-Fa-f',
+  blank: ' \\t',
+  cntrl: '\\x00-\\x1f\\x7f',
+  print: '\\x20-\\x7e',
+  graph: '\\x21-\\x7e',
 };
 const PIECE = /(\*+)|(\?)|\\([\s\S])|\[([!^]?)(\]?(?:\[:\w+:\]|\\[\s\S]|[^\]\\])*)\]|([^\\[])/gsy;
 // What a file may begin with, which is no part of its first pattern.
@@ -18,7 +29,8 @@ export const inBytes = (text) => Buffer.from(text).toString('latin1');
 
 /** A line without the blanks at its end, but for one behind a backslash. */
 function withoutEnd(line) {
-  const text = line.replace(/\r$/, ''), kept = /^(?:\\[\s\S]|[^\\ ]| +(?=[^ ]))*/.exec(text)[0];
+  const text = line.replace(/\r$/, ''),
+    kept = /^(?:\\[\s\S]|[^\\ ]| +(?=[^ ]))*/.exec(text)[0];
   return /^ *$/.test(text.slice(kept.length)) ? kept : text;
 }
 
@@ -59,7 +71,9 @@ function tokenOf([, stars, one, quoted, not, set, plain]) {
 }
 
 function testOf(not, set) {
-  const source = set.replace(/\[:(\w+):\]|\\([\s\S])|([\]\\^[])/g, (_, name, escaped, char) => (name !== undefined ? CLASSES[name] ?? '' : `\\${escaped ?? char}`));
+  const source = set.replace(/\[:(\w+):\]|\\([\s\S])|([\]\\^[])/g, (_, name, escaped, char) =>
+    (name !== undefined ? CLASSES[name] ?? '' : `\\${escaped ?? char}`)
+  );
   try {
     const expression = new RegExp(`^[${not ? '^' : ''}${source}]$`, 's');
     return (char) => expression.test(char);
@@ -70,7 +84,10 @@ function testOf(not, set) {
 
 /** Whether a segment is a name: after a fault it goes on behind the last star alone. */
 function fits(tokens, name) {
-  let at = 0, token = 0, star = -1, from = 0;
+  let at = 0,
+    token = 0,
+    star = -1,
+    from = 0;
   while (at < name.length) {
     if (tokens[token] === STAR) [star, from] = [token++, at];
     else if (token < tokens.length && tokens[token](name[at])) at++, token++;
@@ -87,7 +104,8 @@ function matches(segments, names) {
   let reached = names.map(() => false);
   reached = [true, ...reached];
   segments.forEach((segment, number) => {
-    const further = reached.map(() => false), isLast = number === segments.length - 1;
+    const further = reached.map(() => false),
+      isLast = number === segments.length - 1;
     for (let count = 0; count <= names.length; count++) {
       if (segment === ANY) further[count] = (!isLast && reached[count]) || (count > 0 && (further[count - 1] || reached[count - 1]));
       else if (count > 0) further[count] = reached[count - 1] && fits(segment, names[count - 1]);
@@ -98,7 +116,13 @@ function matches(segments, names) {
 }
 
 /** The patterns of a text `inBytes`, the last first. */
-export const patternsOf = (text) => text.slice(text.startsWith(MARK) ? MARK.length : 0).split('\n').map(patternOf).filter(Boolean).reverse();
+export const patternsOf = (text) =>
+  text
+    .slice(text.startsWith(MARK) ? MARK.length : 0)
+    .split('\n')
+    .map(patternOf)
+    .filter(Boolean)
+    .reverse();
 
 /**
  * Whether a path is ignored. `filesOf(folder)` gives the patterns of that folder's ignore files, a folder being a path relative to the root,

@@ -23,9 +23,16 @@ const REACH = { syntax: 0, deep: 1, early: 2 };
 
 /** A refusal of a text of a language in the program's words, with its place, and a hint where there is one. */
 function refusalOf(error, text, language) {
-  const { code = 'other', message, number } = error, start = error.line === undefined || code === 'settings' ? 0 : indexOf(text, error.line, error.column);
+  const { code = 'other', message, number } = error,
+    start = error.line === undefined || code === 'settings' ? 0 : indexOf(text, error.line, error.column);
   const hint = code === 'syntax' ? syntaxHint(text, start, language) : code === 'early' ? earlyHint(number, text, start, language) : null;
-  return { code, message, number, start, ...(hint ? { hint: hint.hint, hintId: hint.id ?? `early-${number}`, isLacking: hint.lacks, readBy: hint.readBy ?? [] } : {}) };
+  return {
+    code,
+    message,
+    number,
+    start,
+    ...(hint ? { hint: hint.hint, hintId: hint.id ?? `early-${number}`, isLacking: hint.lacks, readBy: hint.readBy ?? [] } : {}),
+  };
 }
 
 const isFurther = (it, other) => REACH[it.code] > REACH[other.code] || (it.code === 'syntax' && other.code === 'syntax' && it.start > other.start);
@@ -59,7 +66,8 @@ export class Jobs {
 
   /** What a call answers by the commands of the first language in which a job's text isn't refused; else the refusal that got furthest. */
   tried(job, call) {
-    const { text } = job, half = HALF_PAIR.exec(text);
+    const { text } = job,
+      half = HALF_PAIR.exec(text);
     // (half a pair of surrogates has no UTF-8, so a text with one is no script's)
     if (half) return { refusal: { code: 'utf8', message: 'half a pair of surrogates, which has no UTF-8', start: half.index } };
     let refusal = null;
@@ -108,13 +116,15 @@ export class Jobs {
 
   /** The reports with their ends, and whether they are warnings: `check` says that of the same reports in the same order. */
   reportsOf(text, settings, commands) {
-    const spans = commands.spans(text, { settings }), told = MAY_WARN.test(settings) ? commands.check(text, { settings }) : [];
+    const spans = commands.spans(text, { settings }),
+      told = MAY_WARN.test(settings) ? commands.check(text, { settings }) : [];
     return spans.map((it, at) => ({ ...it, isWarning: told[at]?.severity === 'warning' }));
   }
 
   /** What is shown of what `check` reports: not the pairs of casts, and not what comments turn off, if they are read. Whether there were such pairs. */
   found({ text, settings, areRead }, commands) {
-    const all = this.reportsOf(text, settings, commands), kept = mayHaveCasts(text) ? all.filter((it) => !isOfCast(text, it)) : all;
+    const all = this.reportsOf(text, settings, commands),
+      kept = mayHaveCasts(text) ? all.filter((it) => !isOfCast(text, it)) : all;
     const reports = areRead ? withoutSuppressed(text, kept, (it) => answered(() => commands.fix(it))) : kept;
     return { reports, hasCasts: kept.length < all.length };
   }
@@ -123,8 +133,13 @@ export class Jobs {
   check(job) {
     if (HALF_PAIR.test(job.settings)) return { refusal: { code: 'settings', message: 'bad settings', start: 0 } };
     return this.tried(job, (commands) => {
-      const { reports: all, hasCasts } = this.found(job, commands), reports = all.slice(0, MOST_REPORTS);
-      return { reports: reports.map((it) => ({ ...it, end: it.start + (UNDERLINED[it.rule] ?? it.end - it.start) })), left: all.length - reports.length, hasCasts };
+      const { reports: all, hasCasts } = this.found(job, commands),
+        reports = all.slice(0, MOST_REPORTS);
+      return {
+        reports: reports.map((it) => ({ ...it, end: it.start + (UNDERLINED[it.rule] ?? it.end - it.start) })),
+        left: all.length - reports.length,
+        hasCasts,
+      };
     });
   }
 
@@ -132,8 +147,12 @@ export class Jobs {
   unwrap(job) {
     const { text } = job;
     return this.tried(job, (commands) => {
-      const unwrapped = commands.unwrap(text), edits = editsBetween(text, unwrapped);
-      return { edits, hasCasts: edits.length > 0 && mayHaveCasts(text) && (losesCast(text, unwrapped) || commands.spans(text).some((it) => isOfCast(text, it))) };
+      const unwrapped = commands.unwrap(text),
+        edits = editsBetween(text, unwrapped);
+      return {
+        edits,
+        hasCasts: edits.length > 0 && mayHaveCasts(text) && (losesCast(text, unwrapped) || commands.spans(text).some((it) => isOfCast(text, it))),
+      };
     });
   }
 
@@ -141,7 +160,9 @@ export class Jobs {
   fix(job) {
     const { text } = job;
     return this.tried(job, (commands) => {
-      const fixed = commands.fix(text), isCrLf = /^[^\r\n]*\r\n/.test(text), other = isCrLf ? fixed.replaceAll('\n', '\r\n') : fixed;
+      const fixed = commands.fix(text),
+        isCrLf = /^[^\r\n]*\r\n/.test(text),
+        other = isCrLf ? fixed.replaceAll('\n', '\r\n') : fixed;
       const to = other !== fixed && answered(() => commands.fix(other)) !== fixed ? fixed : other;
       return { edits: editsBetween(text, to), hasComments: mayHaveComments(text) };
     });
@@ -150,7 +171,8 @@ export class Jobs {
   /** The formatted text of a job's: by the module, or with words by the program that has them. CR LF stays where the first line of the text ends so and that
    * keeps the rest. */
   formattedText({ text, words, program }, commands, language) {
-    const format = (it) => (words.length ? formattedBy(program, words, it, language) : commands.format(it)), formatted = format(text);
+    const format = (it) => (words.length ? formattedBy(program, words, it, language) : commands.format(it)),
+      formatted = format(text);
     if (!/^[^\r\n]*\r\n/.test(text)) return { format, formatted };
     const other = formatted.replace(/(?<!\r)\n/g, '\r\n');
     return { format, formatted: isButForCr(answered(() => format(other)), formatted) ? other : formatted };
@@ -161,7 +183,8 @@ export class Jobs {
   format(job) {
     const { text, stretch } = job;
     return this.tried(job, (commands, language) => {
-      const { format, formatted } = this.formattedText(job, commands, language), edits = layoutEditsBetween(text, formatted);
+      const { format, formatted } = this.formattedText(job, commands, language),
+        edits = layoutEditsBetween(text, formatted);
       if (mayHaveCasts(text) && losesCast(text, formatted)) return { edits: [] };
       const some = stretch ? edits.filter((it) => stretch.start <= it.start && it.end <= stretch.end) : edits;
       if (some.length === edits.length) return { edits };
@@ -177,7 +200,9 @@ export class Jobs {
 
   /** The change that a report `{ rule, start }` has: its edits, and whether it is of a name at the top; or null. */
   change(job) {
-    const { wanted: { rule, start } } = job;
+    const {
+      wanted: { rule, start },
+    } = job;
     return this.judged(job, (judge) => {
       if (rule !== 'no-extra-parens') return { change: judge.letToConst(start) };
       const edits = isCast(job.text, start) ? null : judge.withoutPair(start);
@@ -187,10 +212,17 @@ export class Jobs {
 
   /** The edit that puts a comment which turns a report off, or null: the fixed text stays, and the rule's reports on that line go alone. */
   suppress(job) {
-    const { text, wanted: { rule, start } } = job;
+    const {
+      text,
+      wanted: { rule, start },
+    } = job;
     return this.judged(job, (judge) => {
-      const { commands } = judge, fixed = judge.own('fix'), starts = lineStarts(text), line = lineAt(starts, start);
-      const before = judge.once(`found ${job.settings}`, () => this.found(job, commands).reports), told = (list) => JSON.stringify(list.map((it) => [it.rule, it.message]));
+      const { commands } = judge,
+        fixed = judge.own('fix'),
+        starts = lineStarts(text),
+        line = lineAt(starts, start);
+      const before = judge.once(`found ${job.settings}`, () => this.found(job, commands).reports),
+        told = (list) => JSON.stringify(list.map((it) => [it.rule, it.message]));
       const wanted = told(before.filter((it) => it.rule !== rule || lineAt(starts, it.start) !== line));
       const isGood = (it) => answered(() => commands.fix(it)) === fixed && told(this.found({ ...job, text: it }, commands).reports) === wanted;
       const edit = suppressingEdits(text, start, rule).find((it) => isGood(applied(text, [it])));
@@ -213,7 +245,8 @@ export class Jobs {
   settingsEffect(job) {
     const { text, changed, wish } = job;
     if (HALF_PAIR.test(text) || HALF_PAIR.test(changed)) return { isGood: false };
-    const before = this.shortCheck(job, job.settings), after = this.shortCheck(job, changed);
+    const before = this.shortCheck(job, job.settings),
+      after = this.shortCheck(job, changed);
     if (after === null || (before === null) !== (wish.language !== undefined)) return { isGood: false };
     // (of a text that was refused, that it isn't any more)
     if (before === null) return { isGood: true };
@@ -241,8 +274,11 @@ const isOfName = ({ rule, message }, name) => rule === 'no-undef' && message ===
 
 /** Whether reports went as wished: those of a rule, those of a name, or, by an environment, those of its names, one of which is this. */
 function isEffect({ rule, name, env }, before, after) {
-  const keys = new Set(after.map((it) => it.key)), gone = before.filter((it) => !keys.has(it.key)), told = (list) => list.map((it) => it.key).join('\n');
-  if (env !== undefined) return after.length + gone.length === before.length && gone.every((it) => it.rule === 'no-undef') && gone.some((it) => isOfName(it, name));
+  const keys = new Set(after.map((it) => it.key)),
+    gone = before.filter((it) => !keys.has(it.key)),
+    told = (list) => list.map((it) => it.key).join('\n');
+  if (env !== undefined)
+    return after.length + gone.length === before.length && gone.every((it) => it.rule === 'no-undef') && gone.some((it) => isOfName(it, name));
   const isOff = (it) => (name === null ? it.rule === rule : isOfName(it, name));
   return told(before.filter((it) => !isOff(it))) === told(after);
 }

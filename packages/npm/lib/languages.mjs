@@ -48,7 +48,8 @@ export class Languages {
 
   /** The languages for a text, in the order in which they are tried. `kind` is what its name or package.json says. */
   triedFor({ settings = '', kind = null }) {
-    const left = this.leftBy(settings), scripts = left.filter((it) => it !== 'module');
+    const left = this.leftBy(settings),
+      scripts = left.filter((it) => it !== 'module');
     if (kind === 'module' && left.includes('module')) return ['module'];
     return kind !== null && scripts.length ? scripts : left;
   }

@@ -9,9 +9,11 @@ export class Progress {
   begin(title, { message, token, onCancel, percentage } = {}) {
     const isGiven = token !== undefined && token !== null;
     if (!isGiven && !this.can.progress) return { report() {}, end() {} };
-    const id = isGiven ? token : `jslint-${process.pid}-${++this.lastId}`, first = { kind: 'begin', title, message, cancellable: Boolean(onCancel), percentage };
+    const id = isGiven ? token : `jslint-${process.pid}-${++this.lastId}`,
+      first = { kind: 'begin', title, message, cancellable: Boolean(onCancel), percentage };
     const tell = (value) => this.connection.notify('$/progress', { token: id, value });
-    let isOpen = isGiven, isEnded = false;
+    let isOpen = isGiven,
+      isEnded = false;
     const open = () => {
       if (isEnded) return;
       isOpen = true;
@@ -21,7 +23,9 @@ export class Progress {
     if (isOpen) tell(first);
     else this.connection.request('window/workDoneProgress/create', { token: id }).then(open, () => {});
     return {
-      report: (value) => { if (isOpen) tell({ kind: 'report', ...value }); },
+      report: (value) => {
+        if (isOpen) tell({ kind: 'report', ...value });
+      },
       end: (last) => {
         this.cancels.delete(id);
         isEnded = true;

@@ -1,6 +1,15 @@
 // Words of the Language Server Protocol that several modules need: its errors, and what a place has to be.
 
-export const CODES = { parse: -32700, invalid: -32600, noMethod: -32601, params: -32602, internal: -32603, notInitialized: -32002, cancelled: -32800, modified: -32801 };
+export const CODES = {
+  parse: -32700,
+  invalid: -32600,
+  noMethod: -32601,
+  params: -32602,
+  internal: -32603,
+  notInitialized: -32002,
+  cancelled: -32800,
+  modified: -32801,
+};
 
 /** An answer that is an error of the protocol. */
 export class ResponseError extends Error {
@@ -15,7 +24,8 @@ export const aborted = () => Object.assign(new Error('cancelled'), { name: 'Abor
 
 /** What work gives that is handed a signal, which says so as soon as one of these does. (`AbortSignal.any` is in no Node before 20) */
 export async function untilAborted(signals, work) {
-  const control = new AbortController(), stop = () => control.abort();
+  const control = new AbortController(),
+    stop = () => control.abort();
   for (const it of signals) {
     if (it.aborted) stop();
     it.addEventListener('abort', stop);

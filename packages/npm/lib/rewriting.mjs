@@ -80,7 +80,8 @@ export class Rewriting {
 
   /** Of a text that is ignored or refused, and of one in another language, nothing. */
   format({ textDocument, options, workDoneToken }, { signal }) {
-    const document = this.editor.document(textDocument), { revision } = document;
+    const document = this.editor.document(textDocument),
+      { revision } = document;
     if (!this.editor.isChecked(document)) return null;
     return this.unlessChanged(document, signal, async (either) => {
       const edits = await this.progress.during(workDoneToken, 'jslint: formatting', () => this.formatted(document, either, options));
@@ -89,18 +90,23 @@ export class Rewriting {
   }
 
   formatRange({ textDocument, range, options }, { signal }) {
-    const document = this.editor.document(textDocument), { revision } = document, [start, end] = document.indicesOf(range);
+    const document = this.editor.document(textDocument),
+      { revision } = document,
+      [start, end] = document.indicesOf(range);
     if (!this.editor.isChecked(document)) return null;
     return this.unlessChanged(document, signal, async (either) => {
       const isInLines = this.editor.options.format === 'lines';
-      const { edits = null } = isInLines ? { edits: await this.inLines(document, either, options, { start, end }) } : await this.answerOf('unwrapWithin', document, either, { start, end });
+      const { edits = null } = isInLines
+        ? { edits: await this.inLines(document, either, options, { start, end }) }
+        : await this.answerOf('unwrapWithin', document, either, { start, end });
       return edits && this.editsOf(document, revision, edits);
     });
   }
 
   /** Rewrites a text by a command, and has the editor apply it. A refusal is said, since it was asked for. */
   execute(command, words, workDoneToken, signal) {
-    const document = this.editor.document({ uri: words?.[0] }), { revision } = document;
+    const document = this.editor.document({ uri: words?.[0] }),
+      { revision } = document;
     if (!this.editor.isChecked(document)) refuse({ message: `${document.uri} is ${this.editor.isScript(document) ? 'ignored' : 'no script'}` });
     return this.unlessChanged(document, signal, async (either) => {
       const kind = command === COMMANDS.unwrap ? 'unwrap' : 'fix';

@@ -23,11 +23,18 @@ const SHORT = { isTest: true, idleMs: 1000 };
 function abilitiesOf({ workspace = {}, textDocument = {}, window = {} }) {
   const { publishDiagnostics, hover, codeAction } = textDocument;
   return {
-    pull: Boolean(textDocument.diagnostic), refresh: Boolean(workspace.diagnostics?.refreshSupport), versions: Boolean(publishDiagnostics?.versionSupport),
-    tags: Boolean(publishDiagnostics?.tagSupport?.valueSet?.includes?.(UNNECESSARY)), markdown: Boolean(hover?.contentFormat?.includes?.('markdown')),
-    literals: Boolean(codeAction?.codeActionLiteralSupport), edits: Boolean(workspace.workspaceEdit?.documentChanges), progress: Boolean(window.workDoneProgress),
-    creates: Boolean(workspace.workspaceEdit?.resourceOperations?.includes?.('create')), links: Boolean(publishDiagnostics?.codeDescriptionSupport),
-    configuration: Boolean(workspace.configuration), watch: Boolean(workspace.didChangeWatchedFiles?.dynamicRegistration),
+    pull: Boolean(textDocument.diagnostic),
+    refresh: Boolean(workspace.diagnostics?.refreshSupport),
+    versions: Boolean(publishDiagnostics?.versionSupport),
+    tags: Boolean(publishDiagnostics?.tagSupport?.valueSet?.includes?.(UNNECESSARY)),
+    markdown: Boolean(hover?.contentFormat?.includes?.('markdown')),
+    literals: Boolean(codeAction?.codeActionLiteralSupport),
+    edits: Boolean(workspace.workspaceEdit?.documentChanges),
+    progress: Boolean(window.workDoneProgress),
+    creates: Boolean(workspace.workspaceEdit?.resourceOperations?.includes?.('create')),
+    links: Boolean(publishDiagnostics?.codeDescriptionSupport),
+    configuration: Boolean(workspace.configuration),
+    watch: Boolean(workspace.didChangeWatchedFiles?.dynamicRegistration),
     configure: Boolean(workspace.didChangeConfiguration?.dynamicRegistration),
   };
 }
@@ -35,17 +42,29 @@ function abilitiesOf({ workspace = {}, textDocument = {}, window = {} }) {
 export class Server {
   /** `onExit` is handed the status with which the process should end. */
   constructor(input, output, { onExit, log, isTest = false }) {
-    const how = { onLog: log, ...(isTest ? SHORT : {}) }, editor = new Editor(), engine = new Engine(how), background = new Engine({ onLog: log });
+    const how = { onLog: log, ...(isTest ? SHORT : {}) },
+      editor = new Editor(),
+      engine = new Engine(how),
+      background = new Engine({ onLog: log });
     // (changes are judged in a thread of their own, so that reports don't wait for them)
     const changing = new Engine(how);
     const connection = new Connection(input, output, {
-      requests: this.requests(isTest), notifications: this.notifications(), gate: (method, isRequest) => this.gate(method, isRequest),
-      onEnd: (why) => this.exit(why === 'closed' && this.state === 'shut' ? 0 : 1), onFault: (error) => log(error?.stack ?? String(error)),
+      requests: this.requests(isTest),
+      notifications: this.notifications(),
+      gate: (method, isRequest) => this.gate(method, isRequest),
+      onEnd: (why) => this.exit(why === 'closed' && this.state === 'shut' ? 0 : 1),
+      onFault: (error) => log(error?.stack ?? String(error)),
     });
     const shared = { editor, engine, changing, connection, log, progress: new Progress(connection, editor.can), shown: new Shown(editor) };
     shared.checking = new Checking(shared);
     shared.rewriting = new Rewriting(shared);
-    Object.assign(this, shared, { onExit, background, state: 'begun', actions: new Actions(shared), workspace: new Workspace({ ...shared, engine: background }) });
+    Object.assign(this, shared, {
+      onExit,
+      background,
+      state: 'begun',
+      actions: new Actions(shared),
+      workspace: new Workspace({ ...shared, engine: background }),
+    });
   }
 
   /** Why a method isn't allowed in this state, or null. */
@@ -68,7 +87,9 @@ export class Server {
   requests(isTest) {
     return {
       initialize: (params) => this.initialize(params),
-      shutdown: () => { this.state = 'shut'; },
+      shutdown: () => {
+        this.state = 'shut';
+      },
       'textDocument/codeAction': (params, context) => this.actions.codeActions(params, context),
       'textDocument/formatting': (params, context) => this.rewriting.format(params, context),
       'textDocument/rangeFormatting': (params, context) => this.rewriting.formatRange(params, context),
@@ -85,7 +106,9 @@ export class Server {
       exit: () => this.exit(this.state === 'shut' ? 0 : 1),
       'textDocument/didOpen': ({ textDocument }) => this.checking.plan(this.editor.open(textDocument), 0),
       'textDocument/didChange': (params) => this.changed(params),
-      'textDocument/didSave': ({ textDocument }) => { if (this.editor.isSettings(textDocument?.uri)) this.checking.planAll(); },
+      'textDocument/didSave': ({ textDocument }) => {
+        if (this.editor.isSettings(textDocument?.uri)) this.checking.planAll();
+      },
       'textDocument/didClose': ({ textDocument }) => this.closed(textDocument?.uri),
       'workspace/didChangeConfiguration': ({ settings }) => {
         this.editor.take(settings?.[NAME] ?? settings ?? null);
@@ -103,7 +126,9 @@ export class Server {
   // ---- the beginning
 
   initialize({ capabilities, initializationOptions, processId, workspaceFolders, rootUri }) {
-    const { editor } = this, can = capabilities ?? {}, encodings = can.general?.positionEncodings;
+    const { editor } = this,
+      can = capabilities ?? {},
+      encodings = can.general?.positionEncodings;
     this.state = 'ready';
     // (the editor's list is in the order of its liking)
     editor.encoding = (Array.isArray(encodings) ? encodings : []).find((it) => ENCODINGS.includes(it)) ?? 'utf-16';
@@ -130,7 +155,8 @@ export class Server {
   }
 
   initialized() {
-    const { watch, configure } = this.editor.can, watchers = WATCHED.map((name) => ({ globPattern: `**/${name}` }));
+    const { watch, configure } = this.editor.can,
+      watchers = WATCHED.map((name) => ({ globPattern: `**/${name}` }));
     const registrations = [
       ...(watch ? [{ id: 'files', method: 'workspace/didChangeWatchedFiles', registerOptions: { watchers } }] : []),
       ...(configure ? [{ id: 'settings', method: 'workspace/didChangeConfiguration', registerOptions: { section: NAME } }] : []),
@@ -179,7 +205,10 @@ export class Server {
       document.change(contentChanges, textDocument.version);
     } catch (error) {
       this.closed(document.uri);
-      this.connection.notify('window/showMessage', { type: WARNING, message: `jslint: ${document.uri}: a change made no sense (${error.message}). Open the file again` });
+      this.connection.notify('window/showMessage', {
+        type: WARNING,
+        message: `jslint: ${document.uri}: a change made no sense (${error.message}). Open the file again`,
+      });
       return;
     }
     this.checking.plan(document.uri, this.editor.options.debounce);

@@ -17,9 +17,11 @@ export function withoutFormat(settings) {
 
 /** The text with a name more among the globals, or among the environments. */
 function withName(text, key, name, lineEnd) {
-  const word = JSON.stringify(name), found = new RegExp(`^([ \\t]*${key}[ \\t]*=[ \\t]*\\[)([^\\]]*?)(,?)(\\s*)\\]`, 'm').exec(text);
+  const word = JSON.stringify(name),
+    found = new RegExp(`^([ \\t]*${key}[ \\t]*=[ \\t]*\\[)([^\\]]*?)(,?)(\\s*)\\]`, 'm').exec(text);
   if (!found) return `${key} = [${word}]${lineEnd}${text}`;
-  const [all, head, names, , blanks] = found, { index } = found;
+  const [all, head, names, , blanks] = found,
+    { index } = found;
   return `${text.slice(0, index)}${head}${names}${names.trim() ? ', ' : ''}${word}${blanks}]${text.slice(index + all.length)}`;
 }
 
@@ -27,7 +29,9 @@ function withName(text, key, name, lineEnd) {
 function withoutRule(text, rule, lineEnd) {
   const on = new RegExp(`((?:^|[{,])[ \\t]*(?:rules\\.)?"?${rule}"?[ \\t]*=[ \\t]*)(?:true|[12](?!\\w)|"(?:warn|error)"|'(?:warn|error)')`, 'm');
   if (on.test(text)) return text.replace(on, '$1false');
-  const head = /^([ \t]*\[rules\][ \t]*(?:#[^\r\n]*)?)(?=\r?$)/m, inline = /^([ \t]*rules[ \t]*=[ \t]*\{)([^}\n]*?)[ \t]*\}/m, dotted = /^([ \t]*rules\.)/m;
+  const head = /^([ \t]*\[rules\][ \t]*(?:#[^\r\n]*)?)(?=\r?$)/m,
+    inline = /^([ \t]*rules[ \t]*=[ \t]*\{)([^}\n]*?)[ \t]*\}/m,
+    dotted = /^([ \t]*rules\.)/m;
   if (head.test(text)) return text.replace(head, `$1${lineEnd}${rule} = false`);
   if (inline.test(text)) return text.replace(inline, (_, start, rules) => `${start}${rules}${rules.trim() ? ',' : ''} ${rule} = false }`);
   if (dotted.test(text)) return text.replace(dotted, `rules.${rule} = false${lineEnd}$1`);
@@ -36,7 +40,8 @@ function withoutRule(text, rule, lineEnd) {
 
 /** The text with a language. */
 function withLanguage(text, { line }, lineEnd) {
-  const key = line.split(' ')[0], said = new RegExp(`^[ \\t]*${key}[ \\t]*=[^\\r\\n#]*?(?=[ \\t]*(?:#|\\r?$))`, 'm');
+  const key = line.split(' ')[0],
+    said = new RegExp(`^[ \\t]*${key}[ \\t]*=[^\\r\\n#]*?(?=[ \\t]*(?:#|\\r?$))`, 'm');
   return said.test(text) ? text.replace(said, line) : `${line}${lineEnd}${text}`;
 }
 

@@ -41,7 +41,13 @@ export class Shown {
   diagnostic(document, start, end, severity, code, message, tags) {
     const href = this.editor.can.links ? pageOf(code) : null;
     return {
-      range: document.rangeOf(start, end), severity, code, ...(href ? { codeDescription: { href } } : {}), source: NAME, message, ...(tags && this.editor.can.tags ? { tags } : {}),
+      range: document.rangeOf(start, end),
+      severity,
+      code,
+      ...(href ? { codeDescription: { href } } : {}),
+      source: NAME,
+      message,
+      ...(tags && this.editor.can.tags ? { tags } : {}),
     };
   }
 
@@ -52,12 +58,14 @@ export class Shown {
 
   /** A report; one of a rule that only warns is a warning at most. */
   report(document, it) {
-    const asked = SEVERITIES[this.editor.options.severity], severity = it.isWarning ? Math.max(asked, SEVERITIES.warning) : asked;
+    const asked = SEVERITIES[this.editor.options.severity],
+      severity = it.isWarning ? Math.max(asked, SEVERITIES.warning) : asked;
     return this.diagnostic(document, it.start, it.end, severity, it.rule, it.message, FADED.has(it.rule) ? [UNNECESSARY] : undefined);
   }
 
   reports(document, { reports, left }) {
-    const shown = reports.slice(0, this.editor.options.maxDiagnostics).map((it) => this.report(document, it)), more = left + reports.length - shown.length;
+    const shown = reports.slice(0, this.editor.options.maxDiagnostics).map((it) => this.report(document, it)),
+      more = left + reports.length - shown.length;
     if (more > 0) shown.push(this.diagnostic(document, 0, 0, SEVERITIES.information, 'more', `${more} further reports aren't shown`));
     return shown;
   }
@@ -67,7 +75,8 @@ export class Shown {
     const { unsupported } = this.editor.options;
     if (it.isLacking && unsupported === 'off') return [];
     const words = it.code === 'early' ? `${texts.early[it.number]} (early error E${it.number})` : it.message.replace(/ at \d+:\d+$/, '');
-    const end = it.start + (TOKEN.exec(document.text.slice(it.start, it.start + 100))?.[0].length ?? 0), severity = it.isLacking ? SEVERITIES[unsupported] : SEVERITIES.error;
+    const end = it.start + (TOKEN.exec(document.text.slice(it.start, it.start + 100))?.[0].length ?? 0),
+      severity = it.isLacking ? SEVERITIES[unsupported] : SEVERITIES.error;
     const message = [`${it.isLacking ? 'not checked: ' : ''}${words}`, hintOf(it)].filter(Boolean).join('\n');
     return [this.diagnostic(document, it.start, end, severity, it.code === 'early' ? `E${it.number}` : it.code, message), ...this.stale(document)];
   }
@@ -83,10 +92,12 @@ export class Shown {
   settings(document, { line, start }) {
     if (line === null) return [];
     if (start !== undefined) {
-      const at = document.lineAt(start), end = document.endOf(at);
+      const at = document.lineAt(start),
+        end = document.endOf(at);
       return [this.diagnostic(document, start < end ? start : document.lines[at], end, SEVERITIES.error, 'settings', 'bad settings: no TOML from here on')];
     }
-    const at = Math.min(line ?? 0, document.lines.length - 1), message = line ? 'bad settings: the lines before this one are taken' : 'bad settings';
+    const at = Math.min(line ?? 0, document.lines.length - 1),
+      message = line ? 'bad settings: the lines before this one are taken' : 'bad settings';
     return [this.diagnostic(document, document.lines[at], document.endOf(at), SEVERITIES.error, 'settings', message)];
   }
 
@@ -98,7 +109,8 @@ export class Shown {
   }
 
   hover(document, found, at) {
-    const value = this.words(document, found, at), { markdown } = this.editor.can;
+    const value = this.words(document, found, at),
+      { markdown } = this.editor.can;
     if (value === null) return null;
     return { contents: { kind: markdown ? 'markdown' : 'plaintext', value: markdown ? value : value.replace(/^```\w*\n?|\*\*|`/gm, '') } };
   }

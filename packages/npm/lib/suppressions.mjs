@@ -16,7 +16,8 @@ export const lineStarts = (text) => [0, ...Array.from(text.matchAll(LINE_END), (
 
 /** The number of the line that an index is on, from 0. */
 export function lineAt(starts, index) {
-  let low = 0, high = starts.length - 1;
+  let low = 0,
+    high = starts.length - 1;
   while (low < high) {
     const middle = (low + high + 1) >> 1;
     if (starts[middle] <= index) low = middle;
@@ -28,7 +29,11 @@ export function lineAt(starts, index) {
 /** A comment: its place, the line that it is about, and the rules that it names, or null for all. */
 class Directive {
   constructor(match, starts) {
-    const names = match[2].split('--')[0].split(/[\s,]+/).filter(Boolean), isNext = match[1] === 'next-line';
+    const names = match[2]
+        .split('--')[0]
+        .split(/[\s,]+/)
+        .filter(Boolean),
+      isNext = match[1] === 'next-line';
     Object.assign(this, { start: match.index, end: match.index + match[0].length, names: names.length ? new Set(names) : null, isUsed: false });
     this.about = lineAt(starts, match.index) + (isNext ? 1 : 0);
   }
@@ -39,7 +44,8 @@ class Directive {
 
   /** What is to be said of the comment itself. */
   faults() {
-    const unknown = [...this.names ?? []].filter((it) => !Object.hasOwn(texts.rules, it)).sort(), said = unknown.map((it) => `'${it}' is no rule`);
+    const unknown = [...this.names ?? []].filter((it) => !Object.hasOwn(texts.rules, it)).sort(),
+      said = unknown.map((it) => `'${it}' is no rule`);
     if (this.names?.has(KEPT)) said.push(`${KEPT} is not turned off: fix and unwrap take the pair all the same`);
     else if (!this.isUsed && unknown.length === 0) said.push('this comment turns no report off');
     return said.map((message) => ({ start: this.start, end: this.end, rule: 'suppression', message }));
@@ -48,7 +54,8 @@ class Directive {
 
 /** The comments of a text that turn reports off. `fixed` gives the fixed text of one, or null where that is refused. */
 function directivesOf(text, starts, fixed) {
-  const matches = [...text.matchAll(WORDS)], before = matches.length ? fixed(text) : null;
+  const matches = [...text.matchAll(WORDS)],
+    before = matches.length ? fixed(text) : null;
   if (before === null) return [];
   const areComments = (some) => {
     const pieces = [];
@@ -66,7 +73,8 @@ function directivesOf(text, starts, fixed) {
 /** The reports that no comment turns off, and one for each comment that does nothing or names no rule, in the order of their places. */
 export function withoutSuppressed(text, reports, fixed) {
   if (!text.includes('jslint-disable-')) return reports;
-  const starts = lineStarts(text), directives = directivesOf(text, starts, fixed);
+  const starts = lineStarts(text),
+    directives = directivesOf(text, starts, fixed);
   if (directives.length === 0) return reports;
   const about = new Map();
   for (const it of directives) about.set(it.about, [...about.get(it.about) ?? [], it]);
@@ -80,8 +88,12 @@ export function withoutSuppressed(text, reports, fixed) {
 
 /** The edits that may turn a rule off for the line of an index, the likelier first: whether one does is tried before it is offered. */
 export function suppressingEdits(text, index, rule) {
-  const starts = lineStarts(text), line = lineAt(starts, index), start = starts[line], lineEnd = /^[^\r\n]*\r\n/.test(text) ? '\r\n' : '\n';
-  const above = line === 0 ? '' : text.slice(starts[line - 1], start), end = start + /^[^\n\r\u2028\u2029]*/.exec(text.slice(start))[0].length;
+  const starts = lineStarts(text),
+    line = lineAt(starts, index),
+    start = starts[line],
+    lineEnd = /^[^\r\n]*\r\n/.test(text) ? '\r\n' : '\n';
+  const above = line === 0 ? '' : text.slice(starts[line - 1], start),
+    end = start + /^[^\n\r\u2028\u2029]*/.exec(text.slice(start))[0].length;
   const named = /^([ \t]*\/\/[ \t]*jslint-disable-next-line[ \t]+[\w-]+(?:[ \t]*,[ \t]*[\w-]+)*)/.exec(above);
   const here = /\/\/[ \t]*jslint-disable-line[ \t]+[\w-]+(?:[ \t]*,[ \t]*[\w-]+)*/.exec(text.slice(start, end));
   const put = (at, words) => ({ start: at, end: at, text: words });

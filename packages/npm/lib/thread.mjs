@@ -3,7 +3,8 @@ import { parentPort, workerData } from 'node:worker_threads';
 import { commandsOf } from '../core.mjs';
 import { Jobs } from './jobs.mjs';
 
-const commands = commandsOf(workerData.module), { unwanted } = workerData;
+const commands = commandsOf(workerData.module),
+  { unwanted } = workerData;
 let now = 0;
 
 /** Commands of which none begins any more once their job isn't wanted. */
@@ -15,11 +16,21 @@ function whileWanted(all) {
   return Object.fromEntries(Object.entries(all).map(([name, call]) => [name, guarded(call)]));
 }
 
-const guarded = whileWanted(commands), jobs = new Jobs(guarded);
-const forEver = (step) => () => { for (;;) step(); };
+const guarded = whileWanted(commands),
+  jobs = new Jobs(guarded);
+const forEver = (step) => () => {
+  for (;;) step();
+};
 // (for the tests: what happens if a thread ends, a call takes for ever or has no end of them after it, or one fails)
 const faults = workerData.isTest
-  ? { crash: () => process.exit(3), hang: forEver(() => {}), callOn: forEver(() => guarded.check('')), fail: () => { throw new Error('as asked'); } }
+  ? {
+      crash: () => process.exit(3),
+      hang: forEver(() => {}),
+      callOn: forEver(() => guarded.check('')),
+      fail: () => {
+        throw new Error('as asked');
+      },
+    }
   : {};
 
 function answerOf(id, kind, job) {

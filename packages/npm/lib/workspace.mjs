@@ -17,7 +17,8 @@ export class Workspace {
 
   /** The scripts below the workspace's folders. A folder that can't be read is said. */
   async scripts(signal) {
-    const found = new Set(), left = this.editor.folders.map(fileOf).filter(Boolean).reverse();
+    const found = new Set(),
+      left = this.editor.folders.map(fileOf).filter(Boolean).reverse();
     while (left.length) {
       if (signal.aborted) throw aborted();
       await pause();
@@ -35,7 +36,10 @@ export class Workspace {
 
   /** What the text of a closed file shows, or why it isn't read, as diagnostics. */
   async diagnosticsOf(file, signal) {
-    const uri = uriOf(file), [languageId] = this.editor.options.languages, settings = this.editor.settingsFor(uri), none = new Document({ uri, text: '' });
+    const uri = uriOf(file),
+      [languageId] = this.editor.options.languages,
+      settings = this.editor.settingsFor(uri),
+      none = new Document({ uri, text: '' });
     let read;
     try {
       read = readText(file);
@@ -45,7 +49,8 @@ export class Workspace {
     const fault = read.fault ?? (settings?.fault && `${settings.file}: ${settings.fault}`);
     if (fault) return this.shown.fault(none, 'failed', `not checked: ${fault}`);
     // (an editor doesn't count the byte order mark)
-    const text = read.text.replace(/^\ufeff/, ''), document = new Document({ uri, text, languageId }, this.editor.encoding);
+    const text = read.text.replace(/^\ufeff/, ''),
+      document = new Document({ uri, text, languageId }, this.editor.encoding);
     const found = await this.engine.run('check', { text, ...this.editor.askedFor(uri) }, { signal });
     return this.checking.diagnosticsOf(document, found, settings);
   }
@@ -78,10 +83,12 @@ export class Workspace {
   }
 
   async check(token, signal) {
-    const control = new AbortController(), stop = () => control.abort();
+    const control = new AbortController(),
+      stop = () => control.abort();
     signal.addEventListener('abort', stop, { once: true });
     const said = this.progress.begin('jslint: checking the workspace', { token, onCancel: stop, percentage: 0 });
-    let done = 0, withReports = 0;
+    let done = 0,
+      withReports = 0;
     try {
       const files = await this.scripts(control.signal);
       this.forget(files);

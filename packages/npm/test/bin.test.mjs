@@ -56,7 +56,8 @@ test('what can not be written ends with status 2', () => {
 
 test('check takes settings, and verify a table', () => {
   withFiles({ 'a.js': 'debugger; (({})).a;', 's.toml': '[rules]\nno-debugger = false\nno-extra-parens = false\n' }, (path) => {
-    for (const words of [['--settings', path('s.toml')], [`--settings=${path('s.toml')}`]]) assert.deepEqual(ran('jslint', ['check', ...words, '--', path('a.js')]), [0, '', '']);
+    for (const words of [['--settings', path('s.toml')], [`--settings=${path('s.toml')}`]])
+      assert.deepEqual(ran('jslint', ['check', ...words, '--', path('a.js')]), [0, '', '']);
     const [, table] = ran('jslint', ['cost', path('a.js')]);
     writeFileSync(path('table'), table);
     assert.deepEqual(ran('jslint', ['verify', path('a.js'), path('table')]), [0, 'pairs 2 least 1\n', '']);
@@ -68,10 +69,12 @@ test('each command takes a language, and refuses words that make no sense', () =
     assert.deepEqual(ran('jslint', ['fix', '--module', path('m.mjs')]), [0, 'export let a = 1;\n', '']);
     assert.deepEqual(ran('jslint', ['unwrap', path('m.mjs'), '--module', '--edition', '2022']), [0, 'export let a = 1;\n', '']);
     assert.deepEqual(ran('jslint', ['same', '--module', path('m.mjs'), path('m.mjs')]), [0, '', '']);
-    for (const words of [['--edition', '2022'], ['--edition=2022']]) assert.deepEqual(ran('jslint', ['unwrap', ...words, path('a.js')]), [0, 'async () => await 1;\n', '']);
+    for (const words of [['--edition', '2022'], ['--edition=2022']])
+      assert.deepEqual(ran('jslint', ['unwrap', ...words, path('a.js')]), [0, 'async () => await 1;\n', '']);
     assert.deepEqual(ran('jslint', ['fix', '--edition', '2022', path('m.mjs')]), [2, '', 'jslint: syntax error at 1:1 (perhaps: --module)\n']);
     assert.deepEqual(ran('jslint', ['fix', path('a.js')]), [2, '', 'jslint: syntax error at 1:10 (perhaps: --edition 2022)\n']);
-    for (const words of [['--edition', '2021'], ['--edition=']]) assert.deepEqual(ran('jslint', ['fix', ...words, path('a.js')]), [2, '', 'jslint: --edition is 2020 or 2022\n']);
+    for (const words of [['--edition', '2021'], ['--edition=']])
+      assert.deepEqual(ran('jslint', ['fix', ...words, path('a.js')]), [2, '', 'jslint: --edition is 2020 or 2022\n']);
     assert.deepEqual(ran('jslint', ['check', '--module', '--edition=2020', path('m.mjs')]), [2, '', "jslint: --module doesn't go with --edition 2020\n"]);
   });
 });
@@ -98,13 +101,15 @@ function inFolder(files, call) {
 }
 
 for (const row of rows) {
-  test(`ESLint's JSON: ${row.what}`, () => inFolder(row.files, (folder) => {
-    const it = spawnSync(process.execPath, [bin('eslint-json'), ...row.words], { cwd: folder, encoding: 'utf8' });
-    const wanted = row.results?.map((each) => ({ ...each, filePath: join(folder, each.filePath) }));
-    assert.equal(it.stdout, wanted ? `${JSON.stringify(wanted)}\n` : '');
-    assert.equal(it.stderr, row.said ? `jslint-with-proofs-eslint-json: ${row.said}\n` : '');
-    assert.equal(it.status, row.status);
-  }));
+  test(`ESLint's JSON: ${row.what}`, () =>
+    inFolder(row.files, (folder) => {
+      const it = spawnSync(process.execPath, [bin('eslint-json'), ...row.words], { cwd: folder, encoding: 'utf8' });
+      const wanted = row.results?.map((each) => ({ ...each, filePath: join(folder, each.filePath) }));
+      assert.equal(it.stdout, wanted ? `${JSON.stringify(wanted)}\n` : '');
+      assert.equal(it.stderr, row.said ? `jslint-with-proofs-eslint-json: ${row.said}\n` : '');
+      assert.equal(it.status, row.status);
+    })
+  );
 }
 
 test("ESLint's JSON from standard input, for help, and where it can't be written", () => {
@@ -113,7 +118,11 @@ test("ESLint's JSON from standard input, for help, and where it can't be written
   assert.match(ran('eslint-json', ['--help'])[1], /^usage: /);
   const full = openSync('/dev/full', 'w');
   try {
-    for (const [words, streams, said] of [[['/dev/null'], ['pipe', full, 'pipe'], 'write failed'], [['--help'], ['pipe', full, 'pipe'], 'write failed'], [['/dev/null'], ['pipe', full, full], null]]) {
+    for (const [words, streams, said] of [
+      [['/dev/null'], ['pipe', full, 'pipe'], 'write failed'],
+      [['--help'], ['pipe', full, 'pipe'], 'write failed'],
+      [['/dev/null'], ['pipe', full, full], null],
+    ]) {
       const it = spawnSync(process.execPath, [bin('eslint-json'), ...words], { stdio: streams, encoding: 'utf8' });
       assert.deepEqual([it.status, it.stderr], [2, said && `jslint-with-proofs-eslint-json: ${said}\n`]);
     }

@@ -21,8 +21,10 @@ const lines = (reports) => reports.map((it) => `${it.line}:${it.column} ${it.rul
 
 test('check reports by place and rule', () => {
   assert.deepEqual(lines(check('let x = (1); x; { let x = 2; x = 3; }')), [
-    "1:5 prefer-const 'x' is never reassigned", '1:9 no-extra-parens unnecessary parentheses',
-    "1:23 no-shadow 'x' shadows an outer name", "1:23 no-unused-vars 'x' is never read",
+    "1:5 prefer-const 'x' is never reassigned",
+    '1:9 no-extra-parens unnecessary parentheses',
+    "1:23 no-shadow 'x' shadows an outer name",
+    "1:23 no-unused-vars 'x' is never read",
   ]);
   assert.deepEqual(check(''), []);
 });
@@ -33,12 +35,21 @@ test('check takes settings', () => {
 });
 
 test('check says which reports are warnings, and takes the mark off', () => {
-  const text = 'var a = 1;\ndebugger;\n', settings = 'rules.no-var = "warn"\nrules.no-unused-vars = 1\n';
+  const text = 'var a = 1;\ndebugger;\n',
+    settings = 'rules.no-var = "warn"\nrules.no-unused-vars = 1\n';
   assert.deepEqual(check(text, { settings }).map((it) => [it.rule, it.message, it.severity]), [
-    ['no-var', 'use let or const instead of var', 'warning'], ['no-unused-vars', "'a' is never read", 'warning'], ['no-debugger', 'debugger statement', 'error'],
+    ['no-var', 'use let or const instead of var', 'warning'],
+    ['no-unused-vars', "'a' is never read", 'warning'],
+    ['no-debugger', 'debugger statement', 'error'],
   ]);
-  assert.deepEqual([check(text), check(text, { settings: 'rules.no-var = "error"' })].map((it) => it.map(({ severity }) => severity)), Array(2).fill(['error', 'error', 'error']));
-  assert.equal(run('check', new TextEncoder().encode(text), new TextEncoder().encode(settings)).text.split('\n')[0], '1:1 no-var use let or const instead of var (warning)');
+  assert.deepEqual(
+    [check(text), check(text, { settings: 'rules.no-var = "error"' })].map((it) => it.map(({ severity }) => severity)),
+    Array(2).fill(['error', 'error', 'error'])
+  );
+  assert.equal(
+    run('check', new TextEncoder().encode(text), new TextEncoder().encode(settings)).text.split('\n')[0],
+    '1:1 no-var use let or const instead of var (warning)'
+  );
   assert.deepEqual(spans(text, { settings }).map(({ message }) => message), check(text, { settings }).map(({ message }) => message));
 });
 
@@ -115,20 +126,69 @@ test('what is no text is a type error', () => {
 
 test('wrong arguments throw', () => {
   const wrong = [
-    () => fix(), () => fix(null), () => fix(['a']), () => fix(new ArrayBuffer(1)), () => fix(new Uint16Array(1)), () => fix('a', null), () => fix('a', '2022'), () => fix('a', { lang: '2022' }),
-    () => fix('a', { settings: '' }), () => fix('a', { language: '2021' }), () => fix('a', { language: '' }), () => fix('a', { language: Symbol('a') }), () => fix('a', { language: 'toString' }),
-    () => check('a', 'globals = []'), () => check('a', { settings: 5 }), () => check('a', { settings: null }), () => check('a', { places: 'bytes' }), () => spans('a', { places: 'characters' }),
-    () => verify('a'), () => verify('a', {}), () => same('a'), () => same('a', 'a', 'module'), () => cost('a', { places: 'bytes' }), () => treeText('a', { places: 'bytes' }),
-    () => run('fix', 'a'), () => run('check', new Uint8Array(1), 'a'), () => run('check', new Uint8Array(1), null), () => run('toString', new Uint8Array(1)), () => run(0, new Uint8Array(1)), () => indexOf(new Uint8Array(1), 1, 1),
+    () => fix(),
+    () => fix(null),
+    () => fix(['a']),
+    () => fix(new ArrayBuffer(1)),
+    () => fix(new Uint16Array(1)),
+    () => fix('a', null),
+    () => fix('a', '2022'),
+    () => fix('a', { lang: '2022' }),
+    () => fix('a', { settings: '' }),
+    () => fix('a', { language: '2021' }),
+    () => fix('a', { language: '' }),
+    () => fix('a', { language: Symbol('a') }),
+    () => fix('a', { language: 'toString' }),
+    () => check('a', 'globals = []'),
+    () => check('a', { settings: 5 }),
+    () => check('a', { settings: null }),
+    () => check('a', { places: 'bytes' }),
+    () => spans('a', { places: 'characters' }),
+    () => verify('a'),
+    () => verify('a', {}),
+    () => same('a'),
+    () => same('a', 'a', 'module'),
+    () => cost('a', { places: 'bytes' }),
+    () => treeText('a', { places: 'bytes' }),
+    () => run('fix', 'a'),
+    () => run('check', new Uint8Array(1), 'a'),
+    () => run('check', new Uint8Array(1), null),
+    () => run('toString', new Uint8Array(1)),
+    () => run(0, new Uint8Array(1)),
+    () => indexOf(new Uint8Array(1), 1, 1),
   ];
   for (const [at, call] of wrong.entries()) assert.throws(call, TypeError, `${at}`);
-  assert.deepEqual([fix('a', { language: undefined }), fix('a', {}), check('1', { settings: undefined }), spans('1', { places: undefined })], ['a;\n', 'a;\n', [], []]);
+  assert.deepEqual(
+    [fix('a', { language: undefined }), fix('a', {}), check('1', { settings: undefined }), spans('1', { places: undefined })],
+    ['a;\n', 'a;\n', [], []]
+  );
 });
 
 test('places that a text does not have', () => {
   const text = 'a\u{1f600}\r\n\u2028b';
-  assert.deepEqual([[1, 1], [1, 2], [1, 3], [1, 4], [2, 1], [3, 1], [3, 2]].map(([line, column]) => indexOf(text, line, column)), [0, 1, 3, 4, 5, 6, 7]);
-  for (const [line, column] of [[0, 1], [1, 0], [4, 1], [3, 3], [1, 6], [1.5, 1], ['1', 1], [NaN, 1], [1, undefined]]) assert.throws(() => indexOf(text, line, column), RangeError, `${line} ${column}`);
+  assert.deepEqual(
+    [
+      [1, 1],
+      [1, 2],
+      [1, 3],
+      [1, 4],
+      [2, 1],
+      [3, 1],
+      [3, 2],
+    ].map(([line, column]) => indexOf(text, line, column)),
+    [0, 1, 3, 4, 5, 6, 7]
+  );
+  for (const [line, column] of [
+    [0, 1],
+    [1, 0],
+    [4, 1],
+    [3, 3],
+    [1, 6],
+    [1.5, 1],
+    ['1', 1],
+    [NaN, 1],
+    [1, undefined],
+  ]) assert.throws(() => indexOf(text, line, column), RangeError, `${line} ${column}`);
   assert.equal(indexOf('', 1, 1), 0);
 });
 
@@ -144,7 +204,8 @@ test('2,000 calls in one instance', () => {
 });
 
 test('scripts at the limits of nesting', () => {
-  const pairs = `${'('.repeat(1200)}a${')'.repeat(1200)}`, arrays = `${'['.repeat(595)}${']'.repeat(595)}`;
+  const pairs = `${'('.repeat(1200)}a${')'.repeat(1200)}`,
+    arrays = `${'['.repeat(595)}${']'.repeat(595)}`;
   assert.equal(fix(pairs), 'a;\n');
   assert.equal(unwrap(pairs), 'a');
   assert.equal(unwrap(arrays), arrays);

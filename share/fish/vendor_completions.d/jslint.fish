@@ -36,6 +36,8 @@ complete -c jslint-files -n "not __fish_seen_subcommand_from $rewriting" -l form
 complete -c jslint-files -n "not __fish_seen_subcommand_from $rewriting" -l color -x -a 'auto always never' -d 'Colours of --format pretty'
 complete -c jslint-files -n "not __fish_seen_subcommand_from $rewriting" -l ends -d 'Ends of reports in --format json'
 complete -c jslint-files -n "not __fish_seen_subcommand_from $rewriting" -l suppressions -d 'Comments turn reports off'
+complete -c jslint-files -n "not __fish_seen_subcommand_from $rewriting" -l cache -d 'Keep what was found'
+complete -c jslint-files -n "not __fish_seen_subcommand_from $rewriting" -l cache-location -r -F -d 'Where it is kept'
 complete -c jslint-files -n "not __fish_seen_subcommand_from $rewriting" -l max-warnings -x -d 'Status 0 up to so many reports'
 complete -c jslint-files -n "not __fish_seen_subcommand_from $rewriting" -l rule -x -d 'A rule and its severity'
 complete -c jslint-files -n "not __fish_seen_subcommand_from $rewriting" -l only -x -d 'A rule, and no other'

@@ -9,14 +9,23 @@
 const antt = require('../antt.js');
 
 const LIB = Object.fromEntries(Object.entries(antt.LIBRARY).map(([name, [, run]]) => [name, run]));
-const fail = (name) => { throw new antt.AnttError('no clause fits: ' + name); };
+const fail = (name) => {
+  throw new antt.AnttError('no clause fits: ' + name);
+};
 
 // `node`, an expression or a pattern, is `other` while `work` runs
 function inPlaceOf(node, other, work) {
   const kept = { ...node };
-  const become = (it) => { for (const key of Object.keys(node)) delete node[key]; Object.assign(node, it); };
+  const become = (it) => {
+    for (const key of Object.keys(node)) delete node[key];
+    Object.assign(node, it);
+  };
   become(other);
-  try { return work(); } finally { become(kept); }
+  try {
+    return work();
+  } finally {
+    become(kept);
+  }
 }
 // all clauses of a definition, those of its helpers too
 const clausesOf = (clauses) => clauses.flatMap((c) => [c, ...c.helpers.flatMap((h) => clausesOf(h.clauses))]);
@@ -30,7 +39,10 @@ class Changeable extends antt.Spec {
     this.compile();
     this.all = [...this.modules.values()].flatMap((m) => m.definitions).filter((d) => !d.skip);
     const clauses = this.all.flatMap((d) => clausesOf(d.parsed));
-    clauses.forEach((c, number) => { c.number = number; c.body.clause = number; });
+    clauses.forEach((c, number) => {
+      c.number = number;
+      c.body.clause = number;
+    });
     this.marks = new Uint8Array(clauses.length);
     this.connect();
   }
@@ -49,10 +61,26 @@ class Changeable extends antt.Spec {
     this.texts = new Map(this.all.map((d) => [d, this.definition(d)]));
     const names = this.all.map((d) => this.js(d));
     const constants = this.all.filter((d) => d.arity === 0).map((d) => `s${this.js(d)} = 0;`);
-    const source = ["'use strict';", ...[...this.texts.values()].map((it) => it.replace(/^const /, 'let ')), 'function compiled(code) { return eval(code); }', `function forget() { ${constants.join(' ')} }`,
-      `return { compiled, forget, ${names.map((name) => `get ${name}() { return ${name}; }`).join(', ')} };`].join('\n');
+    const source = [
+      "'use strict';",
+      ...[...this.texts.values()].map((it) => it.replace(/^const /, 'let ')),
+      'function compiled(code) { return eval(code); }',
+      `function forget() { ${constants.join(' ')} }`,
+      `return { compiled, forget, ${names.map((name) => `get ${name}() { return ${name}; }`).join(', ')} };`,
+    ].join('\n');
     // eslint-disable-next-line no-new-func
-    this.live = new Function('C', 'L', 'Cons', 'Data', 'append', 'memo', 'fail', 'curry', 'count', 'marks', source)(this.cons, LIB, antt.Cons, antt.Data, antt.append, antt.memo, fail, antt.curry, () => {}, this.marks);
+    this.live = new Function('C', 'L', 'Cons', 'Data', 'append', 'memo', 'fail', 'curry', 'count', 'marks', source)(
+      this.cons,
+      LIB,
+      antt.Cons,
+      antt.Data,
+      antt.append,
+      antt.memo,
+      fail,
+      antt.curry,
+      () => {},
+      this.marks
+    );
     for (const d of this.all) d.run = this.live[this.js(d)];
   }
   // a definition is this text from now on, and what constants were is forgotten
@@ -68,7 +96,13 @@ class Changeable extends antt.Spec {
     const own = d.parsed;
     let text;
     if (dropped === undefined) text = inPlaceOf(node, other, () => this.definition(d));
-    else try { d.parsed = own.filter((c) => c !== dropped); text = this.definition(d); } finally { d.parsed = own; }
+    else
+      try {
+        d.parsed = own.filter((c) => c !== dropped);
+        text = this.definition(d);
+      } finally {
+        d.parsed = own;
+      }
     this.put(d, text);
     return () => this.put(d, this.texts.get(d));
   }

@@ -17,7 +17,9 @@ const next = (list, it) => list[(list.indexOf(it) + 1) % list.length];
 // the constructors of a type that have no arguments, in their order
 function constructorsLike(spec, module, con) {
   for (const variants of spec.enums.values()) if ([...variants.values()].includes(con)) return [...variants.values()].filter((it) => it.arity === 0);
-  const exported = [module, ...spec.modules.values()].flatMap((m) => [...m.exports.values()]).filter((e) => e.k === 'con' && e.con.module === con.module && e.con.type === con.type && e.con.arity === 0);
+  const exported = [module, ...spec.modules.values()]
+    .flatMap((m) => [...m.exports.values()])
+    .filter((e) => e.k === 'con' && e.con.module === con.module && e.con.type === con.type && e.con.arity === 0);
   return [...new Set(exported.map((e) => e.con))];
 }
 function otherConstructor(node, { spec, module }, { con, type }) {
@@ -46,7 +48,8 @@ function otherField(node, { spec }) {
   return alike.length < 2 ? [] : [change(node, 'field', { k: 'name', path: [name, next(alike, field)], no: node.no })];
 }
 function ofName(node, at) {
-  const { spec, module, d, locals } = at, [first] = node.path;
+  const { spec, module, d, locals } = at,
+    [first] = node.path;
   if (named(node, 'true') || named(node, 'false')) return [change(node, 'truth', { k: 'name', path: [String(first !== 'true')], no: node.no })];
   if (locals.has(first)) return node.path.length === 1 ? otherVariable(node, at) : node.path.length === 2 ? otherField(node, at) : [];
   const entry = spec.resolve(module, node.path, d.where);
@@ -58,9 +61,17 @@ function ofName(node, at) {
 
 const CONNECTIVES = { '◌&&◌': '◌||◌', '◌||◌': '◌&&◌' };
 const APPLIED = {
-  connective: (node, [a, b], name) => [change(node, '&& and ||', called(CONNECTIVES[name], a, b)), change(node, 'condition left out', b), change(node, 'condition left out', a)],
+  connective: (node, [a, b], name) => [
+    change(node, '&& and ||', called(CONNECTIVES[name], a, b)),
+    change(node, 'condition left out', b),
+    change(node, 'condition left out', a),
+  ],
   not: (node, [a]) => [change(node, 'not left out', a)],
-  cond: (node, [test, a, b]) => [change(node, 'turned round', called('cond', called('not', test), a, b)), change(node, 'always the first', a), change(node, 'always the second', b)],
+  cond: (node, [test, a, b]) => [
+    change(node, 'turned round', called('cond', called('not', test), a, b)),
+    change(node, 'always the first', a),
+    change(node, 'always the second', b),
+  ],
   '◌∷◌': (node, [item, rest]) => [{ node, what: 'item left out', other: rest, text: shown(item) }],
   '◌++◌': (node, [a, b]) => [change(node, 'list left out', b), change(node, 'list left out', a)],
 };
@@ -70,7 +81,9 @@ function exchanged(node, { spec, module, d, locals }) {
   const [a, b, ...more] = node.args;
   if (node.f.k !== 'name' || b === undefined || locals.has(node.f.path[0])) return [];
   const types = spec.resolve(module, node.f.path, d.where)?.def?.signature?.args;
-  return types === undefined || types[0] !== types[1] || shown(a) === shown(b) ? [] : [change(node, 'arguments', { ...node, args: [b, a, ...more], clause: undefined })];
+  return types === undefined || types[0] !== types[1] || shown(a) === shown(b)
+    ? []
+    : [change(node, 'arguments', { ...node, args: [b, a, ...more], clause: undefined })];
 }
 function ofApplication(node, at) {
   const name = node.f.k === 'name' ? node.f.path[0] : '';
@@ -86,7 +99,12 @@ function ofApplication(node, at) {
 const numbers = (node) => [node.v + 1, node.v - 1].filter((v) => v >= 0).map((v) => change(node, 'number', { ...node, v }));
 function ofRecord(node) {
   if (node.base === null) return [];
-  return node.fields.map((field) => ({ node, what: 'field left out', other: { ...node, fields: node.fields.filter((it) => it !== field) }, text: `${shown(node)} → without ${field[0]}` }));
+  return node.fields.map((field) => ({
+    node,
+    what: 'field left out',
+    other: { ...node, fields: node.fields.filter((it) => it !== field) },
+    text: `${shown(node)} → without ${field[0]}`,
+  }));
 }
 const FORMS = { number: numbers, name: ofName, apply: ofApplication, record: ofRecord };
 const changesOf = (node, at) => FORMS[node.k]?.(node, at) ?? [];

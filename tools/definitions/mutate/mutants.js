@@ -18,7 +18,9 @@ const ARGUMENTS = { node: ['Kind', 'List ℕ', 'Flags', 'ℕ', 'ℕ', 'Parts'], 
 // the fields of each record, with their types
 function fieldsOf(spec) {
   const structs = [...spec.records.values()].map((body) => [...body.matchAll(/(\w+)\s*:\s*([^,\n]+)/g)]);
-  const records = [...spec.modules.values()].flatMap((m) => fs.readFileSync(m.file, 'utf8').match(/^(?:pub )?record [^]*?(?=\n\S|$(?![^]))/gm) ?? []).map((it) => [...it.matchAll(/^ +(?:pub )?(\w+) : (.*)$/gm)]);
+  const records = [...spec.modules.values()]
+    .flatMap((m) => fs.readFileSync(m.file, 'utf8').match(/^(?:pub )?record [^]*?(?=\n\S|$(?![^]))/gm) ?? [])
+    .map((it) => [...it.matchAll(/^ +(?:pub )?(\w+) : (.*)$/gm)]);
   return [...records, ...structs].map((fields) => new Map(fields.map(([, name, type]) => [name, type.trim()])));
 }
 const isVariable = (spec, d, p) => p.k === 'pname' && p.path.length === 1 && !['con', 'constant'].includes(spec.resolve(d.module, p.path, d.where)?.k);
@@ -48,11 +50,20 @@ const INNER = {
   field: (e, at) => [[e.e, at]],
   record: (e, at) => [...(e.base === null ? [] : [[e.base, at]]), ...e.fields.map(([field, value]) => [value, { ...at, field }])],
   lambda: (e, at) => [[e.body, bound(at, e.names)]],
-  let: (e, at) => [[e.value, at], [e.body, bound(at, [e.pattern])]],
+  let: (e, at) => [
+    [e.value, at],
+    [e.body, bound(at, [e.pattern])],
+  ],
   elim: (e, at) => [[e.e, at], ...e.cases.map(([p, body]) => [body, bound(at, [p])])],
 };
 // the line where an expression begins, as far as its tokens say it
-const lineOf = (e) => e.no ?? [e.f, e.e, e.base, e.body, ...inner(e)].filter((it) => it?.k !== undefined).map(lineOf).filter((it) => it !== undefined).sort((a, b) => a - b)[0];
+const lineOf = (e) =>
+  e.no ??
+  [e.f, e.e, e.base, e.body, ...inner(e)]
+    .filter((it) => it?.k !== undefined)
+    .map(lineOf)
+    .filter((it) => it !== undefined)
+    .sort((a, b) => a - b)[0];
 
 // the changes of an expression and in it; those of a field's value say which
 function inExpression(e, { field, ...at }) {
@@ -64,14 +75,18 @@ const inPattern = (p, at) => [...changesOfPattern(p, at), ...inner(p).flatMap((i
 // Whether a pattern takes all that another takes.
 function covers(spec, d, q, p) {
   if (q.k === 'any' || isVariable(spec, d, q)) return true;
-  return q.k === p.k && (q.path ?? []).join() === (p.path ?? []).join() && inner(q).length === inner(p).length && inner(q).every((it, i) => covers(spec, d, it, inner(p)[i]));
+  return q.k === p.k &&
+    (q.path ?? []).join() === (p.path ?? []).join() &&
+    inner(q).length === inner(p).length &&
+    inner(q).every((it, i) => covers(spec, d, it, inner(p)[i]));
 }
 
 // ---------------------------------------------------------------- mutants
 
 // those of one clause among its own, of a definition or a helper of it
 function ofClause(clause, clauses, at, name) {
-  const { spec, d } = at, locals = new Map(at.locals);
+  const { spec, d } = at,
+    locals = new Map(at.locals);
   const types = clauses === d.parsed ? d.signature.args : [];
   clause.patterns.forEach((p, i) => bind(spec, d, p, types[i] ?? null, locals));
   for (const h of clause.helpers) locals.set(h.name, null);
@@ -87,16 +102,26 @@ function ofClause(clause, clauses, at, name) {
 // a clause left out, where later ones take what it took
 function leftOut(d, file, spec) {
   const isCovered = (c, i) => d.parsed.slice(i + 1).some((later) => later.patterns.every((q, k) => covers(spec, d, q, c.patterns[k])));
-  return d.parsed.filter(isCovered).map((c) => ({
-    d, file, line: c.no, what: 'clause left out', text: shown(c.body), dropped: c, clauses: clausesOf([c]).map((it) => it.number), name: [d.name, ...c.patterns.map(shownAsArgument)].join(' '),
-  }));
+  return d.parsed
+    .filter(isCovered)
+    .map((c) => ({
+      d,
+      file,
+      line: c.no,
+      what: 'clause left out',
+      text: shown(c.body),
+      dropped: c,
+      clauses: clausesOf([c]).map((it) => it.number),
+      name: [d.name, ...c.patterns.map(shownAsArgument)].join(' '),
+    }));
 }
 // Two that would have one name get numbers.
 function withNames(mutants) {
   const seen = new Map();
   return mutants.map((mutant) => {
     const whole = `${mutant.what}: ${short(mutant.text)}`;
-    const key = [mutant.file, mutant.name, whole].join('\t'), count = (seen.get(key) ?? 0) + 1;
+    const key = [mutant.file, mutant.name, whole].join('\t'),
+      count = (seen.get(key) ?? 0) + 1;
     seen.set(key, count);
     const text = count === 1 ? whole : `${whole} (${count})`;
     return { ...mutant, text, key: [mutant.file, mutant.name, text].join('\t') };
@@ -107,10 +132,12 @@ function mutantsOf(spec, files) {
   spec.recordFields = fieldsOf(spec);
   const fileOf = (d) => path.relative(CRATES, d.module.file);
   const mine = spec.all.filter((d) => files.includes(fileOf(d)));
-  return withNames(mine.flatMap((d) => {
-    const at = { spec, d, module: d.module, file: fileOf(d), locals: new Map() };
-    return [...leftOut(d, at.file, spec), ...d.parsed.flatMap((c) => ofClause(c, d.parsed, at, d.name))];
-  }));
+  return withNames(
+    mine.flatMap((d) => {
+      const at = { spec, d, module: d.module, file: fileOf(d), locals: new Map() };
+      return [...leftOut(d, at.file, spec), ...d.parsed.flatMap((c) => ofClause(c, d.parsed, at, d.name))];
+    })
+  );
 }
 
 module.exports = { mutantsOf };

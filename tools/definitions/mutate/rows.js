@@ -56,7 +56,9 @@ const saidOf = (definitions, row) => LOOKS[row.look](definitions, row);
 
 // the rows whose text the plain model reads; those of refused texts ask nothing of these definitions
 function allRows() {
-  const early = ['editions', 'early', 'later_answers'].flatMap((file) => rowsOf(file, ['early'])).map(({ texts: [text], language, want }) => ({ text, language, look: 'early', want }));
+  const early = ['editions', 'early', 'later_answers']
+    .flatMap((file) => rowsOf(file, ['early']))
+    .map(({ texts: [text], language, want }) => ({ text, language, look: 'early', want }));
   const scopes = rowsOf('resolved', ['scopes']).map(({ texts: [text], language, want }) => ({ text, language, look: 'scopes', want }));
   const check = behind.rowsOfReports().map((row) => ({ ...row, look: 'check', want: JSON.stringify(row.want) }));
   const rule = rowsOfNodeRules().map((row) => ({ ...row, look: 'rule' }));
@@ -79,7 +81,9 @@ class Rows {
     this.byClause = new Map();
     for (const row of this.rows) {
       let said = null;
-      row.clauses = spec.ran(() => { said = saidOf(definitions, row); });
+      row.clauses = spec.ran(() => {
+        said = saidOf(definitions, row);
+      });
       if (said !== row.want) this.otherwise.push({ row, said });
       else for (const clause of row.clauses) this.put(clause, row);
     }

@@ -3,7 +3,9 @@
 
 const LONGEST = 140;
 // where it stands: as a whole, at the side of an operator, as an argument
-const WHOLE = 0, SIDE = 1, ARGUMENT = 2;
+const WHOLE = 0,
+  SIDE = 1,
+  ARGUMENT = 2;
 const operatorOf = (path) => /^◌(.+)◌$/.exec(path[0])?.[1] ?? null;
 const inPairs = (text, isNeeded) => (isNeeded ? `(${text})` : text);
 
@@ -18,7 +20,9 @@ function applied(e, place) {
 }
 function constructed(p, place) {
   const operator = operatorOf(p.path);
-  return operator === null ? inPairs([p.path.join('.'), ...p.args.map((it) => shown(it, ARGUMENT))].join(' '), place === ARGUMENT) : joined(operator, p.args, place);
+  return operator === null
+    ? inPairs([p.path.join('.'), ...p.args.map((it) => shown(it, ARGUMENT))].join(' '), place === ARGUMENT)
+    : joined(operator, p.args, place);
 }
 const inTuple = (e) => `(${e.parts.map((it) => shown(it)).join(', ')})`;
 const FORMS = {
@@ -33,12 +37,18 @@ const FORMS = {
   apply: applied,
   tuple: inTuple,
   field: (e) => `${shown(e.e, ARGUMENT)}.${e.f}`,
-  record: (e, place) => inPairs(`record ${e.base === null ? '' : `${shown(e.base, ARGUMENT)} `}{ ${e.fields.map(([name, value]) => `${name} = ${shown(value)}`).join('; ')} }`, place === ARGUMENT),
+  record: (e, place) =>
+    inPairs(
+      `record ${e.base === null ? '' : `${shown(e.base, ARGUMENT)} `}{ ${e.fields.map(([name, value]) => `${name} = ${shown(value)}`).join('; ')} }`,
+      place === ARGUMENT
+    ),
   lambda: (e, place) => inPairs(`λ ${e.names.map((it) => shown(it, ARGUMENT)).join(' ')}. ${shown(e.body)}`, place !== WHOLE),
   let: (e, place) => inPairs(`let ${shown(e.pattern)} = ${shown(e.value)} in ${shown(e.body)}`, place !== WHOLE),
   elim: (e, place) => inPairs(`elim ${shown(e.e, ARGUMENT)} [${e.cases.map(([p, body]) => `${shown(p)} ↦ ${shown(body)}`).join(' | ')}]`, place !== WHOLE),
 };
-function shown(e, place = WHOLE) { return FORMS[e.k](e, place); }
+function shown(e, place = WHOLE) {
+  return FORMS[e.k](e, place);
+}
 const shownAsArgument = (e) => shown(e, ARGUMENT);
 // of a long text both ends
 const short = (text) => (text.length <= LONGEST ? text : `${text.slice(0, LONGEST / 2)} .. ${text.slice(-LONGEST / 2)}`);

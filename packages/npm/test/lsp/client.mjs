@@ -11,7 +11,9 @@ export class Client {
     this.child = spawn(process.execPath, [BIN, '--stdio', ...words], { stdio: ['pipe', 'pipe', 'pipe'], ...how });
     Object.assign(this, { lastId: 0, asked: new Map(), heard: [], waits: [], said: [], errors: '', buffer: Buffer.alloc(0), answers: {} });
     this.child.stdout?.on('data', (it) => this.push(it));
-    this.child.stderr?.on('data', (it) => { this.errors += it; });
+    this.child.stderr?.on('data', (it) => {
+      this.errors += it;
+    });
     this.child.stdin.on('error', () => {});
     this.exited = new Promise((resolve) => this.child.on('exit', (status, signal) => resolve(signal ?? status)));
     this.exited.then((status) => this.asked.forEach(({ reject }) => reject(new Error(`the server ended with ${status}: ${this.errors}`))));
@@ -59,7 +61,8 @@ export class Client {
   }
 
   request(method, params) {
-    const id = ++this.lastId, promise = new Promise((resolve, reject) => this.asked.set(id, { resolve, reject }));
+    const id = ++this.lastId,
+      promise = new Promise((resolve, reject) => this.asked.set(id, { resolve, reject }));
     promise.id = id;
     this.send({ id, method, params });
     return promise;
@@ -126,7 +129,8 @@ export async function withClient(work, { capabilities = {}, more = {}, words, ho
 
 /** What edits make of a text: places in UTF-16, lines that end at LF or CR LF. */
 export function edited(text, edits) {
-  const lines = text.split('\n'), indexOf = ({ line, character }) => lines.slice(0, line).reduce((sum, it) => sum + it.length + 1, 0) + character;
+  const lines = text.split('\n'),
+    indexOf = ({ line, character }) => lines.slice(0, line).reduce((sum, it) => sum + it.length + 1, 0) + character;
   const last = [...edits].sort((a, b) => indexOf(b.range.start) - indexOf(a.range.start));
   return last.reduce((all, it) => all.slice(0, indexOf(it.range.start)) + it.newText + all.slice(indexOf(it.range.end)), text);
 }

@@ -6,22 +6,31 @@ import { setTimeout as pause } from 'node:timers/promises';
 import { pathToFileURL } from 'node:url';
 import { Client, at, place, range } from './client.mjs';
 
-const RUNS = 9, CHANGES = 200;
+const RUNS = 9,
+  CHANGES = 200;
 // How long the actions of a whole text have been asked for when a key comes, in milliseconds.
 const ASKED = 60;
 const median = (list) => Math.round([...list].sort((a, b) => a - b)[list.length >> 1] * 10) / 10;
 const told = (list) => `${median(list.map((it) => it[0]))} (${median(list.map((it) => it[1]))})`;
-const begun = performance.now(), client = new Client([]);
+const begun = performance.now(),
+  client = new Client([]);
 
 /** The processor time of all threads of the server so far, in milliseconds. */
 function computed() {
   const tasks = `/proc/${client.child.pid}/task`;
-  const timeOf = (it) => { try { return Number(readFileSync(`${tasks}/${it}/schedstat`, 'latin1').split(' ')[0]) / 1e6; } catch { return 0; } };
+  const timeOf = (it) => {
+    try {
+      return Number(readFileSync(`${tasks}/${it}/schedstat`, 'latin1').split(' ')[0]) / 1e6;
+    } catch {
+      return 0;
+    }
+  };
   return readdirSync(tasks).reduce((sum, it) => sum + timeOf(it), 0);
 }
 
 async function timed(work) {
-  const from = performance.now(), before = computed();
+  const from = performance.now(),
+    before = computed();
   await work();
   return [performance.now() - from, computed() - before];
 }
@@ -35,7 +44,8 @@ async function repeated(work) {
 /** One open script: what is timed of it. */
 class Timing {
   constructor(file) {
-    const text = readFileSync(file, 'utf8'), line = Math.max(0, text.split('\n').findIndex((it, number) => number > 2000 && it.includes('(')));
+    const text = readFileSync(file, 'utf8'),
+      line = Math.max(0, text.split('\n').findIndex((it, number) => number > 2000 && it.includes('(')));
     Object.assign(this, { file, text, line, uri: pathToFileURL(path.resolve(file)).href, version: 1, shown: null });
   }
 
@@ -60,7 +70,8 @@ class Timing {
 
   /** What is typed while the actions of the whole text are asked for, which drops them. */
   async typedBeside() {
-    const found = [], whole = range(0, 0, this.text.split('\n').length, 0);
+    const found = [],
+      whole = range(0, 0, this.text.split('\n').length, 0);
     for (let run = 0; run < RUNS; run++) {
       const asked = client.request('textDocument/codeAction', { ...at(this.uri), range: whole, context: { diagnostics: [] } }).catch(() => {});
       await pause(ASKED);

@@ -8,7 +8,14 @@ import { Judge } from '../../lib/changes.mjs';
 import { applied, editsBetween } from '../../lib/edits.mjs';
 
 const MOST_LENGTH = 80000;
-const answered = (call) => { try { return call(); } catch (error) { if (error instanceof Refused) return null; throw error; } };
+const answered = (call) => {
+  try {
+    return call();
+  } catch (error) {
+    if (error instanceof Refused) return null;
+    throw error;
+  }
+};
 const judgeOf = (text) => new Judge({ fix, spans, tree, unwrap }, answered, text);
 /** The tree without places. */
 const shape = (text) => JSON.stringify(tree(text), (key, value) => (key === 'start' || key === 'end' ? undefined : value));
@@ -21,7 +28,8 @@ function tryPairs(text, starts, before, file) {
   const judge = judgeOf(text);
   for (const start of starts) {
     sum.pairs++;
-    const edits = judge.withoutPair(start), after = edits && applied(text, edits);
+    const edits = judge.withoutPair(start),
+      after = edits && applied(text, edits);
     if (!edits) continue;
     sum.alone++;
     assert.ok(shape(after) === before && others(after) === others(text) && count(text, /[()]/g) - count(after, /[()]/g) === 2, file);
@@ -29,10 +37,12 @@ function tryPairs(text, starts, before, file) {
 }
 
 function tryLets(text, names, before, file) {
-  const judge = judgeOf(text), isConst = /"kind":"const"/g;
+  const judge = judgeOf(text),
+    isConst = /"kind":"const"/g;
   for (const name of names) {
     sum.lets++;
-    const found = judge.letToConst(name), after = found && shape(applied(text, found.edits));
+    const found = judge.letToConst(name),
+      after = found && shape(applied(text, found.edits));
     if (!found) continue;
     sum.toConst++;
     assert.ok(count(after, isConst) === count(before, isConst) + 1 && after.replace(isConst, '"kind":"let"') === before.replace(isConst, '"kind":"let"'), file);
@@ -40,13 +50,21 @@ function tryLets(text, names, before, file) {
 }
 
 function tryFile(file) {
-  const text = readFileSync(file, 'utf8'), reports = text.length > MOST_LENGTH ? null : answered(() => spans(text));
+  const text = readFileSync(file, 'utf8'),
+    reports = text.length > MOST_LENGTH ? null : answered(() => spans(text));
   if (reports === null) {
     sum.refused++;
     return;
   }
   sum.files++;
-  const before = shape(text), to = unwrap(text), edits = editsBetween(text, to), of = (rule, most) => reports.filter((it) => it.rule === rule).slice(0, most).map((it) => it.start);
+  const before = shape(text),
+    to = unwrap(text),
+    edits = editsBetween(text, to),
+    of = (rule, most) =>
+      reports
+        .filter((it) => it.rule === rule)
+        .slice(0, most)
+        .map((it) => it.start);
   assert.equal(applied(text, edits), to);
   sum.unwrapped += edits.length > 0;
   sum.edits += edits.length;
@@ -55,6 +73,9 @@ function tryFile(file) {
 }
 
 const [folder, step = '10'] = process.argv.slice(2);
-const files = readdirSync(folder, { recursive: true, withFileTypes: true }).filter((it) => it.isFile() && it.name.endsWith('.js')).map((it) => path.join(it.path, it.name)).sort();
+const files = readdirSync(folder, { recursive: true, withFileTypes: true })
+  .filter((it) => it.isFile() && it.name.endsWith('.js'))
+  .map((it) => path.join(it.path, it.name))
+  .sort();
 for (const file of files.filter((_, number) => number % Number(step) === 0)) tryFile(file);
 console.log(JSON.stringify(sum));

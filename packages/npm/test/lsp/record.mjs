@@ -1,19 +1,26 @@
 // usage: record.mjs >session.jsonl    a session with the server, a message a line, for replay.test.mjs and for readers
 import { Client, at, place, range } from './client.mjs';
 
-const client = new Client([]), uri = 'file:///jslint-session/a.js', options = { tabSize: 2, insertSpaces: true };
+const client = new Client([]),
+  uri = 'file:///jslint-session/a.js',
+  options = { tabSize: 2, insertSpaces: true };
 const changed = async (version, change) => {
   const shown = client.diagnostics(uri, (it) => it.version === version);
   client.change(uri, version, change);
   await shown;
 };
 
-await client.begin({
-  general: { positionEncodings: ['utf-16'] },
-  textDocument: {
-    publishDiagnostics: { versionSupport: true, tagSupport: { valueSet: [1, 2] } }, codeAction: { codeActionLiteralSupport: { codeActionKind: { valueSet: ['quickfix'] } } }, hover: { contentFormat: ['markdown'] },
+await client.begin(
+  {
+    general: { positionEncodings: ['utf-16'] },
+    textDocument: {
+      publishDiagnostics: { versionSupport: true, tagSupport: { valueSet: [1, 2] } },
+      codeAction: { codeActionLiteralSupport: { codeActionKind: { valueSet: ['quickfix'] } } },
+      hover: { contentFormat: ['markdown'] },
+    },
   },
-}, { processId: null });
+  { processId: null }
+);
 client.answers['workspace/applyEdit'] = () => ({ applied: true });
 await client.open(uri, "'😀'; let a = ((1)); // (one)\nif (a == (2)) {}\n");
 await client.request('textDocument/hover', { ...at(uri), position: place(1, 4) });

@@ -13,13 +13,22 @@ function stable({ message }) {
 }
 
 test('the recorded session', async (t) => {
-  const session = readFileSync(new URL('session.jsonl', import.meta.url), 'utf8').trim().split('\n').map((it) => JSON.parse(it)), client = new Client([]);
+  const session = readFileSync(new URL('session.jsonl', import.meta.url), 'utf8')
+      .trim()
+      .split('\n')
+      .map((it) => JSON.parse(it)),
+    client = new Client([]);
   t.after(() => client.child.kill('SIGKILL'));
   // (messages are answered by the record, not by the client)
-  client.take = () => { client.waits = client.waits.filter((it) => !it()); };
+  client.take = () => {
+    client.waits = client.waits.filter((it) => !it());
+  };
   const fromServer = (list) => list.filter((it) => it.from === 'server');
   let due = 0;
-  for (const { from, message: { jsonrpc: _jsonrpc, ...message } } of session) {
+  for (const {
+    from,
+    message: { jsonrpc: _jsonrpc, ...message },
+  } of session) {
     if (from === 'server') {
       due++;
       continue;
