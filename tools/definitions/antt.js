@@ -71,7 +71,7 @@ function codes(s) { // the characters of a literal
   if (l === undefined) codesMemo.set(s, l = fromArray([...s].map((c) => c.codePointAt(0))));
   return l;
 }
-const lowercase = (l) => fromArray(toArray(l).map((c) => (c >= 65 && c <= 90 ? c + 32 : c)));   // letters of ASCII
+const lowercase = (l) => fromArray(toArray(l).map((c) => (c >= 65 && c <= 90 ? c + 32 : c))); // letters of ASCII
 const bytesMemo = new Map();
 function bytes(s) { // the UTF-8 bytes of a JS string
   let l = bytesMemo.get(s);
@@ -222,16 +222,39 @@ const LIBRARY = {
     },
   ],
   slice_index: [2, (l, i) => LIBRARY.slice_index_or[1](l, i, 0)],
-  slice_get: [2, (l, i) => { for (; i > 0 && l !== null; i--) l = l.t; return l === null ? OPTION.None.constant : OPTION.Some.make(l.h); }],
-  list_any: [2, (f, l) => toArray(l).some((x) => f(x))], list_all: [2, (f, l) => toArray(l).every((x) => f(x))],
-  find: [2, (f, l) => { const k = toArray(l).find((x) => f(x)); return k === undefined ? OPTION.None.constant : OPTION.Some.make(k); }],
+  slice_get: [
+    2,
+    (l, i) => {
+      for (; i > 0 && l !== null; i--) l = l.t;
+      return l === null ? OPTION.None.constant : OPTION.Some.make(l.h);
+    },
+  ],
+  list_any: [2, (f, l) => toArray(l).some((x) => f(x))],
+  list_all: [2, (f, l) => toArray(l).every((x) => f(x))],
+  find: [
+    2,
+    (f, l) => {
+      const k = toArray(l).find((x) => f(x));
+      return k === undefined ? OPTION.None.constant : OPTION.Some.make(k);
+    },
+  ],
   fold: [3, (f, a, l) => toArray(l).reduce((b, x) => f(b)(x), a)],
-  sum: [1, (l) => toArray(l).reduce((a, b) => a + b, 0)], flat_map: [2, (f, l) => fromArray(toArray(l).flatMap((x) => toArray(f(x))))],
+  sum: [1, (l) => toArray(l).reduce((a, b) => a + b, 0)],
+  flat_map: [2, (f, l) => fromArray(toArray(l).flatMap((x) => toArray(f(x))))],
   filter_map: [2, (f, l) => fromArray(toArray(l).flatMap((x) => f(x).a))],
-  starts_with: [3, (eq, l, n) => { for (; n !== null; l = l.t, n = n.t) if (l === null || !eq(l.h)(n.h)) return false; return true; }],
-  codes: [1, codes], bytes_eq: [2, bytesEq], string_eq: [2, bytesEq],
+  starts_with: [
+    3,
+    (eq, l, n) => {
+      for (; n !== null; l = l.t, n = n.t) if (l === null || !eq(l.h)(n.h)) return false;
+      return true;
+    },
+  ],
+  codes: [1, codes],
+  bytes_eq: [2, bytesEq],
+  string_eq: [2, bytesEq],
   str_eq_ignore_ascii_case: [2, (a, b) => bytesEq(lowercase(a), lowercase(b))],
-  encode_utf8_all: [1, (l) => fromArray(toArray(l).flatMap(UTF8))], encode_utf8: [1, (c) => fromArray(UTF8(c))],
+  encode_utf8_all: [1, (l) => fromArray(toArray(l).flatMap(UTF8))],
+  encode_utf8: [1, (c) => fromArray(UTF8(c))],
   has_unpaired_surrogate: [1, (l) => !String.fromCharCode(...toArray(l)).isWellFormed()],
   utf16_lossy_chars: [1, (l) => codes(String.fromCharCode(...toArray(l)).toWellFormed())],
   decimal: [1, (n) => codes(String(n))],
@@ -360,7 +383,8 @@ function items(lines, where) {
   for (const line of lines) {
     const n = indentOf(line.text);
     if (n < indent) throw new AnttError(`${where}:${line.no}: layout`);
-    if (n === indent && !/^[)\]}]/.test(line.text.trimStart())) list.push([line]); else list[list.length - 1].push(line);   // a bracket that closes goes on
+    if (n === indent && !/^[)\]}]/.test(line.text.trimStart())) list.push([line]);
+    else list[list.length - 1].push(line); // a bracket that closes goes on
   }
   return list;
 }

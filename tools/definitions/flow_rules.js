@@ -18,7 +18,10 @@ class FlowRules {
     const { spec } = model;
     const called = spec.fn('called', 'Rows', 'flow_rules');
     const source = fs.readFileSync(path.join(crates, 'flow_rules/src/flow_rule.rt'), 'utf8');
-    const variants = /pub enum FlowRule \{([^}]*)\}/.exec(source)[1].match(/\w+/g).map((name) => spec.variant('FlowRule', name));
+    const variants = /pub enum FlowRule \{([^}]*)\}/
+      .exec(source)[1]
+      .match(/\w+/g)
+      .map((name) => spec.variant('FlowRule', name));
     this.found = spec.fn('found_by_rule', 'Found', 'flow_rules');
     this.rules = new Map(variants.map((rule) => [antt.text(called(rule)), rule]));
   }
@@ -28,7 +31,11 @@ class FlowRules {
     if (!read.ok) return 'no script';
     if (!this.rules.has(row.name)) return 'no such rule';
     const found = this.found(antt.bytes(row.text), this.rules.get(row.name), this.model.tree(plainTree(read.tree, row.language)));
-    return antt.toArray(found).sort((one, other) => one.start - other.start).map((it) => `${it.start} ${antt.text(it.text)}; `).join('');
+    return antt
+      .toArray(found)
+      .sort((one, other) => one.start - other.start)
+      .map((it) => `${it.start} ${antt.text(it.text)}; `)
+      .join('');
   }
 }
 

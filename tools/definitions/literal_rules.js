@@ -18,7 +18,10 @@ class LiteralRules {
     const { spec } = model;
     const called = spec.fn('called', 'Rows', 'literal_rules');
     const source = fs.readFileSync(path.join(crates, 'literal_rules/src/literal_rule.rt'), 'utf8');
-    const variants = /pub enum LiteralRule \{([^}]*)\}/.exec(source)[1].match(/\w+/g).map((name) => spec.variant('LiteralRule', name));
+    const variants = /pub enum LiteralRule \{([^}]*)\}/
+      .exec(source)[1]
+      .match(/\w+/g)
+      .map((name) => spec.variant('LiteralRule', name));
     this.found = spec.fn('found_by_rule', 'Found', 'literal_rules');
     this.rules = new Map(variants.map((rule) => [antt.text(called(rule)), rule]));
   }
@@ -29,7 +32,11 @@ class LiteralRules {
     if (!this.rules.has(row.name)) return 'no such rule';
     const found = this.found(this.rules.get(row.name), this.model.tree(plainTree(read.tree, row.language)));
     const named = (it) => (antt.text(it.rule) === row.name ? '' : `${antt.text(it.rule)} `);
-    return antt.toArray(found).sort((one, other) => one.start - other.start).map((it) => `${named(it)}${it.start} ${antt.text(it.text)}; `).join('');
+    return antt
+      .toArray(found)
+      .sort((one, other) => one.start - other.start)
+      .map((it) => `${named(it)}${it.start} ${antt.text(it.text)}; `)
+      .join('');
   }
 }
 

@@ -35,7 +35,16 @@ const GROUPS = {
   patterns: specs('regular_expressions', 'Characters Classes Names Terms Patterns'),
   names: specs('name_tables', 'BoundNames DeclaredNames'),
   scopes: specs('scopes', 'Found Openings Bindings Roles'),
-  rules: [...specs('rules', 'Rules Settings AllRules'), ...specs('reference_rules', 'BuiltIn Tests Rows Found'), ...specs('repetition_rules', 'Rows Members Entries Keys Written Found'), ...specs('flow_rules', 'Completion Rows Arounds Fallthrough Flows Over Found KindSets'), ...specs('literal_rules', 'Rows Marks Found Escapes Patterns TextStates Bytes'), ...specs('text_rules', 'Rows Spots Readings Gaps Found'), ...specs('node_rules', 'Rows Tests PartTests ExpressionTests ValueTests Searches ValueSearches Values Paths KindSets Words Arounds Found Over'), ...specs('rule_words', 'Reports')],
+  rules: [
+    ...specs('rules', 'Rules Settings AllRules'),
+    ...specs('reference_rules', 'BuiltIn Tests Rows Found'),
+    ...specs('repetition_rules', 'Rows Members Entries Keys Written Found'),
+    ...specs('flow_rules', 'Completion Rows Arounds Fallthrough Flows Over Found KindSets'),
+    ...specs('literal_rules', 'Rows Marks Found Escapes Patterns TextStates Bytes'),
+    ...specs('text_rules', 'Rows Spots Readings Gaps Found'),
+    ...specs('node_rules', 'Rows Tests PartTests ExpressionTests ValueTests Searches ValueSearches Values Paths KindSets Words Arounds Found Over'),
+    ...specs('rule_words', 'Reports'),
+  ],
 };
 
 // ---------------------------------------------------------------- words

@@ -18,7 +18,10 @@ class TextRules {
     const { spec } = model;
     const called = spec.fn('called', 'Rows', 'text_rules');
     const source = fs.readFileSync(path.join(crates, 'text_rules/src/text_rule.rt'), 'utf8');
-    const variants = /pub enum TextRule \{([^}]*)\}/.exec(source)[1].match(/\w+/g).map((name) => spec.variant('TextRule', name));
+    const variants = /pub enum TextRule \{([^}]*)\}/
+      .exec(source)[1]
+      .match(/\w+/g)
+      .map((name) => spec.variant('TextRule', name));
     this.found = spec.fn('found_by_rule', 'Found', 'text_rules');
     this.rules = new Map(variants.map((rule) => [antt.text(called(rule)), rule]));
   }
@@ -28,7 +31,11 @@ class TextRules {
     if (!read.ok) return 'no script';
     if (!this.rules.has(row.name)) return 'no such rule';
     const found = this.found(antt.bytes(row.text), this.rules.get(row.name), this.model.tree(plainTree(read.tree, row.language)));
-    return antt.toArray(found).sort((one, other) => one.start - other.start).map((it) => `${it.start} ${antt.text(it.text)}; `).join('');
+    return antt
+      .toArray(found)
+      .sort((one, other) => one.start - other.start)
+      .map((it) => `${it.start} ${antt.text(it.text)}; `)
+      .join('');
   }
 }
 

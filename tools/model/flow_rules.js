@@ -17,7 +17,8 @@ function partsOf(node) {
 // a node, or one below, passes a test; below what a second test says nothing is looked for
 const finds = (node, test, ends) => test(node) || (!ends(node) && partsOf(node).some((part) => finds(part, test, ends)));
 
-const jumpsOut = (type, label, ends) => (node) => finds(node, (it) => it.type === type && (label === undefined ? it.label === null : it.label !== null && (label === null || it.label.name === label)), ends);
+const jumpsOut = (type, label, ends) => (node) =>
+  finds(node, (it) => it.type === type && (label === undefined ? it.label === null : it.label !== null && (label === null || it.label.name === label)), ends);
 const breaks = jumpsOut('BreakStatement', undefined, (it) => isCode(it) || LOOP.test(it.type) || it.type === 'SwitchStatement');
 const breaksFar = jumpsOut('BreakStatement', null, isCode);
 const continues = jumpsOut('ContinueStatement', undefined, (it) => isCode(it) || LOOP.test(it.type));
@@ -33,30 +34,46 @@ const always = (test) => test === null || (test.type === 'Literal' && /^(?:true|
 
 function normal(node) {
   switch (node.type) {
-    case 'BreakStatement': case 'ContinueStatement': case 'ReturnStatement': case 'ThrowStatement': return false;
-    case 'BlockStatement': return node.body.every(normal);
-    case 'IfStatement': return node.alternate === null || normal(node.consequent) || normal(node.alternate);
-    case 'LabeledStatement': return normal(node.body) || jumpsOut('BreakStatement', node.label.name, isCode)(node.body);
-    case 'WhileStatement': case 'ForStatement': return breaks(node.body) || !always(node.test);
-    case 'DoWhileStatement': return breaks(node.body) || (!always(node.test) && (normal(node.body) || goesOn(node.body)));
+    case 'BreakStatement':
+    case 'ContinueStatement':
+    case 'ReturnStatement':
+    case 'ThrowStatement':
+      return false;
+    case 'BlockStatement':
+      return node.body.every(normal);
+    case 'IfStatement':
+      return node.alternate === null || normal(node.consequent) || normal(node.alternate);
+    case 'LabeledStatement':
+      return normal(node.body) || jumpsOut('BreakStatement', node.label.name, isCode)(node.body);
+    case 'WhileStatement':
+    case 'ForStatement':
+      return breaks(node.body) || !always(node.test);
+    case 'DoWhileStatement':
+      return breaks(node.body) || (!always(node.test) && (normal(node.body) || goesOn(node.body)));
     case 'SwitchStatement': {
       const { cases } = node;
       return cases.every((it) => it.test !== null) || cases[cases.length - 1].consequent.every(normal) || cases.some((it) => it.consequent.some(breaks));
     }
-    case 'TryStatement': return (normal(node.block) || (node.handler !== null && normal(node.handler.body))) && (node.finalizer === null || normal(node.finalizer));
-    default: return true;
+    case 'TryStatement':
+      return (normal(node.block) || (node.handler !== null && normal(node.handler.body))) && (node.finalizer === null || normal(node.finalizer));
+    default:
+      return true;
   }
 }
 
 const listOf = (node) => (node.type === 'SwitchCase' ? node.consequent : ['Program', 'BlockStatement', 'StaticBlock'].includes(node.type) ? node.body : null);
-const isHoisted = (it) => it.type === 'FunctionDeclaration' || it.type === 'EmptyStatement' || (it.type === 'VariableDeclaration' && it.kind === 'var' && it.declarations.every((one) => one.init === null));
+const isHoisted = (it) =>
+  it.type === 'FunctionDeclaration' ||
+  it.type === 'EmptyStatement' ||
+  (it.type === 'VariableDeclaration' && it.kind === 'var' && it.declarations.every((one) => one.init === null));
 
 // what goes over the whole tree knows of each node its parents, the nearest first, with the fields
 function everyNode(node, visit, above = []) {
   visit(node, above);
   for (const [field, part] of Object.entries(node)) {
     for (const one of Array.isArray(part) ? part : [part]) {
-      if (one !== null && typeof one === 'object' && typeof one.type === 'string' && !(node.type === 'Property' && node.shorthand && field === 'key')) everyNode(one, visit, [[node, field], ...above]);
+      if (one !== null && typeof one === 'object' && typeof one.type === 'string' && !(node.type === 'Property' && node.shorthand && field === 'key'))
+        everyNode(one, visit, [[node, field], ...above]);
     }
   }
 }
@@ -64,7 +81,8 @@ function everyNode(node, visit, above = []) {
 const USES = new Set(['every', 'filter', 'find', 'findIndex', 'flatMap', 'map', 'reduce', 'reduceRight', 'some', 'sort']);
 function isCallback(node, above) {
   if (node.async || node.generator || node.type === 'FunctionDeclaration') return false;
-  let at = node, i = 0;
+  let at = node,
+    i = 0;
   while (above[i][0].type === 'LogicalExpression' || (above[i][0].type === 'ConditionalExpression' && above[i][1] !== 'test')) at = above[i++][0];
   const [call, field] = above[i];
   if (call.type !== 'CallExpression' || field !== 'arguments') return false;
@@ -99,9 +117,12 @@ function ofFunction(node, above, report) {
     const [member] = above[0];
     if (!node.params.concat([body]).some(callsSuper) && (normal(body) || empties(body))) report('constructor-super', member, 'no super(..)');
     const calls = [];
-    everyNode({ type: 'Nothing', params: node.params, body }, (it, round) => { if (isSuperCall(it) && !round.some(([one]) => isFunction(one) && one.type !== 'ArrowFunctionExpression')) calls.push(it.end); });
+    everyNode({ type: 'Nothing', params: node.params, body }, (it, round) => {
+      if (isSuperCall(it) && !round.some(([one]) => isFunction(one) && one.type !== 'ArrowFunctionExpression')) calls.push(it.end);
+    });
     const members = own(node, (it) => it.type === 'MemberExpression' && it.object.type === 'Super').map((it) => it.object);
-    for (const it of [...own(node, (one) => one.type === 'ThisExpression'), ...members]) if (!calls.some((end) => end <= it.start)) report('no-this-before-super', it, "'this' before super(..)");
+    for (const it of [...own(node, (one) => one.type === 'ThisExpression'), ...members])
+      if (!calls.some((end) => end <= it.start)) report('no-this-before-super', it, "'this' before super(..)");
   } else if (isCallback(node, above)) {
     if (body !== null && normal(body)) report('array-callback-return', node, 'callback may end without a value');
     emptyReturns().forEach((it) => report('array-callback-return', it, 'callback returns nothing'));
@@ -114,8 +135,13 @@ function isLast(node, above) {
   for (const [parent, field] of above) {
     const last = (list) => list[list.length - 1] === at;
     if (isFunction(parent)) return true;
-    const goes = parent.type === 'IfStatement' || parent.type === 'CatchClause' || (parent.type === 'BlockStatement' && last(parent.body)) || (parent.type === 'SwitchCase' && last(parent.consequent))
-      || (parent.type === 'SwitchStatement' && last(parent.cases)) || (parent.type === 'TryStatement' && field === 'handler' && parent.finalizer === null);
+    const goes =
+      parent.type === 'IfStatement' ||
+      parent.type === 'CatchClause' ||
+      (parent.type === 'BlockStatement' && last(parent.body)) ||
+      (parent.type === 'SwitchCase' && last(parent.consequent)) ||
+      (parent.type === 'SwitchStatement' && last(parent.cases)) ||
+      (parent.type === 'TryStatement' && field === 'handler' && parent.finalizer === null);
     if (!goes) return false;
     at = parent;
   }
@@ -140,7 +166,8 @@ function ofSwitch(node, text, report) {
     if (i === 0 || before.consequent.length === 0 || !before.consequent.every(normal)) return;
     const only = before.consequent.length === 1 && before.consequent[0].type === 'BlockStatement' ? before.consequent[0] : null;
     const from = only === null ? before.end : only.body.length === 0 ? only.start : only.body[only.body.length - 1].end;
-    if (!/falls?[\t-\r ]?through/i.test(Buffer.from(text).subarray(from, it.start).toString('latin1'))) report('no-fallthrough', it, 'the case before goes on here');
+    if (!/falls?[\t-\r ]?through/i.test(Buffer.from(text).subarray(from, it.start).toString('latin1')))
+      report('no-fallthrough', it, 'the case before goes on here');
   });
 }
 
@@ -150,7 +177,9 @@ function flowRules(view, report) {
     const list = listOf(node);
     if (list !== null) {
       const stop = list.findIndex((it) => !normal(it));
-      list.forEach((it, i) => { if (stop >= 0 && i > stop && !isHoisted(it) && (i === stop + 1 || isHoisted(list[i - 1]))) report('no-unreachable', it, 'unreachable'); });
+      list.forEach((it, i) => {
+        if (stop >= 0 && i > stop && !isHoisted(it) && (i === stop + 1 || isHoisted(list[i - 1]))) report('no-unreachable', it, 'unreachable');
+      });
     }
     if (isFunction(node)) ofFunction(node, above, report);
     if (LOOP.test(node.type) && !normal(node.body) && !goesOn(node.body)) report('no-unreachable-loop', node, 'never goes round twice');

@@ -50,7 +50,16 @@ const LOOKS = {
 // all that the looks ask, of these definitions as they are now
 function lookedAt(spec) {
   const model = new Model([], spec);
-  return { model, reports: new Reports('', model), rules: new NodeRules(model), names: new ReferenceRules(model), again: new RepetitionRules(model), flows: new FlowRules(model), literals: new LiteralRules(model), texts: new TextRules(model) };
+  return {
+    model,
+    reports: new Reports('', model),
+    rules: new NodeRules(model),
+    names: new ReferenceRules(model),
+    again: new RepetitionRules(model),
+    flows: new FlowRules(model),
+    literals: new LiteralRules(model),
+    texts: new TextRules(model),
+  };
 }
 const saidOf = (definitions, row) => LOOKS[row.look](definitions, row);
 
