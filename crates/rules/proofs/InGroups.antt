@@ -90,7 +90,7 @@ alone-last one names v =
     (behind (repetitions-find names v) one (flow-find names v ++ (literals-find names v ++ (texts-find names v ++ found_alone names v))) (flow-find names v ++ (literals-find names v ++ (texts-find names v ++ (one ++ found_alone names v))))
     (behind (flow-find names v) one (literals-find names v ++ (texts-find names v ++ found_alone names v)) (literals-find names v ++ (texts-find names v ++ (one ++ found_alone names v)))
     (behind (literals-find names v) one (texts-find names v ++ found_alone names v) (texts-find names v ++ (one ++ found_alone names v))
-    (behind (texts-find names v) one found_alone names v (one ++ found_alone names v)
+    (behind (texts-find names v) one (found_alone names v) (one ++ found_alone names v)
     (IsPermutation-refl (one ++ found_alone names v)))))))
 
 -- a name more
@@ -126,7 +126,7 @@ step (OnTexts r) names v =
     (behind (repetitions-find names v) (found_by_name (OnTexts r) v) (flow-find names v ++ (literals-find names v ++ (texts-find names v ++ found_alone names v))) (flow-find names v ++ (literals-find names v ++ (texts-find (OnTexts r ∷ names) v ++ found_alone names v)))
     (behind (flow-find names v) (found_by_name (OnTexts r) v) (literals-find names v ++ (texts-find names v ++ found_alone names v)) (literals-find names v ++ (texts-find (OnTexts r ∷ names) v ++ found_alone names v))
     (behind (literals-find names v) (found_by_name (OnTexts r) v) (texts-find names v ++ found_alone names v) (texts-find (OnTexts r ∷ names) v ++ found_alone names v)
-    (at-head (found_by_name (OnTexts r) v) (texts-find names v) (texts-find (OnTexts r ∷ names) v) found_alone names v
+    (at-head (found_by_name (OnTexts r) v) (texts-find names v) (texts-find (OnTexts r ∷ names) v) (found_alone names v)
     (joins-if (λ rs. found_on_texts rs v) (λ q. on_texts q v) (λ q rs. IsPermutation-refl (on_texts q v ++ found_on_texts rs v)) (is_on (called (OnTexts r)) v.settings) r (chosen text_rule_named names v.settings)))))))
 step NoExtraParens names v = alone-last (found_by_name NoExtraParens v) names v
 step NoShadow names v = alone-last (found_by_name NoShadow v) names v
