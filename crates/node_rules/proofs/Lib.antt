@@ -7,3 +7,5 @@ pub mod DueLemmas
 pub mod ValueSearchLemmas
 pub mod PathLemmas
 pub mod RiskLemmas
+pub mod HandedLemmas
+pub mod RemarkLemmas

@@ -1,4 +1,5 @@
 -- Tests of rules on expressions, members and properties that take more than a line.
+use Rattle.std.specs.List.{list_any, slice_range}
 use Rattle.std.specs.Prelude.{ℕ, Bool, true, false, not, ◌&&◌, ◌||◌, nat_eq, cond, List, [], ◌∷◌, Option, Some, None, is_none, is_some, codes}
 use Rattle.tree.specs.declared.kind.Kind.{Kind}
 use Rattle.tree.specs.declared.kind.Kind.TheVariants.{AssignmentPattern, UnaryExpression}
@@ -11,8 +12,9 @@ use Rattle.tree.specs.Tree.{Tree, node, kind_of, text_of, flags_of, part_at, sta
 use Rattle.language.specs.Vocabulary.{is}
 use Rattle.node_rules.specs.declared.around.Around.{Around}
 use Rattle.node_rules.specs.KindSets.{is_assignment, is_block, is_binary, is_function_expression, is_if, is_literal_kind, is_object_pattern, is_plain_call, is_property, is_spread, is_unary_kind, takes_effect}
-use Rattle.node_rules.specs.Tests.{first_of}
+use Rattle.node_rules.specs.Tests.{first_of, is_empty_object}
 use Rattle.node_rules.specs.Values.{is_empty_text, is_number, is_numeric, is_radix, is_text}
+use Rattle.node_rules.specs.ValueSearches.{is_sum}
 use Rattle.node_rules.specs.Words.{is_identifier, is_member, is_name, is_string, is_unary, kind_at, nth, object_of, operand, span_at, text_at, unchained}
 
 -- the body of an `if`, `else` or loop stands here, which is no block; `else if` aside
@@ -121,6 +123,39 @@ abbrev pub is_coercion : Tree → Bool
 is_coercion tree =
     cond (is_unary_kind (kind_of tree)) (is_unary_coercion tree)
     (cond (is_assignment (kind_of tree)) (is (text_of tree) "+=" && is_empty_text (nth 1 tree)) (has_one tree || has_nothing tree))
+
+-- `Math.pow`
+abbrev pub is_power : Option Tree → Bool
+is_power it = is_name (codes "Math") (object_of it) && is_member (codes "pow") it
+
+-- where `hasOwnProperty` may be taken from: `{}`, `Object`, `Object.prototype`
+abbrev pub is_any_object : Option Tree → Bool
+is_any_object it = is_empty_object it || (is_name (codes "Object") it || (is_name (codes "Object") (object_of it) && is_member (codes "prototype") it))
+
+-- `Object.prototype.hasOwnProperty.call` and its kin
+abbrev pub calls_has_own : Option Tree → Bool
+calls_has_own it = is_member (codes "call") it && (is_member (codes "hasOwnProperty") (object_of it) && is_any_object (object_of (object_of it)))
+
+-- the right side of a sum, or the left one; what is no sum is itself
+abbrev pub end_of_sum : Option Tree → Option Tree
+end_of_sum None = None
+end_of_sum (Some tree) = cond (is_sum tree) (nth 1 tree) (Some tree)
+
+abbrev pub start_of_sum : Option Tree → Option Tree
+start_of_sum None = None
+start_of_sum (Some tree) = cond (is_sum tree) (nth 0 tree) (Some tree)
+
+-- no line ends in this part of the text
+abbrev pub is_one_line : List ℕ → (from to : ℕ) → Bool
+is_one_line source from to = not (list_any (λ b. nat_eq b 10) (slice_range source from to) || list_any (λ b. nat_eq b 13) (slice_range source from to))
+
+-- two parts are texts, and on one line
+abbrev pub are_joined : List ℕ → Tree → Option Tree → Option Tree → Bool
+are_joined source tree one other = is_text one && (is_text other && is_one_line source (span_at tree one).end (span_at tree other).start)
+
+-- a text is added to another, which a `+` on either side of it may have as its own
+abbrev pub adds_texts : List ℕ → Tree → Bool
+adds_texts source tree = is_sum tree && are_joined source tree (end_of_sum (nth 0 tree)) (start_of_sum (nth 1 tree))
 
 -- what to use in its place
 abbrev pub coercion_words : Tree → List ℕ

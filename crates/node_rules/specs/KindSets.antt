@@ -1,7 +1,7 @@
 -- Kinds of nodes at which rules look, and which they ask of what stands round a node.
 use Rattle.std.specs.Prelude.{Bool, true, false}
 use Rattle.tree.specs.declared.kind.Kind.{Kind}
-use Rattle.tree.specs.declared.kind.Kind.TheVariants.{ArrayExpression, ArrayPattern, ArrowFunctionExpression, AssignmentExpression, AssignmentPattern, AwaitExpression, BinaryExpression, BlockStatement, BreakStatement, CallExpression, ChainExpression, ClassDeclaration, ClassExpression, ConditionalExpression, ContinueStatement, DebuggerStatement, DoWhileStatement, EmptyStatement, ExportSpecifier, ExpressionStatement, ForInStatement, ForOfStatement, ForStatement, FunctionDeclaration, FunctionExpression, Identifier, IfStatement, ImportExpression, ImportSpecifier, LabeledStatement, Literal, LogicalExpression, MemberExpression, MetaProperty, NewExpression, ObjectExpression, ObjectPattern, Property, PropertyDefinition, ReturnStatement, SequenceExpression, SpreadElement, StaticBlock, Super, SwitchCase, SwitchStatement, TaggedTemplateExpression, TemplateLiteral, ThisExpression, ThrowStatement, TryStatement, UnaryExpression, UpdateExpression, VariableDeclaration, VariableDeclarator, WhileStatement, YieldExpression}
+use Rattle.tree.specs.declared.kind.Kind.TheVariants.{ArrayExpression, ArrayPattern, ArrowFunctionExpression, AssignmentExpression, AssignmentPattern, AwaitExpression, BinaryExpression, BlockStatement, BreakStatement, CallExpression, ChainExpression, ClassDeclaration, ClassExpression, ConditionalExpression, ContinueStatement, DebuggerStatement, DoWhileStatement, EmptyStatement, ExportSpecifier, ExpressionStatement, ForInStatement, ForOfStatement, ForStatement, FunctionDeclaration, FunctionExpression, Identifier, IfStatement, ImportExpression, ImportSpecifier, LabeledStatement, Literal, LogicalExpression, MemberExpression, MetaProperty, MethodDefinition, NewExpression, ObjectExpression, ObjectPattern, Property, PropertyDefinition, ReturnStatement, SequenceExpression, SpreadElement, StaticBlock, Super, SwitchCase, SwitchStatement, TaggedTemplateExpression, TemplateLiteral, ThisExpression, ThrowStatement, TryStatement, UnaryExpression, UpdateExpression, VariableDeclaration, VariableDeclarator, WhileStatement, YieldExpression}
 
 -- an array
 abbrev pub is_array : Kind → Bool
@@ -85,11 +85,6 @@ abbrev pub is_function_declaration : Kind → Bool
 is_function_declaration FunctionDeclaration = true
 is_function_declaration _ = false
 
--- `for` with `of`
-abbrev pub is_for_of : Kind → Bool
-is_for_of ForOfStatement = true
-is_for_of _ = false
-
 -- `if`
 abbrev pub is_if : Kind → Bool
 is_if IfStatement = true
@@ -150,11 +145,6 @@ abbrev pub is_return : Kind → Bool
 is_return ReturnStatement = true
 is_return _ = false
 
--- expressions with commas
-abbrev pub is_sequence : Kind → Bool
-is_sequence SequenceExpression = true
-is_sequence _ = false
-
 -- a spread argument
 abbrev pub is_spread : Kind → Bool
 is_spread SpreadElement = true
@@ -194,6 +184,21 @@ is_throw _ = false
 abbrev pub is_try : Kind → Bool
 is_try TryStatement = true
 is_try _ = false
+
+-- a pattern with a default
+abbrev pub has_default : Kind → Bool
+has_default AssignmentPattern = true
+has_default _ = false
+
+-- one variable of a declaration
+abbrev pub is_declarator : Kind → Bool
+is_declarator VariableDeclarator = true
+is_declarator _ = false
+
+-- a method of a class
+abbrev pub is_method : Kind → Bool
+is_method MethodDefinition = true
+is_method _ = false
 
 -- a unary operator
 abbrev pub is_unary_kind : Kind → Bool

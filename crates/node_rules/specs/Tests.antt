@@ -13,7 +13,7 @@ use Rattle.language.specs.Vocabulary.{is}
 use Rattle.node_rules.specs.declared.around.Around.{Around}
 use Rattle.node_rules.specs.declared.node_rule.NodeOptions.{NodeOptions}
 use Rattle.node_rules.specs.declared.search.Sought.TheVariants.{Yield}
-use Rattle.node_rules.specs.KindSets.{is_binary, is_switch}
+use Rattle.node_rules.specs.KindSets.{is_binary, is_object, is_switch}
 use Rattle.node_rules.specs.Searches.{has_sought}
 use Rattle.node_rules.specs.Values.{is_plain_template, is_template_of}
 use Rattle.node_rules.specs.Words.{is_comparison, is_empty, is_equality, is_identifier, is_member, is_name, is_positive, is_string, is_unary, is_zero, nth, object_of, operand, text_at, unchained}
@@ -79,6 +79,11 @@ abbrev pub only_throws : Option Tree → Bool
 only_throws None = false
 only_throws (Some (node CatchClause text flags from to parts)) = is_identifier (part_at parts 0) && throws_name (text_at (part_at parts 0)) (first_of (part_at parts 1))
 only_throws (Some (node _ text flags from to parts)) = false
+
+-- `{}`
+abbrev pub is_empty_object : Option Tree → Bool
+is_empty_object None = false
+is_empty_object (Some tree) = is_object (kind_of tree) && is_empty (parts_of tree)
 
 -- a declaration that a scope keeps (8.1): all but `var`
 abbrev pub is_lexical : Tree → Bool

@@ -8,9 +8,9 @@ use Rattle.tree.specs.Tree.{Tree, node, kind_of, text_of, parts_of, part_at}
 use Rattle.tree.specs.Fields.{last_part}
 use Rattle.language.specs.Vocabulary.{is}
 use Rattle.node_rules.specs.declared.around.Around.{Around}
-use Rattle.node_rules.specs.declared.around.Jumps.{Jumps}
 use Rattle.node_rules.specs.declared.search.Sought.TheVariants.{Yield}
 use Rattle.node_rules.specs.declared.value_search.Value.TheVariants.{Chain, Error, NoText, Text}
+use Rattle.node_rules.specs.Arounds.{has_breaks, has_continues, has_returns, is_sum_remark}
 use Rattle.node_rules.specs.KindSets.{destructures, is_literal_kind, is_logical, is_member_expression, is_name_kind, is_object, is_spread, makes_object}
 use Rattle.node_rules.specs.Paths.{are_same}
 use Rattle.node_rules.specs.Searches.{has_sought}
@@ -25,7 +25,7 @@ throws_no_error tree = is_name (codes "undefined") (nth 0 tree) || not (has_valu
 
 -- a whole sum, with a text in it and with something else
 abbrev pub is_mixed_sum : Around → Tree → Bool
-is_mixed_sum around tree = is_sum tree && (not around.in_sum && (some_value Text tree && some_value NoText tree))
+is_mixed_sum around tree = is_sum tree && (not (is_sum_remark around.remark) && (some_value Text tree && some_value NoText tree))
 
 -- the part of a node that throws where it is undefined: what is called, asked for a member, spread, inherited from or taken apart
 abbrev pub risked : Tree → Option Tree
@@ -106,6 +106,6 @@ is_long_assignment tree = is (text_of tree) "=" && (is_simple_target (nth 0 tree
 
 -- a jump, or a `throw`, leaves a finalizer
 abbrev pub leaves_finalizer : Around → Tree → Bool
-leaves_finalizer around (node BreakStatement text flags from to parts) = cond (is_some (part_at parts 0)) around.leaving.labels around.leaving.breaks
-leaves_finalizer around (node ContinueStatement text flags from to parts) = cond (is_some (part_at parts 0)) around.leaving.labels around.leaving.continues
-leaves_finalizer around (node _ text flags from to parts) = around.leaving.returns
+leaves_finalizer around (node BreakStatement text flags from to parts) = cond (is_some (part_at parts 0)) around.leaving_by_label (has_breaks around.leaving)
+leaves_finalizer around (node ContinueStatement text flags from to parts) = cond (is_some (part_at parts 0)) around.leaving_by_label (has_continues around.leaving)
+leaves_finalizer around (node _ text flags from to parts) = has_returns around.leaving

@@ -1,6 +1,6 @@
 -- What the tree alone says of values: literals, templates without substitutions, and what is made of them.
-use Rattle.std.specs.Prelude.{ℕ, Bool, true, false, not, ◌&&◌, ◌||◌, nat_eq, nat_le, List, [], ◌∷◌, Option, Some, None, is_none, codes}
-use Rattle.std.specs.List.{list_any}
+use Rattle.std.specs.Prelude.{ℕ, Bool, true, false, not, ◌&&◌, ◌||◌, nat_eq, nat_le, ◌-◌, length, List, [], ◌∷◌, Option, Some, None, is_none, codes}
+use Rattle.std.specs.List.{list_all, list_any, slice_range}
 use Rattle.std.specs.Str.{bytes_eq}
 use Rattle.tree.specs.declared.kind.Kind.TheVariants.{CallExpression, Literal, TemplateLiteral}
 use Rattle.tree.specs.Tree.{Tree, node, part_at}
@@ -16,6 +16,29 @@ begins_number (c ∷ cs) = nat_eq c 46 || (nat_le 48 c && nat_le c 57)
 -- a number, or a bigint
 abbrev pub is_number : Option Tree → Bool
 is_number it = is_literal_kind (kind_at it) && begins_number (text_at it)
+
+-- a character that begins a name, and one that goes on with it, of those below U+0080 (11.6)
+abbrev pub begins_name : ℕ → Bool
+begins_name c = (nat_le 97 c && nat_le c 122) || ((nat_le 65 c && nat_le c 90) || (nat_eq c 36 || nat_eq c 95))
+
+abbrev pub is_in_name : ℕ → Bool
+is_in_name c = begins_name c || (nat_le 48 c && nat_le c 57)
+
+-- a name of such characters
+abbrev pub is_plain_name : List ℕ → Bool
+is_plain_name [] = false
+is_plain_name (c ∷ cs) = begins_name c && list_all is_in_name (c ∷ cs)
+
+-- a string with such a name between its quotation marks
+abbrev pub is_quoted_name : List ℕ → Bool
+is_quoted_name text = is_quoted text && is_plain_name (slice_range text 1 (length text - 1))
+
+-- a key in brackets that could stand behind a dot: `true`, `false` or `null`, a string, a template without substitutions
+abbrev pub is_name_as_key : Option Tree → Bool
+is_name_as_key None = false
+is_name_as_key (Some (node Literal text flags from to parts)) = is_plain_name text || is_quoted_name text
+is_name_as_key (Some (node TemplateLiteral text flags from to parts)) = is_none (part_at parts 1) && is_plain_name (text_at (part_at parts 0))
+is_name_as_key (Some (node _ text flags from to parts)) = false
 
 -- `true` or `false`
 abbrev pub is_boolean : Option Tree → Bool

@@ -1,51 +1,159 @@
 //! What stands round a node.
 
-ghost use Rattle.std.specs.Prelude.{◌≡◌, ◌&&◌};
+ghost use Rattle.std.specs.Prelude.{◌≡◌, ◌&&◌, cond};
 ghost use Rattle.tree.specs.Node.{node_tree};
-ghost use Rattle.node_rules.specs.Arounds.{at_place, inside, is_finalizer, is_member, is_set, is_setter, leaving_inside, round_root, setter_inside};
+ghost use Rattle.node_rules.specs.Arounds.{at_place, ending_inside, hands_out, inside, is_finalizer, is_guarded, is_member, is_returned, is_set, is_setter, leaving_by_label_inside, leaving_inside, remark_inside, round_root, setter_inside, used};
+ghost use Rattle.node_rules.specs.declared.around.Ending.TheVariants.{GivenBack, Guarded};
+ghost use Rattle.node_rules.specs.declared.around.Remark.TheVariants.{NoRemark};
 
 use crate::kind_sets::{ends_jumps, is_labelled, is_switch, is_try};
-use crate::value_search::is_sum;
 use tree::{Form, Kind, Node};
 
-/// Which jumps leave a finalizer, the block behind `finally`.
+/// Which jumps without a label leave a finalizer, the block behind `finally`.
 #[derive(Clone, Copy)]
-pub(crate) struct Jumps {
+pub(crate) enum Jumps {
+    /// None does.
+    NoJumps,
     /// `return` and `throw`.
-    pub(crate) returns: bool,
-    /// `break` without a label.
-    pub(crate) breaks: bool,
-    /// `continue` without a label.
-    pub(crate) continues: bool,
-    /// `break` and `continue` with a label.
-    pub(crate) labels: bool,
+    Returns,
+    /// Also `continue`.
+    Continues,
+    /// Also `break`.
+    Breaks,
 }
 
 impl Jumps {
     ghost use Rattle.std.specs.Prelude.{◌≡◌};
-    ghost use Rattle.node_rules.specs.Arounds.{all_jumps, no_jumps};
+    ghost use Rattle.node_rules.specs.Arounds.{has_breaks, has_continues, has_returns, in_loop, in_switch};
 
-    /// None does.
-    fn none() -> Jumps
-        ensures { result ≡ no_jumps }
+    /// Whether `return` and `throw` do.
+    pub(crate) fn has_returns(self) -> bool
+        ensures { result ≡ has_returns self }
     {
-        Jumps {
-            returns: false,
-            breaks: false,
-            continues: false,
-            labels: false,
+        !matches!(self, Jumps::NoJumps)
+    }
+
+    /// Whether `continue` does.
+    pub(crate) fn has_continues(self) -> bool
+        ensures { result ≡ has_continues self }
+    {
+        matches!(self, Jumps::Continues | Jumps::Breaks)
+    }
+
+    /// Whether `break` does.
+    pub(crate) fn has_breaks(self) -> bool
+        ensures { result ≡ has_breaks self }
+    {
+        matches!(self, Jumps::Breaks)
+    }
+
+    /// Those of them that leave a loop.
+    fn in_loop(self) -> Jumps
+        ensures { result ≡ in_loop self }
+    {
+        match self {
+            Jumps::NoJumps => Jumps::NoJumps,
+            Jumps::Returns | Jumps::Continues | Jumps::Breaks => Jumps::Returns,
         }
     }
 
-    /// Each does.
-    fn all() -> Jumps
-        ensures { result ≡ all_jumps }
+    /// Those of them that leave a `switch`.
+    fn in_switch(self) -> Jumps
+        ensures { result ≡ in_switch self }
     {
-        Jumps {
-            returns: true,
-            breaks: true,
-            continues: true,
-            labels: true,
+        match self {
+            Jumps::Breaks => Jumps::Continues,
+            Jumps::NoJumps | Jumps::Returns | Jumps::Continues => self,
+        }
+    }
+}
+
+/// What is to be said of a node beside its kind.
+#[derive(Clone, Copy)]
+pub(crate) enum Remark {
+    NoRemark,
+    /// It is a sum.
+    IsSum,
+    /// It is a declaration by `const`.
+    IsConst,
+    /// It is a class with `extends`, or the body of one.
+    IsHeir,
+    /// It is a `try` with a finalizer.
+    IsFinalized,
+}
+
+impl Remark {
+    ghost use Rattle.std.specs.Prelude.{◌≡◌};
+    ghost use Rattle.node_rules.specs.Arounds.{is_const_remark, is_finalized_remark, is_heir_remark, is_sum_remark};
+
+    /// Whether it is a sum.
+    pub(crate) fn is_sum(self) -> bool
+        ensures { result ≡ is_sum_remark self }
+    {
+        matches!(self, Remark::IsSum)
+    }
+
+    /// Whether it is a declaration by `const`.
+    pub(crate) fn is_const(self) -> bool
+        ensures { result ≡ is_const_remark self }
+    {
+        matches!(self, Remark::IsConst)
+    }
+
+    /// Whether it is a class with `extends`, or the body of one.
+    pub(crate) fn is_heir(self) -> bool
+        ensures { result ≡ is_heir_remark self }
+    {
+        matches!(self, Remark::IsHeir)
+    }
+
+    /// Whether it is a `try` with a finalizer.
+    fn is_finalized(self) -> bool
+        ensures { result ≡ is_finalized_remark self }
+    {
+        matches!(self, Remark::IsFinalized)
+    }
+}
+
+/// What becomes of values.
+#[derive(Clone, Copy)]
+pub(crate) enum Ending {
+    /// The function uses them.
+    Used,
+    /// They stand where a `try` of the function hears of errors.
+    Guarded,
+    /// One may be the function's result.
+    GivenBack,
+}
+
+impl Ending {
+    ghost use Rattle.std.specs.Prelude.{◌≡◌};
+    ghost use Rattle.node_rules.specs.Arounds.{given_back, is_given_back, used};
+
+    /// Whether one may be the function's result.
+    fn is_given_back(self) -> bool
+        ensures { result ≡ is_given_back self }
+    {
+        matches!(self, Ending::GivenBack)
+    }
+
+    /// The same of values that the function uses.
+    fn used(self) -> Ending
+        ensures { result ≡ used self }
+    {
+        match self {
+            Ending::Guarded => Ending::Guarded,
+            Ending::Used | Ending::GivenBack => Ending::Used,
+        }
+    }
+
+    /// The same of a value that it returns.
+    fn given_back(self) -> Ending
+        ensures { result ≡ given_back self }
+    {
+        match self {
+            Ending::Guarded => Ending::Guarded,
+            Ending::Used | Ending::GivenBack => Ending::GivenBack,
         }
     }
 }
@@ -63,10 +171,14 @@ pub(crate) struct Around {
     pub(crate) place: usize,
     /// Whether the nearest function round it is a setter's.
     pub(crate) in_setter: bool,
-    /// Whether the parent is a sum.
-    pub(crate) in_sum: bool,
-    /// Which jumps here leave a finalizer.
+    /// What is to be said of the parent beside its kind.
+    pub(crate) remark: Remark,
+    /// Which jumps without a label leave a finalizer from here.
     pub(crate) leaving: Jumps,
+    /// Whether those with a label do.
+    pub(crate) leaving_by_label: bool,
+    /// What becomes of values here.
+    pub(crate) ending: Ending,
 }
 
 impl Around {
@@ -80,8 +192,10 @@ impl Around {
             grandparent: Kind::Program,
             place: 0,
             in_setter: false,
-            in_sum: false,
-            leaving: Jumps::none(),
+            remark: Remark::NoRemark,
+            leaving: Jumps::NoJumps,
+            leaving_by_label: false,
+            ending: Ending::Used,
         }
     }
 
@@ -95,8 +209,10 @@ impl Around {
             grandparent: self.parent,
             place: 0,
             in_setter: self.setter_inside(node.kind()),
-            in_sum: is_sum(node),
+            remark: self.remark_inside(node),
             leaving: self.leaving_inside(node.kind()),
+            leaving_by_label: self.leaving_by_label_inside(node.kind()),
+            ending: self.ending_inside(node.kind()),
         }
     }
 
@@ -111,8 +227,10 @@ impl Around {
             grandparent: self.grandparent,
             place,
             in_setter: self.in_setter,
-            in_sum: self.in_sum,
+            remark: self.remark,
             leaving: self.leaving,
+            leaving_by_label: self.leaving_by_label,
+            ending: self.ending,
         }
     }
 
@@ -134,21 +252,83 @@ impl Around {
         is_try(self.parent) && self.place == 2
     }
 
-    /// Which jumps leave a finalizer from the parts of a node of this kind.
+    /// Which jumps without a label leave a finalizer from the parts of a node of this kind.
     fn leaving_inside(self, kind: Kind) -> Jumps
         ensures { result ≡ leaving_inside self kind }
     {
         if self.is_finalizer() {
-            Jumps::all()
-        } else if !self.leaving.returns || ends_jumps(kind) {
-            Jumps::none()
+            Jumps::Breaks
+        } else if ends_jumps(kind) {
+            Jumps::NoJumps
+        } else if kind.is_loop() {
+            self.leaving.in_loop()
+        } else if is_switch(kind) {
+            self.leaving.in_switch()
         } else {
-            Jumps {
-                returns: self.leaving.returns,
-                breaks: self.leaving.breaks && !(kind.is_loop() || is_switch(kind)),
-                continues: self.leaving.continues && !kind.is_loop(),
-                labels: self.leaving.labels && !is_labelled(kind),
-            }
+            self.leaving
+        }
+    }
+
+    /// Whether those with a label do.
+    fn leaving_by_label_inside(self, kind: Kind) -> bool
+        ensures { result ≡ leaving_by_label_inside self kind }
+    {
+        self.is_finalizer() || (self.leaving_by_label && !(ends_jumps(kind) || is_labelled(kind)))
+    }
+
+    /// What is to be said of a node beside its kind.
+    fn remark_inside(self, node: Node) -> Remark
+        ensures { result ≡ remark_inside self (node_tree node.entry) }
+    {
+        match node.kind() {
+            Kind::BinaryExpression => remark_if(node.text() == "+", Remark::IsSum),
+            Kind::VariableDeclaration => remark_if(node.text() == "const", Remark::IsConst),
+            Kind::ClassDeclaration | Kind::ClassExpression => remark_if(
+                node.part(1).is_some(),
+                Remark::IsHeir,
+            ),
+            Kind::ClassBody => self.remark,
+            Kind::TryStatement => remark_if(node.part(2).is_some(), Remark::IsFinalized),
+            _ => Remark::NoRemark,
+        }
+    }
+
+    /// Whether a value here is the function's result, and no `try` of the function hears of an error in it.
+    pub(crate) fn is_returned(self) -> bool
+        ensures { result ≡ is_returned self }
+    {
+        self.ending.is_given_back() && hands_out(self.parent, self.place)
+    }
+
+    /// Whether the block of a `try` stands here, or a `catch` behind which a finalizer stands.
+    fn is_guarded(self) -> bool
+        ensures { result ≡ is_guarded self }
+    {
+        is_try(self.parent) && (self.place == 0 || (self.place == 1 && self.remark.is_finalized()))
+    }
+
+    /// What becomes of the values in a node of this kind.
+    fn ending_inside(self, kind: Kind) -> Ending
+        ensures { result ≡ ending_inside self kind }
+    {
+        match kind {
+            Kind::ArrowFunctionExpression => Ending::GivenBack,
+            Kind::FunctionExpression | Kind::FunctionDeclaration => Ending::Used,
+            Kind::ReturnStatement => self.ending.given_back(),
+            _ => self.ending_here(),
+        }
+    }
+
+    /// The same, where no function nor `return` begins.
+    fn ending_here(self) -> Ending
+        ensures { result ≡ cond (is_guarded self) Guarded (cond (is_returned self) GivenBack (used self.ending)) }
+    {
+        if self.is_guarded() {
+            Ending::Guarded
+        } else if self.is_returned() {
+            Ending::GivenBack
+        } else {
+            self.ending.used()
         }
     }
 
@@ -172,4 +352,23 @@ fn is_set(form: Form) -> bool
     ensures { result ≡ is_set form }
 {
     matches!(form, Form::Set)
+}
+
+/// A remark, if that is true.
+fn remark_if(is_so: bool, remark: Remark) -> Remark
+    ensures { result ≡ cond is_so remark NoRemark }
+{
+    if is_so { remark } else { Remark::NoRemark }
+}
+
+/// Whether the value of the part at a place is that of its node, or the function's result.
+fn hands_out(parent: Kind, place: usize) -> bool
+    ensures { result ≡ hands_out parent place }
+{
+    match parent {
+        Kind::ReturnStatement | Kind::ArrowFunctionExpression => true,
+        Kind::ConditionalExpression => place != 0,
+        Kind::LogicalExpression => place == 1,
+        _ => false,
+    }
 }

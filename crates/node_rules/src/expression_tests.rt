@@ -2,14 +2,15 @@
 
 ghost use Rattle.std.specs.Prelude.{◌≡◌, option_map};
 ghost use Rattle.tree.specs.Node.{node_tree};
-ghost use Rattle.node_rules.specs.ExpressionTests.{callee_of, coercion_words, finds_place, has_nothing, has_one, is_bare_body, is_caller, is_coercion, is_init, is_key_named, is_lonely_if, is_long_property, is_negated_side, is_parse_int, is_plus_nothing, is_times_one, is_unary_coercion, is_unnamed_function, is_used, is_wrapper, keeps_key, keeps_name, lacks_radix, may_rename, second_of, without_default};
+ghost use Rattle.node_rules.specs.ExpressionTests.{adds_texts, are_joined, callee_of, calls_has_own, coercion_words, end_of_sum, finds_place, has_nothing, has_one, is_any_object, is_bare_body, is_caller, is_coercion, is_init, is_key_named, is_lonely_if, is_long_property, is_negated_side, is_one_line, is_parse_int, is_plus_nothing, is_power, is_times_one, is_unary_coercion, is_unnamed_function, is_used, is_wrapper, keeps_key, keeps_name, lacks_radix, may_rename, second_of, start_of_sum, without_default};
 
 use crate::around::Around;
 use crate::kind_sets::{
     is_assignment, is_binary, is_block, is_function_expression, is_if, is_literal_kind,
     is_object_pattern, is_plain_call, is_property, is_spread, is_unary_kind, takes_effect,
 };
-use crate::tests::first_of;
+use crate::tests::{first_of, is_empty_object};
+use crate::value_search::is_sum;
 use crate::values::{is_empty_text, is_numeric, is_radix, is_text};
 use crate::words::{
     is_identifier, is_member, is_name, is_string, is_unary, kind_at, object_of, span_at, text_at,
@@ -56,7 +57,7 @@ pub(crate) fn is_used(part: Option<Node>) -> bool
 }
 
 /// A block's second statement.
-fn second_of<'t, 's>(block: Option<Node<'t, 's>>) -> Option<Node<'t, 's>>
+pub(crate) fn second_of<'t, 's>(block: Option<Node<'t, 's>>) -> Option<Node<'t, 's>>
     ensures { option_map node_tree result ≡ second_of (option_map node_tree block.entry) }
 {
     let Some(node) = block else {
@@ -178,7 +179,7 @@ fn is_plus_nothing(one: Option<Node>, other: Option<Node>) -> bool
 }
 
 /// What a call calls.
-fn callee_of<'t, 's>(part: Option<Node<'t, 's>>) -> Option<Node<'t, 's>>
+pub(crate) fn callee_of<'t, 's>(part: Option<Node<'t, 's>>) -> Option<Node<'t, 's>>
     ensures { option_map node_tree result ≡ callee_of (option_map node_tree part.entry) }
 {
     let Some(node) = part else {
@@ -235,6 +236,83 @@ pub(crate) fn is_coercion(node: Node) -> bool
     } else {
         has_one(node) || has_nothing(node)
     }
+}
+
+/// Whether a part is `Math.pow`.
+pub(crate) fn is_power(part: Option<Node>) -> bool
+    ensures { result ≡ is_power (option_map node_tree part.entry) }
+{
+    is_name(object_of(part), "Math") && is_member(part, "pow")
+}
+
+/// Whether a part is `{}`, `Object` or `Object.prototype`.
+fn is_any_object(part: Option<Node>) -> bool
+    ensures { result ≡ is_any_object (option_map node_tree part.entry) }
+{
+    is_empty_object(part)
+        || is_name(part, "Object")
+        || (is_name(object_of(part), "Object") && is_member(part, "prototype"))
+}
+
+/// Whether a part is the member `call` of their `hasOwnProperty`.
+pub(crate) fn calls_has_own(part: Option<Node>) -> bool
+    ensures { result ≡ calls_has_own (option_map node_tree part.entry) }
+{
+    is_member(part, "call")
+        && is_member(object_of(part), "hasOwnProperty")
+        && is_any_object(object_of(object_of(part)))
+}
+
+/// The right side of a sum; what is no sum is itself.
+fn end_of_sum<'t, 's>(part: Option<Node<'t, 's>>) -> Option<Node<'t, 's>>
+    ensures { option_map node_tree result ≡ end_of_sum (option_map node_tree part.entry) }
+{
+    let Some(node) = part else {
+        return None;
+    };
+    if is_sum(node) { node.part(1) } else { part }
+}
+
+/// The left side of a sum; what is no sum is itself.
+pub(crate) fn start_of_sum<'t, 's>(part: Option<Node<'t, 's>>) -> Option<Node<'t, 's>>
+    ensures { option_map node_tree result ≡ start_of_sum (option_map node_tree part.entry) }
+{
+    let Some(node) = part else {
+        return None;
+    };
+    if is_sum(node) { node.part(0) } else { part }
+}
+
+/// Whether no line ends in a part of the text.
+fn is_one_line(source: &str, from: usize, to: usize) -> bool
+    ensures { result ≡ is_one_line source.now from to }
+{
+    let bytes = source.as_bytes();
+    let end = bytes.len().min(to);
+    let start = end.min(from);
+    !(bytes[start..end].contains(&b'\n') || bytes[start..end].contains(&b'\r'))
+}
+
+/// Whether two parts are texts, and on one line.
+fn are_joined(source: &str, node: Node, one: Option<Node>, other: Option<Node>) -> bool
+    ensures { result ≡ are_joined source.now (node_tree node.entry) (option_map node_tree one.entry) (option_map node_tree other.entry) }
+{
+    is_text(one)
+        && is_text(other)
+        && is_one_line(source, span_at(node, one).end, span_at(node, other).start)
+}
+
+/// Whether a text is added to another on the same line.
+pub(crate) fn adds_texts(source: &str, node: Node) -> bool
+    ensures { result ≡ adds_texts source.now (node_tree node.entry) }
+{
+    is_sum(node)
+        && are_joined(
+            source,
+            node,
+            end_of_sum(node.part(0)),
+            start_of_sum(node.part(1)),
+        )
 }
 
 /// What to use in its place.

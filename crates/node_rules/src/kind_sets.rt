@@ -1,7 +1,7 @@
 //! Sets of kinds: at which kinds rules look, and which they ask of what stands round a node.
 
 ghost use Rattle.std.specs.Prelude.{◌≡◌};
-ghost use Rattle.node_rules.specs.KindSets.{compares, declares, destructures, ends_jumps, gets_value, has_body, has_statement_list, is_array, is_assignment, is_await, is_binary, is_binary_operation, is_block, is_call, is_case, is_chain, is_conditional, is_debugger, is_empty_statement, is_expression_statement, is_for, is_for_of, is_function_declaration, is_function_expression, is_if, is_labelled, is_literal_kind, is_logical, is_member_expression, is_name_kind, is_new, is_object, is_object_pattern, is_operation, is_own_function, is_plain_call, is_property, is_return, is_sequence, is_short_body, is_spread, is_static_block, is_super, is_switch, is_template, is_test_of_statement, is_this, is_throw, is_try, is_unary_kind, is_variable_declaration, jumps, makes_boolean, makes_object, may_be_error, may_have_label, needs_object, renames, takes_effect};
+ghost use Rattle.node_rules.specs.KindSets.{compares, declares, destructures, ends_jumps, gets_value, has_body, has_default, has_statement_list, is_array, is_assignment, is_await, is_binary, is_binary_operation, is_block, is_call, is_case, is_chain, is_conditional, is_debugger, is_declarator, is_empty_statement, is_expression_statement, is_for, is_function_declaration, is_function_expression, is_if, is_labelled, is_literal_kind, is_logical, is_member_expression, is_method, is_name_kind, is_new, is_object, is_object_pattern, is_operation, is_own_function, is_plain_call, is_property, is_return, is_short_body, is_spread, is_static_block, is_super, is_switch, is_template, is_test_of_statement, is_this, is_throw, is_try, is_unary_kind, is_variable_declaration, jumps, makes_boolean, makes_object, may_be_error, may_have_label, needs_object, renames, takes_effect};
 
 use tree::Kind;
 
@@ -117,13 +117,6 @@ pub(crate) fn is_function_declaration(kind: Kind) -> bool
     matches!(kind, Kind::FunctionDeclaration)
 }
 
-/// Whether it is the kind of `for` with `of`.
-pub(crate) fn is_for_of(kind: Kind) -> bool
-    ensures { result ≡ is_for_of kind }
-{
-    matches!(kind, Kind::ForOfStatement)
-}
-
 /// Whether it is the kind of `if`.
 pub(crate) fn is_if(kind: Kind) -> bool
     ensures { result ≡ is_if kind }
@@ -208,13 +201,6 @@ pub(crate) fn is_return(kind: Kind) -> bool
     matches!(kind, Kind::ReturnStatement)
 }
 
-/// Whether it is the kind of expressions with commas.
-pub(crate) fn is_sequence(kind: Kind) -> bool
-    ensures { result ≡ is_sequence kind }
-{
-    matches!(kind, Kind::SequenceExpression)
-}
-
 /// Whether it is the kind of a spread argument.
 pub(crate) fn is_spread(kind: Kind) -> bool
     ensures { result ≡ is_spread kind }
@@ -269,6 +255,27 @@ pub(crate) fn is_try(kind: Kind) -> bool
     ensures { result ≡ is_try kind }
 {
     matches!(kind, Kind::TryStatement)
+}
+
+/// Whether it is the kind of a pattern with a default.
+pub(crate) fn has_default(kind: Kind) -> bool
+    ensures { result ≡ has_default kind }
+{
+    matches!(kind, Kind::AssignmentPattern)
+}
+
+/// Whether it is the kind of one variable of a declaration.
+pub(crate) fn is_declarator(kind: Kind) -> bool
+    ensures { result ≡ is_declarator kind }
+{
+    matches!(kind, Kind::VariableDeclarator)
+}
+
+/// Whether it is the kind of a method of a class.
+pub(crate) fn is_method(kind: Kind) -> bool
+    ensures { result ≡ is_method kind }
+{
+    matches!(kind, Kind::MethodDefinition)
 }
 
 /// Whether it is the kind of a unary operator.

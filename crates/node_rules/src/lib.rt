@@ -6,6 +6,7 @@
 #![tactic(auto)]
 
 mod around;
+mod class_tests;
 mod due_rules;
 mod expression_tests;
 mod kind_number;

@@ -11,6 +11,9 @@ ghost use Rattle.node_rules.specs.declared.node_rule.NodeRule.TheVariants.{Valid
 ghost use Rattle.node_rules.specs.declared.search.Sought.TheVariants.{Jump};
 
 use crate::around::Around;
+use crate::class_tests::is_useless_constructor;
+use crate::expression_tests::adds_texts;
+use crate::expression_tests::calls_has_own;
 use crate::expression_tests::coercion_words;
 use crate::expression_tests::is_bare_body;
 use crate::expression_tests::is_caller;
@@ -19,11 +22,13 @@ use crate::expression_tests::is_lonely_if;
 use crate::expression_tests::is_long_property;
 use crate::expression_tests::is_negated_side;
 use crate::expression_tests::is_parse_int;
+use crate::expression_tests::is_power;
 use crate::expression_tests::is_used;
 use crate::expression_tests::is_wrapper;
 use crate::expression_tests::keeps_name;
 use crate::expression_tests::lacks_radix;
 use crate::expression_tests::may_rename;
+use crate::expression_tests::start_of_sum;
 use crate::kind_sets::compares;
 use crate::kind_sets::declares;
 use crate::kind_sets::destructures;
@@ -32,12 +37,14 @@ use crate::kind_sets::has_body;
 use crate::kind_sets::has_statement_list;
 use crate::kind_sets::is_array;
 use crate::kind_sets::is_assignment;
+use crate::kind_sets::is_await;
 use crate::kind_sets::is_binary;
 use crate::kind_sets::is_binary_operation;
 use crate::kind_sets::is_call;
 use crate::kind_sets::is_case;
 use crate::kind_sets::is_conditional;
 use crate::kind_sets::is_debugger;
+use crate::kind_sets::is_declarator;
 use crate::kind_sets::is_empty_statement;
 use crate::kind_sets::is_expression_statement;
 use crate::kind_sets::is_for;
@@ -46,6 +53,7 @@ use crate::kind_sets::is_if;
 use crate::kind_sets::is_labelled;
 use crate::kind_sets::is_literal_kind;
 use crate::kind_sets::is_member_expression;
+use crate::kind_sets::is_method;
 use crate::kind_sets::is_new;
 use crate::kind_sets::is_object;
 use crate::kind_sets::is_operation;
@@ -99,10 +107,12 @@ use crate::value_tests::throws_no_error;
 use crate::values::is_boolean;
 use crate::values::is_constant_key;
 use crate::values::is_fixed;
+use crate::values::is_name_as_key;
 use crate::values::is_split_string;
 use crate::words::is_async_function;
 use crate::words::is_comparison;
 use crate::words::is_equality;
+use crate::words::is_identifier;
 use crate::words::is_key_part;
 use crate::words::is_name;
 use crate::words::is_string;
@@ -120,6 +130,7 @@ use tree::Span;
 pub enum NodeRule {
     Curly,
     DefaultCaseLast,
+    DotNotation,
     EqEqEq,
     ForDirection,
     NoArrayConstructor,
@@ -149,11 +160,13 @@ pub enum NodeRule {
     NoNewWrappers,
     NoProto,
     NoPrototypeBuiltins,
+    NoReturnAwait,
     NoSelfAssign,
     NoSelfCompare,
     NoSetterReturn,
     NoSparseArrays,
     NoThrowLiteral,
+    NoUndefInit,
     NoUnneededTernary,
     NoUnsafeFinally,
     NoUnsafeNegation,
@@ -162,23 +175,29 @@ pub enum NodeRule {
     NoUnusedLabels,
     NoUselessCatch,
     NoUselessComputedKey,
+    NoUselessConcat,
+    NoUselessConstructor,
     NoUselessRename,
     NoVar,
     NoVoid,
     ObjectShorthand,
     OperatorAssignment,
+    PreferExponentiationOperator,
+    PreferObjectHasOwn,
     PreferTemplate,
     Radix,
     RequireYield,
+    SymbolDescription,
     UseIsNan,
     ValidTypeof,
     Yoda,
 }
 
 /// The rules, in the order of their names.
-pub const NODE_RULES: [NodeRule; 55] = [
+pub const NODE_RULES: [NodeRule; 63] = [
     NodeRule::Curly,
     NodeRule::DefaultCaseLast,
+    NodeRule::DotNotation,
     NodeRule::EqEqEq,
     NodeRule::ForDirection,
     NodeRule::NoArrayConstructor,
@@ -208,11 +227,13 @@ pub const NODE_RULES: [NodeRule; 55] = [
     NodeRule::NoNewWrappers,
     NodeRule::NoProto,
     NodeRule::NoPrototypeBuiltins,
+    NodeRule::NoReturnAwait,
     NodeRule::NoSelfAssign,
     NodeRule::NoSelfCompare,
     NodeRule::NoSetterReturn,
     NodeRule::NoSparseArrays,
     NodeRule::NoThrowLiteral,
+    NodeRule::NoUndefInit,
     NodeRule::NoUnneededTernary,
     NodeRule::NoUnsafeFinally,
     NodeRule::NoUnsafeNegation,
@@ -221,14 +242,19 @@ pub const NODE_RULES: [NodeRule; 55] = [
     NodeRule::NoUnusedLabels,
     NodeRule::NoUselessCatch,
     NodeRule::NoUselessComputedKey,
+    NodeRule::NoUselessConcat,
+    NodeRule::NoUselessConstructor,
     NodeRule::NoUselessRename,
     NodeRule::NoVar,
     NodeRule::NoVoid,
     NodeRule::ObjectShorthand,
     NodeRule::OperatorAssignment,
+    NodeRule::PreferExponentiationOperator,
+    NodeRule::PreferObjectHasOwn,
     NodeRule::PreferTemplate,
     NodeRule::Radix,
     NodeRule::RequireYield,
+    NodeRule::SymbolDescription,
     NodeRule::UseIsNan,
     NodeRule::ValidTypeof,
     NodeRule::Yoda,
@@ -254,6 +280,7 @@ impl NodeRule {
         match self {
             NodeRule::Curly => "curly",
             NodeRule::DefaultCaseLast => "default-case-last",
+            NodeRule::DotNotation => "dot-notation",
             NodeRule::EqEqEq => "eqeqeq",
             NodeRule::ForDirection => "for-direction",
             NodeRule::NoArrayConstructor => "no-array-constructor",
@@ -283,11 +310,13 @@ impl NodeRule {
             NodeRule::NoNewWrappers => "no-new-wrappers",
             NodeRule::NoProto => "no-proto",
             NodeRule::NoPrototypeBuiltins => "no-prototype-builtins",
+            NodeRule::NoReturnAwait => "no-return-await",
             NodeRule::NoSelfAssign => "no-self-assign",
             NodeRule::NoSelfCompare => "no-self-compare",
             NodeRule::NoSetterReturn => "no-setter-return",
             NodeRule::NoSparseArrays => "no-sparse-arrays",
             NodeRule::NoThrowLiteral => "no-throw-literal",
+            NodeRule::NoUndefInit => "no-undef-init",
             NodeRule::NoUnneededTernary => "no-unneeded-ternary",
             NodeRule::NoUnsafeFinally => "no-unsafe-finally",
             NodeRule::NoUnsafeNegation => "no-unsafe-negation",
@@ -296,14 +325,19 @@ impl NodeRule {
             NodeRule::NoUnusedLabels => "no-unused-labels",
             NodeRule::NoUselessCatch => "no-useless-catch",
             NodeRule::NoUselessComputedKey => "no-useless-computed-key",
+            NodeRule::NoUselessConcat => "no-useless-concat",
+            NodeRule::NoUselessConstructor => "no-useless-constructor",
             NodeRule::NoUselessRename => "no-useless-rename",
             NodeRule::NoVar => "no-var",
             NodeRule::NoVoid => "no-void",
             NodeRule::ObjectShorthand => "object-shorthand",
             NodeRule::OperatorAssignment => "operator-assignment",
+            NodeRule::PreferExponentiationOperator => "prefer-exponentiation-operator",
+            NodeRule::PreferObjectHasOwn => "prefer-object-has-own",
             NodeRule::PreferTemplate => "prefer-template",
             NodeRule::Radix => "radix",
             NodeRule::RequireYield => "require-yield",
+            NodeRule::SymbolDescription => "symbol-description",
             NodeRule::UseIsNan => "use-isnan",
             NodeRule::ValidTypeof => "valid-typeof",
             NodeRule::Yoda => "yoda",
@@ -318,6 +352,7 @@ pub(crate) fn looks(rule: NodeRule, kind: Kind) -> bool
     match rule {
         NodeRule::Curly => is_short_body(kind),
         NodeRule::DefaultCaseLast => is_switch(kind),
+        NodeRule::DotNotation => is_member_expression(kind),
         NodeRule::EqEqEq => is_binary(kind),
         NodeRule::ForDirection => is_for(kind),
         NodeRule::NoArrayConstructor => is_call(kind),
@@ -347,11 +382,13 @@ pub(crate) fn looks(rule: NodeRule, kind: Kind) -> bool
         NodeRule::NoNewWrappers => is_new(kind),
         NodeRule::NoProto => is_member_expression(kind),
         NodeRule::NoPrototypeBuiltins => is_plain_call(kind),
+        NodeRule::NoReturnAwait => is_await(kind),
         NodeRule::NoSelfAssign => is_assignment(kind),
         NodeRule::NoSelfCompare => is_binary(kind),
         NodeRule::NoSetterReturn => is_return(kind),
         NodeRule::NoSparseArrays => is_array(kind),
         NodeRule::NoThrowLiteral => is_throw(kind),
+        NodeRule::NoUndefInit => is_declarator(kind),
         NodeRule::NoUnneededTernary => is_conditional(kind),
         NodeRule::NoUnsafeFinally => jumps(kind),
         NodeRule::NoUnsafeNegation => is_binary(kind),
@@ -360,14 +397,19 @@ pub(crate) fn looks(rule: NodeRule, kind: Kind) -> bool
         NodeRule::NoUnusedLabels => is_labelled(kind),
         NodeRule::NoUselessCatch => is_try(kind),
         NodeRule::NoUselessComputedKey => is_property(kind),
+        NodeRule::NoUselessConcat => is_binary(kind),
+        NodeRule::NoUselessConstructor => is_method(kind),
         NodeRule::NoUselessRename => renames(kind),
         NodeRule::NoVar => is_variable_declaration(kind),
         NodeRule::NoVoid => is_unary_kind(kind),
         NodeRule::ObjectShorthand => is_property(kind),
         NodeRule::OperatorAssignment => is_assignment(kind),
+        NodeRule::PreferExponentiationOperator => is_plain_call(kind),
+        NodeRule::PreferObjectHasOwn => is_plain_call(kind),
         NodeRule::PreferTemplate => is_binary(kind),
         NodeRule::Radix => is_plain_call(kind),
         NodeRule::RequireYield => is_own_function(kind),
+        NodeRule::SymbolDescription => is_plain_call(kind),
         NodeRule::UseIsNan => compares(kind),
         NodeRule::ValidTypeof => is_binary(kind),
         NodeRule::Yoda => is_binary(kind),
@@ -388,6 +430,7 @@ pub(crate) fn holds(
         NodeRule::Curly => is_bare_body(around, node),
         NodeRule::DefaultCaseLast => any_part(PartTest::IsDefault, node)
             && !is_default(node.parts().last()),
+        NodeRule::DotNotation => node.flags().computed && is_name_as_key(node.part(1)),
         NodeRule::EqEqEq => (node.text() == "==" || node.text() == "!=")
             && !(options.allow_null && any_part(PartTest::IsNull, node)),
         NodeRule::ForDirection => runs_away(node.part(1), node.part(2)),
@@ -422,12 +465,16 @@ pub(crate) fn holds(
         NodeRule::NoNewWrappers => is_wrapper(node.part(0)),
         NodeRule::NoProto => is_key_part(node.part(1), node.flags().computed, "__proto__"),
         NodeRule::NoPrototypeBuiltins => is_builtin_test(unchained(node.part(0))),
+        NodeRule::NoReturnAwait => around.is_returned(),
         NodeRule::NoSelfAssign => is_self_assignment(node),
         NodeRule::NoSelfCompare => is_comparison(node.text())
             && are_same(node.part(0), node.part(1)),
         NodeRule::NoSetterReturn => around.in_setter && node.part(0).is_some(),
         NodeRule::NoSparseArrays => any_part(PartTest::IsGap, node),
         NodeRule::NoThrowLiteral => throws_no_error(node),
+        NodeRule::NoUndefInit => !around.remark.is_const()
+            && is_identifier(node.part(0))
+            && is_name(node.part(1), "undefined"),
         NodeRule::NoUnneededTernary => is_boolean(node.part(1)) && is_boolean(node.part(2)),
         NodeRule::NoUnsafeFinally => leaves_finalizer(around, node),
         NodeRule::NoUnsafeNegation => is_negated_side(node),
@@ -439,14 +486,19 @@ pub(crate) fn holds(
         NodeRule::NoUselessComputedKey => node.flags().computed
             && is_constant_key(node.part(0))
             && !is_string(node.part(0), "__proto__"),
+        NodeRule::NoUselessConcat => adds_texts(source, node),
+        NodeRule::NoUselessConstructor => is_useless_constructor(around, node),
         NodeRule::NoUselessRename => may_rename(around.parent, node.kind()) && keeps_name(node),
         NodeRule::NoVar => node.text() == "var",
         NodeRule::NoVoid => node.text() == "void",
         NodeRule::ObjectShorthand => is_object(around.parent) && is_long_property(node),
         NodeRule::OperatorAssignment => is_long_assignment(node),
+        NodeRule::PreferExponentiationOperator => is_power(unchained(node.part(0))),
+        NodeRule::PreferObjectHasOwn => calls_has_own(unchained(node.part(0))),
         NodeRule::PreferTemplate => is_mixed_sum(around, node),
         NodeRule::Radix => is_parse_int(unchained(node.part(0))) && lacks_radix(node),
         NodeRule::RequireYield => never_yields(node),
+        NodeRule::SymbolDescription => is_name(node.part(0), "Symbol") && node.part(1).is_none(),
         NodeRule::UseIsNan => compares_nan(node),
         NodeRule::ValidTypeof => is_equality(node.text())
             && (is_never_typeof(node.part(0), node.part(1))
@@ -473,6 +525,7 @@ pub(crate) fn place(rule: NodeRule, node: Node) -> Span
     ensures { result ≡ place rule (node_tree node.entry) }
 {
     match rule {
+        NodeRule::DotNotation => span_at(node, node.part(1)),
         NodeRule::NoAsyncPromiseExecutor => span_at(node, node.part(1)),
         NodeRule::NoConstantCondition => span_at(node, tested(node)),
         NodeRule::NoEval => span_at(node, node.part(0)),
@@ -483,6 +536,7 @@ pub(crate) fn place(rule: NodeRule, node: Node) -> Span
         NodeRule::NoUnsafeOptionalChaining => span_at(node, risked(node)),
         NodeRule::NoUnusedLabels => span_at(node, node.part(0)),
         NodeRule::NoUselessCatch => useless_catch(node),
+        NodeRule::NoUselessConcat => span_at(node, start_of_sum(node.part(1))),
         NodeRule::ValidTypeof => typeof_value_place(node),
         _ => span_of(node),
     }
@@ -527,6 +581,7 @@ pub(crate) fn words(rule: NodeRule, node: Node) -> &'static str
     match rule {
         NodeRule::Curly => "expected a block",
         NodeRule::DefaultCaseLast => "default before another case",
+        NodeRule::DotNotation => "use a dot",
         NodeRule::EqEqEq => equality_words(node.text()),
         NodeRule::ForDirection => "the counter goes away from its bound",
         NodeRule::NoArrayConstructor => "use an array literal",
@@ -556,11 +611,13 @@ pub(crate) fn words(rule: NodeRule, node: Node) -> &'static str
         NodeRule::NoNewWrappers => "wrapper object",
         NodeRule::NoProto => "use Object.getPrototypeOf",
         NodeRule::NoPrototypeBuiltins => "call it by Object.prototype",
+        NodeRule::NoReturnAwait => "await of what is returned",
         NodeRule::NoSelfAssign => "assigned to itself",
         NodeRule::NoSelfCompare => "both sides are the same",
         NodeRule::NoSetterReturn => "setter returns a value",
         NodeRule::NoSparseArrays => "array with a hole",
         NodeRule::NoThrowLiteral => "throw an Error",
+        NodeRule::NoUndefInit => "undefined anyway",
         NodeRule::NoUnneededTernary => "the test says it",
         NodeRule::NoUnsafeFinally => "leaves finally",
         NodeRule::NoUnsafeNegation => "'!' belongs to the left side alone",
@@ -569,14 +626,19 @@ pub(crate) fn words(rule: NodeRule, node: Node) -> &'static str
         NodeRule::NoUnusedLabels => "label is never used",
         NodeRule::NoUselessCatch => "catch that only throws again",
         NodeRule::NoUselessComputedKey => "brackets round a constant key",
+        NodeRule::NoUselessConcat => "two texts side by side",
+        NodeRule::NoUselessConstructor => "does what is done anyway",
         NodeRule::NoUselessRename => "renamed to its own name",
         NodeRule::NoVar => "use let or const instead of var",
         NodeRule::NoVoid => "void",
         NodeRule::ObjectShorthand => "use a shorthand",
         NodeRule::OperatorAssignment => "use the operator's assignment",
+        NodeRule::PreferExponentiationOperator => "use '**'",
+        NodeRule::PreferObjectHasOwn => "use Object.hasOwn",
         NodeRule::PreferTemplate => "use a template",
         NodeRule::Radix => "no radix from 2 to 36",
         NodeRule::RequireYield => "generator without yield",
+        NodeRule::SymbolDescription => "no description",
         NodeRule::UseIsNan => nan_words(node.kind()),
         NodeRule::ValidTypeof => "typeof is never this",
         NodeRule::Yoda => "the constant stands first",

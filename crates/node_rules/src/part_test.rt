@@ -3,9 +3,9 @@
 ghost use Rattle.std.specs.Prelude.{◌≡◌, option_map};
 ghost use Rattle.tree.specs.Node.{node_tree};
 ghost use Rattle.tree.specs.Tree.{parts_of};
-ghost use Rattle.node_rules.specs.PartTests.{any_part, has_test, is_default, is_gap, is_null, passes};
+ghost use Rattle.node_rules.specs.PartTests.{any_part, has_test, is_default, is_gap, is_null, is_pattern, passes};
 
-use crate::kind_sets::is_case;
+use crate::kind_sets::{destructures, has_default, is_case};
 use crate::words::kind_at;
 use tree::{Kind, Node};
 
@@ -18,6 +18,8 @@ pub(crate) enum PartTest {
     IsGap,
     /// It is the literal `null`.
     IsNull,
+    /// It is a pattern, perhaps with a default.
+    IsPattern,
 }
 
 /// Whether some part of a node passes a test.
@@ -41,6 +43,7 @@ fn passes(test: PartTest, part: Option<Node>) -> bool
         PartTest::IsDefault => is_default(part),
         PartTest::IsGap => is_gap(part),
         PartTest::IsNull => is_null(part),
+        PartTest::IsPattern => is_pattern(part),
     }
 }
 
@@ -62,6 +65,13 @@ fn is_null(part: Option<Node>) -> bool
         Kind::Literal => node.text() == "null",
         _ => false,
     }
+}
+
+/// Whether a part is a pattern, perhaps with a default.
+fn is_pattern(part: Option<Node>) -> bool
+    ensures { result ≡ is_pattern (option_map node_tree part.entry) }
+{
+    destructures(kind_at(part)) || has_default(kind_at(part))
 }
 
 /// Whether a part is a case with a test.

@@ -5,10 +5,10 @@ ghost use Rattle.tree.specs.Node.{node_tree};
 ghost use Rattle.tree.specs.Tree.{part_at, parts_of};
 ghost use Rattle.language.specs.FirstPart.{others};
 ghost use Rattle.node_rules.specs.Words.{is_empty};
-ghost use Rattle.node_rules.specs.Tests.{adds_away, has_comment, calls_boolean, compares_nan, first_of, has_statements, is_builtin_test, is_cast, is_double_not, is_empty_node, is_lexical, is_literal, is_minus_zero, is_nan_value, is_never_typeof, is_outermost, is_typeof_value, leaves_bound, moves, never_yields, only_throws, runs_away, says_text, steps_away, tested, throws_name};
+ghost use Rattle.node_rules.specs.Tests.{adds_away, has_comment, calls_boolean, compares_nan, first_of, has_statements, is_builtin_test, is_cast, is_double_not, is_empty_node, is_empty_object, is_lexical, is_literal, is_minus_zero, is_nan_value, is_never_typeof, is_outermost, is_typeof_value, leaves_bound, moves, never_yields, only_throws, runs_away, says_text, steps_away, tested, throws_name};
 
 use crate::around::Around;
-use crate::kind_sets::{is_binary, is_switch};
+use crate::kind_sets::{is_binary, is_object, is_switch};
 use crate::node_rule::NodeOptions;
 use crate::search::{Search, Sought, has_sought};
 use crate::values::{is_plain_template, is_template_of};
@@ -170,6 +170,16 @@ pub(crate) fn only_throws(part: Option<Node>) -> bool
     }
 }
 
+/// Whether a part is `{}`.
+pub(crate) fn is_empty_object(part: Option<Node>) -> bool
+    ensures { result ≡ is_empty_object (option_map node_tree part.entry) }
+{
+    let Some(node) = part else {
+        return false;
+    };
+    is_object(node.kind()) && is_empty(node)
+}
+
 /// Whether a declaration is one that a scope keeps: all but `var`.
 pub(crate) fn is_lexical(node: Node) -> bool
     ensures { result ≡ is_lexical (node_tree node.entry) }
@@ -195,7 +205,7 @@ pub(crate) fn is_outermost(parent: Kind, grandparent: Kind) -> bool
 }
 
 /// Whether a block has statements.
-fn has_statements(block: Option<Node>) -> bool
+pub(crate) fn has_statements(block: Option<Node>) -> bool
     ensures { result ≡ has_statements (option_map node_tree block.entry) }
 {
     let Some(node) = block else {

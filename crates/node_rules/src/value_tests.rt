@@ -29,7 +29,7 @@ pub(crate) fn is_mixed_sum(around: Around, node: Node) -> bool
     ensures { result ≡ is_mixed_sum around (node_tree node.entry) }
 {
     is_sum(node)
-        && !around.in_sum
+        && !around.remark.is_sum()
         && some_value(Value::Text, node)
         && some_value(Value::NoText, node)
 }
@@ -214,18 +214,18 @@ pub(crate) fn leaves_finalizer(around: Around, node: Node) -> bool
     match node.kind() {
         Kind::BreakStatement => {
             if node.part(0).is_some() {
-                around.leaving.labels
+                around.leaving_by_label
             } else {
-                around.leaving.breaks
+                around.leaving.has_breaks()
             }
         }
         Kind::ContinueStatement => {
             if node.part(0).is_some() {
-                around.leaving.labels
+                around.leaving_by_label
             } else {
-                around.leaving.continues
+                around.leaving.has_continues()
             }
         }
-        _ => around.leaving.returns,
+        _ => around.leaving.has_returns(),
     }
 }

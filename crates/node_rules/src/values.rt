@@ -1,8 +1,9 @@
 //! What the tree alone says of values: literals, templates without substitutions, and what is made of them.
 
 ghost use Rattle.std.specs.Prelude.{◌≡◌, option_map};
+ghost use Rattle.std.specs.List.{list_all};
 ghost use Rattle.tree.specs.Node.{node_tree};
-ghost use Rattle.node_rules.specs.Values.{begins_number, is_bare_template, is_boolean, is_constant_key, is_empty_text, is_fixed, is_number, is_numeric, is_plain_template, is_radix, is_split_string, is_template_of, is_text, makes_number, names_number};
+ghost use Rattle.node_rules.specs.Values.{begins_name, begins_number, is_bare_template, is_boolean, is_constant_key, is_empty_text, is_fixed, is_in_name, is_name_as_key, is_number, is_numeric, is_plain_name, is_plain_template, is_quoted_name, is_radix, is_split_string, is_template_of, is_text, makes_number, names_number};
 
 use crate::kind_sets::{is_literal_kind, is_template};
 use crate::words::{is_name, is_quoted, kind_at, operand, text_at};
@@ -23,6 +24,62 @@ fn is_number(part: Option<Node>) -> bool
     ensures { result ≡ is_number (option_map node_tree part.entry) }
 {
     is_literal_kind(kind_at(part)) && begins_number(text_at(part))
+}
+
+/// Whether a character below U+0080 begins a name.
+fn begins_name(byte: u8) -> bool
+    ensures { result ≡ begins_name byte }
+{
+    (byte >= 97 && byte <= 122) || (byte >= 65 && byte <= 90) || byte == 36 || byte == 95
+}
+
+/// Whether it goes on with one.
+fn is_in_name(byte: u8) -> bool
+    ensures { result ≡ is_in_name byte }
+{
+    begins_name(byte) || (byte >= 48 && byte <= 57)
+}
+
+/// Whether all are characters of a name.
+fn are_in_name(bytes: &[u8]) -> bool
+    ensures { result ≡ list_all is_in_name bytes.now }
+{
+    bytes.iter().all(|byte| is_in_name(*byte))
+}
+
+/// Whether all are characters of a name, and the first begins one.
+fn is_plain_name(bytes: &[u8]) -> bool
+    ensures { result ≡ is_plain_name bytes.now }
+{
+    match bytes.first() {
+        Some(first) => begins_name(*first) && are_in_name(bytes),
+        None => false,
+    }
+}
+
+/// Whether a text is a string with such a name between its quotation marks.
+fn is_quoted_name(text: &str) -> bool
+    ensures { result ≡ is_quoted_name text.now }
+{
+    let bytes = text.as_bytes();
+    let end = bytes.len().saturating_sub(1);
+    let start = end.min(1);
+    is_quoted(text) && is_plain_name(&bytes[start..end])
+}
+
+/// Whether a key in brackets could stand behind a dot.
+pub(crate) fn is_name_as_key(part: Option<Node>) -> bool
+    ensures { result ≡ is_name_as_key (option_map node_tree part.entry) }
+{
+    let Some(node) = part else {
+        return false;
+    };
+    match node.kind() {
+        Kind::Literal => is_plain_name(node.text().as_bytes()) || is_quoted_name(node.text()),
+        Kind::TemplateLiteral => node.part(1).is_none()
+            && is_plain_name(text_at(node.part(0)).as_bytes()),
+        _ => false,
+    }
 }
 
 /// Whether a part is `true` or `false`.

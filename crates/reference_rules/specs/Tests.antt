@@ -55,6 +55,12 @@ by_variable Var = true
 by_variable Let = true
 by_variable _ = false
 
+-- what a script's own scope puts into the global object
+abbrev pub by_global : BindingKind → Bool
+by_global Var = true
+by_global Function = true
+by_global _ = false
+
 -- `undefined` that is undefined, as it is declared
 abbrev pub is_left_undefined : Binding → Bool
 is_left_undefined b = is b.name "undefined" && (by_variable b.kind && not b.settled)
@@ -62,6 +68,10 @@ is_left_undefined b = is b.name "undefined" && (by_variable b.kind && not b.sett
 -- objects that are no functions (clause 18.4)
 abbrev pub is_namespace : List ℕ → Bool
 is_namespace name = among name ("Atomics" ∷ "JSON" ∷ "Math" ∷ "Reflect" ∷ [])
+
+-- functions of browsers that stop a page until the user answers
+abbrev pub is_dialog : List ℕ → Bool
+is_dialog name = among name ("alert" ∷ "confirm" ∷ "prompt" ∷ [])
 
 -- functions that `new` refuses (19.4.1, 20.2.1)
 abbrev pub is_no_constructor : List ℕ → Bool

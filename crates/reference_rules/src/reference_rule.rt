@@ -3,23 +3,26 @@
 
 ghost use Rattle.std.specs.Prelude.{◌≡◌, option_map};
 ghost use Rattle.scopes.specs.Shown.{reference_shown, shown};
-ghost use Rattle.reference_rules.specs.Rows.{again_words, declares_again, of_declaration, of_reference, says, says_declared};
+ghost use Rattle.reference_rules.specs.Rows.{again_words, declares_again, is_global, of_declaration, of_reference, says, says_declared};
 
 use crate::built_in::is_built_in_for;
 use crate::tests::{
-    is_behind, is_callee, is_caught, is_class, is_constant, is_function, is_imported,
-    is_left_undefined, is_namespace, is_no_constructor, is_parameter, is_repeated, is_restricted,
+    by_global, is_behind, is_callee, is_caught, is_class, is_constant, is_dialog, is_function,
+    is_imported, is_left_undefined, is_namespace, is_no_constructor, is_parameter, is_repeated,
+    is_restricted,
 };
-use scopes::{Binding, Reference};
+use scopes::{Binding, BindingKind, Reference};
 
 /// A rule that asks what names mean.
 #[derive(Clone, Copy, Debug, PartialEq, Eq)]
 pub enum ReferenceRule {
+    NoAlert,
     NoClassAssign,
     NoConstAssign,
     NoExAssign,
     NoFuncAssign,
     NoGlobalAssign,
+    NoImplicitGlobals,
     NoImportAssign,
     NoNewNativeNonconstructor,
     NoNewSymbol,
@@ -32,12 +35,14 @@ pub enum ReferenceRule {
 }
 
 /// The rules, in the order of their names.
-pub const REFERENCE_RULES: [ReferenceRule; 14] = [
+pub const REFERENCE_RULES: [ReferenceRule; 16] = [
+    ReferenceRule::NoAlert,
     ReferenceRule::NoClassAssign,
     ReferenceRule::NoConstAssign,
     ReferenceRule::NoExAssign,
     ReferenceRule::NoFuncAssign,
     ReferenceRule::NoGlobalAssign,
+    ReferenceRule::NoImplicitGlobals,
     ReferenceRule::NoImportAssign,
     ReferenceRule::NoNewNativeNonconstructor,
     ReferenceRule::NoNewSymbol,
@@ -78,11 +83,13 @@ impl ReferenceRule {
         ensures { result.now ≡ called self }
     {
         match self {
+            ReferenceRule::NoAlert => "no-alert",
             ReferenceRule::NoClassAssign => "no-class-assign",
             ReferenceRule::NoConstAssign => "no-const-assign",
             ReferenceRule::NoExAssign => "no-ex-assign",
             ReferenceRule::NoFuncAssign => "no-func-assign",
             ReferenceRule::NoGlobalAssign => "no-global-assign",
+            ReferenceRule::NoImplicitGlobals => "no-implicit-globals",
             ReferenceRule::NoImportAssign => "no-import-assign",
             ReferenceRule::NoNewNativeNonconstructor => "no-new-native-nonconstructor",
             ReferenceRule::NoNewSymbol => "no-new-symbol",
@@ -107,6 +114,8 @@ pub(crate) fn of_reference(
 {
     let name = reference.name;
     match rule {
+        ReferenceRule::NoAlert => reference.called
+            && (reference.meaning.is_none() && is_dialog(name)),
         ReferenceRule::NoClassAssign => reference.writes && is_class(binding),
         ReferenceRule::NoConstAssign => reference.writes && is_constant(binding),
         ReferenceRule::NoExAssign => reference.writes && is_caught(binding),
@@ -121,7 +130,9 @@ pub(crate) fn of_reference(
         ReferenceRule::NoObjCalls => is_callee(reference)
             && (reference.meaning.is_none() && is_namespace(name)),
         ReferenceRule::NoParamReassign => reference.writes && is_parameter(binding),
-        ReferenceRule::NoRedeclare | ReferenceRule::NoShadowRestrictedNames => false,
+        ReferenceRule::NoImplicitGlobals
+        | ReferenceRule::NoRedeclare
+        | ReferenceRule::NoShadowRestrictedNames => false,
         ReferenceRule::NoUndefined => name == "undefined",
         ReferenceRule::NoUseBeforeDefine => is_behind(reference.start, binding),
     }
@@ -137,6 +148,7 @@ pub(crate) fn of_declaration(
     ensures { result ≡ of_declaration profile rule standing (shown binding.entry) }
 {
     match rule {
+        ReferenceRule::NoImplicitGlobals => is_global(profile, standing, binding.kind),
         ReferenceRule::NoRedeclare => declares_again(profile, standing, binding.name),
         ReferenceRule::NoShadowRestrictedNames => is_restricted(binding.name)
             && !(is_repeated(binding.kind) || is_left_undefined(binding)),
@@ -156,16 +168,28 @@ fn declares_again(profile: Profile, standing: Standing, name: &str) -> bool
     }
 }
 
+/// Whether a declaration makes a property of the global object.
+fn is_global(profile: Profile, standing: Standing, kind: BindingKind) -> bool
+    ensures { result ≡ is_global profile standing kind }
+{
+    match standing {
+        Standing::InScript => !profile.is_module && by_global(kind),
+        Standing::InScope | Standing::Again => false,
+    }
+}
+
 /// What a rule says behind the name.
 pub(crate) fn words(rule: ReferenceRule) -> &'static str
     ensures { result.now ≡ says rule }
 {
     match rule {
+        ReferenceRule::NoAlert => "waits for the user",
         ReferenceRule::NoClassAssign => "is a class",
         ReferenceRule::NoConstAssign => "is constant",
         ReferenceRule::NoExAssign => "is what was caught",
         ReferenceRule::NoFuncAssign => "is a function",
         ReferenceRule::NoGlobalAssign => "is built in",
+        ReferenceRule::NoImplicitGlobals => "is global",
         ReferenceRule::NoImportAssign => "is imported",
         ReferenceRule::NoNewNativeNonconstructor | ReferenceRule::NoNewSymbol =>
             "is no constructor",

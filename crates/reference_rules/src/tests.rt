@@ -3,7 +3,7 @@
 ghost use Rattle.std.specs.Prelude.{◌≡◌, option_map};
 ghost use Rattle.scopes.specs.Shown.{reference_shown, shown};
 ghost use Rattle.reference_rules.specs.Rows.{is_behind};
-ghost use Rattle.reference_rules.specs.Tests.{by_catch, by_class, by_const, by_function, by_import, by_parameter, by_variable, is_bound, is_callee, is_left_undefined, is_namespace, is_no_constructor, is_repeated, is_restricted};
+ghost use Rattle.reference_rules.specs.Tests.{by_catch, by_class, by_const, by_function, by_global, by_import, by_parameter, by_variable, is_bound, is_callee, is_dialog, is_left_undefined, is_namespace, is_no_constructor, is_repeated, is_restricted};
 
 use scopes::{Binding, BindingKind, Reference};
 
@@ -147,6 +147,13 @@ fn by_variable(kind: BindingKind) -> bool
     matches!(kind, BindingKind::Var | BindingKind::Let)
 }
 
+/// Whether it is the kind of what a script's own scope puts into the global object.
+pub(crate) fn by_global(kind: BindingKind) -> bool
+    ensures { result ≡ by_global kind }
+{
+    matches!(kind, BindingKind::Var | BindingKind::Function)
+}
+
 /// Whether a declaration of `undefined` leaves it so.
 pub(crate) fn is_left_undefined(binding: Binding) -> bool
     ensures { result ≡ is_left_undefined (shown binding.entry) }
@@ -159,6 +166,13 @@ pub(crate) fn is_namespace(name: &str) -> bool
     ensures { result ≡ is_namespace name.now }
 {
     name == "Atomics" || name == "JSON" || name == "Math" || name == "Reflect"
+}
+
+/// Whether it is the name of a function of browsers that stops a page until the user answers.
+pub(crate) fn is_dialog(name: &str) -> bool
+    ensures { result ≡ is_dialog name.now }
+{
+    name == "alert" || name == "confirm" || name == "prompt"
 }
 
 /// Whether it is the name of a built-in function that is no constructor.

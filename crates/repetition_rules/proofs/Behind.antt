@@ -1,10 +1,9 @@
 -- What stands again, as a loop goes over what is compared, with the labels of those before in sets.
-use Rattle.std.proofs.Common.{◌≡◌, ℕ, suc, ◌+◌, ◌<◌, ◌≤◌, List, ◌∷◌, ◌++◌, length, drop, get_or, sym, ap, ◌∙◌, add-one, append_assoc, append-nil}
+use Rattle.std.proofs.Common.{◌≡◌, ℕ, suc, ◌+◌, ◌<◌, List, ◌∷◌, ◌++◌, length, drop, get_or, sym, ap, ◌∙◌, add-one, append_assoc}
 use Rattle.std.specs.Prelude.{◌&&◌, ◌||◌}
 use Rattle.std.specs.Str.{bytes_eq}
 use Rattle.std.proofs.Math.Seq.{drop-cons}
 use Rattle.name_tables.specs.Sets.{contains}
-use Rattle.std.proofs.lemmas.List.{drop_all}
 use Rattle.rule_words.specs.Reports.{Report}
 use Rattle.repetition_rules.specs.declared.again.Seen.{Seen}
 use Rattle.repetition_rules.specs.declared.repetition_rule.RepetitionRule.{RepetitionRule}
@@ -32,6 +31,3 @@ module _ (rule : RepetitionRule) (before es : List Entry) (i : ℕ) (acc total :
       let at : drop i es ≡ e ∷ drop (suc i) es = drop-cons es i e l ∙ ap (λ x. x ∷ drop (suc i) es) (sym is) in
       rw (add-one i) (ap (λ a. a ++ reported rule (e ∷ before) (drop (suc i) es)) (n ∙ ap (λ b. acc ++ report_if b rule e) (seen-is seen before e h))
       ∙ append_assoc acc (report_if (is_again before e) rule e) (reported rule (e ∷ before) (drop (suc i) es)) ∙ ap (λ ys. acc ++ reported rule before ys) (sym at) ∙ so)
-
-  pub again-end : length es ≤ i → acc ≡ total
-  again-end l = sym (append-nil acc) ∙ ap (λ ys. acc ++ reported rule before ys) (sym (drop_all i es l)) ∙ so

@@ -1,9 +1,8 @@
 -- Digits, one by one, and the `n` of a bigint.
-use Rattle.std.proofs.Common.{◌≡◌, ℕ, suc, ◌+◌, ◌<◌, ◌≤◌, List, [], ◌∷◌, ◌++◌, Bool, true, false, length, drop, get_or, refl, sym, ap, ◌∙◌, add-one}
+use Rattle.std.proofs.Common.{◌≡◌, ℕ, suc, ◌+◌, ◌<◌, List, [], ◌∷◌, ◌++◌, Bool, true, false, length, drop, get_or, refl, sym, ap, ◌∙◌, add-one}
 use Rattle.std.specs.Prelude.{◌&&◌, nat_eq}
 use Rattle.std.proofs.Math.Seq.{drop-cons}
 use Rattle.std.proofs.lemmas.Bool.{ne_eqb}
-use Rattle.std.proofs.lemmas.List.{drop_all}
 use Rattle.repetition_rules.specs.Keys.{are_digits, is_digit, without_n}
 
 module _ (bs : List ℕ) (i d : ℕ) (total : Bool) (so : are_digits (drop i bs) ≡ total) (l : i < length bs) where
@@ -15,9 +14,6 @@ module _ (bs : List ℕ) (i d : ℕ) (total : Bool) (so : are_digits (drop i bs)
 
   pub digits-turn : is_digit (get_or bs i d) ≡ true → are_digits (drop (i + 1) bs) ≡ total
   digits-turn h = rw (add-one i) (sym (ap (λ b. b && are_digits (drop (suc i) bs)) h) ∙ step)
-
-pub digits-end : (bs : List ℕ) (i : ℕ) (total : Bool) → are_digits (drop i bs) ≡ total → length bs ≤ i → true ≡ total
-digits-end bs i total so l = sym (ap are_digits (drop_all i bs l)) ∙ so
 
 pub n-last : (xs : List ℕ) → without_n (xs ++ 110 ∷ []) ≡ xs
 n-last [] = refl
