@@ -4,9 +4,9 @@ use Rattle.std.specs.List.{list_any}
 use Rattle.std.specs.Str.{bytes_eq}
 use Rattle.language.specs.Vocabulary.{is}
 use Rattle.node_rules.specs.Rows.{called as row_called}
-use Rattle.node_rules.specs.declared.node_rule.NodeRule.TheVariants.{Curly, DefaultCaseLast, EqEqEq, ForDirection, NoArrayConstructor, NoAsyncPromiseExecutor, NoCaller, NoCaseDeclarations, NoCompareNegZero, NoConstantBinaryExpression, NoConstantCondition, NoDebugger, NoEmpty, NoEmptyPattern, NoEmptyStaticBlock, NoEval, NoExtraBooleanCast, NoExtraSemi, NoImplicitCoercion, NoInnerDeclarations, NoLabels, NoLonelyIf, NoMultiAssign, NoMultiStr, NoNestedTernary, NoNew, NoNewFunc, NoNewObject, NoNewWrappers, NoProto, NoPrototypeBuiltins, NoSelfAssign, NoSelfCompare, NoSetterReturn, NoSparseArrays, NoThrowLiteral, NoUnneededTernary, NoUnsafeFinally, NoUnsafeNegation, NoUnsafeOptionalChaining, NoUnusedExpressions, NoUnusedLabels, NoUselessCatch, NoUselessComputedKey, NoUselessRename, NoVar, NoVoid, ObjectShorthand, OperatorAssignment, PreferTemplate, Radix, RequireYield, UseIsNan, ValidTypeof, Yoda}
+use Rattle.node_rules.specs.declared.node_rule.NodeRule.TheVariants.{Curly, DefaultCaseLast, DotNotation, EqEqEq, ForDirection, NoArrayConstructor, NoAsyncPromiseExecutor, NoCaller, NoCaseDeclarations, NoCompareNegZero, NoConstantBinaryExpression, NoConstantCondition, NoDebugger, NoEmpty, NoEmptyPattern, NoEmptyStaticBlock, NoEval, NoExtraBooleanCast, NoExtraSemi, NoImplicitCoercion, NoInnerDeclarations, NoLabels, NoLonelyIf, NoMultiAssign, NoMultiStr, NoNestedTernary, NoNew, NoNewFunc, NoNewObject, NoNewWrappers, NoProto, NoPrototypeBuiltins, NoReturnAwait, NoSelfAssign, NoSelfCompare, NoSetterReturn, NoSparseArrays, NoThrowLiteral, NoUndefInit, NoUnneededTernary, NoUnsafeFinally, NoUnsafeNegation, NoUnsafeOptionalChaining, NoUnusedExpressions, NoUnusedLabels, NoUselessCatch, NoUselessComputedKey, NoUselessConcat, NoUselessConstructor, NoUselessRename, NoVar, NoVoid, ObjectShorthand, OperatorAssignment, PreferExponentiationOperator, PreferObjectHasOwn, PreferTemplate, Radix, RequireYield, SymbolDescription, UseIsNan, ValidTypeof, Yoda}
 use Rattle.reference_rules.specs.Rows.{called as name_called}
-use Rattle.reference_rules.specs.declared.reference_rule.ReferenceRule.TheVariants.{NoClassAssign, NoConstAssign, NoExAssign, NoFuncAssign, NoGlobalAssign, NoImportAssign, NoNewNativeNonconstructor, NoNewSymbol, NoObjCalls, NoParamReassign, NoRedeclare, NoShadowRestrictedNames, NoUndefined, NoUseBeforeDefine}
+use Rattle.reference_rules.specs.declared.reference_rule.ReferenceRule.TheVariants.{NoAlert, NoClassAssign, NoConstAssign, NoExAssign, NoFuncAssign, NoGlobalAssign, NoImplicitGlobals, NoImportAssign, NoNewNativeNonconstructor, NoNewSymbol, NoObjCalls, NoParamReassign, NoRedeclare, NoShadowRestrictedNames, NoUndefined, NoUseBeforeDefine}
 use Rattle.repetition_rules.specs.Rows.{called as part_called}
 use Rattle.repetition_rules.specs.declared.repetition_rule.RepetitionRule.TheVariants.{NoDupeClassMembers, NoDupeKeys, NoDuplicateCase}
 use Rattle.flow_rules.specs.Rows.{called as flow_rule_called}
@@ -56,9 +56,11 @@ all_rules =
     ∷ OnFlow ConstructorSuper
     ∷ OnNodes Curly
     ∷ OnNodes DefaultCaseLast
+    ∷ OnNodes DotNotation
     ∷ OnNodes EqEqEq
     ∷ OnNodes ForDirection
     ∷ OnFlow GetterReturn
+    ∷ OnReferences NoAlert
     ∷ OnNodes NoArrayConstructor
     ∷ OnNodes NoAsyncPromiseExecutor
     ∷ OnNodes NoCaller
@@ -89,6 +91,7 @@ all_rules =
     ∷ OnReferences NoFuncAssign
     ∷ OnReferences NoGlobalAssign
     ∷ OnNodes NoImplicitCoercion
+    ∷ OnReferences NoImplicitGlobals
     ∷ OnReferences NoImportAssign
     ∷ OnNodes NoInnerDeclarations
     ∷ OnTexts NoIrregularWhitespace
@@ -109,6 +112,7 @@ all_rules =
     ∷ OnNodes NoPrototypeBuiltins
     ∷ OnReferences NoRedeclare
     ∷ OnLiterals NoRegexSpaces
+    ∷ OnNodes NoReturnAwait
     ∷ OnLiterals NoScriptUrl
     ∷ OnNodes NoSelfAssign
     ∷ OnNodes NoSelfCompare
@@ -121,6 +125,7 @@ all_rules =
     ∷ OnFlow NoThisBeforeSuper
     ∷ OnNodes NoThrowLiteral
     ∷ NoUndef
+    ∷ OnNodes NoUndefInit
     ∷ OnReferences NoUndefined
     ∷ OnTexts NoUnexpectedMultiline
     ∷ OnNodes NoUnneededTernary
@@ -135,6 +140,8 @@ all_rules =
     ∷ OnReferences NoUseBeforeDefine
     ∷ OnNodes NoUselessCatch
     ∷ OnNodes NoUselessComputedKey
+    ∷ OnNodes NoUselessConcat
+    ∷ OnNodes NoUselessConstructor
     ∷ OnLiterals NoUselessEscape
     ∷ OnNodes NoUselessRename
     ∷ OnFlow NoUselessReturn
@@ -143,9 +150,12 @@ all_rules =
     ∷ OnNodes ObjectShorthand
     ∷ OnNodes OperatorAssignment
     ∷ PreferConst
+    ∷ OnNodes PreferExponentiationOperator
+    ∷ OnNodes PreferObjectHasOwn
     ∷ OnNodes PreferTemplate
     ∷ OnNodes Radix
     ∷ OnNodes RequireYield
+    ∷ OnNodes SymbolDescription
     ∷ OnNodes UseIsNan
     ∷ OnNodes ValidTypeof
     ∷ OnNodes Yoda
