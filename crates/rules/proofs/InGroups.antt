@@ -1,50 +1,26 @@
 -- What rules find group after group is what they find one by one, in another order.
-use Rattle.std.proofs.Common.{◌≡◌, ℕ, ◌+◌, ◌<◌, ◌≤◌, length, drop, get_or, Bool, true, false, cond, List, [], ◌∷◌, ◌++◌, Option, Some, None, refl, sym, ap, ap₂, ◌∙◌, append_assoc, append-nil, IsPermutation}
+use Rattle.std.proofs.Common.{◌≡◌, ◌+◌, Bool, true, false, cond, List, [], ◌∷◌, ◌++◌, Some, refl, sym, ap, ◌∙◌, append_assoc, IsPermutation}
 use Rattle.std.proofs.lemmas.List.Sorted.{IsPermutation-refl, IsPermutation-trans, IsPermutation-append_left, IsPermutation-append_right, IsPermutation-append_comm}
-use Rattle.std.proofs.lemmas.List.{drop_all}
 use Rattle.tree.specs.Flat.{post_order}
 use Rattle.rule_words.specs.Reports.{Report}
-use Rattle.node_rules.specs.declared.node_rule.NodeRule.{NodeRule}
 use Rattle.node_rules.specs.Arounds.{round_root}
 use Rattle.node_rules.specs.Rows.{of_node, of_rules}
 use Rattle.node_rules.proofs.Together.{both-nodes, same-permutation}
-use Rattle.reference_rules.specs.declared.reference_rule.ReferenceRule.{ReferenceRule}
 use Rattle.reference_rules.proofs.Together.{both as both-references, no-rules as no-reference-rules}
-use Rattle.repetition_rules.specs.declared.repetition_rule.RepetitionRule.{RepetitionRule}
 use Rattle.repetition_rules.proofs.Together.{both as both-repetitions, no-rules as no-repetition-rules}
-use Rattle.flow_rules.specs.declared.flow_rule.FlowRule.{FlowRule}
 use Rattle.flow_rules.specs.Arounds.{round_root as flow_round_root}
 use Rattle.flow_rules.specs.Rows.{of_node as flow_of_node, of_rules as flow_of_rules}
 use Rattle.flow_rules.proofs.Together.{both-nodes as both-flows, no-rules as no-flow-rules}
-use Rattle.literal_rules.specs.declared.literal_rule.LiteralRule.{LiteralRule}
 use Rattle.literal_rules.proofs.Together.{both as both-literal, no-rules as no-literal-rules}
-use Rattle.text_rules.specs.declared.text_rule.TextRule.{TextRule}
-use Rattle.text_rules.specs.Found.{found_by_rule as found_by_text_rule}
 use Rattle.rules.specs.declared.rule_list.RuleName.{RuleName}
 use Rattle.rules.specs.declared.rule_list.RuleName.TheVariants.{OnNodes, OnReferences, OnRepetitions, OnFlow, OnLiterals, OnTexts, NoExtraParens, NoShadow, NoUndef, NoUnusedVars, PreferConst}
-use Rattle.rules.specs.Groups.{chosen, chosen_if, found_alone, found_alone_by, found_in_groups, found_on_references, found_on_repetitions, found_on_flow, flow_rule_named, found_on_literals, literal_rule_named, found_on_texts, text_rule_named, node_rule_named, reference_rule_named, repetition_rule_named}
+use Rattle.rules.specs.Groups.{chosen, chosen_if, found_alone, found_in_groups, found_on_references, found_on_repetitions, found_on_flow, flow_rule_named, found_on_literals, literal_rule_named, found_on_texts, text_rule_named, node_rule_named, reference_rule_named, repetition_rule_named}
 use Rattle.rules.specs.NodeRules.{found_on_nodes}
 use Rattle.rules.specs.RuleNames.{called}
 use Rattle.rules.specs.Rules.{View, node_options, on_nodes, on_references, on_repetitions, on_flow, on_literals, on_texts, profile_of}
 use Rattle.rules.specs.Run.{found_by_name, found_by_names}
-use Rattle.rules.specs.Settings.{Settings, is_on}
-use Rattle.rules.proofs.AppendLoops.{append-turn}
+use Rattle.rules.specs.Settings.{is_on}
 use Rattle.rules.proofs.Together.{none-on-nodes}
-
--- ---- the rules of a group, one by one
-
-chosen-behind : {R : Type 0} (o : Option R) (on : Bool) (rs : List R) → chosen_if o on rs ≡ chosen_if o on [] ++ rs
-chosen-behind None on rs = refl
-chosen-behind (Some r) true rs = refl
-chosen-behind (Some r) false rs = refl
-
-pub chosen-turn : {R : Type 0} (named : RuleName → Option R) (s : Settings) (names : List RuleName) (i : ℕ) (d : RuleName) (acc new total : List R) → i < length names →
-    new ≡ acc ++ chosen_if (named (get_or names i d)) (is_on (called (get_or names i d)) s) [] → acc ++ chosen named (drop i names) s ≡ total → new ++ chosen named (drop (i + 1) names) s ≡ total
-chosen-turn named s names i d acc new total l e so =
-    append-turn (λ ns. chosen named ns s) (λ n. chosen_if (named n) (is_on (called n) s) []) (λ n ns. chosen-behind (named n) (is_on (called n) s) (chosen named ns s)) names i d acc new total l e so
-
-pub chosen-end : {R : Type 0} (named : RuleName → Option R) (s : Settings) (names : List RuleName) (i : ℕ) (acc total : List R) → length names ≤ i → acc ++ chosen named (drop i names) s ≡ total → acc ≡ total
-chosen-end named s names i acc total l so = sym (append-nil acc) ∙ ap (λ ns. acc ++ chosen named ns s) (sym (drop_all i names l)) ∙ so
 
 -- ---- one name more
 
@@ -176,12 +152,3 @@ appended-groups names v out one two three four five six new a b c d e f g =
     (then three (found_on_flow (chosen flow_rule_named names v.settings) v) _ four new d
     (then four (found_on_literals (chosen literal_rule_named names v.settings) v) _ five new e
     (then five (found_on_texts (chosen text_rule_named names v.settings) v) _ six new f g))))))
-
--- ---- rules that are of no group, one by one
-
-pub alone-turn : (names : List RuleName) (v : View) (i : ℕ) (d : RuleName) (acc new total : List Report) → i < length names →
-    new ≡ acc ++ found_alone_by (get_or names i d) v → acc ++ found_alone (drop i names) v ≡ total → new ++ found_alone (drop (i + 1) names) v ≡ total
-alone-turn names v i d acc new total l e so = append-turn (λ ns. found_alone ns v) (λ n. found_alone_by n v) (λ n ns. refl) names i d acc new total l e so
-
-pub alone-end : (names : List RuleName) (v : View) (i : ℕ) (acc total : List Report) → length names ≤ i → acc ++ found_alone (drop i names) v ≡ total → acc ≡ total
-alone-end names v i acc total l so = sym (append-nil acc) ∙ ap (λ ns. acc ++ found_alone ns v) (sym (drop_all i names l)) ∙ so
