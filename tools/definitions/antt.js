@@ -32,7 +32,7 @@ const LEFT_OUT = {
   literal_rules: 'specs: Laws',
   text_rules: 'specs: Laws',
   flow_rules: 'specs: Laws Steps',
-  rules: 'specs: Toml NameOrder Run RuleViews Used Nodes NodeRules NameRules Refusals Lines',
+  rules: 'specs: Toml NameOrder Run RuleViews Used Nodes NodeRules Groups Refusals Lines',
   estree_json: 'specs: Sent Primitives Table',
   regular_expressions: 'specs: Scanned',
 };

@@ -23,7 +23,7 @@ use Rattle.commands.specs.declared.command.ReportForm.TheVariants.{Places, Spans
 use Rattle.commands.specs.declared.refused.Refused.{Refused}
 use Rattle.commands.specs.WholeTexts.{ReadsUpTo}
 use Rattle.scopes.specs.Found.{Found, found}
-use Rattle.rule_words.specs.Order.{report_cmp}
+use Rattle.rules.specs.Order.{report_cmp}
 use Rattle.rules.specs.Reports.{Report}
 use Rattle.rules.specs.Lines.{report_lines}
 use Rattle.rules.specs.Rules.{View}
