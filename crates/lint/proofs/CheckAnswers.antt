@@ -16,7 +16,7 @@ use Rattle.paren_planner.proofs.WrappedRows.{flagged_wrapped}
 use Rattle.language.specs.Pieces.{script}
 use Rattle.source_text.specs.Source.{max_bytes}
 use Rattle.source_text.specs.declared.fault.Fault.{Fault}
-use Rattle.source_text.specs.declared.fault.Fault.TheVariants.{OutOfMemory, BadSettings, ReadFailed, Usage}
+use Rattle.source_text.specs.declared.fault.Fault.TheVariants.{OutOfMemory, BadSettings, ReadFailed}
 use Rattle.commands.specs.declared.command.Command.TheVariants.{Check}
 use Rattle.commands.specs.declared.command.ReportForm.{ReportForm}
 use Rattle.commands.specs.declared.command.ReportForm.TheVariants.{Places, Spans}
@@ -28,7 +28,7 @@ use Rattle.rules.specs.Reports.{Report}
 use Rattle.rules.specs.Lines.{report_lines}
 use Rattle.rules.specs.Rules.{View}
 use Rattle.rules.specs.RuleViews.{found_or_nothing}
-use Rattle.rules.specs.Run.{found_by_names, found_with, look_at_pairs, look_at_scopes}
+use Rattle.rules.specs.Run.{found_by_names, found_with}
 use Rattle.rules.specs.declared.rule_list.RuleName.{RuleName}
 use Rattle.rules.proofs.Views.{same_without_pairs, same_without_scopes, with_extra, with_found}
 use Rattle.rules.specs.Settings.{Settings}
@@ -40,7 +40,7 @@ use Rattle.commands.specs.declared.language_choice.LanguageChoice.{LanguageChoic
 use Rattle.lint.specs.declared.check_command.Checked.{Checked}
 use Rattle.lint.specs.Languages.{asked_language, language_of}
 use Rattle.lint.specs.Asked.{HasExtra, HasScopes}
-use Rattle.lint.specs.Outputs.{Checks, IsExtra, IsOutput, IsSecond, IsView, Reports}
+use Rattle.lint.specs.Outputs.{Checks, IsExtra, IsOutput, IsSecond, Reports}
 use Rattle.lint.specs.ReadScripts.{IsReading, RefusesReading}
 use Rattle.lint.specs.Hints.{IsHint}
 use Rattle.lint.specs.Run.{IsSource, Refuses, Seen}
@@ -59,11 +59,11 @@ are_extra language text n P wraps spans utf8 wrapped is = record {
 -- ---- rules find the same where scopes and extra pairs are there at which none of them looks
 
 -- the extra pairs of a script, by its tree
-all_extra : Tree → List Pair → List Span
+abbrev all_extra : Tree → List Pair → List Span
 all_extra n P = extra_spans (flags n script) (map (grouping (row_starts n)) P)
 
 module _ {B : Type 0} (called : B → List ℕ) (finds : B → View → List Report) (names : List RuleName) (bs : List B) where
-  finds_all : View → List Report
+  abbrev finds_all : View → List Report
   finds_all = found_with called finds names bs
 
   -- with the others, of which there are none
@@ -89,10 +89,10 @@ module _ {B : Type 0} (called : B → List ℕ) (finds : B → View → List Rep
   whole_reports language text n P settings v scopes reports utf8 tree is_text given is has extra all sorted =
       let pairs = paired v n P (subst (λ s. HasExtra names bs s n P v.extra) (sym given) extra) in
       let w : View = with_extra v pairs.0 in
-      let same : finds_all v ≡ finds_all (with_found w (found n)) = pairs.1.1 ∙ scoped w scopes n is (subst (λ s. HasScopes names bs s n scopes) (sym given) has) in
+      let same : finds_all v ≡ finds_all (with_found w (found n)) = pairs.2 ∙ scoped w scopes n is (subst (λ s. HasScopes names bs s n scopes) (sym given) has) in
       record {
         view = with_found w (found n);
-        is_view = record { of_tree = tree; of_text = is_text; of_scopes = refl; of_extra = pairs.1.0 language text utf8; of_settings = given };
+        is_view = record { of_tree = tree; of_text = is_text; of_scopes = refl; of_extra = pairs.1 language text utf8; of_settings = given };
         all = subst (λ l. IsPermutation l reports) same all;
         sorted = sorted;
       }

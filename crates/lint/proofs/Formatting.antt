@@ -1,5 +1,5 @@
 -- From a text that is read again and compared to what formatting promises.
-use Rattle.std.proofs.Common.{◌≡◌, ◌∙◌, ℕ, Bool, true, List, [], length, refl, sym, ap, subst, inl, inr, Result, Ok, Err}
+use Rattle.std.proofs.Common.{◌≡◌, ◌∙◌, ℕ, Bool, true, List, [], length, refl, sym, ap, subst, inl, Result, Ok, Err}
 use Rattle.std.specs.Result.{IfErr, IfOk}
 use Rattle.tree.specs.Tree.{Tree}
 use Rattle.tree.specs.declared.kind.Pair.{Pair}
@@ -13,8 +13,8 @@ use Rattle.layout_items.specs.declared.style.Style.{Style}
 use Rattle.commands.specs.declared.command.FormatChoice.{FormatChoice}
 use Rattle.commands.specs.declared.command.Command.TheVariants.{Format}
 use Rattle.lint.specs.ReadScripts.{FewestInAny, IsOnly}
-use Rattle.lint.specs.Unwraps.{RefusesScript, Unwraps}
-use Rattle.lint.specs.Formats.{Formats, FormatsBy, FormatsFewest, IsLaid, IsUnlaid, RefusesFormat, RefusesFormatting, Respells, WritesFormatted}
+use Rattle.lint.specs.Unwraps.{Unwraps}
+use Rattle.lint.specs.Formats.{Formats, FormatsBy, FormatsFewest, IsLaid, IsUnlaid, RefusesFormat, Respells, WritesFormatted}
 use Rattle.lint.specs.Steps.{AnswersAlone, output_of, status_of}
 use Rattle.lint.specs.declared.answer.Answer.{Answer}
 use Rattle.lint.proofs.OneScript.{only_script}

@@ -1,15 +1,14 @@
 -- What is told of a file, made piece by piece.
-use Rattle.std.proofs.Common.{◌≡◌, ◌⊎◌, ◌∙◌, ℕ, List, [], ◌∷◌, ◌++◌, codes, drop, inl, inr, refl, ap, append_assoc, subst}
+use Rattle.std.proofs.Common.{◌≡◌, ◌⊎◌, ℕ, List, inl, inr, refl, subst}
 use Rattle.std.specs.Prelude.{IfOk, Result, Ok, Err}
 use Rattle.std.specs.declared.alloc.AllocError.{AllocError}
-use Rattle.commands.specs.Refusal.{refusal_line, refusal_words}
 use Rattle.commands.specs.Refused.{no_memory}
 use Rattle.commands.specs.declared.command.Command.{Command}
 use Rattle.commands.specs.declared.language_choice.LanguageChoice.{LanguageChoice}
 use Rattle.commands.specs.declared.refused.Refused.{Refused}
 use Rattle.embedding.specs.Answers.{AnswersBytes}
 use Rattle.embedding.specs.declared.output.Output.{Output}
-use Rattle.named_answers.specs.NamedAnswers.{Answers, Tells, refusal_line_of, told_of}
+use Rattle.named_answers.specs.NamedAnswers.{Answers, Tells, told_of}
 use Rattle.named_answers.specs.declared.Telling.{Telling}
 
 -- the answer, or that memory was refused for what is told of it

@@ -5,7 +5,6 @@ use Rattle.std.proofs.lemmas.Bool.{false≢true}
 use Rattle.tree.specs.declared.kind.Span.{Span}
 use Rattle.scopes.specs.Found.{Found}
 use Rattle.rule_words.specs.Reports.{Report}
-use Rattle.rules.specs.AllRules.{finds as finds_by_name}
 use Rattle.rules.specs.RuleNames.{called, looks_at_pairs, looks_at_scopes}
 use Rattle.rules.specs.Rules.{View}
 use Rattle.rules.specs.Run.{found_by_name, found_by_names, look_at_pairs, look_at_scopes}
