@@ -154,7 +154,7 @@ async function answers(browser) {
   expect(
     'the formatted text',
     await click(browser, 'format'),
-    /^let x = \(1\);\nx;\n\{\n  let x = 2;\n  x = 3;\n\}\nfor \(y = \(a in b\) && \(c in d\);;\); \/\/ two pairs\n/
+    /^let x = \(1\);\nx;\n\{\n {2}let x = 2;\n {2}x = 3;\n\}\nfor \(y = \(a in b\) && \(c in d\);;\); \/\/ two pairs\n/
   );
   expect('the tree', await click(browser, 'tree'), /Program 0\.\.\d+[^]*body: \[/);
   expect('the cost table', await click(browser, 'cost'), /The script has \d+ grouping pairs\. No text with its tree has fewer than \d+[^]*MemberExpression/);

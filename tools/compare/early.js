@@ -88,7 +88,7 @@ function makeScript(source) {
       case 1:
         return `{ ${list(d - 1, inFunction)} }`;
       case 2:
-        return `var ${pattern(2).replace(/^[\[{].*$/s, (p) => p + ' = 1')};`;
+        return `var ${pattern(2).replace(/^[[{].*$/s, (p) => p + ' = 1')};`;
       case 3:
         return `if (${name()}) ${inner()} else ${inner()}`;
       case 4:

@@ -194,7 +194,7 @@ const use = (crates) => {
 const KINDS = fs
   .readFileSync(path.join(__dirname, '../../crates/tree/src/kind.rt'), 'utf8')
   .match(/pub enum Kind \{[^]*?\n\}/)[0]
-  .match(/^    \w+(?=,$)/gm)
+  .match(/^ {4}\w+(?=,$)/gm)
   .map((k) => k.trim());
 const parsers = relaxed().concat(
   require('./relaxed.js')
