@@ -1,9 +1,9 @@
 """Libraries that a run of `rt ci` has proved, for other clones of the same sources.
 
-    share.py keep STORE            every fifteen seconds: what runs of `rt ci` here have proved so far goes into STORE, a clone of the same commit
+    share.py keep STORE [CLONE]    every fifteen seconds: what runs of `rt ci` here have proved so far goes into STORE, a clone of the same commit
     share.py take STORE CLONE CRATE ..   these libraries, and those below them, out of STORE into CLONE
 
-`rt ci` works in a copy below /tmp, and writes no stamp. A library fits wherever the text of its crate and of all below is that of the run; `keep` compares them
+`rt ci` works in a copy below /tmp, or under some kits in CLONE itself, and writes no stamp. A library fits wherever the text of its crate and of all below is that of the run; `keep` compares them
 and writes the stamp that `rt check` then wants. `take` leaves out what CLONE has in another text.
 
 No verdict rests on such a library: `rt ci` builds its own.
@@ -58,8 +58,9 @@ def put(library, folder, stamp):
     write(f'{to}/stamp', stamp)
 
 
-def keep_once(rtlib, store, kept):
-    for made in glob.glob('/tmp/rt-copy-*/repo/crates/*/out/rlib/*.rlib/format'):
+def keep_once(rtlib, store, clone, kept):
+    copies = ['/tmp/rt-copy-*/repo'] + [glob.escape(it) for it in clone]
+    for made in (it for copy in copies for it in glob.glob(f'{copy}/crates/*/out/rlib/*.rlib/format')):
         library = os.path.dirname(made)
         name = os.path.basename(library)[:-len('.rlib')]
         room, folder = library.split('/out/')[0], f'{store}/crates/{name}'
@@ -79,12 +80,12 @@ def is_kept(crate):
     return os.path.isfile(stamp) and read(stamp) == crate.stamp()
 
 
-def keep(store):
+def keep(store, clone):
     rtlib = toolchain()
     names = [os.path.basename(it) for it in glob.glob(f'{store}/crates/*')]
     kept = {it for it in names if is_kept(crate_of(rtlib, store, it))}
     while True:
-        keep_once(rtlib, store, kept)
+        keep_once(rtlib, store, clone, kept)
         time.sleep(15)
 
 
@@ -104,8 +105,8 @@ def take(store, clone, names):
 
 def main():
     words = sys.argv[1:]
-    if words[:1] == ['keep'] and len(words) == 2:
-        keep(os.path.realpath(words[1]))
+    if words[:1] == ['keep'] and len(words) in (2, 3):
+        keep(os.path.realpath(words[1]), [os.path.realpath(it) for it in words[2:]])
     elif words[:1] == ['take'] and len(words) > 3:
         take(os.path.realpath(words[1]), os.path.realpath(words[2]), words[3:])
     else:
