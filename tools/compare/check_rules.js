@@ -28,6 +28,22 @@ const renamed = (source, text) => (source.below(2) ? text.replace(/\bb\b/g, sour
 // What may stand at a rule.
 const SEVERITIES = ['true', 'false', '"off"', '"warn"', '"error"', '0', '1', '2', '{}', '{ severity = "warn" }', '{ severity = 0 }'];
 
+// What may stand in the tables of rules beside that, right and wrong.
+const LISTS = ['[]', '["a*"]', '["*b", "x"]', '["a", "b", "c"]'];
+const OPTIONS = {
+  'no-shadow': ['allow', LISTS],
+  'no-undef': ['typeof', ['true', 'false']],
+  'no-unused-vars': ['args', ['"none"', '"after-used"', '"all"'], 'caught-errors', ['"none"', '"all"'], 'args-ignore', LISTS, 'vars-ignore', LISTS, 'caught-errors-ignore', LISTS, 'ignore-rest-siblings', ['true', 'false']],
+};
+const WRONG = ['args = "some"', 'args = true', 'typeof = 1', 'args-ignore = ["a*b"]', 'vars-ignore = "a"', 'allow = [1]', 'caught-errors = "after-used"', 'nope = 1'];
+
+// The table of a rule that has such options.
+function tableText(source, name, isWrong) {
+  const words = [`severity = ${source.pick(['"warn"', '"error"', '"off"', 'true'])}`];
+  for (let i = 0; i < OPTIONS[name].length; i += 2) if (source.below(2)) words.push(`${OPTIONS[name][i]} = ${source.pick(OPTIONS[name][i + 1])}`);
+  return `{ ${[...words, ...(isWrong ? [source.pick(WRONG)] : [])].join(', ')} }`;
+}
+
 // A settings file: mostly a right one.
 function settingsText(source) {
   const lines = [];
@@ -71,7 +87,10 @@ function settingsText(source) {
     );
   if (source.below(2)) {
     lines.push('[rules]');
-    for (const name of RULE_NAMES) if (source.below(3) === 0) lines.push(`${name} = ${source.pick(SEVERITIES)}`);
+    for (const name of RULE_NAMES) {
+      if (OPTIONS[name] && source.below(2)) lines.push(`${name} = ${tableText(source, name, wrong === 2)}`);
+      else if (source.below(3) === 0) lines.push(`${name} = ${source.pick(SEVERITIES)}`);
+    }
     if (wrong === 1) lines.push(source.pick(['no-such = true', 'no-with = 3', 'for-direction = "of"', 'for-direction = { level = 1 }']));
   }
   return lines.join('\n') + (lines.length > 0 && source.below(4) ? '\n' : '');

@@ -32,7 +32,7 @@ const LEFT_OUT = {
   literal_rules: 'specs: Laws',
   text_rules: 'specs: Laws',
   flow_rules: 'specs: Laws Steps',
-  rules: 'specs: Toml NameOrder Run RuleViews Used Nodes NodeRules Groups Refusals Lines',
+  rules: 'specs: Toml ListsShown NameOrder Run RuleViews Used Nodes NodeRules Groups Refusals Lines',
   estree_json: 'specs: Sent Primitives Table',
   regular_expressions: 'specs: Scanned',
 };
@@ -247,6 +247,14 @@ const LIBRARY = {
     (eq, l, n) => {
       for (; n !== null; l = l.t, n = n.t) if (l === null || !eq(l.h)(n.h)) return false;
       return true;
+    },
+  ],
+  ends_with: [
+    3,
+    (eq, l, needle) => {
+      const xs = toArray(l),
+        ys = toArray(needle);
+      return ys.length <= xs.length && ys.every((y, i) => eq(xs[xs.length - ys.length + i])(y));
     },
   ],
   codes: [1, codes],

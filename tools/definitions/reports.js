@@ -49,6 +49,7 @@ function plainFound(found) {
 // the crates whose definitions say what is reported
 const REPORTING = ['scopes', 'rule_words', 'node_rules', 'reference_rules', 'repetition_rules', 'flow_rules', 'literal_rules', 'text_rules', 'rules'];
 
+const texts = (names) => antt.fromArray(names.map(antt.bytes));
 const flagsOf = (environments) => Object.fromEntries([...ENVIRONMENTS.keys()].map((name) => [name, environments.includes(name)]));
 const ORDER = (a, b) =>
   a.start - b.start ||
@@ -68,16 +69,31 @@ class Reports {
       finds = spec.fn('finds', 'AllRules', 'rules');
     this.rules = antt.toArray(spec.fn('all_rules', 'RuleNames', 'rules')).map((rule) => [antt.text(called(rule)), (view) => finds(rule, view), rule]);
     this.hasGlobal = spec.fn('is_global', 'Settings', 'rules');
+    this.params = spec.fn('params_named', 'RuleOptions', 'rules');
   }
   // settings in the form of ../model/rules.js
-  settings({ rules, globals, environments, allowNull, allowComments, ignoreUnderscore }) {
+  settings({ rules, globals, environments, ...options }) {
     const at = (severity) => antt.fromArray(this.rules.filter(([name]) => rules[name] === severity).map(([, , rule]) => rule));
     return {
       errors: at('error'),
       warnings: at('warn'),
       globals: antt.fromArray([...globals].map(antt.bytes)),
       environments: flagsOf([...environments]),
-      options: { allow_null: allowNull, allow_comments: allowComments, ignore_underscore: ignoreUnderscore },
+      options: {
+        allow_null: options.allowNull,
+        allow_comments: options.allowComments,
+        ignore_underscore: options.ignoreUnderscore,
+        ignore_rest_siblings: options.ignoreRestSiblings,
+        typeof_operands: options.typeof,
+        params: this.params(antt.bytes(options.args)).a[0],
+        caught_errors: options.caughtErrors === 'all',
+      },
+      lists: {
+        args_ignore: texts(options.argsIgnore),
+        vars_ignore: texts(options.varsIgnore),
+        caught_errors_ignore: texts(options.caughtErrorsIgnore),
+        allow: texts(options.allow),
+      },
     };
   }
   // whether a name is global, with one environment on

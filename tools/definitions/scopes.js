@@ -56,6 +56,8 @@ function ofModel({ scopes, references }) {
 
 // ---------------------------------------------------------------- settings and pairs at random
 
+const namesOf = (random) => ['a', 'b*', '*c', 'x', '*'].filter((text) => random.below(text === '*' ? 20 : 5) === 0);
+
 function settingsOf(random) {
   const rules = Object.fromEntries(RULE_NAMES.map((name) => [name, ['off', 'warn', 'error'][Math.min(random.below(6), 2)]]));
   return {
@@ -65,6 +67,14 @@ function settingsOf(random) {
     allowNull: random.below(2) === 0,
     allowComments: random.below(2) === 0,
     ignoreUnderscore: random.below(2) === 0,
+    ignoreRestSiblings: random.below(2) === 0,
+    typeof: random.below(2) === 0,
+    args: ['none', 'after-used', 'all'][random.below(3)],
+    caughtErrors: ['none', 'all'][random.below(2)],
+    argsIgnore: namesOf(random),
+    varsIgnore: namesOf(random),
+    caughtErrorsIgnore: namesOf(random),
+    allow: namesOf(random),
   };
 }
 

@@ -133,8 +133,10 @@ def faults(table, value, key=''):
         if wanted.get('type') == 'object':
             yield from (it for at, each in enumerate(value) for it in faults(wanted, each, f'{key}.{at}'))
             return
-        wish = "there is no such rule" if key == "only" else f"it takes {listed(wanted['enum']) if 'enum' in wanted else 'strings'}"
+        wish = "there is no such rule" if key == "only" else f"it takes {wish_of_items(wanted)}"
         yield from (f"{key} has {in_toml(it)}: {wish}" for it in value if not fits(wanted, it))
+        if len(value) > table.get('maxItems', len(value)):
+            yield f'{key} has {len(value)} elements: it takes {table["maxItems"]} at most'
         twice = [it for at, it in enumerate(value) if it in value[:at]] if table.get('uniqueItems') else []
         yield from (f'{key} has {in_toml(it)} twice' for it in twice)
     elif 'anyOf' in table and isinstance(value, dict):
@@ -156,7 +158,15 @@ def fits(table, value):
         return any(type(it) is type(value) and it == value for it in table['enum'])
     if table['type'] == 'integer':
         return type(value) is int and table['minimum'] <= value <= table['maximum']
-    return isinstance(value, {'boolean': bool, 'string': str}.get(table['type'], ()))
+    if table['type'] == 'string' and isinstance(value, str):
+        return re.search(table.get('pattern', ''), value.replace('\n', ' ')) is not None
+    return isinstance(value, {'boolean': bool}.get(table['type'], ()))
+
+
+def wish_of_items(table):
+    if 'enum' in table:
+        return listed(table['enum'])
+    return 'strings with a * at one end at most' if 'pattern' in table else 'strings'
 
 
 def wish_of(table):

@@ -27,16 +27,22 @@ def code(texts):
     return '```js\n' + ''.join(f'{it}\n' for it in texts) + '```'
 
 
-def section_of_option(option):
-    with_it = 'it' if option.tried == option.value else f'`{option.key} = {option.tried}`'
-    return f'`{option.key} = {option.value}`: {option.reports} Right with {with_it}:\n\n{code(option.right)}'
+def setting(rule, option, value):
+    """A setting, as a document has it."""
+    return f'rules.{rule.name} = {{ {", ".join(filter(None, (option.beside, f"{option.key} = {value}")))} }}' if option.schema else f'{option.key} = {value}'
+
+
+def section_of_option(rule, option):
+    with_it = 'it' if option.tried == option.value else f'`{setting(rule, option, option.tried)}`'
+    texts = [f'{word} with {with_it}:\n\n{code(them)}' for word, them in (('Wrong', option.wrong), ('Right', option.right)) if them]
+    return '\n\n'.join([f'`{setting(rule, option, option.value)}`: {option.reports} {texts[0]}', *texts[1:]])
 
 
 def page(rule):
     """docs/rules/NAME.md"""
     parts = [f'# {rule.name}', f'{rule.description}.', rule.why, standing(rule), '## What it reports', rule.reports]
     parts += [f'Wrong, {TEXTS[rule.language]}:', code(rule.wrong), 'Right:', code(rule.right), rule.note]
-    parts += ['## Settings', *map(section_of_option, rule.options)] if rule.options else []
+    parts += ['## Settings', *(section_of_option(rule, it) for it in rule.options)] if rule.options else []
     parts += [rule.more, f'## {HEADING}', rule.differs]
     return '\n\n'.join(it for it in parts if it) + '\n'
 

@@ -43,16 +43,23 @@ MOOT = "Finds nothing in strict code"
 SEVERITY = '{ "enum": [true, false, "off", "warn", "error", 0, 1, 2] }'
 
 
+def schema_of_option(option):
+    """What the schema says of an option in the table of a rule."""
+    if not option.schema:
+        return '{ "type": "boolean" }'
+    return f'{option.schema[:-2]}, "description": {json.dumps(plain(option.description), ensure_ascii=False)} }}'
+
+
 def schema_of(name, options, is_on, description):
     """What the schema says of a rule's value: a severity, or a table that may have one, and the rule's options."""
-    keys = ', '.join([f'"severity": {SEVERITY}', *(f'"{it}": {{ "type": "boolean" }}' for it in options)])
+    keys = ', '.join([f'"severity": {SEVERITY}', *(f'"{it.key}": {schema_of_option(it)}' for it in options)])
     either = f'{SEVERITY}, {{ "type": "object", "additionalProperties": false, "properties": {{ {keys} }} }}'
     return f'        "{name}": {{ "anyOf": [{either}], "default": {str(is_on).lower()}, "description": {json.dumps(plain(description), ensure_ascii=False)} }}'
 
 
 def schema(rules, moot):
-    flags = lambda it: [each.key for each in it.options if each.value == 'true']
-    lines = [schema_of(it.name, flags(it), it.on, it.description) for it in rules] + [schema_of(it.name, [], False, f'{MOOT}: {it.description}') for it in moot]
+    own = lambda it: [each for each in it.options if each.schema or each.value == 'true']
+    lines = [schema_of(it.name, own(it), it.on, it.description) for it in rules] + [schema_of(it.name, [], False, f'{MOOT}: {it.description}') for it in moot]
     return ',\n'.join(sorted(lines)) + '\n'
 
 

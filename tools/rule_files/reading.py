@@ -1,4 +1,5 @@
 """Reads rules/NAME.toml, and refuses what isn't one: each fault by its file and key."""
+import json
 import os
 import re
 from dataclasses import dataclass
@@ -24,12 +25,16 @@ class Refused(Exception):
 
 @dataclass(frozen=True)
 class Option:
-    """A setting of a rule: its key, a value of it as an example, one with which its texts are right, and what it says."""
+    """A setting of a rule: its key, a value of it as an example, one with which its texts are right or wrong, and what it says. With a schema it
+    stands in the table of the rule alone; `beside` is what stands there with it while its texts are tried."""
     key: str
     value: str
     tried: str
+    schema: str
+    beside: str
     description: str
     reports: str
+    wrong: tuple
     right: tuple
 
 
@@ -60,7 +65,10 @@ KEYS = {
     'description': (str, False), 'summary': (str, False), 'why': (str, True), 'reports': (str, False), 'wrong': (list, False), 'right': (list, False),
     'note': (str, True), 'more': (str, True), 'differs': (str, False), 'options': (list, True),
 }
-OPTION_KEYS = {'key': (str, False), 'value': (str, False), 'tried': (str, True), 'description': (str, False), 'reports': (str, False), 'right': (list, False)}
+OPTION_KEYS = {
+    'key': (str, False), 'value': (str, False), 'tried': (str, True), 'schema': (str, True), 'beside': (str, True), 'description': (str, False), 'reports': (str, False),
+    'wrong': (list, True), 'right': (list, True),
+}
 TYPES = {str: 'a string', list: 'an array', bool: 'true or false'}
 
 
@@ -108,6 +116,25 @@ def faults_of_words(table):
     yield from (f'{it!r} is both wrong and right' for it in table['wrong'] if it in table['right'])
 
 
+def faults_of_option(option):
+    """What is wrong with an option whose keys are well."""
+    for key in ('wrong', 'right'):
+        yield from faults_of_texts(key, option.get(key, []))
+    if not option.keys() & {'wrong', 'right'}:
+        yield "there is neither 'wrong' nor 'right'"
+    if 'beside' in option and 'schema' not in option:
+        yield "'beside' is for an option that has a 'schema'"
+    try:
+        json.loads(option.get('schema', '{}'))
+    except ValueError:
+        yield "'schema' is no JSON"
+
+
+def option_of(it):
+    texts = {key: it.get(key, '').strip() for key in ('key', 'value', 'schema', 'beside', 'description', 'reports')}
+    return Option(**texts, tried=it.get('tried', it['value']), wrong=tuple(it.get('wrong', [])), right=tuple(it.get('right', [])))
+
+
 def faults_of(file, table):
     """What is wrong with a file."""
     found = [*faults_of_keys(table, KEYS)]
@@ -117,14 +144,14 @@ def faults_of(file, table):
             found.append(f"'name' is {table['name']!r}, and not that of the file")
         for option in table.get('options', []):
             own = [*faults_of_keys(option, OPTION_KEYS)] if isinstance(option, dict) else ['is no table']
-            own += [] if own else faults_of_texts('right', option['right'])
+            own += [] if own else faults_of_option(option)
             found += [f"'options', {option.get('key', '?') if isinstance(option, dict) else '?'}: {it}" for it in own]
     return found
 
 
 def rule_of(table):
     """The rule of a table without faults."""
-    options = tuple(Option(it['key'], it['value'], it.get('tried', it['value']), it['description'], it['reports'].strip(), tuple(it['right'])) for it in table.get('options', []))
+    options = tuple(option_of(it) for it in table.get('options', []))
     texts = {key: table.get(key, '').strip() for key, (type_, _) in KEYS.items() if type_ is str}
     texts['language'] = texts['language'] or 'base'
     return Rule(**texts, on=table['on'], eslint=tuple(table['eslint']), wrong=tuple(table['wrong']), right=tuple(table['right']), options=options)

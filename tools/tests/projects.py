@@ -93,6 +93,9 @@ UNFIT = [
     ('globals = "a"', 'globals = "a": it takes an array'), ('globals = ["a", 1]', 'globals has 1: it takes strings'), ('allow-null = 1', 'allow-null = 1: it takes true or false'), ('edition = 2021', 'edition = 2021: it takes 2020 or 2022'),
     ('edition = "2022"', 'edition = "2022": it takes 2020 or 2022'), ('edition = 2020.0', 'edition = 2020.0: it takes 2020 or 2022'), ('source-type = "commonjs"', 'source-type = "commonjs": it takes "script" or "module"'),
     ('edition = 2020\nsource-type = "module"', 'source-type = "module": there are none in edition = 2020'), ('"a\u202e\\n" = 1', 'a\\u{202e}\\x0a = 1: there is no such key'), ('when = 1979-05-27', 'when = "1979-05-27": there is no such key'),
+    ('rules.no-unused-vars = { args = "some" }', 'rules.no-unused-vars.args = "some": it takes "none", "after-used" or "all"'), ('rules.no-undef = { typeof = 1 }', 'rules.no-undef.typeof = 1: it takes true or false'),
+    ('rules.no-shadow = { allow = ["a*", "a*b"] }', 'rules.no-shadow.allow has "a*b": it takes strings with a * at one end at most'), ('rules.no-undef = { args = "all" }', 'rules.no-undef.args = "all": there is no such option'),
+    ('rules.no-shadow = { allow = [' + '"a", ' * 101 + '] }', 'rules.no-shadow.allow has 101 elements: it takes 100 at most'),
     ('x = "' + 'a' * 90 + '"', 'x = "' + 'a' * 59 + '\u2026: there is no such key'), ('env = [[1]]\nnope = 1', 'env has [1]: it takes "browser", "node", "commonjs", "worker", "es2022", "mocha" or "jest"'),
 ]
 

@@ -28,10 +28,11 @@ def rules():
 
 # ---- the texts, by the program
 
-def checked(room, rule, text, option=''):
-    """What the program says of a text with just this rule on, and perhaps a setting."""
+def checked(room, rule, text, option='', own=''):
+    """What the program says of a text with just this rule on, and perhaps a setting, of the document or of the rule's own."""
     off = ''.join(f'{it} = false\n' for it in sorted(ON - {rule.name}))
-    room.put('s.toml', f'{option}[rules]\n{off}{rule.name} = true\n')
+    value = f'{{ severity = true, {own} }}' if own else 'true'
+    room.put('s.toml', f'{option}[rules]\n{off}{rule.name} = {value}\n')
     room.put('a.js', text)
     return room.run(['jslint', 'check', *WORDS[rule.language], '--settings', 's.toml', 'a.js'])
 
@@ -68,11 +69,17 @@ def refused(room):
 
 
 def options(room):
-    """The texts that are right with a setting aren't reported with it, and are without."""
-    asked = [(rule, f'{it.key} = {it.tried}\n', text) for rule in rules() for it in rule.options for text in it.right]
+    """The texts that are right with a setting aren't reported with it, and are without; those that are wrong with it the other way round."""
+    asked = [(rule, it, text, is_wrong) for rule in rules() for it in rule.options for is_wrong, texts in ((False, it.right), (True, it.wrong)) for text in texts]
     is_well(len(asked) > 4, asked)
-    answers = [(rule, option, text, checked(room, rule, text), checked(room, rule, text, option)) for rule, option, text in asked]
-    same([it for it in answers if (is_reported(it[0], it[3]), is_reported(it[0], it[4])) != (True, False)], [])
+    answers = [(rule, it.key, text, is_wrong, checked(room, rule, text, '', it.beside), checked(room, rule, text, *said(it))) for rule, it, text, is_wrong in asked]
+    same([it for it in answers if (is_reported(it[0], it[4]), is_reported(it[0], it[5])) != (not it[3], it[3])], [])
+
+
+def said(option):
+    """A setting with which its texts are tried: of the document, or of the table of its rule."""
+    word = f'{option.key} = {option.tried}'
+    return ('', ', '.join(filter(None, (option.beside, word)))) if option.schema else (f'{word}\n', '')
 
 
 def version_of(text):

@@ -24,7 +24,7 @@ PLACE = 'share/jslint/jslint.schema.json'
 WORDS = {'$schema', 'title', 'description', 'default'}
 TYPES = {'object': dict, 'array': list, 'string': str, 'boolean': bool, 'integer': int}
 # Values of each kind that TOML has, but for dates.
-VALUES = ['warn', 'error', 'Off', 'warning', 1, 2, 3, -1, {'severity': 1}, {'severity': 'warning'}, {'severity': {}}, {'allow-null': 1}, {'allow-comments': True}, ['no-var'], ['no-var', 'no-var'], ['no-such'], True, False, 0, 1, 2020, 2021, -1.5, '', 'a', 'true', 'off', [], [''], ['a'], ['a', 'a'], ['a b', 'é"\\\n'], [1], [True], ['a', 1], [[]], {}, {'a': True}]
+VALUES = ['warn', 'error', 'Off', 'warning', 1, 2, 3, -1, {'severity': 1}, {'severity': 'warning'}, {'severity': {}}, {'allow-null': 1}, {'allow-comments': True}, {'args': 'some'}, {'caught-errors': 'after-used'}, {'typeof': 1}, {'args-ignore': 'a'}, {'args-ignore': ['a*b']}, {'allow': ['**']}, {'allow': ['a\n*']}, {'allow': ['a'] * 101}, ['no-var'], ['no-var', 'no-var'], ['no-such'], True, False, 0, 1, 2020, 2021, -1.5, '', 'a', 'true', 'off', [], [''], ['a'], ['a', 'a'], ['a b', 'é"\\\n'], [1], [True], ['a', 1], [[]], {}, {'a': True}]
 # Keys that others' settings have.
 FOREIGN = ['', 'extends', 'env', '$schema', 'plugins', 'ignore', 'include', 'overrides', 'format', 'parserOptions', 'severity', 'global', 'semi']
 
@@ -36,7 +36,7 @@ def schema():
 
 def is_valid(it, value):
     """Whether a schema of these few words takes a value. With another word in it, it is to be said here what that means."""
-    unknown = set(it) - WORDS - {'type', 'enum', 'items', 'properties', 'additionalProperties', 'not', 'anyOf', 'uniqueItems', '$ref', 'required', 'minimum', 'maximum'}
+    unknown = set(it) - WORDS - {'type', 'enum', 'items', 'properties', 'additionalProperties', 'not', 'anyOf', 'uniqueItems', '$ref', 'required', 'minimum', 'maximum', 'maxItems', 'pattern'}
     is_well(not unknown and it.get('additionalProperties', False) is False, unknown)
     if '$ref' in it:
         return is_valid(schema()['properties'][it['$ref'].rpartition('/')[2]], value)
@@ -48,8 +48,10 @@ def is_valid(it, value):
         return False
     if isinstance(value, list) and it.get('uniqueItems') and any(each in value[:at] for at, each in enumerate(value)):
         return False
+    if isinstance(value, str) and 'pattern' in it:
+        return re.fullmatch(it['pattern'].strip('^$'), value) is not None
     if isinstance(value, list):
-        return all(is_valid(it.get('items', {}), each) for each in value)
+        return len(value) <= it.get('maxItems', len(value)) and all(is_valid(it.get('items', {}), each) for each in value)
     if isinstance(value, dict):
         return not has_all(it.get('not'), value) and all(key in value for key in it.get('required', ())) and all(key in it['properties'] and is_valid(it['properties'][key], each) for key, each in value.items())
     return True
@@ -75,6 +77,8 @@ def samples(it):
     if it['type'] == 'object':
         keys, needed = it['properties'], {key: samples(it['properties'][key])[-1] for key in it.get('required', ())}
         return [needed, *({**needed, key: one} for key in keys for one in samples(keys[key])), {key: samples(keys[key])[-1] for key in keys}]
+    if 'pattern' in it:
+        return ['', 'a', '_*', '*b', '*', 'a\n*']
     return [True, False] if it['type'] == 'boolean' else ['', 'a', 'two words', 'é"\\\n\U0001f600']
 
 

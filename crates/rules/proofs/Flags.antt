@@ -1,5 +1,5 @@
 -- The flags of bindings: each binding has its own.
-use Rattle.std.proofs.Common.{◌≡◌, ℕ, zero, suc, ◌+◌, ◌<◌, ◌≤◌, Bool, true, false, nat_eq, List, [], ◌∷◌, ◌++◌, length, get_or, set, replicate, Option, Some, map, take, option_map, slice_get, refl, sym, ap, ap₂, ◌∙◌, add-one, arith, inl, inr, subst, subst₂, add-zero, zero-add, length-set, get_or-set_same, get_or-set_other, eq-eqb, eqb-true}
+use Rattle.std.proofs.Common.{◌≡◌, ℕ, zero, suc, ◌+◌, ◌<◌, ◌≤◌, Bool, true, false, nat_eq, List, [], ◌∷◌, ◌++◌, length, get_or, set, replicate, Option, Some, map, take, option_map, slice_get, cond, refl, sym, ap, ap₂, ◌∙◌, add-one, arith, inl, inr, subst, subst₂, add-zero, zero-add, length-set, get_or-set_same, get_or-set_other, eq-eqb, eqb-true}
 use Rattle.std.specs.Prelude.{◌&&◌, ◌||◌}
 use Rattle.std.specs.List.{list_any}
 use Rattle.std.proofs.lemmas.Bool.{cases_lt, cases_eq, and_from, and_parts, or_right, false_from_ne_true}
@@ -10,8 +10,9 @@ use Rattle.scopes.specs.Found.{Reference, Scope}
 use Rattle.rules.specs.declared.bindings.BindingRule.{BindingRule}
 use Rattle.rules.specs.declared.bindings.BindingRule.TheVariants.{Shadow, Unused, Constant}
 use Rattle.rules.specs.declared.used_bindings.UsedBindings.{UsedBindings}
-use Rattle.rule_words.specs.Reports.{Report}
-use Rattle.rules.specs.Rules.{means, of_bindings, of_const, of_scopes, of_unused, uses}
+use Rattle.rule_words.specs.Reports.{Report, report, quoted}
+use Rattle.rules.specs.Rules.{is_param, is_unused, means, of_bindings, of_const, of_scopes, of_unused, reads_param, uses}
+use Rattle.rules.specs.Settings.{Settings}
 use Rattle.rules.specs.Used.{HasBinding, IsLaidOut, Notes, binding_count, bindings_before, first_flags, flag_index, is_marked, of_binding}
 
 pub before-more : (n : ℕ) (ss : List Scope) → bindings_before (suc n) ss ≡ bindings_before n ss + binding_count ss n
@@ -154,22 +155,35 @@ any-turn p f xs i d l = any-push p (map f (take i xs)) (f (get_or xs i d)) ∙ a
 
 -- What is said of bindings, by what is said of each.
 
-bindings-same : (f g : ℕ × ℕ → Binding → List Report) (n k : ℕ) (bs : List Binding) → ((i : ℕ) (b : Binding) → i < length bs → f (n, k + i) b ≡ g (n, k + i) b) → of_bindings f n k bs ≡ of_bindings g n k bs
+bindings-same : (f g : ℕ × ℕ → Binding → List Binding → List Report) (n k : ℕ) (bs : List Binding)
+    → ((i : ℕ) (b : Binding) (cs : List Binding) → i + suc (length cs) ≡ length bs → f (n, k + i) b cs ≡ g (n, k + i) b cs) → of_bindings f n k bs ≡ of_bindings g n k bs
 bindings-same f g n k [] h = refl
-bindings-same f g n k (b ∷ bs) h = ap₂ (λ xs ys. xs ++ ys) (subst (λ j. f (n, j) b ≡ g (n, j) b) (add-zero k) (h 0 b (omega arith)))
-    (bindings-same f g n (k + 1) bs (λ i c l. subst (λ j. f (n, j) c ≡ g (n, j) c) (omega arith) (h (suc i) c (omega (arith, l)))))
+bindings-same f g n k (b ∷ bs) h = ap₂ (λ xs ys. xs ++ ys) (subst (λ j. f (n, j) b bs ≡ g (n, j) b bs) (add-zero k) (h 0 b bs (omega arith)))
+    (bindings-same f g n (k + 1) bs (λ i c cs l. subst (λ j. f (n, j) c cs ≡ g (n, j) c cs) (omega arith) (h (suc i) c cs (omega (arith, l)))))
 
-scopes-same : (f g : ℕ × ℕ → Binding → List Report) (k : ℕ) (ss : List Scope) → ((n i : ℕ) (b : Binding) → i < binding_count ss n → f (k + n, i) b ≡ g (k + n, i) b) → of_scopes f k ss ≡ of_scopes g k ss
+scopes-same : (f g : ℕ × ℕ → Binding → List Binding → List Report) (k : ℕ) (ss : List Scope)
+    → ((n i : ℕ) (b : Binding) (cs : List Binding) → i + suc (length cs) ≡ binding_count ss n → f (k + n, i) b cs ≡ g (k + n, i) b cs) → of_scopes f k ss ≡ of_scopes g k ss
 scopes-same f g k [] h = refl
 scopes-same f g k (s ∷ ss) h =
-    ap₂ (λ xs ys. xs ++ ys) (bindings-same f g k 0 s.bindings (λ i b l. subst₂ (λ j x. f (j, x) b ≡ g (j, x) b) (add-zero k) (sym (zero-add i)) (h 0 i b l)))
-    (scopes-same f g (k + 1) ss (λ n i b l. subst (λ j. f (j, i) b ≡ g (j, i) b) (omega arith) (h (suc n) i b l)))
+    ap₂ (λ xs ys. xs ++ ys) (bindings-same f g k 0 s.bindings (λ i b cs l. subst₂ (λ j x. f (j, x) b cs ≡ g (j, x) b cs) (add-zero k) (sym (zero-add i)) (h 0 i b cs l)))
+    (scopes-same f g (k + 1) ss (λ n i b cs l. subst (λ j. f (j, i) b cs ≡ g (j, i) b cs) (omega arith) (h (suc n) i b cs l)))
+
+-- parameters are read by flags as by references
+params-same : (ss : List Scope) (u : UsedBindings) (p : ℕ × ℕ → Bool) → Notes ss p u → (n i : ℕ) (bs : List Binding) → i + length bs ≤ binding_count ss n → reads_param (is_marked u) n i bs ≡ reads_param p n i bs
+params-same ss u p notes n i [] l = refl
+params-same ss u p notes n i (b ∷ bs) l =
+    ap₂ (λ x y. (is_param b.kind && x) || y) (notes.marked (n, i) (omega (arith, l))) (params-same ss u p notes n (i + 1) bs (omega (arith, l)))
 
 -- by flags, the same is said as by references
-pub said-same : (rule : BindingRule) (ss : List Scope) (u : UsedBindings) (p : ℕ × ℕ → Bool) → Notes ss p u → of_scopes (of_binding rule (is_marked u)) 0 ss ≡ of_scopes (of_binding rule p) 0 ss
-said-same rule ss u p notes = scopes-same (of_binding rule (is_marked u)) (of_binding rule p) 0 ss (λ n i b l. one rule (0 + n, i) b (subst (λ j. is_marked u (j, i) ≡ p (j, i)) (sym (zero-add n)) (notes.marked (n, i) l)))
+pub said-same : (rule : BindingRule) (s : Settings) (alone marked : ℕ → Bool) (ss : List Scope) (u : UsedBindings) (p : ℕ × ℕ → Bool) → ((at : ℕ) → marked at ≡ alone at) → Notes ss p u
+    → of_scopes (of_binding rule s marked (is_marked u)) 0 ss ≡ of_scopes (of_binding rule s alone p) 0 ss
+said-same rule s alone marked ss u p same notes =
+    scopes-same (of_binding rule s marked (is_marked u)) (of_binding rule s alone p) 0 ss (λ n i b cs l. subst (λ j. of_binding rule s marked (is_marked u) (j, i) b cs ≡ of_binding rule s alone p (j, i) b cs) (sym (zero-add n)) (one rule n i b cs l))
   where
-    one : (rule : BindingRule) (m : ℕ × ℕ) (b : Binding) → is_marked u m ≡ p m → of_binding rule (is_marked u) m b ≡ of_binding rule p m b
-    one Shadow m b e = refl
-    one (Unused ignore) m b e = ap (λ x. of_unused ignore (λ k. x) m b) e
-    one Constant m b e = ap (λ x. of_const (λ k. x) m b) e
+    one : (rule : BindingRule) (n i : ℕ) (b : Binding) (cs : List Binding) → i + suc (length cs) ≡ binding_count ss n → of_binding rule s marked (is_marked u) (n, i) b cs ≡ of_binding rule s alone p (n, i) b cs
+    one Shadow n i b cs l = refl
+    one Unused n i b cs l =
+        ap (λ a. of_unused s (λ at. a) (is_marked u) (n, i) b cs) (same b.start)
+        ∙ ap₂ (λ x y. cond (is_unused s (alone b.start) x y b) (report "no-unused-vars" b.start b.stop (quoted b.name "is never read") ∷ []) []) (notes.marked (n, i) (omega (arith, l)))
+        (params-same ss u p notes n (i + 1) cs (omega (arith, l)))
+    one Constant n i b cs l = ap (λ x. of_const (λ k. x) (n, i) b) (notes.marked (n, i) (omega (arith, l)))

@@ -1,5 +1,5 @@
 -- Lists of names: what a test of their elements says, and one more name.
-use Rattle.std.proofs.Common.{◌≡◌, ℕ, suc, ◌+◌, ◌<◌, List, [], ◌∷◌, Option, Some, None, String, Global, map, option_map, option_and_then, length, drop, get_or, refl, sym, ap, ◌∙◌, add-one, string_bytes}
+use Rattle.std.proofs.Common.{◌≡◌, ℕ, suc, ◌+◌, ◌<◌, Bool, List, [], ◌∷◌, Option, Some, None, String, Global, map, option_map, option_and_then, length, drop, get_or, refl, sym, ap, ◌∙◌, add-one, string_bytes}
 use Rattle.std.specs.Prelude.{◌||◌}
 use Rattle.std.specs.List.{list_any}
 use Rattle.std.specs.Str.{bytes_eq}
@@ -26,6 +26,11 @@ bytes_of_three : (o : Ordering) (a b c : List (String Global)) → map string_by
 bytes_of_three Less a b c = refl
 bytes_of_three Equal a b c = refl
 bytes_of_three Greater a b c = refl
+
+-- a test of strings, by their bytes
+pub any_mapped : (test : List ℕ → Bool) (ks : List (String Global)) → list_any (λ k. test (string_bytes k)) ks ≡ list_any test (map string_bytes ks)
+any_mapped test [] = refl
+any_mapped test (k ∷ ks) = ap (λ b. test (string_bytes k) || b) (any_mapped test ks)
 
 -- one more key of a set is one more name
 pub bytes_inserted : (ks : List (String Global)) (k : String Global) → map string_bytes (insert_key string_cmp ks k) ≡ insert_key (slice_cmp nat_cmp) (map string_bytes ks) (string_bytes k)

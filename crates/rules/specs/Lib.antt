@@ -6,8 +6,11 @@ pub mod Environments
 pub mod Languages
 pub mod RuleNames
 pub mod Severities
+pub mod NamePatterns
 pub mod RuleOptions
+pub mod ListsShown
 pub mod Settings
+pub mod LeftAlone
 pub mod Rules
 pub mod AllRules
 pub mod Toml

@@ -24,7 +24,14 @@ use Rattle.rule_words.specs.Reports.{Report, report, quoted}
 use Rattle.node_rules.specs.Found.{found_by_rule}
 use Rattle.node_rules.specs.declared.node_rule.NodeOptions.{NodeOptions}
 use Rattle.node_rules.specs.declared.node_rule.NodeRule.{NodeRule}
+use Rattle.rules.specs.LeftAlone.{is_left_alone}
+use Rattle.rules.specs.RuleOptions.{is_listed}
 use Rattle.rules.specs.Settings.{Settings, is_global}
+use Rattle.rules.specs.declared.name_lists.NameList.{NameList}
+use Rattle.rules.specs.declared.name_lists.NameList.TheVariants.{ArgsIgnore, VarsIgnore, CaughtErrorsIgnore, Allow}
+use Rattle.rules.specs.declared.rule_option.CheckedParams.{CheckedParams}
+use Rattle.rules.specs.declared.rule_option.CheckedParams.TheVariants.{NoParams, AfterUsed, AllParams}
+use Rattle.rules.specs.declared.rule_option.RuleOptions.{RuleOptions}
 
 -- what rules look at: the script, its text, its scopes, the spans of the extra pairs, the settings
 pub record View : Type 0 where
@@ -85,8 +92,12 @@ on_texts rule v = found_by_text_rule v.text rule v.tree
 abbrev pub is_known : Bool → Settings → List ℕ → Bool
 is_known of_2022 s text = is_built_in_for of_2022 text || is_global text s
 
+-- an operand of `typeof` may be undefined, unless the settings say otherwise
+abbrev pub may_be_undefined : Settings → Reference → Bool
+may_be_undefined s r = r.typeof_operand && not s.options.typeof_operands
+
 abbrev pub of_undefined : Bool → Settings → Reference → List Report
-of_undefined of_2022 s r = cond (is_none r.meaning && not (r.typeof_operand || is_known of_2022 s r.name)) (report "no-undef" r.start r.stop (quoted r.name "is not defined") ∷ []) []
+of_undefined of_2022 s r = cond (is_none r.meaning && not (may_be_undefined s r || is_known of_2022 s r.name)) (report "no-undef" r.start r.stop (quoted r.name "is not defined") ∷ []) []
 
 abbrev pub each_undefined : Bool → Settings → List Reference → List Report
 each_undefined of_2022 s [] = []
@@ -95,16 +106,16 @@ each_undefined of_2022 s (r ∷ rs) = of_undefined of_2022 s r ++ each_undefined
 abbrev pub no_undef : View → List Report
 no_undef v = each_undefined (is_of_2022 v.tree) v.settings v.found.references
 
--- what is said of each binding, by what it is called in `meaning`
-abbrev pub of_bindings : (ℕ × ℕ → Binding → List Report) → ℕ → ℕ → List Binding → List Report
+-- what is said of each binding, by what it is called in `meaning` and by the bindings behind it in its scope
+abbrev pub of_bindings : (ℕ × ℕ → Binding → List Binding → List Report) → ℕ → ℕ → List Binding → List Report
 of_bindings f n i [] = []
-of_bindings f n i (b ∷ bs) = f (n, i) b ++ of_bindings f n (i + 1) bs
+of_bindings f n i (b ∷ bs) = f (n, i) b bs ++ of_bindings f n (i + 1) bs
 
-abbrev pub of_scopes : (ℕ × ℕ → Binding → List Report) → ℕ → List Scope → List Report
+abbrev pub of_scopes : (ℕ × ℕ → Binding → List Binding → List Report) → ℕ → List Scope → List Report
 of_scopes f n [] = []
 of_scopes f n (s ∷ ss) = of_bindings f n 0 s.bindings ++ of_scopes f (n + 1) ss
 
-abbrev pub over_bindings : (ℕ × ℕ → Binding → List Report) → View → List Report
+abbrev pub over_bindings : (ℕ × ℕ → Binding → List Binding → List Report) → View → List Report
 over_bindings f v = of_scopes f 0 v.found.scopes
 
 abbrev pub means : Reference → ℕ × ℕ → Bool
@@ -128,24 +139,53 @@ is_itself ClassName = true
 is_itself _ = false
 
 -- the script's scope has none round it, so nothing in it shadows
-abbrev pub of_shadow : Binding → List Report
-of_shadow b = cond (b.shadows && not (is_itself b.kind)) (report "no-shadow" b.start b.stop (quoted b.name "shadows an outer name") ∷ []) []
+abbrev pub of_shadow : Settings → Binding → List Report
+of_shadow s b = cond (b.shadows && not (is_itself b.kind || is_listed s.lists Allow b.name)) (report "no-shadow" b.start b.stop (quoted b.name "shadows an outer name") ∷ []) []
 
-abbrev pub is_for_reading : BindingKind → Bool
-is_for_reading Param = false
-is_for_reading Catch = false
-is_for_reading FunctionName = false
-is_for_reading ClassName = false
-is_for_reading _ = true
+abbrev pub is_param : BindingKind → Bool
+is_param Param = true
+is_param _ = false
+
+-- references read a parameter that is one of these bindings; the first stands at this place of its scope
+abbrev pub reads_param : (ℕ × ℕ → Bool) → ℕ → ℕ → List Binding → Bool
+reads_param read n i [] = false
+reads_param read n i (b ∷ bs) = (is_param b.kind && read (n, i)) || reads_param read n (i + 1) bs
+
+-- a parameter is there to be read, by whether one behind it is read
+abbrev pub is_param_for_reading : CheckedParams → Bool → Bool
+is_param_for_reading NoParams is_behind = false
+is_param_for_reading AfterUsed is_behind = not is_behind
+is_param_for_reading AllParams is_behind = true
+
+abbrev pub is_for_reading : RuleOptions → Bool → BindingKind → Bool
+is_for_reading o is_behind Param = is_param_for_reading o.params is_behind
+is_for_reading o is_behind Catch = o.caught_errors
+is_for_reading o is_behind FunctionName = false
+is_for_reading o is_behind ClassName = false
+is_for_reading o is_behind _ = true
+
+-- which list has the names of a kind that are ignored
+abbrev pub ignoring : BindingKind → NameList
+ignoring Param = ArgsIgnore
+ignoring Catch = CaughtErrorsIgnore
+ignoring _ = VarsIgnore
 
 abbrev pub begins_with_underscore : List ℕ → Bool
 begins_with_underscore [] = false
 begins_with_underscore (c ∷ cs) = nat_eq c 95
 
--- by which bindings are read; what is exported may be read elsewhere
-abbrev pub of_unused : Bool → (ℕ × ℕ → Bool) → ℕ × ℕ → Binding → List Report
-of_unused ignore read m b =
-    cond (is_for_reading b.kind && (not (read m || b.exported) && not (ignore && begins_with_underscore b.name)))
+-- a name that the settings say may stay unread
+abbrev pub is_ignored : Settings → Binding → Bool
+is_ignored s b = (s.options.ignore_underscore && begins_with_underscore b.name) || is_listed s.lists (ignoring b.kind) b.name
+
+-- by whether it is left alone for its place, whether it is read, and whether a parameter behind it is; what is exported may be read elsewhere
+abbrev pub is_unused : Settings → (is_alone is_read is_behind : Bool) → Binding → Bool
+is_unused s is_alone is_read is_behind b = is_for_reading s.options is_behind b.kind && (not (is_read || b.exported) && not (is_ignored s b || is_alone))
+
+-- by which identifiers are left alone, which bindings are read, and which stand behind this one
+abbrev pub of_unused : Settings → (ℕ → Bool) → (ℕ × ℕ → Bool) → ℕ × ℕ → Binding → List Binding → List Report
+of_unused s alone read m b bs =
+    cond (is_unused s (alone b.start) (read m) (reads_param read m.0 (m.1 + 1) bs) b)
     (report "no-unused-vars" b.start b.stop (quoted b.name "is never read") ∷ []) []
 
 abbrev pub is_let : BindingKind → Bool
@@ -157,10 +197,10 @@ abbrev pub of_const : (ℕ × ℕ → Bool) → ℕ × ℕ → Binding → List 
 of_const written m b = cond (is_let b.kind && (b.settled && not (written m))) (report "prefer-const" b.start b.stop (quoted b.name "is never reassigned") ∷ []) []
 
 abbrev pub no_shadow : View → List Report
-no_shadow v = over_bindings (λ m b. of_shadow b) v
+no_shadow v = over_bindings (λ m b bs. of_shadow v.settings b) v
 
 abbrev pub no_unused_vars : View → List Report
-no_unused_vars v = over_bindings (of_unused v.settings.options.ignore_underscore (is_used false v.found.references)) v
+no_unused_vars v = over_bindings (of_unused v.settings (is_left_alone v.settings.options v.tree) (is_used false v.found.references)) v
 
 abbrev pub prefer_const : View → List Report
-prefer_const v = over_bindings (of_const (is_used true v.found.references)) v
+prefer_const v = over_bindings (λ m b bs. of_const (is_used true v.found.references) m b) v

@@ -6,11 +6,12 @@ use Rattle.rules.specs.declared.environment.Environments.{Environments}
 use Rattle.rules.specs.Environments.{has_name as is_of_environment}
 use Rattle.rules.specs.RuleNames.{has_name, is_rule}
 use Rattle.rules.specs.declared.rule_list.RuleName.{RuleName}
+use Rattle.rules.specs.RuleOptions.{NameLists}
 use Rattle.rules.specs.declared.rule_option.RuleOptions.{RuleOptions}
 use Rattle.rules.specs.declared.languages.Languages.{Languages}
 
 -- the rules whose reports are errors; those whose reports are warnings; the global names, in order of their bytes, each once; the environments; the languages that a
--- script may be in; the options of rules
+-- script may be in; the options of rules, and their lists of names
 pub record Settings : Type 0 where
   pub errors : List RuleName
   pub warnings : List RuleName
@@ -18,6 +19,7 @@ pub record Settings : Type 0 where
   pub environments : Environments
   pub languages : Languages
   pub options : RuleOptions
+  pub lists : NameLists
 
 -- the reports of a rule of this name are warnings
 abbrev pub is_warning : List ℕ → Settings → Bool

@@ -10,12 +10,18 @@ use Rattle.std.specs.Ordering.{nat_cmp}
 use Rattle.std.specs.Str.{bytes_eq}
 use Rattle.language.specs.Vocabulary.{is}
 use Rattle.rules.specs.RuleNames.{all_rules, called, has_name, is_known, rules_in, set_named}
-use Rattle.rules.specs.RuleOptions.{is_option, key_of, rule_of}
+use Rattle.rules.specs.NamePatterns.{is_pattern}
+use Rattle.rules.specs.RuleOptions.{NameLists, caught_named, is_list, is_option, key_of, list_key_of, list_rule_of, params_named, rule_of}
 use Rattle.rules.specs.Severities.{is_severity, narrowed, severity_named, severity_numbered, severity_of_flag}
 use Rattle.rules.specs.declared.rule_list.RuleName.{RuleName}
+use Rattle.rules.specs.declared.rule_list.RuleName.TheVariants.{NoUnusedVars}
 use Rattle.rules.specs.declared.rule_option.RuleOption.{RuleOption}
-use Rattle.rules.specs.declared.rule_option.RuleOption.TheVariants.{AllowNull, AllowComments, IgnoreUnderscore}
+use Rattle.rules.specs.declared.rule_option.RuleOption.TheVariants.{AllowNull, AllowComments, IgnoreUnderscore, IgnoreRestSiblings, Typeof}
+use Rattle.rules.specs.declared.rule_option.CheckedParams.{CheckedParams}
+use Rattle.rules.specs.declared.rule_option.CheckedParams.TheVariants.{NoParams}
 use Rattle.rules.specs.declared.rule_option.RuleOptions.{RuleOptions}
+use Rattle.rules.specs.declared.name_lists.NameList.{NameList}
+use Rattle.rules.specs.declared.name_lists.NameList.TheVariants.{ArgsIgnore, VarsIgnore, CaughtErrorsIgnore, Allow}
 use Rattle.rules.specs.declared.rule_set.RuleSet.{RuleSet}
 use Rattle.rules.specs.declared.rule_set.RuleSet.TheVariants.{Nine}
 use Rattle.rules.specs.declared.severity.Severity.{Severity}
@@ -89,9 +95,43 @@ severity_said d = option_map_or (λ is_on. Some (severity_of_flag is_on)) (as_bo
 abbrev pub severity_at : Data → Option Severity
 severity_at d = option_map_or (λ ms. option_and_then severity_said (get_member (codes "severity") ms)) (as_table d) (severity_said d)
 
--- the table of a rule may have a severity and the options of the rule, each true or false
+-- an option of a rule that is true or false
+abbrev pub fits_flag : List ℕ → List ℕ → Data → Bool
+fits_flag rule key d = is_option rule key && is_some (as_bool d)
+
+-- one that is a word
+abbrev pub params_said : Data → Option CheckedParams
+params_said d = option_and_then params_named (as_str d)
+
+abbrev pub caught_said : Data → Option Bool
+caught_said d = option_and_then caught_named (as_str d)
+
+abbrev pub fits_word : List ℕ → List ℕ → Data → Bool
+fits_word rule key d = is rule "no-unused-vars" && ((is key "args" && is_some (params_said d)) || (is key "caught-errors" && is_some (caught_said d)))
+
+abbrev pub item_count : Items → ℕ
+item_count no_items = zero
+item_count (item d xs) = suc (item_count xs)
+
+-- a text that stands for names
+abbrev pub is_pattern_said : Data → Bool
+is_pattern_said d = option_map_or is_pattern (as_str d) false
+
+abbrev pub all_patterns : Items → Bool
+all_patterns no_items = true
+all_patterns (item d xs) = is_pattern_said d && all_patterns xs
+
+-- not more than a hundred of them, since each is held against each name
+abbrev pub are_patterns : Items → Bool
+are_patterns xs = nat_le (item_count xs) 100 && all_patterns xs
+
+-- a list of names
+abbrev pub fits_list : List ℕ → List ℕ → Data → Bool
+fits_list rule key d = is_list rule key && option_map_or are_patterns (as_array d) false
+
+-- the table of a rule may have a severity and the options of the rule, each with a value that it takes
 abbrev pub fits_key : List ℕ → List ℕ → Data → Bool
-fits_key rule key d = cond (is key "severity") (is_some (severity_said d)) (is_option rule key && is_some (as_bool d))
+fits_key rule key d = cond (is key "severity") (is_some (severity_said d)) (fits_flag rule key d || (fits_word rule key d || fits_list rule key d))
 
 abbrev pub fits_table : List ℕ → Members → Bool
 fits_table rule no_members = true
@@ -124,10 +164,6 @@ value_of_rule rule ms = option_and_then (λ d. option_and_then (get_member rule)
 abbrev pub set_of_rules : Option Data → Option RuleSet
 set_of_rules None = Some Nine
 set_of_rules (Some d) = option_and_then set_named (as_str d)
-
-abbrev pub item_count : Items → ℕ
-item_count no_items = zero
-item_count (item d xs) = suc (item_count xs)
 
 -- the names in an array are those of rules, and none occurs twice
 abbrev pub are_names : List (List ℕ) → Items → Bool
@@ -166,24 +202,58 @@ all_at severity set only ms = rules_at severity (severity_of set only ms) all_ru
 
 -- ---- options
 
+-- what the table of a rule has at a key
+abbrev pub value_in_rule : RuleName → List ℕ → Members → Option Data
+value_in_rule rule key ms = option_and_then (λ d. option_and_then (get_member key) (as_table d)) (value_of_rule (called rule) ms)
+
 -- an option in the table of its rule
 abbrev pub option_in_rule : RuleOption → Members → Option Bool
-option_in_rule o ms = option_and_then as_bool (option_and_then (λ d. option_and_then (get_member (key_of o)) (as_table d)) (value_of_rule (called (rule_of o)) ms))
+option_in_rule o ms = option_and_then as_bool (value_in_rule (rule_of o) (key_of o) ms)
 
 -- an option: what the table of its rule says, else what its own key says, else it is off
 abbrev pub option_of : RuleOption → Members → Option Bool
 option_of o ms = option_map (unwrap_or (option_in_rule o ms)) (flag_of (get_member (key_of o) ms))
 
+-- one that has no key of its own
+abbrev pub flag_in_rule : RuleOption → Members → Bool
+flag_in_rule o ms = unwrap_or (option_in_rule o ms) false
+
+-- options by a word
+abbrev pub params_of : Members → CheckedParams
+params_of ms = unwrap_or (option_and_then params_said (value_in_rule NoUnusedVars (codes "args") ms)) NoParams
+
+abbrev pub caught_of : Members → Bool
+caught_of ms = unwrap_or (option_and_then caught_said (value_in_rule NoUnusedVars (codes "caught-errors") ms)) false
+
 abbrev pub options_of : Members → Option RuleOptions
-options_of ms = option_and_then (λ a. option_and_then (λ c. option_map (λ u. record { allow_null = a; allow_comments = c; ignore_underscore = u })
-    (option_of IgnoreUnderscore ms)) (option_of AllowComments ms)) (option_of AllowNull ms)
+options_of ms = option_and_then (λ a. option_and_then (λ c. option_map (λ u. record {
+      allow_null = a;
+      allow_comments = c;
+      ignore_underscore = u;
+      ignore_rest_siblings = flag_in_rule IgnoreRestSiblings ms;
+      typeof_operands = flag_in_rule Typeof ms;
+      params = params_of ms;
+      caught_errors = caught_of ms;
+    }) (option_of IgnoreUnderscore ms)) (option_of AllowComments ms)) (option_of AllowNull ms)
+
+-- the strings in an array
+abbrev pub strings_in : Items → List (List ℕ)
+strings_in no_items = []
+strings_in (item d xs) = option_map_or (λ w. w ∷ strings_in xs) (as_str d) (strings_in xs)
+
+-- a list in the table of its rule
+abbrev pub list_of : NameList → Members → List (List ℕ)
+list_of list ms = option_map_or strings_in (option_and_then as_array (value_in_rule (list_rule_of list) (list_key_of list) ms)) []
+
+abbrev pub lists_of : Members → NameLists
+lists_of ms = record { args_ignore = list_of ArgsIgnore ms; vars_ignore = list_of VarsIgnore ms; caught_errors_ignore = list_of CaughtErrorsIgnore ms; allow = list_of Allow ms }
 
 -- ---- settings
 
 -- the settings of a document whose keys and rules fit
 abbrev pub settings_with : List RuleName → Option (List (List ℕ)) → Members → Option Settings
 settings_with set only ms =
-    option_and_then (λ g. option_and_then (λ e. option_and_then (λ l. option_map (λ o. record { errors = all_at Error set only ms; warnings = all_at Warn set only ms; globals = g; environments = e; languages = l; options = o })
+    option_and_then (λ g. option_and_then (λ e. option_and_then (λ l. option_map (λ o. record { errors = all_at Error set only ms; warnings = all_at Warn set only ms; globals = g; environments = e; languages = l; options = o; lists = lists_of ms })
     (options_of ms)) (languages_of ms)) (environments_of (get_member (codes "env") ms)))
     (globals_of (get_member (codes "globals") ms))
 

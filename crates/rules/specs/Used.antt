@@ -1,12 +1,16 @@
 -- Bindings that references use, as the code keeps them: a flag for each binding, those of a scope behind those of the scopes before it.
-use Rattle.std.specs.Prelude.{◌≡◌, ◌+◌, ◌<◌, ℕ, zero, suc, Bool, false, List, [], ◌∷◌, ◌++◌, length, get_or}
+use Rattle.std.specs.Prelude.{◌≡◌, ◌+◌, ◌<◌, ℕ, zero, suc, Bool, true, false, List, [], ◌∷◌, ◌++◌, length, get_or, nat_eq}
+use Rattle.std.specs.List.{list_any}
 use Rattle.scopes.specs.Bindings.{Binding}
 use Rattle.scopes.specs.Found.{Scope}
 use Rattle.rules.specs.declared.bindings.BindingRule.{BindingRule}
 use Rattle.rules.specs.declared.bindings.BindingRule.TheVariants.{Shadow, Unused, Constant}
+use Rattle.rules.specs.declared.rule_option.CheckedParams.{CheckedParams}
+use Rattle.rules.specs.declared.rule_option.CheckedParams.TheVariants.{AfterUsed}
 use Rattle.rules.specs.declared.used_bindings.UsedBindings.{UsedBindings}
 use Rattle.rule_words.specs.Reports.{Report}
 use Rattle.rules.specs.Rules.{of_const, of_shadow, of_unused}
+use Rattle.rules.specs.Settings.{Settings}
 
 -- the index of a scope's first flag; behind all flags where there is no such scope
 abbrev pub first_flag : UsedBindings → ℕ → ℕ
@@ -48,8 +52,26 @@ pub record Notes (ss : List Scope) (used : ℕ × ℕ → Bool) (u : UsedBinding
   pub laid_out : IsLaidOut ss (length ss) u
   pub marked : (m : ℕ × ℕ) → HasBinding ss m → is_marked u m ≡ used m
 
+abbrev pub is_after_used : CheckedParams → Bool
+is_after_used AfterUsed = true
+is_after_used _ = false
+
+-- a number is one of these
+abbrev pub is_in : List ℕ → ℕ → Bool
+is_in xs at = list_any (nat_eq at) xs
+
 -- what a rule that looks at bindings says of one
-abbrev pub of_binding : BindingRule → (ℕ × ℕ → Bool) → ℕ × ℕ → Binding → List Report
-of_binding Shadow used m b = of_shadow b
-of_binding (Unused ignore) used m b = of_unused ignore used m b
-of_binding Constant used m b = of_const used m b
+abbrev pub of_binding : BindingRule → Settings → (ℕ → Bool) → (ℕ × ℕ → Bool) → ℕ × ℕ → Binding → List Binding → List Report
+of_binding Shadow s alone used m b bs = of_shadow s b
+of_binding Unused s alone used m b bs = of_unused s alone used m b bs
+of_binding Constant s alone used m b bs = of_const used m b
+
+-- a rule asks which bindings are written, and not which are read
+abbrev pub asks_writes : BindingRule → Bool
+asks_writes Constant = true
+asks_writes _ = false
+
+-- a rule looks at the parameters behind a binding
+abbrev pub looks_behind : BindingRule → Settings → Bool
+looks_behind Unused s = is_after_used s.options.params
+looks_behind _ s = false

@@ -3,8 +3,9 @@
 ghost use Rattle.std.specs.Prelude.{◌≡◌, option_and_then, option_map};
 ghost use Rattle.toml.specs.Data.{as_table, get_member};
 ghost use Rattle.toml.specs.View.{table_view, view};
-ghost use Rattle.rules.specs.Toml.{value_of_rule};
+ghost use Rattle.rules.specs.Toml.{value_in_rule, value_of_rule};
 
+use crate::rule_list::RuleName;
 use toml::{Table, Value};
 
 /// What stands at a key.
@@ -30,6 +31,16 @@ pub(crate) fn value_of_rule<'t>(table: &'t Table, rule: &str) -> Option<&'t Valu
 {
     match look(table, "rules") {
         Some(rules) => look_in(rules, rule),
+        None => None,
+    }
+}
+
+/// What the table of a rule has at a key.
+pub(crate) fn value_in_rule<'t>(table: &'t Table, rule: RuleName, key: &str) -> Option<&'t Value>
+    ensures { option_map (λ v. view v.now) result ≡ value_in_rule rule key.now (table_view table.now) }
+{
+    match value_of_rule(table, rule.as_str()) {
+        Some(value) => look_in(value, key),
         None => None,
     }
 }

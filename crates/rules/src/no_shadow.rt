@@ -6,21 +6,23 @@ ghost use Rattle.rule_words.specs.Appends.{Grows};
 ghost use Rattle.rules.specs.Rules.{is_itself, of_shadow};
 
 use crate::bindings::{BindingRule, BindingWalk, push_bindings, push_named};
+use crate::name_lists::NameList;
 use crate::rule::Rule;
 use crate::used_bindings::UsedBindings;
 use crate::view::View;
 use rule_words::Report;
 use scopes::{Binding, BindingKind};
 use std::alloc::{AllocError, Global};
+use std::collections::BTreeSet;
 
 /// Reports each binding whose name a scope further out declares, at its first declaring identifier; not the own name of a
-/// function expression or of a class.
+/// function expression or of a class, and none that the settings' `allow` has.
 ///
 /// Wrong: `let a; { let a; }`, `let a; function f(a) {}`, `function f() { let f; }`. Right: `let a; { let b; }`,
-/// `let a; (function a() {});`, `{ let a; } { let a; }`.
+/// `let a; (function a() {});`, `{ let a; } { let a; }`, and the first with `allow = ["a"]`.
 ///
 /// ESLint's rule doesn't report where the outer name is declared further down, unless that is a function; here the order
-/// doesn't matter. It has options for built-in names and for names that may be hidden; there are none here.
+/// doesn't matter. It has an option for built-in names too; there is none here.
 #[derive(Drop)]
 pub struct NoShadow {
     alloc: Global,
@@ -58,23 +60,26 @@ impl Rule for NoShadow {
         let walk = BindingWalk {
             rule: BindingRule::Shadow,
             alloc: self.alloc,
-            used: &UsedBindings::new(self.alloc),
+            settings: view.settings,
+            alone: &BTreeSet::new(self.alloc),
         };
-        push_bindings(walk, scopes, out)
+        push_bindings(walk, &UsedBindings::new(self.alloc), scopes, out)
     }
 }
 
 /// Appends a report of a binding that hides another.
 pub(crate) fn push_shadow(
-    alloc: Global,
+    walk: BindingWalk,
     binding: Binding,
     out: &mut Vec<Report>,
 ) -> Result<(), AllocError>
-    ensures found { OnOk result (out.new.items ≡ out.old.items ++ of_shadow (shown binding.entry)) }
+    ensures found { OnOk result (out.new.items ≡ out.old.items ++ of_shadow walk.entry.settings.now (shown binding.entry)) }
     ensures kept { Grows out.old.items out.new.items }
 {
-    if binding.shadows && !is_itself(binding.kind) {
-        push_named(alloc, NoShadow::NAME, binding, "shadows an outer name", out)
+    if binding.shadows
+        && !(is_itself(binding.kind) || walk.settings.is_listed(NameList::Allow, binding.name))
+    {
+        push_named(walk.alloc, NoShadow::NAME, binding, "shadows an outer name", out)
     } else {
         Ok(())
     }

@@ -4,10 +4,11 @@ ghost use Rattle.std.specs.Prelude.{◌≡◌, ◌++◌, ◌∷◌, [], cond, ma
 ghost use Rattle.scopes.specs.Shown.{reference_shown};
 ghost use Rattle.rule_words.specs.Appends.{Grows};
 ghost use Rattle.tree.specs.Node.{node_tree};
-ghost use Rattle.rules.specs.Rules.{each_undefined, is_of_2022, of_undefined};
+ghost use Rattle.rules.specs.Rules.{each_undefined, is_of_2022, may_be_undefined, of_undefined};
 ghost use Rattle.rules.specs.Nodes.{undefined_at};
 
 use crate::rule::Rule;
+use crate::rule_option::RuleOption;
 use crate::settings::Settings;
 use crate::view::View;
 use reference_rules::is_built_in_for;
@@ -17,14 +18,13 @@ use std::alloc::{AllocError, Global};
 use tree::{Node, Span};
 
 /// Reports each reference that means no binding of the script and whose name is neither built in (ECMA-262 clause 18) nor
-/// one of the settings' `globals`, at its start; not the operand of a `typeof`.
+/// one of the settings' `globals`, at its start; not the operand of a `typeof`, unless the settings' `typeof` asks for it.
 ///
 /// Wrong: `a;`, `a = 1;`, `typeof a.b;`, `{ let b; } b;`. Right: `let a; a;`, `typeof a;`, `Math.max(1, 2);`,
 /// `function f() { arguments; }`, and `a;` with `globals = ["a"]`.
 ///
-/// ESLint's rule takes global names from its configuration and from comments as `/* global a */`, and looks at operands of
-/// `typeof` where its option says so. Here the settings alone name them, and only the names of ECMAScript are built in:
-/// `window`, `process` and `console` are not.
+/// ESLint's rule takes global names from its configuration and from comments as `/* global a */`. Here the settings alone name them, and
+/// only the names of ECMAScript are built in: `window`, `process` and `console` are not.
 #[derive(Drop)]
 pub struct NoUndef {
     alloc: Global,
@@ -121,12 +121,19 @@ fn push_undefined(
     push_report(alloc, NoUndef::NAME, span, text, out)
 }
 
-/// Whether a reference has no binding and no built-in or global of its name, and is no operand of `typeof`.
+/// Whether a reference may be undefined: as an operand of `typeof`, unless the settings ask for those.
+fn may_be_undefined(known: KnownNames, reference: Reference) -> bool
+    ensures { result ≡ may_be_undefined known.entry.settings.now (reference_shown reference.entry) }
+{
+    reference.typeof_operand && !known.settings.has_option(RuleOption::Typeof)
+}
+
+/// Whether a reference has no binding and no built-in or global of its name, and may not be undefined.
 fn is_undefined(known: KnownNames, reference: Reference) -> bool
     ensures { of_undefined known.entry.is_2022 known.entry.settings.now (reference_shown reference.entry) ≡ cond result (undefined_at (reference_shown reference.entry) ∷ []) [] }
 {
     reference.meaning.is_none()
-        && !(reference.typeof_operand
+        && !(may_be_undefined(known, reference)
             || is_built_in_for(known.is_2022, reference.name)
             || known.settings.is_global(reference.name))
 }

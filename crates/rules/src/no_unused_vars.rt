@@ -1,27 +1,35 @@
 //! `no-unused-vars`: no names that nothing reads.
 
-ghost use Rattle.std.specs.Prelude.{◌≡◌, ◌++◌, ℕ, Bool, OnOk};
+ghost use Rattle.std.specs.Prelude.{◌≡◌, ◌+◌, ◌++◌, ℕ, Bool, List, true, OnOk};
+ghost use Rattle.scopes.specs.Bindings.{Binding as Declared};
 ghost use Rattle.scopes.specs.Shown.{shown};
 ghost use Rattle.rule_words.specs.Appends.{Grows};
-ghost use Rattle.rules.specs.Rules.{begins_with_underscore, is_for_reading, of_unused};
+ghost use Rattle.rules.specs.Rules.{begins_with_underscore, ignoring, is_for_reading, is_ignored, is_param_for_reading, is_unused, of_unused, reads_param};
+ghost use Rattle.rules.specs.Used.{is_after_used, is_in};
 
-use crate::bindings::{BindingRule, push_by_use, push_named};
+use crate::bindings::{BindingRule, BindingWalk, push_by_use, push_named};
+use crate::left_alone::left_alone;
+use crate::name_lists::NameList;
 use crate::rule::Rule;
-use crate::rule_option::RuleOption;
+use crate::rule_option::{CheckedParams, RuleOptions};
+use crate::settings::Settings;
 use crate::view::View;
 use rule_words::Report;
 use scopes::{Binding, BindingKind};
 use std::alloc::{AllocError, Global};
+use std::collections::BTreeSet;
 
 /// Reports each binding by `var`, `let`, `const` or an import, each function and each class that no reference reads, at its
-/// first declaring identifier, unless the module exports it. Where the settings have `ignore-underscore`, a name that begins with `_` isn't reported.
+/// first declaring identifier, unless the module exports it; of parameters and of what `catch` binds those that the settings' `args` and
+/// `caught-errors` ask for. Not reported are names that the settings ignore, the parameter of a setter, and by `ignore-rest-siblings`
+/// properties beside a rest element.
 ///
-/// Wrong: `let a = 1;`, `let a; a = 1;`, `function f() {}`, `const { a, b } = c; a;` (of `b`). Right: `let a = 1; f(a);`,
-/// `let a = 1; a += 1;`, `function f(a) {} f();`, `try {} catch (e) {}`, and `let _a;` with `ignore-underscore`.
+/// Wrong: `let a = 1;`, `let a; a = 1;`, `function f() {}`, `const { a, b } = c; a;` (of `b`), and `(a, b) => a;` with `args = "after-used"`.
+/// Right: `let a = 1; f(a);`, `let a = 1; a += 1;`, `function f(a) {} f();`, `try {} catch (e) {}`, `let _a;` with `ignore-underscore`,
+/// and `(a, b) => b;` with `args = "after-used"`.
 ///
-/// ESLint's rule reports parameters and what `catch` binds too, and doesn't count a read that only serves to write the
-/// same name (`a += 1`, `a++`) or that stands in the function itself. Here every read counts, parameters and `catch`
-/// aren't reported, and there are no options but `ignore-underscore`.
+/// ESLint's rule doesn't count a read that only serves to write the same name (`a += 1`, `a++`) or that stands in the function itself.
+/// Here every read counts. What settings ignore are names with at most a `*` at one end, and no regular expressions.
 #[derive(Drop)]
 pub struct NoUnusedVars {
     alloc: Global,
@@ -56,49 +64,90 @@ impl Rule for NoUnusedVars {
         let Some(scopes) = view.scopes else {
             return Ok(());
         };
-        push_by_use(
-            BindingRule::Unused {
-                ignore_underscore: view.settings.has_option(RuleOption::IgnoreUnderscore),
-            },
-            self.alloc,
-            false,
-            scopes,
-            out,
-        )
+        let walk = BindingWalk {
+            rule: BindingRule::Unused,
+            alloc: self.alloc,
+            settings: view.settings,
+            alone: &left_alone(self.alloc, view.settings.options(), view.program)?,
+        };
+        push_by_use(walk, scopes, out)
     }
 }
 
-/// Appends a report of a binding that nothing reads.
+/// Appends a report of a binding that nothing reads, if it is there to be read. `is_behind`: a parameter behind it is read, where `args`
+/// asks for that.
 pub(crate) fn push_unused(
-    alloc: Global,
-    ignore: bool,
+    walk: BindingWalk,
     is_read: bool,
+    is_behind: bool,
     binding: Binding,
     out: &mut Vec<Report>,
 ) -> Result<(), AllocError>
-    ensures found { (read : ℕ × ℕ → Bool) → (m : ℕ × ℕ) → read m ≡ is_read → OnOk result (out.new.items ≡ out.old.items ++ of_unused ignore read m (shown binding.entry)) }
+    ensures found { (read : ℕ × ℕ → Bool) (m : ℕ × ℕ) (bs : List Declared) → read m ≡ is_read → (is_after_used walk.entry.settings.now.options.params ≡ true → reads_param read m.0 (m.1 + 1) bs ≡ is_behind) → OnOk result (out.new.items ≡ out.old.items ++ of_unused walk.entry.settings.now (is_in walk.entry.alone.now.keys) read m (shown binding.entry) bs) }
     ensures kept { Grows out.old.items out.new.items }
 {
-    if is_for_reading(binding.kind)
-        && !(is_read || binding.exported)
-        && !(ignore && begins_with_underscore(binding.name))
-    {
-        push_named(alloc, NoUnusedVars::NAME, binding, "is never read", out)
+    if is_unused(walk, is_read, is_behind, binding) {
+        push_named(walk.alloc, NoUnusedVars::NAME, binding, "is never read", out)
     } else {
         Ok(())
     }
 }
 
-/// Whether a binding of this kind is there to be read: a parameter, what `catch` binds and a function's own name needn't be.
-fn is_for_reading(kind: BindingKind) -> bool
-    ensures { result ≡ is_for_reading kind }
+/// Whether a binding is to be reported.
+fn is_unused(walk: BindingWalk, is_read: bool, is_behind: bool, binding: Binding) -> bool
+    ensures { result ≡ is_unused walk.entry.settings.now (is_in walk.entry.alone.now.keys binding.entry.start) is_read is_behind (shown binding.entry) }
+{
+    is_for_reading(walk.settings.options(), is_behind, binding.kind)
+        && !(is_read || binding.exported)
+        && !(is_ignored(walk.settings, binding) || is_in(walk.alone, binding.start))
+}
+
+/// Whether an offset is one of these.
+fn is_in(starts: &BTreeSet<usize>, start: usize) -> bool
+    ensures { result ≡ is_in starts.now.keys start }
+{
+    starts.contains(&start)
+}
+
+/// Whether the settings say that a name may stay unread.
+fn is_ignored(settings: &Settings, binding: Binding) -> bool
+    ensures { result ≡ is_ignored settings.now (shown binding.entry) }
+{
+    (settings.options().ignore_underscore && begins_with_underscore(binding.name))
+        || settings.is_listed(ignoring(binding.kind), binding.name)
+}
+
+/// The list of the names of a kind that are ignored.
+fn ignoring(kind: BindingKind) -> NameList
+    ensures { result ≡ ignoring kind }
 {
     match kind {
-        BindingKind::Param
-        | BindingKind::Catch
-        | BindingKind::FunctionName
-        | BindingKind::ClassName => false,
+        BindingKind::Param => NameList::ArgsIgnore,
+        BindingKind::Catch => NameList::CaughtErrorsIgnore,
+        _ => NameList::VarsIgnore,
+    }
+}
+
+/// Whether a binding of this kind is there to be read; a function's own name needn't be.
+fn is_for_reading(options: RuleOptions, is_behind: bool, kind: BindingKind) -> bool
+    ensures { result ≡ is_for_reading options is_behind kind }
+{
+    match kind {
+        BindingKind::Param => is_param_for_reading(options.params, is_behind),
+        BindingKind::Catch => options.caught_errors,
+        BindingKind::FunctionName | BindingKind::ClassName => false,
         _ => true,
+    }
+}
+
+/// Whether a parameter is there to be read.
+fn is_param_for_reading(params: CheckedParams, is_behind: bool) -> bool
+    ensures { result ≡ is_param_for_reading params is_behind }
+{
+    match params {
+        CheckedParams::NoParams => false,
+        CheckedParams::AfterUsed => !is_behind,
+        CheckedParams::AllParams => true,
     }
 }
 

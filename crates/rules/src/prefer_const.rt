@@ -5,12 +5,13 @@ ghost use Rattle.scopes.specs.Shown.{shown};
 ghost use Rattle.rule_words.specs.Appends.{Grows};
 ghost use Rattle.rules.specs.Rules.{is_let, of_const};
 
-use crate::bindings::{BindingRule, push_by_use, push_named};
+use crate::bindings::{BindingRule, BindingWalk, push_by_use, push_named};
 use crate::rule::Rule;
 use crate::view::View;
 use rule_words::Report;
 use scopes::{Binding, BindingKind};
 use std::alloc::{AllocError, Global};
+use std::collections::BTreeSet;
 
 /// Reports each `let` binding that no reference writes and that has a value from the start: its declarator has an
 /// initialiser or stands in the head of a for-in or for-of. At its first declaring identifier; not in the head of a plain
@@ -55,7 +56,13 @@ impl Rule for PreferConst {
         let Some(scopes) = view.scopes else {
             return Ok(());
         };
-        push_by_use(BindingRule::Constant, self.alloc, true, scopes, out)
+        let walk = BindingWalk {
+            rule: BindingRule::Constant,
+            alloc: self.alloc,
+            settings: view.settings,
+            alone: &BTreeSet::new(self.alloc),
+        };
+        push_by_use(walk, scopes, out)
     }
 }
 

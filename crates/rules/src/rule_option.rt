@@ -1,7 +1,7 @@
 //! Options of rules.
 
 ghost use Rattle.std.specs.Prelude.{◌≡◌};
-ghost use Rattle.rules.specs.RuleOptions.{is_option};
+ghost use Rattle.rules.specs.RuleOptions.{caught_named, is_option};
 
 use crate::rule_list::RuleName;
 use node_rules::NodeRule;
@@ -15,13 +15,19 @@ pub enum RuleOption {
     AllowComments,
     /// `no-unused-vars` leaves names alone that begin with `_`.
     IgnoreUnderscore,
+    /// `no-unused-vars` leaves properties alone that stand beside a rest element.
+    IgnoreRestSiblings,
+    /// `no-undef` looks at operands of `typeof` too.
+    Typeof,
 }
 
 /// The options.
-const OPTIONS: [RuleOption; 3] = [
+const OPTIONS: [RuleOption; 5] = [
     RuleOption::AllowNull,
     RuleOption::AllowComments,
     RuleOption::IgnoreUnderscore,
+    RuleOption::IgnoreRestSiblings,
+    RuleOption::Typeof,
 ];
 
 impl RuleOption {
@@ -36,6 +42,8 @@ impl RuleOption {
             RuleOption::AllowNull => "allow-null",
             RuleOption::AllowComments => "allow-comments",
             RuleOption::IgnoreUnderscore => "ignore-underscore",
+            RuleOption::IgnoreRestSiblings => "ignore-rest-siblings",
+            RuleOption::Typeof => "typeof",
         }
     }
 
@@ -46,7 +54,8 @@ impl RuleOption {
         match self {
             RuleOption::AllowNull => RuleName::OnNodes(NodeRule::EqEqEq),
             RuleOption::AllowComments => RuleName::OnNodes(NodeRule::NoEmpty),
-            RuleOption::IgnoreUnderscore => RuleName::NoUnusedVars,
+            RuleOption::IgnoreUnderscore | RuleOption::IgnoreRestSiblings => RuleName::NoUnusedVars,
+            RuleOption::Typeof => RuleName::NoUndef,
         }
     }
 }
@@ -59,12 +68,63 @@ pub(crate) fn is_option(rule: &str, key: &str) -> bool
     OPTIONS.iter().any(|option| rule == option.rule().as_str() && key == option.key())
 }
 
-/// Which options are on.
+/// Which parameters `no-unused-vars` looks at.
+#[derive(Clone, Copy, Debug, PartialEq, Eq)]
+pub enum CheckedParams {
+    /// None.
+    NoParams,
+    /// Those behind the last one that is read.
+    AfterUsed,
+    /// All.
+    AllParams,
+}
+
+impl CheckedParams {
+    ghost use Rattle.std.specs.Prelude.{◌≡◌};
+    ghost use Rattle.rules.specs.RuleOptions.{params_named};
+    ghost use Rattle.rules.specs.Used.{is_after_used};
+
+    /// What settings call so, if there is such a word.
+    pub(crate) fn named(name: &str) -> Option<CheckedParams>
+        ensures { result ≡ params_named name.now }
+    {
+        match name {
+            "none" => Some(CheckedParams::NoParams),
+            "after-used" => Some(CheckedParams::AfterUsed),
+            "all" => Some(CheckedParams::AllParams),
+            _ => None,
+        }
+    }
+
+    /// Whether it is those behind the last one that is read.
+    pub(crate) fn is_after_used(self) -> bool
+        ensures { result ≡ is_after_used self }
+    {
+        matches!(self, CheckedParams::AfterUsed)
+    }
+}
+
+/// Whether `no-unused-vars` looks at what `catch` binds, by the word in settings, if there is such a word.
+pub(crate) fn caught_named(name: &str) -> Option<bool>
+    ensures { result ≡ caught_named name.now }
+{
+    match name {
+        "none" => Some(false),
+        "all" => Some(true),
+        _ => None,
+    }
+}
+
+/// Which options are on, and the words of others.
 #[derive(Clone, Copy, Debug, PartialEq, Eq)]
 pub struct RuleOptions {
     pub(crate) allow_null: bool,
     pub(crate) allow_comments: bool,
     pub(crate) ignore_underscore: bool,
+    pub(crate) ignore_rest_siblings: bool,
+    pub(crate) typeof_operands: bool,
+    pub(crate) params: CheckedParams,
+    pub(crate) caught_errors: bool,
 }
 
 impl RuleOptions {
@@ -79,6 +139,8 @@ impl RuleOptions {
             RuleOption::AllowNull => self.allow_null,
             RuleOption::AllowComments => self.allow_comments,
             RuleOption::IgnoreUnderscore => self.ignore_underscore,
+            RuleOption::IgnoreRestSiblings => self.ignore_rest_siblings,
+            RuleOption::Typeof => self.typeof_operands,
         }
     }
 }

@@ -3,13 +3,15 @@
 ghost use Rattle.std.specs.Prelude.{◌≡◌, IfOk, codes, option_map, string_bytes, map};
 ghost use Rattle.std.specs.List.{list_all};
 ghost use Rattle.toml.specs.View.{table_view, view};
-ghost use Rattle.rules.specs.Toml.{all_at, fits_key, fits_rule, fits_table, flag_of, is_setting, knows_rules, narrowed_to, option_in_rule, option_of, options_of, rules_at, rules_fit, said_of, severity_at, severity_of, severity_said};
+ghost use Rattle.rules.specs.Toml.{all_at, caught_of, caught_said, fits_flag, fits_key, fits_list, fits_rule, fits_table, fits_word, flag_in_rule, flag_of, is_setting, knows_rules, narrowed_to, option_in_rule, option_of, options_of, params_of, params_said, rules_at, rules_fit, said_of, severity_at, severity_of, severity_said};
 ghost use Rattle.toml.specs.Data.{get_member};
 
 use crate::known_keys::{is_known, is_one_of};
-use crate::look_up::{look, look_in, value_of_rule};
+use crate::listed_names::may_be_list;
+use crate::look_up::{look, value_in_rule, value_of_rule};
+use crate::name_lists::is_list;
 use crate::rule_list::{RULES, RuleName};
-use crate::rule_option::{RuleOption, RuleOptions, is_option};
+use crate::rule_option::{CheckedParams, RuleOption, RuleOptions, caught_named, is_option};
 use crate::settings::is_among_names;
 use crate::severity::Severity;
 use std::alloc::{AllocError, Global};
@@ -45,6 +47,29 @@ fn severity_at(value: &Value) -> Option<Severity>
     }
 }
 
+/// Whether a rule has an option at this key that takes this value, true or false.
+fn fits_flag(rule: &str, key: &str, value: &Value) -> bool
+    ensures { result ≡ fits_flag rule.now key.now (view value.now) }
+{
+    is_option(rule, key) && value.as_bool().is_some()
+}
+
+/// Whether a rule has an option at this key that takes this value, a word.
+fn fits_word(rule: &str, key: &str, value: &Value) -> bool
+    ensures { result ≡ fits_word rule.now key.now (view value.now) }
+{
+    rule == "no-unused-vars"
+        && ((key == "args" && params_said(value).is_some())
+            || (key == "caught-errors" && caught_said(value).is_some()))
+}
+
+/// Whether a rule has a list at this key that may be this value.
+fn fits_list(rule: &str, key: &str, value: &Value) -> bool
+    ensures { result ≡ fits_list rule.now key.now (view value.now) }
+{
+    is_list(rule, key) && may_be_list(value)
+}
+
 /// Whether the table of a rule may have this value at this key.
 fn fits_key(rule: &str, key: &str, value: &Value) -> bool
     ensures { result ≡ fits_key rule.now key.now (view value.now) }
@@ -52,7 +77,7 @@ fn fits_key(rule: &str, key: &str, value: &Value) -> bool
     if key == "severity" {
         return severity_said(value).is_some();
     }
-    is_option(rule, key) && value.as_bool().is_some()
+    fits_flag(rule, key, value) || fits_word(rule, key, value) || fits_list(rule, key, value)
 }
 
 /// Whether the table of a rule may have all these entries.
@@ -205,12 +230,20 @@ fn flag(table: &Table, key: &str) -> Option<bool>
 fn option_in_rule(table: &Table, option: RuleOption) -> Option<bool>
     ensures { result ≡ option_in_rule option (table_view table.now) }
 {
-    let Some(rule) = value_of_rule(table, option.rule().as_str()) else {
-        return None;
-    };
-    match look_in(rule, option.key()) {
+    match value_in_rule(table, option.rule(), option.key()) {
         Some(value) => value.as_bool(),
         None => None,
+    }
+}
+
+/// An option that has no key of its own.
+fn flag_in_rule(table: &Table, option: RuleOption) -> bool
+    ensures { result ≡ flag_in_rule option (table_view table.now) }
+{
+    let said = option_in_rule(table, option);
+    match said {
+        Some(flag) => flag,
+        None => false,
     }
 }
 
@@ -224,6 +257,54 @@ fn option_of(table: &Table, option: RuleOption) -> Option<bool>
     match option_in_rule(table, option) {
         Some(flag) => Some(flag),
         None => Some(flag),
+    }
+}
+
+/// The word for the parameters that a value says.
+fn params_said(value: &Value) -> Option<CheckedParams>
+    ensures { result ≡ params_said (view value.now) }
+{
+    match value.as_str() {
+        Some(name) => CheckedParams::named(name),
+        None => None,
+    }
+}
+
+/// The parameters that `no-unused-vars` looks at.
+fn params_of(table: &Table) -> CheckedParams
+    ensures { result ≡ params_of (table_view table.now) }
+{
+    let said = match value_in_rule(table, RuleName::NoUnusedVars, "args") {
+        Some(value) => params_said(value),
+        None => None,
+    };
+    match said {
+        Some(params) => params,
+        None => CheckedParams::NoParams,
+    }
+}
+
+/// Whether what `catch` binds is looked at, by a word that a value says.
+fn caught_said(value: &Value) -> Option<bool>
+    ensures { result ≡ caught_said (view value.now) }
+{
+    match value.as_str() {
+        Some(name) => caught_named(name),
+        None => None,
+    }
+}
+
+/// Whether `no-unused-vars` looks at what `catch` binds.
+fn caught_of(table: &Table) -> bool
+    ensures { result ≡ caught_of (table_view table.now) }
+{
+    let said = match value_in_rule(table, RuleName::NoUnusedVars, "caught-errors") {
+        Some(value) => caught_said(value),
+        None => None,
+    };
+    match said {
+        Some(is_looked_at) => is_looked_at,
+        None => false,
     }
 }
 
@@ -244,5 +325,9 @@ pub(crate) fn options_of(table: &Table) -> Option<RuleOptions>
         allow_null,
         allow_comments,
         ignore_underscore,
+        ignore_rest_siblings: flag_in_rule(table, RuleOption::IgnoreRestSiblings),
+        typeof_operands: flag_in_rule(table, RuleOption::Typeof),
+        params: params_of(table),
+        caught_errors: caught_of(table),
     })
 }

@@ -8,6 +8,7 @@ use crate::environment::Environments;
 use crate::known_keys::{is_one_of, is_rule};
 use crate::languages::Languages;
 use crate::rule_list::RuleName;
+use crate::name_lists::{NameList, NameLists};
 use crate::rule_option::{RuleOption, RuleOptions};
 use std::collections::BTreeSet;
 use std::marker::Model;
@@ -20,7 +21,7 @@ pub(crate) fn is_among_names(name: &str, names: &BTreeSet<String>) -> bool
 }
 
 /// Which rules are on, and whether their reports are errors or warnings, which names a script may use without declaring them, in which
-/// environments it runs, in which languages it may be, and the options of rules.
+/// environments it runs, in which languages it may be, and the options of rules, with their lists of names.
 ///
 /// The global names stand in a tree by order, not by hash: settings may be a stranger's, who could choose names that hash
 /// alike.
@@ -32,26 +33,29 @@ pub struct Settings {
     environments: Environments,
     languages: Languages,
     options: RuleOptions,
+    lists: NameLists,
 }
 
 impl Model for Settings {
     ghost use Rattle.std.specs.Prelude.{map, string_bytes};
+    ghost use Rattle.rules.specs.ListsShown.{lists_shown};
     ghost use Rattle.rules.specs.Settings.{Settings};
 
     ghost Value = { Settings };
 
-    ghost view = { λ s. record { errors = s.errors.items; warnings = s.warnings.items; globals = map string_bytes s.globals.keys; environments = s.environments; languages = s.languages; options = s.options } };
+    ghost view = { λ s. record { errors = s.errors.items; warnings = s.warnings.items; globals = map string_bytes s.globals.keys; environments = s.environments; languages = s.languages; options = s.options; lists = lists_shown s.lists } };
 }
 
 impl Settings {
     ghost use Rattle.std.specs.Prelude.{◌≡◌, map, string_bytes};
     ghost use Rattle.std.specs.List.{list_any};
     ghost use Rattle.std.specs.Str.{bytes_eq};
-    ghost use Rattle.rules.specs.RuleOptions.{has_option};
+    ghost use Rattle.rules.specs.ListsShown.{lists_shown};
+    ghost use Rattle.rules.specs.RuleOptions.{has_option, is_listed};
     ghost use Rattle.rules.specs.Settings.{is_global, is_on, is_warning};
 
-    /// Settings with these rules on, whose reports are errors or warnings, these globals, these environments, these languages and these
-    /// options.
+    /// Settings with these rules on, whose reports are errors or warnings, these globals, these environments, these languages, these
+    /// options and these lists.
     pub(crate) fn new(
         errors: Vec<RuleName>,
         warnings: Vec<RuleName>,
@@ -59,8 +63,9 @@ impl Settings {
         environments: Environments,
         languages: Languages,
         options: RuleOptions,
+        lists: NameLists,
     ) -> Settings
-        ensures { result ≡ record { errors = errors.items; warnings = warnings.items; globals = map string_bytes globals.keys; environments = environments; languages = languages; options = options } }
+        ensures { result ≡ record { errors = errors.items; warnings = warnings.items; globals = map string_bytes globals.keys; environments = environments; languages = languages; options = options; lists = lists_shown lists } }
     {
         Settings {
             errors,
@@ -69,6 +74,7 @@ impl Settings {
             environments,
             languages,
             options,
+            lists,
         }
     }
 
@@ -112,5 +118,19 @@ impl Settings {
         ensures { result ≡ has_option self.now.options option }
     {
         self.options.has(option)
+    }
+
+    /// The options of rules.
+    pub(crate) fn options(&self) -> RuleOptions
+        ensures { result ≡ self.now.options }
+    {
+        self.options
+    }
+
+    /// Whether a text in a list of a rule stands for a name.
+    pub fn is_listed(&self, list: NameList, name: &str) -> bool
+        ensures { result ≡ is_listed self.now.lists list name.now }
+    {
+        self.lists.is_listed(list, name)
     }
 }

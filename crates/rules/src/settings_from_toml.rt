@@ -12,6 +12,7 @@ ghost use Rattle.rules.specs.Refusals.{IsRefusal, IsTomlRefusal};
 use crate::environment::{Environment, Environments};
 use crate::known_keys::{is_known, knows_keys};
 use crate::languages::Languages;
+use crate::listed_names::lists_of;
 use crate::look_up::look;
 use crate::rule_set::RuleSet;
 use crate::rule_settings::{all_at, options_of, rules_fit};
@@ -225,7 +226,8 @@ fn settings_with(
     let rules = set.rules();
     let errors = all_at(alloc, Severity::Error, rules, only, table)?;
     let warnings = all_at(alloc, Severity::Warn, rules, only, table)?;
-    Ok(Settings::new(errors, warnings, globals, environments, languages, options))
+    let lists = lists_of(alloc, table)?;
+    Ok(Settings::new(errors, warnings, globals, environments, languages, options, lists))
 }
 
 /// The settings that a table gives; refused if it has another key or value.
@@ -251,7 +253,7 @@ impl Settings {
 
     /// The settings of a TOML text: `extends`, the name of a set of rules, which are on: "nine", "recommended", "all" or "none"; `rules`, a
     /// table of names of rules, each with a severity, by its name, its number, true or false, or with a table that may have a `severity` and the
-    /// options of the rule; `only`, an array of names of rules: they are on, and no others; `globals`, an array of strings; `env`, an array of
+    /// options of the rule, as `docs/USAGE.md` has them; `only`, an array of names of rules: they are on, and no others; `globals`, an array of strings; `env`, an array of
     /// names of environments; `edition`, 2020 or 2022, and `source-type`, "script" or "module", where there are no modules of 2020;
     /// `allow-null`, `allow-comments` and `ignore-underscore`, each true or false, unless the table of the rule has it; each key at most once.
     /// Where nothing is said, the nine are on, their reports are errors, and there are no globals and no environments; a script may be in any
