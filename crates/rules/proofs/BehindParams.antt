@@ -1,11 +1,11 @@
 -- The place behind the last parameter of a scope that is read.
-use Rattle.std.proofs.Common.{◌≡◌, ℕ, zero, suc, ◌+◌, ◌<◌, ◌≤◌, Bool, true, false, cond, List, [], ◌∷◌, length, get_or, drop, refl, sym, ap, ap₂, ◌∙◌, add-one, arith, inl, inr}
+use Rattle.std.proofs.Common.{◌≡◌, ℕ, zero, suc, ◌+◌, ◌<◌, ◌≤◌, Bool, true, false, List, length, get_or, drop, refl, sym, ap, ◌∙◌, add-one, arith, inl, inr}
 use Rattle.std.specs.Prelude.{◌&&◌, ◌||◌, nat_lt}
 use Rattle.std.proofs.Math.Seq.{drop-cons}
 use Rattle.std.proofs.lemmas.Bool.{cases_lt, lt-ltb, le-ltb}
 use Rattle.std.proofs.lemmas.List.{drop_all}
 use Rattle.scopes.specs.declared.binding.Binding.{Binding as CodeBinding}
-use Rattle.scopes.specs.Shown.{all_shown, shown}
+use Rattle.scopes.specs.Shown.{all_shown}
 use Rattle.rules.specs.Rules.{is_param, reads_param}
 
 -- from a place on, a parameter is read
@@ -45,6 +45,7 @@ behind-read read n xs k behind d l it so = record { within = omega arith; told =
   where
     here : reads_from read n xs k ≡ true
     here = reads-step read n xs k d l ∙ ap (λ b. b || reads_from read n xs (k + 1)) it
+
     all : (i : ℕ) → i ≤ k + 1 → reads_from read n xs i ≡ (nat_lt i (k + 1) || reads_from read n xs (k + 1))
     all i m = elim (cases_lt i (k + 1)) [
       | inl before ↦ so.told i (omega (arith, before)) ∙ ap (λ b. nat_lt i behind || b) here ∙ or-true (nat_lt i behind) ∙ sym (ap (λ b. b || reads_from read n xs (k + 1)) (lt-ltb i (k + 1) before))
@@ -58,6 +59,7 @@ behind-other read n xs k behind d l it so = record { within = omega (arith, so.w
   where
     here : reads_from read n xs k ≡ reads_from read n xs (k + 1)
     here = reads-step read n xs k d l ∙ ap (λ b. b || reads_from read n xs (k + 1)) it
+
     all : (i : ℕ) → i ≤ k + 1 → reads_from read n xs i ≡ (nat_lt i behind || reads_from read n xs (k + 1))
     all i m = elim (cases_lt i (k + 1)) [
       | inl before ↦ so.told i (omega (arith, before)) ∙ ap (λ b. nat_lt i behind || b) here

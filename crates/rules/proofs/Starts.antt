@@ -1,31 +1,16 @@
 -- Offsets in a list, and as a set.
-use Rattle.std.proofs.Common.{◌≡◌, ℕ, zero, suc, ◌+◌, ◌<◌, ◌≤◌, Bool, true, false, cond, List, [], ◌∷◌, ◌++◌, length, get_or, drop, Some, refl, sym, ap, ◌∙◌, add-one, arith, append-nil, append_assoc, eqb-true, eq-eqb}
-use Rattle.std.specs.Prelude.{◌||◌, ◌==◌, nat_eq, nat_lt, slice_get}
-use Rattle.std.specs.BTreeMap.{is_at}
+use Rattle.std.proofs.Common.{◌≡◌, ℕ, suc, ◌+◌, ◌<◌, ◌≤◌, Bool, true, false, cond, List, [], ◌∷◌, ◌++◌, length, get_or, drop, Some, refl, sym, ap, ◌∙◌, add-one, append-nil, append_assoc, eqb-true}
+use Rattle.std.specs.Prelude.{◌||◌, nat_eq, nat_lt, slice_get}
 use Rattle.std.specs.BTreeSet.{insert_key}
 use Rattle.std.specs.List.{list_any}
-use Rattle.std.specs.Ordering.{is_eq, match_ordering, nat_cmp}
+use Rattle.std.specs.Ordering.{match_ordering, nat_cmp}
 use Rattle.std.specs.declared.cmp.Ordering.TheVariants.{Less, Equal, Greater}
 use Rattle.std.proofs.Math.Seq.{drop-cons}
-use Rattle.std.proofs.lemmas.Bool.{false_from_ne_true, ltb-true}
 use Rattle.std.proofs.lemmas.List.{drop_all}
 use Rattle.std.proofs.lemmas.Option.{get_or_from_slice_get, slice_get_within}
 use Rattle.tree.specs.Tree.{Tree}
 use Rattle.rules.specs.LeftAlone.{all_starts, starts_of}
 use Rattle.rules.specs.declared.left_alone.LeftAlone.{LeftAlone}
-
-is_eq-cond : (b e : Bool) → (b ≡ true → e ≡ false) → is_eq (cond b Less (cond e Equal Greater)) ≡ e
-is_eq-cond true e h = sym (h refl)
-is_eq-cond false true h = refl
-is_eq-cond false false h = refl
-
-less-differs : (n k : ℕ) → nat_lt n k ≡ true → nat_eq n k ≡ false
-less-differs n k l = false_from_ne_true (nat_eq n k) (λ e. omega (arith, ltb-true n k l, eqb-true n k e))
-
--- a look-up by order
-pub any-at : (n : ℕ) (ks : List ℕ) → list_any (is_at (nat_cmp n)) ks ≡ list_any (nat_eq n) ks
-any-at n [] = refl
-any-at n (k ∷ ks) = ap (λ b. b || list_any (is_at (nat_cmp n)) ks) (is_eq-cond (nat_lt n k) (nat_eq n k) (less-differs n k)) ∙ ap (λ b. nat_eq n k || b) (any-at n ks)
 
 or-same : (a b : Bool) → (a || b) ≡ (a || (a || b))
 or-same true b = refl

@@ -227,14 +227,14 @@ caught_of ms = unwrap_or (option_and_then caught_said (value_in_rule NoUnusedVar
 
 abbrev pub options_of : Members → Option RuleOptions
 options_of ms = option_and_then (λ a. option_and_then (λ c. option_map (λ u. record {
-      allow_null = a;
-      allow_comments = c;
-      ignore_underscore = u;
-      ignore_rest_siblings = flag_in_rule IgnoreRestSiblings ms;
-      typeof_operands = flag_in_rule Typeof ms;
-      params = params_of ms;
-      caught_errors = caught_of ms;
-    }) (option_of IgnoreUnderscore ms)) (option_of AllowComments ms)) (option_of AllowNull ms)
+  allow_null = a;
+  allow_comments = c;
+  ignore_underscore = u;
+  ignore_rest_siblings = flag_in_rule IgnoreRestSiblings ms;
+  typeof_operands = flag_in_rule Typeof ms;
+  params = params_of ms;
+  caught_errors = caught_of ms;
+}) (option_of IgnoreUnderscore ms)) (option_of AllowComments ms)) (option_of AllowNull ms)
 
 -- the strings in an array
 abbrev pub strings_in : Items → List (List ℕ)

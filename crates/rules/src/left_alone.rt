@@ -92,11 +92,7 @@ fn push_starts(
 }
 
 /// Appends where the parameter of a setter stands.
-fn push_setter_params(
-    alloc: Global,
-    node: Node,
-    starts: &mut Vec<usize>,
-) -> Result<(), AllocError>
+fn push_setter_params(alloc: Global, node: Node, starts: &mut Vec<usize>) -> Result<(), AllocError>
     ensures { OnOk result (starts.new.items ≡ starts.old.items ++ setter_params (node_tree node.entry)) }
 {
     match node.kind() {

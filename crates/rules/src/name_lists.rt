@@ -62,7 +62,9 @@ impl NameList {
 pub(crate) fn is_list(rule: &str, key: &str) -> bool
     ensures { result ≡ is_list rule.now key.now }
 {
-    LISTS.iter().any(|list| rule == list.rule().as_str() && key == list.key())
+    LISTS
+        .iter()
+        .any(|list| rule == list.rule().as_str() && key == list.key())
 }
 
 /// The names in each list, as settings have them.
@@ -105,7 +107,9 @@ impl NameLists {
 fn is_any(name: &str, texts: &[String]) -> bool
     ensures { result ≡ list_any (λ text. stands_for (string_bytes text) name.now) texts.now }
 {
-    texts.iter().any(|text| stands_for(text.as_bytes(), name.as_bytes()))
+    texts
+        .iter()
+        .any(|text| stands_for(text.as_bytes(), name.as_bytes()))
 }
 
 /// Whether a text ends with `*`.
@@ -133,11 +137,7 @@ fn front(text: &[u8]) -> &[u8]
 fn behind_first(text: &[u8]) -> &[u8]
     ensures { result.now ≡ drop 1 text.now }
 {
-    if text.is_empty() {
-        text
-    } else {
-        &text[1..]
-    }
+    if text.is_empty() { text } else { &text[1..] }
 }
 
 /// Whether a text stands for a name.

@@ -79,7 +79,13 @@ pub(crate) fn push_shadow(
     if binding.shadows
         && !(is_itself(binding.kind) || walk.settings.is_listed(NameList::Allow, binding.name))
     {
-        push_named(walk.alloc, NoShadow::NAME, binding, "shadows an outer name", out)
+        push_named(
+            walk.alloc,
+            NoShadow::NAME,
+            binding,
+            "shadows an outer name",
+            out,
+        )
     } else {
         Ok(())
     }

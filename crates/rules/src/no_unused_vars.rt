@@ -87,7 +87,13 @@ pub(crate) fn push_unused(
     ensures kept { Grows out.old.items out.new.items }
 {
     if is_unused(walk, is_read, is_behind, binding) {
-        push_named(walk.alloc, NoUnusedVars::NAME, binding, "is never read", out)
+        push_named(
+            walk.alloc,
+            NoUnusedVars::NAME,
+            binding,
+            "is never read",
+            out,
+        )
     } else {
         Ok(())
     }

@@ -227,7 +227,15 @@ fn settings_with(
     let errors = all_at(alloc, Severity::Error, rules, only, table)?;
     let warnings = all_at(alloc, Severity::Warn, rules, only, table)?;
     let lists = lists_of(alloc, table)?;
-    Ok(Settings::new(errors, warnings, globals, environments, languages, options, lists))
+    Ok(Settings::new(
+        errors,
+        warnings,
+        globals,
+        environments,
+        languages,
+        options,
+        lists,
+    ))
 }
 
 /// The settings that a table gives; refused if it has another key or value.

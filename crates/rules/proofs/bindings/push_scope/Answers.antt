@@ -1,7 +1,7 @@
-use Rattle.std.proofs.Common.{◌≡◌, ◌+◌, ◌≤◌, length, drop, suc, true, sym, ap, ◌∙◌, add-one, arith}
+use Rattle.std.proofs.Common.{◌+◌, ◌≤◌, length, drop, suc, sym, ap, ◌∙◌, add-one, arith}
 use Rattle.scopes.specs.Shown.{all_shown}
 use Rattle.rules.specs.Rules.{reads_param}
-use Rattle.rules.specs.Used.{is_in, is_marked, looks_behind, of_binding}
+use Rattle.rules.specs.Used.{is_in, is_marked, of_binding}
 use Rattle.node_rules.proofs.WalkLemmas.{grows-on}
 use Rattle.rules.proofs.AppendLoops.{bindings-turn}
 use Rattle.rules.proofs.bindings.push_scope.Goals as goal
