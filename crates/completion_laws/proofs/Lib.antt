@@ -1,2 +1,4 @@
 pub mod Leaving
 pub mod NormalCompletions
+pub mod RuleLaws
+pub mod Unreached

@@ -19,7 +19,7 @@ pub record Can (t : Tree) : Type 0 where
 pub record AllCan (ps : Parts) : Type 0 where
   pub all_normal : flow.all_normal ps ≡ true
 
-both : {a b : Bool} → a ≡ true → b ≡ true → (a && b) ≡ true
+pub both : {a b : Bool} → a ≡ true → b ≡ true → (a && b) ≡ true
 both {a = a} {b = b} h i = ap (λ c. c && b) h ∙ i
 
 -- Lists

@@ -1,9 +1,68 @@
--- What is proved of how statements complete.
-use Rattle.std.specs.Prelude.{◌≡◌, ℕ, suc, Bool, true, false, ◌&&◌, List, Option, Some, None}
-use Rattle.tree.specs.Tree.{Tree, Parts, part, parts_take}
-use Rattle.flow_rules.specs.Completion as flow
-use Rattle.completion_laws.specs.Completions.{Completes, Completion, Labels, ListCompletes, Normal, Break, Continue, Return, Throw, WithArgument, WithoutArgument, AtYield}
+-- What is proved of how statements complete, and of what rules of `flow_rules` say of it.
+use Rattle.std.specs.Prelude.{◌≡◌, ℕ, Bool, true, false, ◌&&◌, List, [], Option, Some, None, All, nat_le}
+use Rattle.tree.specs.Tree.{Tree, kind_of, part_count, parts_of}
+use Rattle.flow_rules.specs.declared.flow_rule.FlowRule.TheVariants.{ConsistentReturn, NoUnreachable, NoUnreachableLoop}
+use Rattle.flow_rules.specs.Completion.{has, normal}
+use Rattle.flow_rules.specs.Completion as sought
+use Rattle.flow_rules.specs.Fallthrough.{falls_through}
+use Rattle.flow_rules.specs.Flows.{flow_of}
+use Rattle.flow_rules.specs.Found.{found_by_rule}
+use Rattle.flow_rules.specs.KindSets.{is_case}
+use Rattle.flow_rules.specs.Rows.{holds, is_body}
+use Rattle.completion_laws.specs.Completions.{Completes, Completion, Labels, loop_continues, Normal, Break, Continue, Return, Throw, WithArgument, WithoutArgument, AtYield}
+use Rattle.completion_laws.specs.Reaches.{ReportsUnreached}
 
--- what can't complete normally, by `normal`, never does
+-- a statement that can't complete normally, by `normal`, never does
 abbrev pub NormalAloneCompletes : Type 0
-NormalAloneCompletes = (labels : Labels) (tree : Tree) → Completes labels tree Normal → flow.normal tree ≡ true
+NormalAloneCompletes = (labels : Labels) (tree : Tree) → Completes labels tree Normal → normal tree ≡ true
+
+-- what `has` says of a statement that completes so
+abbrev pub has_what_leaves : Tree → Completion → Bool
+has_what_leaves tree Normal = true
+has_what_leaves tree (Break None) = has sought.Break tree
+has_what_leaves tree (Break (Some target)) = has (sought.BreakOf target) tree && has sought.LabelledBreak tree
+has_what_leaves tree (Continue None) = has sought.Continue tree
+has_what_leaves tree (Continue (Some target)) = has sought.LabelledContinue tree
+has_what_leaves tree (Return WithArgument) = has sought.ReturnsValue tree
+has_what_leaves tree (Return WithoutArgument) = has sought.ReturnsNothing tree
+has_what_leaves tree (Return AtYield) = true
+has_what_leaves tree Throw = true
+
+-- a `break`, `continue` or `return` by which a statement completes stands in it, by `has`
+abbrev pub WhatLeavesStands : Type 0
+WhatLeavesStands = (labels : Labels) (tree : Tree) (completion : Completion) → Completes labels tree completion → has_what_leaves tree completion ≡ true
+
+-- a function whose body completes so returns `undefined`: it comes to its end, or to a `return` without an argument (9.2.1)
+abbrev pub gives_undefined : Completion → Bool
+gives_undefined Normal = true
+gives_undefined (Return WithoutArgument) = true
+gives_undefined _ = false
+
+abbrev pub gives_value : Completion → Bool
+gives_value (Return WithArgument) = true
+gives_value _ = false
+
+-- `getter-return` and `array-callback-return`: a body that can't complete normally, and has no `return` without an argument, never ends so
+abbrev pub NeverWithoutValue : Type 0
+NeverWithoutValue = (tree : Tree) (completion : Completion) →
+    normal tree ≡ false → has sought.ReturnsNothing tree ≡ false → Completes [] tree completion → gives_undefined completion ≡ false
+
+-- `consistent-return`: of a body that isn't reported, no run gives a value where another gives none
+abbrev pub ReturnsAreConsistent : Type 0
+ReturnsAreConsistent = (source : List ℕ) (around : _) (body : Tree) (completion other : Completion) → is_body around body ≡ true →
+    holds source ConsistentReturn around (flow_of body) body ≡ false → Completes [] body completion → Completes [] body other →
+    gives_value completion ≡ true → gives_undefined other ≡ false
+
+-- `no-unreachable-loop`: a loop whose body is reported doesn't go on behind it, whatever its label set
+abbrev pub ReportedLoopsEnd : Type 0
+ReportedLoopsEnd = (source : List ℕ) (around : _) (body : Tree) (labels : Labels) (completion : Completion) →
+    holds source NoUnreachableLoop around (flow_of body) body ≡ true → Completes [] body completion → loop_continues labels completion ≡ false
+
+-- `no-unreachable`: what is reported is never evaluated
+abbrev pub ReportedAreUnreached : Type 0
+ReportedAreUnreached = (source : List ℕ) (script : Tree) → All (λ report. ReportsUnreached report script) (found_by_rule source NoUnreachable script)
+
+-- `no-fallthrough`: behind a case with statements of which the rule doesn't say that it falls through, the next one isn't come to
+abbrev pub OthersDontFallThrough : Type 0
+OthersDontFallThrough = (labels : Labels) (case : Tree) → is_case (kind_of case) ≡ true → nat_le 2 (part_count (parts_of case)) ≡ true →
+    falls_through (flow_of case) case ≡ false → Completes labels case Normal → ⊥
