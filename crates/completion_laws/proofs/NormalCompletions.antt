@@ -1,5 +1,5 @@
 -- What completes normally can, by `normal`.
-use Rattle.std.proofs.Common.{◌≡◌, ℕ, zero, suc, ◌≤◌, Bool, true, false, cond, List, [], ◌∷◌, refl, sym, ap, subst, ◌∙◌, ◌⊎◌, inl, inr, arith, nat_le, nat_eq}
+use Rattle.std.proofs.Common.{◌≡◌, ℕ, Bool, true, false, cond, List, [], ◌∷◌, refl, sym, ap, subst, ◌∙◌, ◌⊎◌, inl, inr, arith, nat_le, nat_eq}
 use Rattle.std.specs.Prelude.{not, ◌&&◌, ◌||◌, Option, Some, None, is_none}
 use Rattle.std.specs.Str.{bytes_eq}
 use Rattle.std.proofs.lemmas.Bool.Decides.{nat_tests}
@@ -10,8 +10,8 @@ use Rattle.tree.specs.declared.kind.Flags.{Flags}
 use Rattle.tree.specs.Tree.{Tree, node, Parts, none, part, gap, kind_of, part_at, text_of}
 use Rattle.language.specs.Vocabulary.{is}
 use Rattle.flow_rules.specs.Completion as flow
-use Rattle.completion_laws.specs.Completions.{Completion, Normal, Break, Continue, Return, Throw, WithArgument, WithoutArgument, AtYield, Labels, loop_continues, after_break, after_label, is_normal, is_simple, is_decimal, has_nonzero, may_be_false, may_end, has_default, From, here, later, Completes, simple, throws, returns_at_yield, program, block, if_true, if_false, if_neither, do_left, do_goes_on, while, for, for_in, for_of, continue, continue_to, break, break_to, return, return_value, switch_entered, switch_passed, case, default, labelled, try_passed, try_caught, try_alone, catch, catch_all, ListCompletes, all_done, done, left, Rounds, ended, leaves, again, Finally, no_finalizer, kept, overridden}
-use Rattle.completion_laws.proofs.Leaving.{Seeks, a_break, a_break_of, a_labelled_break, a_continue, a_labelled_continue, Stands, SomeStands, or_left, or_right, in_first, in_rest, at_place, some_entered, sought, sought_list, either}
+use Rattle.completion_laws.specs.Completions.{Completion, Normal, Break, Continue, Return, Throw, Labels, loop_continues, after_break, after_label, is_normal, is_simple, is_decimal, has_nonzero, may_be_false, may_end, has_default, From, here, later, Completes, simple, throws, returns_at_yield, program, block, if_true, if_false, if_neither, do_left, do_goes_on, while, for, for_in, for_of, continue, continue_to, break, break_to, return, return_value, switch_entered, switch_passed, case, default, labelled, try_passed, try_caught, try_alone, catch, catch_all, ListCompletes, all_done, done, left, Rounds, ended, leaves, again, Finally, no_finalizer, kept, overridden}
+use Rattle.completion_laws.proofs.Leaving.{Seeks, a_break, a_break_of, a_continue, a_labelled_continue, Stands, SomeStands, or_left, or_right, in_first, in_rest, at_place, some_entered, sought, sought_list, either}
 
 pub record Can (t : Tree) : Type 0 where
   pub normal : flow.normal t ≡ true

@@ -1,18 +1,19 @@
 -- What rules say of statements, of how they complete.
-use Rattle.std.proofs.Common.{◌≡◌, ℕ, Bool, true, false, List, [], refl, sym, ap, subst, ◌∙◌, nat_le}
-use Rattle.std.specs.Prelude.{not, ◌&&◌, ◌||◌, Option, Some, None}
+use Rattle.std.proofs.Common.{◌≡◌, ℕ, Bool, true, false, List, [], refl, nat_le}
+use Rattle.std.specs.Prelude.{not, ◌&&◌, ◌||◌, Some, None}
 use Rattle.tree.specs.Tree.{Tree, kind_of, part_count, parts_of}
 use Rattle.tree.specs.Kinds.{is_loop}
-use Rattle.flow_rules.specs.declared.flow_rule.FlowRule.TheVariants.{ConsistentReturn, NoUnreachableLoop}
+use Rattle.flow_rules.specs.declared.flow_rule.FlowRule.TheVariants.{ConsistentReturn, ConstructorSuper, NoUnreachableLoop}
+use Rattle.flow_rules.specs.Arounds.{returns}
 use Rattle.flow_rules.specs.Completion as flow
 use Rattle.flow_rules.specs.Fallthrough.{falls_through}
 use Rattle.flow_rules.specs.Flows.{flow_of}
 use Rattle.flow_rules.specs.KindSets.{is_case}
-use Rattle.flow_rules.specs.Rows.{holds, is_body}
+use Rattle.flow_rules.specs.Rows.{holds, is_body, is_derived}
 use Rattle.completion_laws.specs.Completions.{Completion, Normal, Break, Continue, Return, Throw, WithArgument, WithoutArgument, AtYield, Labels, Completes, loop_continues}
-use Rattle.completion_laws.specs.Laws.{has_what_leaves, gives_undefined, gives_value}
-use Rattle.completion_laws.proofs.Leaving.{Seeks, a_break, a_break_of, a_labelled_break, a_continue, a_labelled_continue, a_value, an_empty, Stands, sought}
-use Rattle.completion_laws.proofs.NormalCompletions.{Can, can, both}
+use Rattle.completion_laws.specs.Laws.{has_what_leaves, gives_undefined, gives_value, leaves_function}
+use Rattle.completion_laws.proofs.Leaving.{a_break, a_break_of, a_labelled_break, a_continue, a_labelled_continue, a_value, an_empty, sought}
+use Rattle.completion_laws.proofs.NormalCompletions.{can, both}
 
 pub what_leaves : {labels : Labels} {t : Tree} (c : Completion) → Completes labels t c → has_what_leaves t c ≡ true
 what_leaves Normal d = refl
@@ -90,3 +91,46 @@ no_fall false b c h i j k = absurd (cc)
 
 pub no_fallthrough : (labels : Labels) (t : Tree) → is_case (kind_of t) ≡ true → nat_le 2 (part_count (parts_of t)) ≡ true → falls_through (flow_of t) t ≡ false → Completes labels t Normal → ⊥
 no_fallthrough labels t h i j d = no_fall (is_case (kind_of t)) (nat_le 2 (part_count (parts_of t))) (flow.normal t) h i j (can d refl).normal
+
+-- a branch that returns
+gone : (a b c d e f g : Bool) → (not a && ((b || c) && not ((d || e) || (f || g)))) ≡ true → ((a ≡ false) × (d ≡ false)) × ((e ≡ false) × ((f ≡ false) × (g ≡ false)))
+gone false true c false false false false h = ((refl, refl), (refl, (refl, refl)))
+gone false false true false false false false h = ((refl, refl), (refl, (refl, refl)))
+gone true b c d e f g h = absurd (cc)
+gone false false false d e f g h = absurd (cc)
+gone false true c true e f g h = absurd (cc)
+gone false true c false true f g h = absurd (cc)
+gone false true c false false true g h = absurd (cc)
+gone false true c false false false true h = absurd (cc)
+gone false false true true e f g h = absurd (cc)
+gone false false true false true f g h = absurd (cc)
+gone false false true false false true g h = absurd (cc)
+gone false false true false false false true h = absurd (cc)
+
+pub branch_returns : {labels : Labels} {t : Tree} (c : Completion) → returns (flow_of t) ≡ true → Completes labels t c → leaves_function c ≡ true
+branch_returns {labels = labels} {t = t} c h d =
+    of c (gone (flow.normal t) (flow.has flow.ReturnsValue t) (flow.has flow.ReturnsNothing t) (flow.has flow.Break t) (flow.has flow.LabelledBreak t) (flow.has flow.Continue t) (flow.has flow.LabelledContinue t) h) d
+  where
+    of : (c : Completion) → ((flow.normal t ≡ false) × (flow.has flow.Break t ≡ false)) × ((flow.has flow.LabelledBreak t ≡ false) × ((flow.has flow.Continue t ≡ false) × (flow.has flow.LabelledContinue t ≡ false))) →
+        Completes labels t c → leaves_function c ≡ true
+    of Normal o d = absurd (not_both (can d refl).normal o.0.0)
+    of (Break None) o d = absurd (not_both (sought d a_break).stands o.0.1)
+    of (Break (Some w)) o d = absurd (not_both (sought d a_labelled_break).stands o.1.0)
+    of (Continue None) o d = absurd (not_both (sought d a_continue).stands o.1.1.0)
+    of (Continue (Some w)) o d = absurd (not_both (sought d a_labelled_continue).stands o.1.1.1)
+    of (Return r) o d = refl
+    of Throw o d = refl
+
+-- a constructor
+without_super : (a b c d e f : Bool) → a ≡ true → b ≡ true → (c || d) ≡ false → (a && (b && (not (c || d) && (e || f)))) ≡ false → (e ≡ false) × (f ≡ false)
+without_super true true false false e f h i j k = first_false e f k
+without_super true true true d e f h i j k = absurd (cc)
+without_super true true false true e f h i j k = absurd (cc)
+without_super true false c d e f h i j k = absurd (cc)
+without_super false b c d e f h i j k = absurd (cc)
+
+pub calls_super : (source : List ℕ) (z : _) (t : Tree) (c : Completion) → is_body z t ≡ true → is_derived z.round.home ≡ true → holds source ConstructorSuper z (flow_of t) t ≡ false →
+    (z.has_super || flow.has flow.SuperCall t) ≡ false → Completes [] t c → gives_undefined c ≡ false
+calls_super source z t c h i j k d =
+    let o = without_super (is_derived z.round.home) (is_body z t) z.has_super (flow.has flow.SuperCall t) (flow.normal t) (flow.has flow.ReturnsNothing t) i h k j in
+    never_without c o.0 o.1 d

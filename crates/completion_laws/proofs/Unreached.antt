@@ -1,8 +1,8 @@
 -- What `no-unreachable` reports is never evaluated.
-use Rattle.std.proofs.Common.{◌≡◌, ℕ, zero, suc, Bool, true, false, cond, List, [], ◌∷◌, ◌++◌, All, refl, sym, ap, subst, ◌∙◌, ◌⊎◌, inl, inr}
+use Rattle.std.proofs.Common.{◌≡◌, ℕ, suc, Bool, true, false, cond, List, [], ◌∷◌, All, refl, ◌⊎◌, inl, inr}
 use Rattle.std.specs.Prelude.{not, ◌&&◌, ◌||◌, Some}
 use Rattle.std.proofs.lemmas.List.Elements.{All-append, All-cons, All-nil}
-use Rattle.tree.specs.Tree.{Tree, node, Parts, none, part, gap, part_at, parts_of}
+use Rattle.tree.specs.Tree.{Tree, node, Parts, none, part, gap, part_at}
 use Rattle.rule_words.specs.Reports.{Report}
 use Rattle.flow_rules.specs.declared.flow_rule.FlowRule.TheVariants.{NoUnreachable}
 use Rattle.flow_rules.specs.Arounds.{inside, behind, behind_gap, is_hoisted, round_root}

@@ -117,13 +117,11 @@ mutual
     -- what is evaluated may throw, and a generator that waits at a `yield` inside be told to return
     throws : {labels : Labels} {tree : Tree} → Completes labels tree Throw
     returns_at_yield : {labels : Labels} {tree : Tree} → Completes labels tree (Return AtYield)
-
     -- 15.1.7, 13.2.13
     program : {labels : Labels} {text : List ℕ} {flags : Flags} {from to : ℕ} {parts : Parts} {c : Completion} →
         ListCompletes parts c → Completes labels (node Program text flags from to parts) c
     block : {labels : Labels} {text : List ℕ} {flags : Flags} {from to : ℕ} {parts : Parts} {c : Completion} →
         ListCompletes parts c → Completes labels (node BlockStatement text flags from to parts) c
-
     -- 13.6.7
     if_true : {labels : Labels} {text : List ℕ} {flags : Flags} {from to : ℕ} {test first : Tree} {rest : Parts} {c : Completion} →
         Completes [] first c → Completes labels (node IfStatement text flags from to (part test (part first rest))) c
@@ -131,7 +129,6 @@ mutual
         Completes [] second c → Completes labels (node IfStatement text flags from to (part test (part first (part second none)))) c
     if_neither : {labels : Labels} {text : List ℕ} {flags : Flags} {from to : ℕ} {test first : Tree} →
         Completes labels (node IfStatement text flags from to (part test (part first (gap none)))) Normal
-
     -- 13.7.2.6: the body, then the test, then the loop's other rounds
     do_left : {labels : Labels} {text : List ℕ} {flags : Flags} {from to : ℕ} {body test : Tree} {c d : Completion} →
         Completes [] body c → loop_continues labels c ≡ false → after_break c ≡ d →
@@ -150,7 +147,6 @@ mutual
         Rounds labels body true c → Completes labels (node ForInStatement text flags from to (part left (part right (part body none)))) c
     for_of : {labels : Labels} {text : List ℕ} {flags : Flags} {from to : ℕ} {left right body : Tree} {c : Completion} →
         Rounds labels body true c → Completes labels (node ForOfStatement text flags from to (part left (part right (part body none)))) c
-
     -- 13.8.3, 13.9.3, 13.10.1; a `throw` (13.14.1) completes by `throws` alone
     continue : {labels : Labels} {text : List ℕ} {flags : Flags} {from to : ℕ} → Completes labels (node ContinueStatement text flags from to (gap none)) (Continue None)
     continue_to : {labels : Labels} {text : List ℕ} {flags : Flags} {from to : ℕ} {label : Tree} →
@@ -161,7 +157,6 @@ mutual
     return : {labels : Labels} {text : List ℕ} {flags : Flags} {from to : ℕ} → Completes labels (node ReturnStatement text flags from to (gap none)) (Return WithoutArgument)
     return_value : {labels : Labels} {text : List ℕ} {flags : Flags} {from to : ℕ} {argument : Tree} →
         Completes labels (node ReturnStatement text flags from to (part argument none)) (Return WithArgument)
-
     -- 13.12.11: the statements of the case that matches, or else of the `default`, and of those behind it
     switch_entered : {labels : Labels} {text : List ℕ} {flags : Flags} {from to : ℕ} {value : Tree} {cases entered : Parts} {c d : Completion} →
         From cases entered → ListCompletes entered c → after_break c ≡ d → Completes labels (node SwitchStatement text flags from to (part value cases)) d
@@ -171,12 +166,10 @@ mutual
         is_simple (kind_of test) ≡ true → ListCompletes statements c → Completes labels (node SwitchCase text flags from to (part test statements)) c
     default : {labels : Labels} {text : List ℕ} {flags : Flags} {from to : ℕ} {statements : Parts} {c : Completion} →
         ListCompletes statements c → Completes labels (node SwitchCase text flags from to (gap statements)) c
-
     -- 13.13.14
     labelled : {labels : Labels} {text : List ℕ} {flags : Flags} {from to : ℕ} {label body : Tree} {c d : Completion} →
         is_simple (kind_of label) ≡ true → Completes (text_of label ∷ labels) body c → after_label (text_of label) c ≡ d →
         Completes labels (node LabeledStatement text flags from to (part label (part body none))) d
-
     -- 13.15.8: the block; the handler, if the block throws; the finalizer behind them
     try_passed : {labels : Labels} {text : List ℕ} {flags : Flags} {from to : ℕ} {body handler : Tree} {rest : Parts} {c d : Completion} →
         Completes [] body c → is_throw c ≡ false → Finally rest c d → Completes labels (node TryStatement text flags from to (part body (part handler rest))) d

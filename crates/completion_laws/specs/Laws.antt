@@ -1,14 +1,15 @@
 -- What is proved of how statements complete, and of what rules of `flow_rules` say of it.
-use Rattle.std.specs.Prelude.{◌≡◌, ℕ, Bool, true, false, ◌&&◌, List, [], Option, Some, None, All, nat_le}
+use Rattle.std.specs.Prelude.{◌≡◌, ℕ, Bool, true, false, ◌&&◌, ◌||◌, List, [], Some, None, All, nat_le}
 use Rattle.tree.specs.Tree.{Tree, kind_of, part_count, parts_of}
-use Rattle.flow_rules.specs.declared.flow_rule.FlowRule.TheVariants.{ConsistentReturn, NoUnreachable, NoUnreachableLoop}
+use Rattle.flow_rules.specs.declared.flow_rule.FlowRule.TheVariants.{ConsistentReturn, ConstructorSuper, NoUnreachable, NoUnreachableLoop}
+use Rattle.flow_rules.specs.Arounds.{returns}
 use Rattle.flow_rules.specs.Completion.{has, normal}
 use Rattle.flow_rules.specs.Completion as sought
 use Rattle.flow_rules.specs.Fallthrough.{falls_through}
 use Rattle.flow_rules.specs.Flows.{flow_of}
 use Rattle.flow_rules.specs.Found.{found_by_rule}
 use Rattle.flow_rules.specs.KindSets.{is_case}
-use Rattle.flow_rules.specs.Rows.{holds, is_body}
+use Rattle.flow_rules.specs.Rows.{holds, is_body, is_derived}
 use Rattle.completion_laws.specs.Completions.{Completes, Completion, Labels, loop_continues, Normal, Break, Continue, Return, Throw, WithArgument, WithoutArgument, AtYield}
 use Rattle.completion_laws.specs.Reaches.{ReportsUnreached}
 
@@ -52,6 +53,22 @@ abbrev pub ReturnsAreConsistent : Type 0
 ReturnsAreConsistent = (source : List ℕ) (around : _) (body : Tree) (completion other : Completion) → is_body around body ≡ true →
     holds source ConsistentReturn around (flow_of body) body ≡ false → Completes [] body completion → Completes [] body other →
     gives_value completion ≡ true → gives_undefined other ≡ false
+
+-- `no-else-return`: a branch that returns completes by a `return` or a `throw` alone, so nothing behind the `if` is come to
+abbrev pub leaves_function : Completion → Bool
+leaves_function (Return returner) = true
+leaves_function Throw = true
+leaves_function _ = false
+
+abbrev pub BranchesReturn : Type 0
+BranchesReturn = (labels : Labels) (branch : Tree) (completion : Completion) →
+    returns (flow_of branch) ≡ true → Completes labels branch completion → leaves_function completion ≡ true
+
+-- `constructor-super`: of a body that isn't reported, and in which and before which no `super(..)` stands, no run ends without a value
+abbrev pub OthersCallSuper : Type 0
+OthersCallSuper = (source : List ℕ) (around : _) (body : Tree) (completion : Completion) → is_body around body ≡ true → is_derived around.round.home ≡ true →
+    holds source ConstructorSuper around (flow_of body) body ≡ false → (around.has_super || has sought.SuperCall body) ≡ false →
+    Completes [] body completion → gives_undefined completion ≡ false
 
 -- `no-unreachable-loop`: a loop whose body is reported doesn't go on behind it, whatever its label set
 abbrev pub ReportedLoopsEnd : Type 0

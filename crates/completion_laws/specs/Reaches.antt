@@ -1,5 +1,5 @@
 -- Which statements of a list are evaluated.
-use Rattle.std.specs.Prelude.{◌≡◌, ℕ, zero, suc, List, [], ◌∷◌, Some}
+use Rattle.std.specs.Prelude.{◌≡◌, ℕ, suc, [], Some}
 use Rattle.tree.specs.Tree.{Tree, Parts, part, gap, part_at, parts_of}
 use Rattle.rule_words.specs.Reports.{Report}
 use Rattle.flow_rules.specs.declared.flow_rule.FlowRule.TheVariants.{NoUnreachable}

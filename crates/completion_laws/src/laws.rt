@@ -1,6 +1,6 @@
 //! What is proved of how statements complete: each contract is a theorem, and the body does nothing.
 
-ghost use Rattle.completion_laws.specs.Laws.{NeverWithoutValue, NormalAloneCompletes, OthersDontFallThrough, ReportedAreUnreached, ReportedLoopsEnd, ReturnsAreConsistent, WhatLeavesStands};
+ghost use Rattle.completion_laws.specs.Laws.{BranchesReturn, NeverWithoutValue, NormalAloneCompletes, OthersCallSuper, OthersDontFallThrough, ReportedAreUnreached, ReportedLoopsEnd, ReturnsAreConsistent, WhatLeavesStands};
 
 /// A statement that can't complete normally, by `normal`, never does.
 pub fn normal_alone_completes()
@@ -21,6 +21,16 @@ pub fn never_without_value()
 /// Of a body that `consistent-return` doesn't report, no run returns a value where another returns none.
 pub fn returns_are_consistent()
     ensures { ReturnsAreConsistent }
+{}
+
+/// A branch of which `no-else-return` says that it returns completes by a `return` or a `throw` alone.
+pub fn branches_return()
+    ensures { BranchesReturn }
+{}
+
+/// Of a derived constructor that `constructor-super` doesn't report, and in which no `super(..)` stands, no run ends without a value.
+pub fn others_call_super()
+    ensures { OthersCallSuper }
 {}
 
 /// A loop that `no-unreachable-loop` reports never goes on behind its body.
