@@ -26,7 +26,7 @@ what_leaves (Return WithoutArgument) d = (sought d an_empty).stands
 what_leaves (Return AtYield) d = refl
 what_leaves Throw d = refl
 
-not_both : {a : Bool} → a ≡ true → a ≡ false → ⊥
+pub not_both : {a : Bool} → a ≡ true → a ≡ false → ⊥
 not_both h i = absurd (cc)
 
 pub never_without : {labels : Labels} {t : Tree} (c : Completion) → flow.normal t ≡ false → flow.has flow.ReturnsNothing t ≡ false → Completes labels t c → gives_undefined c ≡ false

@@ -16,6 +16,7 @@ use Rattle.completion_laws.specs.Completions.{Completes, Normal}
 use Rattle.completion_laws.specs.Reaches as reaches
 use Rattle.completion_laws.specs.Reaches.{Reaches, ReportsUnreached}
 use Rattle.completion_laws.proofs.NormalCompletions.{can}
+use Rattle.completion_laws.proofs.RuleLaws.{not_both}
 
 abbrev Domain : {A B : Type 0} → (A → B) → Type 0
 Domain {A = A} f = A
@@ -23,10 +24,15 @@ Domain {A = A} f = A
 abbrev Around : Type 0
 Around = Domain behind_gap
 
+-- evaluation of a list of statements never comes to the one behind so many
+abbrev IsMissed : Bool → Parts → ℕ → Type 0
+IsMissed list ps n = (list ≡ true) × (Reaches ps n → ⊥)
+
 -- a report in parts: of one of them, which is stopped before the first or isn't come to; or below one
-data InParts (stopped : Bool) (report : Report) (ps : Parts) : Type 0 where
-  of_part : {t : Tree} (n : ℕ) → part_at ps n ≡ Some t → report ≡ report_at (own_place t) NoUnreachable t → (stopped ≡ true) ⊎ (Reaches ps n → ⊥) → InParts stopped report ps
-  within : {t : Tree} (n : ℕ) → part_at ps n ≡ Some t → ReportsUnreached report t → InParts stopped report ps
+data InParts (stopped list : Bool) (report : Report) (ps : Parts) : Type 0 where
+  of_part : {t : Tree} (n : ℕ) → part_at ps n ≡ Some t → report ≡ report_at (own_place t) NoUnreachable t →
+      (stopped ≡ true) ⊎ IsMissed list ps n → InParts stopped list report ps
+  within : {t : Tree} (n : ℕ) → part_at ps n ≡ Some t → ReportsUnreached report t → InParts stopped list report ps
 
 -- a report of a node: of itself, which is stopped; or below it
 data OfNode (stopped : Bool) (report : Report) (t : Tree) : Type 0 where
@@ -39,39 +45,41 @@ passed_part (reaches.behind d r) = (d, r)
 passed_gap : {ps : Parts} {n : ℕ} → Reaches (gap ps) (suc n) → Reaches ps n
 passed_gap (reaches.behind_gap r) = r
 
-either_is : (a b c : Bool) → (a || (b && not c)) ≡ true → (a ≡ true) ⊎ (c ≡ false)
+either_is : (a b c : Bool) → (a || (b && not c)) ≡ true → (a ≡ true) ⊎ ((b ≡ true) × (c ≡ false))
 either_is true b c h = inl refl
 either_is false true true h = absurd (cc)
-either_is false true false h = inr refl
+either_is false true false h = inr (refl, refl)
 either_is false false c h = absurd (cc)
 
 -- from part to part
 
-of_first : {b : Bool} {r : Report} {t : Tree} {ps : Parts} → OfNode b r t → InParts b r (part t ps)
+of_first : {b l : Bool} {r : Report} {t : Tree} {ps : Parts} → OfNode b r t → InParts b l r (part t ps)
 of_first (itself h e) = of_part 0 refl e (inl h)
 of_first (inside_it u) = within 0 refl u
 
-stopped_before : (a b : Bool) (t : Tree) (ps : Parts) (n : ℕ) → ((a || (b && not (flow.normal t))) ≡ true) ⊎ (Reaches ps n → ⊥) → (a ≡ true) ⊎ (Reaches (part t ps) (suc n) → ⊥)
-stopped_before a b t ps n (inl h) = of (either_is a b (flow.normal t) h)
+stopped_before : (a l : Bool) (t : Tree) (ps : Parts) (n : ℕ) → ((a || (l && not (flow.normal t))) ≡ true) ⊎ IsMissed l ps n →
+    (a ≡ true) ⊎ IsMissed l (part t ps) (suc n)
+stopped_before a l t ps n (inl h) = of (either_is a l (flow.normal t) h)
   where
-    of : (a ≡ true) ⊎ (flow.normal t ≡ false) → (a ≡ true) ⊎ (Reaches (part t ps) (suc n) → ⊥)
+    of : (a ≡ true) ⊎ ((l ≡ true) × (flow.normal t ≡ false)) → (a ≡ true) ⊎ IsMissed l (part t ps) (suc n)
     of (inl i) = inl i
-    of (inr i) = inr (λ r. let m = (can (passed_part r).0 refl).normal in cc)
-stopped_before a b t ps n (inr f) = inr (λ r. f (passed_part r).1)
+    of (inr i) = inr (i.0, λ r. let m = (can (passed_part r).0 refl).normal in not_both m i.1)
+stopped_before a l t ps n (inr m) = inr (m.0, λ r. m.1 (passed_part r).1)
 
-of_rest : (a b : Bool) {r : Report} (t : Tree) {ps : Parts} → InParts (a || (b && not (flow.normal t))) r ps → InParts a r (part t ps)
-of_rest a b t {ps = ps} (of_part n p e h) = of_part (suc n) p e (stopped_before a b t ps n h)
-of_rest a b t (within n p u) = within (suc n) p u
+of_rest : (a l : Bool) {r : Report} (t : Tree) {ps : Parts} → InParts (a || (l && not (flow.normal t))) l r ps → InParts a l r (part t ps)
+of_rest a l t {ps = ps} (of_part n p e h) = of_part (suc n) p e (stopped_before a l t ps n h)
+of_rest a l t (within n p u) = within (suc n) p u
 
-behind_the_gap : {a : Bool} {r : Report} {ps : Parts} → InParts a r ps → InParts a r (gap ps)
+behind_the_gap : {a l : Bool} {r : Report} {ps : Parts} → InParts a l r ps → InParts a l r (gap ps)
 behind_the_gap (of_part n p e (inl h)) = of_part (suc n) p e (inl h)
-behind_the_gap (of_part n p e (inr f)) = of_part (suc n) p e (inr (λ r. f (passed_gap r)))
+behind_the_gap (of_part n p e (inr m)) = of_part (suc n) p e (inr (m.0, λ r. m.1 (passed_gap r)))
 behind_the_gap (within n p u) = within (suc n) p u
 
 -- and up to the node
-of_parts : {a : Bool} {r : Report} {k : _} {w : List ℕ} {g : _} {s e : ℕ} {ps : Parts} → InParts false r ps → OfNode a r (node k w g s e ps)
+of_parts : {a : Bool} {r : Report} {k : _} {w : List ℕ} {g : _} {s e : ℕ} {ps : Parts} → InParts false (is_list k) r ps →
+    OfNode a r (node k w g s e ps)
 of_parts (of_part n p e (inl h)) = absurd (cc)
-of_parts (of_part n p e (inr f)) = inside_it (reaches.here n p e f)
+of_parts (of_part n p e (inr m)) = inside_it (reaches.here n m.0 p e m.1)
 of_parts (within n p u) = inside_it (reaches.below n p u)
 
 if_so : (P : Report → Type 0) (b : Bool) (r : Report) → (b ≡ true → P r) → All P (cond b (r ∷ []) [])
@@ -94,10 +102,10 @@ module _ (source : List ℕ) where
         All-append (λ r. OfNode z.stopped r (node k w g s e ps)) (over_parts (of_node source NoUnreachable) (inside z (node k w g s e ps)) ps) _
         (λ i d l. of_parts (of_all (inside z (node k w g s e ps)) ps i d l)) (of_itself z (node k w g s e ps))
 
-    of_all : (z : Around) (ps : Parts) → All (λ r. InParts z.stopped r ps) (over_parts (of_node source NoUnreachable) z ps)
-    of_all z none = All-nil (λ r. InParts z.stopped r none)
+    of_all : (z : Around) (ps : Parts) → All (λ r. InParts z.stopped (is_list z.round.parent) r ps) (over_parts (of_node source NoUnreachable) z ps)
+    of_all z none = All-nil (λ r. InParts z.stopped (is_list z.round.parent) r none)
     of_all z (part t ps) =
-        All-append (λ r. InParts z.stopped r (part t ps)) (over_nodes (of_node source NoUnreachable) z t) _
+        All-append (λ r. InParts z.stopped (is_list z.round.parent) r (part t ps)) (over_nodes (of_node source NoUnreachable) z t) _
         (λ i d l. of_first (of_nodes z t i d l)) (λ i d l. of_rest z.stopped (is_list z.round.parent) t (of_all (behind z (flow_of t) t) ps i d l))
     of_all z (gap ps) = λ i d l. behind_the_gap (of_all (behind_gap z) ps i d l)
 

@@ -1,7 +1,7 @@
 -- How statements complete: their evaluation (clause 13) as a relation, by Completion Records (6.2.3) alone.
 -- It holds of more than the standard lets happen, never of less: any expression may throw, or give any value but where it is a literal,
 -- and any case of a `switch` may be the one that matches. So what is proved of each completion here is so of each that a run has.
--- The body of a function is a block.
+-- The body of a function is a block. A `debugger` is taken to complete normally: what it does where one is at work (13.16.1) is left out.
 use Rattle.std.specs.Prelude.{◌≡◌, ℕ, Bool, true, false, not, ◌&&◌, ◌||◌, cond, nat_eq, nat_le, List, [], ◌∷◌, Option, Some, None, is_none}
 use Rattle.std.specs.Str.{bytes_eq}
 use Rattle.tree.specs.declared.kind.Kind.{Kind}

@@ -1,8 +1,9 @@
 -- Which statements of a list are evaluated.
-use Rattle.std.specs.Prelude.{◌≡◌, ℕ, suc, [], Some}
-use Rattle.tree.specs.Tree.{Tree, Parts, part, gap, part_at, parts_of}
+use Rattle.std.specs.Prelude.{◌≡◌, ℕ, suc, true, [], Some}
+use Rattle.tree.specs.Tree.{Tree, Parts, part, gap, kind_of, part_at, parts_of}
 use Rattle.rule_words.specs.Reports.{Report}
 use Rattle.flow_rules.specs.declared.flow_rule.FlowRule.TheVariants.{NoUnreachable}
+use Rattle.flow_rules.specs.KindSets.{is_list}
 use Rattle.flow_rules.specs.Rows.{own_place, report_at}
 use Rattle.completion_laws.specs.Completions.{Completes, Normal}
 
@@ -13,8 +14,8 @@ pub data Reaches : Parts → ℕ → Type 0 where
   behind : {tree : Tree} {rest : Parts} {n : ℕ} → Completes [] tree Normal → Reaches rest n → Reaches (part tree rest) (suc n)
   behind_gap : {rest : Parts} {n : ℕ} → Reaches rest n → Reaches (gap rest) (suc n)
 
--- a report of `no-unreachable` is of a part, of some node of a tree, that evaluation of the node's parts never comes to
+-- a report of `no-unreachable` is of a statement, of a list at some node of a tree, that evaluation of the list never comes to
 pub data ReportsUnreached (report : Report) : Tree → Type 0 where
-  here : {tree reported : Tree} (n : ℕ) → part_at (parts_of tree) n ≡ Some reported → report ≡ report_at (own_place reported) NoUnreachable reported →
-      (Reaches (parts_of tree) n → ⊥) → ReportsUnreached report tree
+  here : {tree reported : Tree} (n : ℕ) → is_list (kind_of tree) ≡ true → part_at (parts_of tree) n ≡ Some reported →
+      report ≡ report_at (own_place reported) NoUnreachable reported → (Reaches (parts_of tree) n → ⊥) → ReportsUnreached report tree
   below : {tree inner : Tree} (n : ℕ) → part_at (parts_of tree) n ≡ Some inner → ReportsUnreached report inner → ReportsUnreached report tree
