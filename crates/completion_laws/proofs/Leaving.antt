@@ -70,14 +70,20 @@ at_place (gap ps) zero e h = absurd (cc)
 at_place (gap ps) (suc i) e h = behind_gap (at_place ps i e h)
 
 -- a node that doesn't end the search hands on what stands in its parts
-pub below : {x : flow.Sought} {k : Kind} {w : List ℕ} {g : Flags} {s e : ℕ} {ps : Parts} → flow.ends x k ≡ false → SomeStands x ps → Stands x (node k w g s e ps)
+pub below : {x : flow.Sought} {k : Kind} {w : List ℕ} {g : Flags} {s e : ℕ} {ps : Parts} → flow.ends x k ≡ false →
+    SomeStands x ps → Stands x (node k w g s e ps)
 unfolding flow.has
 below {x = x} {k = k} {ps = ps} c h =
-    record { stands = or_right (flow.is_sought x k (part_at ps 0)) (not (flow.ends x k) && flow.some x ps) (ap (λ b. not b && flow.some x ps) c ∙ h.some_stands) }
+    record {
+      stands = or_right (flow.is_sought x k (part_at ps 0)) (not (flow.ends x k) && flow.some x ps)
+          (ap (λ b. not b && flow.some x ps) c ∙ h.some_stands);
+    }
 
-pub itself : {x : flow.Sought} {k : Kind} {w : List ℕ} {g : Flags} {s e : ℕ} {ps : Parts} → flow.is_sought x k (part_at ps 0) ≡ true → Stands x (node k w g s e ps)
+pub itself : {x : flow.Sought} {k : Kind} {w : List ℕ} {g : Flags} {s e : ℕ} {ps : Parts} →
+    flow.is_sought x k (part_at ps 0) ≡ true → Stands x (node k w g s e ps)
 unfolding flow.has
-itself {x = x} {k = k} {ps = ps} h = record { stands = or_left (flow.is_sought x k (part_at ps 0)) (not (flow.ends x k) && flow.some x ps) h }
+itself {x = x} {k = k} {ps = ps} h =
+    record { stands = or_left (flow.is_sought x k (part_at ps 0)) (not (flow.ends x k) && flow.some x ps) h }
 
 -- What ends a search
 
@@ -112,7 +118,8 @@ far a_value h k = refl
 far an_empty h k = refl
 
 -- what leaves a loop
-out_of_loop : (labels : Labels) (c : Completion) (x : flow.Sought) → loop_continues labels c ≡ false → Seeks (after_break c) x → Seeks c x × PassesLoops x
+out_of_loop : (labels : Labels) (c : Completion) (x : flow.Sought) → loop_continues labels c ≡ false → Seeks (after_break c) x →
+    Seeks c x × PassesLoops x
 out_of_loop labels Normal x l h = elim h [ ]
 out_of_loop labels (Break None) x l h = elim h [ ]
 out_of_loop labels (Break (Some w)) x l h = (h, far h refl)
@@ -135,7 +142,8 @@ unlabelled a_value h = absurd (cc)
 unlabelled an_empty h = absurd (cc)
 
 -- what leaves a `switch`
-out_of_switch : (c : Completion) (x : flow.Sought) → Seeks (after_break c) x → Seeks c x × (flow.ends x kind.SwitchStatement ≡ false)
+out_of_switch : (c : Completion) (x : flow.Sought) → Seeks (after_break c) x →
+    Seeks c x × (flow.ends x kind.SwitchStatement ≡ false)
 out_of_switch Normal x h = elim h [ ]
 out_of_switch (Break None) x h = elim h [ ]
 out_of_switch (Break (Some w)) x h = (h, far h refl kind.SwitchStatement)
@@ -202,9 +210,15 @@ mutual
   sought {x = x} (labelled {label = t} {c = c} h d e) s =
       let o = out_of_label (text_of t) c x (subst (λ d. Seeks d x) (sym e) s) in
       below (passes s kind.LabeledStatement refl) (in_rest (in_first (sought d o)))
-  sought (try_passed d h f) s = below (passes s kind.TryStatement refl) (either (sought_finally f s) (λ o. in_first (sought d o)) (λ o. in_rest (in_rest o)))
-  sought (try_caught d h f) s = below (passes s kind.TryStatement refl) (either (sought_finally f s) (λ o. in_rest (in_first (sought h o))) (λ o. in_rest (in_rest o)))
-  sought (try_alone d f) s = below (passes s kind.TryStatement refl) (either (sought_finally f s) (λ o. in_first (sought d o)) (λ o. in_rest (behind_gap o)))
+  sought (try_passed d h f) s =
+      below (passes s kind.TryStatement refl)
+      (either (sought_finally f s) (λ o. in_first (sought d o)) (λ o. in_rest (in_rest o)))
+  sought (try_caught d h f) s =
+      below (passes s kind.TryStatement refl)
+      (either (sought_finally f s) (λ o. in_rest (in_first (sought h o))) (λ o. in_rest (in_rest o)))
+  sought (try_alone d f) s =
+      below (passes s kind.TryStatement refl)
+      (either (sought_finally f s) (λ o. in_first (sought d o)) (λ o. in_rest (behind_gap o)))
   sought (catch h d) s = below (passes s kind.CatchClause refl) (in_rest (in_first (sought d s)))
   sought (catch_all d) s = below (passes s kind.CatchClause refl) (behind_gap (in_first (sought d s)))
 
@@ -213,7 +227,8 @@ mutual
   sought_list (done d l) s = in_rest (sought_list l s)
   sought_list (left d h) s = in_first (sought d s)
 
-  sought_rounds : {labels : Labels} {body : Tree} {b : Bool} {c : Completion} {x : flow.Sought} → Rounds labels body b c → Seeks c x → Stands x body × PassesLoops x
+  sought_rounds : {labels : Labels} {body : Tree} {b : Bool} {c : Completion} {x : flow.Sought} → Rounds labels body b c →
+      Seeks c x → Stands x body × PassesLoops x
   sought_rounds ended s = elim s [ ]
   sought_rounds {labels = labels} {x = x} (leaves {c = c} d l e) s =
       let o : Seeks c x × PassesLoops x = out_of_loop labels c x l (subst (λ d. Seeks d x) (sym e) s) in

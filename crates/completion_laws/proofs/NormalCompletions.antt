@@ -53,7 +53,8 @@ last_can missing (part t ps) m h = let o = first_can t ps h in last_can (flow.no
 last_can missing (gap ps) m h = last_can missing ps m (record { all_normal = h.all_normal })
 
 -- of the cases from one of them on
-last_entered : {cases entered : Parts} → From cases entered → (missing : Bool) → AllCan entered → flow.last_normal missing cases ≡ true
+last_entered : {cases entered : Parts} → From cases entered → (missing : Bool) → AllCan entered →
+    flow.last_normal missing cases ≡ true
 unfolding flow.last_normal
 last_entered (here {case = t} {rest = ps}) missing h = let o = first_can t ps h in last_can (flow.normal t) ps o.0.normal o.1
 last_entered (later {case = t} f) missing h = last_entered f (flow.normal t) h
@@ -84,7 +85,8 @@ known false true c f h = let i = f refl in absurd (cc)
 known false false c f h = refl
 
 not_always : (t : Tree) → may_be_false t ≡ true → flow.always (Some t) ≡ false
-not_always (node kind.Literal w g s e ps) h = known (is w "true") (flow.is_positive w) (is_decimal w && has_nonzero w) (positive w) h
+not_always (node kind.Literal w g s e ps) h =
+    known (is w "true") (flow.is_positive w) (is_decimal w && has_nonzero w) (positive w) h
 not_always (node k w g s e ps) h = refl
 
 not_always_or_gap : (o : Option Tree) → may_end o ≡ true → flow.always_or_gap o ≡ false
@@ -105,7 +107,8 @@ no_default (gap ps) h = no_default ps h
 
 -- What completes a loop or a `switch` normally
 
-broken : (labels : Labels) (c : Completion) → loop_continues labels c ≡ false → is_normal (after_break c) ≡ true → Seeks c flow.Break
+pub broken : (labels : Labels) (c : Completion) → loop_continues labels c ≡ false → is_normal (after_break c) ≡ true →
+    Seeks c flow.Break
 broken labels Normal l h = absurd (cc)
 broken labels (Break None) l h = a_break
 broken labels (Break (Some w)) l h = absurd (cc)
@@ -182,35 +185,49 @@ for_of_can : {w : List ℕ} {g : Flags} {s e : ℕ} {ps : Parts} → Can (node k
 unfolding flow.normal
 for_of_can = record { normal = refl }
 
-first_branch_can : {w : List ℕ} {g : Flags} {s e : ℕ} {test t : Tree} {rest : Parts} → Can t → Can (node kind.IfStatement w g s e (part test (part t rest)))
+first_branch_can : {w : List ℕ} {g : Flags} {s e : ℕ} {test t : Tree} {rest : Parts} → Can t →
+    Can (node kind.IfStatement w g s e (part test (part t rest)))
 unfolding flow.normal flow.nth_normal
 first_branch_can {t = t} {rest = ps} h = record { normal = or_left (flow.normal t) (flow.nth_normal 0 true ps) h.normal }
 
-second_branch_can : {w : List ℕ} {g : Flags} {s e : ℕ} {test t u : Tree} → Can u → Can (node kind.IfStatement w g s e (part test (part t (part u none))))
+second_branch_can : {w : List ℕ} {g : Flags} {s e : ℕ} {test t u : Tree} → Can u →
+    Can (node kind.IfStatement w g s e (part test (part t (part u none))))
 unfolding flow.normal flow.nth_normal
 second_branch_can {t = t} {u = u} h = record { normal = or_right (flow.normal t) (flow.normal u) h.normal }
 
-no_branch_can : {w : List ℕ} {g : Flags} {s e : ℕ} {test t : Tree} → Can (node kind.IfStatement w g s e (part test (part t (gap none))))
+no_branch_can : {w : List ℕ} {g : Flags} {s e : ℕ} {test t : Tree} →
+    Can (node kind.IfStatement w g s e (part test (part t (gap none))))
 unfolding flow.normal flow.nth_normal
 no_branch_can {t = t} = record { normal = or_right (flow.normal t) true refl }
 
 -- Loops
 
-while_can : {w : List ℕ} {g : Flags} {s e : ℕ} {test body : Tree} → (may_be_false test ≡ true) ⊎ Stands flow.Break body → Can (node kind.WhileStatement w g s e (part test (part body none)))
+while_can : {w : List ℕ} {g : Flags} {s e : ℕ} {test body : Tree} → (may_be_false test ≡ true) ⊎ Stands flow.Break body →
+    Can (node kind.WhileStatement w g s e (part test (part body none)))
 unfolding flow.normal
-while_can {test = t} {body = u} (inl h) = record { normal = or_left (not (flow.always (Some t))) (flow.some flow.Break (part t (part u none))) (ap not (not_always t h)) }
+while_can {test = t} {body = u} (inl h) =
+    record {
+      normal = or_left (not (flow.always (Some t))) (flow.some flow.Break (part t (part u none)))
+          (ap not (not_always t h));
+    }
 while_can {test = t} {body = u} (inr h) =
     let i : SomeStands flow.Break (part t (part u none)) = in_rest (in_first h) in
     record { normal = or_right (not (flow.always (Some t))) (flow.some flow.Break (part t (part u none))) i.some_stands }
 
-for_can : {w : List ℕ} {g : Flags} {s e : ℕ} (ps : Parts) {body : Tree} → part_at ps 3 ≡ Some body → (may_end (part_at ps 1) ≡ true) ⊎ Stands flow.Break body → Can (node kind.ForStatement w g s e ps)
+for_can : {w : List ℕ} {g : Flags} {s e : ℕ} (ps : Parts) {body : Tree} → part_at ps 3 ≡ Some body →
+    (may_end (part_at ps 1) ≡ true) ⊎ Stands flow.Break body → Can (node kind.ForStatement w g s e ps)
 unfolding flow.normal
-for_can ps p (inl h) = record { normal = or_left (not (flow.always_or_gap (part_at ps 1))) (flow.some flow.Break ps) (ap not (not_always_or_gap (part_at ps 1) h)) }
+for_can ps p (inl h) =
+    record {
+      normal = or_left (not (flow.always_or_gap (part_at ps 1))) (flow.some flow.Break ps)
+          (ap not (not_always_or_gap (part_at ps 1) h));
+    }
 for_can ps p (inr h) =
     let i : SomeStands flow.Break ps = at_place ps 3 p h in
     record { normal = or_right (not (flow.always_or_gap (part_at ps 1))) (flow.some flow.Break ps) i.some_stands }
 
-broken_do_can : {w : List ℕ} {g : Flags} {s e : ℕ} {body test : Tree} → Stands flow.Break body → Can (node kind.DoWhileStatement w g s e (part body (part test none)))
+broken_do_can : {w : List ℕ} {g : Flags} {s e : ℕ} {body test : Tree} → Stands flow.Break body →
+    Can (node kind.DoWhileStatement w g s e (part body (part test none)))
 unfolding flow.normal
 broken_do_can {body = u} {test = t} h =
     let i : SomeStands flow.Break (part u (part t none)) = in_first h in
@@ -222,19 +239,23 @@ data Tested (body : Tree) : Type 0 where
   jumped : Stands flow.Continue body → Tested body
   jumped_to : Stands flow.LabelledContinue body → Tested body
 
-tested : {c : Completion} {body : Tree} → GoesOn c → (is_normal c ≡ true → Can body) → ((x : flow.Sought) → Seeks c x → Stands x body) → Tested body
+tested : {c : Completion} {body : Tree} → GoesOn c → (is_normal c ≡ true → Can body) →
+    ((x : flow.Sought) → Seeks c x → Stands x body) → Tested body
 tested (normally h) f g = completed (f h)
 tested (continued s) f g = jumped (g flow.Continue s)
 tested (continued_to s) f g = jumped_to (g flow.LabelledContinue s)
 
-tested_do_can : {w : List ℕ} {g : Flags} {s e : ℕ} {body test : Tree} → is_simple (kind_of test) ≡ true → may_be_false test ≡ true → Tested body → Can (node kind.DoWhileStatement w g s e (part body (part test none)))
+tested_do_can : {w : List ℕ} {g : Flags} {s e : ℕ} {body test : Tree} → is_simple (kind_of test) ≡ true →
+    may_be_false test ≡ true → Tested body → Can (node kind.DoWhileStatement w g s e (part body (part test none)))
 unfolding flow.normal
 tested_do_can {body = u} {test = t} h m d = record { normal = or_left _ _ (both (ap not (not_always t m)) (of d)) }
   where
     in_body : {x : flow.Sought} → Stands x u → SomeStands x (part u (part t none))
     in_body i = in_first i
 
-    of : Tested u → (flow.all_normal (part u (part t none)) || (flow.some flow.Continue (part u (part t none)) || flow.some flow.LabelledContinue (part u (part t none)))) ≡ true
+    of : Tested u →
+        (flow.all_normal (part u (part t none)) ||
+        (flow.some flow.Continue (part u (part t none)) || flow.some flow.LabelledContinue (part u (part t none)))) ≡ true
     of (completed i) = or_left _ _ (one_more i (one_more (test_can t h) no_parts)).all_normal
     of (jumped i) = or_right _ _ (or_left _ _ (in_body i).some_stands)
     of (jumped_to i) = or_right _ _ (or_right _ _ (in_body i).some_stands)
@@ -258,11 +279,13 @@ label_ends w (Continue o) h = absurd (cc)
 label_ends w (Return r) h = absurd (cc)
 label_ends w Throw h = absurd (cc)
 
-label_left : {label : List ℕ} {c : Completion} {body : Tree} → LabelEnded label c → (is_normal c ≡ true → Can body) → (Seeks c (flow.BreakOf label) → Stands (flow.BreakOf label) body) → Can body ⊎ Stands (flow.BreakOf label) body
+label_left : {label : List ℕ} {c : Completion} {body : Tree} → LabelEnded label c → (is_normal c ≡ true → Can body) →
+    (Seeks c (flow.BreakOf label) → Stands (flow.BreakOf label) body) → Can body ⊎ Stands (flow.BreakOf label) body
 label_left (unlabelled h) f g = inl (f h)
 label_left (broken_off s) f g = inr (g s)
 
-labelled_can : {w : List ℕ} {g : Flags} {s e : ℕ} {label body : Tree} → is_simple (kind_of label) ≡ true → Can body ⊎ Stands (flow.BreakOf (text_of label)) body → Can (node kind.LabeledStatement w g s e (part label (part body none)))
+labelled_can : {w : List ℕ} {g : Flags} {s e : ℕ} {label body : Tree} → is_simple (kind_of label) ≡ true →
+    Can body ⊎ Stands (flow.BreakOf (text_of label)) body → Can (node kind.LabeledStatement w g s e (part label (part body none)))
 unfolding flow.normal
 labelled_can {label = t} h (inl i) = record { normal = or_left _ _ (one_more (test_can t h) (one_more i no_parts)).all_normal }
 labelled_can {label = t} {body = u} h (inr i) =
@@ -275,7 +298,8 @@ passed_can : {w : List ℕ} {g : Flags} {s e : ℕ} (ps : Parts) → has_default
 unfolding flow.normal
 passed_can ps h = record { normal = or_left _ _ (ap not (no_default ps h)) }
 
-entered_can : {w : List ℕ} {g : Flags} {s e : ℕ} {value : Tree} {cases entered : Parts} → From cases entered → AllCan entered ⊎ SomeStands flow.Break entered → Can (node kind.SwitchStatement w g s e (part value cases))
+entered_can : {w : List ℕ} {g : Flags} {s e : ℕ} {value : Tree} {cases entered : Parts} → From cases entered →
+    AllCan entered ⊎ SomeStands flow.Break entered → Can (node kind.SwitchStatement w g s e (part value cases))
 unfolding flow.normal flow.last_normal
 entered_can {value = t} f (inl h) = record { normal = or_right _ _ (or_left _ _ (last_entered f (flow.normal t) h)) }
 entered_can {value = t} {cases = ps} f (inr h) =
@@ -294,15 +318,18 @@ finalizer_can : {t : Tree} → Can t → FinalizerCan (part t none)
 unfolding flow.nth_normal
 finalizer_can h = record { finalizer_normal = h.normal }
 
-block_tried : {w : List ℕ} {g : Flags} {s e : ℕ} {body handler : Tree} {rest : Parts} → Can body → FinalizerCan rest → Can (node kind.TryStatement w g s e (part body (part handler rest)))
+block_tried : {w : List ℕ} {g : Flags} {s e : ℕ} {body handler : Tree} {rest : Parts} → Can body → FinalizerCan rest →
+    Can (node kind.TryStatement w g s e (part body (part handler rest)))
 unfolding flow.normal flow.nth_normal
 block_tried h i = record { normal = both (or_left _ _ h.normal) i.finalizer_normal }
 
-handler_tried : {w : List ℕ} {g : Flags} {s e : ℕ} {body handler : Tree} {rest : Parts} → Can handler → FinalizerCan rest → Can (node kind.TryStatement w g s e (part body (part handler rest)))
+handler_tried : {w : List ℕ} {g : Flags} {s e : ℕ} {body handler : Tree} {rest : Parts} → Can handler → FinalizerCan rest →
+    Can (node kind.TryStatement w g s e (part body (part handler rest)))
 unfolding flow.normal flow.nth_normal
 handler_tried h i = record { normal = both (or_right _ _ h.normal) i.finalizer_normal }
 
-block_tried_alone : {w : List ℕ} {g : Flags} {s e : ℕ} {body : Tree} {rest : Parts} → Can body → FinalizerCan rest → Can (node kind.TryStatement w g s e (part body (gap rest)))
+block_tried_alone : {w : List ℕ} {g : Flags} {s e : ℕ} {body : Tree} {rest : Parts} → Can body → FinalizerCan rest →
+    Can (node kind.TryStatement w g s e (part body (gap rest)))
 unfolding flow.normal flow.nth_normal
 block_tried_alone h i = record { normal = both (or_left _ _ h.normal) i.finalizer_normal }
 
@@ -317,7 +344,9 @@ mutual
   can (if_false d) n = second_branch_can (can d n)
   can if_neither n = no_branch_can
   can {labels = labels} (do_left {c = c} d l e) n = broken_do_can (sought d (broken labels c l (ap is_normal e ∙ n)))
-  can {labels = labels} (do_goes_on {c = c} h d l r) n = either (rounds_can r n) (λ m. tested_do_can h m (tested (goes_on labels c l) (λ i. can d i) (λ x s. sought d s))) (λ i. broken_do_can i)
+  can {labels = labels} (do_goes_on {c = c} h d l r) n =
+      either (rounds_can r n) (λ m. tested_do_can h m (tested (goes_on labels c l) (λ i. can d i) (λ x s. sought d s)))
+      (λ i. broken_do_can i)
   can (while r) n = while_can (rounds_can r n)
   can (for {parts = ps} h r) n = for_can ps h (rounds_can r n)
   can (for_in r) n = for_in_can
@@ -328,11 +357,14 @@ mutual
   can break_to n = absurd (cc)
   can return n = absurd (cc)
   can return_value n = absurd (cc)
-  can (switch_entered {c = c} f d e) n = either (normal_or_broken c (ap is_normal e ∙ n)) (λ i. entered_can f (inl (all_can d i))) (λ s. entered_can f (inr (sought_list d s)))
+  can (switch_entered {c = c} f d e) n =
+      either (normal_or_broken c (ap is_normal e ∙ n)) (λ i. entered_can f (inl (all_can d i)))
+      (λ s. entered_can f (inr (sought_list d s)))
   can (switch_passed {parts = ps} h) n = passed_can ps h
   can (case {test = t} h d) n = case_can (one_more (test_can t h) (all_can d n))
   can (default d) n = case_can (gap_more (all_can d n))
-  can (labelled {label = t} {c = c} h d e) n = labelled_can h (label_left (label_ends (text_of t) c (ap is_normal e ∙ n)) (λ i. can d i) (λ s. sought d s))
+  can (labelled {label = t} {c = c} h d e) n =
+      labelled_can h (label_left (label_ends (text_of t) c (ap is_normal e ∙ n)) (λ i. can d i) (λ s. sought d s))
   can (try_passed d h f) n = let o = finally_can f n in block_tried (can d o.0) o.1
   can (try_caught d h f) n = let o = finally_can f n in handler_tried (can h o.0) o.1
   can (try_alone d f) n = let o = finally_can f n in block_tried_alone (can d o.0) o.1
@@ -345,12 +377,14 @@ mutual
   all_can (left d h) n = absurd (cc)
 
   -- a loop ends by its test, or a `break` leaves it
-  rounds_can : {labels : Labels} {body : Tree} {b : Bool} {c : Completion} → Rounds labels body b c → is_normal c ≡ true → (b ≡ true) ⊎ Stands flow.Break body
+  rounds_can : {labels : Labels} {body : Tree} {b : Bool} {c : Completion} → Rounds labels body b c → is_normal c ≡ true →
+      (b ≡ true) ⊎ Stands flow.Break body
   rounds_can ended n = inl refl
   rounds_can {labels = labels} (leaves {c = c} d l e) n = inr (sought d (broken labels c l (ap is_normal e ∙ n)))
   rounds_can (again d l r) n = rounds_can r n
 
-  finally_can : {rest : Parts} {c d : Completion} → Finally rest c d → is_normal d ≡ true → (is_normal c ≡ true) × FinalizerCan rest
+  finally_can : {rest : Parts} {c d : Completion} → Finally rest c d → is_normal d ≡ true →
+      (is_normal c ≡ true) × FinalizerCan rest
   finally_can no_finalizer n = (n, no_finalizer_can)
   finally_can (kept d) n = (n, finalizer_can (can d refl))
   finally_can (overridden d h) n = absurd (cc)

@@ -66,7 +66,8 @@ stopped_before a l t ps n (inl h) = of (either_is a l (flow.normal t) h)
     of (inr i) = inr (i.0, λ r. let m = (can (passed_part r).0 refl).normal in not_both m i.1)
 stopped_before a l t ps n (inr m) = inr (m.0, λ r. m.1 (passed_part r).1)
 
-of_rest : (a l : Bool) {r : Report} (t : Tree) {ps : Parts} → InParts (a || (l && not (flow.normal t))) l r ps → InParts a l r (part t ps)
+of_rest : (a l : Bool) {r : Report} (t : Tree) {ps : Parts} → InParts (a || (l && not (flow.normal t))) l r ps →
+    InParts a l r (part t ps)
 of_rest a l t {ps = ps} (of_part n p e h) = of_part (suc n) p e (stopped_before a l t ps n h)
 of_rest a l t (within n p u) = within (suc n) p u
 
@@ -92,21 +93,27 @@ first_so false b h = h
 
 module _ (source : List ℕ) where
   of_itself : (z : Around) (t : Tree) → All (λ r. OfNode z.stopped r t) (of_node source NoUnreachable z (flow_of t) t)
-  of_itself z t = if_so (λ r. OfNode z.stopped r t) (z.stopped && (not z.in_run && not (is_hoisted t))) (report_at (own_place t) NoUnreachable t) (λ h. itself (first_so z.stopped _ h) refl)
+  of_itself z t =
+      if_so (λ r. OfNode z.stopped r t) (z.stopped && (not z.in_run && not (is_hoisted t)))
+      (report_at (own_place t) NoUnreachable t) (λ h. itself (first_so z.stopped _ h) refl)
 
   mutual
     unfolding over_nodes over_parts
 
     of_nodes : (z : Around) (t : Tree) → All (λ r. OfNode z.stopped r t) (over_nodes (of_node source NoUnreachable) z t)
     of_nodes z (node k w g s e ps) =
-        All-append (λ r. OfNode z.stopped r (node k w g s e ps)) (over_parts (of_node source NoUnreachable) (inside z (node k w g s e ps)) ps) _
+        All-append (λ r. OfNode z.stopped r (node k w g s e ps))
+        (over_parts (of_node source NoUnreachable) (inside z (node k w g s e ps)) ps) _
         (λ i d l. of_parts (of_all (inside z (node k w g s e ps)) ps i d l)) (of_itself z (node k w g s e ps))
 
-    of_all : (z : Around) (ps : Parts) → All (λ r. InParts z.stopped (is_list z.round.parent) r ps) (over_parts (of_node source NoUnreachable) z ps)
+    of_all : (z : Around) (ps : Parts) →
+        All (λ r. InParts z.stopped (is_list z.round.parent) r ps) (over_parts (of_node source NoUnreachable) z ps)
     of_all z none = All-nil (λ r. InParts z.stopped (is_list z.round.parent) r none)
     of_all z (part t ps) =
-        All-append (λ r. InParts z.stopped (is_list z.round.parent) r (part t ps)) (over_nodes (of_node source NoUnreachable) z t) _
-        (λ i d l. of_first (of_nodes z t i d l)) (λ i d l. of_rest z.stopped (is_list z.round.parent) t (of_all (behind z (flow_of t) t) ps i d l))
+        All-append (λ r. InParts z.stopped (is_list z.round.parent) r (part t ps))
+        (over_nodes (of_node source NoUnreachable) z t) _
+        (λ i d l. of_first (of_nodes z t i d l))
+        (λ i d l. of_rest z.stopped (is_list z.round.parent) t (of_all (behind z (flow_of t) t) ps i d l))
     of_all z (gap ps) = λ i d l. behind_the_gap (of_all (behind_gap z) ps i d l)
 
   of_script : {r : Report} {t : Tree} → OfNode false r t → ReportsUnreached r t
