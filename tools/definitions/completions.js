@@ -287,14 +287,7 @@ function run(make, isGenerator, random) {
   const told = {};
   const ended = (value) => (value === told ? 'return at yield' : value === undefined ? 'normal or return' : 'return value');
   try {
-    const result = make(
-      (i) => entered.add(i),
-      (i) => left.add(i),
-      K,
-      t,
-      o,
-      () => random.below(5)
-    );
+    const result = make((i) => entered.add(i), (i) => left.add(i), K, t, o, () => random.below(5));
     if (!isGenerator) return { entered, left, end: ended(result) };
     let step = result.next();
     for (let steps = 0; !step.done && steps < 100; steps += 1) step = random.chance(20) ? result.return(told) : result.next();
