@@ -30,7 +30,7 @@ unfolding computing
 labelled_do_read = refl
 
 labelled_do_ends : Completes [] labelled_do Normal
-labelled_do_ends = labelled refl (do_goes_on refl (block (left continue_to refl)) refl ended) refl
+labelled_do_ends = labelled refl (do_goes_on refl (block (left (continue_to refl) refl)) refl ended) refl
 
 -- `a: b: do continue a; while (c);`
 abbrev twice_labelled : Tree
@@ -44,7 +44,7 @@ unfolding computing
 twice_labelled_read = refl
 
 twice_labelled_ends : Completes [] twice_labelled Normal
-twice_labelled_ends = labelled refl (labelled refl (do_goes_on refl continue_to refl ended) refl) refl
+twice_labelled_ends = labelled refl (labelled refl (do_goes_on refl (continue_to refl) refl ended) refl) refl
 
 -- `do break; while (true);`
 abbrev left_do : Tree
@@ -198,7 +198,7 @@ unfolding computing
 labelled_block_read = refl
 
 block_left : Completes [] labelled_block Normal
-block_left = labelled refl (block (done (simple refl) (left break_to refl))) refl
+block_left = labelled refl (block (done (simple refl) (left (break_to refl) refl))) refl
 
 -- `a: for (b of c) for (;;) continue a;`
 abbrev outer_loop : Tree
@@ -213,7 +213,7 @@ unfolding computing
 outer_loop_read = refl
 
 outer_loop_goes_on : Completes [] outer_loop Normal
-outer_loop_goes_on = labelled refl (for_of (again (for refl (leaves continue_to refl refl)) refl ended)) refl
+outer_loop_goes_on = labelled refl (for_of (again (for refl (leaves (continue_to refl) refl refl)) refl ended)) refl
 
 -- `function f() { if (a) return; return b; }`
 abbrev body : Tree

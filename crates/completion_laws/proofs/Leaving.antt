@@ -195,10 +195,10 @@ mutual
   sought (for_in r) s = let o = sought_rounds r s in below (o.1 kind.ForInStatement) (in_rest (in_rest (in_first o.0)))
   sought (for_of r) s = let o = sought_rounds r s in below (o.1 kind.ForOfStatement) (in_rest (in_rest (in_first o.0)))
   sought continue a_continue = itself refl
-  sought continue_to a_labelled_continue = itself refl
+  sought (continue_to i) a_labelled_continue = itself refl
   sought break a_break = itself refl
-  sought (break_to {label = t}) a_break_of = itself (same_text (text_of t))
-  sought break_to a_labelled_break = itself refl
+  sought (break_to {label = t} i) a_break_of = itself (same_text (text_of t))
+  sought (break_to i) a_labelled_break = itself refl
   sought return an_empty = itself refl
   sought return_value a_value = itself refl
   sought {x = x} (switch_entered {c = c} f d e) s =

@@ -7,6 +7,8 @@ use Rattle.std.proofs.lemmas.Slice.Eq.{bytes_eq-Decides}
 use Rattle.tree.specs.declared.kind.Kind.{Kind}
 use Rattle.tree.specs.declared.kind.Kind.TheVariants as kind
 use Rattle.tree.specs.declared.kind.Flags.{Flags}
+use Rattle.std.proofs.lemmas.Bool.{false≢true}
+use Rattle.tree.specs.Kinds.{is_identifier}
 use Rattle.tree.specs.Tree.{Tree, node, Parts, none, part, gap, kind_of, part_at, text_of}
 use Rattle.language.specs.Vocabulary.{is}
 use Rattle.flow_rules.specs.Completion as flow
@@ -161,6 +163,10 @@ simple_can {k = k} h = record { normal = refl }
 test_can : (t : Tree) → is_simple (kind_of t) ≡ true → Can t
 test_can (node k w g s e ps) h = simple_can h
 
+named_can : (t : Tree) → is_identifier (kind_of t) ≡ true → Can t
+named_can (node kind.Identifier w g s e ps) h = simple_can refl
+named_can (node k w g s e ps) h = absurd (false≢true h)
+
 block_can : {w : List ℕ} {g : Flags} {s e : ℕ} {ps : Parts} → AllCan ps → Can (node kind.BlockStatement w g s e ps)
 unfolding flow.normal
 block_can h = record { normal = h.all_normal }
@@ -284,10 +290,10 @@ label_left : {label : List ℕ} {c : Completion} {body : Tree} → LabelEnded la
 label_left (unlabelled h) f g = inl (f h)
 label_left (broken_off s) f g = inr (g s)
 
-labelled_can : {w : List ℕ} {g : Flags} {s e : ℕ} {label body : Tree} → is_simple (kind_of label) ≡ true →
+labelled_can : {w : List ℕ} {g : Flags} {s e : ℕ} {label body : Tree} → is_identifier (kind_of label) ≡ true →
     Can body ⊎ Stands (flow.BreakOf (text_of label)) body → Can (node kind.LabeledStatement w g s e (part label (part body none)))
 unfolding flow.normal
-labelled_can {label = t} h (inl i) = record { normal = or_left _ _ (one_more (test_can t h) (one_more i no_parts)).all_normal }
+labelled_can {label = t} h (inl i) = record { normal = or_left _ _ (one_more (named_can t h) (one_more i no_parts)).all_normal }
 labelled_can {label = t} {body = u} h (inr i) =
     let j : SomeStands (flow.BreakOf (text_of t)) (part t (part u none)) = in_rest (in_first i) in
     record { normal = or_right _ _ j.some_stands }
@@ -352,9 +358,9 @@ mutual
   can (for_in r) n = for_in_can
   can (for_of r) n = for_of_can
   can continue n = absurd (cc)
-  can continue_to n = absurd (cc)
+  can (continue_to i) n = absurd (cc)
   can break n = absurd (cc)
-  can break_to n = absurd (cc)
+  can (break_to i) n = absurd (cc)
   can return n = absurd (cc)
   can return_value n = absurd (cc)
   can (switch_entered {c = c} f d e) n =

@@ -7,6 +7,7 @@ use Rattle.std.specs.Str.{bytes_eq}
 use Rattle.tree.specs.declared.kind.Kind.{Kind}
 use Rattle.tree.specs.declared.kind.Kind.TheVariants.{BlockStatement, BreakStatement, CatchClause, ContinueStatement, DoWhileStatement, ForInStatement, ForOfStatement, ForStatement, IfStatement, LabeledStatement, Literal, Program, ReturnStatement, SwitchCase, SwitchStatement, ThrowStatement, TryStatement, WhileStatement}
 use Rattle.tree.specs.declared.kind.Flags.{Flags}
+use Rattle.tree.specs.Kinds.{is_identifier}
 use Rattle.tree.specs.Tree.{Tree, node, Parts, none, part, gap, kind_of, part_at, text_of}
 use Rattle.language.specs.Vocabulary.{is}
 
@@ -150,10 +151,10 @@ mutual
     -- 13.8.3, 13.9.3, 13.10.1; a `throw` (13.14.1) completes by `throws` alone
     continue : {labels : Labels} {text : List ℕ} {flags : Flags} {from to : ℕ} → Completes labels (node ContinueStatement text flags from to (gap none)) (Continue None)
     continue_to : {labels : Labels} {text : List ℕ} {flags : Flags} {from to : ℕ} {label : Tree} →
-        Completes labels (node ContinueStatement text flags from to (part label none)) (Continue (Some (text_of label)))
+        is_identifier (kind_of label) ≡ true → Completes labels (node ContinueStatement text flags from to (part label none)) (Continue (Some (text_of label)))
     break : {labels : Labels} {text : List ℕ} {flags : Flags} {from to : ℕ} → Completes labels (node BreakStatement text flags from to (gap none)) (Break None)
     break_to : {labels : Labels} {text : List ℕ} {flags : Flags} {from to : ℕ} {label : Tree} →
-        Completes labels (node BreakStatement text flags from to (part label none)) (Break (Some (text_of label)))
+        is_identifier (kind_of label) ≡ true → Completes labels (node BreakStatement text flags from to (part label none)) (Break (Some (text_of label)))
     return : {labels : Labels} {text : List ℕ} {flags : Flags} {from to : ℕ} → Completes labels (node ReturnStatement text flags from to (gap none)) (Return WithoutArgument)
     return_value : {labels : Labels} {text : List ℕ} {flags : Flags} {from to : ℕ} {argument : Tree} →
         Completes labels (node ReturnStatement text flags from to (part argument none)) (Return WithArgument)
@@ -168,7 +169,7 @@ mutual
         ListCompletes statements c → Completes labels (node SwitchCase text flags from to (gap statements)) c
     -- 13.13.14
     labelled : {labels : Labels} {text : List ℕ} {flags : Flags} {from to : ℕ} {label body : Tree} {c d : Completion} →
-        is_simple (kind_of label) ≡ true → Completes (text_of label ∷ labels) body c → after_label (text_of label) c ≡ d →
+        is_identifier (kind_of label) ≡ true → Completes (text_of label ∷ labels) body c → after_label (text_of label) c ≡ d →
         Completes labels (node LabeledStatement text flags from to (part label (part body none))) d
     -- 13.15.8: the block; the handler, if the block throws; the finalizer behind them
     try_passed : {labels : Labels} {text : List ℕ} {flags : Flags} {from to : ℕ} {body handler : Tree} {rest : Parts} {c d : Completion} →
