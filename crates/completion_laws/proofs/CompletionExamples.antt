@@ -6,7 +6,7 @@ use Rattle.tree.specs.Tree.{Tree, Parts, none, part, gap}
 use Rattle.language.proofs.examples.Sources.{tokens}
 use Rattle.language.proofs.examples.Trees.{computing, found, id, lit, n, once, one, program as whole, st, three, two}
 use Rattle.flow_rules.specs.Completion as flow
-use Rattle.completion_laws.specs.Completions.{Completion, Normal, Break, Continue, Return, Throw, WithArgument, WithoutArgument, AtYield, Labels, is_normal, loop_continues, after_break, after_label, From, here, later, Completes, simple, throws, returns_at_yield, program, block, if_true, if_false, if_neither, do_left, do_goes_on, while, for, for_in, for_of, continue, continue_to, break, break_to, return, return_value, switch_entered, switch_passed, case, default, labelled, try_passed, try_caught, try_alone, catch, catch_all, ListCompletes, all_done, done, left, Rounds, ended, leaves, again, Finally, no_finalizer, kept, overridden}
+use Rattle.completion_laws.specs.Completions.{Completion, Normal, Return, Throw, WithArgument, WithoutArgument, is_normal, here, later, Completes, simple, throws, returns_at_yield, program, block, if_true, if_false, if_neither, do_left, do_goes_on, while, for, for_in, for_of, continue, continue_to, break, break_to, return, return_value, switch_entered, switch_passed, case, default, labelled, try_passed, try_caught, try_alone, catch, catch_all, all_done, done, left, Rounds, ended, leaves, again, Finally, no_finalizer, kept, overridden}
 use Rattle.completion_laws.specs.Reaches.{Reaches, first, behind}
 use Rattle.completion_laws.proofs.Leaving.{Seeks, sought}
 use Rattle.completion_laws.proofs.NormalCompletions.{broken, can}

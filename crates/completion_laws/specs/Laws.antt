@@ -1,6 +1,7 @@
 -- What is proved of how statements complete, and of what rules of `flow_rules` say of it.
 use Rattle.std.specs.Prelude.{◌≡◌, ℕ, Bool, true, false, ◌&&◌, ◌||◌, List, [], Some, None, All, nat_le}
 use Rattle.tree.specs.Tree.{Tree, kind_of, part_count, parts_of}
+use Rattle.early_errors.specs.Early.{errors}
 use Rattle.flow_rules.specs.declared.flow_rule.FlowRule.TheVariants.{ConsistentReturn, ConstructorSuper, NoUnreachable, NoUnreachableLoop}
 use Rattle.flow_rules.specs.Arounds.{returns}
 use Rattle.flow_rules.specs.Completion.{has, normal}
@@ -11,6 +12,7 @@ use Rattle.flow_rules.specs.Found.{found_by_rule}
 use Rattle.flow_rules.specs.KindSets.{is_case}
 use Rattle.flow_rules.specs.Rows.{holds, is_body, is_derived}
 use Rattle.completion_laws.specs.Completions.{Completes, Completion, Labels, loop_continues, Normal, Break, Continue, Return, Throw, WithArgument, WithoutArgument, AtYield}
+use Rattle.completion_laws.specs.FunctionBodies.{FunctionBody}
 use Rattle.completion_laws.specs.Reaches.{ReportsUnreached}
 
 -- a statement that can't complete normally, by `normal`, never does
@@ -32,6 +34,18 @@ has_what_leaves tree Throw = true
 -- a `break`, `continue` or `return` by which a statement completes stands in it, by `has`
 abbrev pub WhatLeavesStands : Type 0
 WhatLeavesStands = (labels : Labels) (tree : Tree) (completion : Completion) → Completes labels tree completion → has_what_leaves tree completion ≡ true
+
+-- no jump leaves code that completes so
+abbrev pub leaves_no_code : Completion → Bool
+leaves_no_code (Break target) = false
+leaves_no_code (Continue target) = false
+leaves_no_code _ = true
+
+-- in a script without early errors no `break` or `continue` leaves the script, or the body of a function (13.8.1, 13.9.1, 14.1.2, 15.1.1)
+abbrev pub JumpsStayInside : Type 0
+JumpsStayInside = (script : Tree) (completion : Completion) → errors script ≡ [] →
+    (Completes [] script completion → leaves_no_code completion ≡ true) ×
+    ((body : Tree) → FunctionBody body script → Completes [] body completion → leaves_no_code completion ≡ true)
 
 -- a function whose body completes so returns `undefined`: it comes to its end, or to a `return` without an argument (9.2.1)
 abbrev pub gives_undefined : Completion → Bool

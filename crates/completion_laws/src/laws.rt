@@ -1,6 +1,6 @@
 //! What is proved of how statements complete: each contract is a theorem, and the body does nothing.
 
-ghost use Rattle.completion_laws.specs.Laws.{BranchesReturn, NeverWithoutValue, NormalAloneCompletes, OthersCallSuper, OthersDontFallThrough, ReportedAreUnreached, ReportedLoopsEnd, ReturnsAreConsistent, WhatLeavesStands};
+ghost use Rattle.completion_laws.specs.Laws.{BranchesReturn, JumpsStayInside, NeverWithoutValue, NormalAloneCompletes, OthersCallSuper, OthersDontFallThrough, ReportedAreUnreached, ReportedLoopsEnd, ReturnsAreConsistent, WhatLeavesStands};
 
 /// A statement that can't complete normally, by `normal`, never does.
 pub fn normal_alone_completes()
@@ -10,6 +10,11 @@ pub fn normal_alone_completes()
 /// A `break`, `continue` or `return` by which a statement completes stands in it, by `has`.
 pub fn what_leaves_stands()
     ensures { WhatLeavesStands }
+{}
+
+/// In a script without early errors no `break` or `continue` leaves the script, or the body of a function.
+pub fn jumps_stay_inside()
+    ensures { JumpsStayInside }
 {}
 
 /// A function's body that can't complete normally, and has no `return` without an argument, never ends without a value: so are those
