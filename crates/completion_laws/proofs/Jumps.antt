@@ -10,14 +10,16 @@ use Rattle.tree.specs.declared.kind.Flags.{Flags}
 use Rattle.tree.specs.Kinds.{is_identifier, is_function}
 use Rattle.tree.specs.Tree.{Tree, node, Parts, none, part, gap, kind_of, part_at, text_of}
 use Rattle.name_tables.specs.BoundNames.{bound_names, first_bound_names}
+use Rattle.flow_rules.specs.Completion as flow
 use Rattle.early_errors.specs.Around.{Around, Label, is_parameter, settled, around_first, around_others, labels_loop, last_loop, outside_of}
 use Rattle.early_errors.specs.Labels.{misplaced_jump, undefined_label, labels_statement, labels_a_loop}
 use Rattle.early_errors.specs.declared.EarlyError.{EarlyError}
 use Rattle.early_errors.specs.Early.{Error, number, each, each_of, own_places, own_errors, errors_within, parts_errors, errors}
-use Rattle.completion_laws.specs.Completions.{Completion, Normal, Break, Continue, Return, Throw, Labels, is_label, loop_continues, after_break, after_label, From, here, later, Completes, simple, throws, returns_at_yield, program, block, if_true, if_false, if_neither, do_left, do_goes_on, while, for, for_in, for_of, continue, continue_to, break, break_to, return, return_value, switch_entered, switch_passed, case, default, labelled, try_passed, try_caught, try_alone, catch, catch_all, ListCompletes, all_done, done, left, Rounds, ended, leaves, again, Finally, no_finalizer, kept, overridden}
+use Rattle.completion_laws.specs.Completions.{Completion, Normal, Break, Continue, Return, Throw, WithArgument, WithoutArgument, AtYield, Labels, is_label, loop_continues, after_break, after_label, From, here, later, Completes, simple, throws, returns_at_yield, program, block, if_true, if_false, if_neither, do_left, do_goes_on, while, for, for_in, for_of, continue, continue_to, break, break_to, return, return_value, switch_entered, switch_passed, case, default, labelled, try_passed, try_caught, try_alone, catch, catch_all, ListCompletes, all_done, done, left, Rounds, ended, leaves, again, Finally, no_finalizer, kept, overridden}
 use Rattle.completion_laws.specs.FunctionBodies.{FunctionBody, here as here_in, below as below_it}
-use Rattle.completion_laws.specs.Laws.{leaves_no_code}
+use Rattle.completion_laws.specs.Laws.{gives_or_throws, gives_undefined, leaves_no_code}
 use Rattle.completion_laws.proofs.Leaving.{either}
+use Rattle.completion_laws.proofs.RuleLaws.{never_without}
 
 -- Errors of parts
 
@@ -450,3 +452,20 @@ pub script_stays : (t : Tree) (c : Completion) → errors t ≡ [] → Completes
 script_stays (node k w g s e ps) c h d =
     let f : Fine (outside_of (node k w g s e ps)) (node k w g s e ps) = record { fine = h } in
     code_stays c (stay d f).place
+
+-- A body that can't complete normally, and has no `return` without an argument
+
+gives : (c : Completion) → gives_undefined c ≡ false → leaves_no_code c ≡ true → gives_or_throws c ≡ true
+gives Normal h i = absurd (cc)
+gives (Break o) h i = i
+gives (Continue o) h i = i
+gives (Return WithArgument) h i = refl
+gives (Return WithoutArgument) h i = absurd (cc)
+gives (Return AtYield) h i = refl
+gives Throw h i = refl
+
+pub body_gives : {script body : Tree} (c : Completion) → errors script ≡ [] → FunctionBody body script → flow.normal body ≡ false →
+    flow.has flow.ReturnsNothing body ≡ false → Completes [] body c → gives_or_throws c ≡ true
+body_gives {script = script} c h b i j d =
+    let f : Fine (outside_of script) script = record { fine = h } in
+    gives c (never_without c i j d) (body_stays b (outside_of script) f d)

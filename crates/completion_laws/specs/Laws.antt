@@ -62,6 +62,17 @@ abbrev pub NeverWithoutValue : Type 0
 NeverWithoutValue = (tree : Tree) (completion : Completion) →
     normal tree ≡ false → has sought.ReturnsNothing tree ≡ false → Completes [] tree completion → gives_undefined completion ≡ false
 
+-- so in a script without early errors each run of such a body that ends gives a value, throws, or is told to return at a `yield`
+abbrev pub gives_or_throws : Completion → Bool
+gives_or_throws (Return WithArgument) = true
+gives_or_throws (Return AtYield) = true
+gives_or_throws Throw = true
+gives_or_throws _ = false
+
+abbrev pub BodiesGiveValues : Type 0
+BodiesGiveValues = (script body : Tree) (completion : Completion) → errors script ≡ [] → FunctionBody body script →
+    normal body ≡ false → has sought.ReturnsNothing body ≡ false → Completes [] body completion → gives_or_throws completion ≡ true
+
 -- `consistent-return`: of a body that isn't reported, no run gives a value where another gives none
 abbrev pub ReturnsAreConsistent : Type 0
 ReturnsAreConsistent = (source : List ℕ) (around : _) (body : Tree) (completion other : Completion) → is_body around body ≡ true →

@@ -1,6 +1,6 @@
 //! What is proved of how statements complete: each contract is a theorem, and the body does nothing.
 
-ghost use Rattle.completion_laws.specs.Laws.{BranchesReturn, JumpsStayInside, NeverWithoutValue, NormalAloneCompletes, OthersCallSuper, OthersDontFallThrough, ReportedAreUnreached, ReportedLoopsEnd, ReturnsAreConsistent, WhatLeavesStands};
+ghost use Rattle.completion_laws.specs.Laws.{BodiesGiveValues, BranchesReturn, JumpsStayInside, NeverWithoutValue, NormalAloneCompletes, OthersCallSuper, OthersDontFallThrough, ReportedAreUnreached, ReportedLoopsEnd, ReturnsAreConsistent, WhatLeavesStands};
 
 /// A statement that can't complete normally, by `normal`, never does.
 pub fn normal_alone_completes()
@@ -21,6 +21,11 @@ pub fn jumps_stay_inside()
 /// of which `getter-return` and `array-callback-return` say nothing.
 pub fn never_without_value()
     ensures { NeverWithoutValue }
+{}
+
+/// In a script without early errors each run of such a body that ends gives a value, throws, or is told to return at a `yield`.
+pub fn bodies_give_values()
+    ensures { BodiesGiveValues }
 {}
 
 /// Of a body that `consistent-return` doesn't report, no run returns a value where another returns none.
