@@ -1,0 +1,4 @@
+pub mod Completions
+pub mod Reaches
+pub mod FunctionBodies
+pub mod Laws
