@@ -24,6 +24,7 @@ RULES = {
     'no-debugger': 'No debugger statements',
     'no-div-regex': 'No regular expression that begins like /=',
     'no-dupe-class-members': 'No member that stands twice in a class',
+    'no-dupe-else-if': 'No test of an else if chain that the tests before it leave nothing of',
     'no-dupe-keys': 'No key that stands twice in an object',
     'no-duplicate-case': 'No case that stands twice in a switch',
     'no-else-return': 'No else behind branches that return',

@@ -8,7 +8,7 @@ use Rattle.node_rules.specs.declared.node_rule.NodeRule.TheVariants.{Curly, Defa
 use Rattle.reference_rules.specs.Rows.{called as name_called}
 use Rattle.reference_rules.specs.declared.reference_rule.ReferenceRule.TheVariants.{NoAlert, NoClassAssign, NoConstAssign, NoExAssign, NoFuncAssign, NoGlobalAssign, NoImplicitGlobals, NoImportAssign, NoNewNativeNonconstructor, NoNewSymbol, NoObjCalls, NoParamReassign, NoRedeclare, NoShadowRestrictedNames, NoUndefined, NoUseBeforeDefine}
 use Rattle.repetition_rules.specs.Rows.{called as part_called}
-use Rattle.repetition_rules.specs.declared.repetition_rule.RepetitionRule.TheVariants.{NoDupeClassMembers, NoDupeKeys, NoDuplicateCase}
+use Rattle.repetition_rules.specs.declared.repetition_rule.RepetitionRule.TheVariants.{NoDupeClassMembers, NoDupeElseIf, NoDupeKeys, NoDuplicateCase}
 use Rattle.flow_rules.specs.Rows.{called as flow_rule_called}
 use Rattle.flow_rules.specs.declared.flow_rule.FlowRule.TheVariants.{ArrayCallbackReturn, ConsistentReturn, ConstructorSuper, GetterReturn, NoElseReturn, NoFallthrough, NoThisBeforeSuper, NoUnreachable, NoUnreachableLoop, NoUselessReturn}
 use Rattle.literal_rules.specs.Rows.{called as literal_rule_called}
@@ -75,6 +75,7 @@ all_rules =
     ∷ OnNodes NoDebugger
     ∷ OnLiterals NoDivRegex
     ∷ OnRepetitions NoDupeClassMembers
+    ∷ OnRepetitions NoDupeElseIf
     ∷ OnRepetitions NoDupeKeys
     ∷ OnRepetitions NoDuplicateCase
     ∷ OnFlow NoElseReturn
@@ -192,6 +193,7 @@ recommended_rules =
     ∷ OnLiterals NoControlRegex
     ∷ OnNodes NoDebugger
     ∷ OnRepetitions NoDupeClassMembers
+    ∷ OnRepetitions NoDupeElseIf
     ∷ OnRepetitions NoDupeKeys
     ∷ OnRepetitions NoDuplicateCase
     ∷ OnNodes NoEmpty

@@ -14,7 +14,7 @@ pub enum RuleName {
     OnNodes(NodeRule),
     /// A rule that asks what names mean: a row of `reference_rules`.
     OnReferences(ReferenceRule),
-    /// A rule on what stands twice in one node: a row of `repetition_rules`.
+    /// A rule on what stands twice: a row of `repetition_rules`.
     OnRepetitions(RepetitionRule),
     /// A rule on the ways that statements end: a row of `flow_rules`.
     OnFlow(FlowRule),
@@ -35,7 +35,7 @@ pub enum RuleName {
 }
 
 /// The rules, in the order of their names.
-pub const RULES: [RuleName; 108] = [
+pub const RULES: [RuleName; 109] = [
     RuleName::OnFlow(FlowRule::ArrayCallbackReturn),
     RuleName::OnFlow(FlowRule::ConsistentReturn),
     RuleName::OnFlow(FlowRule::ConstructorSuper),
@@ -60,6 +60,7 @@ pub const RULES: [RuleName; 108] = [
     RuleName::OnNodes(NodeRule::NoDebugger),
     RuleName::OnLiterals(LiteralRule::NoDivRegex),
     RuleName::OnRepetitions(RepetitionRule::NoDupeClassMembers),
+    RuleName::OnRepetitions(RepetitionRule::NoDupeElseIf),
     RuleName::OnRepetitions(RepetitionRule::NoDupeKeys),
     RuleName::OnRepetitions(RepetitionRule::NoDuplicateCase),
     RuleName::OnFlow(FlowRule::NoElseReturn),
@@ -160,7 +161,7 @@ pub(crate) const NINE: [RuleName; 9] = [
 ];
 
 /// Those that ESLint recommends, by its 8th version or by its 9th.
-pub(crate) const RECOMMENDED: [RuleName; 53] = [
+pub(crate) const RECOMMENDED: [RuleName; 54] = [
     RuleName::OnFlow(FlowRule::ConstructorSuper),
     RuleName::OnNodes(NodeRule::ForDirection),
     RuleName::OnFlow(FlowRule::GetterReturn),
@@ -175,6 +176,7 @@ pub(crate) const RECOMMENDED: [RuleName; 53] = [
     RuleName::OnLiterals(LiteralRule::NoControlRegex),
     RuleName::OnNodes(NodeRule::NoDebugger),
     RuleName::OnRepetitions(RepetitionRule::NoDupeClassMembers),
+    RuleName::OnRepetitions(RepetitionRule::NoDupeElseIf),
     RuleName::OnRepetitions(RepetitionRule::NoDupeKeys),
     RuleName::OnRepetitions(RepetitionRule::NoDuplicateCase),
     RuleName::OnNodes(NodeRule::NoEmpty),
