@@ -28,6 +28,7 @@ const LEFT_OUT = {
   rule_words: 'specs: Order Appends',
   node_rules: 'specs: KindNumbers Due Laws',
   reference_rules: 'specs: Laws',
+  private_members: 'specs: Sets',
   repetition_rules: 'specs: Chains Laws Seen',
   literal_rules: 'specs: Laws',
   text_rules: 'specs: Laws',

@@ -86,6 +86,7 @@ RULES = {
     'no-unsafe-optional-chaining': 'No use of a chain that throws where the chain is cut short',
     'no-unused-expressions': 'No expressions without use as statements',
     'no-unused-labels': 'No labels that nothing jumps to',
+    'no-unused-private-class-members': 'No private member of a class that nothing in the class uses',
     'no-unused-vars': 'No names that nothing reads',
     'no-use-before-define': 'No use of a name before its declaration',
     'no-useless-catch': 'No catch that only throws again',

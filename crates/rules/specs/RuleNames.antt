@@ -16,7 +16,7 @@ use Rattle.literal_rules.specs.declared.literal_rule.LiteralRule.TheVariants.{No
 use Rattle.text_rules.specs.Rows.{called as text_rule_called}
 use Rattle.text_rules.specs.declared.text_rule.TextRule.TheVariants.{NoCondAssign, NoIrregularWhitespace, NoSequences, NoUnexpectedMultiline}
 use Rattle.rules.specs.declared.rule_list.RuleName.{RuleName}
-use Rattle.rules.specs.declared.rule_list.RuleName.TheVariants.{OnNodes, OnReferences, OnRepetitions, OnFlow, OnLiterals, OnTexts, NoExtraParens, NoShadow, NoUndef, NoUnusedVars, PreferConst}
+use Rattle.rules.specs.declared.rule_list.RuleName.TheVariants.{OnNodes, OnReferences, OnRepetitions, OnFlow, OnLiterals, OnTexts, NoExtraParens, NoShadow, NoUndef, NoUnusedPrivateClassMembers, NoUnusedVars, PreferConst}
 use Rattle.rules.specs.declared.rule_set.RuleSet.{RuleSet}
 use Rattle.rules.specs.declared.rule_set.RuleSet.TheVariants.{Nine, Recommended, Every, Nothing}
 
@@ -31,6 +31,7 @@ called (OnTexts rule) = text_rule_called rule
 called NoExtraParens = codes "no-extra-parens"
 called NoShadow = codes "no-shadow"
 called NoUndef = codes "no-undef"
+called NoUnusedPrivateClassMembers = codes "no-unused-private-class-members"
 called NoUnusedVars = codes "no-unused-vars"
 called PreferConst = codes "prefer-const"
 
@@ -137,6 +138,7 @@ all_rules =
     ∷ OnNodes NoUnsafeOptionalChaining
     ∷ OnNodes NoUnusedExpressions
     ∷ OnNodes NoUnusedLabels
+    ∷ NoUnusedPrivateClassMembers
     ∷ NoUnusedVars
     ∷ OnReferences NoUseBeforeDefine
     ∷ OnNodes NoUselessCatch
@@ -227,6 +229,7 @@ recommended_rules =
     ∷ OnNodes NoUnsafeNegation
     ∷ OnNodes NoUnsafeOptionalChaining
     ∷ OnNodes NoUnusedLabels
+    ∷ NoUnusedPrivateClassMembers
     ∷ NoUnusedVars
     ∷ OnNodes NoUselessCatch
     ∷ OnLiterals NoUselessEscape

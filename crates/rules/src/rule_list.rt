@@ -28,6 +28,8 @@ pub enum RuleName {
     NoShadow,
     /// `no-undef`.
     NoUndef,
+    /// `no-unused-private-class-members`.
+    NoUnusedPrivateClassMembers,
     /// `no-unused-vars`.
     NoUnusedVars,
     /// `prefer-const`.
@@ -35,7 +37,7 @@ pub enum RuleName {
 }
 
 /// The rules, in the order of their names.
-pub const RULES: [RuleName; 109] = [
+pub const RULES: [RuleName; 110] = [
     RuleName::OnFlow(FlowRule::ArrayCallbackReturn),
     RuleName::OnFlow(FlowRule::ConsistentReturn),
     RuleName::OnFlow(FlowRule::ConstructorSuper),
@@ -122,6 +124,7 @@ pub const RULES: [RuleName; 109] = [
     RuleName::OnNodes(NodeRule::NoUnsafeOptionalChaining),
     RuleName::OnNodes(NodeRule::NoUnusedExpressions),
     RuleName::OnNodes(NodeRule::NoUnusedLabels),
+    RuleName::NoUnusedPrivateClassMembers,
     RuleName::NoUnusedVars,
     RuleName::OnReferences(ReferenceRule::NoUseBeforeDefine),
     RuleName::OnNodes(NodeRule::NoUselessCatch),
@@ -161,7 +164,7 @@ pub(crate) const NINE: [RuleName; 9] = [
 ];
 
 /// Those that ESLint recommends, by its 8th version or by its 9th.
-pub(crate) const RECOMMENDED: [RuleName; 54] = [
+pub(crate) const RECOMMENDED: [RuleName; 55] = [
     RuleName::OnFlow(FlowRule::ConstructorSuper),
     RuleName::OnNodes(NodeRule::ForDirection),
     RuleName::OnFlow(FlowRule::GetterReturn),
@@ -210,6 +213,7 @@ pub(crate) const RECOMMENDED: [RuleName; 54] = [
     RuleName::OnNodes(NodeRule::NoUnsafeNegation),
     RuleName::OnNodes(NodeRule::NoUnsafeOptionalChaining),
     RuleName::OnNodes(NodeRule::NoUnusedLabels),
+    RuleName::NoUnusedPrivateClassMembers,
     RuleName::NoUnusedVars,
     RuleName::OnNodes(NodeRule::NoUselessCatch),
     RuleName::OnLiterals(LiteralRule::NoUselessEscape),
@@ -236,6 +240,7 @@ impl RuleName {
             RuleName::NoExtraParens => "no-extra-parens",
             RuleName::NoShadow => "no-shadow",
             RuleName::NoUndef => "no-undef",
+            RuleName::NoUnusedPrivateClassMembers => "no-unused-private-class-members",
             RuleName::NoUnusedVars => "no-unused-vars",
             RuleName::PreferConst => "prefer-const",
         }
