@@ -38,7 +38,8 @@ const GROUPS = {
   rules: [
     ...specs('rules', 'Rules Settings AllRules'),
     ...specs('reference_rules', 'BuiltIn Tests Rows Found'),
-    ...specs('repetition_rules', 'Rows Members Entries Keys Written Found'),
+    ...specs('repetition_rules', 'Rows Members Entries Keys Written Tests Found'),
+    ...specs('private_members', 'Uses Found'),
     ...specs('flow_rules', 'Completion Rows Arounds Fallthrough Flows Over Found KindSets'),
     ...specs('literal_rules', 'Rows Marks Found Escapes Patterns TextStates Bytes'),
     ...specs('text_rules', 'Rows Spots Readings Gaps Found'),

@@ -1,6 +1,8 @@
 pub mod Entries
 pub mod Keys
 pub mod Written
+pub mod Tests
+pub mod Chains
 pub mod Members
 pub mod Rows
 pub mod Seen

@@ -1,5 +1,5 @@
 //! Which rules on what stands twice there are, row by row: a variant, a name, the kind of node that it looks at, what it compares there,
-//! the words. A rule has an arm in each table here, and in those of `specs/Rows.antt`.
+//! the words. `no-dupe-else-if` compares no parts of a node, but the tests of a chain. A rule has an arm in each table here, and in those of `specs/Rows.antt`.
 
 ghost use Rattle.std.specs.Prelude.{◌≡◌, ◌++◌, OnOk};
 ghost use Rattle.tree.specs.Node.{node_tree};
@@ -10,17 +10,19 @@ use crate::members::{push_case, push_member, push_property};
 use std::alloc::{AllocError, Global};
 use tree::{Kind, Node};
 
-/// A rule on what stands twice in one node.
+/// A rule on what stands twice.
 #[derive(Clone, Copy, Debug, PartialEq, Eq)]
 pub enum RepetitionRule {
     NoDupeClassMembers,
+    NoDupeElseIf,
     NoDupeKeys,
     NoDuplicateCase,
 }
 
 /// The rules, in the order of their names.
-pub const REPETITION_RULES: [RepetitionRule; 3] = [
+pub const REPETITION_RULES: [RepetitionRule; 4] = [
     RepetitionRule::NoDupeClassMembers,
+    RepetitionRule::NoDupeElseIf,
     RepetitionRule::NoDupeKeys,
     RepetitionRule::NoDuplicateCase,
 ];
@@ -35,6 +37,7 @@ impl RepetitionRule {
     {
         match self {
             RepetitionRule::NoDupeClassMembers => "no-dupe-class-members",
+            RepetitionRule::NoDupeElseIf => "no-dupe-else-if",
             RepetitionRule::NoDupeKeys => "no-dupe-keys",
             RepetitionRule::NoDuplicateCase => "no-duplicate-case",
         }
@@ -47,6 +50,7 @@ pub(crate) fn looks(rule: RepetitionRule, kind: Kind) -> bool
 {
     match rule {
         RepetitionRule::NoDupeClassMembers => matches!(kind, Kind::ClassBody),
+        RepetitionRule::NoDupeElseIf => false,
         RepetitionRule::NoDupeKeys => matches!(kind, Kind::ObjectExpression),
         RepetitionRule::NoDuplicateCase => matches!(kind, Kind::SwitchStatement),
     }
@@ -58,6 +62,7 @@ pub(crate) fn words(rule: RepetitionRule) -> &'static str
 {
     match rule {
         RepetitionRule::NoDupeClassMembers => "member again",
+        RepetitionRule::NoDupeElseIf => "test never holds",
         RepetitionRule::NoDupeKeys => "key again",
         RepetitionRule::NoDuplicateCase => "case again",
     }
@@ -74,6 +79,7 @@ pub(crate) fn push_entry(
 {
     match rule {
         RepetitionRule::NoDupeClassMembers => push_member(alloc, part, out),
+        RepetitionRule::NoDupeElseIf => Ok(()),
         RepetitionRule::NoDupeKeys => push_property(alloc, part, out),
         RepetitionRule::NoDuplicateCase => push_case(alloc, part, out),
     }

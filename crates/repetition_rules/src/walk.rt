@@ -7,9 +7,10 @@ ghost use Rattle.name_tables.specs.BoundNames.{each_part};
 ghost use Rattle.name_tables.specs.PatternParts.{at_part};
 ghost use Rattle.rule_words.specs.Appends.{Grows};
 ghost use Rattle.repetition_rules.specs.Found.{each, found_by_rules};
-ghost use Rattle.repetition_rules.specs.Rows.{entries_of, of_node};
+ghost use Rattle.repetition_rules.specs.Rows.{entries_of, of_node, of_parts};
 
 use crate::again::push_reported;
+use crate::else_if::push_chains_below;
 use crate::entry::Entry;
 use crate::repetition_rule::{RepetitionRule, looks, push_entry};
 use rule_words::Report;
@@ -63,6 +64,24 @@ fn push_by_rule(
     out: &mut Vec<Report>,
 ) -> Result<(), AllocError>
     ensures found { OnOk result (out.new.items ≡ out.old.items ++ of_node rule (node_tree node.entry)) }
+    ensures kept { Grows out.old.items out.new.items }
+{
+    match rule {
+        RepetitionRule::NoDupeElseIf => push_chains_below(alloc, rule, node, out),
+        RepetitionRule::NoDupeClassMembers
+        | RepetitionRule::NoDupeKeys
+        | RepetitionRule::NoDuplicateCase => push_again(alloc, rule, node, out),
+    }
+}
+
+/// Appends what a rule reports that compares parts of a node.
+fn push_again(
+    alloc: Global,
+    rule: RepetitionRule,
+    node: Node,
+    out: &mut Vec<Report>,
+) -> Result<(), AllocError>
+    ensures found { OnOk result (out.new.items ≡ out.old.items ++ of_parts rule (node_tree node.entry)) }
     ensures kept { Grows out.old.items out.new.items }
 {
     if !looks(rule, node.kind()) {

@@ -13,7 +13,7 @@ use Rattle.flow_rules.specs.Rows.{of_node as flow_of_node, of_rules as flow_of_r
 use Rattle.flow_rules.proofs.Together.{both-nodes as both-flows, no-rules as no-flow-rules}
 use Rattle.literal_rules.proofs.Together.{both as both-literal, no-rules as no-literal-rules}
 use Rattle.rules.specs.declared.rule_list.RuleName.{RuleName}
-use Rattle.rules.specs.declared.rule_list.RuleName.TheVariants.{OnNodes, OnReferences, OnRepetitions, OnFlow, OnLiterals, OnTexts, NoExtraParens, NoShadow, NoUndef, NoUnusedVars, PreferConst}
+use Rattle.rules.specs.declared.rule_list.RuleName.TheVariants.{OnNodes, OnReferences, OnRepetitions, OnFlow, OnLiterals, OnTexts, NoExtraParens, NoShadow, NoUndef, NoUnusedPrivateClassMembers, NoUnusedVars, PreferConst}
 use Rattle.rules.specs.Groups.{chosen, chosen_if, found_alone, found_in_groups, found_on_references, found_on_repetitions, found_on_flow, flow_rule_named, found_on_literals, literal_rule_named, found_on_texts, text_rule_named, node_rule_named, reference_rule_named, repetition_rule_named}
 use Rattle.rules.specs.NodeRules.{found_on_nodes}
 use Rattle.rules.specs.RuleNames.{called}
@@ -107,6 +107,7 @@ step (OnTexts r) names v =
 step NoExtraParens names v = alone-last (found_by_name NoExtraParens v) names v
 step NoShadow names v = alone-last (found_by_name NoShadow v) names v
 step NoUndef names v = alone-last (found_by_name NoUndef v) names v
+step NoUnusedPrivateClassMembers names v = alone-last (found_by_name NoUnusedPrivateClassMembers v) names v
 step NoUnusedVars names v = alone-last (found_by_name NoUnusedVars v) names v
 step PreferConst names v = alone-last (found_by_name PreferConst v) names v
 

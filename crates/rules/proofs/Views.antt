@@ -10,7 +10,7 @@ use Rattle.rules.specs.Rules.{View}
 use Rattle.rules.specs.Run.{found_by_name, found_by_names, look_at_pairs, look_at_scopes}
 use Rattle.rules.specs.Settings.{is_on}
 use Rattle.rules.specs.declared.rule_list.RuleName.{RuleName}
-use Rattle.rules.specs.declared.rule_list.RuleName.TheVariants.{OnNodes, OnReferences, OnRepetitions, OnFlow, OnLiterals, OnTexts, NoExtraParens, NoShadow, NoUndef, NoUnusedVars, PreferConst}
+use Rattle.rules.specs.declared.rule_list.RuleName.TheVariants.{OnNodes, OnReferences, OnRepetitions, OnFlow, OnLiterals, OnTexts, NoExtraParens, NoShadow, NoUndef, NoUnusedPrivateClassMembers, NoUnusedVars, PreferConst}
 
 -- a view with other scopes
 abbrev pub with_found : View → Found → View
@@ -29,6 +29,7 @@ same_by_name (OnTexts r) v f h = refl
 same_by_name NoExtraParens v f h = refl
 same_by_name NoShadow v f h = off _ _ _ h
 same_by_name NoUndef v f h = off _ _ _ h
+same_by_name NoUnusedPrivateClassMembers v f h = refl
 same_by_name NoUnusedVars v f h = off _ _ _ h
 same_by_name PreferConst v f h = off _ _ _ h
 
@@ -56,6 +57,7 @@ same_by_name_but_pairs (OnTexts r) v spans h = refl
 same_by_name_but_pairs NoExtraParens v spans h = off _ _ _ h
 same_by_name_but_pairs NoShadow v spans h = refl
 same_by_name_but_pairs NoUndef v spans h = refl
+same_by_name_but_pairs NoUnusedPrivateClassMembers v spans h = refl
 same_by_name_but_pairs NoUnusedVars v spans h = refl
 same_by_name_but_pairs PreferConst v spans h = refl
 

@@ -18,7 +18,7 @@ use Rattle.rules.specs.Rules.{View, profile_of}
 use Rattle.rules.specs.Run.{found_by_name}
 use Rattle.rules.specs.Settings.{Settings, is_on}
 use Rattle.rules.specs.declared.rule_list.RuleName.{RuleName}
-use Rattle.rules.specs.declared.rule_list.RuleName.TheVariants.{OnNodes, OnReferences, OnRepetitions, OnFlow, OnLiterals, OnTexts, NoExtraParens, NoShadow, NoUndef, NoUnusedVars, PreferConst}
+use Rattle.rules.specs.declared.rule_list.RuleName.TheVariants.{OnNodes, OnReferences, OnRepetitions, OnFlow, OnLiterals, OnTexts, NoExtraParens, NoShadow, NoUndef, NoUnusedPrivateClassMembers, NoUnusedVars, PreferConst}
 
 -- the rule of a group that a name is of
 abbrev pub node_rule_named : RuleName → Option NodeRule
@@ -50,6 +50,7 @@ abbrev pub is_alone : RuleName → Bool
 is_alone NoExtraParens = true
 is_alone NoShadow = true
 is_alone NoUndef = true
+is_alone NoUnusedPrivateClassMembers = true
 is_alone NoUnusedVars = true
 is_alone PreferConst = true
 is_alone _ = false

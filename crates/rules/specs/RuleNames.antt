@@ -8,7 +8,7 @@ use Rattle.node_rules.specs.declared.node_rule.NodeRule.TheVariants.{Curly, Defa
 use Rattle.reference_rules.specs.Rows.{called as name_called}
 use Rattle.reference_rules.specs.declared.reference_rule.ReferenceRule.TheVariants.{NoAlert, NoClassAssign, NoConstAssign, NoExAssign, NoFuncAssign, NoGlobalAssign, NoImplicitGlobals, NoImportAssign, NoNewNativeNonconstructor, NoNewSymbol, NoObjCalls, NoParamReassign, NoRedeclare, NoShadowRestrictedNames, NoUndefined, NoUseBeforeDefine}
 use Rattle.repetition_rules.specs.Rows.{called as part_called}
-use Rattle.repetition_rules.specs.declared.repetition_rule.RepetitionRule.TheVariants.{NoDupeClassMembers, NoDupeKeys, NoDuplicateCase}
+use Rattle.repetition_rules.specs.declared.repetition_rule.RepetitionRule.TheVariants.{NoDupeClassMembers, NoDupeElseIf, NoDupeKeys, NoDuplicateCase}
 use Rattle.flow_rules.specs.Rows.{called as flow_rule_called}
 use Rattle.flow_rules.specs.declared.flow_rule.FlowRule.TheVariants.{ArrayCallbackReturn, ConsistentReturn, ConstructorSuper, GetterReturn, NoElseReturn, NoFallthrough, NoThisBeforeSuper, NoUnreachable, NoUnreachableLoop, NoUselessReturn}
 use Rattle.literal_rules.specs.Rows.{called as literal_rule_called}
@@ -16,7 +16,7 @@ use Rattle.literal_rules.specs.declared.literal_rule.LiteralRule.TheVariants.{No
 use Rattle.text_rules.specs.Rows.{called as text_rule_called}
 use Rattle.text_rules.specs.declared.text_rule.TextRule.TheVariants.{NoCondAssign, NoIrregularWhitespace, NoSequences, NoUnexpectedMultiline}
 use Rattle.rules.specs.declared.rule_list.RuleName.{RuleName}
-use Rattle.rules.specs.declared.rule_list.RuleName.TheVariants.{OnNodes, OnReferences, OnRepetitions, OnFlow, OnLiterals, OnTexts, NoExtraParens, NoShadow, NoUndef, NoUnusedVars, PreferConst}
+use Rattle.rules.specs.declared.rule_list.RuleName.TheVariants.{OnNodes, OnReferences, OnRepetitions, OnFlow, OnLiterals, OnTexts, NoExtraParens, NoShadow, NoUndef, NoUnusedPrivateClassMembers, NoUnusedVars, PreferConst}
 use Rattle.rules.specs.declared.rule_set.RuleSet.{RuleSet}
 use Rattle.rules.specs.declared.rule_set.RuleSet.TheVariants.{Nine, Recommended, Every, Nothing}
 
@@ -31,6 +31,7 @@ called (OnTexts rule) = text_rule_called rule
 called NoExtraParens = codes "no-extra-parens"
 called NoShadow = codes "no-shadow"
 called NoUndef = codes "no-undef"
+called NoUnusedPrivateClassMembers = codes "no-unused-private-class-members"
 called NoUnusedVars = codes "no-unused-vars"
 called PreferConst = codes "prefer-const"
 
@@ -75,6 +76,7 @@ all_rules =
     ∷ OnNodes NoDebugger
     ∷ OnLiterals NoDivRegex
     ∷ OnRepetitions NoDupeClassMembers
+    ∷ OnRepetitions NoDupeElseIf
     ∷ OnRepetitions NoDupeKeys
     ∷ OnRepetitions NoDuplicateCase
     ∷ OnFlow NoElseReturn
@@ -136,6 +138,7 @@ all_rules =
     ∷ OnNodes NoUnsafeOptionalChaining
     ∷ OnNodes NoUnusedExpressions
     ∷ OnNodes NoUnusedLabels
+    ∷ NoUnusedPrivateClassMembers
     ∷ NoUnusedVars
     ∷ OnReferences NoUseBeforeDefine
     ∷ OnNodes NoUselessCatch
@@ -192,6 +195,7 @@ recommended_rules =
     ∷ OnLiterals NoControlRegex
     ∷ OnNodes NoDebugger
     ∷ OnRepetitions NoDupeClassMembers
+    ∷ OnRepetitions NoDupeElseIf
     ∷ OnRepetitions NoDupeKeys
     ∷ OnRepetitions NoDuplicateCase
     ∷ OnNodes NoEmpty
@@ -225,6 +229,7 @@ recommended_rules =
     ∷ OnNodes NoUnsafeNegation
     ∷ OnNodes NoUnsafeOptionalChaining
     ∷ OnNodes NoUnusedLabels
+    ∷ NoUnusedPrivateClassMembers
     ∷ NoUnusedVars
     ∷ OnNodes NoUselessCatch
     ∷ OnLiterals NoUselessEscape

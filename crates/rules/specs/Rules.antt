@@ -20,6 +20,7 @@ use Rattle.literal_rules.specs.Found.{found_by_rule as found_by_literal_rule}
 use Rattle.literal_rules.specs.declared.literal_rule.LiteralRule.{LiteralRule}
 use Rattle.text_rules.specs.Found.{found_by_rule as found_by_text_rule}
 use Rattle.text_rules.specs.declared.text_rule.TextRule.{TextRule}
+use Rattle.private_members.specs.Found.{found as found_private_members}
 use Rattle.rule_words.specs.Reports.{Report, report, quoted}
 use Rattle.node_rules.specs.Found.{found_by_rule}
 use Rattle.node_rules.specs.declared.node_rule.NodeOptions.{NodeOptions}
@@ -56,6 +57,10 @@ of_extra p = report "no-extra-parens" p.start p.end (codes "unnecessary parenthe
 
 abbrev pub no_extra_parens : View → List Report
 no_extra_parens v = map of_extra v.extra
+
+-- no-unused-private-class-members
+abbrev pub no_unused_private_class_members : View → List Report
+no_unused_private_class_members v = found_private_members v.tree
 
 -- Rules that look at scopes, bindings and references.
 

@@ -14,7 +14,7 @@ pub enum RuleName {
     OnNodes(NodeRule),
     /// A rule that asks what names mean: a row of `reference_rules`.
     OnReferences(ReferenceRule),
-    /// A rule on what stands twice in one node: a row of `repetition_rules`.
+    /// A rule on what stands twice: a row of `repetition_rules`.
     OnRepetitions(RepetitionRule),
     /// A rule on the ways that statements end: a row of `flow_rules`.
     OnFlow(FlowRule),
@@ -28,6 +28,8 @@ pub enum RuleName {
     NoShadow,
     /// `no-undef`.
     NoUndef,
+    /// `no-unused-private-class-members`.
+    NoUnusedPrivateClassMembers,
     /// `no-unused-vars`.
     NoUnusedVars,
     /// `prefer-const`.
@@ -35,7 +37,7 @@ pub enum RuleName {
 }
 
 /// The rules, in the order of their names.
-pub const RULES: [RuleName; 108] = [
+pub const RULES: [RuleName; 110] = [
     RuleName::OnFlow(FlowRule::ArrayCallbackReturn),
     RuleName::OnFlow(FlowRule::ConsistentReturn),
     RuleName::OnFlow(FlowRule::ConstructorSuper),
@@ -60,6 +62,7 @@ pub const RULES: [RuleName; 108] = [
     RuleName::OnNodes(NodeRule::NoDebugger),
     RuleName::OnLiterals(LiteralRule::NoDivRegex),
     RuleName::OnRepetitions(RepetitionRule::NoDupeClassMembers),
+    RuleName::OnRepetitions(RepetitionRule::NoDupeElseIf),
     RuleName::OnRepetitions(RepetitionRule::NoDupeKeys),
     RuleName::OnRepetitions(RepetitionRule::NoDuplicateCase),
     RuleName::OnFlow(FlowRule::NoElseReturn),
@@ -121,6 +124,7 @@ pub const RULES: [RuleName; 108] = [
     RuleName::OnNodes(NodeRule::NoUnsafeOptionalChaining),
     RuleName::OnNodes(NodeRule::NoUnusedExpressions),
     RuleName::OnNodes(NodeRule::NoUnusedLabels),
+    RuleName::NoUnusedPrivateClassMembers,
     RuleName::NoUnusedVars,
     RuleName::OnReferences(ReferenceRule::NoUseBeforeDefine),
     RuleName::OnNodes(NodeRule::NoUselessCatch),
@@ -160,7 +164,7 @@ pub(crate) const NINE: [RuleName; 9] = [
 ];
 
 /// Those that ESLint recommends, by its 8th version or by its 9th.
-pub(crate) const RECOMMENDED: [RuleName; 53] = [
+pub(crate) const RECOMMENDED: [RuleName; 55] = [
     RuleName::OnFlow(FlowRule::ConstructorSuper),
     RuleName::OnNodes(NodeRule::ForDirection),
     RuleName::OnFlow(FlowRule::GetterReturn),
@@ -175,6 +179,7 @@ pub(crate) const RECOMMENDED: [RuleName; 53] = [
     RuleName::OnLiterals(LiteralRule::NoControlRegex),
     RuleName::OnNodes(NodeRule::NoDebugger),
     RuleName::OnRepetitions(RepetitionRule::NoDupeClassMembers),
+    RuleName::OnRepetitions(RepetitionRule::NoDupeElseIf),
     RuleName::OnRepetitions(RepetitionRule::NoDupeKeys),
     RuleName::OnRepetitions(RepetitionRule::NoDuplicateCase),
     RuleName::OnNodes(NodeRule::NoEmpty),
@@ -208,6 +213,7 @@ pub(crate) const RECOMMENDED: [RuleName; 53] = [
     RuleName::OnNodes(NodeRule::NoUnsafeNegation),
     RuleName::OnNodes(NodeRule::NoUnsafeOptionalChaining),
     RuleName::OnNodes(NodeRule::NoUnusedLabels),
+    RuleName::NoUnusedPrivateClassMembers,
     RuleName::NoUnusedVars,
     RuleName::OnNodes(NodeRule::NoUselessCatch),
     RuleName::OnLiterals(LiteralRule::NoUselessEscape),
@@ -234,6 +240,7 @@ impl RuleName {
             RuleName::NoExtraParens => "no-extra-parens",
             RuleName::NoShadow => "no-shadow",
             RuleName::NoUndef => "no-undef",
+            RuleName::NoUnusedPrivateClassMembers => "no-unused-private-class-members",
             RuleName::NoUnusedVars => "no-unused-vars",
             RuleName::PreferConst => "prefer-const",
         }

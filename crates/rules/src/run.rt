@@ -99,6 +99,7 @@ fn is_alone(name: RuleName) -> bool
         RuleName::NoExtraParens
             | RuleName::NoShadow
             | RuleName::NoUndef
+            | RuleName::NoUnusedPrivateClassMembers
             | RuleName::NoUnusedVars
             | RuleName::PreferConst
     )

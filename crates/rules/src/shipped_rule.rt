@@ -4,6 +4,7 @@ use crate::groups::Grouped;
 use crate::no_extra_parens::NoExtraParens;
 use crate::no_shadow::NoShadow;
 use crate::no_undef::NoUndef;
+use crate::no_unused_private_class_members::NoUnusedPrivateClassMembers;
 use crate::no_unused_vars::NoUnusedVars;
 use crate::prefer_const::PreferConst;
 use crate::rule::Rule;
@@ -66,6 +67,9 @@ impl Rule for ShippedRule {
             RuleName::NoExtraParens => NoExtraParens::new(self.alloc).check(view, out),
             RuleName::NoShadow => NoShadow::new(self.alloc).check(view, out),
             RuleName::NoUndef => NoUndef::new(self.alloc).check(view, out),
+            RuleName::NoUnusedPrivateClassMembers => {
+                NoUnusedPrivateClassMembers::new(self.alloc).check(view, out)
+            },
             RuleName::NoUnusedVars => NoUnusedVars::new(self.alloc).check(view, out),
             RuleName::PreferConst => PreferConst::new(self.alloc).check(view, out),
         }
