@@ -1,5 +1,5 @@
 -- What is reported, as the walk goes over nodes and rules.
-use Rattle.std.proofs.Common.{◌≡◌, ℕ, suc, ◌+◌, ◌<◌, ◌≤◌, List, ◌++◌, length, drop, get_or, Option, Some, None, sym, ap, ◌∙◌, add-one, append_assoc, append-nil}
+use Rattle.std.proofs.Common.{◌≡◌, ℕ, suc, ◌+◌, ◌<◌, ◌≤◌, List, ◌++◌, length, drop, get_or, Some, sym, ap, ◌∙◌, add-one, append_assoc, append-nil}
 use Rattle.std.specs.List.{slice_get}
 use Rattle.std.proofs.Math.Seq.{drop-cons}
 use Rattle.std.proofs.lemmas.List.{drop_all}
@@ -24,4 +24,3 @@ module _ {X : Type 0} (f : X → List Report) (xs : List X) (i : ℕ) (acc total
 
   pub each-end : length xs ≤ i → acc ≡ total
   each-end l = sym (append-nil acc) ∙ ap (λ ys. acc ++ each f ys) (sym (drop_all i xs l)) ∙ so
-

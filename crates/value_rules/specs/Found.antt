@@ -1,5 +1,5 @@
 -- What rules on the values of literals find in a script: of each literal what each rule reports, parts before their node.
-use Rattle.std.specs.Prelude.{ℕ, Bool, true, false, cond, List, [], ◌∷◌, ◌++◌}
+use Rattle.std.specs.Prelude.{Bool, true, false, cond, List, [], ◌∷◌, ◌++◌}
 use Rattle.tree.specs.declared.kind.Kind.{Kind}
 use Rattle.tree.specs.declared.kind.Kind.TheVariants.{Literal}
 use Rattle.tree.specs.Flat.{post_order}
