@@ -11,6 +11,7 @@
 
 const fs = require('fs');
 const path = require('path');
+const { floatWords } = require('./floats.js');
 
 class AnttError extends Error {}
 
@@ -31,7 +32,9 @@ const LEFT_OUT = {
   private_members: 'specs: Sets',
   repetition_rules: 'specs: Chains Laws Seen',
   literal_rules: 'specs: Laws',
+  number_precision: 'specs: Limbs Near',
   text_rules: 'specs: Laws',
+  value_rules: 'specs: Laws',
   flow_rules: 'specs: Laws Steps',
   rules: 'specs: Toml ListsShown NameOrder Run RuleViews Used Nodes NodeRules Groups Refusals Lines',
   estree_json: 'specs: Sent Primitives Table',
@@ -301,7 +304,9 @@ const LIBRARY = {
   is_xid_continue: [1, (c) => /^\p{XID_Continue}$/u.test(String.fromCodePoint(c))],
 };
 const OPTION = { Some: new Constructor('Some', 1, 'Option', ''), None: new Constructor('None', 0, 'Option', '') };
-const CONSTANTS = { true: 'true', false: 'false', zero: '0', '[]': 'null', tt: '0', refl: '0' };
+const { FLOATS, LIBRARY: FLOAT_WORDS } = floatWords({ Constructor, codes, narrow, text });
+Object.assign(LIBRARY, FLOAT_WORDS);
+const CONSTANTS = { binary64: '0', true: 'true', false: 'false', zero: '0', '[]': 'null', tt: '0', refl: '0' };
 const FIXITY = {
   '≡': [4, 'n'],
   '||': [30, 'l'],
@@ -316,6 +321,7 @@ const FIXITY = {
   '*': [70, 'l'],
   '/': [70, 'l'],
   '%': [70, 'l'],
+  '^': [75, 'r'],
 };
 const TYPE_NAMES = new Set('ℕ Bool List Option String Type Unit IsTrue IsFalse ⊤ ⊥ ◌≡◌ ◌≤◌ ◌<◌ ◌⊎◌ ◌↔◌ All ◌≢◌ T'.split(' '));
 
@@ -945,6 +951,7 @@ class Spec {
     if (Object.hasOwn(LIBRARY, name)) return { k: 'lib', name };
     if (Object.hasOwn(CONSTANTS, name)) return { k: 'constant', name };
     if (Object.hasOwn(OPTION, name)) return { k: 'con', con: OPTION[name], type: 'Option' };
+    if (Object.hasOwn(FLOATS, name)) return { k: 'con', con: FLOATS[name], type: 'Float' };
     if (TYPE_NAMES.has(name)) return { k: 'type', name };
     return null;
   }

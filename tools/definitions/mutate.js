@@ -43,6 +43,8 @@ const GROUPS = {
     ...specs('flow_rules', 'Completion Rows Arounds Fallthrough Flows Over Found KindSets'),
     ...specs('literal_rules', 'Rows Marks Found Escapes Patterns TextStates Bytes'),
     ...specs('text_rules', 'Rows Spots Readings Gaps Found'),
+    ...specs('number_precision', 'Digits Precision'),
+    ...specs('value_rules', 'Rows Found'),
     ...specs('node_rules', 'Rows Tests PartTests ExpressionTests ValueTests Searches ValueSearches Values Paths KindSets Words Arounds Found Over'),
     ...specs('rule_words', 'Reports'),
   ],

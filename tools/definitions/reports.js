@@ -1,5 +1,5 @@
 'use strict';
-// The definitions of scopes, bindings, references and reports (crates scopes, rule_words, node_rules, reference_rules, repetition_rules, flow_rules, literal_rules, text_rules, private_members and rules), run by antt.js, with what they say in the plain model's form.
+// The definitions of scopes, bindings, references and reports (crates scopes, rule_words, node_rules, reference_rules, repetition_rules, flow_rules, literal_rules, text_rules, number_precision, value_rules, private_members and rules), run by antt.js, with what they say in the plain model's form.
 
 const path = require('node:path');
 const antt = require('./antt.js');
@@ -47,7 +47,7 @@ function plainFound(found) {
 }
 
 // the crates whose definitions say what is reported
-const REPORTING = ['scopes', 'rule_words', 'node_rules', 'reference_rules', 'repetition_rules', 'flow_rules', 'literal_rules', 'text_rules', 'private_members', 'rules'];
+const REPORTING = ['scopes', 'rule_words', 'node_rules', 'reference_rules', 'repetition_rules', 'flow_rules', 'literal_rules', 'text_rules', 'number_precision', 'value_rules', 'private_members', 'rules'];
 
 const texts = (names) => antt.fromArray(names.map(antt.bytes));
 const flagsOf = (environments) => Object.fromEntries([...ENVIRONMENTS.keys()].map((name) => [name, environments.includes(name)]));

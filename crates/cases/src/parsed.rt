@@ -178,7 +178,7 @@ fn push_shown(
         "rules" | "refused rule" | "rule on nodes" => push_rules(alloc, row, parsed, out),
         "rule alone" => push_node_rule(alloc, row, parsed, out),
         "name rule" => push_name_rule(alloc, row, program, out),
-        "flow rule" | "literal rule" | "repetition rule" | "text rule" => {
+        "flow rule" | "literal rule" | "repetition rule" | "text rule" | "value rule" => {
             push_rule_alone(alloc, row, program, out)
         },
         "alike" => push_alike(alloc, program, row, out),

@@ -12,13 +12,15 @@ use Rattle.literal_rules.specs.Found.{found_by_rules as found_by_literal_rules}
 use Rattle.literal_rules.specs.declared.literal_rule.LiteralRule.{LiteralRule}
 use Rattle.text_rules.specs.Found.{found_by_rules as found_by_text_rules}
 use Rattle.text_rules.specs.declared.text_rule.TextRule.{TextRule}
+use Rattle.value_rules.specs.Found.{found_by_rules as found_by_value_rules}
+use Rattle.value_rules.specs.declared.value_rule.ValueRule.{ValueRule}
 use Rattle.rules.specs.NodeRules.{found_on_nodes}
 use Rattle.rules.specs.RuleNames.{called}
 use Rattle.rules.specs.Rules.{View, profile_of}
 use Rattle.rules.specs.Run.{found_by_name}
 use Rattle.rules.specs.Settings.{Settings, is_on}
 use Rattle.rules.specs.declared.rule_list.RuleName.{RuleName}
-use Rattle.rules.specs.declared.rule_list.RuleName.TheVariants.{OnNodes, OnReferences, OnRepetitions, OnFlow, OnLiterals, OnTexts, NoExtraParens, NoShadow, NoUndef, NoUnusedPrivateClassMembers, NoUnusedVars, PreferConst}
+use Rattle.rules.specs.declared.rule_list.RuleName.TheVariants.{OnNodes, OnReferences, OnRepetitions, OnFlow, OnLiterals, OnTexts, NoExtraParens, NoShadow, NoUndef, NoUnusedPrivateClassMembers, NoUnusedVars, PreferConst, OnValues}
 
 -- the rule of a group that a name is of
 abbrev pub node_rule_named : RuleName → Option NodeRule
@@ -45,6 +47,10 @@ abbrev pub text_rule_named : RuleName → Option TextRule
 text_rule_named (OnTexts rule) = Some rule
 text_rule_named _ = None
 
+abbrev pub value_rule_named : RuleName → Option ValueRule
+value_rule_named (OnValues rule) = Some rule
+value_rule_named _ = None
+
 -- a name of a rule that is of no group
 abbrev pub is_alone : RuleName → Bool
 is_alone NoExtraParens = true
@@ -70,6 +76,9 @@ found_on_literals rules v = found_by_literal_rules rules v.tree
 
 abbrev pub found_on_texts : List TextRule → View → List Report
 found_on_texts rules v = found_by_text_rules v.text rules v.tree
+
+abbrev pub found_on_values : List ValueRule → View → List Report
+found_on_values rules v = found_by_value_rules rules v.tree
 
 -- in front of these the rule of a name, if it is of the group, and on
 abbrev pub chosen_if : {R : Type 0} → Option R → Bool → List R → List R
@@ -98,4 +107,5 @@ found_in_groups names v =
     ++ (found_on_flow (chosen flow_rule_named names v.settings) v
     ++ (found_on_literals (chosen literal_rule_named names v.settings) v
     ++ (found_on_texts (chosen text_rule_named names v.settings) v
-    ++ found_alone names v)))))
+    ++ (found_on_values (chosen value_rule_named names v.settings) v
+    ++ found_alone names v))))))

@@ -15,8 +15,10 @@ use Rattle.literal_rules.specs.Rows.{called as literal_rule_called}
 use Rattle.literal_rules.specs.declared.literal_rule.LiteralRule.TheVariants.{NoControlRegex, NoDivRegex, NoEmptyCharacterClass, NoRegexSpaces, NoScriptUrl, NoTemplateCurlyInString, NoUselessEscape}
 use Rattle.text_rules.specs.Rows.{called as text_rule_called}
 use Rattle.text_rules.specs.declared.text_rule.TextRule.TheVariants.{NoCondAssign, NoIrregularWhitespace, NoSequences, NoUnexpectedMultiline}
+use Rattle.value_rules.specs.Rows.{called as value_rule_called}
+use Rattle.value_rules.specs.declared.value_rule.ValueRule.TheVariants.{NoLossOfPrecision}
 use Rattle.rules.specs.declared.rule_list.RuleName.{RuleName}
-use Rattle.rules.specs.declared.rule_list.RuleName.TheVariants.{OnNodes, OnReferences, OnRepetitions, OnFlow, OnLiterals, OnTexts, NoExtraParens, NoShadow, NoUndef, NoUnusedPrivateClassMembers, NoUnusedVars, PreferConst}
+use Rattle.rules.specs.declared.rule_list.RuleName.TheVariants.{OnNodes, OnReferences, OnRepetitions, OnFlow, OnLiterals, OnTexts, NoExtraParens, NoShadow, NoUndef, NoUnusedPrivateClassMembers, NoUnusedVars, PreferConst, OnValues}
 use Rattle.rules.specs.declared.rule_set.RuleSet.{RuleSet}
 use Rattle.rules.specs.declared.rule_set.RuleSet.TheVariants.{Nine, Recommended, Every, Nothing}
 
@@ -28,6 +30,7 @@ called (OnRepetitions rule) = part_called rule
 called (OnFlow rule) = flow_rule_called rule
 called (OnLiterals rule) = literal_rule_called rule
 called (OnTexts rule) = text_rule_called rule
+called (OnValues rule) = value_rule_called rule
 called NoExtraParens = codes "no-extra-parens"
 called NoShadow = codes "no-shadow"
 called NoUndef = codes "no-undef"
@@ -99,6 +102,7 @@ all_rules =
     ∷ OnTexts NoIrregularWhitespace
     ∷ OnNodes NoLabels
     ∷ OnNodes NoLonelyIf
+    ∷ OnValues NoLossOfPrecision
     ∷ OnNodes NoMultiAssign
     ∷ OnNodes NoMultiStr
     ∷ OnNodes NoNestedTernary
@@ -211,6 +215,7 @@ recommended_rules =
     ∷ OnReferences NoImportAssign
     ∷ OnNodes NoInnerDeclarations
     ∷ OnTexts NoIrregularWhitespace
+    ∷ OnValues NoLossOfPrecision
     ∷ OnReferences NoNewNativeNonconstructor
     ∷ OnReferences NoNewSymbol
     ∷ OnReferences NoObjCalls

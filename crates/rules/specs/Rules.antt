@@ -21,6 +21,8 @@ use Rattle.literal_rules.specs.declared.literal_rule.LiteralRule.{LiteralRule}
 use Rattle.text_rules.specs.Found.{found_by_rule as found_by_text_rule}
 use Rattle.text_rules.specs.declared.text_rule.TextRule.{TextRule}
 use Rattle.private_members.specs.Found.{found as found_private_members}
+use Rattle.value_rules.specs.Found.{found_by_rule as found_by_value_rule}
+use Rattle.value_rules.specs.declared.value_rule.ValueRule.{ValueRule}
 use Rattle.rule_words.specs.Reports.{Report, report, quoted}
 use Rattle.node_rules.specs.Found.{found_by_rule}
 use Rattle.node_rules.specs.declared.node_rule.NodeOptions.{NodeOptions}
@@ -93,6 +95,10 @@ on_literals rule v = found_by_literal_rule rule v.tree
 -- Rules on what stands between tokens: `specs/Rows.antt` of `text_rules` says what each reports.
 abbrev pub on_texts : TextRule → View → List Report
 on_texts rule v = found_by_text_rule v.text rule v.tree
+
+-- Rules on the values of literals: `specs/Rows.antt` of `value_rules` says what each reports.
+abbrev pub on_values : ValueRule → View → List Report
+on_values rule v = found_by_value_rule rule v.tree
 
 abbrev pub is_known : Bool → Settings → List ℕ → Bool
 is_known of_2022 s text = is_built_in_for of_2022 text || is_global text s

@@ -24,6 +24,7 @@ use rule_words::Report;
 use std::alloc::{AllocError, Global};
 use text_rules::{TextRule, push_found as push_text_reports};
 use tree::Node;
+use value_rules::{ValueRule, push_found as push_value_reports};
 
 /// A rule of a group.
 pub(crate) trait Grouped: Copy {
@@ -222,6 +223,30 @@ impl Grouped for TextRule {
         out: &mut Vec<Report>,
     ) -> Result<(), AllocError> {
         push_text_reports(alloc, view.text, rules, view.program, out)
+    }
+}
+
+impl Grouped for ValueRule {
+    ghost use Rattle.rules.specs.Groups.{found_on_values, value_rule_named};
+
+    ghost named = { λ name. value_rule_named name };
+
+    ghost found = { λ rules v. found_on_values rules v };
+
+    fn of_name(name: RuleName) -> Option<ValueRule> {
+        match name {
+            RuleName::OnValues(rule) => Some(rule),
+            _ => None,
+        }
+    }
+
+    fn push_reports(
+        alloc: Global,
+        rules: &[ValueRule],
+        view: &View,
+        out: &mut Vec<Report>,
+    ) -> Result<(), AllocError> {
+        push_value_reports(alloc, rules, view.program, out)
     }
 }
 

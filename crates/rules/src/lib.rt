@@ -2,7 +2,7 @@
 //! - May touch: what a `View` shows: tree, scopes, extra pairs, settings. No rule knows another.
 //! - Contract: `run_rules` answers all that the rules which are on find, by what each says of itself, sorted.
 //! - Begin at: `rule.rt`, `Rule`; `run.rt`, `run_rules`; `rule_list.rt` says which rules there are, `groups.rt` how those of one crate run
-//!   together: rows of `node_rules`, `reference_rules`, `repetition_rules`, `flow_rules`, `literal_rules` and `text_rules`. The others have a file each.
+//!   together: rows of `node_rules`, `reference_rules`, `repetition_rules`, `flow_rules`, `literal_rules`, `text_rules` and `value_rules`. The others have a file each.
 #![tactic(auto)]
 
 mod bindings;

@@ -6,6 +6,7 @@ use node_rules::NodeRule;
 use reference_rules::ReferenceRule;
 use repetition_rules::RepetitionRule;
 use text_rules::TextRule;
+use value_rules::ValueRule;
 
 /// The name of a rule that ships with the program.
 #[derive(Clone, Copy, Debug, PartialEq, Eq)]
@@ -22,6 +23,8 @@ pub enum RuleName {
     OnLiterals(LiteralRule),
     /// A rule on what stands between tokens: a row of `text_rules`.
     OnTexts(TextRule),
+    /// A rule on the values of literals: a row of `value_rules`.
+    OnValues(ValueRule),
     /// `no-extra-parens`.
     NoExtraParens,
     /// `no-shadow`.
@@ -37,7 +40,7 @@ pub enum RuleName {
 }
 
 /// The rules, in the order of their names.
-pub const RULES: [RuleName; 110] = [
+pub const RULES: [RuleName; 111] = [
     RuleName::OnFlow(FlowRule::ArrayCallbackReturn),
     RuleName::OnFlow(FlowRule::ConsistentReturn),
     RuleName::OnFlow(FlowRule::ConstructorSuper),
@@ -85,6 +88,7 @@ pub const RULES: [RuleName; 110] = [
     RuleName::OnTexts(TextRule::NoIrregularWhitespace),
     RuleName::OnNodes(NodeRule::NoLabels),
     RuleName::OnNodes(NodeRule::NoLonelyIf),
+    RuleName::OnValues(ValueRule::NoLossOfPrecision),
     RuleName::OnNodes(NodeRule::NoMultiAssign),
     RuleName::OnNodes(NodeRule::NoMultiStr),
     RuleName::OnNodes(NodeRule::NoNestedTernary),
@@ -164,7 +168,7 @@ pub(crate) const NINE: [RuleName; 9] = [
 ];
 
 /// Those that ESLint recommends, by its 8th version or by its 9th.
-pub(crate) const RECOMMENDED: [RuleName; 55] = [
+pub(crate) const RECOMMENDED: [RuleName; 56] = [
     RuleName::OnFlow(FlowRule::ConstructorSuper),
     RuleName::OnNodes(NodeRule::ForDirection),
     RuleName::OnFlow(FlowRule::GetterReturn),
@@ -195,6 +199,7 @@ pub(crate) const RECOMMENDED: [RuleName; 55] = [
     RuleName::OnReferences(ReferenceRule::NoImportAssign),
     RuleName::OnNodes(NodeRule::NoInnerDeclarations),
     RuleName::OnTexts(TextRule::NoIrregularWhitespace),
+    RuleName::OnValues(ValueRule::NoLossOfPrecision),
     RuleName::OnReferences(ReferenceRule::NoNewNativeNonconstructor),
     RuleName::OnReferences(ReferenceRule::NoNewSymbol),
     RuleName::OnReferences(ReferenceRule::NoObjCalls),
@@ -237,6 +242,7 @@ impl RuleName {
             RuleName::OnFlow(rule) => rule.name(),
             RuleName::OnLiterals(rule) => rule.name(),
             RuleName::OnTexts(rule) => rule.name(),
+            RuleName::OnValues(rule) => rule.name(),
             RuleName::NoExtraParens => "no-extra-parens",
             RuleName::NoShadow => "no-shadow",
             RuleName::NoUndef => "no-undef",

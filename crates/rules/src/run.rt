@@ -24,6 +24,7 @@ use repetition_rules::RepetitionRule;
 use rule_words::Report;
 use std::alloc::{AllocError, Global};
 use text_rules::TextRule;
+use value_rules::ValueRule;
 
 /// Appends what a rule finds, if it is on.
 fn run_alone(rule: &Box<dyn Rule>, view: &View, out: &mut Vec<Report>) -> Result<(), AllocError>
@@ -150,6 +151,7 @@ fn gather_named(
     push_group::<FlowRule>(alloc, names, view, out)?;
     push_group::<LiteralRule>(alloc, names, view, out)?;
     push_group::<TextRule>(alloc, names, view, out)?;
+    push_group::<ValueRule>(alloc, names, view, out)?;
     push_alone(alloc, names, view, out)
 }
 

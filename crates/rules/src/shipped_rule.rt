@@ -18,6 +18,7 @@ use repetition_rules::RepetitionRule;
 use rule_words::Report;
 use std::alloc::{AllocError, Global};
 use text_rules::TextRule;
+use value_rules::ValueRule;
 
 /// A rule of `RULES`, by its name: boxes of one type hold any of them.
 #[derive(Drop)]
@@ -64,6 +65,7 @@ impl Rule for ShippedRule {
             RuleName::OnFlow(rule) => FlowRule::push_reports(self.alloc, &[rule], view, out),
             RuleName::OnLiterals(rule) => LiteralRule::push_reports(self.alloc, &[rule], view, out),
             RuleName::OnTexts(rule) => TextRule::push_reports(self.alloc, &[rule], view, out),
+            RuleName::OnValues(rule) => ValueRule::push_reports(self.alloc, &[rule], view, out),
             RuleName::NoExtraParens => NoExtraParens::new(self.alloc).check(view, out),
             RuleName::NoShadow => NoShadow::new(self.alloc).check(view, out),
             RuleName::NoUndef => NoUndef::new(self.alloc).check(view, out),

@@ -1,6 +1,6 @@
 'use strict';
 // The rows of crates/cases/data that the definitions can be asked for, with what each wants of them: its least early error, its scopes and references,
-// its reports by the settings, or the reports of one rule: on nodes, on names, on what stands twice, on how statements complete, on literals, on what stands between tokens. A row {text, language, look, want, ..}; `look` is a name of LOOKS.
+// its reports by the settings, or the reports of one rule: on nodes, on names, on what stands twice, on how statements complete, on literals, on what stands between tokens, on values. A row {text, language, look, want, ..}; `look` is a name of LOOKS.
 
 const path = require('node:path');
 const antt = require('../antt.js');
@@ -14,6 +14,7 @@ const { ReferenceRules, rowsOfReferenceRules } = require('../reference_rules.js'
 const { RepetitionRules, rowsOfRepetitionRules } = require('../repetition_rules.js');
 const { Reports } = require('../reports.js');
 const { TextRules, rowsOfTextRules } = require('../text_rules.js');
+const { ValueRules, rowsOfValueRules } = require('../value_rules.js');
 const { parseOnly } = require(path.join(PLAIN_MODEL, 'parse.js'));
 
 // longer texts are about sizes
@@ -46,6 +47,7 @@ const LOOKS = {
   flow: ({ flows }, row) => flows.said(row),
   literal: ({ literals }, row) => literals.said(row),
   text: ({ texts }, row) => texts.said(row),
+  value: ({ values }, row) => values.said(row),
 };
 // all that the looks ask, of these definitions as they are now
 function lookedAt(spec) {
@@ -59,6 +61,7 @@ function lookedAt(spec) {
     flows: new FlowRules(model),
     literals: new LiteralRules(model),
     texts: new TextRules(model),
+    values: new ValueRules(model),
   };
 }
 const saidOf = (definitions, row) => LOOKS[row.look](definitions, row);
@@ -76,7 +79,8 @@ function allRows() {
   const flow = rowsOfFlowRules().map((row) => ({ ...row, look: 'flow' }));
   const literal = rowsOfLiteralRules().map((row) => ({ ...row, look: 'literal' }));
   const text = rowsOfTextRules().map((row) => ({ ...row, look: 'text' }));
-  const rows = [...early, ...scopes, ...check, ...rule, ...name, ...again, ...flow, ...literal, ...text].filter(({ text }) => text.length < LONGEST);
+  const value = rowsOfValueRules().map((row) => ({ ...row, look: 'value' }));
+  const rows = [...early, ...scopes, ...check, ...rule, ...name, ...again, ...flow, ...literal, ...text, ...value].filter(({ text }) => text.length < LONGEST);
   for (const row of rows) row.read = parseOnly(row.text, { ...LIMITS, ...MORE[row.language] });
   return rows.filter((row) => row.read.ok);
 }

@@ -1,0 +1,6 @@
+mod LimbsLemmas
+mod DigitLists
+mod FloatDigits
+mod Nearness
+mod Far
+mod Floats

@@ -1,0 +1,4 @@
+pub mod Limbs
+pub mod Digits
+pub mod Precision
+pub mod Near

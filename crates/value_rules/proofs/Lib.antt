@@ -1,0 +1,2 @@
+mod Passes
+pub mod Together
