@@ -10,6 +10,7 @@ mod gap;
 pub mod laws;
 mod pairs;
 mod parts;
+mod quiet;
 mod reading;
 mod spaces;
 mod spot;
