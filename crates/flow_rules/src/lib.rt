@@ -15,6 +15,7 @@ mod flow_rule;
 mod kind_sets;
 mod label_search;
 pub mod laws;
+mod plain;
 mod walk;
 
 pub use flow_rule::{FLOW_RULES, FlowRule};
