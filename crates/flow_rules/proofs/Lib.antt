@@ -2,4 +2,5 @@ mod SumLemmas
 mod WalkLemmas
 pub mod Together
 mod LabelLemmas
+mod PlainNodes
 mod TextLemmas

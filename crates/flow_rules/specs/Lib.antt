@@ -4,6 +4,7 @@ pub mod Flows
 pub mod Fallthrough
 pub mod Arounds
 pub mod Rows
+pub mod Plain
 pub mod Over
 pub mod Steps
 pub mod Found

@@ -140,6 +140,21 @@ impl Leaving {
     }
 }
 
+impl Flow {
+    ghost use Rattle.std.specs.Prelude.{◌≡◌};
+    ghost use Rattle.flow_rules.specs.Plain.{plain_flow};
+
+    /// What is known of a node that completes normally, and that nothing leaves.
+    pub(crate) fn plain() -> Flow
+        ensures { result ≡ plain_flow }
+    {
+        Flow {
+            normal: true,
+            leaving: Leaving::nothing(),
+        }
+    }
+}
+
 impl Sums {
     ghost use Rattle.std.specs.Prelude.{◌≡◌};
     ghost use Rattle.tree.specs.Node.{node_tree};

@@ -182,7 +182,7 @@ fn is_getter(home: Home) -> bool
 }
 
 /// Whether a function is the constructor of a class that extends another.
-fn is_derived(home: Home) -> bool
+pub(crate) fn is_derived(home: Home) -> bool
     ensures { result ≡ is_derived home }
 {
     matches!(home, Home::Derived)

@@ -14,6 +14,7 @@ use crate::around::Around;
 use crate::completion::flow_by;
 use crate::flow::{Flow, Sums};
 use crate::flow_rule::{FlowRule, holds, place, words};
+use crate::plain::is_passed;
 use rule_words::{Report, push_fixed_report};
 use std::alloc::{AllocError, Global};
 use tree::{Node, Program};
@@ -73,6 +74,9 @@ fn push_nodes(
     ensures found { OnOk result (out.new.items ≡ out.old.items ++ over_nodes (of_rules walk.entry.source.now walk.entry.rules.now) around (node_tree node.entry)) }
     ensures kept { Grows out.old.items out.new.items }
 {
+    if is_passed(around, node) {
+        return Ok(Flow::plain());
+    }
     let mut before = Before {
         around: around.inside(node),
         sums: Sums::none(),

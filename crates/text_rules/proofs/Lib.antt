@@ -2,5 +2,6 @@ mod Characters
 mod CommentsPassed
 mod NodeTurns
 mod PartTurns
+mod QuietTexts
 mod Together
 mod Turns

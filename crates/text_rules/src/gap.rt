@@ -8,6 +8,7 @@ ghost use Rattle.text_rules.specs.Gaps.{is_place, piece};
 ghost use Rattle.text_rules.specs.Readings.{start};
 ghost use Rattle.text_rules.specs.Rows.{between, marked, report_if};
 
+use crate::quiet::may_mark;
 use crate::reading::{after, start};
 use crate::text_rule::{TextRule, marks, words};
 use rule_words::{Report, push_fixed_report};
@@ -70,7 +71,12 @@ pub(crate) fn push_between(
     ensures found { OnOk result (out.new.items ≡ out.old.items ++ between look.entry.source.now look.entry.rule from to) }
     ensures kept { Grows out.old.items out.new.items }
 {
-    push_marked(look, from, piece(look.source, from, to), out)
+    let text = piece(look.source, from, to);
+    if may_mark(look.rule, text) {
+        push_marked(look, from, text, out)
+    } else {
+        Ok(())
+    }
 }
 
 /// Appends what a rule reports of a text that stands at a place.

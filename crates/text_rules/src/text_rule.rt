@@ -82,7 +82,7 @@ pub(crate) fn looks(rule: TextRule, kind: Kind) -> bool
 }
 
 /// Whether a character is white space, but neither a tab nor a space, or a line terminator, but neither LF nor CR.
-fn is_irregular(c: char) -> bool
+pub(crate) fn is_irregular(c: char) -> bool
     ensures { result ≡ is_irregular c }
 {
     (is_space(c) || is_line_terminator(c)) && !matches!(c, '\t' | '\n' | '\r' | ' ')

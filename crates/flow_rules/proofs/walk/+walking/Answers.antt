@@ -5,9 +5,17 @@ use Rattle.flow_rules.specs.Arounds.{inside}
 use Rattle.flow_rules.specs.Flows.{flow_of}
 use Rattle.flow_rules.specs.Over.{over_parts}
 use Rattle.flow_rules.specs.Rows.{of_rules}
+use Rattle.flow_rules.proofs.PlainNodes.{nothing-said, passed-flows}
 use Rattle.flow_rules.proofs.SumLemmas.{flow-by-sums}
 use Rattle.flow_rules.proofs.WalkLemmas.{folded-end, folded-turn, grows-on, over-end, over-turn, over_nodes-is}
 use Rattle.flow_rules.proofs.walk.+walking.Goals as goal
+
+pub push_nodes-returns-then-is_passed-clause-flow : goal.push_nodes-returns-then-is_passed-clause-flow
+push_nodes-returns-then-is_passed-clause-flow t c = c.plain.ensures ∙ passed-flows c.args.around (node_tree c.args.node) (c.is_passed.ensures c.if-is_passed.true)
+
+pub push_nodes-returns-then-is_passed-clause-found : goal.push_nodes-returns-then-is_passed-clause-found
+push_nodes-returns-then-is_passed-clause-found t c =
+    nothing-said c.args.walk.source.now c.args.walk.rules.now c.args.around (node_tree c.args.node) c.args.out.now.items (c.is_passed.ensures c.if-is_passed.true)
 
 pub push_nodes-loop-index-preserved : goal.push_nodes-loop-index-preserved
 push_nodes-loop-index-preserved t c =
