@@ -1,7 +1,7 @@
 //! What help and the version say.
 
 /// The version, and the toolchain that proves it (`rt version`).
-pub const VERSION: &str = "2.7.0 (proved with rattle-kit-13)";
+pub const VERSION: &str = "2.8.0 (proved with rattle-kit-13)";
 
 /// What the help says of the program.
 pub const ABOUT: &str =

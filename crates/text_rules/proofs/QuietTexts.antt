@@ -93,6 +93,9 @@ module _ (test : ℕ → Bool) (fails : (c : ℕ) → is_quiet c ≡ true → te
   pub over-step : (text : List ℕ) (at stop more c : ℕ) → Passed text at stop (c ∷ []) → test c ≡ false → AllPass is_quiet text stop more → list_any test (behind text at) ≡ list_any test (behind text more)
   over-step text at stop more c p f h = ap (list_any test) p.split ∙ ap (λ b. b || list_any test (behind text stop)) f ∙ over-run text stop more h
 
+pub found-at : (test : ℕ → Bool) (text : List ℕ) (at stop c : ℕ) → Passed text at stop (c ∷ []) → test c ≡ true → list_any test (behind text at) ≡ true
+found-at test text at stop c p t = ap (list_any test) p.split ∙ ap (λ b. b || list_any test (behind text stop)) t
+
 pub regular : (c : ℕ) → is_quiet c ≡ true → is_irregular c ≡ false
 regular c h = grind (arith, nat_tests)
 
