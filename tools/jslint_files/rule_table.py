@@ -47,6 +47,7 @@ RULES = {
     'no-irregular-whitespace': 'No white space outside literals and comments but spaces and tabs, and no line ends but LF and CR',
     'no-labels': 'No labels',
     'no-lonely-if': 'No if alone in the block of an else',
+    'no-loss-of-precision': "No number whose digits its value doesn't keep",
     'no-multi-assign': 'No assignment in an assignment',
     'no-multi-str': 'No string over several lines',
     'no-nested-ternary': 'No ?: as a branch of another',
