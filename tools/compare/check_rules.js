@@ -33,9 +33,31 @@ const LISTS = ['[]', '["a*"]', '["*b", "x"]', '["a", "b", "c"]'];
 const OPTIONS = {
   'no-shadow': ['allow', LISTS],
   'no-undef': ['typeof', ['true', 'false']],
-  'no-unused-vars': ['args', ['"none"', '"after-used"', '"all"'], 'caught-errors', ['"none"', '"all"'], 'args-ignore', LISTS, 'vars-ignore', LISTS, 'caught-errors-ignore', LISTS, 'ignore-rest-siblings', ['true', 'false']],
+  'no-unused-vars': [
+    'args',
+    ['"none"', '"after-used"', '"all"'],
+    'caught-errors',
+    ['"none"', '"all"'],
+    'args-ignore',
+    LISTS,
+    'vars-ignore',
+    LISTS,
+    'caught-errors-ignore',
+    LISTS,
+    'ignore-rest-siblings',
+    ['true', 'false'],
+  ],
 };
-const WRONG = ['args = "some"', 'args = true', 'typeof = 1', 'args-ignore = ["a*b"]', 'vars-ignore = "a"', 'allow = [1]', 'caught-errors = "after-used"', 'nope = 1'];
+const WRONG = [
+  'args = "some"',
+  'args = true',
+  'typeof = 1',
+  'args-ignore = ["a*b"]',
+  'vars-ignore = "a"',
+  'allow = [1]',
+  'caught-errors = "after-used"',
+  'nope = 1',
+];
 
 // The table of a rule that has such options.
 function tableText(source, name, isWrong) {

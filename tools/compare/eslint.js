@@ -96,7 +96,11 @@ function inOrder(reports) {
 // The files of the command line, or those of the packages.
 function files() {
   const list = option('list', null);
-  if (list !== null) return fs.readFileSync(list, 'utf8').split('\n').filter((it) => it !== '');
+  if (list !== null)
+    return fs
+      .readFileSync(list, 'utf8')
+      .split('\n')
+      .filter((it) => it !== '');
   const named = process.argv.slice(2).filter((it) => it !== '--module');
   return named.length > 0 ? named : packaged();
 }

@@ -47,7 +47,20 @@ function plainFound(found) {
 }
 
 // the crates whose definitions say what is reported
-const REPORTING = ['scopes', 'rule_words', 'node_rules', 'reference_rules', 'repetition_rules', 'flow_rules', 'literal_rules', 'text_rules', 'number_precision', 'value_rules', 'private_members', 'rules'];
+const REPORTING = [
+  'scopes',
+  'rule_words',
+  'node_rules',
+  'reference_rules',
+  'repetition_rules',
+  'flow_rules',
+  'literal_rules',
+  'text_rules',
+  'number_precision',
+  'value_rules',
+  'private_members',
+  'rules',
+];
 
 const texts = (names) => antt.fromArray(names.map(antt.bytes));
 const flagsOf = (environments) => Object.fromEntries([...ENVIRONMENTS.keys()].map((name) => [name, environments.includes(name)]));

@@ -37,12 +37,14 @@ function privateRules(tree, report) {
     if (isClass) {
       const members = new Map();
       for (const { key, kind } of node.body)
-        if (key?.type === 'PrivateIdentifier') members.set(key.name, [...(members.get(key.name) ?? []), { key, isAccessor: kind === 'get' || kind === 'set', used: false }]);
+        if (key?.type === 'PrivateIdentifier')
+          members.set(key.name, [...(members.get(key.name) ?? []), { key, isAccessor: kind === 'get' || kind === 'set', used: false }]);
       classes.unshift(members);
     }
     for (const [field, part] of Object.entries(node))
       for (const one of [part].flat()) if (one !== null && typeof one === 'object' && typeof one.type === 'string') walk(one, [[node, field], ...above]);
-    if (isClass) for (const it of [...classes.shift().values()].flat()) if (!it.used) report('no-unused-private-class-members', it.key, 'private member is never used');
+    if (isClass)
+      for (const it of [...classes.shift().values()].flat()) if (!it.used) report('no-unused-private-class-members', it.key, 'private member is never used');
   };
   walk(tree, []);
 }
